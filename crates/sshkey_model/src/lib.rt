@@ -1,0 +1,4 @@
+//! What SSH names, keys, signatures and certificates are, as mathematics.
+#![tactic(auto)]
+
+pub mod laws;
