@@ -1,1 +1,2 @@
 pub mod CombinedReaders
+pub mod Grammars

@@ -1,0 +1,39 @@
+-- Which bytes are a spelling of which value.
+use Rattle.std.specs.Prelude.{◌≡◌, List, ◌++◌, ℕ, Ok, Err}
+use Rattle.sshkey_model.specs.Parts.{Parts, flat, Fits}
+use Rattle.sshkey_model.specs.Reading.{◌>>=◌, Front}
+
+-- The bytes spell the value: it is well-formed, it fits, and these are its parts.
+pub record Spells {V : Type 0} (Is : V → Type 0) (spell : V → Parts) (value : V) (b : List ℕ) : Type 0 where
+  pub is : Is value
+  pub fits : Fits (spell value)
+  pub shape : b ≡ flat (spell value)
+
+-- The same of a value some parts of which may be spelled in several ways: each choice has its place.
+pub record SpellsWith {V S : Type 0} (Is : V → Type 0) (HasPlace : V → S → Type 0) (spell : V → S → Parts) (value : V) (b : List ℕ) : Type 0 where
+  pub is : Is value
+  pub choices : S
+  pub place : HasPlace value choices
+  pub fits : Fits (spell value choices)
+  pub shape : b ≡ flat (spell value choices)
+
+-- A well-formed value and choices that have their places.
+pub record IsSpelled {V S : Type 0} (Is : V → Type 0) (HasPlace : V → S → Type 0) (x : V × S) : Type 0 where
+  pub is : Is x.0
+  pub place : HasPlace x.0 x.1
+
+abbrev pub spelled : {V S : Type 0} → (V → S → Parts) → V × S → Parts
+spelled spell x = spell x.0 x.1
+
+-- the value without its choices
+abbrev pub value_at : {V S : Type 0} → Front (V × S) → Front V
+value_at read b = do
+  x ← read b
+  Ok (x.0.0, x.1)
+
+-- The reader takes exactly the spellings, from the front of any list.
+pub record IsGrammar {V : Type 0} (Spelling : V → List ℕ → Type 0) (read : Front V) : Type 0 where
+  -- what is taken is a spelling of the value
+  pub takes : (b : List ℕ) (value : V) (rest : List ℕ) → read b ≡ Ok (value, rest) → (front : List ℕ) × Spelling value front × (b ≡ front ++ rest)
+  -- a spelling is taken, whatever follows it
+  pub again : (value : V) (front rest : List ℕ) → Spelling value front → read (front ++ rest) ≡ Ok (value, rest)
