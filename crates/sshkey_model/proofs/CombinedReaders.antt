@@ -1,13 +1,14 @@
 -- A reader and the spelling that it reads: the law of each part, and how laws combine.
-use Rattle.std.proofs.Common.{◌≡◌, ◌⊎◌, ℕ, zero, suc, ◌+◌, ◌^◌, ◌%◌, ◌<◌, ◌≤◌, Option, Some, None, Bool, true, false, cond, ltb, List, [], ◌∷◌, ◌++◌, length, get_or, take, drop, Result, Ok, Err, refl, sym, ap, subst, ◌∙◌, append_assoc, append-nil, arith, inl, inr}
+use Rattle.std.proofs.Common.{◌≡◌, ◌⊎◌, ℕ, zero, suc, ◌+◌, ◌^◌, ◌%◌, ◌<◌, ◌≤◌, Option, Some, None, Bool, true, false, cond, ltb, List, [], ◌∷◌, ◌++◌, length, get_or, take, drop, Result, Ok, Err, refl, sym, ap, subst, ◌∙◌, append_assoc, append-nil, bytes_eq, arith, inl, inr}
 use Rattle.std.specs.Int.{Width, w8, w32, w64, byte_len, byte_at, bytes_high_first, from_be_bytes, to_be_bytes}
 use mir.Val.{bits}
 use Rattle.std.proofs.lemmas.Bool.{ltb-false, ltb-true, le-ltb, lt-ltb, and_parts}
 use Rattle.std.proofs.lemmas.List.{take_at, drop_at, take-append-drop, length-append, length-take}
+use Rattle.std.proofs.lemmas.Slice.Eq.{bytes_eq-Decides}
 use Rattle.std.proofs.lemmas.Nat.{be_bytes_4, be_bytes_8, from_be_bytes-to_be_bytes_4, from_be_bytes-to_be_bytes_8}
 pub use Rattle.sshkey_model.specs.Parts.{Any}
 use Rattle.sshkey_model.specs.Parts.{Parts, bytes, number, box, ◌&◌, flat, Fits, InRange, BoxesFit, are_bytes, each, IsPrefixFree}
-use Rattle.sshkey_model.specs.Reading.{Fault, Length, TrailingData, ◌>>=◌, Front, Whole, end_of, whole, then_at, checked_at, checked_whole, list_within, list_whole, IsChain, number_at, bytes_at, string_at, box_at}
+use Rattle.sshkey_model.specs.Reading.{Fault, Length, FormatEncoding, TrailingData, ◌>>=◌, Front, Whole, end_of, whole, then_at, checked_at, checked_whole, list_within, list_whole, IsChain, number_at, bytes_at, string_at, literal_from, literal_at, box_at}
 
 -- ---- steps that did not fail
 
@@ -371,6 +372,20 @@ kept_bytes test fault = record {
   takes = λ a b was e. let k = (kept {Was = Any} {spelled = bytes} test fault).takes a b tt e in (k.0.1, k.1);
   again = λ b is. (b, tt, rw is refl, refl);
 }
+
+literal_checks : (text : List ℕ) → Checks (HasLength (length text)) bytes (λ b. b ≡ text) bytes (literal_from text)
+literal_checks text = record {
+  takes = λ a b was e.
+      let h = met (bytes_eq a text) FormatEncoding (Ok a) b e in
+      let same : a ≡ b = ok_is a b h.1 in
+      (sym same ∙ (bytes_eq-Decides a text).0 h.0, ap bytes same);
+  again = λ b is. (b, ap length is, (let same = (bytes_eq-Decides b text).1 is in rw same refl), refl);
+}
+
+-- Just these bytes.
+pub literal_reads : (text : List ℕ) → ReadsFront (λ b. b ≡ text) bytes (literal_at text)
+unfolding literal_at
+literal_reads text = checked_reads (literal_checks text) (bytes_reads (length text))
 
 -- the same, asked in another form
 pub as_front_form : {A : Type 0} {Was Is : A → Type 0} {spell : A → Parts} {read : Front A} → ((a : A) → Was a → Is a) → ((a : A) → Is a → Was a) → ReadsFront Was spell read → ReadsFront Is spell read

@@ -1,5 +1,5 @@
 -- Plain readers on lists: from left to right, with the first fault that is met.
-use Rattle.std.specs.Prelude.{ℕ, zero, suc, List, [], ◌∷◌, length, take, drop, Option, Some, None, Result, Ok, Err, Bool, true, false, nat_lt, if◌then◌else◌}
+use Rattle.std.specs.Prelude.{ℕ, zero, suc, List, [], ◌∷◌, length, take, drop, Option, Some, None, Result, Ok, Err, Bool, true, false, nat_lt, bytes_eq, if◌then◌else◌}
 use Rattle.std.specs.Int.{Width, w32, byte_len, from_be_bytes}
 use Rattle.sshkey_model.specs.Parts.{are_bytes}
 
@@ -73,6 +73,13 @@ checked_at check read b = do
   x ← read b
   y ← check x.0
   Ok (y, x.1)
+
+-- just these bytes
+abbrev pub literal_from : List ℕ → List ℕ → Result (List ℕ) Fault
+literal_from text b = if bytes_eq b text then Ok b else Err FormatEncoding
+
+unfoldable pub literal_at : List ℕ → Front (List ℕ)
+literal_at text = checked_at (literal_from text) (bytes_at (length text))
 
 -- the same of all bytes
 abbrev pub checked_whole : {A B : Type 0} → (A → Result B Fault) → Whole A → Whole B
