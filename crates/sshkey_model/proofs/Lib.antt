@@ -6,3 +6,6 @@ pub mod CertificateNameReaders
 pub mod MpintReaders
 pub mod PointReaders
 pub mod KeyReaders
+pub mod SignatureReaders
+pub mod OptionReaders
+pub mod CertificateReaders

@@ -1,0 +1,116 @@
+-- Options are read as they are spelled.
+use Rattle.std.proofs.Common.{◌≡◌, ℕ, ◌<◌, Option, Some, None, true, List, [], ◌∷◌, length, Result, Ok, refl, ap, subst, ◌∙◌, arith}
+use Rattle.std.proofs.lemmas.Str.{is_utf8-from_IsUtf8, IsUtf8-nil}
+use Rattle.sshkey_model.specs.Parts.{Parts, box, ◌&◌, each, flat, Fits, InRange, BoxesFit}
+use Rattle.sshkey_model.specs.Reading.{Fault, FormatEncoding, ◌>>=◌, whole, IsChain}
+use Rattle.sshkey_model.specs.Grammar.{IsSpelled, spelled}
+use Rattle.sshkey_model.specs.Texts.{string, IsText, text_at}
+use Rattle.sshkey_model.specs.Options.{CertificateOption, Nesting, Bare, Nested, option_value, option, each_option, options, is_after, Rises, AreOptions, HasNesting, HasOptionPlaces, nesting_of, option_value_from, option_before, option_at, firsts, seconds, options_at}
+use Rattle.sshkey_model.proofs.CombinedReaders.{bind_assoc, bind_ok, ok_is, ReadsFront, ReadsWhole, whole_reads, box_reads, then_reads, checked_reads, to_form, kept, list_reads, same_front}
+use Rattle.sshkey_model.proofs.TextReaders.{text_reads}
+
+pub no_text : IsText []
+no_text = is_utf8-from_IsUtf8 [] IsUtf8-nil
+
+IsOptionValue : List ℕ × Nesting → Type 0
+IsOptionValue x = IsText x.0 × HasNesting x.0 x.1
+
+nested_value : (d : List ℕ) → IsText d → IsOptionValue (d, nesting_of d) × (string d ≡ option_value d (nesting_of d))
+unfolding IsOptionValue
+nested_value [] is = ((is, refl), refl)
+nested_value (c ∷ d) is = ((is, tt), refl)
+
+value_takes : (b : List ℕ) (x : List ℕ × Nesting) → option_value_from b ≡ Ok x → IsOptionValue x × Fits (option_value x.0 x.1) × (b ≡ flat (option_value x.0 x.1))
+unfolding option_value_from flat InRange BoxesFit IsOptionValue
+value_takes [] x e = subst (λ (z : List ℕ × Nesting). IsOptionValue z × Fits (option_value z.0 z.1) × ([] ≡ flat (option_value z.0 z.1))) (ok_is ([], Bare) x e) ((no_text, tt), record { range = tt; boxes = tt }, refl)
+value_takes (c ∷ rest) x e =
+    let d = bind_ok (whole text_at (c ∷ rest)) (λ d. Ok (d, nesting_of d)) x e in
+    let t = (whole_reads text_reads).takes (c ∷ rest) d.0 d.1 in
+    let n = nested_value d.0 t.0 in
+    let inner = subst (λ (p : Parts). Fits p × (c ∷ rest ≡ flat p)) n.1 (t.1, t.2) in
+    subst (λ (z : List ℕ × Nesting). IsOptionValue z × Fits (option_value z.0 z.1) × (c ∷ rest ≡ flat (option_value z.0 z.1))) (ok_is (d.0, nesting_of d.0) x d.2) (n.0, inner.0, inner.1)
+
+-- bytes that are some are read as a text
+from_some : (d : List ℕ) → IsText d → Fits (string d) → option_value_from (flat (string d)) ≡ Ok (d, nesting_of d)
+unfolding option_value_from flat
+from_some d is fits = ap (λ (r : Result (List ℕ) Fault). r >>= λ d. Ok (d, nesting_of d)) ((whole_reads text_reads).again d is fits)
+
+empty_again : option_value_from (flat (option_value [] Bare)) ≡ Ok ([], Bare)
+unfolding option_value_from flat
+empty_again = refl
+
+value_again : (x : List ℕ × Nesting) → IsOptionValue x → Fits (option_value x.0 x.1) → option_value_from (flat (option_value x.0 x.1)) ≡ Ok x
+unfolding IsOptionValue
+value_again x is fits = go x.0 x.1 is.0 is.1 fits
+  where
+    go : (d : List ℕ) (n : Nesting) → IsText d → HasNesting d n → Fits (option_value d n) → option_value_from (flat (option_value d n)) ≡ Ok (d, n)
+    go [] Bare text has fits = empty_again
+    go [] Nested text has fits = from_some [] text fits
+    go (c ∷ d) Bare text has fits = from_some (c ∷ d) text fits
+    go (c ∷ d) Nested text has fits = absurd (cc has)
+
+option_value_reads : ReadsWhole IsOptionValue (λ x. option_value x.0 x.1) option_value_from
+option_value_reads = record { takes = value_takes; again = value_again }
+
+-- ---- options, each with its choice
+
+abbrev Pair : Type 0
+Pair = CertificateOption × Nesting
+
+abbrev Follows : Option Pair → Pair → Type 0
+Follows before x = ((IsText x.0.name × IsText x.0.value) × HasNesting x.0.value x.1) × (is_after (option_before before) x.0 ≡ true)
+
+option_reads : (before : Option Pair) → ReadsFront (Follows before) (λ x. option x.0 x.1) (option_at before)
+unfolding option_at IsOptionValue
+option_reads before = same_front (checked_reads (kept (λ x. is_after (option_before before) x.0) FormatEncoding) (checked_reads (to_form
+    (λ a. (record { name = a.0; value = a.1.0 }, a.1.1)) (λ a h. (((h.0, h.1.0), h.1.1), refl)) (λ x h. ((x.0.name, (x.0.value, x.1)), (h.0.0, (h.0.1, h.1)), refl, refl)))
+    (then_reads text_reads (λ _. box_reads option_value_reads)))) (λ b. simp bind_assoc)
+
+-- ---- the two lists
+
+apart_chain : (before : Option Pair) (xs : List Pair) → IsChain Follows before xs → IsChain Rises (option_before before) (firsts xs) × HasOptionPlaces (firsts xs) (seconds xs)
+unfolding IsChain HasOptionPlaces
+apart_chain before [] h = (tt, tt)
+apart_chain before (x ∷ xs) h = let r = apart_chain (Some x) xs h.1 in (((h.0.0.0, h.0.1), r.0), (h.0.0.1, r.1))
+
+apart_parts : (xs : List Pair) → each (λ (x : Pair). option x.0 x.1) xs ≡ each_option (firsts xs) (seconds xs)
+apart_parts [] = refl
+apart_parts (x ∷ xs) = ap (λ (p : Parts). option x.0 x.1 & p) (apart_parts xs)
+
+paired : List CertificateOption → List Nesting → List Pair
+paired (o ∷ os) (n ∷ ns) = (o, n) ∷ paired os ns
+paired _ _ = []
+
+paired_again : (os : List CertificateOption) (ns : List Nesting) → HasOptionPlaces os ns → (firsts (paired os ns) ≡ os) × (seconds (paired os ns) ≡ ns)
+unfolding HasOptionPlaces paired
+paired_again [] [] h = (refl, refl)
+paired_again (o ∷ os) (n ∷ ns) h = let r = paired_again os ns h.1 in (ap (λ (z : List CertificateOption). o ∷ z) r.0, ap (λ (z : List Nesting). n ∷ z) r.1)
+paired_again _ _ h = absurd h
+
+paired_chain : (before : Option Pair) (os : List CertificateOption) (ns : List Nesting) → IsChain Rises (option_before before) os → HasOptionPlaces os ns → IsChain Follows before (paired os ns)
+unfolding IsChain HasOptionPlaces paired
+paired_chain before [] [] chain h = tt
+paired_chain before (o ∷ os) (n ∷ ns) chain h = (((chain.0.0, h.0), chain.0.1), paired_chain (Some (o, n)) os ns chain.1 h.1)
+paired_chain before _ _ chain h = absurd h
+
+option_shows : (x : Pair) → 0 < length (flat (option x.0 x.1))
+unfolding flat
+option_shows x = omega arith
+
+same_pair : (os ps : List CertificateOption) (ns ms : List Nesting) → os ≡ ps → ns ≡ ms → ◌≡◌ {A = List CertificateOption × List Nesting} (os, ns) (ps, ms)
+same_pair os ps ns ms e f = cc
+
+same_options : (os ps : List CertificateOption) (ns ms : List Nesting) → os ≡ ps → ns ≡ ms → options os ns ≡ options ps ms
+same_options os ps ns ms e f = cc
+
+pub options_reads : ReadsFront (IsSpelled AreOptions HasOptionPlaces) (spelled options) options_at
+unfolding options_at
+options_reads = checked_reads (to_form (λ xs. (firsts xs, seconds xs)) (λ xs h. (let p = apart_chain None xs h in record { is = p.0; place = p.1 }, ap (λ (p : Parts). box p) (apart_parts xs))) back) (box_reads (list_reads option_reads (λ x. shows x) None))
+  where
+    shows : (x : Pair) → 0 < length (flat (option x.0 x.1))
+    shows x = option_shows x
+
+    back : (x : List CertificateOption × List Nesting) → IsSpelled AreOptions HasOptionPlaces x → (xs : List Pair) × IsChain Follows None xs × ((firsts xs, seconds xs) ≡ x) × (box (each (λ (y : Pair). option y.0 y.1) xs) ≡ spelled options x)
+    back x h =
+        let p = paired_again x.0 x.1 h.place in
+        (paired x.0 x.1, paired_chain None x.0 x.1 h.is h.place, same_pair _ _ _ _ p.0 p.1, ap (λ (q : Parts). box q) (apart_parts (paired x.0 x.1)) ∙ same_options _ _ _ _ p.0 p.1)
