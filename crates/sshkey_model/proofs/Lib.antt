@@ -9,3 +9,4 @@ pub mod KeyReaders
 pub mod SignatureReaders
 pub mod OptionReaders
 pub mod CertificateReaders
+pub mod SshSignatureReaders

@@ -10,3 +10,4 @@ pub mod Keys
 pub mod Signatures
 pub mod Options
 pub mod Certificates
+pub mod SshSignatures
