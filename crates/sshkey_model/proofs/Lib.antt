@@ -10,3 +10,5 @@ pub mod SignatureReaders
 pub mod OptionReaders
 pub mod CertificateReaders
 pub mod SshSignatureReaders
+pub mod SignedBytes
+pub mod NormalForms

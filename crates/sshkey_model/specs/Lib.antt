@@ -11,3 +11,6 @@ pub mod Signatures
 pub mod Options
 pub mod Certificates
 pub mod SshSignatures
+pub mod Verification
+pub mod Validity
+pub mod Laws

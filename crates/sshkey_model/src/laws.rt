@@ -1,7 +1,135 @@
-//! Laws over the definitions alone.
-ghost use Rattle.std.specs.Prelude.{ℕ};
-ghost use Rattle.sshkey_model.specs.Parts.{Any};
+//! Laws over the definitions alone: each stands for all values and all bytes, and makes no call.
 
-pub fn placeholder()
-    ensures { Any {A = ℕ} 0 }
+ghost use Rattle.sshkey_model.specs.Parts.{IsPrefixFree};
+ghost use Rattle.sshkey_model.specs.Grammar.{IsSpelled, spelled};
+ghost use Rattle.sshkey_model.specs.Texts.{string, IsText};
+ghost use Rattle.sshkey_model.specs.Names.{Curve, IsAlgorithm, algorithm, Algorithm};
+ghost use Rattle.sshkey_model.specs.CertificateNames.{IsCertified, certificate_algorithm};
+ghost use Rattle.sshkey_model.specs.Mpints.{IsMpint};
+ghost use Rattle.sshkey_model.specs.Points.{IsPoint};
+ghost use Rattle.sshkey_model.specs.Keys.{IsBodyUnder, body, IsKey, HasKeyPlaces, key, normal_key, Plain, key_at};
+ghost use Rattle.sshkey_model.specs.Signatures.{IsSignature, signature, signature_at};
+ghost use Rattle.sshkey_model.specs.Options.{AreOptions, HasOptionPlaces, options, normal_options, plain_nestings, options_at};
+ghost use Rattle.sshkey_model.specs.Certificates.{IsCertificate, HasCertificatePlaces, certificate, normal_certificate, plain_certificate, certificate_at};
+ghost use Rattle.sshkey_model.specs.SshSignatures.{IsSshSignature, HasSshSignaturePlaces, ssh_signature, normal_ssh_signature, ssh_signature_at};
+ghost use Rattle.sshkey_model.specs.Laws.{DetermineValues, ReadBackPlain, ReadBack, DetermineFields, AreApart, DetermineSignedData};
+
+/// No mpint string begins another.
+pub fn prefix_mpint()
+    ensures { IsPrefixFree IsMpint string }
+{}
+
+/// No text string begins another.
+pub fn prefix_text()
+    ensures { IsPrefixFree IsText string }
+{}
+
+/// No point string in a box begins another of its curve.
+pub fn prefix_point()
+    ensures { (c : Curve) → IsPrefixFree (IsPoint c) string }
+{}
+
+/// No name of an algorithm begins another.
+pub fn prefix_name()
+    ensures { IsPrefixFree IsAlgorithm algorithm }
+{}
+
+/// No name of an algorithm in a certificate begins another.
+pub fn prefix_certificate_name()
+    ensures { IsPrefixFree IsCertified certificate_algorithm }
+{}
+
+/// Under one algorithm no key body begins another.
+pub fn prefix_body()
+    ensures { (a : Algorithm) → IsPrefixFree (IsBodyUnder a) body }
+{}
+
+/// No public key begins another.
+pub fn prefix_key()
+    ensures { IsPrefixFree (IsSpelled IsKey HasKeyPlaces) (spelled key) }
+{}
+
+/// No signature begins another.
+pub fn prefix_signature()
+    ensures { IsPrefixFree IsSignature signature }
+{}
+
+/// No options begin others.
+pub fn prefix_options()
+    ensures { IsPrefixFree (IsSpelled AreOptions HasOptionPlaces) (spelled options) }
+{}
+
+/// No certificate begins another.
+pub fn prefix_certificate()
+    ensures { IsPrefixFree (IsSpelled IsCertificate HasCertificatePlaces) (spelled certificate) }
+{}
+
+/// No SSH signature begins another.
+pub fn prefix_ssh_signature()
+    ensures { IsPrefixFree (IsSpelled IsSshSignature HasSshSignaturePlaces) (spelled ssh_signature) }
+{}
+
+/// Two public keys have equal normal forms exactly if they are equal.
+pub fn normal_keys()
+    ensures { DetermineValues IsKey normal_key }
+{}
+
+/// Two signatures are written alike exactly if they are equal.
+pub fn normal_signatures()
+    ensures { DetermineValues IsSignature signature }
+{}
+
+/// Two lists of options have equal normal forms exactly if they are equal.
+pub fn normal_options()
+    ensures { DetermineValues AreOptions normal_options }
+{}
+
+/// Two certificates have equal normal forms exactly if they are equal.
+pub fn normal_certificates()
+    ensures { DetermineValues IsCertificate normal_certificate }
+{}
+
+/// Two SSH signatures have equal normal forms exactly if they are equal.
+pub fn normal_ssh_signatures()
+    ensures { DetermineValues IsSshSignature normal_ssh_signature }
+{}
+
+/// The normal form of a public key is read as that key with the plain name: normalising twice is normalising once.
+pub fn read_back_key()
+    ensures { ReadBackPlain IsKey key (λ _. Plain) key_at }
+{}
+
+/// A written signature is read as that signature.
+pub fn read_back_signature()
+    ensures { ReadBack IsSignature signature signature_at }
+{}
+
+/// The normal form of options is read as these options, all bare.
+pub fn read_back_options()
+    ensures { ReadBackPlain AreOptions options plain_nestings options_at }
+{}
+
+/// The normal form of a certificate is read as that certificate with plain choices.
+pub fn read_back_certificate()
+    ensures { ReadBackPlain IsCertificate certificate (λ c. plain_certificate c.unsigned) certificate_at }
+{}
+
+/// The normal form of an SSH signature is read as that signature with the plain name.
+pub fn read_back_ssh_signature()
+    ensures { ReadBackPlain IsSshSignature ssh_signature (λ _. Plain) ssh_signature_at }
+{}
+
+/// The normal signed bytes of a certificate determine every field but the signature.
+pub fn certificate_fields()
+    ensures { DetermineFields }
+{}
+
+/// No certificate's signed bytes, in any spelling, are what an SSH signature is over.
+pub fn apart()
+    ensures { AreApart }
+{}
+
+/// What an SSH signature is over determines namespace, reserved bytes, hash and digest.
+pub fn signed_fields()
+    ensures { DetermineSignedData }
 {}

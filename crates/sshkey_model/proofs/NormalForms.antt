@@ -1,0 +1,38 @@
+-- Normal forms determine values, and are read back.
+use Rattle.std.proofs.Common.{◌≡◌, ℕ, List, [], ◌∷◌, ◌++◌, Ok, refl, sym, ap, ◌∙◌, append-nil}
+use Rattle.sshkey_model.specs.Parts.{Parts, flat, Fits}
+use Rattle.sshkey_model.specs.Reading.{Front}
+use Rattle.sshkey_model.specs.Grammar.{IsSpelled, spelled}
+use Rattle.sshkey_model.specs.Options.{CertificateOption, HasOptionPlaces, plain_nestings}
+use Rattle.sshkey_model.specs.Certificates.{Unsigned, HasUnsignedPlaces, plain_certificate, to_be_signed}
+use Rattle.sshkey_model.specs.Laws.{DetermineValues, ReadBack, ReadBackPlain, DetermineFields}
+use Rattle.sshkey_model.proofs.CombinedReaders.{ReadsFront, injective}
+use Rattle.sshkey_model.proofs.CertificateReaders.{unsigned_reads}
+
+module _ {V : Type 0} {Is : V → Type 0} {spell : V → Parts} {read : Front V} (reads : ReadsFront Is spell read) where
+  pub determined : DetermineValues Is spell
+  determined v w v-is w-is v-fits w-fits = (injective reads v w v-is v-fits w-is w-fits, ap (λ (x : V). flat (spell x)))
+
+  pub read_back : ReadBack Is spell read
+  read_back v is fits = ap read (sym (append-nil (flat (spell v)))) ∙ reads.again v [] is fits
+
+module _ {V S : Type 0} {Is : V → Type 0} {HasPlace : V → S → Type 0} (spell : V → S → Parts) {read : Front (V × S)} (reads : ReadsFront (IsSpelled Is HasPlace) (spelled spell) read) (plain : V → S) (has : (v : V) → Is v → HasPlace v (plain v)) where
+  pub determined_plain : DetermineValues Is (λ v. spell v (plain v))
+  determined_plain v w v-is w-is v-fits w-fits =
+      ((λ e. ap (λ (x : V × S). x.0) (injective reads (v, plain v) (w, plain w) (record { is = v-is; place = has v v-is }) v-fits (record { is = w-is; place = has w w-is }) w-fits e)), ap (λ (x : V). flat (spell x (plain x))))
+
+  pub read_back_plain : ReadBackPlain Is spell plain read
+  read_back_plain v is fits = ap read (sym (append-nil (flat (spell v (plain v))))) ∙ reads.again (v, plain v) [] (record { is = is; place = has v is }) fits
+
+-- ---- plain choices have their places
+
+pub plain_options_have : (os : List CertificateOption) → HasOptionPlaces os (plain_nestings os)
+unfolding HasOptionPlaces
+plain_options_have [] = tt
+plain_options_have (o ∷ os) = (tt, plain_options_have os)
+
+pub plain_certificate_has : (c : Unsigned) → HasUnsignedPlaces c (plain_certificate c)
+plain_certificate_has c = record { critical_options = plain_options_have c.critical_options; extensions = plain_options_have c.extensions; signature_key = tt }
+
+pub determine_fields : DetermineFields
+determine_fields c d c-is d-is c-fits d-fits e = (determined_plain to_be_signed unsigned_reads plain_certificate (λ c _. plain_certificate_has c) c d c-is d-is c-fits d-fits).0 e

@@ -1,0 +1,31 @@
+-- What the laws say.
+use Rattle.std.specs.Prelude.{◌≡◌, ◌↔◌, ℕ, List, [], Ok}
+use Rattle.sshkey_model.specs.Parts.{Parts, flat, Fits}
+use Rattle.sshkey_model.specs.Reading.{Front}
+use Rattle.sshkey_model.specs.Names.{Hash}
+use Rattle.sshkey_model.specs.Certificates.{Unsigned, IsUnsigned, CertificateChoices, to_be_signed, normal_to_be_signed}
+use Rattle.sshkey_model.specs.SshSignatures.{signed_data}
+
+-- Two values have equal normal forms exactly if they are equal.
+abbrev pub DetermineValues : {V : Type 0} → (V → Type 0) → (V → Parts) → Type 0
+DetermineValues {V} Is normal = (v w : V) → Is v → Is w → Fits (normal v) → Fits (normal w) → (flat (normal v) ≡ flat (normal w)) ↔ (v ≡ w)
+
+-- The normal form is read back as the value, with nothing left.
+abbrev pub ReadBack : {V : Type 0} → (V → Type 0) → (V → Parts) → Front V → Type 0
+ReadBack {V} Is normal read = (v : V) → Is v → Fits (normal v) → read (flat (normal v)) ≡ Ok (v, [])
+
+-- The same with choices, which are all plain then: normalising twice is normalising once.
+abbrev pub ReadBackPlain : {V S : Type 0} → (V → Type 0) → (V → S → Parts) → (V → S) → Front (V × S) → Type 0
+ReadBackPlain {V} Is spell plain read = (v : V) → Is v → Fits (spell v (plain v)) → read (flat (spell v (plain v))) ≡ Ok ((v, plain v), [])
+
+-- Equal normal signed bytes are of certificates that are equal in all that is signed.
+abbrev pub DetermineFields : Type 0
+DetermineFields = (c d : Unsigned) → IsUnsigned c → IsUnsigned d → Fits (normal_to_be_signed c) → Fits (normal_to_be_signed d) → flat (normal_to_be_signed c) ≡ flat (normal_to_be_signed d) → c ≡ d
+
+-- No certificate's signed bytes, in any spelling, are what an SSH signature is over.
+abbrev pub AreApart : Type 0
+AreApart = (c : Unsigned) (s : CertificateChoices) (namespace reserved : List ℕ) (h : Hash) (digest : List ℕ) → IsUnsigned c → flat (to_be_signed c s) ≡ flat (signed_data namespace reserved h digest) → ⊥
+
+-- What an SSH signature is over determines its parts.
+abbrev pub DetermineSignedData : Type 0
+DetermineSignedData = (n m r q : List ℕ) (h k : Hash) (d e : List ℕ) → Fits (signed_data n r h d) → Fits (signed_data m q k e) → flat (signed_data n r h d) ≡ flat (signed_data m q k e) → (n ≡ m) × (r ≡ q) × (h ≡ k) × (d ≡ e)
