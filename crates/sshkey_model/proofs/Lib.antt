@@ -12,3 +12,4 @@ pub mod CertificateReaders
 pub mod SshSignatureReaders
 pub mod SignedBytes
 pub mod NormalForms
+pub mod KeyDerivationReaders

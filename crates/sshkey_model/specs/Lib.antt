@@ -14,3 +14,4 @@ pub mod SshSignatures
 pub mod Verification
 pub mod Validity
 pub mod Laws
+pub mod KeyDerivation
