@@ -13,3 +13,4 @@ pub mod SshSignatureReaders
 pub mod SignedBytes
 pub mod NormalForms
 pub mod KeyDerivationReaders
+pub mod KeyPairReaders

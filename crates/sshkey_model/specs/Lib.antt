@@ -15,3 +15,4 @@ pub mod Verification
 pub mod Validity
 pub mod Laws
 pub mod KeyDerivation
+pub mod KeyPairs

@@ -1,0 +1,273 @@
+-- Key pairs are read as they are spelled.
+use Rattle.std.proofs.Common.{◌≡◌, ℕ, suc, ◌-◌, ◌<◌, ◌≤◌, eqb, ltb, inl, inr, Option, Bool, true, false, cond, List, [], ◌∷◌, ◌++◌, length, take, drop, Ok, Err, bytes_eq, refl, sym, ap, subst, ◌∙◌, arith}
+use Rattle.std.specs.Int.{w8}
+use Rattle.std.proofs.lemmas.Bool.{eqb-true, eq-eqb, ne_eqb}
+use Rattle.std.proofs.lemmas.List.{take_at, drop_at, take-append-drop, length-append, length-take}
+use Rattle.std.proofs.lemmas.Slice.Eq.{bytes_eq-Decides}
+use Rattle.sshkey_model.specs.Parts.{Parts, bytes, number, ◌&◌}
+use Rattle.sshkey_model.specs.Reading.{Length, FormatEncoding, UnknownAlgorithm, Cryptographic, TrailingData, string_at, checked_at, ◌>>=◌}
+use Rattle.sshkey_model.specs.Grammar.{IsSpelled, spelled}
+use Rattle.sshkey_model.specs.Texts.{string, IsText}
+use Rattle.sshkey_model.specs.Names.{Curve, Nistp256, Hash, Algorithm, IsAlgorithm, algorithm, curve}
+use Rattle.sshkey_model.specs.Mpints.{IsMpint}
+use Rattle.sshkey_model.specs.Points.{field_size, is_point, IsPoint, curve_eq, point_from}
+use Rattle.sshkey_model.specs.Keys.{Head, headed, HasHead, head_of, unhashed}
+use Rattle.sshkey_model.specs.KeyPairs.{Sign, Usual, Without, With, is_high, signed_if, scalar_bytes, scalar, IsScalar, HasScalarPlaces, RsaPrivate, SecurityPrivate, KeyPair, DsaPair, EcdsaPair, Ed25519Pair, RsaPair, SkEcdsaPair, SkEd25519Pair, OpaquePair, public_half, pair_algorithm, rsa_private, security_private, pair, IsRsaPrivate, IsPairBody, IsEcdsaPair, HasPairPlaces, IsPairUnder, KeyPairChoices, IsKeyPair, HasKeyPairPlaces, keypair, unsigned_scalar, signed_scalar, behind_sign, scalar_from, scalar_at, dsa_pair_at, of_curve, any_ecdsa_pair_at, wanted_curve, ecdsa_pair_at, private_before, ed25519_pair_at, rsa_private_at, rsa_pair_at, security_private_at, sk_ecdsa_pair_at, sk_ed25519_pair_at, opaque_pair_at, pair_at, keypair_at}
+use Rattle.sshkey_model.proofs.CombinedReaders.{bind_assoc, done, ok_is, chosen, met, ReadsFront, Checks, Any, HasLength, wide8, number_reads, string_reads, whole_reads, bytes_reads, box_reads, then_reads, checked_reads, checked_string_reads, to_form, kept, same_front}
+use Rattle.sshkey_model.proofs.NameReaders.{curve_reads, algorithm_reads}
+use Rattle.sshkey_model.proofs.TextReaders.{text_reads}
+use Rattle.sshkey_model.proofs.MpintReaders.{mpint_reads}
+use Rattle.sshkey_model.proofs.PointReaders.{IsPointOf, same_curve, curve_itself, point_checks, p256_point_checks}
+use Rattle.sshkey_model.proofs.KeyReaders.{ed25519_string_reads, p256_checks, split_head, join_head}
+
+-- ---- scalars
+
+abbrev IsSpelledScalar : ℕ → List ℕ × Sign → Type 0
+IsSpelledScalar size = IsSpelled (IsScalar size) HasScalarPlaces
+
+-- the bytes are a spelling of just this scalar
+abbrev Shows : List ℕ → List ℕ → List ℕ × Sign → Type 0
+Shows b s x = HasScalarPlaces x.0 x.1 × (scalar_bytes x.0 x.1 ≡ b) × (x.0 ≡ s)
+
+without_sign : (s : List ℕ) (h : Bool) → is_high s ≡ h → Shows s s (cond h (s, Without) (s, Usual))
+without_sign s true is = (is, refl, refl)
+without_sign s false is = (tt, ap (λ (h : Bool). signed_if h s) is, refl)
+
+with_sign : (s : List ℕ) (h : Bool) → is_high s ≡ h → Shows (0 ∷ s) s (cond h (s, Usual) (s, With))
+with_sign s true is = (tt, ap (λ (h : Bool). signed_if h s) is, refl)
+with_sign s false is = (is, refl, refl)
+
+shown : (size : ℕ) (b s : List ℕ) (x : List ℕ × Sign) → length s ≡ size → Shows b s x → IsSpelledScalar size x × (b ≡ scalar_bytes x.0 x.1)
+shown size b s x len w = (record { is = ap length w.2 ∙ len; place = w.0 }, sym w.1)
+
+behind_takes : (size : ℕ) (b : List ℕ) (x : List ℕ × Sign) → length b ≡ suc size → behind_sign b ≡ Ok x → IsSpelledScalar size x × (b ≡ scalar_bytes x.0 x.1)
+behind_takes size [] x len e = absurd cc
+behind_takes size (c ∷ s) x len e =
+    let h = met (eqb c 0) FormatEncoding (Ok (signed_scalar s)) x e in
+    let is = shown size (0 ∷ s) s (signed_scalar s) (omega arith) (with_sign s (is_high s) refl) in
+    subst (λ (z : List ℕ × Sign). IsSpelledScalar size z × (c ∷ s ≡ scalar_bytes z.0 z.1)) (ok_is (signed_scalar s) x h.1) (is.0, ap (λ (k : ℕ). k ∷ s) (eqb-true _ _ h.0) ∙ is.1)
+
+scalar_takes : (size : ℕ) (b : List ℕ) (x : List ℕ × Sign) → scalar_from size b ≡ Ok x → IsSpelledScalar size x × (b ≡ scalar_bytes x.0 x.1)
+scalar_takes size b x e =
+    elim (chosen (eqb (length b) size) (Ok (unsigned_scalar b)) (cond (eqb (length b) (suc size)) (behind_sign b) (cond (ltb (length b) size) (Err Length) (Err (TrailingData (length b - size))))) (done x) e) [
+      | inl same ↦ subst (λ (z : List ℕ × Sign). IsSpelledScalar size z × (b ≡ scalar_bytes z.0 z.1)) (ok_is (unsigned_scalar b) x same.1) (shown size b b (unsigned_scalar b) (eqb-true _ _ same.0) (without_sign b (is_high b) refl))
+      | inr other ↦ elim (chosen (eqb (length b) (suc size)) (behind_sign b) (cond (ltb (length b) size) (Err Length) (Err (TrailingData (length b - size)))) (done x) other.1) [
+        | inl more ↦ behind_takes size b x (eqb-true _ _ more.0) more.1
+        | inr none ↦ elim (chosen (ltb (length b) size) (Err Length) (Err (TrailingData (length b - size))) (done x) none.1) [
+          | inl short ↦ absurd (cc short.1)
+          | inr long ↦ absurd (cc long.1)
+        ]
+      ]
+    ]
+
+longer : (size : ℕ) (s : List ℕ) → length s ≡ size → eqb (suc (length s)) size ≡ false
+longer size s len = ne_eqb _ _ (λ e. omega arith)
+
+scalar_again : (size : ℕ) (s : List ℕ) (n : Sign) → length s ≡ size → HasScalarPlaces s n → scalar_from size (scalar_bytes s n) ≡ Ok (s, n)
+scalar_again size s Without len is = rw (eq-eqb _ _ len, is) refl
+scalar_again size s With len is = rw (longer size s len, eq-eqb (suc (length s)) (suc size) (ap suc len), is) refl
+scalar_again size s Usual len is = go (is_high s) refl
+  where
+    go : (h : Bool) → is_high s ≡ h → scalar_from size (signed_if (is_high s) s) ≡ Ok (s, Usual)
+    go true e = ap (λ (h : Bool). scalar_from size (signed_if h s)) e ∙ rw (longer size s len, eq-eqb (suc (length s)) (suc size) (ap suc len), e) refl
+    go false e = ap (λ (h : Bool). scalar_from size (signed_if h s)) e ∙ rw (eq-eqb _ _ len, e) refl
+
+pub scalar_reads : (size : ℕ) → ReadsFront (IsSpelled (IsScalar size) HasScalarPlaces) (spelled scalar) (scalar_at size)
+unfolding scalar_at
+scalar_reads size = checked_string_reads (record {
+  takes = λ b x was e. let t = scalar_takes size b x e in (t.0, ap bytes t.1);
+  again = λ x is. (scalar_bytes x.0 x.1, tt, scalar_again size x.0 x.1 is.is is.place, refl);
+})
+
+-- ---- pairs
+
+-- a pair as it is spelled under an algorithm
+abbrev IsSpelledUnder : Algorithm → KeyPair × Sign → Type 0
+IsSpelledUnder a = IsSpelled (IsPairUnder a) HasPairPlaces
+
+usual : (k : KeyPair) (s : Sign) → s ≡ Usual → ◌≡◌ {A = KeyPair × Sign} (k, Usual) (k, s)
+usual k s e = ap (λ (z : Sign). (k, z)) (sym e)
+
+dsa_pair_reads : ReadsFront (IsSpelledUnder Algorithm.Dsa) (spelled pair) dsa_pair_at
+unfolding dsa_pair_at
+dsa_pair_reads = same_front (checked_reads (to_form
+      (λ a. (DsaPair (record { p = a.0; q = a.1.0; g = a.1.1.0; y = a.1.1.1.0 }) a.1.1.1.1, Usual))
+      (λ a h. (record { is = (refl, ((h.0, h.1.0, h.1.1.0, h.1.1.1.0), h.1.1.1.1)); place = refl }, refl))
+      (λ x h. back x.0 x.1 h.is h.place))
+    (then_reads mpint_reads (λ _. then_reads mpint_reads (λ _. then_reads mpint_reads (λ _. then_reads mpint_reads (λ _. mpint_reads)))))) (λ b. simp bind_assoc)
+  where
+    back : (k : KeyPair) (s : Sign) → IsPairUnder Algorithm.Dsa k → HasPairPlaces k s → (a : List ℕ × (List ℕ × (List ℕ × (List ℕ × List ℕ)))) × (IsMpint a.0 × (IsMpint a.1.0 × (IsMpint a.1.1.0 × (IsMpint a.1.1.1.0 × IsMpint a.1.1.1.1)))) × (◌≡◌ {A = KeyPair × Sign} (DsaPair (record { p = a.0; q = a.1.0; g = a.1.1.0; y = a.1.1.1.0 }) a.1.1.1.1, Usual) (k, s)) × (string a.0 & string a.1.0 & string a.1.1.0 & string a.1.1.1.0 & string a.1.1.1.1 ≡ pair k s)
+    back (DsaPair k x) s h place = ((k.p, (k.q, (k.g, (k.y, x)))), (h.1.0.0, (h.1.0.1, (h.1.0.2, (h.1.0.3, h.1.1)))), usual (DsaPair k x) s place, refl)
+    back _ s h place = absurd (cc h.0)
+
+-- ---- ECDSA
+
+of_curve_reads : (stated : Curve) → ReadsFront (λ x. IsPointOf x × (curve_eq x.0 stated ≡ true)) (λ x. string x.1) (checked_at (of_curve stated) (checked_at point_from string_at))
+of_curve_reads stated = checked_reads (kept (λ x. curve_eq x.0 stated) UnknownAlgorithm) (checked_string_reads point_checks)
+
+pub any_ecdsa_pair_reads : ReadsFront (IsSpelled IsEcdsaPair HasPairPlaces) (spelled pair) any_ecdsa_pair_at
+unfolding any_ecdsa_pair_at
+any_ecdsa_pair_reads = same_front (checked_reads (to_form
+      (λ a. (EcdsaPair a.1.0.0 a.1.0.1 a.1.1.0, a.1.1.1))
+      (λ a h. (record { is = (h.1.0.0, h.1.1.is); place = h.1.1.place }, ap (λ (c : Curve). curve c & string a.1.0.1 & scalar a.1.1.0 a.1.1.1) (sym (same_curve _ _ h.1.0.1))))
+      (λ x h. back x.0 x.1 h.is h.place))
+    (then_reads curve_reads (λ stated. then_reads (of_curve_reads stated) (λ on. scalar_reads (field_size on.0))))) (λ b. simp bind_assoc)
+  where
+    Read : Type 0
+    Read = Curve × ((Curve × List ℕ) × (List ℕ × Sign))
+
+    IsRead : Read → Type 0
+    IsRead a = Any a.0 × ((IsPointOf a.1.0 × (curve_eq a.1.0.0 a.0 ≡ true)) × IsSpelledScalar (field_size a.1.0.0) a.1.1)
+
+    back : (k : KeyPair) (s : Sign) → IsEcdsaPair k → HasPairPlaces k s → (a : Read) × IsRead a × (◌≡◌ {A = KeyPair × Sign} (EcdsaPair a.1.0.0 a.1.0.1 a.1.1.0, a.1.1.1) (k, s)) × (curve a.0 & string a.1.0.1 & scalar a.1.1.0 a.1.1.1 ≡ pair k s)
+    back (EcdsaPair c p n) s h place = ((c, ((c, p), (n, s))), (tt, ((h.0, curve_itself c), record { is = h.1; place = place })), refl, refl)
+    back _ s h place = absurd h
+
+wanted_checks : (wanted : Curve) → Checks (IsSpelled IsEcdsaPair HasPairPlaces) (spelled pair) (IsSpelledUnder (Algorithm.Ecdsa wanted)) (spelled pair) (wanted_curve wanted)
+wanted_checks wanted = record { takes = λ a x was e. there a.0 a.1 x was.is was.place e; again = λ x h. back x.0 x.1 h.is h.place }
+  where
+    there : (k : KeyPair) (s : Sign) (x : KeyPair × Sign) → IsEcdsaPair k → HasPairPlaces k s → wanted_curve wanted (k, s) ≡ Ok x → IsSpelledUnder (Algorithm.Ecdsa wanted) x × (pair k s ≡ spelled pair x)
+    there (EcdsaPair c p n) s x is place e =
+        let h = met (curve_eq c wanted) UnknownAlgorithm (Ok (EcdsaPair c p n, s)) x e in
+        subst (λ (z : KeyPair × Sign). IsSpelledUnder (Algorithm.Ecdsa wanted) z × (pair (EcdsaPair c p n) s ≡ spelled pair z)) (ok_is (EcdsaPair c p n, s) x h.1) (record { is = (ap Algorithm.Ecdsa (same_curve c wanted h.0), is); place = place }, refl)
+    there _ s x is place e = absurd is
+
+    back : (k : KeyPair) (s : Sign) → IsPairUnder (Algorithm.Ecdsa wanted) k → HasPairPlaces k s → (a : KeyPair × Sign) × IsSpelled IsEcdsaPair HasPairPlaces a × (wanted_curve wanted a ≡ Ok (k, s)) × (spelled pair a ≡ pair k s)
+    back (EcdsaPair c p n) s h place =
+        let same : c ≡ wanted = cc h.0 in
+        ((EcdsaPair c p n, s), record { is = h.1; place = place }, rw (same, curve_itself wanted) refl, refl)
+    back _ s h place = absurd (cc h.0)
+
+ecdsa_pair_reads : (c : Curve) → ReadsFront (IsSpelledUnder (Algorithm.Ecdsa c)) (spelled pair) (ecdsa_pair_at c)
+unfolding ecdsa_pair_at
+ecdsa_pair_reads c = checked_reads (wanted_checks c) any_ecdsa_pair_reads
+
+-- ---- Ed25519
+
+-- 32 private bytes, before public ones of which there are 32 as well
+abbrev AreHalves : List ℕ → List ℕ → Type 0
+AreHalves public private = HasLength 32 private × HasLength 32 public
+
+private_before_checks : (public : List ℕ) → Checks (HasLength 64) string (AreHalves public) (λ private. string (private ++ public)) (private_before public)
+private_before_checks public = record { takes = there; again = back }
+  where
+    there : (b x : List ℕ) → HasLength 64 b → private_before public b ≡ Ok x → AreHalves public x × (string b ≡ string (x ++ public))
+    there b x was e =
+        let h = met (bytes_eq (drop 32 b) public) Cryptographic (Ok (take 32 b)) x e in
+        let same : drop 32 b ≡ public = (bytes_eq-Decides (drop 32 b) public).0 h.0 in
+        let parts : take 32 b ++ public ≡ b = ap (λ (z : List ℕ). take 32 b ++ z) (sym same) ∙ take-append-drop 32 b in
+        let first : length (take 32 b) ≡ 32 = omega (arith, was, length-take 32 b) in
+        let second : length public ≡ 32 = omega (arith, was, first, length-append (take 32 b) public, ap length parts) in
+        subst (λ (z : List ℕ). AreHalves public z × (string b ≡ string (z ++ public))) (ok_is (take 32 b) x h.1) ((first, second), ap string (sym parts))
+
+    back : (x : List ℕ) → AreHalves public x → (b : List ℕ) × HasLength 64 b × (private_before public b ≡ Ok x) × (string b ≡ string (x ++ public))
+    back x is =
+        let same : bytes_eq public public ≡ true = (bytes_eq-Decides public public).1 refl in
+        (x ++ public, omega (arith, is.0, is.1, length-append x public), rw (drop_at x public 32 is.0, take_at x public 32 is.0, same) refl, refl)
+
+ed25519_pair_reads : ReadsFront (IsSpelledUnder Algorithm.Ed25519) (spelled pair) ed25519_pair_at
+unfolding ed25519_pair_at
+ed25519_pair_reads = same_front (checked_reads (to_form
+      (λ a. (Ed25519Pair a.0 a.1, Usual))
+      (λ a h. (record { is = (refl, (h.0, h.1.0)); place = refl }, refl))
+      (λ x h. back x.0 x.1 h.is h.place))
+    (then_reads ed25519_string_reads (λ public. checked_reads (private_before_checks public) (box_reads (whole_reads (bytes_reads 64)))))) (λ b. simp bind_assoc)
+  where
+    back : (k : KeyPair) (s : Sign) → IsPairUnder Algorithm.Ed25519 k → HasPairPlaces k s → (a : List ℕ × List ℕ) × (HasLength 32 a.0 × (HasLength 32 a.1 × HasLength 32 a.0)) × (◌≡◌ {A = KeyPair × Sign} (Ed25519Pair a.0 a.1, Usual) (k, s)) × (string a.0 & string (a.1 ++ a.0) ≡ pair k s)
+    back (Ed25519Pair k r) s h place = ((k, r), (h.1.0, (h.1.1, h.1.0)), usual (Ed25519Pair k r) s place, refl)
+    back _ s h place = absurd (cc h.0)
+
+-- ---- RSA
+
+pub rsa_private_reads : ReadsFront IsRsaPrivate rsa_private rsa_private_at
+unfolding rsa_private_at
+rsa_private_reads = same_front (checked_reads (to_form
+      (λ a. record { d = a.0; iqmp = a.1.0; p = a.1.1.0; q = a.1.1.1 })
+      (λ a h. ((h.0, h.1.0, h.1.1.0, h.1.1.1), refl))
+      (λ r h. ((r.d, (r.iqmp, (r.p, r.q))), (h.0, (h.1, (h.2, h.3))), refl, refl)))
+    (then_reads mpint_reads (λ _. then_reads mpint_reads (λ _. then_reads mpint_reads (λ _. mpint_reads))))) (λ b. simp bind_assoc)
+
+rsa_pair_reads : (hash : Option Hash) → ReadsFront (IsSpelledUnder (Algorithm.Rsa hash)) (spelled pair) rsa_pair_at
+unfolding rsa_pair_at
+rsa_pair_reads hash = same_front (checked_reads (to_form
+      (λ a. (RsaPair (record { e = a.1.0; n = a.0 }) a.1.1, Usual))
+      (λ a h. (record { is = (refl, ((h.1.0, h.0), h.1.1)); place = refl }, refl))
+      (λ x h. back x.0 x.1 h.is h.place))
+    (then_reads mpint_reads (λ _. then_reads mpint_reads (λ _. rsa_private_reads)))) (λ b. simp bind_assoc)
+  where
+    back : (k : KeyPair) (s : Sign) → IsPairUnder (Algorithm.Rsa hash) k → HasPairPlaces k s → (a : List ℕ × (List ℕ × RsaPrivate)) × (IsMpint a.0 × (IsMpint a.1.0 × IsRsaPrivate a.1.1)) × (◌≡◌ {A = KeyPair × Sign} (RsaPair (record { e = a.1.0; n = a.0 }) a.1.1, Usual) (k, s)) × (string a.0 & string a.1.0 & rsa_private a.1.1 ≡ pair k s)
+    back (RsaPair k r) s h place = ((k.n, (k.e, r)), (h.1.0.1, (h.1.0.0, h.1.1)), usual (RsaPair k r) s place, refl)
+    back _ s h place = absurd (cc h.0)
+
+-- ---- keys that a security key holds
+
+security_private_reads : ReadsFront Any security_private security_private_at
+unfolding security_private_at
+security_private_reads = same_front (checked_reads (to_form
+      (λ a. record { flags = a.0; handle = a.1.0; reserved = a.1.1 })
+      (λ a h. (tt, refl))
+      (λ r h. ((r.flags, (r.handle, r.reserved)), (tt, (tt, tt)), refl, refl)))
+    (then_reads (number_reads w8 wide8) (λ _. then_reads string_reads (λ _. string_reads)))) (λ b. simp bind_assoc)
+
+sk_ecdsa_pair_reads : ReadsFront (IsSpelledUnder Algorithm.SkEcdsa) (spelled pair) sk_ecdsa_pair_at
+unfolding sk_ecdsa_pair_at
+sk_ecdsa_pair_reads = same_front (checked_reads (to_form
+      (λ a. (SkEcdsaPair (record { key = a.1.0; application = a.1.1.0 }) a.1.1.1, Usual))
+      (λ a h. (record { is = (refl, ((h.1.0, h.1.1.0), tt)); place = refl }, refl))
+      (λ x h. back x.0 x.1 h.is h.place))
+    (then_reads (checked_reads p256_checks curve_reads) (λ _. then_reads (checked_string_reads p256_point_checks) (λ _. then_reads text_reads (λ _. security_private_reads))))) (λ b. simp bind_assoc)
+  where
+    back : (k : KeyPair) (s : Sign) → IsPairUnder Algorithm.SkEcdsa k → HasPairPlaces k s → (a : Curve × (List ℕ × (List ℕ × SecurityPrivate))) × ((a.0 ≡ Nistp256) × (IsPoint Nistp256 a.1.0 × (IsText a.1.1.0 × Any a.1.1.1))) × (◌≡◌ {A = KeyPair × Sign} (SkEcdsaPair (record { key = a.1.0; application = a.1.1.0 }) a.1.1.1, Usual) (k, s)) × (curve Nistp256 & string a.1.0 & string a.1.1.0 & security_private a.1.1.1 ≡ pair k s)
+    back (SkEcdsaPair k r) s h place = ((Nistp256, (k.key, (k.application, r))), (refl, (h.1.0.0, (h.1.0.1, tt))), usual (SkEcdsaPair k r) s place, refl)
+    back _ s h place = absurd (cc h.0)
+
+sk_ed25519_pair_reads : ReadsFront (IsSpelledUnder Algorithm.SkEd25519) (spelled pair) sk_ed25519_pair_at
+unfolding sk_ed25519_pair_at
+sk_ed25519_pair_reads = same_front (checked_reads (to_form
+      (λ a. (SkEd25519Pair (record { key = a.0; application = a.1.0 }) a.1.1, Usual))
+      (λ a h. (record { is = (refl, ((h.0, h.1.0), tt)); place = refl }, refl))
+      (λ x h. back x.0 x.1 h.is h.place))
+    (then_reads ed25519_string_reads (λ _. then_reads text_reads (λ _. security_private_reads)))) (λ b. simp bind_assoc)
+  where
+    back : (k : KeyPair) (s : Sign) → IsPairUnder Algorithm.SkEd25519 k → HasPairPlaces k s → (a : List ℕ × (List ℕ × SecurityPrivate)) × (HasLength 32 a.0 × (IsText a.1.0 × Any a.1.1)) × (◌≡◌ {A = KeyPair × Sign} (SkEd25519Pair (record { key = a.0; application = a.1.0 }) a.1.1, Usual) (k, s)) × (string a.0 & string a.1.0 & security_private a.1.1 ≡ pair k s)
+    back (SkEd25519Pair k r) s h place = ((k.key, (k.application, r)), (h.1.0.0, (h.1.0.1, tt)), usual (SkEd25519Pair k r) s place, refl)
+    back _ s h place = absurd (cc h.0)
+
+-- ---- pairs of other algorithms
+
+opaque_pair_reads : (name : List ℕ) → ReadsFront (IsSpelledUnder (Algorithm.Other name)) (spelled pair) (opaque_pair_at name)
+unfolding opaque_pair_at
+opaque_pair_reads name = same_front (checked_reads (to_form
+      (λ a. (OpaquePair name a.0 a.1, Usual))
+      (λ a h. (record { is = (refl, (tt, tt)); place = refl }, refl))
+      (λ x h. back x.0 x.1 h.is h.place))
+    (then_reads string_reads (λ _. string_reads))) (λ b. simp bind_assoc)
+  where
+    back : (k : KeyPair) (s : Sign) → IsPairUnder (Algorithm.Other name) k → HasPairPlaces k s → (a : List ℕ × List ℕ) × (Any a.0 × Any a.1) × (◌≡◌ {A = KeyPair × Sign} (OpaquePair name a.0 a.1, Usual) (k, s)) × (string a.0 & string a.1 ≡ pair k s)
+    back (OpaquePair n k r) s h place = ((k, r), (tt, tt), (let same : n ≡ name = cc h.0 in let plain : s ≡ Usual = place in cc), refl)
+    back _ s h place = absurd (cc h.0)
+
+pub pair_reads : (a : Algorithm) → ReadsFront (IsSpelled (IsPairUnder a) HasPairPlaces) (spelled pair) (pair_at a)
+pair_reads Algorithm.Dsa = dsa_pair_reads
+pair_reads (Algorithm.Ecdsa c) = ecdsa_pair_reads c
+pair_reads Algorithm.Ed25519 = ed25519_pair_reads
+pair_reads (Algorithm.Rsa hash) = rsa_pair_reads hash
+pair_reads Algorithm.SkEcdsa = sk_ecdsa_pair_reads
+pair_reads Algorithm.SkEd25519 = sk_ed25519_pair_reads
+pair_reads (Algorithm.Other name) = opaque_pair_reads name
+
+-- ---- the name before it
+
+pub keypair_reads : ReadsFront (IsSpelled IsKeyPair HasKeyPairPlaces) (spelled keypair) keypair_at
+unfolding keypair_at
+keypair_reads = same_front (checked_reads (to_form (λ a. (a.1.0, record { head = head_of a.0; sign = a.1.1 })) there (λ x h. back x.0 x.1 h.is h.place)) (then_reads algorithm_reads pair_reads)) (λ b. simp bind_assoc)
+  where
+    there : (a : Algorithm × (KeyPair × Sign)) → IsAlgorithm a.0 × IsSpelledUnder a.0 a.1 → IsSpelled IsKeyPair HasKeyPairPlaces (a.1.0, record { head = head_of a.0; sign = a.1.1 }) × (algorithm a.0 & spelled pair a.1 ≡ spelled keypair (a.1.0, record { head = head_of a.0; sign = a.1.1 }))
+    there a h =
+        let s = split_head a.0 (pair_algorithm a.1.0) h.0 h.1.is.0 in
+        (record { is = (s.0, h.1.is.1); place = (s.1, h.1.place) }, ap (λ (n : Algorithm). algorithm n & spelled pair a.1) s.2)
+
+    back : (k : KeyPair) (s : KeyPairChoices) → IsKeyPair k → HasKeyPairPlaces k s → (a : Algorithm × (KeyPair × Sign)) × (IsAlgorithm a.0 × IsSpelledUnder a.0 a.1) × (◌≡◌ {A = KeyPair × KeyPairChoices} (a.1.0, record { head = head_of a.0; sign = a.1.1 }) (k, s)) × (algorithm a.0 & spelled pair a.1 ≡ keypair k s)
+    back k s is place =
+        let j = join_head (public_half k) s.head is.0 place.0 in
+        ((headed s.head (pair_algorithm k), (k, s.sign)), (j.0, record { is = (j.1, is.1); place = place.1 }), ap (λ (z : Head). (k, record { head = z; sign = s.sign })) j.2, refl)

@@ -1,0 +1,286 @@
+-- Key pairs (PROTOCOL.key; PROTOCOL.u2f; RFC 8709, section 4).
+use Rattle.std.specs.Prelude.{◌≡◌, ℕ, suc, ◌-◌, List, [], ◌∷◌, ◌++◌, length, take, drop, Bool, true, false, not, Result, Ok, Err, nat_lt, ◌==◌, if◌then◌else◌, bytes_eq, bit_xor}
+use Rattle.std.specs.Int.{w8, w32, from_be_bytes}
+use Rattle.sshkey_model.specs.Parts.{Parts, number, ◌&◌}
+use Rattle.sshkey_model.specs.Reading.{Fault, Length, FormatEncoding, UnknownAlgorithm, Cryptographic, TrailingData, ◌>>=◌, Front, string_at, box_at, whole, number_at, bytes_at, checked_at}
+use Rattle.sshkey_model.specs.Texts.{string, text_at}
+use Rattle.sshkey_model.specs.Names.{Curve, Nistp256, Algorithm, IsAlgorithm, algorithm, algorithm_at, curve, curve_at}
+use Rattle.sshkey_model.specs.Mpints.{IsMpint, mpint_at}
+use Rattle.sshkey_model.specs.Points.{field_size, curve_eq, point_from, p256_point_from}
+use Rattle.sshkey_model.specs.Keys.{Key, Dsa, Ecdsa, Ed25519, Rsa, SkEcdsa, SkEd25519, Opaque, DsaKey, RsaKey, SecurityKey, key_algorithm, IsBody, Head, Plain, headed, HasHead, head_of, unhashed, ed25519_at, p256_only}
+
+-- ---- private scalars of ECDSA
+
+-- A private scalar has the size of the field. It is written with a 00 before it exactly if its first bit is set.
+-- Third spelling: that 00 may be missing, or stand where none is wanted.
+pub data Sign : Type 0 where
+  Usual Without With : Sign
+
+-- the first bit is set
+abbrev pub is_high : List ℕ → Bool
+is_high [] = false
+is_high (b ∷ rest) = not (nat_lt b 0x80)
+
+abbrev pub signed_if : Bool → List ℕ → List ℕ
+signed_if true s = 0 ∷ s
+signed_if false s = s
+
+abbrev pub scalar_bytes : List ℕ → Sign → List ℕ
+scalar_bytes s Usual = signed_if (is_high s) s
+scalar_bytes s Without = s
+scalar_bytes s With = 0 ∷ s
+
+abbrev pub scalar : List ℕ → Sign → Parts
+scalar s sign = string (scalar_bytes s sign)
+
+abbrev pub IsScalar : ℕ → List ℕ → Type 0
+IsScalar size s = length s ≡ size
+
+abbrev pub HasScalarPlaces : List ℕ → Sign → Type 0
+HasScalarPlaces s Usual = Unit {0}
+HasScalarPlaces s Without = is_high s ≡ true
+HasScalarPlaces s With = is_high s ≡ false
+
+-- ---- pairs
+
+pub record RsaPrivate : Type 0 where
+  pub d : List ℕ
+  pub iqmp : List ℕ
+  pub p : List ℕ
+  pub q : List ℕ
+
+-- what is kept of a key that a security key holds
+pub record SecurityPrivate : Type 0 where
+  pub flags : ℕ
+  pub handle : List ℕ
+  pub reserved : List ℕ
+
+-- the public half, and then the private one
+pub data KeyPair : Type 0 where
+  DsaPair : DsaKey → List ℕ → KeyPair
+  EcdsaPair : Curve → List ℕ → List ℕ → KeyPair
+  Ed25519Pair : List ℕ → List ℕ → KeyPair
+  RsaPair : RsaKey → RsaPrivate → KeyPair
+  SkEcdsaPair SkEd25519Pair : SecurityKey → SecurityPrivate → KeyPair
+  OpaquePair : List ℕ → List ℕ → List ℕ → KeyPair
+
+abbrev pub public_half : KeyPair → Key
+public_half (DsaPair k x) = Dsa k
+public_half (EcdsaPair c point s) = Ecdsa c point
+public_half (Ed25519Pair public private) = Ed25519 public
+public_half (RsaPair k r) = Rsa k
+public_half (SkEcdsaPair k r) = SkEcdsa k
+public_half (SkEd25519Pair k r) = SkEd25519 k
+public_half (OpaquePair name public private) = Opaque name public
+
+abbrev pub pair_algorithm : KeyPair → Algorithm
+pair_algorithm k = key_algorithm (public_half k)
+
+abbrev pub rsa_private : RsaPrivate → Parts
+rsa_private r = string r.d & string r.iqmp & string r.p & string r.q
+
+abbrev pub security_private : SecurityPrivate → Parts
+security_private r = number w8 r.flags & string r.handle & string r.reserved
+
+-- what stands behind the name
+abbrev pub pair : KeyPair → Sign → Parts
+pair (DsaPair k x) sign = string k.p & string k.q & string k.g & string k.y & string x
+pair (EcdsaPair c point s) sign = curve c & string point & scalar s sign
+pair (Ed25519Pair public private) sign = string public & string (private ++ public)
+pair (RsaPair k r) sign = string k.n & string k.e & rsa_private r
+pair (SkEcdsaPair k r) sign = curve Nistp256 & string k.key & string k.application & security_private r
+pair (SkEd25519Pair k r) sign = string k.key & string k.application & security_private r
+pair (OpaquePair name public private) sign = string public & string private
+
+abbrev pub IsRsaPrivate : RsaPrivate → Type 0
+IsRsaPrivate r = IsMpint r.d × IsMpint r.iqmp × IsMpint r.p × IsMpint r.q
+
+abbrev pub IsPrivateHalf : KeyPair → Type 0
+IsPrivateHalf (DsaPair k x) = IsMpint x
+IsPrivateHalf (EcdsaPair c point s) = IsScalar (field_size c) s
+IsPrivateHalf (Ed25519Pair public private) = length private ≡ 32
+IsPrivateHalf (RsaPair k r) = IsRsaPrivate r
+IsPrivateHalf _ = Unit {0}
+
+abbrev pub IsPairBody : KeyPair → Type 0
+IsPairBody k = IsBody (public_half k) × IsPrivateHalf k
+
+abbrev pub HasPairPlaces : KeyPair → Sign → Type 0
+HasPairPlaces (EcdsaPair c point s) sign = HasScalarPlaces s sign
+HasPairPlaces _ sign = sign ≡ Usual
+
+-- a pair of ECDSA, of whichever curve
+abbrev pub IsEcdsaPair : KeyPair → Type 0
+IsEcdsaPair (EcdsaPair c point s) = IsPairBody (EcdsaPair c point s)
+IsEcdsaPair _ = ⊥
+
+-- a pair read under an algorithm, with or without a hash
+abbrev pub IsPairUnder : Algorithm → KeyPair → Type 0
+IsPairUnder a k = (pair_algorithm k ≡ unhashed a) × IsPairBody k
+
+-- ---- the name before it
+
+-- The name of an RSA pair may be one with a hash, as that of a key.
+pub record KeyPairChoices : Type 0 where
+  pub head : Head
+  pub sign : Sign
+
+abbrev pub plain_pair : KeyPairChoices
+plain_pair = record { head = Plain; sign = Usual }
+
+abbrev pub IsKeyPair : KeyPair → Type 0
+IsKeyPair k = IsAlgorithm (pair_algorithm k) × IsPairBody k
+
+abbrev pub HasKeyPairPlaces : KeyPair → KeyPairChoices → Type 0
+HasKeyPairPlaces k s = HasHead (pair_algorithm k) s.head × HasPairPlaces k s.sign
+
+abbrev pub keypair : KeyPair → KeyPairChoices → Parts
+keypair k s = algorithm (headed s.head (pair_algorithm k)) & pair k s.sign
+
+abbrev pub normal_keypair : KeyPair → Parts
+normal_keypair k = keypair k plain_pair
+
+-- ---- the checkint that is written where a key holds none
+
+-- the private bytes that it is made of
+abbrev pub private_bytes : KeyPair → List ℕ
+private_bytes (DsaPair k x) = x
+private_bytes (EcdsaPair c point s) = s
+private_bytes (Ed25519Pair public private) = private
+private_bytes (RsaPair k r) = r.d
+private_bytes (SkEcdsaPair k r) = r.handle
+private_bytes (SkEd25519Pair k r) = r.handle
+private_bytes (OpaquePair name public private) = private
+
+-- the whole words of four bytes, most significant first
+abbrev pub words : List ℕ → List ℕ
+words (a ∷ b ∷ c ∷ d ∷ rest) = from_be_bytes w32 (a ∷ b ∷ c ∷ d ∷ []) ∷ words rest
+words _ = []
+
+abbrev pub xor_all : List ℕ → ℕ
+xor_all [] = 0
+xor_all (n ∷ ns) = bit_xor n (xor_all ns)
+
+abbrev pub derived_checkint : KeyPair → ℕ
+derived_checkint k = xor_all (words (private_bytes k))
+
+-- ---- reading
+
+abbrev pub unsigned_scalar : List ℕ → List ℕ × Sign
+unsigned_scalar s = if is_high s then (s, Without) else (s, Usual)
+
+abbrev pub signed_scalar : List ℕ → List ℕ × Sign
+signed_scalar s = if is_high s then (s, Usual) else (s, With)
+
+abbrev pub behind_sign : List ℕ → Result (List ℕ × Sign) Fault
+behind_sign [] = Err Length
+behind_sign (b ∷ s) = if b == 0 then Ok (signed_scalar s) else Err FormatEncoding
+
+-- so many bytes, or one more
+abbrev pub scalar_from : ℕ → List ℕ → Result (List ℕ × Sign) Fault
+scalar_from size b =
+    if length b == size then Ok (unsigned_scalar b)
+    else if length b == suc size then behind_sign b
+    else if nat_lt (length b) size then Err Length
+    else Err (TrailingData (length b - size))
+
+unfoldable pub scalar_at : ℕ → Front (List ℕ × Sign)
+scalar_at size = checked_at (scalar_from size) string_at
+
+unfoldable pub dsa_pair_at : Front (KeyPair × Sign)
+dsa_pair_at b = do
+  p ← mpint_at b
+  q ← mpint_at p.1
+  g ← mpint_at q.1
+  y ← mpint_at g.1
+  x ← mpint_at y.1
+  Ok ((DsaPair (record { p = p.0; q = q.0; g = g.0; y = y.0 }) x.0, Usual), x.1)
+
+abbrev pub of_curve : Curve → Curve × List ℕ → Result (Curve × List ℕ) Fault
+of_curve stated point = if curve_eq point.0 stated then Ok point else Err UnknownAlgorithm
+
+-- of whichever curve it states
+unfoldable pub any_ecdsa_pair_at : Front (KeyPair × Sign)
+any_ecdsa_pair_at b = do
+  stated ← curve_at b
+  point ← checked_at point_from string_at stated.1
+  on ← of_curve stated.0 point.0
+  s ← scalar_at (field_size on.0) point.1
+  Ok ((EcdsaPair on.0 on.1 s.0.0, s.0.1), s.1)
+
+abbrev pub wanted_curve : Curve → KeyPair × Sign → Result (KeyPair × Sign) Fault
+wanted_curve wanted (EcdsaPair c point s, sign) = if curve_eq c wanted then Ok (EcdsaPair c point s, sign) else Err UnknownAlgorithm
+wanted_curve wanted _ = Err UnknownAlgorithm
+
+unfoldable pub ecdsa_pair_at : Curve → Front (KeyPair × Sign)
+ecdsa_pair_at wanted = checked_at (wanted_curve wanted) any_ecdsa_pair_at
+
+-- the private bytes before the public ones
+abbrev pub private_before : List ℕ → List ℕ → Result (List ℕ) Fault
+private_before public b = if bytes_eq (drop 32 b) public then Ok (take 32 b) else Err Cryptographic
+
+unfoldable pub ed25519_pair_at : Front (KeyPair × Sign)
+ed25519_pair_at b = do
+  public ← ed25519_at b
+  both ← box_at (whole (bytes_at 64)) public.1
+  private ← private_before public.0 both.0
+  Ok ((Ed25519Pair public.0 private, Usual), both.1)
+
+unfoldable pub rsa_private_at : Front RsaPrivate
+rsa_private_at b = do
+  d ← mpint_at b
+  iqmp ← mpint_at d.1
+  p ← mpint_at iqmp.1
+  q ← mpint_at p.1
+  Ok (record { d = d.0; iqmp = iqmp.0; p = p.0; q = q.0 }, q.1)
+
+unfoldable pub rsa_pair_at : Front (KeyPair × Sign)
+rsa_pair_at b = do
+  n ← mpint_at b
+  e ← mpint_at n.1
+  r ← rsa_private_at e.1
+  Ok ((RsaPair (record { e = e.0; n = n.0 }) r.0, Usual), r.1)
+
+unfoldable pub security_private_at : Front SecurityPrivate
+security_private_at b = do
+  flags ← number_at w8 b
+  handle ← string_at flags.1
+  reserved ← string_at handle.1
+  Ok (record { flags = flags.0; handle = handle.0; reserved = reserved.0 }, reserved.1)
+
+unfoldable pub sk_ecdsa_pair_at : Front (KeyPair × Sign)
+sk_ecdsa_pair_at b = do
+  stated ← curve_at b
+  c ← p256_only stated.0
+  point ← checked_at p256_point_from string_at stated.1
+  application ← text_at point.1
+  r ← security_private_at application.1
+  Ok ((SkEcdsaPair (record { key = point.0; application = application.0 }) r.0, Usual), r.1)
+
+unfoldable pub sk_ed25519_pair_at : Front (KeyPair × Sign)
+sk_ed25519_pair_at b = do
+  key ← ed25519_at b
+  application ← text_at key.1
+  r ← security_private_at application.1
+  Ok ((SkEd25519Pair (record { key = key.0; application = application.0 }) r.0, Usual), r.1)
+
+unfoldable pub opaque_pair_at : List ℕ → Front (KeyPair × Sign)
+opaque_pair_at name b = do
+  public ← string_at b
+  private ← string_at public.1
+  Ok ((OpaquePair name public.0 private.0, Usual), private.1)
+
+abbrev pub pair_at : Algorithm → Front (KeyPair × Sign)
+pair_at Algorithm.Dsa b = dsa_pair_at b
+pair_at (Algorithm.Ecdsa c) b = ecdsa_pair_at c b
+pair_at Algorithm.Ed25519 b = ed25519_pair_at b
+pair_at (Algorithm.Rsa hash) b = rsa_pair_at b
+pair_at Algorithm.SkEcdsa b = sk_ecdsa_pair_at b
+pair_at Algorithm.SkEd25519 b = sk_ed25519_pair_at b
+pair_at (Algorithm.Other name) b = opaque_pair_at name b
+
+unfoldable pub keypair_at : Front (KeyPair × KeyPairChoices)
+keypair_at b = do
+  name ← algorithm_at b
+  k ← pair_at name.0 name.1
+  Ok ((k.0.0, record { head = head_of name.0; sign = k.0.1 }), k.1)
