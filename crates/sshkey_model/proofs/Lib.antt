@@ -10,7 +10,9 @@ pub mod SignatureReaders
 pub mod OptionReaders
 pub mod CertificateReaders
 pub mod SshSignatureReaders
-pub mod SignedBytes
-pub mod NormalForms
 pub mod KeyDerivationReaders
 pub mod KeyPairReaders
+pub mod Padding
+pub mod PrivateKeyReaders
+pub mod SignedBytes
+pub mod NormalForms

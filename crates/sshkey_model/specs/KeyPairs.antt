@@ -1,5 +1,5 @@
 -- Key pairs (PROTOCOL.key; PROTOCOL.u2f; RFC 8709, section 4).
-use Rattle.std.specs.Prelude.{◌≡◌, ℕ, suc, ◌-◌, List, [], ◌∷◌, ◌++◌, length, take, drop, Bool, true, false, not, Result, Ok, Err, nat_lt, ◌==◌, if◌then◌else◌, bytes_eq, bit_xor}
+use Rattle.std.specs.Prelude.{◌≡◌, ℕ, suc, ◌-◌, List, [], ◌∷◌, ◌++◌, length, take, drop, Bool, true, false, not, Option, Some, None, Result, Ok, Err, nat_lt, ◌==◌, if◌then◌else◌, bytes_eq, bit_xor}
 use Rattle.std.specs.Int.{w8, w32, from_be_bytes}
 use Rattle.sshkey_model.specs.Parts.{Parts, number, ◌&◌}
 use Rattle.sshkey_model.specs.Reading.{Fault, Length, FormatEncoding, UnknownAlgorithm, Cryptographic, TrailingData, ◌>>=◌, Front, string_at, box_at, whole, number_at, bytes_at, checked_at}
@@ -140,7 +140,7 @@ keypair k s = algorithm (headed s.head (pair_algorithm k)) & pair k s.sign
 abbrev pub normal_keypair : KeyPair → Parts
 normal_keypair k = keypair k plain_pair
 
--- ---- the checkint that is written where a key holds none
+-- ---- the checkint: any number, written twice so that a wrong decryption shows
 
 -- the private bytes that it is made of
 abbrev pub private_bytes : KeyPair → List ℕ
@@ -163,6 +163,11 @@ xor_all (n ∷ ns) = bit_xor n (xor_all ns)
 
 abbrev pub derived_checkint : KeyPair → ℕ
 derived_checkint k = xor_all (words (private_bytes k))
+
+-- the one that the key holds, or else the derived one
+abbrev pub written_checkint : Option ℕ → KeyPair → ℕ
+written_checkint (Some n) k = n
+written_checkint None k = derived_checkint k
 
 -- ---- reading
 

@@ -11,8 +11,9 @@ pub mod Signatures
 pub mod Options
 pub mod Certificates
 pub mod SshSignatures
+pub mod KeyDerivation
+pub mod KeyPairs
+pub mod PrivateKeys
 pub mod Verification
 pub mod Validity
 pub mod Laws
-pub mod KeyDerivation
-pub mod KeyPairs

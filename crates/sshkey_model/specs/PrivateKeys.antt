@@ -1,0 +1,202 @@
+-- Private keys (PROTOCOL.key).
+use Rattle.std.specs.Prelude.{◌≡◌, ℕ, zero, suc, ◌%◌, List, [], ◌∷◌, ◌++◌, length, Bool, true, false, ◌&&◌, Result, Ok, Err, nat_lt, ◌==◌, if◌then◌else◌, codes, bytes_eq}
+use Rattle.std.specs.Int.{w32}
+use Rattle.sshkey_model.specs.Parts.{Parts, bytes, number, box, ◌&◌, flat, Fits}
+use Rattle.sshkey_model.specs.Reading.{Fault, Length, FormatEncoding, Cryptographic, OtherPublicKey, TrailingKeyData, ◌>>=◌, Front, Whole, whole, box_at, string_at, number_at, bytes_at, checked_at, literal_at}
+use Rattle.sshkey_model.specs.Grammar.{IsSpelled, spelled}
+use Rattle.sshkey_model.specs.Texts.{string, IsText, text_at}
+use Rattle.sshkey_model.specs.Points.{curve_eq}
+use Rattle.sshkey_model.specs.Keys.{Key, Dsa, Ecdsa, Ed25519, Rsa, SkEcdsa, SkEd25519, Opaque, DsaKey, IsKey, key, key_at, key_algorithm, Head, Plain, HasHead}
+use Rattle.sshkey_model.specs.KeyDerivation.{Cipher, NoCipher, block_size, tag_size, padding_length, cipher, cipher_at, Kdf, NoKdf, Bcrypt, kdf, kdf_at}
+use Rattle.sshkey_model.specs.KeyPairs.{KeyPair, public_half, KeyPairChoices, plain_pair, IsKeyPair, HasKeyPairPlaces, keypair, keypair_at, derived_checkint}
+
+pub record UnencryptedKey : Type 0 where
+  pub checkint : ℕ
+  pub pair : KeyPair
+  pub comment : List ℕ
+
+pub record EncryptedKey : Type 0 where
+  pub cipher : Cipher
+  pub kdf : Kdf
+  pub public : Key
+  pub ciphertext : List ℕ
+  pub tag : List ℕ
+
+pub data PrivateKey : Type 0 where
+  Unencrypted : UnencryptedKey → PrivateKey
+  Encrypted : EncryptedKey → PrivateKey
+
+-- A key made of a pair and a comment has the derived checkint.
+abbrev pub new_private_key : KeyPair → List ℕ → PrivateKey
+new_private_key pair comment = Unencrypted (record { checkint = derived_checkint pair; pair = pair; comment = comment })
+
+abbrev pub key_cipher : PrivateKey → Cipher
+key_cipher (Unencrypted k) = NoCipher
+key_cipher (Encrypted k) = k.cipher
+
+abbrev pub key_kdf : PrivateKey → Kdf
+key_kdf (Unencrypted k) = NoKdf
+key_kdf (Encrypted k) = k.kdf
+
+abbrev pub public_key : PrivateKey → Key
+public_key (Unencrypted k) = public_half k.pair
+public_key (Encrypted k) = k.public
+
+-- ---- the padding
+
+-- the numbers from k on, so many
+abbrev pub rising : ℕ → ℕ → List ℕ
+rising k zero = []
+rising k (suc n) = k ∷ rising (suc k) n
+
+-- 01, 02, 03 and so on, up to a whole number of blocks
+abbrev pub padding : ℕ → List ℕ
+padding n = rising 1 (padding_length (block_size NoCipher) n)
+
+abbrev pub padded : Parts → Parts
+padded p = p & bytes (padding (length (flat p)))
+
+-- ---- the spelling
+
+-- "openssh-key-v1" and 00
+abbrev pub private_key_magic : List ℕ
+private_key_magic = codes "openssh-key-v1" ++ 0 ∷ []
+
+-- the checkint twice, the pair and the comment
+abbrev pub private_part : UnencryptedKey → KeyPairChoices → Parts
+private_part k s = number w32 k.checkint & number w32 k.checkint & keypair k.pair s & string k.comment
+
+-- the padded part in a string, or the ciphertext in one and the tag behind it
+abbrev pub content : PrivateKey → KeyPairChoices → Parts
+content (Unencrypted k) s = box (padded (private_part k s))
+content (Encrypted k) s = string k.ciphertext & bytes k.tag
+
+-- how the public key's name is spelled, and how the pair is
+pub record PrivateKeyChoices : Type 0 where
+  pub outer : Head
+  pub pair : KeyPairChoices
+
+abbrev pub plain_private_key : PrivateKeyChoices
+plain_private_key = record { outer = Plain; pair = plain_pair }
+
+-- magic, cipher, key derivation, one key, the public key, and the private part
+abbrev pub private_key : PrivateKey → PrivateKeyChoices → Parts
+private_key k s = bytes private_key_magic & cipher (key_cipher k) & kdf (key_kdf k) & number w32 1 & box (key (public_key k) s.outer) & content k s.pair
+
+abbrev pub normal_private_key : PrivateKey → Parts
+normal_private_key k = private_key k plain_private_key
+
+-- ---- which keys are well-formed
+
+pub record IsUnencryptedKey (k : UnencryptedKey) : Type 0 where
+  pub pair : IsKeyPair k.pair
+  pub comment : IsText k.comment
+
+-- The ciphertext may be empty, and the key derivation is any.
+pub record IsEncryptedKey (k : EncryptedKey) : Type 0 where
+  pub cipher : k.cipher ≡ NoCipher → ⊥
+  pub public : IsKey k.public
+  pub ciphertext : length k.ciphertext % block_size k.cipher ≡ 0
+  pub tag : length k.tag ≡ tag_size k.cipher
+
+abbrev pub IsPrivateKey : PrivateKey → Type 0
+IsPrivateKey (Unencrypted k) = IsUnencryptedKey k
+IsPrivateKey (Encrypted k) = IsEncryptedKey k
+
+abbrev pub HasContentPlaces : PrivateKey → KeyPairChoices → Type 0
+HasContentPlaces (Unencrypted k) s = HasKeyPairPlaces k.pair s
+HasContentPlaces (Encrypted k) s = s ≡ plain_pair
+
+abbrev pub HasPrivateKeyPlaces : PrivateKey → PrivateKeyChoices → Type 0
+HasPrivateKeyPlaces k s = HasHead (key_algorithm (public_key k)) s.outer × HasContentPlaces k s.pair
+
+-- ---- reading
+
+abbrev pub dsa_eq : DsaKey → DsaKey → Bool
+dsa_eq k l = bytes_eq k.p l.p && bytes_eq k.q l.q && bytes_eq k.g l.g && bytes_eq k.y l.y
+
+abbrev pub key_eq : Key → Key → Bool
+key_eq (Dsa k) (Dsa l) = dsa_eq k l
+key_eq (Ecdsa c p) (Ecdsa d q) = curve_eq c d && bytes_eq p q
+key_eq (Ed25519 k) (Ed25519 l) = bytes_eq k l
+key_eq (Rsa k) (Rsa l) = bytes_eq k.e l.e && bytes_eq k.n l.n
+key_eq (SkEcdsa k) (SkEcdsa l) = bytes_eq k.key l.key && bytes_eq k.application l.application
+key_eq (SkEd25519 k) (SkEd25519 l) = bytes_eq k.key l.key && bytes_eq k.application l.application
+key_eq (Opaque n k) (Opaque m l) = bytes_eq n m && bytes_eq k l
+key_eq _ _ = false
+
+-- the checkint again
+abbrev pub same_checkint : ℕ → ℕ → Result ℕ Fault
+same_checkint checkint again = if again == checkint then Ok again else Err Cryptographic
+
+-- a pair whose public half is the public key
+abbrev pub of_key : Key → KeyPair × KeyPairChoices → Result (KeyPair × KeyPairChoices) Fault
+of_key public x = if key_eq (public_half x.0) public then Ok x else Err OtherPublicKey
+
+unfoldable pub private_part_at : Key → Front (UnencryptedKey × KeyPairChoices)
+private_part_at public b = do
+  checkint ← number_at w32 b
+  again ← checked_at (same_checkint checkint.0) (number_at w32) checkint.1
+  pair ← checked_at (of_key public) keypair_at again.1
+  comment ← text_at pair.1
+  Ok ((record { checkint = checkint.0; pair = pair.0.0; comment = comment.0 }, pair.0.1), comment.1)
+
+-- the rest must be padding
+abbrev pub end_padding : {A : Type 0} → A → List ℕ → Result A Fault
+end_padding x rest =
+    if nat_lt (length rest) (block_size NoCipher) then (if bytes_eq rest (rising 1 (length rest)) then Ok x else Err FormatEncoding)
+    else Err Length
+
+unfoldable pub padded_from : {A : Type 0} → Front A → Whole A
+padded_from read b = if length b % block_size NoCipher == 0 then (read b >>= λ x. end_padding x.0 x.1) else Err Length
+
+unfoldable pub unencrypted_at : Key → Front (PrivateKey × KeyPairChoices)
+unencrypted_at public b = do
+  part ← box_at (padded_from (private_part_at public)) b
+  Ok ((Unencrypted part.0.0, part.0.1), part.1)
+
+abbrev pub blocks_from : Cipher → List ℕ → Result (List ℕ) Fault
+blocks_from c b = if length b % block_size c == 0 then Ok b else Err Cryptographic
+
+unfoldable pub encrypted_at : Cipher → Kdf → Key → Front (PrivateKey × KeyPairChoices)
+encrypted_at c k public b = do
+  ciphertext ← checked_at (blocks_from c) string_at b
+  tag ← bytes_at (tag_size c) ciphertext.1
+  Ok ((Encrypted (record { cipher = c; kdf = k; public = public; ciphertext = ciphertext.0; tag = tag.0 }), plain_pair), tag.1)
+
+abbrev pub content_at : Cipher → Kdf → Key → Front (PrivateKey × KeyPairChoices)
+content_at NoCipher NoKdf public b = unencrypted_at public b
+content_at NoCipher (Bcrypt o) public b = Err Cryptographic
+content_at c k public b = encrypted_at c k public b
+
+abbrev pub one_key : ℕ → Result ℕ Fault
+one_key n = if n == 1 then Ok n else Err Length
+
+unfoldable pub private_key_at : Front (PrivateKey × PrivateKeyChoices)
+private_key_at b = do
+  start ← literal_at private_key_magic b
+  c ← cipher_at start.1
+  k ← kdf_at c.1
+  one ← checked_at one_key (number_at w32) k.1
+  public ← box_at (whole key_at) one.1
+  x ← content_at c.0 k.0 public.0.0 public.1
+  Ok ((x.0.0, record { outer = public.0.1; pair = x.0.1 }), x.1)
+
+-- ---- decoding
+
+-- The tag of an encrypted key stands behind the private part with no length of its own, so a byte too much there might be taken for the beginning of something else.
+-- Hence an encrypted key must be the last thing there is; bytes behind an unencrypted one are left to what reads on.
+abbrev pub may_precede : PrivateKey → List ℕ → Bool
+may_precede (Unencrypted k) rest = true
+may_precede (Encrypted k) [] = true
+may_precede (Encrypted k) (b ∷ rest) = false
+
+unfoldable pub decoded_private_key_at : Front (PrivateKey × PrivateKeyChoices)
+decoded_private_key_at b = do
+  x ← private_key_at b
+  if may_precede x.0.0 x.1 then Ok x else Err (TrailingKeyData (length x.1))
+
+-- What is decoded is a key that may stand before the rest, and each such key is.
+pub record IsDecoder (read : Front (PrivateKey × PrivateKeyChoices)) : Type 0 where
+  pub takes : (b : List ℕ) (x : PrivateKey × PrivateKeyChoices) (rest : List ℕ) → read b ≡ Ok (x, rest) → IsSpelled IsPrivateKey HasPrivateKeyPlaces x × Fits (spelled private_key x) × (may_precede x.0 rest ≡ true) × (b ≡ flat (spelled private_key x) ++ rest)
+  pub again : (x : PrivateKey × PrivateKeyChoices) (rest : List ℕ) → IsSpelled IsPrivateKey HasPrivateKeyPlaces x → Fits (spelled private_key x) → may_precede x.0 rest ≡ true → read (flat (spelled private_key x) ++ rest) ≡ Ok (x, rest)
