@@ -12,7 +12,7 @@ use Rattle.sshkey_model.specs.Names.{Curve, Nistp256, Hash, Algorithm, IsAlgorit
 use Rattle.sshkey_model.specs.Mpints.{IsMpint}
 use Rattle.sshkey_model.specs.Points.{field_size, is_point, IsPoint, curve_eq, point_from}
 use Rattle.sshkey_model.specs.Keys.{Head, headed, HasHead, head_of, unhashed}
-use Rattle.sshkey_model.specs.KeyPairs.{Sign, Usual, Without, With, is_high, signed_if, scalar_bytes, scalar, IsScalar, HasScalarPlaces, RsaPrivate, SecurityPrivate, KeyPair, DsaPair, EcdsaPair, Ed25519Pair, RsaPair, SkEcdsaPair, SkEd25519Pair, OpaquePair, public_half, pair_algorithm, rsa_private, security_private, pair, IsRsaPrivate, IsPairBody, IsEcdsaPair, HasPairPlaces, IsPairUnder, KeyPairChoices, IsKeyPair, HasKeyPairPlaces, keypair, unsigned_scalar, signed_scalar, behind_sign, scalar_from, scalar_at, dsa_pair_at, of_curve, any_ecdsa_pair_at, wanted_curve, ecdsa_pair_at, private_before, ed25519_pair_at, rsa_private_at, rsa_pair_at, security_private_at, sk_ecdsa_pair_at, sk_ed25519_pair_at, opaque_pair_at, pair_at, keypair_at}
+use Rattle.sshkey_model.specs.KeyPairs.{Sign, Usual, Without, With, is_high, signed_if, scalar_bytes, scalar, IsScalar, HasScalarPlaces, RsaPrivate, SecurityPrivate, KeyPair, DsaPair, EcdsaPair, Ed25519Pair, RsaPair, SkEcdsaPair, SkEd25519Pair, OpaquePair, public_half, pair_algorithm, rsa_private, security_private, pair, IsRsaPrivate, IsPairBody, IsEcdsaPair, HasPairPlaces, IsPairUnder, KeyPairChoices, plain_pair, IsKeyPair, HasKeyPairPlaces, keypair, unsigned_scalar, signed_scalar, behind_sign, scalar_from, scalar_at, dsa_pair_at, of_curve, any_ecdsa_pair_at, wanted_curve, ecdsa_pair_at, private_before, ed25519_pair_at, rsa_private_at, rsa_pair_at, security_private_at, sk_ecdsa_pair_at, sk_ed25519_pair_at, opaque_pair_at, pair_at, keypair_at}
 use Rattle.sshkey_model.proofs.CombinedReaders.{bind_assoc, done, ok_is, chosen, met, ReadsFront, Checks, Any, HasLength, wide8, number_reads, string_reads, whole_reads, bytes_reads, box_reads, then_reads, checked_reads, checked_string_reads, to_form, kept, same_front}
 use Rattle.sshkey_model.proofs.NameReaders.{curve_reads, algorithm_reads}
 use Rattle.sshkey_model.proofs.TextReaders.{text_reads}
@@ -271,3 +271,12 @@ keypair_reads = same_front (checked_reads (to_form (λ a. (a.1.0, record { head 
     back k s is place =
         let j = join_head (public_half k) s.head is.0 place.0 in
         ((headed s.head (pair_algorithm k), (k, s.sign)), (j.0, record { is = (j.1, is.1); place = place.1 }), ap (λ (z : Head). (k, record { head = z; sign = s.sign })) j.2, refl)
+
+-- ---- plain choices have their places
+
+plain_pair_has : (k : KeyPair) → HasPairPlaces k Usual
+plain_pair_has (EcdsaPair c point s) = tt
+plain_pair_has _ = refl
+
+pub plain_keypair_has : (k : KeyPair) → HasKeyPairPlaces k plain_pair
+plain_keypair_has k = (tt, plain_pair_has k)

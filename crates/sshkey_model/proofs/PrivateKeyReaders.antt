@@ -1,23 +1,23 @@
 -- Private keys are read as they are spelled.
-use Rattle.std.proofs.Common.{◌≡◌, ℕ, ◌%◌, ◌&&◌, eqb, Bool, true, false, cond, List, [], ◌∷◌, ◌++◌, length, Ok, Err, bytes_eq, refl, sym, ap, subst, ◌∙◌}
+use Rattle.std.proofs.Common.{◌≡◌, ℕ, ◌%◌, ◌&&◌, eqb, Bool, true, false, cond, List, [], ◌∷◌, ◌++◌, length, Ok, Err, bytes_eq, refl, sym, ap, subst, ◌∙◌, append-nil}
 use Rattle.std.specs.Int.{w32}
 use Rattle.std.proofs.lemmas.Bool.{eqb-true, eq-eqb, and_parts, and_from}
 use Rattle.std.proofs.lemmas.Slice.Eq.{bytes_eq-Decides}
 use Rattle.sshkey_model.specs.Parts.{Parts, bytes, number, box, ◌&◌, flat, Fits}
-use Rattle.sshkey_model.specs.Reading.{Fault, Length, Cryptographic, OtherPublicKey, TrailingKeyData, whole, ◌>>=◌}
+use Rattle.sshkey_model.specs.Reading.{Fault, Length, Cryptographic, OtherPublicKey, TrailingKeyData, end_of, whole, ◌>>=◌}
 use Rattle.sshkey_model.specs.Grammar.{IsSpelled, spelled}
 use Rattle.sshkey_model.specs.Texts.{string, IsText}
 use Rattle.sshkey_model.specs.Points.{curve_eq}
 use Rattle.sshkey_model.specs.Keys.{Key, Dsa, Ecdsa, Ed25519, Rsa, SkEcdsa, SkEd25519, Opaque, DsaKey, IsKey, key, key_algorithm, Head, HasHead, HasKeyPlaces}
 use Rattle.sshkey_model.specs.KeyDerivation.{Cipher, NoCipher, block_size, tag_size, cipher, Kdf, NoKdf, Bcrypt, kdf}
-use Rattle.sshkey_model.specs.KeyPairs.{KeyPair, EcdsaPair, Usual, public_half, HasPairPlaces, KeyPairChoices, plain_pair, IsKeyPair, HasKeyPairPlaces, keypair}
+use Rattle.sshkey_model.specs.KeyPairs.{KeyPair, public_half, KeyPairChoices, plain_pair, IsKeyPair, HasKeyPairPlaces, keypair}
 use Rattle.sshkey_model.specs.PrivateKeys.{UnencryptedKey, EncryptedKey, PrivateKey, Unencrypted, Encrypted, key_cipher, key_kdf, public_key, padded, private_key_magic, private_part, content, PrivateKeyChoices, plain_private_key, private_key, IsUnencryptedKey, IsEncryptedKey, IsPrivateKey, HasContentPlaces, HasPrivateKeyPlaces, dsa_eq, key_eq, same_checkint, of_key, private_part_at, unencrypted_at, blocks_from, encrypted_at, content_at, one_key, private_key_at, may_precede, decoded_private_key_at, IsDecoder}
 use Rattle.sshkey_model.proofs.CombinedReaders.{bind_assoc, bind_ok, done, ok_is, met, ReadsFront, ReadsWhole, Checks, Any, HasLength, wide32, number_reads, string_reads, bytes_reads, box_reads, whole_reads, then_reads, checked_reads, checked_string_reads, to_form, kept, literal_reads, same_front}
 use Rattle.sshkey_model.proofs.TextReaders.{text_reads}
 use Rattle.sshkey_model.proofs.PointReaders.{same_curve, curve_itself}
 use Rattle.sshkey_model.proofs.KeyReaders.{key_reads}
 use Rattle.sshkey_model.proofs.KeyDerivationReaders.{cipher_reads, kdf_reads}
-use Rattle.sshkey_model.proofs.KeyPairReaders.{keypair_reads}
+use Rattle.sshkey_model.proofs.KeyPairReaders.{keypair_reads, plain_keypair_has}
 use Rattle.sshkey_model.proofs.Padding.{padded_reads}
 
 -- ---- equal keys
@@ -191,13 +191,6 @@ private_key_reads = same_front (checked_reads (to_form of_read private_takes pri
 
 -- ---- plain choices have their places
 
-plain_pair_has : (k : KeyPair) → HasPairPlaces k Usual
-plain_pair_has (EcdsaPair c point s) = tt
-plain_pair_has _ = refl
-
-pub plain_keypair_has : (k : KeyPair) → HasKeyPairPlaces k plain_pair
-plain_keypair_has k = (tt, plain_pair_has k)
-
 pub plain_private_key_has : (k : PrivateKey) → HasPrivateKeyPlaces k plain_private_key
 plain_private_key_has (Unencrypted k) = (tt, plain_keypair_has k.pair)
 plain_private_key_has (Encrypted k) = (tt, refl)
@@ -219,3 +212,18 @@ nothing_behind : (k : PrivateKey) → may_precede k [] ≡ true
 nothing_behind (Unencrypted k) = refl
 nothing_behind (Encrypted k) = refl
 
+-- all bytes are one private key
+pub whole_private_key_reads : ReadsWhole (IsSpelled IsPrivateKey HasPrivateKeyPlaces) (spelled private_key) (whole decoded_private_key_at)
+whole_private_key_reads = record {
+  takes = λ b x e.
+      let y = bind_ok (decoded_private_key_at b) (λ y. end_of y.0 y.1) x e in
+      let t = decoder.takes b y.0.0 y.0.1 y.1 in
+      let g = ended y.0.0 y.0.1 x y.2 in
+      subst (λ (z : Chosen). IsSpelled IsPrivateKey HasPrivateKeyPlaces z × Fits (spelled private_key z) × (b ≡ flat (spelled private_key z))) g.1
+      (t.0, t.1, t.3 ∙ ap (λ (r : List ℕ). flat (spelled private_key y.0.0) ++ r) g.0 ∙ append-nil (flat (spelled private_key y.0.0)));
+  again = λ x is fits. ap (whole decoded_private_key_at) (sym (append-nil (flat (spelled private_key x)))) ∙ rw (decoder.again x [] is fits (nothing_behind x.0)) refl;
+}
+  where
+    ended : (x : Chosen) (rest : List ℕ) (y : Chosen) → end_of x rest ≡ Ok y → (rest ≡ []) × (x ≡ y)
+    ended x [] y e = (refl, ok_is x y e)
+    ended x (c ∷ rest) y e = absurd cc

@@ -1,5 +1,7 @@
 //! Laws over the definitions alone: each stands for all values and all bytes, and makes no call.
 
+pub mod private;
+
 ghost use Rattle.sshkey_model.specs.Parts.{IsPrefixFree};
 ghost use Rattle.sshkey_model.specs.Grammar.{IsSpelled, spelled};
 ghost use Rattle.sshkey_model.specs.Texts.{string, IsText};
