@@ -1,3 +1,9 @@
 pub mod Parts
 pub mod Reading
 pub mod Grammar
+pub mod Texts
+pub mod Names
+pub mod CertificateNames
+pub mod Mpints
+pub mod Points
+pub mod Keys

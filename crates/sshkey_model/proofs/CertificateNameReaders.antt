@@ -1,0 +1,129 @@
+-- Names of algorithms in certificates are read as they are spelled.
+use Rattle.std.proofs.Common.{◌≡◌, ℕ, ◌-◌, Option, Some, None, is_none, nat_le, true, false, cond, ◌&&◌, List, [], ◌∷◌, ◌++◌, length, eqb, take, drop, Ok, Err, bytes_eq, refl, sym, ap, subst, ◌∙◌, arith, inl, inr, append_assoc, append-nil}
+use Rattle.std.proofs.lemmas.Slice.Eq.{bytes_eq-Decides}
+use Rattle.std.proofs.lemmas.Bool.{and_parts, eqb-true}
+use Rattle.std.proofs.lemmas.List.{take_at, drop_at, take-append-drop, length-append}
+use Rattle.sshkey_model.specs.Parts.{bytes}
+use Rattle.sshkey_model.specs.Reading.{Label}
+use Rattle.sshkey_model.specs.Names.{Nistp256, Nistp384, Nistp521, Algorithm, Dsa, Ecdsa, Ed25519, Rsa, SkEcdsa, SkEd25519, Other, algorithms, algorithm_name, named, are_ascii, is_own_name, is_other_name, at_sign, cut, behind_first, is_split, algorithm_or}
+use Rattle.sshkey_model.specs.CertificateNames.{suffix, with_suffix, certificate_name, certified, IsCertified, certificate_algorithm, without_suffix, certified_or, certificate_algorithm_at}
+use Rattle.sshkey_model.proofs.CombinedReaders.{ok_is, done, chosen, ReadsFront, Any, checked_string_reads}
+use Rattle.sshkey_model.proofs.NameReaders.{found}
+
+cut_later : (c : ℕ) (rest : List ℕ) (p : List ℕ × List ℕ) (o : Option (List ℕ × List ℕ)) → ((q : List ℕ × List ℕ) → cut rest ≡ Some q → (rest ≡ q.0 ++ at_sign ∷ q.1) × (cut q.0 ≡ None)) → cut rest ≡ o → eqb c at_sign ≡ false → behind_first c o ≡ Some p → (c ∷ rest ≡ p.0 ++ at_sign ∷ p.1) × (cut p.0 ≡ None)
+unfolding cut
+cut_later c rest p None below is no_ f = absurd (cc f)
+cut_later c rest p (Some q) below is no_ f =
+    let b = below q is in
+    let same : (c ∷ q.0, q.1) ≡ p = cc f in
+    subst (λ (z : List ℕ × List ℕ). (c ∷ rest ≡ z.0 ++ at_sign ∷ z.1) × (cut z.0 ≡ None)) same (ap (λ (z : List ℕ). c ∷ z) b.0, rw (no_, b.1) refl)
+
+pub cut_parts : (t : List ℕ) (p : List ℕ × List ℕ) → cut t ≡ Some p → (t ≡ p.0 ++ at_sign ∷ p.1) × (cut p.0 ≡ None)
+unfolding cut
+cut_parts [] p e = absurd cc
+cut_parts (c ∷ rest) p e =
+    elim (chosen (eqb c at_sign) (Some ([], rest)) (behind_first c (cut rest)) (Some p) e) [
+      | inl here ↦ let same : ([], rest) ≡ p = cc here.1 in subst (λ (q : List ℕ × List ℕ). (c ∷ rest ≡ q.0 ++ at_sign ∷ q.1) × (cut q.0 ≡ None)) same (ap (λ (k : ℕ). k ∷ rest) (eqb-true _ _ here.0), refl)
+      | inr later ↦ cut_later c rest p (cut rest) (λ q is. cut_parts rest q is) refl later.0 later.1
+    ]
+
+-- no at sign in a, so the first one is in b
+cut_append : (a b : List ℕ) (q : List ℕ × List ℕ) → cut a ≡ None → cut b ≡ Some q → cut (a ++ b) ≡ Some (a ++ q.0, q.1)
+unfolding cut
+cut_append [] b q none e = e
+cut_append (c ∷ a) b q none e =
+    elim (chosen (eqb c at_sign) (Some ([], a)) (behind_first c (cut a)) None none) [
+      | inl here ↦ absurd (cc here.1)
+      | inr later ↦ rw (later.0, cut_append a b q (rest_none c (cut a) later.1) e) refl
+    ]
+  where
+    rest_none : (c : ℕ) (o : Option (List ℕ × List ℕ)) → behind_first c o ≡ None → o ≡ None
+    rest_none c None e = refl
+    rest_none c (Some q) e = absurd cc
+
+cut_left : (a b : List ℕ) → cut (a ++ b) ≡ None → cut a ≡ None
+unfolding cut
+cut_left [] b none = refl
+cut_left (c ∷ a) b none =
+    elim (chosen (eqb c at_sign) (Some ([], a ++ b)) (behind_first c (cut (a ++ b))) None none) [
+      | inl here ↦ absurd (cc here.1)
+      | inr later ↦ rw (later.0, cut_left a b (rest_none c (cut (a ++ b)) later.1)) refl
+    ]
+  where
+    rest_none : (c : ℕ) (o : Option (List ℕ × List ℕ)) → behind_first c o ≡ None → o ≡ None
+    rest_none c None e = refl
+    rest_none c (Some q) e = absurd cc
+
+-- a name of two parts, and the same with the suffix
+suffix_before : (l r : List ℕ) → cut l ≡ None → (cut (l ++ at_sign ∷ r) ≡ Some (l, r)) × (cut (l ++ suffix ++ at_sign ∷ r) ≡ Some (l ++ suffix, r))
+unfolding cut
+suffix_before l r none = (cut_append l (at_sign ∷ r) ([], r) none refl ∙ ap (λ (z : List ℕ). Some (z, r)) (append-nil l), ap cut (append_assoc l suffix (at_sign ∷ r)) ∙ cut_append l (suffix ++ at_sign ∷ r) (suffix, r) none refl)
+
+-- an other name has two parts
+pub own_parts : (n : List ℕ) → is_other_name n ≡ true → (p : List ℕ × List ℕ) × (cut n ≡ Some p)
+unfolding is_other_name is_own_name
+own_parts n is = go (cut n) (and_parts (are_ascii n && nat_le (length n) 64) (is_split (cut n)) (and_parts (is_own_name n) (is_none (named algorithm_name algorithms n)) is).0).1
+  where
+    go : (o : Option (List ℕ × List ℕ)) → is_split o ≡ true → (p : List ℕ × List ℕ) × (o ≡ Some p)
+    go None e = absurd cc
+    go (Some p) e = (p, refl)
+
+stripped_again : (l r n : List ℕ) → n ≡ l ++ at_sign ∷ r → is_other_name n ≡ true → without_suffix (Some (l ++ suffix, r)) ≡ Ok (Other n)
+stripped_again l r n e is =
+    let size : length (l ++ suffix) - 9 ≡ length l = omega (arith, length-append l suffix) in
+    let front : take (length (l ++ suffix) - 9) (l ++ suffix) ≡ l = take_at l suffix _ (sym size) in
+    let end_ : drop (length (l ++ suffix) - 9) (l ++ suffix) ≡ suffix = drop_at l suffix _ (sym size) in
+    let whole_ : is_other_name (l ++ at_sign ∷ r) ≡ true = subst (λ (z : List ℕ). is_other_name z ≡ true) e is in
+    rw (front, end_, whole_, e) refl
+
+certified_again : (a : Algorithm) → IsCertified a → certified_or (named certificate_name certified (certificate_name a)) (certificate_name a) ≡ Ok a
+unfolding named
+certified_again Dsa is = refl
+certified_again (Ecdsa Nistp256) is = refl
+certified_again (Ecdsa Nistp384) is = refl
+certified_again (Ecdsa Nistp521) is = refl
+certified_again Ed25519 is = refl
+certified_again (Rsa None) is = refl
+certified_again (Rsa (Some h)) is = absurd is
+certified_again SkEcdsa is = refl
+certified_again SkEd25519 is = refl
+certified_again (Other n) is =
+    let p = own_parts n is.0 in
+    let parts = cut_parts n p.0 p.1 in
+    let written : with_suffix (cut n) n ≡ p.0.0 ++ suffix ++ at_sign ∷ p.0.1 = ap (λ (o : Option (List ℕ × List ℕ)). with_suffix o n) p.1 in
+    ap (λ (o : Option Algorithm). certified_or o (with_suffix (cut n) n)) is.1
+    ∙ ap (λ (t : List ℕ). without_suffix (cut t)) written
+    ∙ ap without_suffix (suffix_before p.0.0 p.0.1 parts.1).1
+    ∙ stripped_again p.0.0 p.0.1 n parts.0 is.0
+
+stripped_takes : (p : List ℕ × List ℕ) (t : List ℕ) (a : Algorithm) → t ≡ p.0 ++ at_sign ∷ p.1 → cut p.0 ≡ None → named certificate_name certified t ≡ None → without_suffix (Some p) ≡ Ok a → IsCertified a × (certificate_name a ≡ t)
+stripped_takes p t a whole_ none fresh e =
+    let l = take (length p.0 - 9) p.0 in
+    elim (chosen (bytes_eq (drop (length p.0 - 9) p.0) suffix) (algorithm_or None (l ++ at_sign ∷ p.1)) (Err Label) (Ok a) e) [
+      | inl yes_ ↦
+          let end_ : drop (length p.0 - 9) p.0 ≡ suffix = (bytes_eq-Decides _ _).0 yes_.0 in
+          let both : p.0 ≡ l ++ suffix = sym (take-append-drop (length p.0 - 9) p.0) ∙ ap (λ (z : List ℕ). l ++ z) end_ in
+          let clean : cut l ≡ None = cut_left l suffix (subst (λ (z : List ℕ). cut z ≡ None) both none) in
+          let form = suffix_before l p.1 clean in
+          elim (chosen (is_other_name (l ++ at_sign ∷ p.1)) (done (Other (l ++ at_sign ∷ p.1))) (Err Label) (Ok a) yes_.1) [
+            | inl own ↦
+                let spelt : certificate_name (Other (l ++ at_sign ∷ p.1)) ≡ t =
+                ap (λ (o : Option (List ℕ × List ℕ)). with_suffix o (l ++ at_sign ∷ p.1)) form.0 ∙ ap (λ (z : List ℕ). z ++ at_sign ∷ p.1) (sym both) ∙ sym whole_ in
+                let unlisted_ : named certificate_name certified (certificate_name (Other (l ++ at_sign ∷ p.1))) ≡ None = subst (λ (z : List ℕ). named certificate_name certified z ≡ None) (sym spelt) fresh in
+                subst (λ (z : Algorithm). IsCertified z × (certificate_name z ≡ t)) (ok_is (Other (l ++ at_sign ∷ p.1)) a own.1) ((own.0, unlisted_), spelt)
+            | inr no_ ↦ absurd (cc no_.1)
+          ]
+      | inr no_ ↦ absurd (cc no_.1)
+    ]
+
+certified_takes : (o : Option Algorithm) (q : Option (List ℕ × List ℕ)) (t : List ℕ) (a : Algorithm) → named certificate_name certified t ≡ o → cut t ≡ q → certified_or o t ≡ Ok a → IsCertified a × (certificate_name a ≡ t)
+certified_takes (Some x) q t a from split e = subst (λ (z : Algorithm). IsCertified z × (certificate_name z ≡ t)) (ok_is x a e) (found IsCertified certificate_name certified t x (assumption) from)
+certified_takes None None t a from split e = absurd (cc (sym e ∙ ap without_suffix split))
+certified_takes None (Some p) t a from split e = let c = cut_parts t p split in stripped_takes p t a c.0 c.1 from (sym (ap without_suffix split) ∙ e)
+
+pub certificate_algorithm_reads : ReadsFront IsCertified certificate_algorithm certificate_algorithm_at
+unfolding certificate_algorithm_at
+certificate_algorithm_reads = checked_string_reads (record {
+  takes = λ t a was e. let c = certified_takes (named certificate_name certified t) (cut t) t a refl refl e in (c.0, ap bytes (sym c.1));
+  again = λ a is. (certificate_name a, tt, certified_again a is, refl);
+})
