@@ -6,3 +6,7 @@ pub mod CertificateNameReaders
 pub mod MpintReaders
 pub mod PointReaders
 pub mod KeyReaders
+pub mod Base64Words
+pub mod LineCuts
+pub mod Lines
+pub mod Blobs

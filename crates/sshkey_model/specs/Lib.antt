@@ -7,3 +7,6 @@ pub mod CertificateNames
 pub mod Mpints
 pub mod Points
 pub mod Keys
+pub mod Lines
+pub mod LineCuts
+pub mod Fingerprints
