@@ -53,7 +53,7 @@ pub fit_bytes : (b : List ℕ) → ((i : ℕ) → get_or b i 0 < 256) → are_by
 fit_bytes [] h = refl
 fit_bytes (c ∷ b) h = rw (lt-ltb c 256 (h 0), fit_bytes b (λ i. h (suc i))) refl
 
-are_bytes-append : (a b : List ℕ) → are_bytes a ≡ true → are_bytes b ≡ true → are_bytes (a ++ b) ≡ true
+pub are_bytes-append : (a b : List ℕ) → are_bytes a ≡ true → are_bytes b ≡ true → are_bytes (a ++ b) ≡ true
 are_bytes-append [] b e f = f
 are_bytes-append (c ∷ a) b e f = let p = and_parts (ltb c 256) (are_bytes a) e in rw (p.0, are_bytes-append a b p.1 f) refl
 
@@ -61,7 +61,7 @@ byte_fits : (i n : ℕ) → byte_at i n < 256
 byte_fits zero n = omega arith
 byte_fits (suc i) n = omega arith
 
-number_bytes : (k n : ℕ) → are_bytes (bytes_high_first k n) ≡ true
+pub number_bytes : (k n : ℕ) → are_bytes (bytes_high_first k n) ≡ true
 number_bytes zero n = refl
 number_bytes (suc k) n = rw (lt-ltb (byte_at k n) 256 (byte_fits k n), number_bytes k n) refl
 

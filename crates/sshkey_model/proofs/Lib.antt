@@ -9,10 +9,14 @@ pub mod KeyReaders
 pub mod SignatureReaders
 pub mod OptionReaders
 pub mod CertificateReaders
-pub mod SshSignatureReaders
 pub mod KeyDerivationReaders
 pub mod KeyPairReaders
 pub mod Padding
 pub mod PrivateKeyReaders
-pub mod SignedBytes
+pub mod SshSignatureReaders
 pub mod NormalForms
+pub mod SignedBytes
+pub mod Base64Words
+pub mod LineCuts
+pub mod Lines
+pub mod Blobs

@@ -10,10 +10,13 @@ pub mod Keys
 pub mod Signatures
 pub mod Options
 pub mod Certificates
-pub mod SshSignatures
 pub mod KeyDerivation
 pub mod KeyPairs
 pub mod PrivateKeys
+pub mod SshSignatures
+pub mod Fingerprints
 pub mod Verification
 pub mod Validity
+pub mod Lines
+pub mod LineCuts
 pub mod Laws

@@ -1,0 +1,28 @@
+-- Fingerprints of public keys (FIPS 180-4; unpadded Base64, RFC 4648, section 3.2).
+use Rattle.std.specs.Prelude.{ℕ, List, ◌++◌, codes}
+use Rattle.base64.specs.Engines.{standard_no_pad}
+use Rattle.base64.specs.GeneralPurpose.{encode_of}
+use Rattle.sha2.specs.Sha256.{sha256}
+use Rattle.sha2.specs.Sha512.{sha512}
+use Rattle.sshkey_model.specs.Parts.{flat}
+use Rattle.sshkey_model.specs.Names.{Hash, Sha256, Sha512}
+use Rattle.sshkey_model.specs.Keys.{Key, normal_key}
+
+abbrev pub digest : Hash → List ℕ → List ℕ
+digest Sha256 bytes = sha256 bytes
+digest Sha512 bytes = sha512 bytes
+
+-- The digest of the key's normal form, whatever bytes it was read from.
+abbrev pub fingerprint : Hash → Key → List ℕ
+fingerprint h k = digest h (flat (normal_key k))
+
+abbrev pub fingerprint_prefix : Hash → List ℕ
+fingerprint_prefix Sha256 = codes "SHA256:"
+fingerprint_prefix Sha512 = codes "SHA512:"
+
+-- how a digest is shown
+abbrev pub digest_text : Hash → List ℕ → List ℕ
+digest_text h d = fingerprint_prefix h ++ encode_of standard_no_pad d
+
+abbrev pub fingerprint_text : Hash → Key → List ℕ
+fingerprint_text h k = digest_text h (fingerprint h k)

@@ -1,0 +1,52 @@
+-- Lines of a text, as OpenSSH writes public keys: a first word, a blob in Base64 (RFC 4648, section 4) and a comment, with a space between.
+use Rattle.std.specs.Prelude.{◌≡◌, ℕ, ◌<◌, ◌||◌, ◌==◌, true, Bool, List, [], ◌∷◌, ◌++◌, length, EachIndex, slice_index}
+use Rattle.std.specs.Char.{is_ascii_alphanumeric}
+use Rattle.std.specs.Str.{trim_end}
+use Rattle.base64.specs.Engines.{standard}
+use Rattle.base64.specs.GeneralPurpose.{encode_of}
+use Rattle.sshkey_model.specs.Grammar.{SpellsWith}
+use Rattle.sshkey_model.specs.Names.{algorithm_name}
+use Rattle.sshkey_model.specs.Keys.{Key, key_algorithm, IsKey, HasKeyPlaces, key}
+
+abbrev pub space : ℕ
+space = 0x20
+
+-- an empty comment has no space before it
+abbrev pub after_space : List ℕ → List ℕ
+after_space [] = []
+after_space (c ∷ rest) = space ∷ c ∷ rest
+
+-- two words and a comment
+abbrev pub joined : List ℕ → List ℕ → List ℕ → List ℕ
+joined first word comment = first ++ (space ∷ (word ++ after_space comment))
+
+-- the line of a first word, a blob and a comment
+abbrev pub written : List ℕ → List ℕ → List ℕ → List ℕ
+written first blob comment = joined first (encode_of standard blob) comment
+
+-- A letter, a digit, or one of `+`, `-`, `/`, `=`, `@` and `.`.
+abbrev pub is_word_character : ℕ → Bool
+is_word_character c = is_ascii_alphanumeric c || c == 0x2b || c == 0x2d || c == 0x2f || c == 0x3d || c == 0x40 || c == 0x2e
+
+abbrev pub HasWordCharacters : List ℕ → Type 0
+HasWordCharacters word = EachIndex word (λ i. is_word_character (slice_index word i) ≡ true)
+
+-- The text, without the white space at its end, is the line of that first word, blob and comment.
+pub record IsLine (text first blob comment : List ℕ) : Type 0 where
+  pub is : trim_end text ≡ written first blob comment
+  pub some_first : 0 < length first
+  pub some_blob : 0 < length blob
+  pub characters : HasWordCharacters first
+
+-- The text is a line of the value with that comment: the first word is the value's, and the blob spells it.
+pub record IsLineOf {V : Type 0} (first : V → List ℕ) (Spelling : V → List ℕ → Type 0) (text : List ℕ) (value : V) (comment : List ℕ) : Type 0 where
+  pub blob : List ℕ
+  pub spelled : Spelling value blob
+  pub line : IsLine text (first value) blob comment
+
+-- A key's first word is the name of its algorithm.
+abbrev pub key_name : Key → List ℕ
+key_name k = algorithm_name (key_algorithm k)
+
+abbrev pub IsKeyLine : List ℕ → Key → List ℕ → Type 0
+IsKeyLine = IsLineOf key_name (SpellsWith IsKey HasKeyPlaces key)
