@@ -1,0 +1,105 @@
+-- A length, and a part of that length that is read whole.
+use Rattle.std.proofs.Common.{◌≡◌, ◌≢◌, ℕ, ◌-◌, ◌<◌, ◌≤◌, Bool, true, false, cond, ltb, List, [], ◌∷◌, ◌++◌, length, take, drop, Result, Ok, Err, refl, sym, ap, ◌∙◌, arith, inl, inr}
+use Rattle.std.proofs.lemmas.Bool.{le-ltb, lt-ltb, cases_lt}
+use Rattle.std.proofs.lemmas.List.{length-take}
+use Rattle.std.specs.Int.{w32}
+use denote.Ref.{MutBor}
+use denote.Param.Members.{Once}
+use Rattle.sshkey_model.specs.Reading.{Fault, Length, TrailingData, ◌>>=◌, Front, end_of, whole, number_at, box_at}
+use Rattle.sshkey_base.specs.declared.encoding.Error.{Error}
+use Rattle.sshkey_base.specs.declared.encoding.Error.TheVariants as encoding
+use Rattle.sshkey_base.specs.Causes.{Cause, Faulty, encoding_cause}
+use Rattle.sshkey_base.specs.Source.{Outer, Source, told, part}
+use Rattle.sshkey_base.specs.Reading.{Reads, Refuses, IsRefused, Gives, LengthPast}
+use Rattle.sshkey_base.specs.Nested.{ReadsBy, Calls, Past, Trails, Finishes, NoLength, Prefixed, PastIs}
+use Rattle.sshkey_base.proofs.Steps.{refused_first}
+
+-- the head of the readers around, apart from where it lies
+same_outer : (a b : Outer) (xs ys : List Outer) → a ∷ xs ≡ b ∷ ys → (a ≡ b) × (xs ≡ ys)
+same_outer a b xs ys e = (cc, cc)
+
+-- some bytes behind a value
+some_behind : {A : Type 0} (x : A) (rest : List ℕ) (n : ℕ) → length rest ≡ n → 0 < n → end_of x rest ≡ Err (TrailingData n)
+some_behind x [] n e lt = absurd (omega arith)
+some_behind x (b ∷ rest) n e lt = rw (← e) refl
+
+module _ {X Y : Type 0} (means : X → Y) (read : Front Y) (s t : Source) (n : ℕ) where
+  box_few : (c : Cause) → IsRefused s.missing c (number_at w32 s.left) → IsRefused s.missing c (box_at (whole read) s.left)
+  unfolding box_at
+  box_few c h = refused_first s.missing c (number_at w32 s.left) _ h
+
+  -- the length passes what is left
+  box_past : Reads (λ k. k) (number_at w32) s n t → length t.left < n → box_at (whole read) s.left ≡ Err Length
+  unfolding box_at
+  box_past a lt = rw (a.value, lt-ltb _ _ lt) refl
+
+  box_within : Reads (λ k. k) (number_at w32) s n t → n ≤ length t.left → box_at (whole read) s.left ≡ (whole read (take n t.left) >>= λ x. Ok (x, drop n t.left))
+  unfolding box_at
+  box_within a le = rw (a.value, le-ltb _ _ le) refl
+
+  box_too_long : Reads (λ k. k) (number_at w32) s n t → told t < n → IsRefused s.missing (Faulty Length) (box_at (whole read) s.left)
+  box_too_long a lt = λ _. record { met = Length; is = box_past a (omega arith); same = λ _. refl }
+
+  box_inner : (c : Cause) → Reads (λ k. k) (number_at w32) s n t → n ≤ told t → IsRefused (n - length t.left) c (read (take n t.left)) → IsRefused s.missing c (box_at (whole read) s.left)
+  box_inner c a le h = λ other.
+      elim (cases_lt (length t.left) n) [
+        | inl lt ↦ record { met = Length; is = box_past a lt; same = λ sound. let m = a.missing in absurd (omega arith) }
+        | inr ge ↦ let r = h other in record { met = r.met; is = box_within a ge ∙ rw r.is refl; same = λ _. r.same (omega arith) }
+      ]
+
+  box_trailing : (name other rest : ℕ) (u : Source) (x : X) → Reads (λ k. k) (number_at w32) s n t → n ≤ told t → Reads means read (part name n t) x (part other rest u) → 0 < rest → IsRefused s.missing (Faulty (TrailingData rest)) (box_at (whole read) s.left)
+  box_trailing name other rest u x a le h lt = λ _.
+      elim (cases_lt (length t.left) n) [
+        | inl short ↦ record { met = Length; is = box_past a short; same = λ sound. let m = a.missing in absurd (omega arith) }
+        | inr ge ↦
+            let lacks : rest - length u.left ≡ n - length t.left = h.missing in
+            let len : length (take rest u.left) ≡ rest = omega (arith, length-take rest u.left) in
+            record { met = TrailingData rest; is = box_within a ge ∙ rw (h.value, some_behind (means x) (take rest u.left) rest len lt) refl; same = λ _. refl }
+      ]
+
+  box_read : (name other : ℕ) (u : Source) (x : X) → Reads (λ k. k) (number_at w32) s n t → Reads means read (part name n t) x (part other 0 u) → Reads means (box_at (whole read)) s x u
+  box_read name other u x a h =
+      let lacks : 0 - length u.left ≡ n - length t.left = h.missing in
+      let ge : n ≤ length t.left = omega arith in
+      let outer = same_outer _ _ _ _ h.outer in
+      let left : u.left ≡ drop n t.left = ap (λ (o : Outer). o.rest) outer.0 in
+      record {
+        value = box_within a ge ∙ rw (h.value, left) refl;
+        missing = ap (λ (o : Outer). o.missing) outer.0 ∙ a.missing;
+        outer = outer.1 ∙ a.outer;
+      }
+
+-- A call of a closure over a part, seen as reading a box.
+module _ {F N T E Y : Type 0} (call : Once F (MutBor N × Unit {0}) (Result T E × (MutBor N × Unit {0}))) (source : N → Source) (from_gives : Error → E → Type 0) (cause : E → Cause) (f : F) (means : T → Y) (read : Front Y) (keeps : (x : Error) (e : E) → from_gives x e → cause e ≡ encoding_cause x) (by : ReadsBy call source cause f means read) where
+  of_calls : (s : Source) (e : E) (h : Calls call source from_gives f s (Err e)) → IsRefused s.missing (cause e) (box_at (whole read) s.left)
+  of_calls s e h =
+      let g : IsRefused (part h.name h.len h.after).missing (cause e) (read (part h.name h.len h.after).left) = rw h.starts at (by h.given h.left (Err e) h.met) in
+      box_inner means read s h.after h.len (cause e) h.number h.within g
+
+  of_trails : (s : Source) (e : E) (h : Trails call source from_gives f s e) → IsRefused s.missing (cause e) (box_at (whole read) s.left)
+  of_trails s e h =
+      let c = h.calls in
+      let g : Reads means read (part c.name c.len c.after) h.value (part h.other h.rest h.now) = rw (c.starts, h.ends) at (by c.given c.left (Ok h.value) c.met) in
+      rw (keeps (encoding.TrailingData h.rest) e h.is) (box_trailing means read s c.after c.len c.name h.other h.rest h.now h.value c.number c.within g h.some)
+
+  of_finishes : (s u : Source) (x : T) (h : Finishes call source from_gives f s x u) → Reads means (box_at (whole read)) s x u
+  of_finishes s u x h =
+      let c = h.calls in
+      let g : Reads means read (part c.name c.len c.after) x (part h.other 0 h.now) = rw (c.starts, h.ends) at (by c.given c.left (Ok x) c.met) in
+      let name_is : c.name ≡ h.other = sym (ap (λ (o : Outer). o.name) (same_outer _ _ _ _ g.outer).0) in
+      rw (h.same name_is) (box_read means read s c.after c.len c.name h.other h.now x c.number g)
+
+  -- What `read_prefixed` gives is what the plain reader of the box gives.
+  pub prefixed_gives : (s u : Source) (r : Result T E) → Prefixed call source from_gives f s r u → Gives means cause (box_at (whole read)) s r u
+  prefixed_gives s u (Ok x) h = of_finishes s u x h
+  prefixed_gives s u (Err e) (inl h) = rw (keeps h.met e h.is) (box_few means read s s 0 (encoding_cause h.met) (λ _. h.refused))
+  prefixed_gives s u (Err e) (inr (inl h)) = rw (keeps encoding.Length e h.is) (box_too_long means read s h.after h.len h.number h.past)
+  prefixed_gives s u (Err e) (inr (inr (inl h))) = of_calls s e h
+  prefixed_gives s u (Err e) (inr (inr (inr h))) = of_trails s e h
+
+-- A length that passes what was announced has the cause that it says.
+pub past_keeps : {X E : Type 0} (from_gives : Error → E → Type 0) (cause : E → Cause) (keeps : (x : Error) (e : E) → from_gives x e → cause e ≡ encoding_cause x) (s : Source) (r : Result X E) → PastIs from_gives s r → LengthPast cause s r
+past_keeps from_gives cause keeps s (Ok x) h = λ n rest is lt. h n rest is lt
+past_keeps from_gives cause keeps s (Err e) h = λ n rest is lt. keeps encoding.Length e (h n rest is lt)
+
+pub ruleset boxes = (prefixed_gives, past_keeps)

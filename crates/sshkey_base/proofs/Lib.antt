@@ -1,0 +1,4 @@
+pub mod NestedSources
+pub mod Steps
+pub mod Boxes
+pub mod Accepted

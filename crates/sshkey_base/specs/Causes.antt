@@ -1,0 +1,50 @@
+-- What an error says.
+use Rattle.sshkey_model.specs.Reading.{Fault}
+use Rattle.sshkey_model.specs.Reading as fault
+use Rattle.std.proofs.Common.{◌≡◌, refl}
+use Rattle.std.specs.declared.io.ErrorKind.{ErrorKind}
+use Rattle.std.specs.declared.io.ErrorKind.TheVariants as kind
+use Rattle.sshkey_base.specs.declared.encoding.Error as encoding-error
+use Rattle.sshkey_base.specs.declared.encoding.Error.TheVariants as encoding
+use Rattle.sshkey_base.specs.declared.error.Error as wide-error
+use Rattle.sshkey_base.specs.declared.error.Error.TheVariants as wide
+
+-- Memory was refused, the bytes have a fault, or the source or the machine has one of its own.
+pub data Cause : Type 0 where
+  NoMemory : Cause
+  Faulty : Fault → Cause
+  Other : Cause
+
+abbrev pub encoding_cause : encoding-error.Error → Cause
+encoding_cause encoding.Base64 = Other
+encoding_cause encoding.CharacterEncoding = Faulty fault.CharacterEncoding
+encoding_cause encoding.Label = Faulty fault.Label
+encoding_cause encoding.Length = Faulty fault.Length
+encoding_cause (encoding.TrailingData n) = Faulty (fault.TrailingData n)
+encoding_cause encoding.Memory = NoMemory
+
+abbrev pub cause : wide-error.Error → Cause
+cause wide.AlgorithmUnknown = Faulty fault.UnknownAlgorithm
+cause (wide.Encoding e) = encoding_cause e
+cause wide.FormatEncoding = Faulty fault.FormatEncoding
+cause (wide.Io kind) = Other
+cause wide.Memory = NoMemory
+
+-- what `From` makes of an error of the encoding
+abbrev pub widened : encoding-error.Error → wide-error.Error
+widened encoding.Memory = wide.Memory
+widened e = wide.Encoding e
+
+-- what `From` makes of an error of the machine
+abbrev pub of_machine : ErrorKind → wide-error.Error
+of_machine kind.OutOfMemory = wide.Memory
+of_machine k = wide.Io k
+
+-- It says the same.
+pub same_cause : (e : encoding-error.Error) → cause (widened e) ≡ encoding_cause e
+same_cause encoding.Base64 = refl
+same_cause encoding.CharacterEncoding = refl
+same_cause encoding.Label = refl
+same_cause encoding.Length = refl
+same_cause (encoding.TrailingData n) = refl
+same_cause encoding.Memory = refl

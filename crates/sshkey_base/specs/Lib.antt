@@ -1,0 +1,6 @@
+pub mod Causes
+pub mod Source
+pub mod Readers
+pub mod Reading
+pub mod Nested
+pub mod Accepting

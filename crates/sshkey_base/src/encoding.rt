@@ -1,0 +1,60 @@
+//! Faults of the wire encoding (RFC 4251, section 5).
+
+ghost use Rattle.std.specs.Prelude.{◌≡◌};
+ghost use Rattle.sshkey_base.specs.declared.encoding.Error.TheVariants as encoding;
+
+use std::alloc::{AllocError, AllocFailed};
+use std::str::Utf8Error;
+
+/// Why bytes could not be read or written.
+#[derive(Clone, Copy, Debug, PartialEq, Eq, thiserror::Error)]
+pub enum Error {
+    /// A text is not canonical Base64.
+    #[error("Base64 encoding error")]
+    Base64,
+    /// A text is not UTF-8.
+    #[error("character encoding invalid")]
+    CharacterEncoding,
+    /// A name is none of those allowed.
+    #[error("label invalid")]
+    Label,
+    /// A length passes what is left, what can be written, or 2^32 - 1.
+    #[error("length invalid")]
+    Length,
+    /// Bytes are left behind a value.
+    #[error("unexpected trailing data at end of message ({remaining} bytes)")]
+    TrailingData {
+        /// How many bytes are left.
+        remaining: usize,
+    },
+    /// Memory ran out.
+    #[error("out of memory")]
+    Memory,
+}
+
+/// What a call of the encoding answers.
+pub type Result<T> = std::result::Result<T, Error>;
+
+impl From<AllocError> for Error {
+    ghost from_gives = { λ _ e. e ≡ encoding.Memory };
+
+    fn from(_error: AllocError) -> Error {
+        Error::Memory
+    }
+}
+
+impl<T: Drop> From<AllocFailed<T>> for Error {
+    ghost from_gives = { λ _ e. e ≡ encoding.Memory };
+
+    fn from(_error: AllocFailed<T>) -> Error {
+        Error::Memory
+    }
+}
+
+impl From<Utf8Error> for Error {
+    ghost from_gives = { λ _ e. e ≡ encoding.CharacterEncoding };
+
+    fn from(_error: Utf8Error) -> Error {
+        Error::CharacterEncoding
+    }
+}

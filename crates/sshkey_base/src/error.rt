@@ -1,0 +1,81 @@
+//! Why a key could not be read, written or used.
+
+ghost use Rattle.std.specs.IoError.{error_kind};
+ghost use Rattle.std.specs.Prelude.{◌≡◌};
+ghost use Rattle.sshkey_base.specs.Causes.{widened, of_machine};
+ghost use Rattle.sshkey_base.specs.declared.encoding.Error.TheVariants as encoding;
+ghost use Rattle.sshkey_base.specs.declared.error.Error.TheVariants as wide;
+
+use crate::encoding;
+use std::alloc::{AllocError, AllocFailed};
+use std::io;
+use std::str::Utf8Error;
+
+/// Every refusal of the crates.
+#[derive(Debug, Drop, PartialEq, Eq, thiserror::Error)]
+pub enum Error {
+    /// The algorithm is unknown.
+    #[error("unknown algorithm")]
+    AlgorithmUnknown,
+    /// The bytes do not keep the wire encoding.
+    #[error("{0}")]
+    Encoding(encoding::Error),
+    /// A value does not keep the form of its kind.
+    #[error("format encoding error")]
+    FormatEncoding,
+    /// The machine could not read or write.
+    #[error("I/O error")]
+    Io(io::ErrorKind),
+    /// Memory ran out.
+    #[error("out of memory")]
+    Memory,
+}
+
+/// What a call of the crates answers.
+pub type Result<T> = std::result::Result<T, Error>;
+
+impl From<encoding::Error> for Error {
+    ghost from_gives = { λ x e. e ≡ widened x };
+
+    fn from(error: encoding::Error) -> Error {
+        match error {
+            encoding::Error::Memory => Error::Memory,
+            other => Error::Encoding(other),
+        }
+    }
+}
+
+impl From<AllocError> for Error {
+    ghost from_gives = { λ _ e. e ≡ wide.Memory };
+
+    fn from(_error: AllocError) -> Error {
+        Error::Memory
+    }
+}
+
+impl<T: Drop> From<AllocFailed<T>> for Error {
+    ghost from_gives = { λ _ e. e ≡ wide.Memory };
+
+    fn from(_error: AllocFailed<T>) -> Error {
+        Error::Memory
+    }
+}
+
+impl From<Utf8Error> for Error {
+    ghost from_gives = { λ _ e. e ≡ wide.Encoding encoding.CharacterEncoding };
+
+    fn from(_error: Utf8Error) -> Error {
+        Error::Encoding(encoding::Error::CharacterEncoding)
+    }
+}
+
+impl From<io::Error> for Error {
+    ghost from_gives = { λ x e. e ≡ of_machine (error_kind x) };
+
+    fn from(error: io::Error) -> Error {
+        match error.kind() {
+            io::ErrorKind::OutOfMemory => Error::Memory,
+            kind => Error::Io(kind),
+        }
+    }
+}
