@@ -19,7 +19,7 @@ same_outer : (a b : Outer) (xs ys : List Outer) → a ∷ xs ≡ b ∷ ys → (a
 same_outer a b xs ys e = (cc, cc)
 
 -- some bytes behind a value
-some_behind : {A : Type 0} (x : A) (rest : List ℕ) (n : ℕ) → length rest ≡ n → 0 < n → end_of x rest ≡ Err (TrailingData n)
+pub some_behind : {A : Type 0} (x : A) (rest : List ℕ) (n : ℕ) → length rest ≡ n → 0 < n → end_of x rest ≡ Err (TrailingData n)
 some_behind x [] n e lt = absurd (omega arith)
 some_behind x (b ∷ rest) n e lt = rw (← e) refl
 

@@ -4,3 +4,4 @@ pub mod Readers
 pub mod Reading
 pub mod Nested
 pub mod Accepting
+pub mod Leaves

@@ -1,9 +1,9 @@
 -- What a reading call gives, measured by a plain reader on lists.
 use Rattle.std.specs.Prelude.{◌≡◌, ◌≢◌, ℕ, ◌<◌, ◌+◌, IsErrAnd, List, length, Result, Ok, Err}
 use Rattle.std.specs.Int.{w32}
-use Rattle.sshkey_model.specs.Reading.{Fault, Length, Front, number_at}
+use Rattle.sshkey_model.specs.Reading.{Fault, Length, Front, Whole, number_at}
 use Rattle.sshkey_base.specs.Causes.{Cause, NoMemory, Faulty}
-use Rattle.sshkey_base.specs.Source.{Source}
+use Rattle.sshkey_base.specs.Source.{Source, IsSound}
 
 -- What was read is what the plain reader gives of the bytes that were left, the rest is left, and nothing else changed.
 pub record Reads {X Y : Type 0} (means : X → Y) (read : Front Y) (s : Source) (x : X) (t : Source) : Type 0 where
@@ -34,3 +34,13 @@ GivesAlways means cause read s (Err e) t = Refuses s.missing (cause e) (read s.l
 -- A stated length that passes all that was announced is `Length`, whatever memory there is.
 abbrev pub LengthPast : {X E : Type 0} → (E → Cause) → Source → Result X E → Type 0
 LengthPast cause s result = (n : ℕ) (rest : List ℕ) → number_at w32 s.left ≡ Ok (n, rest) → length rest + s.missing < n → IsErrAnd result (λ e. cause e ≡ Faulty Length)
+
+-- The plain reader takes all the bytes, and none is missing.
+pub record ReadsAll {X Y : Type 0} (means : X → Y) (read : Whole Y) (s : Source) (x : X) : Type 0 where
+  pub value : read s.left ≡ Ok (means x)
+  pub sound : IsSound s
+
+-- What a call gives that reads a source whole: a source with a fault is never accepted.
+abbrev pub GivesWhole : {X Y E : Type 0} → (X → Y) → (E → Cause) → Whole Y → Source → Result X E → Type 0
+GivesWhole means cause read s (Ok x) = ReadsAll means read s x
+GivesWhole means cause read s (Err e) = cause e ≢ NoMemory → IsSound s → Refuses s.missing (cause e) (read s.left)

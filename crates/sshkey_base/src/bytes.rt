@@ -1,0 +1,109 @@
+//! Byte strings.
+
+ghost use Rattle.std.specs.Prelude.{◌≡◌, ◌<◌, ℕ, List, Err};
+ghost use Rattle.sshkey_model.specs.Reading.{bytes_at, string_at};
+ghost use Rattle.sshkey_base.specs.Causes.{encoding_cause};
+ghost use Rattle.sshkey_base.specs.Leaves.{SpellsString, string_grammar};
+ghost use Rattle.sshkey_base.specs.Reading.{Gives, LengthPast};
+ghost use Rattle.sshkey_base.specs.Source.{told};
+
+use crate::decode::Decode;
+use crate::encoding::Error;
+use crate::reader::{Reader, length_from};
+use std::alloc::Global;
+use std::marker::Model;
+
+/// Bytes of any number, which contracts see as a list.
+#[derive(Debug, Drop)]
+pub struct Bytes {
+    bytes: Vec<u8>,
+}
+
+impl Model for Bytes {
+    ghost Value = { List ℕ };
+
+    ghost view = { λ b. b.bytes.items };
+}
+
+impl Bytes {
+    /// The bytes of the vector. Takes no memory.
+    pub fn new(bytes: Vec<u8>) -> Bytes
+        ensures { result ≡ bytes.items }
+    {
+        Bytes { bytes }
+    }
+
+    /// The bytes.
+    pub fn as_slice(&self) -> &[u8]
+        ensures { result.now ≡ self.now }
+    {
+        &self.bytes
+    }
+
+    /// The vector that holds the bytes. Takes no memory.
+    pub fn into_vec(self) -> Vec<u8>
+        ensures { result.items ≡ self }
+    {
+        self.bytes
+    }
+}
+
+/// A length of four bytes, and the bytes (RFC 4251, section 5).
+///
+/// A length that passes what is left is `Length`, and no memory is asked for it.
+#[tactic(auto, using(crate::proofs::Steps::steps), unfolding(crate::specs::Readers::string_at))]
+impl Decode for Bytes {
+    type Error = Error;
+
+    ghost Meaning = { List ℕ };
+
+    ghost means = { λ b. b };
+
+    ghost parse = { string_at };
+
+    ghost Spells = { SpellsString };
+
+    ghost grammar = { string_grammar };
+
+    fn decode<R: Reader>(alloc: Global, reader: &mut R) -> Result<Bytes, Error>
+        ensures gives { Gives (λ x. x) encoding_cause string_at (R.source reader.old) result (R.source reader.new) }
+        ensures past { LengthPast encoding_cause (R.source reader.old) result }
+    {
+        let len = length_from(reader)?;
+        bytes_from(alloc, len, reader)
+    }
+}
+
+/// The next `len` bytes. `Length` where more are asked for than are announced.
+fn bytes_from<R: Reader>(alloc: Global, len: usize, reader: &mut R) -> Result<Bytes, Error>
+    ensures gives { Gives (λ x. x) encoding_cause (bytes_at len) (R.source reader.old) result (R.source reader.new) }
+    ensures past { told (R.source reader.old) < len → result ≡ Err Error.Length }
+{
+    if reader.remaining_len() < len {
+        return Err(Error::Length);
+    }
+    let mut bytes = vec![in alloc; 0u8; len]?;
+    reader.read(&mut bytes)?;
+    Ok(Bytes { bytes })
+}
+
+/// The same as a vector.
+#[tactic(auto, using(crate::proofs::Steps::steps))]
+impl Decode for Vec<u8> {
+    type Error = Error;
+
+    ghost Meaning = { List ℕ };
+
+    ghost means = { λ v. v.items };
+
+    ghost parse = { string_at };
+
+    ghost Spells = { SpellsString };
+
+    ghost grammar = { string_grammar };
+
+    fn decode<R: Reader>(alloc: Global, reader: &mut R) -> Result<Vec<u8>, Error> {
+        let bytes = Bytes::decode(alloc, reader)?;
+        Ok(bytes.into_vec())
+    }
+}
