@@ -2,3 +2,4 @@ pub mod NestedSources
 pub mod Steps
 pub mod Boxes
 pub mod Accepted
+pub mod Writing

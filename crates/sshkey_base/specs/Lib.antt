@@ -4,4 +4,5 @@ pub mod Readers
 pub mod Reading
 pub mod Nested
 pub mod Accepting
+pub mod Sink
 pub mod Leaves

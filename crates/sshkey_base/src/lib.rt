@@ -3,13 +3,17 @@
 
 mod bytes;
 mod decode;
+mod encode;
 pub mod encoding;
 mod error;
 mod reader;
 mod refusal;
+mod writer;
 
 pub use bytes::Bytes;
 pub use decode::{Decode, decode_boxed, decode_front, decode_whole};
+pub use encode::{Encode, encode_string, string_len};
 pub use error::{Error, Result};
 pub use reader::{NestedReader, Reader};
 pub use refusal::Refusal;
+pub use writer::{SliceWriter, Writer};

@@ -1,0 +1,196 @@
+-- The steps of a writing function.
+use Rattle.std.proofs.Common.{◌≡◌, ℕ, ◌+◌, ◌<◌, ◌≤◌, ◌^◌, List, ◌++◌, length, take, take_all, Option, Some, None, Result, Ok, Err, refl, sym, ap, ◌∙◌, append_assoc, arith, inl, inr}
+use Rattle.std.specs.Prelude.{IfSome, ◌⊎◌}
+use Rattle.std.specs.Int.{Width, w8, w32, w64, to_be_bytes, byte_len}
+use Rattle.std.proofs.lemmas.List.{length-append, append-nil, take-append-le}
+use Rattle.std.proofs.lemmas.Bool.{cases_lt}
+use Rattle.std.proofs.Math.Seq.{take-append-add}
+use mir.Val.{bits}
+use Rattle.sshkey_model.specs.Parts.{Parts, bytes, number, box, ◌&◌, flat, InRange, BoxesFit, Fits}
+use Rattle.sshkey_model.proofs.CombinedReaders.{fits_both, fits_box, fits_bytes, fits_number}
+use Rattle.sshkey_base.specs.declared.encoding.Error.{Error}
+use Rattle.sshkey_base.specs.declared.encoding.Error.TheVariants.{Length}
+use Rattle.sshkey_base.specs.Sink.{Sink, Wrote, Began, Stopped, Writes, Written, TooLong, NotWritten, Encodes, Measures}
+
+-- nothing was added
+pub none_began : (s t : Sink) (b : List ℕ) → t.written ≡ s.written → Began s b t
+none_began s t b e = record { count = 0; added = e ∙ sym (append-nil s.written) }
+
+began_first : (s t : Sink) (a b : List ℕ) → Began s a t → Began s (a ++ b) t
+began_first s t a b h =
+    elim (cases_lt h.count (length a)) [
+      | inl lt ↦ record { count = h.count; added = h.added ∙ ap (λ (l : List ℕ). s.written ++ l) (sym (take-append-le h.count a b (omega arith))) }
+      | inr ge ↦
+          let all : take h.count a ≡ a = take_all h.count a ge in
+          let same : take (length a) (a ++ b) ≡ a = take-append-le (length a) a b (omega arith) ∙ take_all (length a) a (omega arith) in
+          record { count = length a; added = h.added ∙ ap (λ (l : List ℕ). s.written ++ l) (all ∙ sym same) }
+    ]
+
+began_later : (s t u : Sink) (a b : List ℕ) → t.written ≡ s.written ++ a → Began t b u → Began s (a ++ b) u
+began_later s t u a b added h = record {
+  count = length a + h.count;
+  added = h.added ∙ rw (added, append_assoc, take-append-add a b h.count) refl;
+}
+
+room_first : (limit : Option ℕ) (n a b : ℕ) → IfSome limit (λ m. m < n + a) → IfSome limit (λ m. m < n + (a + b))
+room_first None n a b h = tt
+room_first (Some m) n a b h = omega arith
+
+room_later : (s t : Sink) (a b : List ℕ) → t.written ≡ s.written ++ a → t.limit ≡ s.limit → IfSome t.limit (λ m. m < length t.written + length b) → IfSome s.limit (λ m. m < length s.written + length (a ++ b))
+room_later s t a b added limit h =
+    let long : length t.written ≡ length s.written + length a = ap length added ∙ length-append s.written a in
+    let total : length t.written + length b ≡ length s.written + length (a ++ b) = omega (arith, long, length-append a b) in
+    let h2 : IfSome s.limit (λ m. m < length t.written + length b) = rw limit at h in
+    rw (← total) h2
+
+stopped_first : (fault : Error → Type 0) (s t : Sink) (a b : List ℕ) (e : Error) → Stopped fault s a e t → Stopped fault s (a ++ b) e t
+stopped_first fault s t a b e h = record {
+  own = h.own;
+  full = rw length-append (room_first s.limit (length s.written) (length a) (length b) h.full);
+  began = began_first s t a b h.began;
+}
+
+stopped_later : (fault : Error → Type 0) (s t u : Sink) (a b : List ℕ) (e : Error) → t.written ≡ s.written ++ a → t.limit ≡ s.limit → Stopped fault t b e u → Stopped fault s (a ++ b) e u
+stopped_later fault s t u a b e added limit h = record { own = h.own; full = room_later s t a b added limit h.full; began = began_later s t u a b added h.began }
+
+-- ---- parts, one after the other
+
+-- the first are refused
+pub not_first : (fault : Error → Type 0) (p q : Parts) (s t : Sink) (e : Error) → NotWritten fault p s e t → NotWritten fault (p & q) s e t
+unfolding flat BoxesFit
+not_first fault p q s t e h =
+    elim h.why [
+      | inl l ↦ record { why = inl (record { misfit = λ b. l.misfit b.0; is = l.is; began = began_first s t (flat p) (flat q) l.began }) }
+      | inr o ↦ record { why = inr (stopped_first fault s t (flat p) (flat q) e o) }
+    ]
+
+-- the first are added, and the others are refused
+pub not_later : (fault : Error → Type 0) (p q : Parts) (s t u : Sink) (e : Error) → Written p s t → NotWritten fault q t e u → NotWritten fault (p & q) s e u
+unfolding flat BoxesFit
+not_later fault p q s t u e w h =
+    elim h.why [
+      | inl l ↦ record { why = inl (record { misfit = λ b. l.misfit b.1; is = l.is; began = began_later s t u (flat p) (flat q) w.added l.began }) }
+      | inr o ↦ record { why = inr (stopped_later fault s t u (flat p) (flat q) e w.added w.limit o) }
+    ]
+
+-- all are added
+pub written_both : (p q : Parts) (s t u : Sink) → Written p s t → Written q t u → Written (p & q) s u
+unfolding flat
+written_both p q s t u v w = record {
+  fits = fits_both p q v.fits w.fits;
+  added = w.added ∙ rw (v.added, append_assoc) refl;
+  limit = w.limit ∙ v.limit;
+}
+
+-- the first are added, and the others decide
+pub encodes_later : (fault : Error → Type 0) (p q : Parts) (s t u : Sink) (r : Result (Unit {0}) Error) → Written p s t → Encodes fault q t r u → Encodes fault (p & q) s r u
+encodes_later fault p q s t u (Ok x) w h = written_both p q s t u w h
+encodes_later fault p q s t u (Err e) w h = not_later fault p q s t u e w h
+
+-- ---- a box
+
+-- its length is refused
+pub box_first : (fault : Error → Type 0) (p : Parts) (s t : Sink) (e : Error) (n : ℕ) → n ≡ length (flat p) → NotWritten fault (number w32 n) s e t → NotWritten fault (box p) s e t
+unfolding flat BoxesFit
+box_first fault p s t e n len h =
+    elim h.why [
+      | inl l ↦ absurd (l.misfit tt)
+      | inr o ↦ record { why = inr (stopped_first fault s t (to_be_bytes w32 (length (flat p))) (flat p) e (rw len at o)) }
+    ]
+
+-- its length is added, and what it holds decides
+pub box_later : (fault : Error → Type 0) (p : Parts) (s t u : Sink) (r : Result (Unit {0}) Error) (n : ℕ) → n ≡ length (flat p) → n < 2 ^ 32 → Written (number w32 n) s t → Encodes fault p t r u → Encodes fault (box p) s r u
+unfolding flat BoxesFit
+box_later fault p s t u (Ok x) n len lt w h = record {
+  fits = fits_box p (omega arith) h.fits;
+  added = h.added ∙ rw (w.added, len, append_assoc) refl;
+  limit = h.limit ∙ w.limit;
+}
+box_later fault p s t u (Err e) n len lt w h =
+    let added : t.written ≡ s.written ++ to_be_bytes w32 (length (flat p)) = w.added ∙ rw len refl in
+    elim h.why [
+      | inl l ↦ record { why = inl (record { misfit = λ b. l.misfit b.1; is = l.is; began = began_later s t u (to_be_bytes w32 (length (flat p))) (flat p) added l.began }) }
+      | inr o ↦ record { why = inr (stopped_later fault s t u (to_be_bytes w32 (length (flat p))) (flat p) e added w.limit o) }
+    ]
+
+-- ---- what a writer gives
+
+pub plain_bytes : (fault : Error → Type 0) (b : List ℕ) (s t : Sink) (r : Result (Unit {0}) Error) → Writes fault s b r t → Encodes fault (bytes b) s r t
+unfolding flat BoxesFit
+plain_bytes fault b s t (Ok x) h = record { fits = fits_bytes b h.are; added = h.added; limit = h.limit }
+plain_bytes fault b s t (Err e) h = record { why = inr h }
+
+pub plain_number : (fault : Error → Type 0) (w : Width) (n : ℕ) (s t : Sink) (r : Result (Unit {0}) Error) → n < 2 ^ bits w → Writes fault s (to_be_bytes w n) r t → Encodes fault (number w n) s r t
+unfolding flat BoxesFit
+plain_number fault w n s t (Ok x) lt h = record { fits = fits_number w n lt; added = h.added; limit = h.limit }
+plain_number fault w n s t (Err e) lt h = record { why = inr h }
+
+pub ruleset writing = (not_first, not_later, encodes_later)
+
+-- ---- how many bytes
+
+pub length_both : (p q : Parts) → length (flat (p & q)) ≡ length (flat p) + length (flat q)
+unfolding flat
+length_both p q = length-append (flat p) (flat q)
+
+pub length_box : (p : Parts) → length (flat (box p)) ≡ 4 + length (flat p)
+unfolding flat
+length_box p = omega (arith, length-append (to_be_bytes w32 (length (flat p))) (flat p))
+
+pub length_bytes : (b : List ℕ) → length (flat (bytes b)) ≡ length b
+unfolding flat
+length_bytes b = refl
+
+pub length_number8 : (n : ℕ) → length (flat (number w8 n)) ≡ 1
+unfolding flat
+length_number8 n = refl
+
+pub length_number32 : (n : ℕ) → length (flat (number w32 n)) ≡ 4
+unfolding flat
+length_number32 n = refl
+
+pub length_number64 : (n : ℕ) → length (flat (number w64 n)) ≡ 8
+unfolding flat
+length_number64 n = refl
+
+pub boxes_both : (p q : Parts) → BoxesFit p → BoxesFit q → BoxesFit (p & q)
+unfolding BoxesFit
+boxes_both p q a b = (a, b)
+
+pub boxes_first : (p q : Parts) → BoxesFit (p & q) → BoxesFit p
+unfolding BoxesFit
+boxes_first p q b = b.0
+
+pub boxes_second : (p q : Parts) → BoxesFit (p & q) → BoxesFit q
+unfolding BoxesFit
+boxes_second p q b = b.1
+
+pub boxes_box : (p : Parts) → length (flat p) < 2 ^ 32 → BoxesFit p → BoxesFit (box p)
+unfolding BoxesFit
+boxes_box p lt b = (lt, b)
+
+pub boxes_length : (p : Parts) → BoxesFit (box p) → length (flat p) < 2 ^ 32
+unfolding BoxesFit
+boxes_length p b = b.0
+
+pub boxes_inside : (p : Parts) → BoxesFit (box p) → BoxesFit p
+unfolding BoxesFit
+boxes_inside p b = b.1
+
+pub boxes_bytes : (b : List ℕ) → BoxesFit (bytes b)
+unfolding BoxesFit
+boxes_bytes b = tt
+
+pub boxes_number : (w : Width) (n : ℕ) → BoxesFit (number w n)
+unfolding BoxesFit
+boxes_number w n = tt
+
+pub ruleset measuring = (length_both, length_box, length_bytes, length_number8, length_number32, length_number64, boxes_both, boxes_first, boxes_second, boxes_box, boxes_length, boxes_inside, boxes_bytes, boxes_number)
+
+-- what a box holds does not fit
+pub inside_misfit : (fault : Error → Type 0) (p : Parts) (s : Sink) (e : Error) → (BoxesFit p → ⊥) × (e ≡ Length) → NotWritten fault (box p) s e s
+inside_misfit fault p s e h = record { why = inl (record { misfit = λ b. h.0 (boxes_inside p b); is = h.1; began = none_began s s (flat (box p)) refl }) }
+
+-- it is too long
+pub outside_misfit : (fault : Error → Type 0) (p : Parts) (s : Sink) (e : Error) (n : ℕ) → n ≡ length (flat p) → (2 ^ 32 ≤ n) × (e ≡ Length) → NotWritten fault (box p) s e s
+outside_misfit fault p s e n len h = record { why = inl (record { misfit = λ b. let lt = boxes_length p b in let ge = h.0 in absurd (omega arith); is = h.1; began = none_began s s (flat (box p)) refl }) }

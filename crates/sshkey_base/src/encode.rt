@@ -1,0 +1,183 @@
+//! Values that are written as bytes.
+
+ghost use Rattle.std.specs.Prelude.{◌≡◌, ◌≤◌, ◌<◌, ◌+◌, ◌^◌, ℕ, IfOk};
+ghost use Rattle.std.specs.Int.{w8, w32, w64};
+ghost use Rattle.sshkey_model.specs.Parts.{Parts, number, box};
+ghost use Rattle.sshkey_base.specs.Leaves.{string};
+ghost use Rattle.sshkey_base.specs.Sink.{Encodes, Measures, IsLength};
+
+use crate::bytes::Bytes;
+use crate::encoding::{Error, Result};
+use crate::writer::Writer;
+
+/// A value that has bytes.
+#[tactic(auto, using(crate::proofs::Writing::measuring))]
+pub trait Encode {
+    /// Its normal form: the parts that are written.
+    ghost normal: { Self → Parts };
+
+    /// No value that fits has more bytes.
+    ghost most: { ℕ };
+
+    /// How many bytes the normal form has. Exactly where a box in it would pass 2^32 - 1 bytes,
+    /// the answer is `Length`. Takes no memory.
+    fn encoded_len(&self) -> Result<usize>
+        ensures measures { Measures (normal self.now) result }
+        ensures short { IfOk result (λ n. n ≤ most) };
+
+    /// Writes the bytes of the normal form.
+    ///
+    /// Where a box in it would pass 2^32 - 1 bytes, the answer is `Length`; any other refusal is
+    /// the writer's own. After a refusal the writer holds what it held, and a beginning of the
+    /// bytes. Takes no memory of its own.
+    fn encode<W: Writer>(&self, writer: &mut W) -> Result<()>
+        ensures { Encodes W.fault (normal self.now) (W.sink writer.old) result (W.sink writer.new) };
+
+    /// How many bytes the value has behind its length. Exactly where it or a box in it would pass
+    /// 2^32 - 1 bytes, the answer is `Length`. Takes no memory.
+    final fn encoded_len_prefixed(&self) -> Result<usize>
+    where
+        Self: Sized,
+        ensures measures { Measures (box (normal self.now)) result }
+        ensures short { IfOk result (λ n. n < 2 ^ 32 + 4) }
+    {
+        let len = u32_of(self.encoded_len()?)?;
+        Ok(4 + len as usize)
+    }
+
+    /// Writes a length of four bytes, and the bytes of the normal form (RFC 4251, section 5).
+    ///
+    /// The refusals are those of `encode`, and `Length` where the bytes pass 2^32 - 1.
+    final fn encode_prefixed<W: Writer>(&self, writer: &mut W) -> Result<()>
+    where
+        Self: Sized,
+        ensures { Encodes W.fault (box (normal self.now)) (W.sink writer.old) result (W.sink writer.new) }
+    {
+        u32_of(self.encoded_len()?)?.encode(writer)?;
+        self.encode(writer)
+    }
+}
+
+/// The number in four bytes. `Length` where it needs more.
+fn u32_of(len: usize) -> Result<u32>
+    ensures { IsLength len result }
+{
+    if len > u32::MAX as usize {
+        return Err(Error::Length);
+    }
+    Ok(len as u32)
+}
+
+/// Writes a length of four bytes, and the bytes (RFC 4251, section 5).
+///
+/// `Length` where there are more than 2^32 - 1; any other refusal is the writer's own.
+pub fn encode_string<W: Writer>(bytes: &[u8], writer: &mut W) -> Result<()>
+    ensures { Encodes W.fault (string bytes.now) (W.sink writer.old) result (W.sink writer.new) }
+{
+    u32_of(bytes.len())?.encode(writer)?;
+    writer.write(bytes)
+}
+
+/// How many bytes a string of `len` bytes has behind its length. `Length` exactly where that is
+/// more than 2^32 - 1.
+#[tactic(auto, using(crate::proofs::Writing::measuring))]
+pub fn string_len(bytes: &[u8]) -> Result<usize>
+    ensures measures { Measures (string bytes.now) result }
+    ensures short { IfOk result (λ n. n < 2 ^ 32 + 4) }
+{
+    let len = u32_of(bytes.len())?;
+    Ok(4 + len as usize)
+}
+
+/// One byte (RFC 4251, section 5).
+#[tactic(auto, using(crate::proofs::Writing::plain_number, crate::proofs::Writing::measuring))]
+impl Encode for u8 {
+    ghost normal = { number w8 };
+
+    ghost most = { 1 };
+
+    fn encoded_len(&self) -> Result<usize> {
+        Ok(1)
+    }
+
+    fn encode<W: Writer>(&self, writer: &mut W) -> Result<()> {
+        writer.write(&self.to_be_bytes())
+    }
+}
+
+/// Four bytes, most significant first (RFC 4251, section 5).
+#[tactic(auto, using(crate::proofs::Writing::plain_number, crate::proofs::Writing::measuring))]
+impl Encode for u32 {
+    ghost normal = { number w32 };
+
+    ghost most = { 4 };
+
+    fn encoded_len(&self) -> Result<usize> {
+        Ok(4)
+    }
+
+    fn encode<W: Writer>(&self, writer: &mut W) -> Result<()> {
+        writer.write(&self.to_be_bytes())
+    }
+}
+
+/// Eight bytes, most significant first (RFC 4251, section 5).
+#[tactic(auto, using(crate::proofs::Writing::plain_number, crate::proofs::Writing::measuring))]
+impl Encode for u64 {
+    ghost normal = { number w64 };
+
+    ghost most = { 8 };
+
+    fn encoded_len(&self) -> Result<usize> {
+        Ok(8)
+    }
+
+    fn encode<W: Writer>(&self, writer: &mut W) -> Result<()> {
+        writer.write(&self.to_be_bytes())
+    }
+}
+
+/// A string of `N` bytes.
+impl<const N: usize> Encode for [u8; N] {
+    ghost normal = { string };
+
+    ghost most = { 2 ^ 32 + 3 };
+
+    fn encoded_len(&self) -> Result<usize> {
+        string_len(self)
+    }
+
+    fn encode<W: Writer>(&self, writer: &mut W) -> Result<()> {
+        encode_string(self, writer)
+    }
+}
+
+/// A string.
+impl Encode for Bytes {
+    ghost normal = { string };
+
+    ghost most = { 2 ^ 32 + 3 };
+
+    fn encoded_len(&self) -> Result<usize> {
+        string_len(self.as_slice())
+    }
+
+    fn encode<W: Writer>(&self, writer: &mut W) -> Result<()> {
+        encode_string(self.as_slice(), writer)
+    }
+}
+
+/// A string.
+impl Encode for Vec<u8> {
+    ghost normal = { λ v. string v.items };
+
+    ghost most = { 2 ^ 32 + 3 };
+
+    fn encoded_len(&self) -> Result<usize> {
+        string_len(self)
+    }
+
+    fn encode<W: Writer>(&self, writer: &mut W) -> Result<()> {
+        encode_string(self, writer)
+    }
+}

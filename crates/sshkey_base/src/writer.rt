@@ -1,0 +1,81 @@
+//! Writers of the wire encoding.
+
+ghost use Rattle.std.specs.Prelude.{◌≡◌, ◌≤◌, [], None, Some, take, length};
+ghost use Rattle.sshkey_base.specs.declared.encoding.Error as narrow;
+ghost use Rattle.sshkey_base.specs.declared.encoding.Error.TheVariants.{Memory, Length};
+ghost use Rattle.sshkey_base.specs.Sink.{Sink, Writes};
+
+use crate::encoding::{Error, Result};
+
+/// A sink of bytes that grows at its end.
+pub trait Writer: Sized {
+    /// What was written, and how much there is room for.
+    ghost sink: { Self → Sink };
+
+    /// What a refused write may answer.
+    ghost fault: { narrow.Error → Type 0 };
+
+    /// Adds the bytes at the end.
+    ///
+    /// A refusal is a fault of the writer's own. A writer of bounded room refuses only where the
+    /// bytes pass it. After a refusal it holds what it held, and a beginning of the bytes.
+    fn write(&mut self, bytes: &[u8]) -> Result<()>
+        ensures { Writes fault (sink self.old) bytes.now result (sink self.new) };
+}
+
+/// A vector that grows. `Memory` where it can't.
+#[tactic(auto, using(crate::proofs::Writing::none_began))]
+impl Writer for Vec<u8> {
+    ghost sink = { λ v. record { written = v.items; limit = None } };
+
+    ghost fault = { λ e. e ≡ Memory };
+
+    fn write(&mut self, bytes: &[u8]) -> Result<()> {
+        self.extend_from_slice(bytes)?;
+        Ok(())
+    }
+}
+
+/// A slice that is filled from its front.
+#[derive(Drop)]
+pub struct SliceWriter<'s> {
+    slice: &'s mut [u8],
+    len: usize,
+    ghost within: { len ≤ length slice.now },
+}
+
+impl<'s> SliceWriter<'s> {
+    /// A writer into the slice. Nothing is written yet, and all of the slice is room.
+    pub fn new(slice: &'s mut [u8]) -> SliceWriter<'s>
+        ensures { ⟦<SliceWriter<'static> as Writer>⟧.sink result ≡ record { written = []; limit = Some (length slice.old) } }
+    {
+        SliceWriter { slice, len: 0 }
+    }
+
+    /// What was written.
+    pub fn written(&self) -> &[u8]
+        ensures { result.now ≡ (⟦<SliceWriter<'static> as Writer>⟧.sink self.now).written }
+    {
+        &self.slice[..self.len]
+    }
+}
+
+/// `Length` where the bytes pass the rest of the slice; then none of them is written.
+#[tactic(auto, using(crate::proofs::Writing::none_began))]
+impl Writer for SliceWriter<'_> {
+    ghost sink = { λ w. record { written = take w.len w.slice.now; limit = Some (length w.slice.now) } };
+
+    ghost fault = { λ e. e ≡ Length };
+
+    fn write(&mut self, bytes: &[u8]) -> Result<()> {
+        let slice = &mut *self.slice;
+        let len = self.len;
+        if slice.len() - len < bytes.len() {
+            return Err(Error::Length);
+        }
+        let end = len + bytes.len();
+        slice[len..end].copy_from_slice(bytes);
+        self.len = end;
+        Ok(())
+    }
+}
