@@ -3,3 +3,4 @@ pub mod Steps
 pub mod Boxes
 pub mod Accepted
 pub mod Writing
+pub mod Labels

@@ -1,7 +1,8 @@
 -- The readers of the leaves take exactly their spellings.
-use Rattle.std.specs.Prelude.{ℕ, List}
+use Rattle.std.specs.Prelude.{◌≡◌, ℕ, List, length, refl}
 use Rattle.std.specs.Int.{w8, w32, w64}
-use Rattle.sshkey_model.specs.Parts.{Parts, Any, bytes, number, box}
+use Rattle.sshkey_model.specs.Parts.{Any, number, flat, Fits}
+use Rattle.sshkey_model.specs.Texts.{string}
 use Rattle.sshkey_model.specs.Reading.{whole, bytes_at, number_at, string_at, box_at}
 use Rattle.sshkey_model.specs.Grammar.{IsGrammar, Spells}
 use Rattle.sshkey_model.proofs.CombinedReaders.{HasLength, wide8, wide32, wide64, bytes_reads, number_reads, string_reads, box_reads, whole_reads}
@@ -18,9 +19,6 @@ abbrev pub SpellsNumber64 : ℕ → List ℕ → Type 0
 SpellsNumber64 = Spells Any (number w64)
 
 -- a string of bytes
-abbrev pub string : List ℕ → Parts
-string b = box (bytes b)
-
 abbrev pub SpellsString : List ℕ → List ℕ → Type 0
 SpellsString = Spells Any string
 
@@ -42,3 +40,20 @@ string_grammar = grammar string_reads
 
 pub array_grammar : (n : ℕ) → IsGrammar (SpellsArray n) (box_at (whole (bytes_at n)))
 array_grammar n = grammar (box_reads (whole_reads (bytes_reads n)))
+
+-- ---- what is written is a spelling
+
+pub byte_normal : (n : ℕ) → Any n → Fits (number w8 n) → SpellsByte n (flat (number w8 n))
+byte_normal n is fits = record { is = is; fits = fits; shape = refl }
+
+pub number32_normal : (n : ℕ) → Any n → Fits (number w32 n) → SpellsNumber32 n (flat (number w32 n))
+number32_normal n is fits = record { is = is; fits = fits; shape = refl }
+
+pub number64_normal : (n : ℕ) → Any n → Fits (number w64 n) → SpellsNumber64 n (flat (number w64 n))
+number64_normal n is fits = record { is = is; fits = fits; shape = refl }
+
+pub string_normal : (b : List ℕ) → Any b → Fits (string b) → SpellsString b (flat (string b))
+string_normal b is fits = record { is = is; fits = fits; shape = refl }
+
+pub array_normal : (n : ℕ) (b : List ℕ) → length b ≡ n → Fits (string b) → SpellsArray n b (flat (string b))
+array_normal n b is fits = record { is = is; fits = fits; shape = refl }

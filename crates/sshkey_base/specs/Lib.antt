@@ -6,3 +6,6 @@ pub mod Nested
 pub mod Accepting
 pub mod Sink
 pub mod Leaves
+pub mod Labels
+pub mod Laws
+pub mod Algorithms

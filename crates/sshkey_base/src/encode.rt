@@ -3,7 +3,7 @@
 ghost use Rattle.std.specs.Prelude.{◌≡◌, ◌≤◌, ◌<◌, ◌+◌, ◌^◌, ℕ, IfOk};
 ghost use Rattle.std.specs.Int.{w8, w32, w64};
 ghost use Rattle.sshkey_model.specs.Parts.{Parts, number, box};
-ghost use Rattle.sshkey_base.specs.Leaves.{string};
+ghost use Rattle.sshkey_model.specs.Texts.{string};
 ghost use Rattle.sshkey_base.specs.Sink.{Encodes, Measures, IsLength};
 
 use crate::bytes::Bytes;

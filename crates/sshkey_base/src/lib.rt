@@ -1,19 +1,26 @@
 //! Wire encoding: readers, writers, and the values that they carry.
 #![tactic(auto)]
 
+mod algorithm;
 mod bytes;
 mod decode;
 mod encode;
 pub mod encoding;
 mod error;
+mod label;
+pub mod laws;
+mod normal_form;
 mod reader;
 mod refusal;
 mod writer;
 
+pub use algorithm::Algorithm;
 pub use bytes::Bytes;
 pub use decode::{Decode, decode_boxed, decode_front, decode_whole};
 pub use encode::{Encode, encode_string, string_len};
 pub use error::{Error, Result};
+pub use label::Label;
+pub use normal_form::NormalForm;
 pub use reader::{NestedReader, Reader};
 pub use refusal::Refusal;
 pub use writer::{SliceWriter, Writer};

@@ -1,0 +1,26 @@
+-- A name that is read and written as a string (RFC 4251, section 6).
+use Rattle.std.specs.Prelude.{◌≡◌, ◌≢◌, ℕ, List, Result, Ok, Err, refl}
+use Rattle.sshkey_model.specs.Reading.{Fault, Whole, Label, Front, string_at, checked_at}
+use Rattle.sshkey_model.specs.Parts.{Any, bytes, flat, Fits}
+use Rattle.sshkey_model.specs.Texts.{string}
+use Rattle.sshkey_model.specs.Grammar.{IsGrammar, Spells}
+use Rattle.sshkey_model.proofs.CombinedReaders.{Checks, checked_string_reads}
+use Rattle.sshkey_model.proofs.Grammars.{grammar}
+use Rattle.sshkey_base.specs.declared.encoding.Error.{Error}
+use Rattle.sshkey_base.specs.declared.encoding.Error.TheVariants as encoding
+
+-- What a call gives that looks a name up: the value of that name, or `Label` where there is none, want of memory aside.
+abbrev pub LooksUp : {X N : Type 0} → (X → N) → Whole N → List ℕ → Result X Error → Type 0
+LooksUp stands_for named name (Ok x) = named name ≡ Ok (stands_for x)
+LooksUp stands_for named name (Err e) = e ≢ encoding.Memory → (named name ≡ Err Label) × (e ≡ encoding.Label)
+
+-- a string that is looked up
+unfoldable pub label_at : {N : Type 0} → Whole N → Front N
+label_at named = checked_at named string_at
+
+pub label_grammar : {N : Type 0} {Is : N → Type 0} {name : N → List ℕ} {named : Whole N} → Checks Any bytes Is (λ n. bytes (name n)) named → IsGrammar (Spells Is (λ n. string (name n))) (label_at named)
+unfolding label_at
+label_grammar checks = grammar (checked_string_reads checks)
+
+pub label_normal : {N : Type 0} (Is : N → Type 0) (name : N → List ℕ) (n : N) → Is n → Fits (string (name n)) → Spells Is (λ n. string (name n)) n (flat (string (name n)))
+label_normal Is name n is fits = record { is = is; fits = fits; shape = refl }

@@ -1,0 +1,94 @@
+//! Names that are read and written as strings.
+
+ghost use Rattle.std.specs.Prelude.{◌≡◌, ℕ, List, true, Err};
+ghost use Rattle.sshkey_model.specs.Names.{are_ascii};
+ghost use Rattle.sshkey_model.specs.Parts.{Parts, Any, bytes};
+ghost use Rattle.sshkey_model.specs.Reading.{Fault, Whole, Label as label_fault};
+ghost use Rattle.sshkey_model.specs.Texts.{string};
+ghost use Rattle.sshkey_model.specs.Grammar.{Spells};
+ghost use Rattle.sshkey_model.proofs.CombinedReaders.{Checks, checked_string_reads};
+ghost use Rattle.sshkey_model.proofs.Grammars.{grammar};
+ghost use Rattle.sshkey_base.specs.Labels.{LooksUp, label_at, label_grammar};
+
+use crate::bytes::Bytes;
+use crate::decode::Decode;
+use crate::encode::{Encode, encode_string, string_len};
+use crate::encoding::{Error, Result};
+use crate::reader::Reader;
+use crate::writer::Writer;
+use std::alloc::Global;
+use std::str;
+
+/// A value that has a name of its own, by which it is read and written.
+pub trait Label: Sized {
+    /// What a value stands for: the model's value.
+    ghost Named: { Type 0 };
+
+    /// What the value stands for.
+    ghost stands_for: { Self → Named };
+
+    /// The name.
+    ghost name: { Named → List ℕ };
+
+    /// It has that name, and no other.
+    ghost IsNamed: { Named → Type 0 };
+
+    /// The value of a name.
+    ghost named: { Whole Named };
+
+    /// The name, a text.
+    fn label(&self) -> &str
+        ensures { result.now ≡ name (stands_for self.now) };
+
+    /// The value of that name. `Label` exactly where there is none, want of memory aside.
+    fn from_label(alloc: Global, text: &str) -> Result<Self>
+        ensures { LooksUp stands_for named text.now result };
+
+    /// A name gives the value that has it.
+    ghost checks: { Checks Any bytes IsNamed (λ n. bytes (name n)) named };
+
+    /// Names are ASCII.
+    ghost ascii: { (n : Named) → IsNamed n → are_ascii (name n) ≡ true };
+
+    /// What is no name is refused as such.
+    ghost refusals: { (text : List ℕ) (fault : Fault) → named text ≡ Err fault → fault ≡ label_fault };
+}
+
+/// The string of a name. `Label` for a string that is none of the names.
+#[tactic(auto, using(crate::proofs::Steps::steps), unfolding(crate::specs::Labels::label_at))]
+impl<T: Label> Decode for T {
+    type Error = Error;
+
+    ghost Meaning = { T.Named };
+
+    ghost means = { T.stands_for };
+
+    ghost parse = { label_at T.named };
+
+    ghost Spells = { Spells T.IsNamed (λ n. string (T.name n)) };
+
+    ghost grammar = { label_grammar T.checks };
+
+    fn decode<R: Reader>(alloc: Global, reader: &mut R) -> Result<T> {
+        let name = Bytes::decode(alloc, reader)?;
+        match str::from_utf8(name.as_slice()) {
+            Ok(text) => T::from_label(alloc, text),
+            Err(_) => Err(Error::Label),
+        }
+    }
+}
+
+/// The string of the name.
+impl<T: Label> Encode for T {
+    ghost normal = { λ x. string (T.name (T.stands_for x)) };
+
+    ghost most = { 4294967299 };
+
+    fn encoded_len(&self) -> Result<usize> {
+        string_len(self.label().as_bytes())
+    }
+
+    fn encode<W: Writer>(&self, writer: &mut W) -> Result<()> {
+        encode_string(self.label().as_bytes(), writer)
+    }
+}

@@ -1,0 +1,17 @@
+//! Laws of every value that is read and written. They make no call: each is a fact about the
+//! definitions.
+
+ghost use Rattle.sshkey_base.specs.Laws.{ReadBackBefore, OneFront};
+
+use crate::decode::Decode;
+use crate::normal_form::NormalForm;
+
+/// What is written of a well-formed value that fits is read back as that value, whatever follows.
+pub fn read_back<T: NormalForm>()
+    ensures { ReadBackBefore T.IsWellFormed T.normal T.means T.parse }
+{}
+
+/// No spelling begins another, and no bytes spell two values.
+pub fn one_front<T: Decode>()
+    ensures { OneFront T.Spells }
+{}
