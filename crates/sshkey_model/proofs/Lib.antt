@@ -20,3 +20,4 @@ pub mod Base64Words
 pub mod LineCuts
 pub mod Lines
 pub mod Blobs
+pub mod PrivateExamples

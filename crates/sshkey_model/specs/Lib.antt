@@ -20,3 +20,4 @@ pub mod Validity
 pub mod Lines
 pub mod LineCuts
 pub mod Laws
+pub mod PrivateExamples

@@ -1,0 +1,214 @@
+-- Worked examples of key derivations, key pairs and private keys.
+use Rattle.std.specs.Prelude.{◌≡◌, ℕ, List, [], ◌∷◌, ◌++◌, length, map, replicate, Bool, true, false, Some, None, Ok, Err, codes}
+use Rattle.sshkey_model.specs.Parts.{flat}
+use Rattle.sshkey_model.specs.Reading.{Length, Label, FormatEncoding, UnknownAlgorithm, Cryptographic, OtherPublicKey, TrailingData, TrailingKeyData, whole}
+use Rattle.sshkey_model.specs.Names.{Nistp256, Nistp384, Algorithm}
+use Rattle.sshkey_model.specs.Keys.{Ed25519, Plain, Head512, Head}
+use Rattle.sshkey_model.specs.KeyDerivation.{Cipher, NoCipher, Aes256Ctr, cipher_name, ciphers, block_size, tag_size, padding_length, cipher_at, Kdf, NoKdf, Bcrypt, kdf, kdf_at}
+use Rattle.sshkey_model.specs.KeyPairs.{Sign, Usual, Without, With, is_high, scalar, scalar_at, KeyPair, DsaPair, EcdsaPair, Ed25519Pair, RsaPair, SkEcdsaPair, SkEd25519Pair, OpaquePair, KeyPairChoices, plain_pair, pair_at, keypair, keypair_at, normal_keypair, derived_checkint, written_checkint}
+use Rattle.sshkey_model.specs.PrivateKeys.{PrivateKey, Encrypted, new_private_key, plain_private_key, normal_private_key, padding, end_padding, padded_from, private_part_at, decoded_private_key_at}
+
+-- ---- ciphers and key derivation
+
+abbrev pub row : Cipher → List ℕ × (ℕ × ℕ)
+row c = (cipher_name c, (block_size c, tag_size c))
+
+-- name, bytes of a block, bytes of a tag
+abbrev pub CipherTable : Type 0
+CipherTable = map row ciphers ≡
+    (codes "none", (8, 0)) ∷ (codes "3des-cbc", (8, 0))
+    ∷ (codes "aes128-cbc", (16, 0)) ∷ (codes "aes192-cbc", (16, 0)) ∷ (codes "aes256-cbc", (16, 0))
+    ∷ (codes "aes128-ctr", (16, 0)) ∷ (codes "aes192-ctr", (16, 0)) ∷ (codes "aes256-ctr", (16, 0))
+    ∷ (codes "aes128-gcm@openssh.com", (16, 16)) ∷ (codes "aes256-gcm@openssh.com", (16, 16)) ∷ (codes "chacha20-poly1305@openssh.com", (8, 16)) ∷ []
+
+abbrev pub UnknownCipher : Type 0
+UnknownCipher = cipher_at (0 ∷ 0 ∷ 0 ∷ 4 ∷ codes "None") ≡ Err Label
+
+-- a multiple of the block needs none, one byte less needs one, one byte more needs the most
+abbrev pub PaddingLengths : Type 0
+PaddingLengths = (padding_length 8 136 ≡ 0) × (padding_length 8 135 ≡ 1) × (padding_length 8 137 ≡ 7) × (padding_length 8 0 ≡ 0)
+    × (padding_length 16 32 ≡ 0) × (padding_length 16 31 ≡ 1) × (padding_length 16 33 ≡ 15)
+
+abbrev pub example_kdf : Kdf
+example_kdf = Bcrypt (record { salt = 0 ∷ 1 ∷ 2 ∷ 3 ∷ 4 ∷ 5 ∷ 6 ∷ 7 ∷ 8 ∷ 9 ∷ 10 ∷ 11 ∷ 12 ∷ 13 ∷ 14 ∷ 15 ∷ []; rounds = 16 })
+
+abbrev pub example_kdf_bytes : List ℕ
+example_kdf_bytes = 0 ∷ 0 ∷ 0 ∷ 6 ∷ 98 ∷ 99 ∷ 114 ∷ 121 ∷ 112 ∷ 116 ∷ 0 ∷ 0 ∷ 0 ∷ 24 ∷ 0 ∷ 0 ∷ 0 ∷ 16 ∷ 0 ∷ 1 ∷ 2 ∷ 3 ∷ 4 ∷ 5 ∷ 6 ∷ 7 ∷ 8 ∷ 9 ∷ 10 ∷ 11 ∷ 12 ∷ 13 ∷ 14 ∷ 15 ∷ 0 ∷ 0 ∷ 0 ∷ 16 ∷ []
+
+abbrev pub no_kdf_bytes : ℕ → List ℕ
+no_kdf_bytes last = 0 ∷ 0 ∷ 0 ∷ 4 ∷ 110 ∷ 111 ∷ 110 ∷ 101 ∷ 0 ∷ 0 ∷ 0 ∷ last ∷ []
+
+abbrev pub KdfHeaders : Type 0
+KdfHeaders = (flat (kdf example_kdf) ≡ example_kdf_bytes) × (length example_kdf_bytes ≡ 38) × (kdf_at example_kdf_bytes ≡ Ok (example_kdf, []))
+    × (flat (kdf NoKdf) ≡ no_kdf_bytes 0) × (kdf_at (no_kdf_bytes 0) ≡ Ok (NoKdf, [])) × (kdf_at (no_kdf_bytes 1) ≡ Err UnknownAlgorithm)
+    × (kdf_at (0 ∷ 0 ∷ 0 ∷ 6 ∷ codes "scrypt" ++ 0 ∷ 0 ∷ 0 ∷ 0 ∷ []) ≡ Err Label)
+
+-- a byte too much among the options of bcrypt, and one too few
+abbrev pub KdfOptions : Type 0
+KdfOptions = (kdf_at (0 ∷ 0 ∷ 0 ∷ 6 ∷ codes "bcrypt" ++ 0 ∷ 0 ∷ 0 ∷ 9 ∷ 0 ∷ 0 ∷ 0 ∷ 0 ∷ 0 ∷ 0 ∷ 0 ∷ 16 ∷ 0 ∷ []) ≡ Err (TrailingData 1))
+    × (kdf_at (0 ∷ 0 ∷ 0 ∷ 6 ∷ codes "bcrypt" ++ 0 ∷ 0 ∷ 0 ∷ 7 ∷ 0 ∷ 0 ∷ 0 ∷ 0 ∷ 0 ∷ 0 ∷ 0 ∷ []) ≡ Err Length)
+
+-- ---- private scalars
+
+-- the first bit is set from 80 on
+abbrev pub FirstBits : Type 0
+FirstBits = (is_high (0x7f ∷ []) ≡ false) × (is_high (0x80 ∷ []) ≡ true) × (is_high [] ≡ false)
+
+abbrev pub low_scalar : List ℕ
+low_scalar = 0x7f ∷ replicate 31 1
+
+abbrev pub high_scalar : List ℕ
+high_scalar = 0x80 ∷ replicate 31 1
+
+-- a string of so many bytes
+abbrev pub short_string : ℕ → List ℕ → List ℕ
+short_string n b = 0 ∷ 0 ∷ 0 ∷ n ∷ b
+
+-- written with the sign byte exactly if the first bit is set
+abbrev pub WrittenScalars : Type 0
+WrittenScalars = (flat (scalar low_scalar Usual) ≡ short_string 32 low_scalar) × (flat (scalar high_scalar Usual) ≡ short_string 33 (0 ∷ high_scalar))
+    × (flat (scalar (replicate 32 0xff) Usual) ≡ short_string 33 (0 ∷ replicate 32 0xff)) × (flat (scalar (replicate 32 1) Usual) ≡ short_string 32 (replicate 32 1))
+
+-- read with the sign byte and without it
+abbrev pub ReadScalars : Type 0
+ReadScalars = (scalar_at 32 (short_string 32 low_scalar) ≡ Ok ((low_scalar, Usual), [])) × (scalar_at 32 (short_string 33 (0 ∷ low_scalar)) ≡ Ok ((low_scalar, With), []))
+    × (scalar_at 32 (short_string 32 high_scalar) ≡ Ok ((high_scalar, Without), [])) × (scalar_at 32 (short_string 33 (0 ∷ high_scalar)) ≡ Ok ((high_scalar, Usual), []))
+    × (scalar_at 32 (short_string 32 (replicate 32 0xff)) ≡ Ok ((replicate 32 0xff, Without), [])) × (scalar_at 32 (short_string 33 (0 ∷ replicate 32 1)) ≡ Ok ((replicate 32 1, With), []))
+
+-- 31, 33 and 34 bytes
+abbrev pub RefusedScalars : Type 0
+RefusedScalars = (scalar_at 32 (short_string 31 (replicate 31 1)) ≡ Err Length) × (scalar_at 32 (short_string 33 (replicate 33 1)) ≡ Err FormatEncoding)
+    × (scalar_at 32 (short_string 34 (replicate 34 0)) ≡ Err (TrailingData 2))
+
+-- ---- key pairs
+
+abbrev pub example_public : List ℕ
+example_public = 0xb3 ∷ 0x3e ∷ 0xae ∷ 0xf3 ∷ 0x7e ∷ 0xa2 ∷ 0xdf ∷ 0x7c ∷ 0xaa ∷ 0x01 ∷ 0x0d ∷ 0xef ∷ 0xde ∷ 0xa3 ∷ 0x4e ∷ 0x24 ∷ 0x1f ∷ 0x65 ∷ 0xf1 ∷ 0xb5 ∷ 0x29 ∷ 0xa4 ∷ 0xf4 ∷ 0x3e ∷ 0xd1 ∷ 0x43 ∷ 0x27 ∷ 0xf5 ∷ 0xc5 ∷ 0x4a ∷ 0xab ∷ 0x62 ∷ []
+
+abbrev pub example_private : List ℕ
+example_private = 0x2b ∷ replicate 31 0x2a
+
+abbrev pub example_pair : KeyPair
+example_pair = Ed25519Pair example_public example_private
+
+abbrev pub example_key_bytes : List ℕ
+example_key_bytes = short_string 11 (codes "ssh-ed25519") ++ short_string 32 example_public
+
+abbrev pub pair_bytes : List ℕ → List ℕ
+pair_bytes again = short_string 32 example_public ++ short_string 64 example_private ++ again
+
+-- the public bytes again, or others
+abbrev pub Ed25519Pairs : Type 0
+Ed25519Pairs = (pair_at Algorithm.Ed25519 (pair_bytes example_public) ≡ Ok ((example_pair, Usual), [])) × (pair_at Algorithm.Ed25519 (pair_bytes (replicate 32 0)) ≡ Err Cryptographic)
+
+abbrev pub small_rsa_pair : KeyPair
+small_rsa_pair = RsaPair (record { e = 3 ∷ []; n = 33 ∷ [] }) (record { d = 7 ∷ []; iqmp = 2 ∷ []; p = 11 ∷ []; q = 5 ∷ [] })
+
+abbrev pub small_rsa_bytes : List ℕ
+small_rsa_bytes = short_string 1 (33 ∷ []) ++ short_string 1 (3 ∷ []) ++ short_string 1 (7 ∷ []) ++ short_string 1 (2 ∷ []) ++ short_string 1 (11 ∷ []) ++ short_string 1 (5 ∷ [])
+
+-- a pair of RSA under a name with a hash, and how it is written
+abbrev pub RsaPairs : Type 0
+RsaPairs = (keypair_at (short_string 12 (codes "rsa-sha2-512") ++ small_rsa_bytes) ≡ Ok ((small_rsa_pair, record { head = Head512; sign = Usual }), []))
+    × (flat (normal_keypair small_rsa_pair) ≡ short_string 7 (codes "ssh-rsa") ++ small_rsa_bytes)
+
+abbrev pub p384_bytes : List ℕ → List ℕ
+p384_bytes s = short_string 8 (codes "nistp384") ++ short_string 49 (2 ∷ replicate 48 1) ++ short_string 48 s
+
+-- The stated curve and the point's are compared before the scalar is read, the algorithm's curve after it.
+abbrev pub EcdsaPairs : Type 0
+EcdsaPairs = (pair_at (Algorithm.Ecdsa Nistp384) (p384_bytes (replicate 48 1)) ≡ Ok ((EcdsaPair Nistp384 (2 ∷ replicate 48 1) (replicate 48 1), Usual), []))
+    × (pair_at (Algorithm.Ecdsa Nistp256) (p384_bytes (replicate 48 1)) ≡ Err UnknownAlgorithm)
+    × (pair_at (Algorithm.Ecdsa Nistp256) (p384_bytes (replicate 47 1)) ≡ Err Length)
+    × (pair_at (Algorithm.Ecdsa Nistp256) (short_string 8 (codes "nistp256") ++ short_string 49 (2 ∷ replicate 48 1)) ≡ Err UnknownAlgorithm)
+
+-- ---- checkints
+
+-- whole words of the private bytes; what is left of fewer than four bytes is left out
+abbrev pub Checkints : Type 0
+Checkints = (derived_checkint example_pair ≡ 0x01000000)
+    × (derived_checkint (DsaPair (record { p = 1 ∷ []; q = 2 ∷ []; g = 3 ∷ []; y = 4 ∷ [] }) (0 ∷ 0x80 ∷ 1 ∷ 2 ∷ 3 ∷ [])) ≡ 0x00800102)
+    × (derived_checkint (EcdsaPair Nistp256 (4 ∷ replicate 64 9) (0x80 ∷ 0 ∷ 0 ∷ 1 ∷ 0 ∷ 0 ∷ 3 ∷ 0 ∷ replicate 24 0)) ≡ 0x80000301)
+    × (derived_checkint (RsaPair (record { e = 3 ∷ []; n = replicate 4 1 }) (record { d = 0 ∷ 0xff ∷ 1 ∷ 2 ∷ 0 ∷ 0xff ∷ 1 ∷ 0 ∷ []; iqmp = replicate 4 7; p = replicate 4 8; q = replicate 4 9 })) ≡ 2)
+    × (derived_checkint (SkEd25519Pair (record { key = example_public; application = [] }) (record { flags = 1; handle = 1 ∷ 2 ∷ 3 ∷ 4 ∷ 5 ∷ []; reserved = replicate 4 9 })) ≡ 0x01020304)
+    × (derived_checkint (SkEcdsaPair (record { key = 4 ∷ replicate 64 9; application = [] }) (record { flags = 1; handle = 1 ∷ 2 ∷ 3 ∷ []; reserved = replicate 4 9 })) ≡ 0)
+    × (derived_checkint (OpaquePair (codes "name@example.com") (replicate 4 1) (0xff ∷ 0 ∷ 0 ∷ 0xff ∷ [])) ≡ 0xff0000ff)
+    × (written_checkint None example_pair ≡ 0x01000000) × (written_checkint (Some 7) example_pair ≡ 7)
+
+-- ---- unencrypted keys
+
+abbrev pub example_key : PrivateKey
+example_key = new_private_key example_pair []
+
+-- what stands before the private part
+abbrev pub front_bytes : List ℕ
+front_bytes = codes "openssh-key-v1" ++ 0 ∷ [] ++ short_string 4 (codes "none") ++ short_string 4 (codes "none") ++ short_string 0 [] ++ 0 ∷ 0 ∷ 0 ∷ 1 ∷ [] ++ short_string 51 example_key_bytes
+
+-- the two checkints, the pair with its name, an empty comment, and padding
+abbrev pub part_bytes : List ℕ → List ℕ → List ℕ → List ℕ
+part_bytes first second pad = first ++ second ++ short_string 11 (codes "ssh-ed25519") ++ pair_bytes example_public ++ short_string 0 [] ++ pad
+
+abbrev pub one : List ℕ
+one = 1 ∷ 0 ∷ 0 ∷ 0 ∷ []
+
+abbrev pub example_bytes : List ℕ
+example_bytes = front_bytes ++ 0 ∷ 0 ∷ 0 ∷ 0x88 ∷ [] ++ part_bytes one one (1 ∷ 2 ∷ 3 ∷ 4 ∷ 5 ∷ [])
+
+-- 131 bytes and 5 of padding, 234 in all
+abbrev pub WrittenKey : Type 0
+WrittenKey = (flat (normal_private_key example_key) ≡ example_bytes) × (length example_bytes ≡ 234) × (length (part_bytes one one []) ≡ 131)
+
+abbrev pub ReadKey : Type 0
+ReadKey = (whole decoded_private_key_at example_bytes ≡ Ok (example_key, plain_private_key)) × (whole decoded_private_key_at (example_bytes ++ 0 ∷ []) ≡ Err (TrailingData 1))
+    × (decoded_private_key_at (example_bytes ++ 0 ∷ []) ≡ Ok ((example_key, plain_private_key), 0 ∷ []))
+
+-- a checkint that is not repeated, a pair of another public key, a part that is no multiple of 8
+abbrev pub RefusedParts : Type 0
+RefusedParts = (padded_from (private_part_at (Ed25519 example_public)) (part_bytes one (2 ∷ 0 ∷ 0 ∷ 0 ∷ []) (1 ∷ 2 ∷ 3 ∷ 4 ∷ 5 ∷ [])) ≡ Err Cryptographic)
+    × (padded_from (private_part_at (Ed25519 (replicate 32 0))) (part_bytes one one (1 ∷ 2 ∷ 3 ∷ 4 ∷ 5 ∷ [])) ≡ Err OtherPublicKey)
+    × (padded_from (private_part_at (Ed25519 example_public)) (part_bytes one one (1 ∷ 2 ∷ 3 ∷ 4 ∷ [])) ≡ Err Length)
+
+-- a wrong last byte of the padding, and a block of it too much
+abbrev pub RefusedPaddings : Type 0
+RefusedPaddings = (padded_from (private_part_at (Ed25519 example_public)) (part_bytes one one (1 ∷ 2 ∷ 3 ∷ 4 ∷ 6 ∷ [])) ≡ Err FormatEncoding)
+    × (padded_from (private_part_at (Ed25519 example_public)) (part_bytes one one (1 ∷ 2 ∷ 3 ∷ 4 ∷ 5 ∷ 6 ∷ 7 ∷ 8 ∷ 9 ∷ 10 ∷ 11 ∷ 12 ∷ 13 ∷ [])) ≡ Err Length)
+
+-- with a comment of 5 bytes no padding, with one of 6 bytes seven
+abbrev pub commented_key : ℕ → PrivateKey
+commented_key n = new_private_key example_pair (replicate n 0x78)
+
+abbrev pub PaddingEdges : Type 0
+PaddingEdges = (length (flat (normal_private_key (commented_key 5))) ≡ 234) × (length (flat (normal_private_key (commented_key 6))) ≡ 242)
+    × (padding 136 ≡ []) × (padding 137 ≡ 1 ∷ 2 ∷ 3 ∷ 4 ∷ 5 ∷ 6 ∷ 7 ∷ []) × (padding 143 ≡ 1 ∷ [])
+    × (end_padding example_key [] ≡ Ok example_key) × (end_padding example_key (1 ∷ 2 ∷ 3 ∷ 4 ∷ 5 ∷ 6 ∷ 7 ∷ []) ≡ Ok example_key)
+    × (end_padding example_key (1 ∷ 2 ∷ 3 ∷ 4 ∷ 5 ∷ 6 ∷ 7 ∷ 8 ∷ []) ≡ Err Length) × (end_padding example_key (0 ∷ []) ≡ Err FormatEncoding)
+
+-- ---- encrypted keys
+
+abbrev pub sealed_key : List ℕ → PrivateKey
+sealed_key ciphertext = Encrypted (record { cipher = Aes256Ctr; kdf = Bcrypt (record { salt = replicate 16 0x11; rounds = 16 }); public = Ed25519 example_public; ciphertext = ciphertext; tag = [] })
+
+abbrev pub sealed_bytes : List ℕ → List ℕ → List ℕ
+sealed_bytes name ciphertext = codes "openssh-key-v1" ++ 0 ∷ [] ++ name ++ short_string 6 (codes "bcrypt") ++ short_string 24 (short_string 16 (replicate 16 0x11)) ++ 0 ∷ 0 ∷ 0 ∷ 16 ∷ 0 ∷ 0 ∷ 0 ∷ 1 ∷ [] ++ short_string 51 example_key_bytes ++ ciphertext
+
+abbrev pub aes256_ctr : List ℕ
+aes256_ctr = short_string 10 (codes "aes256-ctr")
+
+abbrev pub block : List ℕ
+block = short_string 16 (replicate 16 0)
+
+abbrev pub EncryptedKeys : Type 0
+EncryptedKeys = (flat (normal_private_key (sealed_key (replicate 16 0))) ≡ sealed_bytes aes256_ctr block) × (length (sealed_bytes aes256_ctr block) ≡ 146)
+    × (whole decoded_private_key_at (sealed_bytes aes256_ctr block) ≡ Ok (sealed_key (replicate 16 0), plain_private_key))
+    × (whole decoded_private_key_at (sealed_bytes aes256_ctr (short_string 0 [])) ≡ Ok (sealed_key [], plain_private_key))
+
+-- 15 bytes of ciphertext, a byte behind the key, and the cipher `none` with a key derivation
+abbrev pub RefusedEncryptedKeys : Type 0
+RefusedEncryptedKeys = (decoded_private_key_at (sealed_bytes aes256_ctr (short_string 15 (replicate 15 0))) ≡ Err Cryptographic)
+    × (decoded_private_key_at (sealed_bytes aes256_ctr (block ++ 0 ∷ [])) ≡ Err (TrailingKeyData 1))
+    × (decoded_private_key_at (sealed_bytes (short_string 4 (codes "none")) block) ≡ Err Cryptographic)
+
+-- behind the ciphertext of an authenticating cipher stand 16 bytes, no fewer
+abbrev pub Tags : Type 0
+Tags = (decoded_private_key_at (sealed_bytes (short_string 22 (codes "aes256-gcm@openssh.com")) (block ++ replicate 15 7)) ≡ Err Length)
+    × (decoded_private_key_at (sealed_bytes (short_string 22 (codes "aes256-gcm@openssh.com")) (block ++ replicate 17 7)) ≡ Err (TrailingKeyData 1))

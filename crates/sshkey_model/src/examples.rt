@@ -1,0 +1,3 @@
+//! Worked examples: each is computed from the definitions.
+
+pub mod private;
