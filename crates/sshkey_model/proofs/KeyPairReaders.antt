@@ -1,18 +1,18 @@
 -- Key pairs are read as they are spelled.
-use Rattle.std.proofs.Common.{◌≡◌, ℕ, suc, ◌-◌, ◌<◌, ◌≤◌, eqb, ltb, inl, inr, Option, Bool, true, false, cond, List, [], ◌∷◌, ◌++◌, length, take, drop, Ok, Err, bytes_eq, refl, sym, ap, subst, ◌∙◌, arith}
+use Rattle.std.proofs.Common.{◌≡◌, ℕ, suc, ◌-◌, eqb, ltb, inl, inr, Option, Bool, true, false, cond, List, [], ◌∷◌, ◌++◌, length, take, drop, Ok, Err, bytes_eq, refl, sym, ap, subst, ◌∙◌, arith}
 use Rattle.std.specs.Int.{w8}
 use Rattle.std.proofs.lemmas.Bool.{eqb-true, eq-eqb, ne_eqb}
 use Rattle.std.proofs.lemmas.List.{take_at, drop_at, take-append-drop, length-append, length-take}
 use Rattle.std.proofs.lemmas.Slice.Eq.{bytes_eq-Decides}
-use Rattle.sshkey_model.specs.Parts.{Parts, bytes, number, ◌&◌}
-use Rattle.sshkey_model.specs.Reading.{Length, FormatEncoding, UnknownAlgorithm, Cryptographic, TrailingData, string_at, checked_at, ◌>>=◌}
+use Rattle.sshkey_model.specs.Parts.{bytes, ◌&◌}
+use Rattle.sshkey_model.specs.Reading.{Length, FormatEncoding, UnknownAlgorithm, Cryptographic, TrailingData, string_at, checked_at}
 use Rattle.sshkey_model.specs.Grammar.{IsSpelled, spelled}
 use Rattle.sshkey_model.specs.Texts.{string, IsText}
 use Rattle.sshkey_model.specs.Names.{Curve, Nistp256, Hash, Algorithm, IsAlgorithm, algorithm, curve}
 use Rattle.sshkey_model.specs.Mpints.{IsMpint}
-use Rattle.sshkey_model.specs.Points.{field_size, is_point, IsPoint, curve_eq, point_from}
-use Rattle.sshkey_model.specs.Keys.{Head, headed, HasHead, head_of, unhashed}
-use Rattle.sshkey_model.specs.KeyPairs.{Sign, Usual, Without, With, is_high, signed_if, scalar_bytes, scalar, IsScalar, HasScalarPlaces, RsaPrivate, SecurityPrivate, KeyPair, DsaPair, EcdsaPair, Ed25519Pair, RsaPair, SkEcdsaPair, SkEd25519Pair, OpaquePair, public_half, pair_algorithm, rsa_private, security_private, pair, IsRsaPrivate, IsPairBody, IsEcdsaPair, HasPairPlaces, IsPairUnder, KeyPairChoices, plain_pair, IsKeyPair, HasKeyPairPlaces, keypair, unsigned_scalar, signed_scalar, behind_sign, scalar_from, scalar_at, dsa_pair_at, of_curve, any_ecdsa_pair_at, wanted_curve, ecdsa_pair_at, private_before, ed25519_pair_at, rsa_private_at, rsa_pair_at, security_private_at, sk_ecdsa_pair_at, sk_ed25519_pair_at, opaque_pair_at, pair_at, keypair_at}
+use Rattle.sshkey_model.specs.Points.{field_size, IsPoint, curve_eq, point_from}
+use Rattle.sshkey_model.specs.Keys.{Head, headed, head_of}
+use Rattle.sshkey_model.specs.KeyPairs.{Sign, Usual, Without, With, is_high, signed_if, scalar_bytes, scalar, IsScalar, HasScalarPlaces, RsaPrivate, SecurityPrivate, KeyPair, DsaPair, EcdsaPair, Ed25519Pair, RsaPair, SkEcdsaPair, SkEd25519Pair, OpaquePair, public_half, pair_algorithm, rsa_private, security_private, pair, IsRsaPrivate, IsEcdsaPair, HasPairPlaces, IsPairUnder, KeyPairChoices, plain_pair, IsKeyPair, HasKeyPairPlaces, keypair, unsigned_scalar, signed_scalar, behind_sign, scalar_from, scalar_at, dsa_pair_at, of_curve, any_ecdsa_pair_at, wanted_curve, ecdsa_pair_at, private_before, ed25519_pair_at, rsa_private_at, rsa_pair_at, security_private_at, sk_ecdsa_pair_at, sk_ed25519_pair_at, opaque_pair_at, pair_at, keypair_at}
 use Rattle.sshkey_model.proofs.CombinedReaders.{bind_assoc, done, ok_is, chosen, met, ReadsFront, Checks, Any, HasLength, wide8, number_reads, string_reads, whole_reads, bytes_reads, box_reads, then_reads, checked_reads, checked_string_reads, to_form, kept, same_front}
 use Rattle.sshkey_model.proofs.NameReaders.{curve_reads, algorithm_reads}
 use Rattle.sshkey_model.proofs.TextReaders.{text_reads}
@@ -91,9 +91,9 @@ usual k s e = ap (λ (z : Sign). (k, z)) (sym e)
 dsa_pair_reads : ReadsFront (IsSpelledUnder Algorithm.Dsa) (spelled pair) dsa_pair_at
 unfolding dsa_pair_at
 dsa_pair_reads = same_front (checked_reads (to_form
-      (λ a. (DsaPair (record { p = a.0; q = a.1.0; g = a.1.1.0; y = a.1.1.1.0 }) a.1.1.1.1, Usual))
-      (λ a h. (record { is = (refl, ((h.0, h.1.0, h.1.1.0, h.1.1.1.0), h.1.1.1.1)); place = refl }, refl))
-      (λ x h. back x.0 x.1 h.is h.place))
+    (λ a. (DsaPair (record { p = a.0; q = a.1.0; g = a.1.1.0; y = a.1.1.1.0 }) a.1.1.1.1, Usual))
+    (λ a h. (record { is = (refl, ((h.0, h.1.0, h.1.1.0, h.1.1.1.0), h.1.1.1.1)); place = refl }, refl))
+    (λ x h. back x.0 x.1 h.is h.place))
     (then_reads mpint_reads (λ _. then_reads mpint_reads (λ _. then_reads mpint_reads (λ _. then_reads mpint_reads (λ _. mpint_reads)))))) (λ b. simp bind_assoc)
   where
     back : (k : KeyPair) (s : Sign) → IsPairUnder Algorithm.Dsa k → HasPairPlaces k s → (a : List ℕ × (List ℕ × (List ℕ × (List ℕ × List ℕ)))) × (IsMpint a.0 × (IsMpint a.1.0 × (IsMpint a.1.1.0 × (IsMpint a.1.1.1.0 × IsMpint a.1.1.1.1)))) × (◌≡◌ {A = KeyPair × Sign} (DsaPair (record { p = a.0; q = a.1.0; g = a.1.1.0; y = a.1.1.1.0 }) a.1.1.1.1, Usual) (k, s)) × (string a.0 & string a.1.0 & string a.1.1.0 & string a.1.1.1.0 & string a.1.1.1.1 ≡ pair k s)
@@ -108,9 +108,9 @@ of_curve_reads stated = checked_reads (kept (λ x. curve_eq x.0 stated) UnknownA
 pub any_ecdsa_pair_reads : ReadsFront (IsSpelled IsEcdsaPair HasPairPlaces) (spelled pair) any_ecdsa_pair_at
 unfolding any_ecdsa_pair_at
 any_ecdsa_pair_reads = same_front (checked_reads (to_form
-      (λ a. (EcdsaPair a.1.0.0 a.1.0.1 a.1.1.0, a.1.1.1))
-      (λ a h. (record { is = (h.1.0.0, h.1.1.is); place = h.1.1.place }, ap (λ (c : Curve). curve c & string a.1.0.1 & scalar a.1.1.0 a.1.1.1) (sym (same_curve _ _ h.1.0.1))))
-      (λ x h. back x.0 x.1 h.is h.place))
+    (λ a. (EcdsaPair a.1.0.0 a.1.0.1 a.1.1.0, a.1.1.1))
+    (λ a h. (record { is = (h.1.0.0, h.1.1.is); place = h.1.1.place }, ap (λ (c : Curve). curve c & string a.1.0.1 & scalar a.1.1.0 a.1.1.1) (sym (same_curve _ _ h.1.0.1))))
+    (λ x h. back x.0 x.1 h.is h.place))
     (then_reads curve_reads (λ stated. then_reads (of_curve_reads stated) (λ on. scalar_reads (field_size on.0))))) (λ b. simp bind_assoc)
   where
     Read : Type 0
@@ -168,9 +168,9 @@ private_before_checks public = record { takes = there; again = back }
 ed25519_pair_reads : ReadsFront (IsSpelledUnder Algorithm.Ed25519) (spelled pair) ed25519_pair_at
 unfolding ed25519_pair_at
 ed25519_pair_reads = same_front (checked_reads (to_form
-      (λ a. (Ed25519Pair a.0 a.1, Usual))
-      (λ a h. (record { is = (refl, (h.0, h.1.0)); place = refl }, refl))
-      (λ x h. back x.0 x.1 h.is h.place))
+    (λ a. (Ed25519Pair a.0 a.1, Usual))
+    (λ a h. (record { is = (refl, (h.0, h.1.0)); place = refl }, refl))
+    (λ x h. back x.0 x.1 h.is h.place))
     (then_reads ed25519_string_reads (λ public. checked_reads (private_before_checks public) (box_reads (whole_reads (bytes_reads 64)))))) (λ b. simp bind_assoc)
   where
     back : (k : KeyPair) (s : Sign) → IsPairUnder Algorithm.Ed25519 k → HasPairPlaces k s → (a : List ℕ × List ℕ) × (HasLength 32 a.0 × (HasLength 32 a.1 × HasLength 32 a.0)) × (◌≡◌ {A = KeyPair × Sign} (Ed25519Pair a.0 a.1, Usual) (k, s)) × (string a.0 & string (a.1 ++ a.0) ≡ pair k s)
@@ -182,17 +182,17 @@ ed25519_pair_reads = same_front (checked_reads (to_form
 pub rsa_private_reads : ReadsFront IsRsaPrivate rsa_private rsa_private_at
 unfolding rsa_private_at
 rsa_private_reads = same_front (checked_reads (to_form
-      (λ a. record { d = a.0; iqmp = a.1.0; p = a.1.1.0; q = a.1.1.1 })
-      (λ a h. ((h.0, h.1.0, h.1.1.0, h.1.1.1), refl))
-      (λ r h. ((r.d, (r.iqmp, (r.p, r.q))), (h.0, (h.1, (h.2, h.3))), refl, refl)))
+    (λ a. record { d = a.0; iqmp = a.1.0; p = a.1.1.0; q = a.1.1.1 })
+    (λ a h. ((h.0, h.1.0, h.1.1.0, h.1.1.1), refl))
+    (λ r h. ((r.d, (r.iqmp, (r.p, r.q))), (h.0, (h.1, (h.2, h.3))), refl, refl)))
     (then_reads mpint_reads (λ _. then_reads mpint_reads (λ _. then_reads mpint_reads (λ _. mpint_reads))))) (λ b. simp bind_assoc)
 
 rsa_pair_reads : (hash : Option Hash) → ReadsFront (IsSpelledUnder (Algorithm.Rsa hash)) (spelled pair) rsa_pair_at
 unfolding rsa_pair_at
 rsa_pair_reads hash = same_front (checked_reads (to_form
-      (λ a. (RsaPair (record { e = a.1.0; n = a.0 }) a.1.1, Usual))
-      (λ a h. (record { is = (refl, ((h.1.0, h.0), h.1.1)); place = refl }, refl))
-      (λ x h. back x.0 x.1 h.is h.place))
+    (λ a. (RsaPair (record { e = a.1.0; n = a.0 }) a.1.1, Usual))
+    (λ a h. (record { is = (refl, ((h.1.0, h.0), h.1.1)); place = refl }, refl))
+    (λ x h. back x.0 x.1 h.is h.place))
     (then_reads mpint_reads (λ _. then_reads mpint_reads (λ _. rsa_private_reads)))) (λ b. simp bind_assoc)
   where
     back : (k : KeyPair) (s : Sign) → IsPairUnder (Algorithm.Rsa hash) k → HasPairPlaces k s → (a : List ℕ × (List ℕ × RsaPrivate)) × (IsMpint a.0 × (IsMpint a.1.0 × IsRsaPrivate a.1.1)) × (◌≡◌ {A = KeyPair × Sign} (RsaPair (record { e = a.1.0; n = a.0 }) a.1.1, Usual) (k, s)) × (string a.0 & string a.1.0 & rsa_private a.1.1 ≡ pair k s)
@@ -204,17 +204,17 @@ rsa_pair_reads hash = same_front (checked_reads (to_form
 security_private_reads : ReadsFront Any security_private security_private_at
 unfolding security_private_at
 security_private_reads = same_front (checked_reads (to_form
-      (λ a. record { flags = a.0; handle = a.1.0; reserved = a.1.1 })
-      (λ a h. (tt, refl))
-      (λ r h. ((r.flags, (r.handle, r.reserved)), (tt, (tt, tt)), refl, refl)))
+    (λ a. record { flags = a.0; handle = a.1.0; reserved = a.1.1 })
+    (λ a h. (tt, refl))
+    (λ r h. ((r.flags, (r.handle, r.reserved)), (tt, (tt, tt)), refl, refl)))
     (then_reads (number_reads w8 wide8) (λ _. then_reads string_reads (λ _. string_reads)))) (λ b. simp bind_assoc)
 
 sk_ecdsa_pair_reads : ReadsFront (IsSpelledUnder Algorithm.SkEcdsa) (spelled pair) sk_ecdsa_pair_at
 unfolding sk_ecdsa_pair_at
 sk_ecdsa_pair_reads = same_front (checked_reads (to_form
-      (λ a. (SkEcdsaPair (record { key = a.1.0; application = a.1.1.0 }) a.1.1.1, Usual))
-      (λ a h. (record { is = (refl, ((h.1.0, h.1.1.0), tt)); place = refl }, refl))
-      (λ x h. back x.0 x.1 h.is h.place))
+    (λ a. (SkEcdsaPair (record { key = a.1.0; application = a.1.1.0 }) a.1.1.1, Usual))
+    (λ a h. (record { is = (refl, ((h.1.0, h.1.1.0), tt)); place = refl }, refl))
+    (λ x h. back x.0 x.1 h.is h.place))
     (then_reads (checked_reads p256_checks curve_reads) (λ _. then_reads (checked_string_reads p256_point_checks) (λ _. then_reads text_reads (λ _. security_private_reads))))) (λ b. simp bind_assoc)
   where
     back : (k : KeyPair) (s : Sign) → IsPairUnder Algorithm.SkEcdsa k → HasPairPlaces k s → (a : Curve × (List ℕ × (List ℕ × SecurityPrivate))) × ((a.0 ≡ Nistp256) × (IsPoint Nistp256 a.1.0 × (IsText a.1.1.0 × Any a.1.1.1))) × (◌≡◌ {A = KeyPair × Sign} (SkEcdsaPair (record { key = a.1.0; application = a.1.1.0 }) a.1.1.1, Usual) (k, s)) × (curve Nistp256 & string a.1.0 & string a.1.1.0 & security_private a.1.1.1 ≡ pair k s)
@@ -224,9 +224,9 @@ sk_ecdsa_pair_reads = same_front (checked_reads (to_form
 sk_ed25519_pair_reads : ReadsFront (IsSpelledUnder Algorithm.SkEd25519) (spelled pair) sk_ed25519_pair_at
 unfolding sk_ed25519_pair_at
 sk_ed25519_pair_reads = same_front (checked_reads (to_form
-      (λ a. (SkEd25519Pair (record { key = a.0; application = a.1.0 }) a.1.1, Usual))
-      (λ a h. (record { is = (refl, ((h.0, h.1.0), tt)); place = refl }, refl))
-      (λ x h. back x.0 x.1 h.is h.place))
+    (λ a. (SkEd25519Pair (record { key = a.0; application = a.1.0 }) a.1.1, Usual))
+    (λ a h. (record { is = (refl, ((h.0, h.1.0), tt)); place = refl }, refl))
+    (λ x h. back x.0 x.1 h.is h.place))
     (then_reads ed25519_string_reads (λ _. then_reads text_reads (λ _. security_private_reads)))) (λ b. simp bind_assoc)
   where
     back : (k : KeyPair) (s : Sign) → IsPairUnder Algorithm.SkEd25519 k → HasPairPlaces k s → (a : List ℕ × (List ℕ × SecurityPrivate)) × (HasLength 32 a.0 × (IsText a.1.0 × Any a.1.1)) × (◌≡◌ {A = KeyPair × Sign} (SkEd25519Pair (record { key = a.0; application = a.1.0 }) a.1.1, Usual) (k, s)) × (string a.0 & string a.1.0 & security_private a.1.1 ≡ pair k s)
@@ -238,9 +238,9 @@ sk_ed25519_pair_reads = same_front (checked_reads (to_form
 opaque_pair_reads : (name : List ℕ) → ReadsFront (IsSpelledUnder (Algorithm.Other name)) (spelled pair) (opaque_pair_at name)
 unfolding opaque_pair_at
 opaque_pair_reads name = same_front (checked_reads (to_form
-      (λ a. (OpaquePair name a.0 a.1, Usual))
-      (λ a h. (record { is = (refl, (tt, tt)); place = refl }, refl))
-      (λ x h. back x.0 x.1 h.is h.place))
+    (λ a. (OpaquePair name a.0 a.1, Usual))
+    (λ a h. (record { is = (refl, (tt, tt)); place = refl }, refl))
+    (λ x h. back x.0 x.1 h.is h.place))
     (then_reads string_reads (λ _. string_reads))) (λ b. simp bind_assoc)
   where
     back : (k : KeyPair) (s : Sign) → IsPairUnder (Algorithm.Other name) k → HasPairPlaces k s → (a : List ℕ × List ℕ) × (Any a.0 × Any a.1) × (◌≡◌ {A = KeyPair × Sign} (OpaquePair name a.0 a.1, Usual) (k, s)) × (string a.0 & string a.1 ≡ pair k s)

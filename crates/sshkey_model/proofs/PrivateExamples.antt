@@ -2,14 +2,14 @@
 use Rattle.std.proofs.Common.{◌≡◌, ℕ, List, [], ◌∷◌, ◌++◌, Result, Ok, refl, sym, ap, ◌∙◌, arith}
 use Rattle.sshkey_model.specs.Parts.{flat, Fits, InRange, BoxesFit}
 use Rattle.sshkey_model.specs.Reading.{Fault, ◌>>=◌, end_of, number_at, bytes_at, string_at, box_at, literal_at, whole}
-use Rattle.sshkey_model.specs.Grammar.{IsSpelled, spelled}
+use Rattle.sshkey_model.specs.Grammar.{IsSpelled}
 use Rattle.sshkey_model.specs.Texts.{text_at}
 use Rattle.sshkey_model.specs.Names.{named, algorithm_at, curve_at}
 use Rattle.sshkey_model.specs.Mpints.{mpint_at}
 use Rattle.sshkey_model.specs.Keys.{ed25519_at, key_at}
 use Rattle.sshkey_model.specs.KeyDerivation.{cipher_at, kdf_algorithm_at, bcrypt_options_at, kdf_at}
 use Rattle.sshkey_model.specs.KeyPairs.{KeyPairChoices, plain_pair, scalar_at, any_ecdsa_pair_at, ecdsa_pair_at, ed25519_pair_at, rsa_private_at, rsa_pair_at, keypair_at}
-use Rattle.sshkey_model.specs.PrivateKeys.{UnencryptedKey, end_padding, IsPrivateKey, HasPrivateKeyPlaces, private_key, plain_private_key, normal_private_key, private_part_at, padded_from, encrypted_at, private_key_at, decoded_private_key_at}
+use Rattle.sshkey_model.specs.PrivateKeys.{UnencryptedKey, end_padding, IsPrivateKey, HasPrivateKeyPlaces, plain_private_key, normal_private_key, private_part_at, padded_from, encrypted_at, private_key_at, decoded_private_key_at}
 use Rattle.sshkey_model.specs.PrivateExamples.{CipherTable, UnknownCipher, PaddingLengths, KdfHeaders, KdfOptions, FirstBits, WrittenScalars, ReadScalars, RefusedScalars, Ed25519Pairs, RsaPairs, EcdsaPairs, Checkints, example_pair, example_key, example_bytes, WrittenKey, ReadKey, RefusedParts, RefusedPaddings, PaddingEdges, EncryptedKeys, RefusedEncryptedKeys, Tags}
 use Rattle.sshkey_model.proofs.OptionReaders.{no_text}
 use Rattle.sshkey_model.proofs.TextReaders.{text_reads}

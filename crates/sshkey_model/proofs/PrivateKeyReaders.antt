@@ -1,18 +1,18 @@
 -- Private keys are read as they are spelled.
-use Rattle.std.proofs.Common.{◌≡◌, ℕ, ◌%◌, ◌&&◌, eqb, Bool, true, false, cond, List, [], ◌∷◌, ◌++◌, length, Ok, Err, bytes_eq, refl, sym, ap, subst, ◌∙◌, append-nil}
+use Rattle.std.proofs.Common.{◌≡◌, ℕ, ◌%◌, ◌&&◌, eqb, true, cond, List, [], ◌∷◌, ◌++◌, length, Ok, Err, bytes_eq, refl, sym, ap, subst, ◌∙◌, append-nil}
 use Rattle.std.specs.Int.{w32}
 use Rattle.std.proofs.lemmas.Bool.{eqb-true, eq-eqb, and_parts, and_from}
 use Rattle.std.proofs.lemmas.Slice.Eq.{bytes_eq-Decides}
 use Rattle.sshkey_model.specs.Parts.{Parts, bytes, number, box, ◌&◌, flat, Fits}
-use Rattle.sshkey_model.specs.Reading.{Fault, Length, Cryptographic, OtherPublicKey, TrailingKeyData, end_of, whole, ◌>>=◌}
+use Rattle.sshkey_model.specs.Reading.{Fault, Length, Cryptographic, OtherPublicKey, TrailingKeyData, end_of, whole}
 use Rattle.sshkey_model.specs.Grammar.{IsSpelled, spelled}
-use Rattle.sshkey_model.specs.Texts.{string, IsText}
+use Rattle.sshkey_model.specs.Texts.{string}
 use Rattle.sshkey_model.specs.Points.{curve_eq}
 use Rattle.sshkey_model.specs.Keys.{Key, Dsa, Ecdsa, Ed25519, Rsa, SkEcdsa, SkEd25519, Opaque, DsaKey, IsKey, key, key_algorithm, Head, HasHead, HasKeyPlaces}
 use Rattle.sshkey_model.specs.KeyDerivation.{Cipher, NoCipher, block_size, tag_size, cipher, Kdf, NoKdf, Bcrypt, kdf}
-use Rattle.sshkey_model.specs.KeyPairs.{KeyPair, public_half, KeyPairChoices, plain_pair, IsKeyPair, HasKeyPairPlaces, keypair}
-use Rattle.sshkey_model.specs.PrivateKeys.{UnencryptedKey, EncryptedKey, PrivateKey, Unencrypted, Encrypted, key_cipher, key_kdf, public_key, padded, private_key_magic, private_part, content, PrivateKeyChoices, plain_private_key, private_key, IsUnencryptedKey, IsEncryptedKey, IsPrivateKey, HasContentPlaces, HasPrivateKeyPlaces, dsa_eq, key_eq, same_checkint, of_key, private_part_at, unencrypted_at, blocks_from, encrypted_at, content_at, one_key, private_key_at, may_precede, decoded_private_key_at, IsDecoder}
-use Rattle.sshkey_model.proofs.CombinedReaders.{bind_assoc, bind_ok, done, ok_is, met, ReadsFront, ReadsWhole, Checks, Any, HasLength, wide32, number_reads, string_reads, bytes_reads, box_reads, whole_reads, then_reads, checked_reads, checked_string_reads, to_form, kept, literal_reads, same_front}
+use Rattle.sshkey_model.specs.KeyPairs.{KeyPair, public_half, KeyPairChoices, plain_pair, HasKeyPairPlaces}
+use Rattle.sshkey_model.specs.PrivateKeys.{UnencryptedKey, PrivateKey, Unencrypted, Encrypted, key_cipher, key_kdf, public_key, padded, private_key_magic, private_part, content, PrivateKeyChoices, plain_private_key, private_key, IsUnencryptedKey, IsPrivateKey, HasContentPlaces, HasPrivateKeyPlaces, dsa_eq, key_eq, private_part_at, unencrypted_at, blocks_from, encrypted_at, content_at, private_key_at, may_precede, decoded_private_key_at, IsDecoder}
+use Rattle.sshkey_model.proofs.CombinedReaders.{bind_assoc, bind_ok, ok_is, met, ReadsFront, ReadsWhole, Checks, Any, HasLength, wide32, number_reads, bytes_reads, box_reads, whole_reads, then_reads, checked_reads, checked_string_reads, to_form, kept, literal_reads, same_front}
 use Rattle.sshkey_model.proofs.TextReaders.{text_reads}
 use Rattle.sshkey_model.proofs.PointReaders.{same_curve, curve_itself}
 use Rattle.sshkey_model.proofs.KeyReaders.{key_reads}
@@ -78,9 +78,9 @@ IsPartOf public x = IsUnencryptedKey x.0 × HasKeyPairPlaces x.0.pair x.1 × (pu
 private_part_reads : (public : Key) → ReadsFront (IsPartOf public) (spelled private_part) (private_part_at public)
 unfolding private_part_at
 private_part_reads public = same_front (checked_reads (to_form
-      (λ a. (record { checkint = a.0; pair = a.1.1.0.0; comment = a.1.1.1 }, a.1.1.0.1))
-      (λ a h. ((record { pair = h.1.1.0.0.is; comment = h.1.1.1 }, h.1.1.0.0.place, same_key _ public h.1.1.0.1), refl))
-      (λ x h. ((x.0.checkint, (x.0.checkint, ((x.0.pair, x.1), x.0.comment))), (tt, (refl, ((record { is = h.0.pair; place = h.1 }, mine x.0.pair h.2), h.0.comment))), refl, refl)))
+    (λ a. (record { checkint = a.0; pair = a.1.1.0.0; comment = a.1.1.1 }, a.1.1.0.1))
+    (λ a h. ((record { pair = h.1.1.0.0.is; comment = h.1.1.1 }, h.1.1.0.0.place, same_key _ public h.1.1.0.1), refl))
+    (λ x h. ((x.0.checkint, (x.0.checkint, ((x.0.pair, x.1), x.0.comment))), (tt, (refl, ((record { is = h.0.pair; place = h.1 }, mine x.0.pair h.2), h.0.comment))), refl, refl)))
     (then_reads (number_reads w32 wide32) (λ n. then_reads (checked_reads (equal_checks n Cryptographic) (number_reads w32 wide32)) (λ _. then_reads (checked_reads (kept (λ x. key_eq (public_half x.0) public) OtherPublicKey) keypair_reads) (λ _. text_reads))))) (λ b. simp bind_assoc)
   where
     mine : (k : KeyPair) → public_half k ≡ public → key_eq (public_half k) public ≡ true
@@ -119,16 +119,19 @@ blocks_checks c = record {
 encrypted_reads : (c : Cipher) (k : Kdf) (public : Key) → (c ≡ NoCipher → ⊥) → ReadsFront (IsContentOf c k public) (spelled content) (encrypted_at c k public)
 unfolding encrypted_at
 encrypted_reads c k public some = same_front (checked_reads (to_form
-      (λ a. (Encrypted (record { cipher = c; kdf = k; public = public; ciphertext = a.0; tag = a.1 }), plain_pair))
-      (λ a h. (((some, h.0, h.1), refl, refl, refl, refl), refl))
-      (λ x h. back x.0 x.1 h))
+    (λ a. (Encrypted (record { cipher = c; kdf = k; public = public; ciphertext = a.0; tag = a.1 }), plain_pair))
+    (λ a h. (((some, h.0, h.1), refl, refl, refl, refl), refl))
+    (λ x h. back x.0 x.1 h))
     (then_reads (checked_string_reads (blocks_checks c)) (λ _. bytes_reads (tag_size c)))) (λ b. simp bind_assoc)
   where
     back : (x : PrivateKey) (s : KeyPairChoices) → IsContentOf c k public (x, s) → (a : List ℕ × List ℕ) × ((length a.0 % block_size c ≡ 0) × HasLength (tag_size c) a.1) × (◌≡◌ {A = Content} (Encrypted (record { cipher = c; kdf = k; public = public; ciphertext = a.0; tag = a.1 }), plain_pair) (x, s)) × (string a.0 & bytes a.1 ≡ content x s)
     back (Unencrypted q) s h = absurd (some (sym h.2))
-    back (Encrypted q) s h =
-        ((q.ciphertext, q.tag), (subst (λ (z : Cipher). length q.ciphertext % block_size z ≡ 0) h.2 h.0.1, subst (λ (z : Cipher). length q.tag ≡ tag_size z) h.2 h.0.2),
-        (λ i. (Encrypted (record { cipher = sym h.2 i; kdf = sym h.3 i; public = sym h.4 i; ciphertext = q.ciphertext; tag = q.tag }), sym h.1 i)), refl)
+    back (Encrypted q) s h = (
+      (q.ciphertext, q.tag),
+      (subst (λ (z : Cipher). length q.ciphertext % block_size z ≡ 0) h.2 h.0.1, subst (λ (z : Cipher). length q.tag ≡ tag_size z) h.2 h.0.2),
+      (λ i. (Encrypted (record { cipher = sym h.2 i; kdf = sym h.3 i; public = sym h.4 i; ciphertext = q.ciphertext; tag = q.tag }), sym h.1 i)),
+      refl,
+    )
 
 -- no private key has the cipher none and a key derivation
 refused_reads : (o : _) (public : Key) → ReadsFront (IsContentOf NoCipher (Bcrypt o) public) (spelled content) (content_at NoCipher (Bcrypt o) public)
@@ -172,17 +175,22 @@ private_takes : (a : Read) → IsRead a → IsSpelled IsPrivateKey HasPrivateKey
 private_takes a h =
     let head = h.1.1.1.1.0 in
     let x = h.1.1.1.1.1 in
-    let public : a.1.1.1.1.0.0 ≡ public_key a.1.1.1.1.1.0 = sym x.4 in
-    (record {
-      is = is_private a.1.1.1.1.1.0 (subst IsKey public head.is) x.0;
-      place = (subst (λ (z : Key). HasHead (key_algorithm z) a.1.1.1.1.0.1) public head.place, x.1);
-    }, λ i. bytes (h.0 i) & cipher (sym x.2 i) & kdf (sym x.3 i) & number w32 1 & box (key (public i) a.1.1.1.1.0.1) & spelled content a.1.1.1.1.1)
+    let public : a.1.1.1.1.0.0 ≡ public_key a.1.1.1.1.1.0 = sym x.4 in (
+      record {
+        is = is_private a.1.1.1.1.1.0 (subst IsKey public head.is) x.0;
+        place = (subst (λ (z : Key). HasHead (key_algorithm z) a.1.1.1.1.0.1) public head.place, x.1);
+      },
+      λ i. bytes (h.0 i) & cipher (sym x.2 i) & kdf (sym x.3 i) & number w32 1 & box (key (public i) a.1.1.1.1.0.1) & spelled content a.1.1.1.1.1,
+    )
 
 private_again : (x : Chosen) → IsSpelled IsPrivateKey HasPrivateKeyPlaces x → (a : Read) × IsRead a × (of_read a ≡ x) × (read_parts a ≡ spelled private_key x)
 private_again x h =
-    let c = is_content x.0 h.is in
-    ((private_key_magic, (key_cipher x.0, (key_kdf x.0, (1, ((public_key x.0, x.1.outer), (x.0, x.1.pair)))))),
-    (refl, (tt, (tt, (refl, (record { is = c.0; place = h.place.0 }, (c.1, h.place.1, refl, refl, refl)))))), refl, refl)
+    let c = is_content x.0 h.is in (
+      (private_key_magic, (key_cipher x.0, (key_kdf x.0, (1, ((public_key x.0, x.1.outer), (x.0, x.1.pair)))))),
+      (refl, (tt, (tt, (refl, (record { is = c.0; place = h.place.0 }, (c.1, h.place.1, refl, refl, refl)))))),
+      refl,
+      refl,
+    )
 
 pub private_key_reads : ReadsFront (IsSpelled IsPrivateKey HasPrivateKeyPlaces) (spelled private_key) private_key_at
 unfolding private_key_at

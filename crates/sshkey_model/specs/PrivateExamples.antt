@@ -1,11 +1,11 @@
 -- Worked examples of key derivations, key pairs and private keys.
-use Rattle.std.specs.Prelude.{◌≡◌, ℕ, List, [], ◌∷◌, ◌++◌, length, map, replicate, Bool, true, false, Some, None, Ok, Err, codes}
+use Rattle.std.specs.Prelude.{◌≡◌, ℕ, List, [], ◌∷◌, ◌++◌, length, map, replicate, true, false, Some, None, Ok, Err, codes}
 use Rattle.sshkey_model.specs.Parts.{flat}
 use Rattle.sshkey_model.specs.Reading.{Length, Label, FormatEncoding, UnknownAlgorithm, Cryptographic, OtherPublicKey, TrailingData, TrailingKeyData, whole}
 use Rattle.sshkey_model.specs.Names.{Nistp256, Nistp384, Algorithm}
-use Rattle.sshkey_model.specs.Keys.{Ed25519, Plain, Head512, Head}
-use Rattle.sshkey_model.specs.KeyDerivation.{Cipher, NoCipher, Aes256Ctr, cipher_name, ciphers, block_size, tag_size, padding_length, cipher_at, Kdf, NoKdf, Bcrypt, kdf, kdf_at}
-use Rattle.sshkey_model.specs.KeyPairs.{Sign, Usual, Without, With, is_high, scalar, scalar_at, KeyPair, DsaPair, EcdsaPair, Ed25519Pair, RsaPair, SkEcdsaPair, SkEd25519Pair, OpaquePair, KeyPairChoices, plain_pair, pair_at, keypair, keypair_at, normal_keypair, derived_checkint, written_checkint}
+use Rattle.sshkey_model.specs.Keys.{Ed25519, Head512}
+use Rattle.sshkey_model.specs.KeyDerivation.{Cipher, Aes256Ctr, cipher_name, ciphers, block_size, tag_size, padding_length, cipher_at, Kdf, NoKdf, Bcrypt, kdf, kdf_at}
+use Rattle.sshkey_model.specs.KeyPairs.{Usual, Without, With, is_high, scalar, scalar_at, KeyPair, DsaPair, EcdsaPair, Ed25519Pair, RsaPair, SkEcdsaPair, SkEd25519Pair, OpaquePair, pair_at, keypair_at, normal_keypair, derived_checkint, written_checkint}
 use Rattle.sshkey_model.specs.PrivateKeys.{PrivateKey, Encrypted, new_private_key, plain_private_key, normal_private_key, padding, end_padding, padded_from, private_part_at, decoded_private_key_at}
 
 -- ---- ciphers and key derivation

@@ -1,5 +1,5 @@
 //! What SSH names, keys, signatures and certificates are, as mathematics.
 #![tactic(auto)]
 
-pub mod laws;
 pub mod examples;
+pub mod laws;
