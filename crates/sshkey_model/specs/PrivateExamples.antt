@@ -3,9 +3,9 @@ use Rattle.std.specs.Prelude.{◌≡◌, ℕ, List, [], ◌∷◌, ◌++◌, len
 use Rattle.sshkey_model.specs.Parts.{flat}
 use Rattle.sshkey_model.specs.Reading.{Length, Label, FormatEncoding, UnknownAlgorithm, Cryptographic, OtherPublicKey, TrailingData, TrailingKeyData, whole}
 use Rattle.sshkey_model.specs.Names.{Nistp256, Nistp384, Algorithm}
-use Rattle.sshkey_model.specs.Keys.{Ed25519, Head512}
+use Rattle.sshkey_model.specs.Keys.{Ed25519, SecurityKey, Head512}
 use Rattle.sshkey_model.specs.KeyDerivation.{Cipher, Aes256Ctr, cipher_name, ciphers, block_size, tag_size, padding_length, cipher_at, Kdf, NoKdf, Bcrypt, kdf, kdf_at}
-use Rattle.sshkey_model.specs.KeyPairs.{Usual, Without, With, is_high, scalar, scalar_at, KeyPair, DsaPair, EcdsaPair, Ed25519Pair, RsaPair, SkEcdsaPair, SkEd25519Pair, OpaquePair, pair_at, keypair_at, normal_keypair, derived_checkint, written_checkint}
+use Rattle.sshkey_model.specs.KeyPairs.{SecurityPrivate, pair, Usual, Without, With, is_high, scalar, scalar_at, KeyPair, DsaPair, EcdsaPair, Ed25519Pair, RsaPair, SkEcdsaPair, SkEd25519Pair, OpaquePair, pair_at, keypair_at, normal_keypair, derived_checkint, written_checkint}
 use Rattle.sshkey_model.specs.PrivateKeys.{PrivateKey, Encrypted, new_private_key, plain_private_key, normal_private_key, padding, end_padding, padded_from, private_part_at, decoded_private_key_at}
 
 -- ---- ciphers and key derivation
@@ -122,6 +122,25 @@ EcdsaPairs = (pair_at (Algorithm.Ecdsa Nistp384) (p384_bytes (replicate 48 1)) �
     × (pair_at (Algorithm.Ecdsa Nistp256) (p384_bytes (replicate 47 1)) ≡ Err Length)
     × (pair_at (Algorithm.Ecdsa Nistp256) (short_string 8 (codes "nistp256") ++ short_string 49 (2 ∷ replicate 48 1)) ≡ Err UnknownAlgorithm)
 
+abbrev pub small_dsa_pair : KeyPair
+small_dsa_pair = DsaPair (record { p = 1 ∷ []; q = 2 ∷ []; g = 3 ∷ []; y = 4 ∷ [] }) (5 ∷ [])
+
+abbrev pub small_security_key : List ℕ → SecurityKey
+small_security_key key = record { key = key; application = codes "ssh:" }
+
+abbrev pub small_security_private : SecurityPrivate
+small_security_private = record { flags = 1; handle = 7 ∷ 8 ∷ []; reserved = 9 ∷ [] }
+
+abbrev pub small_security_bytes : List ℕ
+small_security_bytes = short_string 4 (codes "ssh:") ++ 1 ∷ [] ++ short_string 2 (7 ∷ 8 ∷ []) ++ short_string 1 (9 ∷ [])
+
+-- the order of the parts of each kind
+abbrev pub WrittenPairs : Type 0
+WrittenPairs = (flat (pair small_dsa_pair Usual) ≡ short_string 1 (1 ∷ []) ++ short_string 1 (2 ∷ []) ++ short_string 1 (3 ∷ []) ++ short_string 1 (4 ∷ []) ++ short_string 1 (5 ∷ []))
+    × (flat (pair (SkEcdsaPair (small_security_key (2 ∷ replicate 32 6)) small_security_private) Usual) ≡ short_string 8 (codes "nistp256") ++ short_string 33 (2 ∷ replicate 32 6) ++ small_security_bytes)
+    × (flat (pair (SkEd25519Pair (small_security_key example_public) small_security_private) Usual) ≡ short_string 32 example_public ++ small_security_bytes)
+    × (flat (pair (OpaquePair (codes "name@example.com") (1 ∷ []) (2 ∷ 3 ∷ [])) Usual) ≡ short_string 1 (1 ∷ []) ++ short_string 2 (2 ∷ 3 ∷ []))
+
 -- ---- checkints
 
 -- whole words of the private bytes; what is left of fewer than four bytes is left out
@@ -168,10 +187,18 @@ RefusedParts = (padded_from (private_part_at (Ed25519 example_public)) (part_byt
     × (padded_from (private_part_at (Ed25519 (replicate 32 0))) (part_bytes one one (1 ∷ 2 ∷ 3 ∷ 4 ∷ 5 ∷ [])) ≡ Err OtherPublicKey)
     × (padded_from (private_part_at (Ed25519 example_public)) (part_bytes one one (1 ∷ 2 ∷ 3 ∷ 4 ∷ [])) ≡ Err Length)
 
--- a wrong last byte of the padding, and a block of it too much
+-- another magic, two keys, no key, and too few bytes
+abbrev pub RefusedFronts : Type 0
+RefusedFronts = (decoded_private_key_at (codes "openssh-key-v2" ++ 0 ∷ []) ≡ Err FormatEncoding)
+    × (decoded_private_key_at (codes "openssh-key-v1" ++ 0 ∷ [] ++ short_string 4 (codes "none") ++ no_kdf_bytes 0 ++ 0 ∷ 0 ∷ 0 ∷ 2 ∷ []) ≡ Err Length)
+    × (decoded_private_key_at (codes "openssh-key-v1" ++ 0 ∷ [] ++ short_string 4 (codes "none") ++ no_kdf_bytes 0 ++ 0 ∷ 0 ∷ 0 ∷ 0 ∷ []) ≡ Err Length)
+    × (decoded_private_key_at (codes "openssh-key-v1") ≡ Err Length)
+
+-- a wrong last byte of the padding, a block of it too much, and a whole block where none is wanted
 abbrev pub RefusedPaddings : Type 0
 RefusedPaddings = (padded_from (private_part_at (Ed25519 example_public)) (part_bytes one one (1 ∷ 2 ∷ 3 ∷ 4 ∷ 6 ∷ [])) ≡ Err FormatEncoding)
     × (padded_from (private_part_at (Ed25519 example_public)) (part_bytes one one (1 ∷ 2 ∷ 3 ∷ 4 ∷ 5 ∷ 6 ∷ 7 ∷ 8 ∷ 9 ∷ 10 ∷ 11 ∷ 12 ∷ 13 ∷ [])) ≡ Err Length)
+    × (padded_from (private_part_at (Ed25519 example_public)) (one ++ one ++ short_string 11 (codes "ssh-ed25519") ++ pair_bytes example_public ++ short_string 5 (replicate 5 0x78) ++ 1 ∷ 2 ∷ 3 ∷ 4 ∷ 5 ∷ 6 ∷ 7 ∷ 8 ∷ []) ≡ Err Length)
 
 -- with a comment of 5 bytes no padding, with one of 6 bytes seven
 abbrev pub commented_key : ℕ → PrivateKey

@@ -1,6 +1,6 @@
 //! Worked examples of key derivations, key pairs and private keys.
 
-ghost use Rattle.sshkey_model.specs.PrivateExamples.{CipherTable, UnknownCipher, PaddingLengths, KdfHeaders, KdfOptions, FirstBits, WrittenScalars, ReadScalars, RefusedScalars, Ed25519Pairs, RsaPairs, EcdsaPairs, Checkints, WrittenKey, ReadKey, RefusedParts, RefusedPaddings, PaddingEdges, EncryptedKeys, RefusedEncryptedKeys, Tags};
+ghost use Rattle.sshkey_model.specs.PrivateExamples.{CipherTable, UnknownCipher, PaddingLengths, KdfHeaders, KdfOptions, FirstBits, WrittenScalars, ReadScalars, RefusedScalars, Ed25519Pairs, RsaPairs, EcdsaPairs, Checkints, RefusedFronts, WrittenPairs, WrittenKey, ReadKey, RefusedParts, RefusedPaddings, PaddingEdges, EncryptedKeys, RefusedEncryptedKeys, Tags};
 
 /// The name, block and tag of each cipher.
 pub fn cipher_table()
@@ -62,6 +62,11 @@ pub fn ecdsa_pairs()
     ensures { EcdsaPairs }
 {}
 
+/// The order of the parts of a pair, for the kinds that no other example shows.
+pub fn written_pairs()
+    ensures { WrittenPairs }
+{}
+
 /// The checkint of each kind of pair.
 pub fn checkints()
     ensures { Checkints }
@@ -77,12 +82,17 @@ pub fn read_key()
     ensures { ReadKey }
 {}
 
+/// Another magic, another number of keys, and too few bytes.
+pub fn refused_fronts()
+    ensures { RefusedFronts }
+{}
+
 /// A checkint that is not repeated, a foreign public key, and a part that is no multiple of 8.
 pub fn refused_parts()
     ensures { RefusedParts }
 {}
 
-/// A wrong byte of padding, and a block too much.
+/// A wrong byte of padding, a block too much, and a whole block where none is wanted.
 pub fn refused_paddings()
     ensures { RefusedPaddings }
 {}
