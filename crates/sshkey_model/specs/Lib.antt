@@ -21,3 +21,7 @@ pub mod Lines
 pub mod LineCuts
 pub mod Laws
 pub mod PrivateExamples
+pub mod HexText
+pub mod Computed
+pub mod NameExamples
+pub mod NumberExamples

@@ -1,0 +1,55 @@
+//! Examples of names.
+#![tactic(auto, unfolding(
+    crate::specs::Reading::string_at,
+    crate::specs::Reading::number_at,
+    crate::specs::Reading::bytes_at,
+    crate::specs::Names::named,
+    crate::specs::Names::cut,
+    crate::specs::Names::is_own_name,
+    crate::specs::Names::is_other_name,
+    crate::specs::Names::algorithm_at,
+    crate::specs::Names::curve_at,
+    crate::specs::CertificateNames::certificate_algorithm_at
+))]
+
+ghost use Rattle.sshkey_model.specs.NameExamples.{CurveNames, HashNames, AlgorithmNames, CertificateNames, OwnNames, NameReading, OwnCertificateNames, TakenCertificateName};
+
+/// The three curves have the names of RFC 5656, section 10.1; any other name is refused.
+pub fn curve_names()
+    ensures { CurveNames }
+{}
+
+/// The two hashes have the names of PROTOCOL.sshsig; any other name is refused.
+pub fn hash_names()
+    ensures { HashNames }
+{}
+
+/// Each algorithm is written and read by its fixed name.
+pub fn algorithm_names()
+    ensures { AlgorithmNames }
+{}
+
+/// Each algorithm is written and read by its fixed name in certificates; RSA has one there, with a hash and without.
+pub fn certificate_names()
+    ensures { CertificateNames }
+{}
+
+/// Names of somebody's own (RFC 4251, section 6): 64 bytes and 65, ASCII and not, no at sign, one and two.
+pub fn own_names()
+    ensures { OwnNames }
+{}
+
+/// Names as they are read from strings.
+pub fn name_reading()
+    ensures { NameReading }
+{}
+
+/// Names of somebody's own in certificates: 73 bytes and 74, with the suffix and without.
+pub fn own_certificate_names()
+    ensures { OwnCertificateNames }
+{}
+
+/// The certificate name of a fixed algorithm is not that of somebody's own.
+pub fn taken_certificate_name()
+    ensures { TakenCertificateName }
+{}
