@@ -25,3 +25,4 @@ pub mod HexText
 pub mod Computed
 pub mod NameExamples
 pub mod NumberExamples
+pub mod KeyExamples

@@ -3,5 +3,6 @@
 pub mod private;
 //! Worked examples of the definitions: values from the standards, and both sides of each edge.
 
+pub mod keys;
 pub mod names;
 pub mod numbers;
