@@ -26,3 +26,5 @@ pub mod Computed
 pub mod NameExamples
 pub mod NumberExamples
 pub mod KeyExamples
+pub mod SignatureExamples
+pub mod DispatchExamples

@@ -2,7 +2,60 @@
 
 pub mod private;
 //! Worked examples of the definitions: values from the standards, and both sides of each edge.
+#![tactic(auto, unfolding(
+    crate::specs::Computed::is_utf8,
+    crate::specs::Computed::chars,
+    crate::specs::Computed::encode_utf8,
+    crate::specs::Computed::sha256,
+    crate::specs::Computed::digest_bytes,
+    crate::specs::Computed::hash_after,
+    crate::specs::Computed::compress,
+    crate::specs::Computed::rounds,
+    crate::specs::Computed::schedule,
+    crate::specs::Computed::first_words,
+    crate::specs::Parts::flat,
+    crate::specs::Reading::string_at,
+    crate::specs::Reading::number_at,
+    crate::specs::Reading::bytes_at,
+    crate::specs::Reading::box_at,
+    crate::specs::Reading::literal_at,
+    crate::specs::Reading::list_within,
+    crate::specs::Reading::IsChain,
+    crate::specs::Texts::text_at,
+    crate::specs::Texts::texts_at,
+    crate::specs::Names::named,
+    crate::specs::Names::cut,
+    crate::specs::Names::is_own_name,
+    crate::specs::Names::is_other_name,
+    crate::specs::Names::algorithm_at,
+    crate::specs::Names::curve_at,
+    crate::specs::CertificateNames::certificate_algorithm_at,
+    crate::specs::Mpints::mpint_at,
+    crate::specs::Keys::dsa_at,
+    crate::specs::Keys::ecdsa_at,
+    crate::specs::Keys::ed25519_at,
+    crate::specs::Keys::rsa_at,
+    crate::specs::Keys::sk_ecdsa_at,
+    crate::specs::Keys::sk_ed25519_at,
+    crate::specs::Keys::key_at,
+    crate::specs::Signatures::component_at,
+    crate::specs::Signatures::ecdsa_blob_from,
+    crate::specs::Signatures::signature_at,
+    crate::specs::Options::HasOptionPlaces,
+    crate::specs::Options::option_value_from,
+    crate::specs::Options::option_at,
+    crate::specs::Options::options_at,
+    crate::specs::Certificates::type_at,
+    crate::specs::Certificates::time_at,
+    crate::specs::Certificates::unsigned_at,
+    crate::specs::Certificates::certificate_at,
+    crate::specs::SshSignatures::version_at,
+    crate::specs::SshSignatures::namespace_at,
+    crate::specs::SshSignatures::ssh_signature_at
+))]
 
+pub mod dispatch;
 pub mod keys;
 pub mod names;
 pub mod numbers;
+pub mod signatures;

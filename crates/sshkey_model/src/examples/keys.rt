@@ -1,29 +1,4 @@
 //! Examples of public keys.
-#![tactic(auto, unfolding(
-    crate::specs::Computed::is_utf8,
-    crate::specs::Computed::chars,
-    crate::specs::Computed::encode_utf8,
-    crate::specs::Parts::flat,
-    crate::specs::Reading::string_at,
-    crate::specs::Reading::number_at,
-    crate::specs::Reading::bytes_at,
-    crate::specs::Reading::box_at,
-    crate::specs::Texts::text_at,
-    crate::specs::Names::named,
-    crate::specs::Names::cut,
-    crate::specs::Names::is_own_name,
-    crate::specs::Names::is_other_name,
-    crate::specs::Names::algorithm_at,
-    crate::specs::Names::curve_at,
-    crate::specs::Mpints::mpint_at,
-    crate::specs::Keys::dsa_at,
-    crate::specs::Keys::ecdsa_at,
-    crate::specs::Keys::ed25519_at,
-    crate::specs::Keys::rsa_at,
-    crate::specs::Keys::sk_ecdsa_at,
-    crate::specs::Keys::sk_ed25519_at,
-    crate::specs::Keys::key_at
-))]
 
 ghost use Rattle.sshkey_model.specs.KeyExamples.{Ed25519Keys, Ed25519Sizes, RsaNames, MpintKeys, EcdsaKeys, SecurityKeysEcdsa, SecurityKeysEd25519, OpaqueKeys};
 

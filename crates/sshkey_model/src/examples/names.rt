@@ -1,16 +1,4 @@
 //! Examples of names.
-#![tactic(auto, unfolding(
-    crate::specs::Reading::string_at,
-    crate::specs::Reading::number_at,
-    crate::specs::Reading::bytes_at,
-    crate::specs::Names::named,
-    crate::specs::Names::cut,
-    crate::specs::Names::is_own_name,
-    crate::specs::Names::is_other_name,
-    crate::specs::Names::algorithm_at,
-    crate::specs::Names::curve_at,
-    crate::specs::CertificateNames::certificate_algorithm_at
-))]
 
 ghost use Rattle.sshkey_model.specs.NameExamples.{CurveNames, HashNames, AlgorithmNames, CertificateNames, OwnNames, NameReading, OwnCertificateNames, TakenCertificateName};
 

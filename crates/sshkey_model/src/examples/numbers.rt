@@ -1,10 +1,4 @@
 //! Examples of mpints and points.
-#![tactic(auto, unfolding(
-    crate::specs::Reading::string_at,
-    crate::specs::Reading::number_at,
-    crate::specs::Reading::bytes_at,
-    crate::specs::Mpints::mpint_at
-))]
 
 ghost use Rattle.sshkey_model.specs.NumberExamples.{MpintForms, MpintReading, PositiveParts, Points, PointReading, LongPoints};
 
