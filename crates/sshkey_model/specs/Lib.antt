@@ -28,3 +28,7 @@ pub mod NumberExamples
 pub mod KeyExamples
 pub mod SignatureExamples
 pub mod DispatchExamples
+pub mod OptionExamples
+pub mod CertificateExamples
+pub mod ValidityExamples
+pub mod SshSignatureExamples

@@ -29,6 +29,7 @@ pub mod private;
     crate::specs::Names::is_other_name,
     crate::specs::Names::algorithm_at,
     crate::specs::Names::curve_at,
+    crate::specs::Names::hash_at,
     crate::specs::CertificateNames::certificate_algorithm_at,
     crate::specs::Mpints::mpint_at,
     crate::specs::Keys::dsa_at,
@@ -54,8 +55,10 @@ pub mod private;
     crate::specs::SshSignatures::ssh_signature_at
 ))]
 
+pub mod certificates;
 pub mod dispatch;
 pub mod keys;
 pub mod names;
 pub mod numbers;
 pub mod signatures;
+pub mod ssh_signatures;

@@ -1,0 +1,23 @@
+//! Examples of SSH signatures.
+
+ghost use Rattle.sshkey_model.specs.SshSignatureExamples.{SignedData, Versions, SshSignatureFaults, SignerNames};
+
+/// The 64 bytes that a signature in the namespace `file` over the empty message is over (PROTOCOL.sshsig).
+pub fn signed_data()
+    ensures { SignedData }
+{}
+
+/// Versions 0 and 1 are kept, and 2 is refused.
+pub fn versions()
+    ensures { Versions }
+{}
+
+/// Each fault of an SSH signature, field by field.
+pub fn ssh_signature_faults()
+    ensures { SshSignatureFaults }
+{}
+
+/// A signer under a name with a hash, and the normal form.
+pub fn signer_names()
+    ensures { SignerNames }
+{}
