@@ -17,6 +17,9 @@ pub enum Error {
     /// The algorithm is unknown.
     #[error("unknown algorithm")]
     AlgorithmUnknown,
+    /// A point of an elliptic curve is not encoded as one.
+    #[error("ECDSA encoding error")]
+    Ecdsa,
     /// The bytes do not keep the wire encoding.
     #[error("{0}")]
     Encoding(encoding::Error),
