@@ -1,3 +1,4 @@
+pub mod HexDigits
 pub mod NestedSources
 pub mod Steps
 pub mod Boxes

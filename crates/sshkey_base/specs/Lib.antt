@@ -9,3 +9,5 @@ pub mod Leaves
 pub mod Labels
 pub mod Laws
 pub mod Algorithms
+pub mod Answering
+pub mod Numbers

@@ -1,0 +1,238 @@
+//! Whole numbers of any size.
+
+ghost use Rattle.std.specs.Prelude.{◌≡◌, ◌<◌, IfOk, IfErr, length, option_map, slice_index};
+ghost use Rattle.std.specs.Fmt.{WritesOnOk};
+ghost use Rattle.hex.specs.Hex.{encode_lower, encode_upper};
+ghost use Rattle.sshkey_model.specs.Mpints.{IsMpint, is_mpint, of_positive};
+
+use crate::error::{Error, Result};
+use crate::hexadecimal::{write_lower_hex, write_upper_hex};
+use std::alloc::Global;
+use std::cmp::Ordering;
+use std::convert::AsSlice;
+use std::fmt;
+
+/// A whole number of any size, in two's complement, most significant byte first (RFC 4251,
+/// section 5).
+///
+/// Zero has no byte. Neither the byte 00 alone nor 00 before a byte below 80 hex is one; a needless
+/// leading ff, which the standard forbids too, is accepted and kept.
+#[derive(Debug, Drop)]
+pub struct Mpint {
+    bytes: Vec<u8>,
+    pub ghost form: { IsMpint bytes.items },
+}
+
+impl Mpint {
+    ghost use Rattle.sshkey_model.specs.Mpints.{mpint_from, positive_part};
+    ghost use Rattle.sshkey_base.specs.Answering.{Answers, AnswersAlways};
+    ghost use Rattle.sshkey_base.specs.Causes.{cause};
+    ghost use Rattle.sshkey_base.specs.Numbers.{mpint_of};
+    ghost use Rattle.sshkey_base.specs.declared.error.Error.TheVariants as wide;
+
+    /// The number that has these bytes, in two's complement.
+    ///
+    /// `FormatEncoding` for the byte 00 alone and for 00 before a byte below 80 hex, and otherwise
+    /// only `Memory`.
+    pub fn from_bytes(alloc: Global, bytes: &[u8]) -> Result<Mpint>
+        ensures { Answers mpint_of cause (mpint_from bytes.now) result }
+    {
+        if !is_mpint(bytes) {
+            return Err(Error::FormatEncoding);
+        }
+        Ok(Mpint {
+            bytes: Vec::from_slice(alloc, bytes)?,
+        })
+    }
+
+    /// The same of a vector, which is kept. Takes no memory.
+    pub fn from_vec(bytes: Vec<u8>) -> Result<Mpint>
+        ensures { AnswersAlways mpint_of cause (mpint_from bytes.items) result }
+    {
+        if !is_mpint(&bytes) {
+            return Err(Error::FormatEncoding);
+        }
+        Ok(Mpint { bytes })
+    }
+
+    /// The number that is not negative and has these bytes, most significant first.
+    ///
+    /// Leading bytes 00 are left out, and one 00 is put before a first byte of 80 hex or more.
+    /// Refuses only with `Memory`.
+    pub fn from_positive_bytes(alloc: Global, bytes: &[u8]) -> Result<Mpint>
+        ensures value { IfOk result (λ m. mpint_of m ≡ of_positive bytes.now) }
+        ensures refused { IfErr result (λ e. e ≡ wide.Memory) }
+    {
+        let digits = without_leading_zeros(bytes);
+        let mut bytes = Vec::with_capacity(alloc, digits.len() + 1)?;
+        if digits.first().is_some_and(|first| *first >= 0x80) {
+            bytes.push(0)?;
+        }
+        bytes.extend_from_slice(digits)?;
+        Ok(Mpint { bytes })
+    }
+
+    /// The bytes, in two's complement.
+    pub fn as_bytes(&self) -> &[u8]
+        ensures { result.now ≡ mpint_of self.now }
+    {
+        &self.bytes
+    }
+
+    /// The bytes of a positive number without the 00 that may stand first; none for zero and for a
+    /// negative number.
+    pub fn as_positive_bytes(&self) -> Option<&[u8]>
+        ensures { option_map (λ bytes. bytes.now) result ≡ positive_part (mpint_of self.now) }
+    {
+        let bytes = self.as_bytes();
+        match bytes {
+            [0, rest @ ..] => Some(rest),
+            [first, ..] if *first < 0x80 => Some(bytes),
+            _ => None,
+        }
+    }
+
+    /// The same number in memory of its own. Refuses only with `Memory`.
+    pub fn try_clone(&self, alloc: Global) -> Result<Mpint>
+        ensures value { IfOk result (λ m. mpint_of m ≡ mpint_of self.now) }
+        ensures refused { IfErr result (λ e. e ≡ wide.Memory) }
+    {
+        Ok(Mpint {
+            bytes: Vec::from_slice(alloc, &self.bytes)?,
+        })
+    }
+}
+
+/// Whether the bytes are those of a number.
+fn is_mpint(bytes: &[u8]) -> bool
+    ensures { result ≡ is_mpint bytes.now }
+{
+    match bytes {
+        [0] => false,
+        [0, second, ..] => *second >= 0x80,
+        _ => true,
+    }
+}
+
+/// The bytes from the first on that is not 00.
+fn without_leading_zeros(bytes: &[u8]) -> &[u8]
+    ensures same { of_positive result.now ≡ of_positive bytes.now }
+    ensures first { 0 < length result.now → 0 < slice_index result.now 0 }
+{
+    let mut rest = bytes;
+    while let [0, behind @ ..] = rest {
+        rest = behind;
+    }
+    rest
+}
+
+impl PartialEq for Mpint {
+    ghost use Rattle.std.specs.Prelude.{◌≡◌, ◌↔◌, IsTrue};
+    ghost use Rattle.std.specs.Cmp.Rules.{comparing};
+    ghost use Rattle.std.proofs.Common.{rules};
+    ghost use Rattle.std.specs.Ordering.{on};
+    ghost use Rattle.std.specs.Str.{bytes_eq};
+    ghost use Rattle.sshkey_base.specs.Numbers.{mpint_of};
+
+    ghost eq = { on mpint_of bytes_eq };
+
+    ghost laws = { Prim.search (comparing, rules) };
+
+    /// Whether the bytes are equal.
+    fn eq(&self, other: &Mpint) -> bool
+        ensures value { result ≡ on mpint_of bytes_eq self.now other.now }
+        ensures exact { IsTrue result ↔ (mpint_of self.now ≡ mpint_of other.now) }
+    {
+        self.bytes == other.bytes
+    }
+}
+
+impl Eq for Mpint {
+    ghost use Rattle.std.specs.Cmp.Rules.{comparing};
+    ghost use Rattle.std.proofs.Common.{rules};
+
+    ghost laws = { Prim.search (comparing, rules) };
+}
+
+impl Ord for Mpint {
+    ghost use Rattle.std.specs.Cmp.Lexicographic.{slice_cmp};
+    ghost use Rattle.std.specs.Cmp.Rules.{comparing};
+    ghost use Rattle.std.proofs.Common.{rules};
+    ghost use Rattle.std.specs.Ordering.{nat_cmp, on};
+    ghost use Rattle.sshkey_base.specs.Numbers.{mpint_of};
+
+    ghost cmp = { on mpint_of (slice_cmp nat_cmp) };
+
+    ghost total = { Prim.search (comparing, rules) };
+
+    ghost matches_partial_cmp = { Prim.search (comparing, rules) };
+
+    ghost matches_eq = { Prim.search (comparing, rules) };
+
+    /// The order of the bytes, from the first on; a proper beginning comes before the whole.
+    fn cmp(&self, other: &Mpint) -> Ordering {
+        self.bytes.cmp(&other.bytes)
+    }
+}
+
+impl PartialOrd for Mpint {
+    ghost use Rattle.std.specs.Cmp.{partial_order_from_own_ties};
+    ghost use Rattle.std.specs.Cmp.Lexicographic.{slice_cmp};
+    ghost use Rattle.std.specs.Cmp.Rules.{comparing};
+    ghost use Rattle.std.proofs.Common.{rules};
+    ghost use Rattle.std.specs.Ordering.{nat_cmp, on, as_partial_cmp};
+    ghost use Rattle.sshkey_base.specs.Numbers.{mpint_of};
+
+    ghost partial_cmp = { as_partial_cmp (on mpint_of (slice_cmp nat_cmp)) };
+
+    ghost laws = { partial_order_from_own_ties (Prim.search (comparing, rules)) (Prim.search (comparing, rules)) };
+
+    fn partial_cmp(&self, other: &Mpint) -> Option<Ordering> {
+        Some(self.cmp(other))
+    }
+}
+
+impl AsSlice<u8> for Mpint {
+    ghost use Rattle.sshkey_base.specs.Numbers.{mpint_of};
+
+    ghost items = { mpint_of };
+
+    fn as_slice(&self) -> &[u8] {
+        &self.bytes
+    }
+}
+
+/// Two digits a byte, with small letters.
+impl fmt::LowerHex for Mpint {
+    ghost use Rattle.sshkey_base.specs.Numbers.{mpint_of};
+
+    fn fmt<W: fmt::Write>(&self, f: &mut fmt::Formatter<W>) -> fmt::Result
+        ensures { WritesOnOk W.write_str_gives f.old result (encode_lower (mpint_of self.now)) f.new }
+    {
+        write_lower_hex(&self.bytes, f)
+    }
+}
+
+/// Two digits a byte, with capital letters.
+impl fmt::UpperHex for Mpint {
+    ghost use Rattle.sshkey_base.specs.Numbers.{mpint_of};
+
+    fn fmt<W: fmt::Write>(&self, f: &mut fmt::Formatter<W>) -> fmt::Result
+        ensures { WritesOnOk W.write_str_gives f.old result (encode_upper (mpint_of self.now)) f.new }
+    {
+        write_upper_hex(&self.bytes, f)
+    }
+}
+
+/// Two digits a byte, with capital letters.
+impl fmt::Display for Mpint {
+    ghost use Rattle.std.specs.Prelude.{Some};
+    ghost use Rattle.hex.specs.Hex.{encode_upper};
+    ghost use Rattle.sshkey_base.specs.Numbers.{mpint_of};
+
+    ghost output = { λ m. Some (encode_upper (mpint_of m)) };
+
+    fn fmt<W: fmt::Write>(&self, f: &mut fmt::Formatter<W>) -> fmt::Result {
+        write_upper_hex(&self.bytes, f)
+    }
+}
