@@ -1,0 +1,2 @@
+pub mod PointSizes
+pub mod PointWords

@@ -1,0 +1,85 @@
+//! Points of elliptic curves.
+
+ghost use Rattle.std.specs.Prelude.{◌≡◌, ◌≤◌, true, take, option_map};
+ghost use Rattle.sshkey_model.specs.Points.{is_point, field_size};
+ghost use Rattle.sshkey_kinds.specs.PointSizes.{curve_of_longest, is_point_within};
+
+use sshkey_base::{Error, Result};
+
+/// A point of a NIST curve as a point string (SEC 1, section 2.3.3): 02 or 03 and one coordinate,
+/// or 04 and both.
+///
+/// `LEN` is the size of the longest string, 65 for P-256, 97 for P-384 and 133 for P-521; of
+/// another size there are no points. It takes no memory.
+#[derive(Clone, Copy, Debug)]
+pub struct EcPoint<const LEN: usize> {
+    bytes: [u8; LEN],
+    len: usize,
+    pub ghost within: { len ≤ LEN },
+    pub ghost form: { is_point_within LEN (take len bytes) ≡ true },
+}
+
+/// A point of P-256.
+pub type EcdsaNistP256PublicKey = EcPoint<65>;
+
+/// A point of P-384.
+pub type EcdsaNistP384PublicKey = EcPoint<97>;
+
+/// A point of P-521.
+pub type EcdsaNistP521PublicKey = EcPoint<133>;
+
+impl<const LEN: usize> EcPoint<LEN> {
+    ghost use Rattle.std.specs.Prelude.{◌≡◌};
+    ghost use Rattle.sshkey_base.specs.Answering.{AnswersAlways};
+    ghost use Rattle.sshkey_base.specs.Causes.{cause};
+    ghost use Rattle.sshkey_kinds.specs.PointSizes.{point_within};
+    ghost use Rattle.sshkey_kinds.specs.PointWords.{point_of};
+
+    /// The point of these bytes. `Ecdsa` where they are no point string of this size.
+    pub fn from_bytes(bytes: &[u8]) -> Result<EcPoint<LEN>>
+        ensures { AnswersAlways point_of cause (point_within LEN bytes.now) result }
+    {
+        if !is_point_within(LEN, bytes) {
+            return Err(Error::Ecdsa);
+        }
+        let mut point = [0u8; LEN];
+        point[..bytes.len()].copy_from_slice(bytes);
+        Ok(EcPoint {
+            bytes: point,
+            len: bytes.len(),
+        })
+    }
+
+    /// The point string: the tag and one coordinate or two.
+    pub fn as_bytes(&self) -> &[u8]
+        ensures { result.now ≡ point_of self.now }
+    {
+        &self.bytes[..self.len]
+    }
+}
+
+/// The bytes of a coordinate on the curve whose longest point string has so many bytes.
+fn field_size(longest: usize) -> Option<usize>
+    ensures { result ≡ option_map field_size (curve_of_longest longest) }
+{
+    match longest {
+        65 => Some(32),
+        97 => Some(48),
+        133 => Some(66),
+        _ => None,
+    }
+}
+
+/// Whether the bytes are a point string of the curve whose longest one has so many bytes.
+fn is_point_within(longest: usize, bytes: &[u8]) -> bool
+    ensures { result ≡ is_point_within longest bytes.now }
+{
+    let Some(size) = field_size(longest) else {
+        return false;
+    };
+    match bytes {
+        [2 | 3, x @ ..] => x.len() == size,
+        [4, coordinates @ ..] => coordinates.len() % 2 == 0 && coordinates.len() / 2 == size,
+        _ => false,
+    }
+}

@@ -1,0 +1,8 @@
+//! The kinds of public keys, and the points that they are made of.
+#![tactic(auto)]
+
+mod ec_point;
+
+pub use ec_point::{
+    EcPoint, EcdsaNistP256PublicKey, EcdsaNistP384PublicKey, EcdsaNistP521PublicKey,
+};
