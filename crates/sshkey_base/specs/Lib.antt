@@ -11,3 +11,4 @@ pub mod Laws
 pub mod Algorithms
 pub mod Answering
 pub mod Numbers
+pub mod MpintSpelling

@@ -5,8 +5,13 @@ ghost use Rattle.std.specs.Fmt.{WritesOnOk};
 ghost use Rattle.hex.specs.Hex.{encode_lower, encode_upper};
 ghost use Rattle.sshkey_model.specs.Mpints.{IsMpint, is_mpint, of_positive};
 
+use crate::decode::Decode;
+use crate::encode::{Encode, encode_string, string_len};
+use crate::encoding;
 use crate::error::{Error, Result};
 use crate::hexadecimal::{write_lower_hex, write_upper_hex};
+use crate::reader::Reader;
+use crate::writer::Writer;
 use std::alloc::Global;
 use std::cmp::Ordering;
 use std::convert::AsSlice;
@@ -234,5 +239,52 @@ impl fmt::Display for Mpint {
 
     fn fmt<W: fmt::Write>(&self, f: &mut fmt::Formatter<W>) -> fmt::Result {
         write_upper_hex(&self.bytes, f)
+    }
+}
+
+/// A string whose bytes are those of a number (RFC 4251, section 5).
+///
+/// `Length` where the string passes what is left, and `FormatEncoding` where its bytes are those
+/// of no number.
+#[tactic(auto, using(crate::proofs::Steps::steps), unfolding(crate::specs::MpintSpelling::mpint_at))]
+impl Decode for Mpint {
+    ghost use Rattle.std.specs.Prelude.{ℕ, List};
+    ghost use Rattle.sshkey_base.specs.MpintSpelling.{SpellsMpint, mpint_at, mpint_grammar};
+    ghost use Rattle.sshkey_base.specs.Numbers.{mpint_of};
+
+    type Error = Error;
+
+    ghost Meaning = { List ℕ };
+
+    ghost means = { mpint_of };
+
+    ghost parse = { mpint_at };
+
+    ghost Spells = { SpellsMpint };
+
+    ghost grammar = { mpint_grammar };
+
+    fn decode<R: Reader>(alloc: Global, reader: &mut R) -> Result<Mpint> {
+        let bytes = Vec::<u8>::decode(alloc, reader)?;
+        Mpint::from_vec(bytes)
+    }
+}
+
+/// A string of the bytes (RFC 4251, section 5).
+impl Encode for Mpint {
+    ghost use Rattle.std.specs.Prelude.{◌+◌, ◌^◌};
+    ghost use Rattle.sshkey_model.specs.Texts.{string};
+    ghost use Rattle.sshkey_base.specs.Numbers.{mpint_of};
+
+    ghost normal = { λ m. string (mpint_of m) };
+
+    ghost most = { 2 ^ 32 + 4 };
+
+    fn encoded_len(&self) -> encoding::Result<usize> {
+        string_len(&self.bytes)
+    }
+
+    fn encode<W: Writer>(&self, writer: &mut W) -> encoding::Result<()> {
+        encode_string(&self.bytes, writer)
     }
 }
