@@ -1,6 +1,3 @@
-//! Worked examples: each is computed from the definitions.
-
-pub mod private;
 //! Worked examples of the definitions: values from the standards, and both sides of each edge.
 #![tactic(auto, unfolding(
     crate::specs::Computed::is_utf8,
@@ -60,5 +57,6 @@ pub mod dispatch;
 pub mod keys;
 pub mod names;
 pub mod numbers;
+pub mod private;
 pub mod signatures;
 pub mod ssh_signatures;
