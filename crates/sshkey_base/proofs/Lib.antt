@@ -5,3 +5,4 @@ pub mod Boxes
 pub mod Accepted
 pub mod Writing
 pub mod Labels
+pub mod Utf8

@@ -12,3 +12,4 @@ pub mod Algorithms
 pub mod Answering
 pub mod Numbers
 pub mod MpintSpelling
+pub mod Texts

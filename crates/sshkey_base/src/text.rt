@@ -1,0 +1,97 @@
+//! Texts.
+
+ghost use Rattle.std.specs.Prelude.{◌≡◌, ℕ, ◌+◌, ◌^◌, List, string_bytes};
+ghost use Rattle.sshkey_model.specs.Texts.{string, text_from};
+ghost use Rattle.sshkey_base.specs.Answering.{AnswersAlways};
+ghost use Rattle.sshkey_base.specs.Causes.{encoding_cause};
+ghost use Rattle.sshkey_base.specs.Texts.{SpellsText, text_at, text_grammar};
+
+use crate::bytes::Bytes;
+use crate::decode::Decode;
+use crate::encode::{Encode, encode_string, string_len};
+use crate::encoding::{Error, Result};
+use crate::reader::Reader;
+use crate::writer::Writer;
+use std::alloc::Global;
+use std::marker::Model;
+
+/// A text, which contracts see as the list of its bytes in UTF-8.
+#[derive(Debug, Drop)]
+pub struct Text {
+    text: String,
+}
+
+impl Model for Text {
+    ghost Value = { List ℕ };
+
+    ghost view = { λ t. string_bytes t.text };
+}
+
+impl Text {
+    /// The text of the string. Takes no memory.
+    pub fn new(text: String) -> Text
+        ensures { result ≡ string_bytes text }
+    {
+        Text { text }
+    }
+
+    /// The text.
+    pub fn as_str(&self) -> &str
+        ensures { result.now ≡ self.now }
+    {
+        self.text.as_str()
+    }
+
+    /// The string that holds the text. Takes no memory.
+    pub fn into_string(self) -> String
+        ensures { string_bytes result ≡ self }
+    {
+        self.text
+    }
+}
+
+/// A string whose bytes are UTF-8, else `CharacterEncoding` (RFC 4251, section 5).
+#[tactic(auto, using(crate::proofs::Steps::steps), unfolding(crate::specs::Texts::text_at))]
+impl Decode for Text {
+    type Error = Error;
+
+    ghost Meaning = { List ℕ };
+
+    ghost means = { λ t. t };
+
+    ghost parse = { text_at };
+
+    ghost Spells = { SpellsText };
+
+    ghost grammar = { text_grammar };
+
+    fn decode<R: Reader>(alloc: Global, reader: &mut R) -> Result<Text> {
+        let bytes = Bytes::decode(alloc, reader)?;
+        text_of(bytes)
+    }
+}
+
+/// The text of the bytes. `CharacterEncoding` where they are not UTF-8. Takes no memory.
+fn text_of(bytes: Bytes) -> Result<Text>
+    ensures { AnswersAlways (λ t. t) encoding_cause (text_from bytes) result }
+{
+    match String::from_utf8(bytes.into_vec()) {
+        Ok(text) => Ok(Text { text }),
+        Err(_) => Err(Error::CharacterEncoding),
+    }
+}
+
+/// A string.
+impl Encode for Text {
+    ghost normal = { string };
+
+    ghost most = { 2 ^ 32 + 3 };
+
+    fn encoded_len(&self) -> Result<usize> {
+        string_len(self.as_str().as_bytes())
+    }
+
+    fn encode<W: Writer>(&self, writer: &mut W) -> Result<()> {
+        encode_string(self.as_str().as_bytes(), writer)
+    }
+}
