@@ -1,12 +1,15 @@
 -- Worked examples: when a certificate is valid.
-use Rattle.std.specs.Prelude.{◌≡◌, ℕ, List, [], ◌∷◌, replicate, Bool, true, false, Some}
+use Rattle.std.specs.Prelude.{◌≡◌, ℕ, List, [], ◌∷◌, ◌++◌, replicate, Bool, true, false, ◌&&◌, codes, bytes_eq}
+use Rattle.sha2.specs.Sha256.{sha256}
 use Rattle.sshkey_model.specs.HexText.{hex}
-use Rattle.sshkey_model.specs.Names.{Algorithm}
+use Rattle.sshkey_model.specs.Parts.{flat}
+use Rattle.sshkey_model.specs.Names.{Algorithm, algorithm_name}
+use Rattle.sshkey_model.specs.Keys.{Head256, key, normal_key}
 use Rattle.sshkey_model.specs.Certificates.{Certificate}
 use Rattle.sshkey_model.specs.Verification.{Question}
 use Rattle.sshkey_model.specs.Validity.{IsValid}
-use Rattle.sshkey_model.specs.KeyExamples.{ed25519_key}
-use Rattle.sshkey_model.specs.CertificateExamples.{small_certificate}
+use Rattle.sshkey_model.specs.KeyExamples.{ed25519_key, rsa_key, rsa_bytes, rsa_256_bytes}
+use Rattle.sshkey_model.specs.CertificateExamples.{small_certificate, small_bytes, rsa_certificate}
 
 abbrev pub zero_signed : Certificate
 zero_signed = record { unsigned = small_certificate ed25519_key; signature = record { algorithm = Algorithm.Ed25519; blob = replicate 64 0 } }
@@ -28,3 +31,25 @@ abbrev pub Refused : Type 0
 Refused = (IsValid (λ q. true) [] 10 zero_signed → ⊥)
     × (IsValid (λ q. true) (replicate 32 0 ∷ []) 10 zero_signed → ⊥)
     × (IsValid (λ q. false) (right_fingerprint ∷ []) 10 zero_signed → ⊥)
+
+-- the SHA-256 of an RSA key's normal form, and that of its form under a name with a hash
+abbrev pub rsa_fingerprint : List ℕ
+rsa_fingerprint = hex "1ce647e6309d26293ad336d303de6cea44175b6baaec86a4548b7c474d5a7c25"
+
+abbrev pub headed_fingerprint : List ℕ
+headed_fingerprint = hex "1deeb741dfa5b10ae85b20697af4e877c12061f8baf64242ae3581acd9c19c87"
+
+-- says yes to one algorithm's signature 00 over these bytes, and to nothing else
+abbrev pub only : List ℕ → Question → Bool
+only message q = bytes_eq (algorithm_name q.algorithm) (codes "rsa-sha2-256") && bytes_eq q.message message && bytes_eq q.blob (hex "00")
+
+-- The authority's signature is over the normal signed bytes, whatever name stood there.
+abbrev pub AuthoritySignature : Type 0
+AuthoritySignature = IsValid (only (small_bytes ++ hex "00000018" ++ rsa_bytes)) (rsa_fingerprint ∷ []) 10 rsa_certificate
+    × (IsValid (only (small_bytes ++ hex "0000001d" ++ rsa_256_bytes)) (rsa_fingerprint ∷ []) 10 rsa_certificate → ⊥)
+
+-- Its fingerprint is that of its key's normal form, and not of the bytes as they came.
+abbrev pub AuthorityFingerprint : Type 0
+AuthorityFingerprint = IsValid (λ q. true) (rsa_fingerprint ∷ []) 10 rsa_certificate
+    × (sha256 (flat (normal_key rsa_key)) ≡ rsa_fingerprint)
+    × (sha256 (flat (key rsa_key Head256)) ≡ headed_fingerprint)

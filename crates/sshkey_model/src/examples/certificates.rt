@@ -2,7 +2,7 @@
 
 ghost use Rattle.sshkey_model.specs.OptionExamples.{NameOrder, EmptyValues, TextValues, RisingNames};
 ghost use Rattle.sshkey_model.specs.CertificateExamples.{Times, CertificateTypes, OpensshCertificate, OtherFields, CertificateFaults, SignedBytes, SignatureKeyNames};
-ghost use Rattle.sshkey_model.specs.ValidityExamples.{Window, Refused};
+ghost use Rattle.sshkey_model.specs.ValidityExamples.{Window, Refused, AuthoritySignature, AuthorityFingerprint};
 
 /// The order of option names: by bytes, and a beginning first.
 pub fn name_order()
@@ -67,4 +67,14 @@ pub fn window()
 /// A certificate is valid for none but its authority's fingerprint, and if the verifier says yes.
 pub fn refused()
     ensures { Refused }
+{}
+
+/// An authority with an RSA key under a name with a hash signs the normal signed bytes.
+pub fn authority_signature()
+    ensures { AuthoritySignature }
+{}
+
+/// The fingerprint of an authority is that of its key's normal form.
+pub fn authority_fingerprint()
+    ensures { AuthorityFingerprint }
 {}
