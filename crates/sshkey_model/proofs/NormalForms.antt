@@ -4,7 +4,7 @@ use Rattle.sshkey_model.specs.Parts.{Parts, flat, Fits}
 use Rattle.sshkey_model.specs.Reading.{Front}
 use Rattle.sshkey_model.specs.Grammar.{IsSpelled, spelled}
 use Rattle.sshkey_model.specs.Options.{CertificateOption, HasOptionPlaces, plain_nestings}
-use Rattle.sshkey_model.specs.Certificates.{Unsigned, HasUnsignedPlaces, plain_certificate, to_be_signed}
+use Rattle.sshkey_model.specs.Certificates.{Unsigned, CertificateChoices, HasUnsignedPlaces, plain_certificate}
 use Rattle.sshkey_model.specs.Laws.{DetermineValues, ReadBack, ReadBackPlain, DetermineFields}
 use Rattle.sshkey_model.proofs.CombinedReaders.{ReadsFront, injective}
 use Rattle.sshkey_model.proofs.CertificateReaders.{unsigned_reads}
@@ -35,4 +35,6 @@ pub plain_certificate_has : (c : Unsigned) → HasUnsignedPlaces c (plain_certif
 plain_certificate_has c = record { critical_options = plain_options_have c.critical_options; extensions = plain_options_have c.extensions; signature_key = tt }
 
 pub determine_fields : DetermineFields
-determine_fields c d c-is d-is c-fits d-fits e = (determined_plain to_be_signed unsigned_reads plain_certificate (λ c _. plain_certificate_has c) c d c-is d-is c-fits d-fits).0 e
+determine_fields c d s u c-is s-has c-fits d-is u-has d-fits e =
+    let both : (c, s) ≡ (d, u) = injective unsigned_reads (c, s) (d, u) (record { is = c-is; place = s-has }) c-fits (record { is = d-is; place = u-has }) d-fits e in
+    (ap (λ (x : Unsigned × CertificateChoices). x.0) both, ap (λ (x : Unsigned × CertificateChoices). x.1) both)

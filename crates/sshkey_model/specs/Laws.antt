@@ -3,7 +3,7 @@ use Rattle.std.specs.Prelude.{◌≡◌, ◌↔◌, ℕ, List, [], Ok}
 use Rattle.sshkey_model.specs.Parts.{Parts, flat, Fits}
 use Rattle.sshkey_model.specs.Reading.{Front}
 use Rattle.sshkey_model.specs.Names.{Hash}
-use Rattle.sshkey_model.specs.Certificates.{Unsigned, IsUnsigned, CertificateChoices, to_be_signed, normal_to_be_signed}
+use Rattle.sshkey_model.specs.Certificates.{Unsigned, IsUnsigned, HasUnsignedPlaces, CertificateChoices, to_be_signed}
 use Rattle.sshkey_model.specs.SshSignatures.{signed_data}
 
 -- Two values have equal normal forms exactly if they are equal.
@@ -18,9 +18,9 @@ ReadBack {V} Is normal read = (v : V) → Is v → Fits (normal v) → read (fla
 abbrev pub ReadBackPlain : {V S : Type 0} → (V → Type 0) → (V → S → Parts) → (V → S) → Front (V × S) → Type 0
 ReadBackPlain {V} Is spell plain read = (v : V) → Is v → Fits (spell v (plain v)) → read (flat (spell v (plain v))) ≡ Ok ((v, plain v), [])
 
--- Equal normal signed bytes are of certificates that are equal in all that is signed.
+-- Equal signed bytes, in any spelling, are of certificates that are equal in all that is signed, and spelled alike.
 abbrev pub DetermineFields : Type 0
-DetermineFields = (c d : Unsigned) → IsUnsigned c → IsUnsigned d → Fits (normal_to_be_signed c) → Fits (normal_to_be_signed d) → flat (normal_to_be_signed c) ≡ flat (normal_to_be_signed d) → c ≡ d
+DetermineFields = (c d : Unsigned) (s u : CertificateChoices) → IsUnsigned c → HasUnsignedPlaces c s → Fits (to_be_signed c s) → IsUnsigned d → HasUnsignedPlaces d u → Fits (to_be_signed d u) → flat (to_be_signed c s) ≡ flat (to_be_signed d u) → (c ≡ d) × (s ≡ u)
 
 -- No certificate's signed bytes, in any spelling, are what an SSH signature is over.
 abbrev pub AreApart : Type 0

@@ -121,7 +121,7 @@ pub fn read_back_ssh_signature()
     ensures { ReadBackPlain IsSshSignature ssh_signature (λ _. Plain) ssh_signature_at }
 {}
 
-/// The normal signed bytes of a certificate determine every field but the signature.
+/// The signed bytes of a certificate, in any spelling, determine every field but the signature.
 pub fn certificate_fields()
     ensures { DetermineFields }
 {}
