@@ -1,6 +1,7 @@
 //! Laws over the definitions alone: each stands for all values and all bytes, and makes no call.
 
 pub mod private;
+pub mod readers;
 
 ghost use Rattle.sshkey_model.specs.Parts.{IsPrefixFree};
 ghost use Rattle.sshkey_model.specs.Grammar.{IsSpelled, spelled};
