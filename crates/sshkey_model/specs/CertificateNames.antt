@@ -39,6 +39,7 @@ certificate_algorithm a = string (certificate_name a)
 
 -- ---- reading
 
+-- the suffix has 9 bytes
 abbrev pub without_suffix : Option (List ℕ × List ℕ) → Result Algorithm Fault
 without_suffix None = Err Label
 without_suffix (Some p) =

@@ -20,7 +20,6 @@ pub mod Validity
 pub mod Lines
 pub mod LineCuts
 pub mod Laws
-pub mod PrivateExamples
 pub mod HexText
 pub mod Computed
 pub mod NameExamples
@@ -32,3 +31,5 @@ pub mod OptionExamples
 pub mod CertificateExamples
 pub mod ValidityExamples
 pub mod SshSignatureExamples
+pub mod PrivateExamples
+pub mod TextExamples

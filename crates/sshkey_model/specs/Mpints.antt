@@ -12,7 +12,7 @@ is_mpint (suc a ∷ rest) = true
 abbrev pub IsMpint : List ℕ → Type 0
 IsMpint b = is_mpint b ≡ true
 
--- the bytes of a positive number, without the 00 that may stand first
+-- the bytes of a positive number, without the 00 that may stand first; zero and negative numbers have none
 abbrev pub positive_part : List ℕ → Option (List ℕ)
 positive_part [] = None
 positive_part (zero ∷ rest) = Some rest

@@ -126,6 +126,7 @@ OwnCertificateNames = IsCertificateName (Other (codes "name@example.com")) (code
     × (certified_from (codes "name-cert-v01") ≡ Err Label)
     × (certified_from (codes "name-cert-v01@example@com") ≡ Err Label)
     × (certified_from (codes "name-cert-v02@example.com") ≡ Err Label)
+    × (certified_from (codes "rsa-sha2-256-cert-v01@openssh.com") ≡ Ok (Other (codes "rsa-sha2-256@openssh.com")))
     × (certified_from (codes "name@example.com-cert-v01") ≡ Err Label)
     × (certified_from (codes "name" ++ hex "80" ++ codes "-cert-v01@example.com") ≡ Err Label)
     × (certificate_algorithm_at (hex "00000002 ffff") ≡ Err Label)

@@ -31,9 +31,9 @@ options os ns = box (each_option os ns)
 -- by bytes, a beginning first
 abbrev pub is_below : List ℕ → List ℕ → Bool
 is_below [] [] = false
-is_below [] (b ∷ bs) = true
-is_below (a ∷ as_) [] = false
-is_below (a ∷ as_) (b ∷ bs) = if a == b then is_below as_ bs else nat_lt a b
+is_below [] (b ∷ y) = true
+is_below (a ∷ x) [] = false
+is_below (a ∷ x) (b ∷ y) = if a == b then is_below x y else nat_lt a b
 
 abbrev pub is_after : Option CertificateOption → CertificateOption → Bool
 is_after None o = true

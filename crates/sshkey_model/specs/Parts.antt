@@ -3,6 +3,7 @@ use Rattle.std.specs.Prelude.{◌≡◌, ℕ, ◌^◌, ◌<◌, List, [], ◌∷
 use Rattle.std.specs.Int.{Width, w32, to_be_bytes}
 use mir.Val.{bits}
 
+-- A box holds parts: it is what SSH calls a string. `&` joins.
 infixr 5 ◌&◌
 pub data Parts : Type 0 where
   nothing : Parts
@@ -24,7 +25,7 @@ abbrev pub are_bytes : List ℕ → Bool
 are_bytes [] = true
 are_bytes (b ∷ rest) = nat_lt b 256 && are_bytes rest
 
--- Every byte is one, and every number fits its width.
+-- Every byte is one, and every number fits its width. (`Unit {0}` always holds.)
 unfoldable pub InRange : Parts → Type 0
 InRange nothing = Unit {0}
 InRange (bytes b) = are_bytes b ≡ true

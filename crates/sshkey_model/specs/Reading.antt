@@ -14,6 +14,7 @@ pub data Fault : Type 0 where
   -- so many bytes behind an encrypted key
   TrailingKeyData : ℕ → Fault
 
+-- a step, and the next one if it did not fail; a `do` block is made of these
 infixl 10 ◌>>=◌
 abbrev pub ◌>>=◌ : {A B : Type 0} → Result A Fault → (A → Result B Fault) → Result B Fault
 (Ok x) >>= f = f x
@@ -27,6 +28,7 @@ Front A = List ℕ → Result (A × List ℕ) Fault
 abbrev pub Whole : Type 0 → Type 0
 Whole A = List ℕ → Result A Fault
 
+-- nothing may be left
 abbrev pub end_of : {A : Type 0} → A → List ℕ → Result A Fault
 end_of x [] = Ok x
 end_of x (b ∷ rest) = Err (TrailingData (length (b ∷ rest)))
@@ -35,7 +37,7 @@ end_of x (b ∷ rest) = Err (TrailingData (length (b ∷ rest)))
 abbrev pub whole : {A : Type 0} → Front A → Whole A
 whole read b = read b >>= λ x. end_of x.0 x.1
 
--- the next n bytes
+-- the next n bytes; a number above 255 is none
 unfoldable pub bytes_at : ℕ → Front (List ℕ)
 bytes_at n b =
     if nat_lt (length b) n then Err Length

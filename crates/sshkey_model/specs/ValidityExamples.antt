@@ -3,9 +3,10 @@ use Rattle.std.specs.Prelude.{◌≡◌, ℕ, List, [], ◌∷◌, ◌++◌, rep
 use Rattle.sha2.specs.Sha256.{sha256}
 use Rattle.sshkey_model.specs.HexText.{hex}
 use Rattle.sshkey_model.specs.Parts.{flat}
-use Rattle.sshkey_model.specs.Names.{Algorithm, algorithm_name}
-use Rattle.sshkey_model.specs.Keys.{Head256, key, normal_key}
+use Rattle.sshkey_model.specs.Names.{Sha256, Algorithm, algorithm_name}
+use Rattle.sshkey_model.specs.Keys.{Head256, key}
 use Rattle.sshkey_model.specs.Certificates.{Certificate}
+use Rattle.sshkey_model.specs.Fingerprints.{fingerprint}
 use Rattle.sshkey_model.specs.Verification.{Question}
 use Rattle.sshkey_model.specs.Validity.{IsValid}
 use Rattle.sshkey_model.specs.KeyExamples.{ed25519_key, rsa_key, rsa_bytes, rsa_256_bytes}
@@ -51,5 +52,5 @@ AuthoritySignature = IsValid (only (small_bytes ++ hex "00000018" ++ rsa_bytes))
 -- Its fingerprint is that of its key's normal form, and not of the bytes as they came.
 abbrev pub AuthorityFingerprint : Type 0
 AuthorityFingerprint = IsValid (λ q. true) (rsa_fingerprint ∷ []) 10 rsa_certificate
-    × (sha256 (flat (normal_key rsa_key)) ≡ rsa_fingerprint)
+    × (fingerprint Sha256 rsa_key ≡ rsa_fingerprint)
     × (sha256 (flat (key rsa_key Head256)) ≡ headed_fingerprint)

@@ -10,6 +10,7 @@
     crate::specs::Computed::rounds,
     crate::specs::Computed::schedule,
     crate::specs::Computed::first_words,
+    crate::specs::Computed::encode_symbols,
     crate::specs::Parts::flat,
     crate::specs::Reading::string_at,
     crate::specs::Reading::number_at,
@@ -60,3 +61,4 @@ pub mod numbers;
 pub mod private;
 pub mod signatures;
 pub mod ssh_signatures;
+pub mod texts;
