@@ -5,6 +5,7 @@ ghost use Rattle.std.specs.Fmt.{WritesOnOk};
 ghost use Rattle.hex.specs.Hex.{encode_lower, encode_upper};
 ghost use Rattle.sshkey_model.specs.Mpints.{IsMpint, is_mpint, of_positive};
 
+use crate::bytes::Bytes;
 use crate::decode::Decode;
 use crate::encode::{Encode, encode_string, string_len};
 use crate::encoding;
@@ -244,12 +245,14 @@ impl fmt::Display for Mpint {
 
 /// A string whose bytes are those of a number (RFC 4251, section 5).
 ///
-/// `Length` where the string passes what is left, and `FormatEncoding` where its bytes are those
-/// of no number.
+/// `Length` where the string passes what is left, which no memory is asked for, and
+/// `FormatEncoding` where its bytes are those of no number.
 #[tactic(auto, using(crate::proofs::Steps::steps), unfolding(crate::specs::MpintSpelling::mpint_at))]
 impl Decode for Mpint {
     ghost use Rattle.std.specs.Prelude.{ℕ, List};
+    ghost use Rattle.sshkey_base.specs.Causes.{cause};
     ghost use Rattle.sshkey_base.specs.MpintSpelling.{SpellsMpint, mpint_at, mpint_grammar};
+    ghost use Rattle.sshkey_base.specs.Reading.{Gives, LengthPast};
     ghost use Rattle.sshkey_base.specs.Numbers.{mpint_of};
 
     type Error = Error;
@@ -264,9 +267,12 @@ impl Decode for Mpint {
 
     ghost grammar = { mpint_grammar };
 
-    fn decode<R: Reader>(alloc: Global, reader: &mut R) -> Result<Mpint> {
-        let bytes = Vec::<u8>::decode(alloc, reader)?;
-        Mpint::from_vec(bytes)
+    fn decode<R: Reader>(alloc: Global, reader: &mut R) -> Result<Mpint>
+        ensures gives { Gives mpint_of cause mpint_at (R.source reader.old) result (R.source reader.new) }
+        ensures past { LengthPast cause (R.source reader.old) result }
+    {
+        let bytes = Bytes::decode(alloc, reader)?;
+        Mpint::from_vec(bytes.into_vec())
     }
 }
 
