@@ -1,2 +1,3 @@
 pub mod PointSizes
 pub mod PointWords
+pub mod PointHash

@@ -5,6 +5,9 @@ ghost use Rattle.sshkey_model.specs.Points.{is_point, field_size};
 ghost use Rattle.sshkey_kinds.specs.PointSizes.{curve_of_longest, is_point_within};
 
 use sshkey_base::{Error, Result};
+use std::cmp::Ordering;
+use std::convert::AsSlice;
+use std::hash::{Hash, Hasher};
 
 /// A point of a NIST curve as a point string (SEC 1, section 2.3.3): 02 or 03 and one coordinate,
 /// or 04 and both.
@@ -81,5 +84,96 @@ fn is_point_within(longest: usize, bytes: &[u8]) -> bool
         [2 | 3, x @ ..] => x.len() == size,
         [4, coordinates @ ..] => coordinates.len() % 2 == 0 && coordinates.len() / 2 == size,
         _ => false,
+    }
+}
+
+impl<const LEN: usize> PartialEq for EcPoint<LEN> {
+    ghost use Rattle.std.specs.Prelude.{◌≡◌, ◌↔◌, IsTrue};
+    ghost use Rattle.std.specs.Cmp.Rules.{comparing};
+    ghost use Rattle.std.proofs.Common.{rules};
+    ghost use Rattle.std.specs.Ordering.{on};
+    ghost use Rattle.std.specs.Str.{bytes_eq};
+    ghost use Rattle.sshkey_kinds.specs.PointWords.{point_of};
+
+    ghost eq = { on point_of bytes_eq };
+
+    ghost laws = { Prim.search (comparing, rules) };
+
+    /// Whether the bytes are equal.
+    fn eq(&self, other: &EcPoint<LEN>) -> bool
+        ensures value { result ≡ on point_of bytes_eq self.now other.now }
+        ensures exact { IsTrue result ↔ (point_of self.now ≡ point_of other.now) }
+    {
+        self.as_bytes() == other.as_bytes()
+    }
+}
+
+impl<const LEN: usize> Eq for EcPoint<LEN> {
+    ghost use Rattle.std.specs.Cmp.Rules.{comparing};
+    ghost use Rattle.std.proofs.Common.{rules};
+
+    ghost laws = { Prim.search (comparing, rules) };
+}
+
+impl<const LEN: usize> Ord for EcPoint<LEN> {
+    ghost use Rattle.std.specs.Cmp.Lexicographic.{slice_cmp};
+    ghost use Rattle.std.specs.Cmp.Rules.{comparing};
+    ghost use Rattle.std.proofs.Common.{rules};
+    ghost use Rattle.std.specs.Ordering.{nat_cmp, on};
+    ghost use Rattle.sshkey_kinds.specs.PointWords.{point_of};
+
+    ghost cmp = { on point_of (slice_cmp nat_cmp) };
+
+    ghost total = { Prim.search (comparing, rules) };
+
+    ghost matches_partial_cmp = { Prim.search (comparing, rules) };
+
+    ghost matches_eq = { Prim.search (comparing, rules) };
+
+    /// The order of the bytes, from the first on; a proper beginning comes before the whole.
+    fn cmp(&self, other: &EcPoint<LEN>) -> Ordering {
+        self.as_bytes().cmp(&other.as_bytes())
+    }
+}
+
+impl<const LEN: usize> PartialOrd for EcPoint<LEN> {
+    ghost use Rattle.std.specs.Cmp.{partial_order_from_own_ties};
+    ghost use Rattle.std.specs.Cmp.Lexicographic.{slice_cmp};
+    ghost use Rattle.std.specs.Cmp.Rules.{comparing};
+    ghost use Rattle.std.proofs.Common.{rules};
+    ghost use Rattle.std.specs.Ordering.{nat_cmp, on, as_partial_cmp};
+    ghost use Rattle.sshkey_kinds.specs.PointWords.{point_of};
+
+    ghost partial_cmp = { as_partial_cmp (on point_of (slice_cmp nat_cmp)) };
+
+    ghost laws = { partial_order_from_own_ties (Prim.search (comparing, rules)) (Prim.search (comparing, rules)) };
+
+    fn partial_cmp(&self, other: &EcPoint<LEN>) -> Option<Ordering> {
+        Some(self.cmp(other))
+    }
+}
+
+impl<const LEN: usize> Hash for EcPoint<LEN> {
+    ghost use Rattle.std.specs.Hash as fed;
+    ghost use Rattle.sshkey_kinds.specs.PointWords.{point_of};
+    ghost use Rattle.sshkey_kinds.specs.PointHash.{same_hash};
+
+    ghost hash_input = { λ p. fed.slice fed.u8 (point_of p) };
+
+    ghost respects_eq = { same_hash };
+
+    /// Feeds the bytes.
+    fn hash<H: Hasher>(&self, state: &mut H) {
+        self.as_bytes().hash(state);
+    }
+}
+
+impl<const LEN: usize> AsSlice<u8> for EcPoint<LEN> {
+    ghost use Rattle.sshkey_kinds.specs.PointWords.{point_of};
+
+    ghost items = { point_of };
+
+    fn as_slice(&self) -> &[u8] {
+        self.as_bytes()
     }
 }
