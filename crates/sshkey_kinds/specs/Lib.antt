@@ -1,3 +1,4 @@
 pub mod PointSizes
 pub mod PointWords
 pub mod PointHash
+pub mod EcdsaWords

@@ -2,7 +2,9 @@
 #![tactic(auto)]
 
 mod ec_point;
+mod ecdsa;
 
 pub use ec_point::{
     EcPoint, EcdsaNistP256PublicKey, EcdsaNistP384PublicKey, EcdsaNistP521PublicKey,
 };
+pub use ecdsa::EcdsaPublicKey;
