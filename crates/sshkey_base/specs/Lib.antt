@@ -13,3 +13,4 @@ pub mod Answering
 pub mod Numbers
 pub mod MpintSpelling
 pub mod Texts
+pub mod Equality

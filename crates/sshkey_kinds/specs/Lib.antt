@@ -2,3 +2,4 @@ pub mod PointSizes
 pub mod PointWords
 pub mod PointHash
 pub mod EcdsaWords
+pub mod EcdsaEquality

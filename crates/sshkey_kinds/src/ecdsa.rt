@@ -17,7 +17,7 @@ use std::fmt;
 /// An ECDSA public key: a point of one of the NIST curves (RFC 5656, section 3.1).
 ///
 /// Keys are in the order of the curves, and on one curve in that of the points' bytes.
-#[derive(Clone, Copy, Debug, PartialEq, Eq, PartialOrd, Ord, Hash)]
+#[derive(Clone, Copy, Debug, PartialOrd, Ord, Hash)]
 pub enum EcdsaPublicKey {
     /// A point of P-256.
     NistP256(EcdsaNistP256PublicKey),
@@ -86,6 +86,35 @@ fn field_size_of(size: usize) -> Result<usize>
         32 | 48 | 66 => Ok(size),
         _ => Err(Error::Encoding(encoding::Error::Length)),
     }
+}
+
+impl PartialEq for EcdsaPublicKey {
+    ghost use Rattle.std.specs.Prelude.{◌≡◌, ◌↔◌, IsTrue};
+    ghost use Rattle.sshkey_kinds.specs.EcdsaWords.{ecdsa_of, same_key};
+    ghost use Rattle.sshkey_kinds.specs.EcdsaEquality.{same_key_partial_equivalence};
+
+    ghost eq = { same_key };
+
+    ghost laws = { same_key_partial_equivalence };
+
+    /// Whether curves and bytes are equal.
+    fn eq(&self, other: &EcdsaPublicKey) -> bool
+        ensures value { result ≡ same_key self.now other.now }
+        ensures exact { IsTrue result ↔ (ecdsa_of self.now ≡ ecdsa_of other.now) }
+    {
+        match (self, other) {
+            (EcdsaPublicKey::NistP256(point), EcdsaPublicKey::NistP256(other)) => point == other,
+            (EcdsaPublicKey::NistP384(point), EcdsaPublicKey::NistP384(other)) => point == other,
+            (EcdsaPublicKey::NistP521(point), EcdsaPublicKey::NistP521(other)) => point == other,
+            _ => false,
+        }
+    }
+}
+
+impl Eq for EcdsaPublicKey {
+    ghost use Rattle.sshkey_kinds.specs.EcdsaEquality.{same_key_equivalence};
+
+    ghost laws = { same_key_equivalence };
 }
 
 impl AsSlice<u8> for EcdsaPublicKey {
