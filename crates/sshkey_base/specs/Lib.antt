@@ -13,4 +13,5 @@ pub mod Answering
 pub mod Numbers
 pub mod MpintSpelling
 pub mod Texts
+pub mod MpintNormal
 pub mod Equality

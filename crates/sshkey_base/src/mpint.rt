@@ -5,12 +5,16 @@ ghost use Rattle.std.specs.Fmt.{WritesOnOk};
 ghost use Rattle.hex.specs.Hex.{encode_lower, encode_upper};
 ghost use Rattle.sshkey_model.specs.Mpints.{IsMpint, is_mpint, of_positive};
 
+#[cfg(test)]
+mod tests;
+
 use crate::bytes::Bytes;
 use crate::decode::Decode;
 use crate::encode::{Encode, encode_string, string_len};
 use crate::encoding;
 use crate::error::{Error, Result};
 use crate::hexadecimal::{write_lower_hex, write_upper_hex};
+use crate::normal_form::NormalForm;
 use crate::reader::Reader;
 use crate::writer::Writer;
 use std::alloc::Global;
@@ -293,4 +297,13 @@ impl Encode for Mpint {
     fn encode<W: Writer>(&self, writer: &mut W) -> encoding::Result<()> {
         encode_string(&self.bytes, writer)
     }
+}
+
+/// Every number is one that its format has.
+impl NormalForm for Mpint {
+    ghost use Rattle.sshkey_base.specs.MpintNormal.{mpint_normal};
+
+    ghost IsWellFormed = { λ _. Unit {0} };
+
+    ghost normal_spells = { mpint_normal };
 }

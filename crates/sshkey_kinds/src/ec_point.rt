@@ -4,6 +4,9 @@ ghost use Rattle.std.specs.Prelude.{◌≡◌, ◌≤◌, true, take, option_map
 ghost use Rattle.sshkey_model.specs.Points.{is_point, field_size};
 ghost use Rattle.sshkey_kinds.specs.PointSizes.{curve_of_longest, is_point_within};
 
+#[cfg(test)]
+mod tests;
+
 use sshkey_base::{Error, Result};
 use std::cmp::Ordering;
 use std::convert::AsSlice;

@@ -1,0 +1,110 @@
+//! SEC 1 point strings: which curve they tell, and the faults of the others.
+
+use super::*;
+use std::alloc::Global;
+use std::test::Fail;
+
+/// What a point string tells.
+#[derive(Clone, Copy, Debug, PartialEq, Eq)]
+enum Told {
+    P256,
+    P384,
+    P521,
+    Length,
+    AlgorithmUnknown,
+    Ecdsa,
+    Other,
+}
+
+/// What a tag and so many bytes tell.
+fn answer_to(alloc: Global, tag: u8, len: usize) -> std::result::Result<Told, Fail> {
+    let mut bytes = vec![in alloc; 7u8; len]?;
+    bytes.insert(0, tag)?;
+    Ok(match EcdsaPublicKey::from_sec1_bytes(&bytes) {
+        Ok(key) if key.as_sec1_bytes() != bytes.as_slice() => Told::Other,
+        Ok(EcdsaPublicKey::NistP256(_)) => Told::P256,
+        Ok(EcdsaPublicKey::NistP384(_)) => Told::P384,
+        Ok(EcdsaPublicKey::NistP521(_)) => Told::P521,
+        Err(Error::Encoding(encoding::Error::Length)) => Told::Length,
+        Err(Error::AlgorithmUnknown) => Told::AlgorithmUnknown,
+        Err(Error::Ecdsa) => Told::Ecdsa,
+        Err(_) => Told::Other,
+    })
+}
+
+#[test]
+fn tells_the_curve_by_tag_and_size(rt: HostRuntime) -> std::result::Result<(), Fail> {
+    let strings = [
+        (0, 0, Told::AlgorithmUnknown),
+        (5, 32, Told::AlgorithmUnknown),
+        (7, 32, Told::Ecdsa),
+        (1, 32, Told::Ecdsa),
+        (2, 31, Told::Length),
+        (2, 32, Told::P256),
+        (3, 33, Told::Length),
+        (2, 48, Told::P384),
+        (3, 66, Told::P521),
+        (4, 10, Told::Length),
+        (4, 63, Told::Length),
+        (4, 64, Told::P256),
+        (4, 65, Told::Ecdsa),
+        (4, 96, Told::P384),
+        (4, 97, Told::Ecdsa),
+        (4, 132, Told::P521),
+        (4, 133, Told::Ecdsa),
+        (4, 134, Told::Length),
+    ];
+    for (tag, len, answer) in strings {
+        assert_eq!(rt; answer_to(rt.alloc(), tag, len)?, answer, "{tag} and {len} bytes");
+    }
+    let empty = EcdsaPublicKey::from_sec1_bytes(b"");
+    assert!(rt; matches!(empty, Err(Error::Encoding(encoding::Error::Length))));
+    Ok(())
+}
+
+/// The base point of P-256, compressed (SEC 2, section 2.4.2).
+const BASE_POINT: [u8; 33] = [
+    0x03, 0x6b, 0x17, 0xd1, 0xf2, 0xe1, 0x2c, 0x42, 0x47, 0xf8, 0xbc, 0xe6, 0xe5, 0x63, 0xa4, 0x40,
+    0xf2, 0x77, 0x03, 0x7d, 0x81, 0x2d, 0xeb, 0x33, 0xa0, 0xf4, 0xa1, 0x39, 0x45, 0xd8, 0x98, 0xc2,
+    0x96,
+];
+
+/// A key between its two hexadecimal forms.
+#[derive(Drop)]
+struct Forms<'a>(&'a EcdsaPublicKey);
+
+impl fmt::Display for Forms<'_> {
+    fn fmt<W: fmt::Write>(&self, f: &mut fmt::Formatter<W>) -> fmt::Result {
+        fmt::UpperHex::fmt(self.0, f)?;
+        write!(f, " {} ", self.0)?;
+        fmt::LowerHex::fmt(self.0, f)
+    }
+}
+
+#[test]
+fn prints_hexadecimal(rt: HostRuntime) -> std::result::Result<(), Fail> {
+    let key = EcdsaPublicKey::from_sec1_bytes(&BASE_POINT)?;
+    let forms = Forms(&key);
+    let text = format!(in rt.alloc(); "{forms}")?;
+    let upper = "036B17D1F2E12C4247F8BCE6E563A440F277037D812DEB33A0F4A13945D898C296";
+    let lower = "036b17d1f2e12c4247f8bce6e563a440f277037d812deb33a0f4a13945d898c296";
+    assert_eq!(rt; text.as_str(), format!(in rt.alloc(); "{upper} {upper} {lower}")?.as_str());
+    assert_eq!(rt; key.as_slice(), BASE_POINT.as_slice());
+    Ok(())
+}
+
+#[test]
+fn orders_by_curve_and_bytes(rt: HostRuntime) -> std::result::Result<(), Fail> {
+    let rising = [
+        EcdsaPublicKey::from_sec1_bytes(&[2; 33])?,
+        EcdsaPublicKey::from_sec1_bytes(&[3; 33])?,
+        EcdsaPublicKey::from_sec1_bytes(&[4; 65])?,
+        EcdsaPublicKey::from_sec1_bytes(&[2; 49])?,
+        EcdsaPublicKey::from_sec1_bytes(&[2; 67])?,
+    ];
+    for i in 1..rising.len() {
+        assert!(rt; rising[i - 1] < rising[i] && rising[i - 1] != rising[i], "{i}");
+        assert!(rt; rising[i] == rising[i], "{i}");
+    }
+    Ok(())
+}
