@@ -29,7 +29,7 @@ blobs {V} {S} {Is} {HasPlace} {spell} {read} reads some = record {
   one = λ v w b s t. (one_front (grammar_with reads) v w b b [] [] s t refl).0;
 }
 
-some_key : (k : Key) (h : Head) → 0 < length (flat (key k h))
+pub some_key : (k : Key) (h : Head) → 0 < length (flat (key k h))
 unfolding flat
 some_key k h = omega (
   arith,

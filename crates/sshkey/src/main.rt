@@ -1,0 +1,38 @@
+//! Fingerprints of SSH public keys: reads standard input whole and writes standard output.
+#![tactic(auto)]
+
+use sshkey_tool::run;
+use std::alloc::Global;
+use std::env;
+use std::io::{self, ErrorKind, Write};
+use std::process::ExitCode;
+use std::rt::Env;
+
+/// The words behind the program's name. One that is not UTF-8 makes them none.
+fn words<R: Env + AllocGlobal>(rt: &R) -> io::Result<Vec<String>> {
+    match env::args(rt) {
+        Ok(all) => Ok(all.skip(1).collect(rt.alloc())?),
+        Err(error) => match error.kind() {
+            ErrorKind::InvalidData => Ok(Vec::new(rt.alloc())),
+            _ => Err(error),
+        },
+    }
+}
+
+fn main(rt: HostRuntime) -> ExitCode {
+    let mut output = io::writer(&rt);
+    let mut input = rt.reader();
+    let Ok(words) = words(&rt) else {
+        let _ = writeln!(output, "refused: out of memory");
+        return ExitCode::from(1);
+    };
+    let Ok(words) = words
+        .iter()
+        .map(|word| word.as_str())
+        .collect::<Vec<&str>>(rt.alloc())
+    else {
+        let _ = writeln!(output, "refused: out of memory");
+        return ExitCode::from(1);
+    };
+    ExitCode::from(run(rt.alloc(), &words, &mut input, &mut output))
+}

@@ -1,0 +1,3 @@
+pub mod KnownNames
+pub mod KnownBlobs
+pub mod Ed25519

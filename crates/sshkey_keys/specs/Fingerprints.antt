@@ -1,0 +1,31 @@
+-- What a fingerprint's value means.
+use Rattle.std.specs.Prelude.{◌≡◌, ℕ, List}
+use Rattle.sshkey_model.specs.Fingerprints.{digest_text, fingerprint}
+use Rattle.sshkey_model.specs.Keys.{Key}
+use Rattle.sshkey_model.specs.Names.{Hash}
+use Rattle.sshkey_model.specs.Names as model
+use Rattle.sshkey_keys.specs.declared.fingerprint.Fingerprint.{Fingerprint}
+use Rattle.sshkey_keys.specs.declared.fingerprint.Fingerprint.TheVariants as kinds
+use Rattle.sshkey_keys.specs.declared.hash_alg.HashAlg.{HashAlg}
+use Rattle.sshkey_keys.specs.declared.hash_alg.HashAlg.TheVariants as hashes
+
+abbrev pub hash_of : HashAlg → Hash
+hash_of hashes.Sha256 = model.Sha256
+hash_of hashes.Sha512 = model.Sha512
+
+abbrev pub algorithm_of : Fingerprint → Hash
+algorithm_of (kinds.Sha256 d) = model.Sha256
+algorithm_of (kinds.Sha512 d) = model.Sha512
+
+abbrev pub digest_of : Fingerprint → List ℕ
+digest_of (kinds.Sha256 d) = d
+digest_of (kinds.Sha512 d) = d
+
+-- what it is shown as
+abbrev pub shown : Fingerprint → List ℕ
+shown f = digest_text (algorithm_of f) (digest_of f)
+
+-- It is the key's, by that hash.
+pub record IsFingerprint (h : Hash) (k : Key) (f : Fingerprint) : Type 0 where
+  pub by : algorithm_of f ≡ h
+  pub digest : digest_of f ≡ fingerprint h k

@@ -1,0 +1,4 @@
+pub mod Cuts
+pub mod Writing
+pub mod ReadLines
+pub mod Outcomes

@@ -1,0 +1,26 @@
+-- Faults of the machine, and what a line leaves in an output that may have one.
+use Rattle.std.specs.Prelude.{◌≡◌, ◌⊎◌, ℕ, ◌<◌, List, length, take, Option, Bool, true, false}
+use Rattle.std.specs.Io.KnownBytes.{Appends}
+use Rattle.sshkey_base.specs.declared.encoding.Error.TheVariants as encoding
+use Rattle.sshkey_base.specs.declared.error.Error.{Error}
+use Rattle.sshkey_base.specs.declared.error.Error.TheVariants as wide
+
+-- want of memory, or a fault of the input
+abbrev pub IsMachineFault : Error → Type 0
+IsMachineFault wide.Memory = Unit {0}
+IsMachineFault (wide.Encoding encoding.Memory) = Unit {0}
+IsMachineFault (wide.Io kind) = Unit {0}
+IsMachineFault _ = ⊥
+
+-- some of its beginning, and not all of it
+abbrev pub IsBegun : Option (List ℕ) → Option (List ℕ) → List ℕ → Type 0
+IsBegun old new line = (count : ℕ) × (count < length line) × Appends old new (take count line)
+
+-- whether the line was written whole
+abbrev pub WritesLine : Option (List ℕ) → Option (List ℕ) → List ℕ → Bool → Type 0
+WritesLine old new line true = Appends old new line
+WritesLine old new line false = IsBegun old new line
+
+-- A line is written whole with its status, or only a beginning of it is written and the status is 1.
+abbrev pub Writes : Option (List ℕ) → Option (List ℕ) → List ℕ → ℕ → ℕ → Type 0
+Writes old new line wanted status = (Appends old new line × (status ≡ wanted)) ⊎ (IsBegun old new line × (status ≡ 1))

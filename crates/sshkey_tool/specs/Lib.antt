@@ -1,0 +1,5 @@
+pub mod Words
+pub mod KeyLines
+pub mod Faults
+pub mod Table
+pub mod Outcomes

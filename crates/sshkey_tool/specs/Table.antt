@@ -1,0 +1,63 @@
+-- What the program writes, and its status, for each words and each input.
+use Rattle.std.specs.Prelude.{◌≡◌, ◌⊎◌, ℕ, List, [], ◌∷◌, ◌++◌, map, codes, Option, IfSome}
+use Rattle.std.specs.Str.{IsUtf8}
+use denote.Ref.{Bor}
+use Rattle.sshkey_model.specs.Fingerprints.{fingerprint_text}
+use Rattle.sshkey_model.specs.Keys.{Key}
+use Rattle.sshkey_model.specs.Names.{Sha256}
+use Rattle.sshkey_tool.specs.Faults.{Writes}
+use Rattle.sshkey_tool.specs.KeyLines.{IsKnownLine, IsNoKnownLine}
+
+-- How it is used; a text that is shown; or why the input is refused.
+pub data Answer : Type 0 where
+  Usage : Answer
+  Shown Refused : List ℕ → Answer
+
+abbrev pub line_end : List ℕ
+line_end = 10 ∷ []
+
+abbrev pub answer_line : Answer → List ℕ
+answer_line Usage = codes "usage: sshkey fingerprint | art <header> | normal | cert | keys | hosts" ++ line_end
+answer_line (Shown text) = text ++ line_end
+answer_line (Refused why) = codes "refused: " ++ (why ++ line_end)
+
+abbrev pub status_of : Answer → ℕ
+status_of Usage = 2
+status_of (Shown text) = 0
+status_of (Refused why) = 1
+
+-- the one word `fingerprint`
+abbrev pub IsFingerprintWord : List (Bor (List ℕ)) → Type 0
+IsFingerprintWord words = map (λ w. w.now) words ≡ codes "fingerprint" ∷ []
+
+-- the fingerprint of the key in the bytes
+abbrev pub IsShown : List ℕ → List ℕ → Type 0
+IsShown text bytes = IsUtf8 bytes × ((k : Key) × (comment : List ℕ) × IsKnownLine bytes k comment × (text ≡ fingerprint_text Sha256 k))
+
+-- The bytes are no text, or a line of no key.
+abbrev pub IsRefused : List ℕ → Type 0
+IsRefused bytes = IsUtf8 bytes → IsNoKnownLine bytes
+
+-- The table. An input is known where the reader tells its bytes.
+abbrev pub IsAnswer : List (Bor (List ℕ)) → Option (List ℕ) → Answer → Type 0
+IsAnswer words input Usage = IsFingerprintWord words → ⊥
+IsAnswer words input (Shown text) = IsFingerprintWord words × IfSome input (IsShown text)
+IsAnswer words input (Refused why) = IsFingerprintWord words × IfSome input IsRefused
+
+-- in place of the table's line: there was no memory, or the input could not be read
+abbrev pub IsFaultLine : List ℕ → Type 0
+IsFaultLine line = (line ≡ answer_line (Refused (codes "out of memory"))) ⊎ (line ≡ answer_line (Refused (codes "I/O error")))
+
+-- that line, with status 1
+abbrev pub WritesFault : Option (List ℕ) → Option (List ℕ) → ℕ → Type 0
+WritesFault old new status = (line : List ℕ) × IsFaultLine line × Writes old new line 1 status
+
+-- The table's line is written with its status, or that of a fault.
+abbrev pub Runs : List (Bor (List ℕ)) → Option (List ℕ) → Option (List ℕ) → Option (List ℕ) → ℕ → Type 0
+Runs words input old new status =
+    ((a : Answer) × IsAnswer words input a × Writes old new (answer_line a) (status_of a) status)
+    ⊎ (IsFingerprintWord words × WritesFault old new status)
+
+-- an error's line
+abbrev pub IsRefusalLine : List ℕ → Type 0
+IsRefusalLine line = (why : List ℕ) × (line ≡ answer_line (Refused why))

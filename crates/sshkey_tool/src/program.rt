@@ -1,0 +1,86 @@
+//! The program.
+
+ghost use Rattle.std.specs.Prelude.{◌≡◌, ◌↔◌, IsTrue, IfOk};
+ghost use Rattle.std.specs.String.{string_bytes};
+ghost use Rattle.sshkey_keys.specs.Fingerprints.{shown};
+ghost use Rattle.sshkey_tool.specs.Outcomes.{WritesOutcome};
+ghost use Rattle.sshkey_tool.specs.Table.{Runs, IsFingerprintWord, Shown, answer_line, IsRefusalLine};
+
+use crate::fingerprints::fingerprint_of;
+use crate::output::write_line;
+use sshkey_base::{Error, encoding};
+use sshkey_keys::Fingerprint;
+use std::alloc::{AllocError, Global};
+use std::io::{Read, Write};
+
+/// How the program is used.
+const USAGE: [u8; 72] =
+    *b"usage: sshkey fingerprint | art <header> | normal | cert | keys | hosts\n";
+
+/// What is written where memory ran out.
+const OUT_OF_MEMORY: [u8; 23] = *b"refused: out of memory\n";
+
+/// What is written where the input could not be read.
+const INPUT_FAULT: [u8; 19] = *b"refused: I/O error\n";
+
+fn is_fingerprint(words: &[&str]) -> bool
+    ensures { IsTrue result ↔ IsFingerprintWord words.now }
+{
+    match words {
+        [word] => *word == "fingerprint",
+        _ => false,
+    }
+}
+
+/// The line that shows a fingerprint.
+fn shown_line(alloc: Global, fingerprint: &Fingerprint) -> Result<String, AllocError>
+    ensures { IfOk result (λ line. string_bytes line ≡ answer_line (Shown (shown fingerprint.now))) }
+{
+    format!(in alloc; "{fingerprint}\n")
+}
+
+/// The line that says why an input is refused.
+fn refused_line(alloc: Global, error: &Error) -> Result<String, AllocError>
+    ensures { IfOk result (λ line. IsRefusalLine (string_bytes line)) }
+{
+    let reason = format!(in alloc; "{error}")?;
+    format!(in alloc; "refused: {reason}\n")
+}
+
+/// Writes the fingerprint of an input, or why it has none.
+fn answer<W: Write>(alloc: Global, outcome: &Result<Fingerprint, Error>, output: &mut W) -> u8
+    ensures { WritesOutcome outcome.now (W.contents output.old) (W.contents output.new) result }
+{
+    match outcome {
+        Ok(fingerprint) => match shown_line(alloc, fingerprint) {
+            Ok(line) => write_line(output, line.as_bytes(), 0),
+            Err(_) => write_line(output, &OUT_OF_MEMORY, 1),
+        },
+        Err(Error::Memory | Error::Encoding(encoding::Error::Memory)) => {
+            write_line(output, &OUT_OF_MEMORY, 1)
+        }
+        Err(Error::Io(_)) => write_line(output, &INPUT_FAULT, 1),
+        Err(error) => match refused_line(alloc, error) {
+            Ok(line) => write_line(output, line.as_bytes(), 1),
+            Err(_) => write_line(output, &OUT_OF_MEMORY, 1),
+        },
+    }
+}
+
+/// Answers the words and the input on the output, and says by a status how it went.
+///
+/// 2 for other words than `fingerprint`, after a line that says how the program is used; nothing of
+/// the input is read then. 1 after `refused:` and the reason, where the input is not UTF-8 or is a
+/// line of no key; where memory or the input failed; and where the output failed, which then holds
+/// only a beginning of the line. Else 0, after the SHA-256 fingerprint of the key. Each line has a
+/// line end.
+pub fn run<R: Read, W: Write>(alloc: Global, words: &[&str], input: &mut R, output: &mut W) -> u8
+    ensures runs { Runs words.now (R.remaining input.old) (W.contents output.old) (W.contents output.new) result }
+    ensures untouched { (IsFingerprintWord words.now → ⊥) → input.new ≡ input.old }
+{
+    if !is_fingerprint(words) {
+        return write_line(output, &USAGE, 2);
+    }
+    let outcome = fingerprint_of(alloc, input);
+    answer(alloc, &outcome, output)
+}
