@@ -1,6 +1,6 @@
 -- The steps of a writing function.
 use Rattle.std.proofs.Common.{◌≡◌, ℕ, ◌+◌, ◌<◌, ◌≤◌, ◌^◌, List, ◌++◌, length, take, take_all, Option, Some, None, Result, Ok, Err, refl, sym, ap, ◌∙◌, append_assoc, arith, inl, inr}
-use Rattle.std.specs.Prelude.{IfSome, ◌⊎◌}
+use Rattle.std.specs.Prelude.{IfSome, IsErrAnd, ◌⊎◌}
 use Rattle.std.specs.Int.{Width, w8, w32, w64, to_be_bytes, byte_len}
 use Rattle.std.proofs.lemmas.List.{length-append, append-nil, take-append-le}
 use Rattle.std.proofs.lemmas.Bool.{cases_lt}
@@ -87,6 +87,11 @@ pub encodes_later : (fault : Error → Type 0) (p q : Parts) (s t u : Sink) (r :
 encodes_later fault p q s t u (Ok x) w h = written_both p q s t u w h
 encodes_later fault p q s t u (Err e) w h = not_later fault p q s t u e w h
 
+-- the error that `?` hands on
+pub stops_first : (fault : Error → Type 0) (p q : Parts) (s t : Sink) (e : Error) (r : Result (Unit {0}) Error) → NotWritten fault p s e t → IsErrAnd r (λ f. f ≡ e) → Encodes fault (p & q) s r t
+stops_first fault p q s t e (Ok x) h f = absurd f
+stops_first fault p q s t e (Err d) h f = rw f (not_first fault p q s t e h)
+
 -- ---- a box
 
 -- its length is refused
@@ -125,7 +130,7 @@ unfolding flat BoxesFit
 plain_number fault w n s t (Ok x) lt h = record { fits = fits_number w n lt; added = h.added; limit = h.limit }
 plain_number fault w n s t (Err e) lt h = record { why = inr h }
 
-pub ruleset writing = (not_first, not_later, encodes_later)
+pub ruleset writing = (not_first, not_later, encodes_later, stops_first)
 
 -- ---- how many bytes
 
@@ -186,6 +191,19 @@ unfolding BoxesFit
 boxes_number w n = tt
 
 pub ruleset measuring = (length_both, length_box, length_bytes, length_number8, length_number32, length_number64, boxes_both, boxes_first, boxes_second, boxes_box, boxes_length, boxes_inside, boxes_bytes, boxes_number)
+
+-- the error that `?` hands on, of all the parts, of the first or of the others
+pub misses : (p : Parts) (e : Error) (r : Result ℕ Error) → Measures p (Err e) → IsErrAnd r (λ f. f ≡ e) → Measures p r
+misses p e (Ok n) h f = absurd f
+misses p e (Err d) h f = (h.0, f ∙ h.1)
+
+pub misses_first : (p q : Parts) (e : Error) (r : Result ℕ Error) → Measures p (Err e) → IsErrAnd r (λ f. f ≡ e) → Measures (p & q) r
+misses_first p q e (Ok n) h f = absurd f
+misses_first p q e (Err d) h f = (λ b. h.0 (boxes_first p q b), f ∙ h.1)
+
+pub misses_later : (p q : Parts) (e : Error) (r : Result ℕ Error) → Measures q r → IsErrAnd r (λ f. f ≡ e) → Measures (p & q) r
+misses_later p q e (Ok n) h f = absurd f
+misses_later p q e (Err d) h f = (λ b. h.0 (boxes_second p q b), h.1)
 
 -- what a box holds does not fit
 pub inside_misfit : (fault : Error → Type 0) (p : Parts) (s : Sink) (e : Error) → (BoxesFit p → ⊥) × (e ≡ Length) → NotWritten fault (box p) s e s

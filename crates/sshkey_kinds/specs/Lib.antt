@@ -3,3 +3,5 @@ pub mod PointWords
 pub mod PointHash
 pub mod EcdsaWords
 pub mod EcdsaEquality
+pub mod Kinds
+pub mod Bodies

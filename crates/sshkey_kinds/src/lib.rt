@@ -1,10 +1,16 @@
 //! The kinds of public keys, and the points that they are made of.
 #![tactic(auto)]
 
+mod dsa;
 mod ec_point;
 mod ecdsa;
+mod ed25519;
+mod rsa;
 
+pub use dsa::DsaPublicKey;
 pub use ec_point::{
     EcPoint, EcdsaNistP256PublicKey, EcdsaNistP384PublicKey, EcdsaNistP521PublicKey,
 };
 pub use ecdsa::EcdsaPublicKey;
+pub use ed25519::Ed25519PublicKey;
+pub use rsa::RsaPublicKey;

@@ -1,0 +1,10 @@
+use Rattle.std.proofs.lemmas.Result.{err_from_is_err_and}
+use Rattle.sshkey_base.proofs.Steps.{refused_first, refused_later}
+use Rattle.sshkey_kinds.specs.Bodies.{dsa_at}
+use Rattle.sshkey_kinds.proofs.dsa.DsaPublicKeyDecode.decode.Goals as goal
+
+pub returns-in_err-y : goal.returns-in_err-y
+unfolding dsa_at
+returns-in_err-y g c =
+    let p = err_from_is_err_and c.from_residual-in_err-y.result c.from_residual-in_err-y.ensures.1 in
+    rw (p.1, p.2) (refused_later _ _ _ _ _ _ _ c.in_ok-p.ensures (refused_later _ _ _ _ _ _ _ c.in_ok-q.ensures (refused_later _ _ _ _ _ _ _ c.in_ok-g.ensures (refused_first _ _ _ _ c.in_err-y.ensures))))

@@ -1,0 +1,71 @@
+//! DSA public keys.
+
+ghost use Rattle.std.specs.Prelude.{ℕ, ◌+◌, ◌*◌, ◌^◌};
+ghost use Rattle.sshkey_model.specs.Keys.{Key, body};
+ghost use Rattle.sshkey_kinds.specs.Bodies.{SpellsDsa, dsa_at, dsa_grammar};
+
+use sshkey_base::{Decode, Encode, Error, Mpint, Reader, Result, Writer, encoding};
+use std::alloc::Global;
+
+/// A DSA public key (RFC 4253, section 6.6).
+#[derive(Debug, Drop)]
+pub struct DsaPublicKey {
+    /// The prime.
+    pub p: Mpint,
+    /// The prime factor of p - 1.
+    pub q: Mpint,
+    /// The generator.
+    pub g: Mpint,
+    /// The public value.
+    pub y: Mpint,
+}
+
+/// The four numbers p, q, g and y, each as a string.
+#[tactic(auto, using(sshkey_base::proofs::Steps::steps), unfolding(crate::specs::Bodies::dsa_at))]
+impl Decode for DsaPublicKey {
+    ghost use Rattle.sshkey_kinds.specs.Kinds.{dsa_of};
+
+    type Error = Error;
+
+    ghost Meaning = { Key };
+
+    ghost means = { dsa_of };
+
+    ghost parse = { dsa_at };
+
+    ghost Spells = { SpellsDsa };
+
+    ghost grammar = { dsa_grammar };
+
+    fn decode<R: Reader>(alloc: Global, reader: &mut R) -> Result<DsaPublicKey> {
+        let p = Mpint::decode(alloc, reader)?;
+        let q = Mpint::decode(alloc, reader)?;
+        let g = Mpint::decode(alloc, reader)?;
+        let y = Mpint::decode(alloc, reader)?;
+        Ok(DsaPublicKey { p, q, g, y })
+    }
+}
+
+/// The four numbers p, q, g and y, each as a string.
+#[tactic(auto, using(sshkey_base::proofs::Writing::writing, sshkey_base::proofs::Writing::measuring))]
+impl Encode for DsaPublicKey {
+    ghost use Rattle.sshkey_kinds.specs.Kinds.{dsa_of};
+
+    ghost normal = { λ k. body (dsa_of k) };
+
+    ghost most = { 4 * (2 ^ 32 + 4) };
+
+    fn encoded_len(&self) -> encoding::Result<usize> {
+        Ok(self.p.encoded_len()?
+            + self.q.encoded_len()?
+            + self.g.encoded_len()?
+            + self.y.encoded_len()?)
+    }
+
+    fn encode<W: Writer>(&self, writer: &mut W) -> encoding::Result<()> {
+        self.p.encode(writer)?;
+        self.q.encode(writer)?;
+        self.g.encode(writer)?;
+        self.y.encode(writer)
+    }
+}

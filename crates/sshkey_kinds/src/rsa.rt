@@ -1,0 +1,61 @@
+//! RSA public keys.
+
+ghost use Rattle.std.specs.Prelude.{ℕ, ◌+◌, ◌*◌, ◌^◌};
+ghost use Rattle.sshkey_model.specs.Keys.{Key, body};
+ghost use Rattle.sshkey_kinds.specs.Bodies.{SpellsRsa, rsa_at, rsa_grammar};
+
+use sshkey_base::{
+    Decode, Encode, Error, Mpint, Reader, Result, Writer, encode_both, encoding,
+};
+use std::alloc::Global;
+
+/// An RSA public key (RFC 4253, section 6.6).
+#[derive(Debug, Drop)]
+pub struct RsaPublicKey {
+    /// The public exponent.
+    pub e: Mpint,
+    /// The modulus.
+    pub n: Mpint,
+}
+
+/// The two numbers, e and then n, each as a string.
+#[tactic(auto, using(sshkey_base::proofs::Steps::steps), unfolding(crate::specs::Bodies::rsa_at))]
+impl Decode for RsaPublicKey {
+    ghost use Rattle.sshkey_kinds.specs.Kinds.{rsa_of};
+
+    type Error = Error;
+
+    ghost Meaning = { Key };
+
+    ghost means = { rsa_of };
+
+    ghost parse = { rsa_at };
+
+    ghost Spells = { SpellsRsa };
+
+    ghost grammar = { rsa_grammar };
+
+    fn decode<R: Reader>(alloc: Global, reader: &mut R) -> Result<RsaPublicKey> {
+        let e = Mpint::decode(alloc, reader)?;
+        let n = Mpint::decode(alloc, reader)?;
+        Ok(RsaPublicKey { e, n })
+    }
+}
+
+/// The two numbers, e and then n, each as a string.
+#[tactic(auto, using(sshkey_base::proofs::Writing::writing, sshkey_base::proofs::Writing::measuring))]
+impl Encode for RsaPublicKey {
+    ghost use Rattle.sshkey_kinds.specs.Kinds.{rsa_of};
+
+    ghost normal = { λ k. body (rsa_of k) };
+
+    ghost most = { 2 * (2 ^ 32 + 4) };
+
+    fn encoded_len(&self) -> encoding::Result<usize> {
+        Ok(self.e.encoded_len()? + self.n.encoded_len()?)
+    }
+
+    fn encode<W: Writer>(&self, writer: &mut W) -> encoding::Result<()> {
+        encode_both(&self.e, &self.n, writer)
+    }
+}
