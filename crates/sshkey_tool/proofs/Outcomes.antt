@@ -17,16 +17,10 @@ use Rattle.sshkey_tool.specs.Table.{Usage, Shown, Refused, IsFingerprintWord, Is
 
 -- a refusal says that the machine failed, or what is wrong with the text
 pub refusal : (text : List ℕ) (e : Error) → (cause e ≢ NoMemory → IsNoKnownLine text) → IsMachineFault e ⊎ IsNoKnownLine text
-refusal text wide.AlgorithmUnknown h = inr (h (λ e. cc e))
 refusal text (wide.Encoding encoding.Memory) h = inl tt
-refusal text (wide.Encoding encoding.Base64) h = inr (h (λ e. cc e))
-refusal text (wide.Encoding encoding.CharacterEncoding) h = inr (h (λ e. cc e))
-refusal text (wide.Encoding encoding.Label) h = inr (h (λ e. cc e))
-refusal text (wide.Encoding encoding.Length) h = inr (h (λ e. cc e))
-refusal text (wide.Encoding (encoding.TrailingData n)) h = inr (h (λ e. cc e))
-refusal text wide.FormatEncoding h = inr (h (λ e. cc e))
 refusal text (wide.Io kind) h = inl tt
 refusal text wide.Memory h = inl tt
+refusal text _ h = inr (h (λ e. cc e))
 
 pub text_of_bytes : (text bytes : List ℕ) (r : Result Fingerprint Error) → text ≡ bytes → IsUtf8 bytes → ShowsText text r → ShowsBytes bytes r
 text_of_bytes text bytes (Ok f) same utf8 h = (utf8, subst (λ (t : List ℕ). HasFingerprint t f) same h)

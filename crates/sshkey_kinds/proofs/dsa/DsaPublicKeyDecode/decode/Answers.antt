@@ -7,4 +7,4 @@ pub returns-in_err-y : goal.returns-in_err-y
 unfolding dsa_at
 returns-in_err-y g c =
     let p = err_from_is_err_and c.from_residual-in_err-y.result c.from_residual-in_err-y.ensures.1 in
-    rw (p.1, p.2) (refused_later _ _ _ _ _ _ _ c.in_ok-p.ensures (refused_later _ _ _ _ _ _ _ c.in_ok-q.ensures (refused_later _ _ _ _ _ _ _ c.in_ok-g.ensures (refused_first _ _ _ _ c.in_err-y.ensures))))
+    rw (p.1, p.2) (refused_later _ _ _ _ _ _ _ c.in_ok-p.ensures.gives (refused_later _ _ _ _ _ _ _ c.in_ok-q.ensures.gives (refused_later _ _ _ _ _ _ _ c.in_ok-g.ensures.gives (refused_first _ _ _ _ c.in_err-y.ensures.gives))))
