@@ -86,7 +86,7 @@ impl Mpint {
     pub fn as_bytes(&self) -> &[u8]
         ensures { result.now ≡ mpint_of self.now }
     {
-        &self.bytes
+        self.bytes.as_slice()
     }
 
     /// The bytes of a positive number without the 00 that may stand first; none for zero and for a
@@ -208,7 +208,7 @@ impl AsSlice<u8> for Mpint {
     ghost items = { mpint_of };
 
     fn as_slice(&self) -> &[u8] {
-        &self.bytes
+        self.as_bytes()
     }
 }
 
@@ -243,7 +243,7 @@ impl fmt::Display for Mpint {
     ghost output = { λ m. Some (encode_upper (mpint_of m)) };
 
     fn fmt<W: fmt::Write>(&self, f: &mut fmt::Formatter<W>) -> fmt::Result {
-        write_upper_hex(&self.bytes, f)
+        fmt::UpperHex::fmt(self, f)
     }
 }
 

@@ -161,6 +161,6 @@ impl fmt::Display for EcdsaPublicKey {
     ghost output = { λ k. Some (encode_upper (ecdsa_of k).1) };
 
     fn fmt<W: fmt::Write>(&self, f: &mut fmt::Formatter<W>) -> fmt::Result {
-        write_upper_hex(self.as_sec1_bytes(), f)
+        fmt::UpperHex::fmt(self, f)
     }
 }

@@ -43,7 +43,10 @@ fn prints_hexadecimal(rt: HostRuntime) -> std::result::Result<(), Fail> {
     }
     let number = Mpint::from_bytes(rt.alloc(), b"\xed\xcc")?;
     let forms = Forms(&number);
-    assert_eq!(rt; format!(in rt.alloc(); "{forms}")?.as_str(), "EDCC EDCC edcc");
+    assert_eq!(rt;
+        format!(in rt.alloc(); "{forms}")?.as_str(),
+        "EDCC EDCC edcc"
+    );
     Ok(())
 }
 

@@ -24,7 +24,14 @@ fn is_taken(alloc: Global, longest: usize, tag: u8, len: usize) -> std::result::
 fn sizes_round(size: usize) -> [usize; 6]
     requires { (0 < size) × (size < 1000) }
 {
-    [size - 1, size, size + 1, 2 * size - 1, 2 * size, 2 * size + 1]
+    [
+        size - 1,
+        size,
+        size + 1,
+        2 * size - 1,
+        2 * size,
+        2 * size + 1,
+    ]
 }
 
 /// One coordinate behind 02 and 03, both behind 04, and none behind another tag.
@@ -44,12 +51,22 @@ fn takes_point_strings_of_the_curve(rt: HostRuntime) -> std::result::Result<(), 
         for i in 0..6 {
             for (longest, size) in [(65, 32), (97, 48), (133, 66)] {
                 let len = sizes_round(size)[i];
-                assert_eq!(rt; is_taken(rt.alloc(), longest, tag, len)?, taken[i], "{tag}, {len}");
+                assert_eq!(rt;
+                    is_taken(rt.alloc(), longest, tag, len)?,
+                    taken[i],
+                    "{tag}, {len}"
+                );
             }
             let other = sizes_round(48)[i];
-            assert!(rt; !is_taken(rt.alloc(), 65, tag, other)?, "another curve: {tag}, {other}");
+            assert!(rt;
+                !is_taken(rt.alloc(), 65, tag, other)?,
+                "another curve: {tag}, {other}"
+            );
             let none = sizes_round(32)[i];
-            assert!(rt; !is_taken(rt.alloc(), 64, tag, none)?, "no curve: {tag}, {none}");
+            assert!(rt;
+                !is_taken(rt.alloc(), 64, tag, none)?,
+                "no curve: {tag}, {none}"
+            );
         }
     }
     assert!(rt; EcdsaNistP256PublicKey::from_bytes(b"").is_err());

@@ -55,7 +55,11 @@ fn tells_the_curve_by_tag_and_size(rt: HostRuntime) -> std::result::Result<(), F
         (4, 134, Told::Length),
     ];
     for (tag, len, answer) in strings {
-        assert_eq!(rt; answer_to(rt.alloc(), tag, len)?, answer, "{tag} and {len} bytes");
+        assert_eq!(rt;
+            answer_to(rt.alloc(), tag, len)?,
+            answer,
+            "{tag} and {len} bytes"
+        );
     }
     let empty = EcdsaPublicKey::from_sec1_bytes(b"");
     assert!(rt; matches!(empty, Err(Error::Encoding(encoding::Error::Length))));
@@ -88,7 +92,10 @@ fn prints_hexadecimal(rt: HostRuntime) -> std::result::Result<(), Fail> {
     let text = format!(in rt.alloc(); "{forms}")?;
     let upper = "036B17D1F2E12C4247F8BCE6E563A440F277037D812DEB33A0F4A13945D898C296";
     let lower = "036b17d1f2e12c4247f8bce6e563a440f277037d812deb33a0f4a13945d898c296";
-    assert_eq!(rt; text.as_str(), format!(in rt.alloc(); "{upper} {upper} {lower}")?.as_str());
+    assert_eq!(rt;
+        text.as_str(),
+        format!(in rt.alloc(); "{upper} {upper} {lower}")?.as_str()
+    );
     assert_eq!(rt; key.as_slice(), BASE_POINT.as_slice());
     Ok(())
 }
@@ -103,7 +110,10 @@ fn orders_by_curve_and_bytes(rt: HostRuntime) -> std::result::Result<(), Fail> {
         EcdsaPublicKey::from_sec1_bytes(&[2; 67])?,
     ];
     for i in 1..rising.len() {
-        assert!(rt; rising[i - 1] < rising[i] && rising[i - 1] != rising[i], "{i}");
+        assert!(rt;
+            rising[i - 1] < rising[i] && rising[i - 1] != rising[i],
+            "{i}"
+        );
         assert!(rt; rising[i] == rising[i], "{i}");
     }
     Ok(())
