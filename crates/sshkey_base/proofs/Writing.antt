@@ -10,7 +10,7 @@ use Rattle.sshkey_model.specs.Parts.{Parts, bytes, number, box, ◌&◌, flat, I
 use Rattle.sshkey_model.proofs.CombinedReaders.{fits_both, fits_box, fits_bytes, fits_number}
 use Rattle.sshkey_base.specs.declared.encoding.Error.{Error}
 use Rattle.sshkey_base.specs.declared.encoding.Error.TheVariants.{Length}
-use Rattle.sshkey_base.specs.Sink.{Sink, Wrote, Began, Stopped, Writes, Written, TooLong, NotWritten, Encodes, Measures}
+use Rattle.sshkey_base.specs.Sink.{Sink, Wrote, Began, Stopped, Writes, Written, after, TooLong, NotWritten, Encodes, Measures}
 
 -- nothing was added
 pub none_began : (s t : Sink) (b : List ℕ) → t.written ≡ s.written → Began s b t
@@ -57,35 +57,28 @@ stopped_later fault s t u a b e added limit h = record { own = h.own; full = roo
 
 -- the first are refused
 pub not_first : (fault : Error → Type 0) (p q : Parts) (s t : Sink) (e : Error) → NotWritten fault p s e t → NotWritten fault (p & q) s e t
-unfolding flat BoxesFit
+unfolding flat BoxesFit NotWritten
 not_first fault p q s t e h =
-    elim h.why [
-      | inl l ↦ record { why = inl (record { misfit = λ b. l.misfit b.0; is = l.is; began = began_first s t (flat p) (flat q) l.began }) }
-      | inr o ↦ record { why = inr (stopped_first fault s t (flat p) (flat q) e o) }
+    elim h [
+      | inl l ↦ inl (record { misfit = λ b. l.misfit b.0; is = l.is; began = began_first s t (flat p) (flat q) l.began })
+      | inr o ↦ inr (stopped_first fault s t (flat p) (flat q) e o)
     ]
 
 -- the first are added, and the others are refused
-pub not_later : (fault : Error → Type 0) (p q : Parts) (s t u : Sink) (e : Error) → Written p s t → NotWritten fault q t e u → NotWritten fault (p & q) s e u
-unfolding flat BoxesFit
-not_later fault p q s t u e w h =
-    elim h.why [
-      | inl l ↦ record { why = inl (record { misfit = λ b. l.misfit b.1; is = l.is; began = began_later s t u (flat p) (flat q) w.added l.began }) }
-      | inr o ↦ record { why = inr (stopped_later fault s t u (flat p) (flat q) e w.added w.limit o) }
+pub not_later : (fault : Error → Type 0) (p q : Parts) (s u : Sink) (e : Error) → NotWritten fault q (after p s) e u → NotWritten fault (p & q) s e u
+unfolding flat BoxesFit NotWritten after
+not_later fault p q s u e h =
+    elim h [
+      | inl l ↦ inl (record { misfit = λ b. l.misfit b.1; is = l.is; began = began_later s (after p s) u (flat p) (flat q) refl l.began })
+      | inr o ↦ inr (stopped_later fault s (after p s) u (flat p) (flat q) e refl refl o)
     ]
 
 -- all are added
-pub written_both : (p q : Parts) (s t u : Sink) → Written p s t → Written q t u → Written (p & q) s u
-unfolding flat
-written_both p q s t u v w = record {
-  fits = fits_both p q v.fits w.fits;
-  added = w.added ∙ rw (v.added, append_assoc) refl;
-  limit = w.limit ∙ v.limit;
-}
+pub after_both : (p q : Parts) (s : Sink) → after (p & q) s ≡ after q (after p s)
+unfolding flat after
+after_both p q s = rw append_assoc refl
 
--- the first are added, and the others decide
-pub encodes_later : (fault : Error → Type 0) (p q : Parts) (s t u : Sink) (r : Result (Unit {0}) Error) → Written p s t → Encodes fault q t r u → Encodes fault (p & q) s r u
-encodes_later fault p q s t u (Ok x) w h = written_both p q s t u w h
-encodes_later fault p q s t u (Err e) w h = not_later fault p q s t u e w h
+pub ruleset writing = (not_first, not_later, after_both, fits_both)
 
 -- the error that `?` hands on
 pub stops_first : (fault : Error → Type 0) (p q : Parts) (s t : Sink) (e : Error) (r : Result (Unit {0}) Error) → NotWritten fault p s e t → IsErrAnd r (λ f. f ≡ e) → Encodes fault (p & q) s r t
@@ -96,41 +89,39 @@ stops_first fault p q s t e (Err d) h f = rw f (not_first fault p q s t e h)
 
 -- its length is refused
 pub box_first : (fault : Error → Type 0) (p : Parts) (s t : Sink) (e : Error) (n : ℕ) → n ≡ length (flat p) → NotWritten fault (number w32 n) s e t → NotWritten fault (box p) s e t
-unfolding flat BoxesFit
+unfolding flat BoxesFit NotWritten
 box_first fault p s t e n len h =
-    elim h.why [
+    elim h [
       | inl l ↦ absurd (l.misfit tt)
-      | inr o ↦ record { why = inr (stopped_first fault s t (to_be_bytes w32 (length (flat p))) (flat p) e (rw len at o)) }
+      | inr o ↦ inr (stopped_first fault s t (to_be_bytes w32 (length (flat p))) (flat p) e (rw len at o))
     ]
 
 -- its length is added, and what it holds decides
 pub box_later : (fault : Error → Type 0) (p : Parts) (s t u : Sink) (r : Result (Unit {0}) Error) (n : ℕ) → n ≡ length (flat p) → n < 2 ^ 32 → Written (number w32 n) s t → Encodes fault p t r u → Encodes fault (box p) s r u
-unfolding flat BoxesFit
-box_later fault p s t u (Ok x) n len lt w h = record {
-  fits = fits_box p (omega arith) h.fits;
-  added = h.added ∙ rw (w.added, len, append_assoc) refl;
-  limit = h.limit ∙ w.limit;
-}
+unfolding flat BoxesFit NotWritten after
+box_later fault p s t u (Ok x) n len lt w h = (fits_box p (omega arith) h.0, h.1 ∙ rw (w.1, len, append_assoc) refl)
 box_later fault p s t u (Err e) n len lt w h =
-    let added : t.written ≡ s.written ++ to_be_bytes w32 (length (flat p)) = w.added ∙ rw len refl in
-    elim h.why [
-      | inl l ↦ record { why = inl (record { misfit = λ b. l.misfit b.1; is = l.is; began = began_later s t u (to_be_bytes w32 (length (flat p))) (flat p) added l.began }) }
-      | inr o ↦ record { why = inr (stopped_later fault s t u (to_be_bytes w32 (length (flat p))) (flat p) e added w.limit o) }
+    let added : t.written ≡ s.written ++ to_be_bytes w32 (length (flat p)) = rw (w.1, len) refl in
+    let limit : t.limit ≡ s.limit = rw w.1 refl in
+    elim h [
+      | inl l ↦ inl (record { misfit = λ b. l.misfit b.1; is = l.is; began = began_later s t u (to_be_bytes w32 (length (flat p))) (flat p) added l.began })
+      | inr o ↦ inr (stopped_later fault s t u (to_be_bytes w32 (length (flat p))) (flat p) e added limit o)
     ]
 
 -- ---- what a writer gives
 
+same_sink : (s t : Sink) (b : List ℕ) → t.written ≡ s.written ++ b → t.limit ≡ s.limit → t ≡ record { written = s.written ++ b; limit = s.limit }
+same_sink s t b written limit = rw (← written, ← limit) refl
+
 pub plain_bytes : (fault : Error → Type 0) (b : List ℕ) (s t : Sink) (r : Result (Unit {0}) Error) → Writes fault s b r t → Encodes fault (bytes b) s r t
-unfolding flat BoxesFit
-plain_bytes fault b s t (Ok x) h = record { fits = fits_bytes b h.are; added = h.added; limit = h.limit }
-plain_bytes fault b s t (Err e) h = record { why = inr h }
+unfolding flat BoxesFit NotWritten after
+plain_bytes fault b s t (Ok x) h = (fits_bytes b h.are, same_sink s t b h.added h.limit)
+plain_bytes fault b s t (Err e) h = inr h
 
 pub plain_number : (fault : Error → Type 0) (w : Width) (n : ℕ) (s t : Sink) (r : Result (Unit {0}) Error) → n < 2 ^ bits w → Writes fault s (to_be_bytes w n) r t → Encodes fault (number w n) s r t
-unfolding flat BoxesFit
-plain_number fault w n s t (Ok x) lt h = record { fits = fits_number w n lt; added = h.added; limit = h.limit }
-plain_number fault w n s t (Err e) lt h = record { why = inr h }
-
-pub ruleset writing = (not_first, not_later, encodes_later, stops_first)
+unfolding flat BoxesFit NotWritten after
+plain_number fault w n s t (Ok x) lt h = (fits_number w n lt, same_sink s t (to_be_bytes w n) h.added h.limit)
+plain_number fault w n s t (Err e) lt h = inr h
 
 -- ---- how many bytes
 
@@ -190,7 +181,10 @@ pub boxes_number : (w : Width) (n : ℕ) → BoxesFit (number w n)
 unfolding BoxesFit
 boxes_number w n = tt
 
-pub ruleset measuring = (length_both, length_box, length_bytes, length_number8, length_number32, length_number64, boxes_both, boxes_first, boxes_second, boxes_box, boxes_length, boxes_inside, boxes_bytes, boxes_number)
+pub ruleset measuring = (length_both, boxes_both, boxes_first, boxes_second)
+
+-- the same of a leaf or a box
+pub ruleset measuring_leaves = (length_box, length_bytes, length_number8, length_number32, length_number64, boxes_box, boxes_length, boxes_inside, boxes_bytes, boxes_number)
 
 -- the error that `?` hands on, of all the parts, of the first or of the others
 pub misses : (p : Parts) (e : Error) (r : Result ℕ Error) → Measures p (Err e) → IsErrAnd r (λ f. f ≡ e) → Measures p r
@@ -207,8 +201,10 @@ misses_later p q e (Err d) h f = (λ b. h.0 (boxes_second p q b), h.1)
 
 -- what a box holds does not fit
 pub inside_misfit : (fault : Error → Type 0) (p : Parts) (s : Sink) (e : Error) → (BoxesFit p → ⊥) × (e ≡ Length) → NotWritten fault (box p) s e s
-inside_misfit fault p s e h = record { why = inl (record { misfit = λ b. h.0 (boxes_inside p b); is = h.1; began = none_began s s (flat (box p)) refl }) }
+unfolding NotWritten
+inside_misfit fault p s e h = inl (record { misfit = λ b. h.0 (boxes_inside p b); is = h.1; began = none_began s s (flat (box p)) refl })
 
 -- it is too long
 pub outside_misfit : (fault : Error → Type 0) (p : Parts) (s : Sink) (e : Error) (n : ℕ) → n ≡ length (flat p) → (2 ^ 32 ≤ n) × (e ≡ Length) → NotWritten fault (box p) s e s
-outside_misfit fault p s e n len h = record { why = inl (record { misfit = λ b. let lt = boxes_length p b in let ge = h.0 in absurd (omega arith); is = h.1; began = none_began s s (flat (box p)) refl }) }
+unfolding NotWritten
+outside_misfit fault p s e n len h = inl (record { misfit = λ b. let lt = boxes_length p b in let ge = h.0 in absurd (omega arith); is = h.1; began = none_began s s (flat (box p)) refl })

@@ -33,11 +33,13 @@ Writes fault s bytes (Err e) t = Stopped fault s bytes e t
 
 -- ---- values
 
+-- The parts are added.
+unfoldable pub after : Parts → Sink → Sink
+after p s = record { written = s.written ++ flat p; limit = s.limit }
+
 -- The parts were added, and fit.
-pub record Written (p : Parts) (s t : Sink) : Type 0 where
-  pub fits : Fits p
-  pub added : t.written ≡ s.written ++ flat p
-  pub limit : t.limit ≡ s.limit
+abbrev pub Written : Parts → Sink → Sink → Type 0
+Written p s t = Fits p × (t ≡ after p s)
 
 -- A box of the parts is too long.
 pub record TooLong (p : Parts) (s : Sink) (e : Error) (t : Sink) : Type 0 where
@@ -46,8 +48,8 @@ pub record TooLong (p : Parts) (s : Sink) (e : Error) (t : Sink) : Type 0 where
   pub began : Began s (flat p) t
 
 -- why parts were not added
-pub record NotWritten (fault : Error → Type 0) (p : Parts) (s : Sink) (e : Error) (t : Sink) : Type 0 where
-  pub why : TooLong p s e t ⊎ Stopped fault s (flat p) e t
+unfoldable pub NotWritten : (Error → Type 0) → Parts → Sink → Error → Sink → Type 0
+NotWritten fault p s e t = TooLong p s e t ⊎ Stopped fault s (flat p) e t
 
 -- what an encoding call gives
 abbrev pub Encodes : (Error → Type 0) → Parts → Sink → Result (Unit {0}) Error → Sink → Type 0

@@ -11,7 +11,7 @@ use crate::encoding::{Error, Result};
 use crate::writer::Writer;
 
 /// A value that has bytes.
-#[tactic(auto, using(crate::proofs::Writing::measuring))]
+#[tactic(auto, using(crate::proofs::Writing::measuring_leaves))]
 pub trait Encode {
     /// Its normal form: the parts that are written.
     ghost normal: { Self → Parts };
@@ -80,7 +80,7 @@ pub fn encode_string<W: Writer>(bytes: &[u8], writer: &mut W) -> Result<()>
 
 /// How many bytes a string of `len` bytes has behind its length. `Length` exactly where that is
 /// more than 2^32 - 1.
-#[tactic(auto, using(crate::proofs::Writing::measuring))]
+#[tactic(auto, using(crate::proofs::Writing::measuring_leaves))]
 pub fn string_len(bytes: &[u8]) -> Result<usize>
     ensures measures { Measures (string bytes.now) result }
     ensures short { IfOk result (λ n. n < 2 ^ 32 + 4) }
@@ -90,7 +90,7 @@ pub fn string_len(bytes: &[u8]) -> Result<usize>
 }
 
 /// One byte (RFC 4251, section 5).
-#[tactic(auto, using(crate::proofs::Writing::plain_number, crate::proofs::Writing::measuring))]
+#[tactic(auto, using(crate::proofs::Writing::plain_number, crate::proofs::Writing::measuring_leaves))]
 impl Encode for u8 {
     ghost normal = { number w8 };
 
@@ -106,7 +106,7 @@ impl Encode for u8 {
 }
 
 /// Four bytes, most significant first (RFC 4251, section 5).
-#[tactic(auto, using(crate::proofs::Writing::plain_number, crate::proofs::Writing::measuring))]
+#[tactic(auto, using(crate::proofs::Writing::plain_number, crate::proofs::Writing::measuring_leaves))]
 impl Encode for u32 {
     ghost normal = { number w32 };
 
@@ -122,7 +122,7 @@ impl Encode for u32 {
 }
 
 /// Eight bytes, most significant first (RFC 4251, section 5).
-#[tactic(auto, using(crate::proofs::Writing::plain_number, crate::proofs::Writing::measuring))]
+#[tactic(auto, using(crate::proofs::Writing::plain_number, crate::proofs::Writing::measuring_leaves))]
 impl Encode for u64 {
     ghost normal = { number w64 };
 
