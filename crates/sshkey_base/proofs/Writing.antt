@@ -1,6 +1,6 @@
 -- The steps of a writing function.
-use Rattle.std.proofs.Common.{◌≡◌, ℕ, ◌+◌, ◌<◌, ◌≤◌, ◌^◌, List, ◌++◌, length, take, take_all, Option, Some, None, Result, Ok, Err, refl, sym, ap, ◌∙◌, append_assoc, arith, inl, inr}
-use Rattle.std.specs.Prelude.{IfSome, IsErrAnd, ◌⊎◌}
+use Rattle.std.proofs.Common.{◌≡◌, ℕ, ◌+◌, ◌<◌, ◌≤◌, ◌^◌, List, [], ◌++◌, length, take, take_all, Option, Some, None, Result, Ok, Err, refl, sym, ap, ◌∙◌, append_assoc, arith, inl, inr}
+use Rattle.std.specs.Prelude.{IfSome, ◌⊎◌}
 use Rattle.std.specs.Int.{Width, w8, w32, w64, to_be_bytes, byte_len}
 use Rattle.std.proofs.lemmas.List.{length-append, append-nil, take-append-le}
 use Rattle.std.proofs.lemmas.Bool.{cases_lt}
@@ -9,7 +9,7 @@ use mir.Val.{bits}
 use Rattle.sshkey_model.specs.Parts.{Parts, bytes, number, box, ◌&◌, flat, InRange, BoxesFit, Fits}
 use Rattle.sshkey_model.proofs.CombinedReaders.{fits_both, fits_box, fits_bytes, fits_number}
 use Rattle.sshkey_base.specs.declared.encoding.Error.{Error}
-use Rattle.sshkey_base.specs.declared.encoding.Error.TheVariants.{Length}
+use Rattle.sshkey_base.specs.declared.encoding.Error.TheVariants.{Length, Memory}
 use Rattle.sshkey_base.specs.Sink.{Sink, Wrote, Began, Stopped, Writes, Written, after, TooLong, NotWritten, Encodes, Measures}
 
 -- nothing was added
@@ -208,3 +208,19 @@ inside_misfit fault p s e h = inl (record { misfit = λ b. h.0 (boxes_inside p b
 pub outside_misfit : (fault : Error → Type 0) (p : Parts) (s : Sink) (e : Error) (n : ℕ) → n ≡ length (flat p) → (2 ^ 32 ≤ n) × (e ≡ Length) → NotWritten fault (box p) s e s
 unfolding NotWritten
 outside_misfit fault p s e n len h = inl (record { misfit = λ b. let lt = boxes_length p b in let ge = h.0 in absurd (omega arith); is = h.1; began = none_began s s (flat (box p)) refl })
+
+-- ---- a vector of its own
+
+-- what begins empty holds the parts alone
+pub after_nothing : (p : Parts) (s t : Sink) → s.written ≡ [] → t ≡ after p s → t.written ≡ flat p
+unfolding after
+after_nothing p s t none is = rw (is, none) refl
+
+-- a vector is refused for want of memory alone, where all boxes fit
+pub vector_refused : (p : Parts) (s t : Sink) (e : Error) → BoxesFit p → NotWritten (λ e. e ≡ Memory) p s e t → BoxesFit p × (e ≡ Memory)
+unfolding NotWritten
+vector_refused p s t e b h =
+    elim h [
+      | inl l ↦ absurd (l.misfit b)
+      | inr o ↦ (b, o.own)
+    ]

@@ -1,11 +1,13 @@
 //! Byte strings.
 
-ghost use Rattle.std.specs.Prelude.{◌≡◌, ◌<◌, ℕ, List, Err};
+ghost use Rattle.std.specs.Prelude.{◌≡◌, ◌<◌, ℕ, List, Err, IfOk, IfErr};
 ghost use Rattle.sshkey_model.specs.Reading.{bytes_at, string_at};
 ghost use Rattle.sshkey_base.specs.Causes.{encoding_cause};
 ghost use Rattle.sshkey_base.specs.Leaves.{SpellsString, string_grammar};
 ghost use Rattle.sshkey_base.specs.Reading.{Gives, LengthPast};
 ghost use Rattle.sshkey_base.specs.Source.{told};
+
+mod compare;
 
 use crate::decode::Decode;
 use crate::encoding::Error;
@@ -31,6 +33,24 @@ impl Bytes {
         ensures { result ≡ bytes.items }
     {
         Bytes { bytes }
+    }
+
+    /// A copy of the bytes. Refused only for want of memory.
+    pub fn from_slice(alloc: Global, bytes: &[u8]) -> Result<Bytes, Error>
+        ensures copy { IfOk result (λ b. b ≡ bytes.now) }
+        ensures memory { IfErr result (λ e. e ≡ Error.Memory) }
+    {
+        Ok(Bytes {
+            bytes: Vec::from_slice(alloc, bytes)?,
+        })
+    }
+
+    /// A copy. Refused only for want of memory.
+    pub fn try_clone(&self, alloc: Global) -> Result<Bytes, Error>
+        ensures copy { IfOk result (λ b. b ≡ self.now) }
+        ensures memory { IfErr result (λ e. e ≡ Error.Memory) }
+    {
+        Bytes::from_slice(alloc, self.as_slice())
     }
 
     /// The bytes.

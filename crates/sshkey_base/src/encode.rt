@@ -2,13 +2,14 @@
 
 ghost use Rattle.std.specs.Prelude.{◌≡◌, ◌≤◌, ◌<◌, ◌+◌, ◌^◌, ℕ, IfOk};
 ghost use Rattle.std.specs.Int.{w8, w32, w64};
-ghost use Rattle.sshkey_model.specs.Parts.{Parts, number, box};
+ghost use Rattle.sshkey_model.specs.Parts.{Parts, number, box, ◌&◌};
 ghost use Rattle.sshkey_model.specs.Texts.{string};
-ghost use Rattle.sshkey_base.specs.Sink.{Encodes, Measures, IsLength};
+ghost use Rattle.sshkey_base.specs.Sink.{Encodes, Measures, MakesBytes, IsLength};
 
 use crate::bytes::Bytes;
 use crate::encoding::{Error, Result};
 use crate::writer::Writer;
+use std::alloc::Global;
 
 /// A value that has bytes.
 #[tactic(auto, using(crate::proofs::Writing::measuring_leaves))]
@@ -78,8 +79,8 @@ pub fn encode_string<W: Writer>(bytes: &[u8], writer: &mut W) -> Result<()>
     writer.write(bytes)
 }
 
-/// How many bytes a string of `len` bytes has behind its length. `Length` exactly where that is
-/// more than 2^32 - 1.
+/// How many bytes a string has with its length before it. `Length` exactly where it is longer than
+/// 2^32 - 1 bytes. Takes no memory.
 #[tactic(auto, using(crate::proofs::Writing::measuring_leaves))]
 pub fn string_len(bytes: &[u8]) -> Result<usize>
     ensures measures { Measures (string bytes.now) result }
@@ -87,6 +88,32 @@ pub fn string_len(bytes: &[u8]) -> Result<usize>
 {
     let len = u32_of(bytes.len())?;
     Ok(4 + len as usize)
+}
+
+/// Writes two values, one behind the other.
+#[tactic(auto, using(crate::proofs::Writing::writing))]
+pub fn encode_both<A: Encode, B: Encode, W: Writer>(
+    first: &A,
+    second: &B,
+    writer: &mut W,
+) -> Result<()>
+    ensures { Encodes W.fault (A.normal first.now & B.normal second.now) (W.sink writer.old) result (W.sink writer.new) }
+{
+    first.encode(writer)?;
+    second.encode(writer)
+}
+
+/// The bytes of the normal form, in memory of their own.
+///
+/// Exactly where a box in it would pass 2^32 - 1 bytes, the answer is `Length`; otherwise it is
+/// refused for want of memory alone.
+pub fn encode_vec<T: Encode>(alloc: Global, value: &T) -> Result<Vec<u8>>
+    ensures { MakesBytes (T.normal value.now) result }
+{
+    let len = value.encoded_len()?;
+    let mut bytes = Vec::with_capacity(alloc, len)?;
+    value.encode(&mut bytes)?;
+    Ok(bytes)
 }
 
 /// One byte (RFC 4251, section 5).

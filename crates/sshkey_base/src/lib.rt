@@ -21,7 +21,7 @@ mod writer;
 pub use algorithm::Algorithm;
 pub use bytes::Bytes;
 pub use decode::{Decode, decode_boxed, decode_front, decode_whole};
-pub use encode::{Encode, encode_string, string_len};
+pub use encode::{Encode, encode_both, encode_string, encode_vec, string_len};
 pub use error::{Error, Result};
 pub use joined::encode_both;
 pub use hexadecimal::{write_lower_hex, write_upper_hex};
