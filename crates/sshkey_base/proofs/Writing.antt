@@ -80,11 +80,6 @@ after_both p q s = rw append_assoc refl
 
 pub ruleset writing = (not_first, not_later, after_both, fits_both)
 
--- the error that `?` hands on
-pub stops_first : (fault : Error → Type 0) (p q : Parts) (s t : Sink) (e : Error) (r : Result (Unit {0}) Error) → NotWritten fault p s e t → IsErrAnd r (λ f. f ≡ e) → Encodes fault (p & q) s r t
-stops_first fault p q s t e (Ok x) h f = absurd f
-stops_first fault p q s t e (Err d) h f = rw f (not_first fault p q s t e h)
-
 -- ---- a box
 
 -- its length is refused
@@ -185,19 +180,6 @@ pub ruleset measuring = (length_both, boxes_both, boxes_first, boxes_second)
 
 -- the same of a leaf or a box
 pub ruleset measuring_leaves = (length_box, length_bytes, length_number8, length_number32, length_number64, boxes_box, boxes_length, boxes_inside, boxes_bytes, boxes_number)
-
--- the error that `?` hands on, of all the parts, of the first or of the others
-pub misses : (p : Parts) (e : Error) (r : Result ℕ Error) → Measures p (Err e) → IsErrAnd r (λ f. f ≡ e) → Measures p r
-misses p e (Ok n) h f = absurd f
-misses p e (Err d) h f = (h.0, f ∙ h.1)
-
-pub misses_first : (p q : Parts) (e : Error) (r : Result ℕ Error) → Measures p (Err e) → IsErrAnd r (λ f. f ≡ e) → Measures (p & q) r
-misses_first p q e (Ok n) h f = absurd f
-misses_first p q e (Err d) h f = (λ b. h.0 (boxes_first p q b), f ∙ h.1)
-
-pub misses_later : (p q : Parts) (e : Error) (r : Result ℕ Error) → Measures q r → IsErrAnd r (λ f. f ≡ e) → Measures (p & q) r
-misses_later p q e (Ok n) h f = absurd f
-misses_later p q e (Err d) h f = (λ b. h.0 (boxes_second p q b), h.1)
 
 -- what a box holds does not fit
 pub inside_misfit : (fault : Error → Type 0) (p : Parts) (s : Sink) (e : Error) → (BoxesFit p → ⊥) × (e ≡ Length) → NotWritten fault (box p) s e s
