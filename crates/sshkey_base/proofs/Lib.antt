@@ -6,3 +6,8 @@ pub mod Accepted
 pub mod Writing
 pub mod Labels
 pub mod Utf8
+pub mod AtSigns
+pub mod OwnNameTests
+pub mod CertificateTypes
+pub mod OtherNames
+pub mod CertifiedNames

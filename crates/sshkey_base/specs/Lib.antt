@@ -8,10 +8,16 @@ pub mod Sink
 pub mod Leaves
 pub mod Labels
 pub mod Laws
-pub mod Algorithms
 pub mod Answering
 pub mod Numbers
 pub mod MpintSpelling
 pub mod Texts
 pub mod MpintNormal
 pub mod Equality
+pub mod Names
+pub mod Kinds
+pub mod Naming
+pub mod OwnNames
+pub mod Digests
+pub mod LabelLaws
+pub mod NameReaders

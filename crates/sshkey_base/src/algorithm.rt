@@ -1,46 +1,294 @@
-//! Names of algorithms.
+//! Algorithms of keys and signatures.
 
-ghost use Rattle.sshkey_model.specs.Names.{Algorithm as algorithm, algorithm_name};
-ghost use Rattle.sshkey_base.specs.Algorithms.{algorithm_of, IsKnown, known_from, known_checks, known_ascii, known_refusals};
+ghost use Rattle.std.specs.Prelude.{◌≡◌, ◌↔◌, IsTrue, IsOk, IfOk, option_map, IfErr, Err, Some, None, codes, string_bytes};
+ghost use Rattle.sshkey_model.specs.CertificateNames.{certificate_name, certified, certified_from};
+ghost use Rattle.sshkey_model.specs.Names.{Dsa, Ed25519, algorithm_name, IsAlgorithm, algorithms, algorithm_from, named};
+ghost use Rattle.sshkey_model.specs.Names as model;
+ghost use Rattle.sshkey_model.specs.Reading as fault;
+ghost use Rattle.sshkey_base.specs.Causes.{cause};
+ghost use Rattle.sshkey_base.specs.Kinds.{is_ecdsa, is_rsa, IsFixed};
+ghost use Rattle.sshkey_base.specs.LabelLaws.{algorithm_checks, algorithm_ascii, algorithm_refusals};
+ghost use Rattle.sshkey_base.specs.Labels.{LooksUp};
+ghost use Rattle.sshkey_base.specs.Names.{algorithm_of};
+ghost use Rattle.sshkey_base.specs.Naming.{Names};
+ghost use Rattle.sshkey_base.specs.declared.encoding.Error.TheVariants as encoding;
 
-use crate::encoding::{Error, Result};
+mod curve;
+mod hash;
+mod name;
+
+pub use curve::EcdsaCurve;
+pub use hash::HashAlg;
+pub use name::AlgorithmName;
+
+use crate::encoding;
+use crate::error::{Error, Result};
 use crate::label::Label;
 use std::alloc::Global;
+use std::convert::AsStr;
+use std::fmt;
 
-/// What a key or a signature is of (RFC 8709, section 4).
-#[derive(Clone, Copy, Debug, PartialEq, Eq)]
+/// An algorithm of keys or signatures.
+///
+/// Algorithms are ordered as they stand here, and then by what they hold.
+#[derive(Debug, Drop, PartialEq, Eq, PartialOrd, Ord, Hash)]
 pub enum Algorithm {
-    /// Ed25519, `ssh-ed25519`.
+    /// The digital signature algorithm (RFC 4253, section 6.6).
+    Dsa,
+    /// The elliptic curve digital signature algorithm (RFC 5656, section 3).
+    Ecdsa {
+        /// The curve.
+        curve: EcdsaCurve,
+    },
+    /// Ed25519 (RFC 8709, section 4).
     Ed25519,
+    /// RSA.
+    Rsa {
+        /// The hash of a signature (RFC 8332, section 3), and none for `ssh-rsa` (RFC 4253,
+        /// section 6.6).
+        hash: Option<HashAlg>,
+    },
+    /// ECDSA over NIST P-256 by a security key (PROTOCOL.u2f).
+    SkEcdsaSha2NistP256,
+    /// Ed25519 by a security key (PROTOCOL.u2f).
+    SkEd25519,
+    /// An algorithm of somebody's own (RFC 4251, section 6).
+    Other(AlgorithmName),
+}
+
+impl Algorithm {
+    /// The algorithm of that name: one of the fixed ones, or else one of somebody's own, and
+    /// `Label` where it is no name. Memory is asked for only for a name of somebody's own.
+    pub fn new(alloc: Global, name: &str) -> Result<Algorithm>
+        ensures gives { Names algorithm_of cause (algorithm_from name.now) result }
+        ensures fixed { (a : model.Algorithm) → named algorithm_name algorithms name.now ≡ Some a → IsOk result }
+        ensures refused { algorithm_from name.now ≡ Err fault.Label → result ≡ Err (Error.Encoding encoding.Label) }
+    {
+        Ok(Algorithm::from_label(alloc, name)?)
+    }
+
+    /// The algorithm with that name in a certificate (PROTOCOL.certkeys), and `Label` where it is
+    /// no such name. An RSA algorithm has no hash then. No memory is asked for at a fixed name.
+    pub fn new_certificate(alloc: Global, name: &str) -> Result<Algorithm>
+        ensures gives { Names algorithm_of cause (certified_from name.now) result }
+        ensures fixed { (a : model.Algorithm) → named certificate_name certified name.now ≡ Some a → IsOk result }
+    {
+        match fixed_in_certificate(name) {
+            Some(algorithm) => Ok(algorithm),
+            None => {
+                let name = AlgorithmName::from_certificate_type(alloc, name)?;
+                Ok(Algorithm::Other(name))
+            }
+        }
+    }
+
+    /// The name of the algorithm, as `ssh-ed25519`.
+    pub fn as_str(&self) -> &str
+        ensures { result.now ≡ algorithm_name (algorithm_of self.now) }
+    {
+        match self {
+            Algorithm::Dsa => "ssh-dss",
+            Algorithm::Ecdsa { curve } => match curve {
+                EcdsaCurve::NistP256 => "ecdsa-sha2-nistp256",
+                EcdsaCurve::NistP384 => "ecdsa-sha2-nistp384",
+                EcdsaCurve::NistP521 => "ecdsa-sha2-nistp521",
+            },
+            Algorithm::Ed25519 => "ssh-ed25519",
+            Algorithm::Rsa { hash } => match hash {
+                None => "ssh-rsa",
+                Some(HashAlg::Sha256) => "rsa-sha2-256",
+                Some(HashAlg::Sha512) => "rsa-sha2-512",
+            },
+            Algorithm::SkEcdsaSha2NistP256 => "sk-ecdsa-sha2-nistp256@openssh.com",
+            Algorithm::SkEd25519 => "sk-ssh-ed25519@openssh.com",
+            Algorithm::Other(name) => name.as_str(),
+        }
+    }
+
+    /// The name of the algorithm in a certificate (PROTOCOL.certkeys), as
+    /// `ssh-ed25519-cert-v01@openssh.com`. RSA has one name there, with and without a hash. Only
+    /// want of memory refuses it.
+    pub fn to_certificate_type(&self, alloc: Global) -> Result<String>
+        ensures ok { IfOk result (λ text. string_bytes text ≡ certificate_name (algorithm_of self.now)) }
+        ensures err { IfErr result (λ e. e ≡ Error.Memory) }
+    {
+        match self {
+            Algorithm::Other(name) => name.certificate_type(alloc),
+            _ => Ok(String::from_str(alloc, self.fixed_certificate_type())?),
+        }
+    }
+
+    // The name in a certificate of an algorithm that is none of somebody's own.
+    fn fixed_certificate_type(&self) -> &'static str
+        requires { IsFixed (algorithm_of self.now) }
+        ensures { result.now ≡ certificate_name (algorithm_of self.now) }
+    {
+        match self {
+            Algorithm::Dsa => "ssh-dss-cert-v01@openssh.com",
+            Algorithm::Ecdsa { curve } => match curve {
+                EcdsaCurve::NistP256 => "ecdsa-sha2-nistp256-cert-v01@openssh.com",
+                EcdsaCurve::NistP384 => "ecdsa-sha2-nistp384-cert-v01@openssh.com",
+                EcdsaCurve::NistP521 => "ecdsa-sha2-nistp521-cert-v01@openssh.com",
+            },
+            Algorithm::Ed25519 => "ssh-ed25519-cert-v01@openssh.com",
+            Algorithm::Rsa { .. } => "ssh-rsa-cert-v01@openssh.com",
+            Algorithm::SkEcdsaSha2NistP256 => "sk-ecdsa-sha2-nistp256-cert-v01@openssh.com",
+            Algorithm::SkEd25519 => "sk-ssh-ed25519-cert-v01@openssh.com",
+            Algorithm::Other(_) => unreachable!(),
+        }
+    }
+
+    /// Whether it is DSA.
+    pub fn is_dsa(&self) -> bool
+        ensures { IsTrue result ↔ (algorithm_of self.now ≡ Dsa) }
+    {
+        matches!(self, Algorithm::Dsa)
+    }
+
+    /// Whether it is ECDSA over some curve. That of a security key is not.
+    pub fn is_ecdsa(&self) -> bool
+        ensures { result ≡ is_ecdsa (algorithm_of self.now) }
+    {
+        matches!(self, Algorithm::Ecdsa { .. })
+    }
+
+    /// Whether it is Ed25519. That of a security key is not.
+    pub fn is_ed25519(&self) -> bool
+        ensures { IsTrue result ↔ (algorithm_of self.now ≡ Ed25519) }
+    {
+        matches!(self, Algorithm::Ed25519)
+    }
+
+    /// Whether it is RSA, with or without a hash.
+    pub fn is_rsa(&self) -> bool
+        ensures { result ≡ is_rsa (algorithm_of self.now) }
+    {
+        matches!(self, Algorithm::Rsa { .. })
+    }
+
+    /// The same algorithm. Only want of memory refuses it, and only for a name of somebody's own.
+    pub fn try_clone(&self, alloc: Global) -> Result<Algorithm>
+        ensures ok { IfOk result (λ clone. algorithm_of clone ≡ algorithm_of self.now) }
+        ensures err { IfErr result (λ e. e ≡ Error.Memory) }
+    {
+        Ok(match self {
+            Algorithm::Dsa => Algorithm::Dsa,
+            Algorithm::Ecdsa { curve } => Algorithm::Ecdsa { curve: *curve },
+            Algorithm::Ed25519 => Algorithm::Ed25519,
+            Algorithm::Rsa { hash } => Algorithm::Rsa { hash: *hash },
+            Algorithm::SkEcdsaSha2NistP256 => Algorithm::SkEcdsaSha2NistP256,
+            Algorithm::SkEd25519 => Algorithm::SkEd25519,
+            Algorithm::Other(name) => Algorithm::Other(name.try_clone(alloc)?),
+        })
+    }
+}
+
+// The algorithm with that fixed name.
+#[tactic(auto, unfolding(crate::specs::NameReaders::named))]
+fn fixed(name: &str) -> Option<Algorithm>
+    ensures { option_map algorithm_of result ≡ named algorithm_name algorithms name.now }
+{
+    let algorithm = match name {
+        "ssh-dss" => Algorithm::Dsa,
+        "ecdsa-sha2-nistp256" => ecdsa(EcdsaCurve::NistP256),
+        "ecdsa-sha2-nistp384" => ecdsa(EcdsaCurve::NistP384),
+        "ecdsa-sha2-nistp521" => ecdsa(EcdsaCurve::NistP521),
+        "ssh-ed25519" => Algorithm::Ed25519,
+        "ssh-rsa" => Algorithm::Rsa { hash: None },
+        "rsa-sha2-256" => rsa(HashAlg::Sha256),
+        "rsa-sha2-512" => rsa(HashAlg::Sha512),
+        "sk-ecdsa-sha2-nistp256@openssh.com" => Algorithm::SkEcdsaSha2NistP256,
+        "sk-ssh-ed25519@openssh.com" => Algorithm::SkEd25519,
+        _ => return None,
+    };
+    Some(algorithm)
+}
+
+// The algorithm with that fixed name in a certificate.
+#[tactic(auto, unfolding(crate::specs::NameReaders::named))]
+fn fixed_in_certificate(name: &str) -> Option<Algorithm>
+    ensures { option_map algorithm_of result ≡ named certificate_name certified name.now }
+{
+    let algorithm = match name {
+        "ssh-dss-cert-v01@openssh.com" => Algorithm::Dsa,
+        "ecdsa-sha2-nistp256-cert-v01@openssh.com" => ecdsa(EcdsaCurve::NistP256),
+        "ecdsa-sha2-nistp384-cert-v01@openssh.com" => ecdsa(EcdsaCurve::NistP384),
+        "ecdsa-sha2-nistp521-cert-v01@openssh.com" => ecdsa(EcdsaCurve::NistP521),
+        "ssh-ed25519-cert-v01@openssh.com" => Algorithm::Ed25519,
+        "ssh-rsa-cert-v01@openssh.com" => Algorithm::Rsa { hash: None },
+        "sk-ecdsa-sha2-nistp256-cert-v01@openssh.com" => Algorithm::SkEcdsaSha2NistP256,
+        "sk-ssh-ed25519-cert-v01@openssh.com" => Algorithm::SkEd25519,
+        _ => return None,
+    };
+    Some(algorithm)
+}
+
+fn ecdsa(curve: EcdsaCurve) -> Algorithm
+    ensures { result ≡ Algorithm.Ecdsa curve }
+{
+    Algorithm::Ecdsa { curve }
+}
+
+fn rsa(hash: HashAlg) -> Algorithm
+    ensures { result ≡ Algorithm.Rsa (Some hash) }
+{
+    Algorithm::Rsa { hash: Some(hash) }
 }
 
 impl Label for Algorithm {
-    ghost Named = { algorithm };
+    ghost Named = { model.Algorithm };
 
     ghost stands_for = { algorithm_of };
 
     ghost name = { algorithm_name };
 
-    ghost IsNamed = { IsKnown };
+    ghost IsNamed = { IsAlgorithm };
 
-    ghost named = { known_from };
+    ghost named = { algorithm_from };
 
     fn label(&self) -> &str {
-        match self {
-            Algorithm::Ed25519 => "ssh-ed25519",
+        self.as_str()
+    }
+
+    fn from_label(alloc: Global, name: &str) -> encoding::Result<Algorithm>
+        ensures gives { LooksUp algorithm_of algorithm_from name.now result }
+        ensures fixed { (a : model.Algorithm) → named algorithm_name algorithms name.now ≡ Some a → IsOk result }
+        ensures refused { algorithm_from name.now ≡ Err fault.Label → result ≡ Err encoding.Label }
+    {
+        match fixed(name) {
+            Some(algorithm) => Ok(algorithm),
+            None => Ok(Algorithm::Other(AlgorithmName::checked(alloc, name)?)),
         }
     }
 
-    fn from_label(_alloc: Global, text: &str) -> Result<Algorithm> {
-        match text {
-            "ssh-ed25519" => Ok(Algorithm::Ed25519),
-            _ => Err(Error::Label),
-        }
+    ghost checks = { algorithm_checks };
+
+    ghost ascii = { algorithm_ascii };
+
+    ghost refusals = { algorithm_refusals };
+}
+
+impl AsStr for Algorithm {
+    ghost text = { λ algorithm. algorithm_name (algorithm_of algorithm) };
+
+    fn as_str(&self) -> &str {
+        Algorithm::as_str(self)
     }
+}
 
-    ghost checks = { known_checks };
+impl fmt::Display for Algorithm {
+    ghost output = { λ algorithm. Some (algorithm_name (algorithm_of algorithm)) };
 
-    ghost ascii = { known_ascii };
+    fn fmt<W: fmt::Write>(&self, f: &mut fmt::Formatter<W>) -> fmt::Result {
+        f.write_str(self.as_str())
+    }
+}
 
-    ghost refusals = { known_refusals };
+/// Ed25519.
+impl Default for Algorithm {
+    ghost is_default = { λ algorithm. algorithm_of algorithm ≡ Ed25519 };
+
+    fn default() -> Algorithm {
+        Algorithm::Ed25519
+    }
 }

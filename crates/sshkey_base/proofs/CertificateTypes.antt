@@ -1,0 +1,82 @@
+-- Names of somebody's own in certificates.
+use Rattle.std.proofs.Common.{◌≡◌, ◌≢◌, ℕ, Option, Some, None, Result, Ok, Err, IfOk, IfErr, IsSome, List, ◌∷◌, ◌++◌, length, nat_le, ◌&&◌, true, false, refl, sym, ap, subst, ◌∙◌, rules}
+use Rattle.std.proofs.lemmas.Bool.{and_parts, both_ways}
+use Rattle.std.proofs.lemmas.List.{append_cancel_right}
+use denote.Ref.{Bor}
+use Rattle.sshkey_model.specs.Names.{Other, at_sign, cut, are_ascii, is_split, is_own_name}
+use Rattle.sshkey_model.specs.CertificateNames.{suffix, with_suffix, certificate_name}
+use Rattle.sshkey_model.proofs.CertificateNameReaders.{cut_parts}
+use Rattle.sshkey_base.specs.OwnNames.{IsCutOf, AreParts, IsNoCertificateName, NamesCertified}
+use Rattle.sshkey_base.specs.Causes.{cause}
+use Rattle.sshkey_base.specs.declared.error.Error.{Error}
+use Rattle.sshkey_base.specs.declared.error.Error.TheVariants as wide
+use Rattle.sshkey_base.specs.declared.encoding.Error.TheVariants as encoding
+use Rattle.sshkey_base.proofs.AtSigns.{cut-at, cut-front, cut-suffixed}
+
+split_some : (o : Option (List ℕ × List ℕ)) → is_split o ≡ true → (p : List ℕ × List ℕ) × (o ≡ Some p)
+split_some None e = absurd cc
+split_some (Some p) e = (p, refl)
+
+pub own_cut : (n : List ℕ) → is_own_name n ≡ true → (p : List ℕ × List ℕ) × (cut n ≡ Some p)
+unfolding is_own_name
+own_cut n own = split_some (cut n) (and_parts (are_ascii n && nat_le (length n) 64) (is_split (cut n)) own).1
+
+-- so such a name has two parts when it is cut
+pub cut_some : (n : List ℕ) (result : Option (Bor (List ℕ) × Bor (List ℕ))) → is_own_name n ≡ true → IsCutOf n result → IsSome result
+cut_some n None own e = let p = own_cut n own in absurd (cc (e, p.1))
+cut_some n (Some p) own e = search rules
+
+pub certificate_name-cut : (n : List ℕ) (p : List ℕ × List ℕ) → cut n ≡ Some p → certificate_name (Other n) ≡ p.0 ++ suffix ++ at_sign ∷ p.1
+certificate_name-cut n p e = ap (λ (o : Option (List ℕ × List ℕ)). with_suffix o n) e
+
+-- the certificate type of a name has the parts of the name
+pub parts_of : (n t : List ℕ) → is_own_name n ≡ true → certificate_name (Other n) ≡ t → (l : List ℕ) × (r : List ℕ) × (n ≡ l ++ at_sign ∷ r) × AreParts t l r
+parts_of n t own e =
+    let p = own_cut n own in
+    let parts = cut_parts n p.0 p.1 in
+    (p.0.0, p.0.1, parts.0, record { first = parts.1; whole = sym e ∙ certificate_name-cut n p.0 p.1 })
+
+-- and no other parts
+pub same_parts : (t l r k q : List ℕ) → AreParts t l r → AreParts t k q → (l ≡ k) × (r ≡ q)
+same_parts t l r k q a b =
+    let both : Some (l ++ suffix, r) ≡ Some (k ++ suffix, q) = sym (cut-suffixed l r a.first) ∙ ap cut (sym a.whole ∙ b.whole) ∙ cut-suffixed k q b.first in
+    let pair : (l ++ suffix, r) ≡ (k ++ suffix, q) = cc both in
+    (append_cancel_right l k suffix (ap (λ (z : List ℕ × List ℕ). z.0) pair), ap (λ (z : List ℕ × List ℕ). z.1) pair)
+
+pub no_at_sign : (t : List ℕ) → cut t ≡ None → (l r : List ℕ) → AreParts t l r → ⊥
+no_at_sign t e l r p =
+    let s : cut t ≡ Some (l ++ suffix, r) = ap cut p.whole ∙ cut-suffixed l r p.first in
+    cc (e, s)
+
+pub no_suffix : (t name domain : List ℕ) → cut t ≡ Some (name, domain) → ((front : List ℕ) → name ≢ front ++ suffix) → (l r : List ℕ) → AreParts t l r → ⊥
+no_suffix t name domain e none l r p =
+    let s : Some (name, domain) ≡ Some (l ++ suffix, r) = sym e ∙ ap cut p.whole ∙ cut-suffixed l r p.first in
+    let pair : (name, domain) ≡ (l ++ suffix, r) = cc s in
+    none l (ap (λ (z : List ℕ × List ℕ). z.0) pair)
+
+pub are_parts : (t name domain l : List ℕ) → cut t ≡ Some (name, domain) → name ≡ l ++ suffix → AreParts t l domain
+are_parts t name domain l e ends =
+    let parts = cut_parts t (name, domain) e in
+    record { first = cut-front l suffix (subst (λ (z : List ℕ). cut z ≡ None) ends parts.1); whole = parts.0 ∙ ap (λ (z : List ℕ). z ++ at_sign ∷ domain) ends }
+
+-- a text without those parts is the certificate type of no name
+pub refused : (t : List ℕ) (e : Error) → ((l r : List ℕ) → AreParts t l r → ⊥) → e ≡ wide.Encoding encoding.Label → IsNoCertificateName t (cause e)
+refused t e without is = record {
+  none = λ n own spelt. let p = parts_of n t own spelt in without p.0 p.1 p.3;
+  label = ap cause is;
+}
+
+-- a text with those parts is that of the name without the suffix, if this is one
+pub named_of : (t l r bare : List ℕ) (result : Result (List ℕ) Error) → AreParts t l r → bare ≡ l ++ at_sign ∷ r → IfOk result (λ n. n ≡ bare) → IfOk result (λ n. is_own_name n ≡ true) → IfErr result (λ e. (is_own_name bare ≡ false) × (e ≡ wide.Encoding encoding.Label)) → NamesCertified cause t result
+named_of t l r bare (Ok n) parts is ok own err = record {
+  own = own;
+  spelled = certificate_name-cut n (l, r) (ap cut (ok ∙ is) ∙ cut-at l r parts.first) ∙ sym parts.whole;
+}
+named_of t l r bare (Err e) parts is ok own_ err = λ _. record {
+  none = λ n own spelt.
+    let p = parts_of n t own spelt in
+    let same = same_parts t p.0 p.1 l r p.3 parts in
+    let form : bare ≡ n = is ∙ cc (p.2, same.0, same.1) in
+    both_ways (is_own_name bare) err.0 (rw form own);
+  label = ap cause err.1;
+}

@@ -1,0 +1,18 @@
+use Rattle.std.proofs.Common.{sym}
+use Rattle.sshkey_base.specs.Names.{algorithm_of}
+use Rattle.sshkey_base.proofs.OtherNames.{other_from, unknown_from, not_own, handed_on, looked_up}
+use Rattle.sshkey_base.proofs.algorithm.AlgorithmLabel.from_label.Goals as goal
+
+pub returns-in_err-checked-in-None-clause-gives : goal.returns-in_err-checked-in-None-clause-gives
+returns-in_err-checked-in-None-clause-gives c = looked_up algorithm_of c.args.name.now _ c.from_residual.result c.from_residual.ensures.1 (sym c.in-None.ensures) c.in_err-checked-in-None.ensures.gives
+
+pub returns-in_err-checked-in-None-clause-refused : goal.returns-in_err-checked-in-None-clause-refused
+returns-in_err-checked-in-None-clause-refused c = λ unknown.
+    handed_on c.from_residual.result _ _ c.from_residual.ensures.1 (cc (c.in_err-checked-in-None.ensures.refused (not_own c.args.name.now (sym c.in-None.ensures) unknown)))
+
+pub returns-in_ok-checked-in-None-clause-gives : goal.returns-in_ok-checked-in-None-clause-gives
+returns-in_ok-checked-in-None-clause-gives c = other_from c.args.name.now _ (sym c.in-None.ensures) c.in_ok-checked-in-None.ensures.gives
+
+pub returns-in_ok-checked-in-None-clause-refused : goal.returns-in_ok-checked-in-None-clause-refused
+returns-in_ok-checked-in-None-clause-refused c = λ unknown.
+    absurd (cc (c.in_ok-checked-in-None.ensures.refused (not_own c.args.name.now (sym c.in-None.ensures) unknown)))

@@ -1,0 +1,2 @@
+-- The model's words of names, under names that an attribute of this crate can unfold.
+unfoldable pub use Rattle.sshkey_model.specs.Names.{named, cut, is_own_name, is_other_name}

@@ -1,0 +1,40 @@
+-- Names of somebody's own, as calls find them.
+use Rattle.std.specs.Prelude.{◌≡◌, ◌≢◌, ℕ, List, ◌∷◌, ◌++◌, true, Option, Some, None, Result, Ok, Err, if◌then◌else◌}
+use denote.Ref.{Bor}
+use Rattle.sshkey_model.specs.Reading.{Fault, Label}
+use Rattle.sshkey_model.specs.Names.{Other, at_sign, cut, is_own_name}
+use Rattle.sshkey_model.specs.CertificateNames.{certificate_name, suffix}
+use Rattle.sshkey_base.specs.Causes.{Cause, NoMemory, Faulty}
+
+-- the name, where it is one of somebody's own
+abbrev pub own_name_from : List ℕ → Result (List ℕ) Fault
+own_name_from t = if is_own_name t then Ok t else Err Label
+
+-- It is the name of this name in a certificate.
+pub record HasCertificateName (t n : List ℕ) : Type 0 where
+  pub own : is_own_name n ≡ true
+  pub spelled : certificate_name (Other n) ≡ t
+
+-- It is the name of none in a certificate, and the error says so.
+pub record IsNoCertificateName (t : List ℕ) (cause : Cause) : Type 0 where
+  pub none : (n : List ℕ) → is_own_name n ≡ true → certificate_name (Other n) ≢ t
+  pub label : cause ≡ Faulty Label
+
+-- The answer is the name that has this name in a certificate, and `Label` where none has it, want of memory aside.
+abbrev pub NamesCertified : {E : Type 0} → (E → Cause) → List ℕ → Result (List ℕ) E → Type 0
+NamesCertified cause t (Ok n) = HasCertificateName t n
+NamesCertified cause t (Err e) = cause e ≢ NoMemory → IsNoCertificateName t (cause e)
+
+-- The text was cut at its first at sign, if it has one.
+abbrev pub IsCutOf : List ℕ → Option (Bor (List ℕ) × Bor (List ℕ)) → Type 0
+IsCutOf t None = cut t ≡ None
+IsCutOf t (Some p) = cut t ≡ Some (p.0.now, p.1.now)
+
+-- The text has the suffix before its first at sign, and these are what stands before the suffix and behind that sign.
+pub record AreParts (t l r : List ℕ) : Type 0 where
+  pub first : cut l ≡ None
+  pub whole : t ≡ l ++ suffix ++ at_sign ∷ r
+
+abbrev pub IsWithoutSuffix : List ℕ → Option (Bor (List ℕ) × Bor (List ℕ)) → Type 0
+IsWithoutSuffix t None = (l r : List ℕ) → AreParts t l r → ⊥
+IsWithoutSuffix t (Some p) = AreParts t p.0.now p.1.now

@@ -1,0 +1,238 @@
+//! Names of algorithms of somebody's own.
+
+ghost use Rattle.std.specs.Prelude.{◌≡◌, true, false, IfOk, IfErr, Err, Some, nat_eq, refl, string_bytes};
+ghost use Rattle.std.specs.Cmp.{partial_equiv_from_equiv};
+ghost use Rattle.std.specs.Cmp.Lexicographic.{pointwise, slice_cmp, nat_list_eq_equiv, nat_list_cmp_total, texts_ties, texts_po};
+ghost use Rattle.std.specs.Cmp.Rules.{hashing};
+ghost use Rattle.std.specs.Hash as fed;
+ghost use Rattle.std.specs.Ordering.{nat_cmp};
+ghost use Rattle.std.proofs.Common.{rules};
+ghost use Rattle.sshkey_model.specs.CertificateNames.{certificate_name};
+ghost use Rattle.sshkey_model.specs.Names.{Other, are_ascii, cut, is_own_name, is_split};
+ghost use Rattle.sshkey_base.specs.Causes.{cause};
+ghost use Rattle.sshkey_base.specs.Labels.{LooksUp};
+ghost use Rattle.sshkey_base.specs.Naming.{Names};
+ghost use Rattle.sshkey_base.specs.OwnNames.{own_name_from, NamesCertified, IsCutOf, IsWithoutSuffix};
+ghost use Rattle.sshkey_base.specs.declared.encoding.Error.TheVariants as encoding;
+
+use crate::encoding;
+use crate::error::{Error, Result};
+use crate::label_error::LabelError;
+use std::alloc::Global;
+use std::cmp::Ordering;
+use std::convert::AsStr;
+use std::fmt;
+use std::hash::{Hash, Hasher};
+use std::marker::Model;
+
+/// How many bytes a name may have.
+const MAX_LEN: usize = 64;
+
+/// The end of what stands before the at sign, in a certificate.
+const CERTIFICATE_SUFFIX: &str = "-cert-v01";
+
+/// The name of an algorithm of somebody's own, as `name@example.com` (RFC 4251, section 6).
+///
+/// It is ASCII, has at most 64 bytes and one at sign, which is neither its first nor its last
+/// byte. Contracts see it as its bytes. Names are ordered by their bytes.
+#[derive(Drop)]
+pub struct AlgorithmName {
+    text: String,
+}
+
+impl Model for AlgorithmName {
+    ghost use Rattle.std.specs.Prelude.{◌≡◌, ℕ, List, true, string_bytes};
+    ghost use Rattle.sshkey_model.specs.Names.{is_own_name};
+
+    ghost Value = { List ℕ };
+
+    ghost view = { λ name. string_bytes name.text };
+
+    ghost invariant = { λ name. is_own_name (string_bytes name.text) ≡ true };
+}
+
+impl AlgorithmName {
+    /// The name with those bytes, and `Label` where they are none. A fixed name with an at sign
+    /// is one too. Memory is asked for only for a name.
+    pub fn new(alloc: Global, text: &str) -> Result<AlgorithmName>
+        ensures gives { Names (λ name. name) cause (own_name_from text.now) result }
+        ensures refused { is_own_name text.now ≡ false → result ≡ Err (Error.Encoding encoding.Label) }
+    {
+        Ok(AlgorithmName::checked(alloc, text)?)
+    }
+
+    // The same, with an error of the encoding.
+    pub(crate) fn checked(alloc: Global, text: &str) -> encoding::Result<AlgorithmName>
+        ensures gives { LooksUp (λ name. name) own_name_from text.now result }
+        ensures refused { is_own_name text.now ≡ false → result ≡ Err encoding.Label }
+    {
+        if !is_own_name(text) {
+            return Err(encoding::Error::Label);
+        }
+        Ok(AlgorithmName {
+            text: String::from_str(alloc, text)?,
+        })
+    }
+
+    /// The name as text.
+    pub fn as_str(&self) -> &str
+        ensures value { result.now ≡ self.now }
+        ensures own { is_own_name self.now ≡ true }
+    {
+        self.text.as_str()
+    }
+
+    /// The name in a certificate: with `-cert-v01` before its at sign (PROTOCOL.certkeys). It has
+    /// at most 73 bytes. Only want of memory refuses it.
+    pub fn certificate_type(&self, alloc: Global) -> Result<String>
+        ensures ok { IfOk result (λ text. string_bytes text ≡ certificate_name (Other self.now)) }
+        ensures err { IfErr result (λ e. e ≡ Error.Memory) }
+    {
+        let (name, domain) = split_at_sign(&self.text).unwrap();
+        Ok(format!(in alloc; "{name}{CERTIFICATE_SUFFIX}@{domain}")?)
+    }
+
+    /// The name whose certificate type is that text, and `Label` where it is that of none.
+    pub fn from_certificate_type(alloc: Global, text: &str) -> Result<AlgorithmName>
+        ensures { NamesCertified cause text.now result }
+    {
+        let Some((name, domain)) = without_suffix(text) else {
+            return Err(Error::from(LabelError));
+        };
+        AlgorithmName::from_text(format!(in alloc; "{name}@{domain}")?)
+    }
+
+    // The same as `new`, of a text that is handed over. Takes no memory.
+    fn from_text(text: String) -> Result<AlgorithmName>
+        ensures ok { IfOk result (λ name. name ≡ string_bytes text) }
+        ensures own { IfOk result (λ name. is_own_name name ≡ true) }
+        ensures err { IfErr result (λ e. (is_own_name (string_bytes text) ≡ false) × (e ≡ Error.Encoding encoding.Label)) }
+    {
+        if !is_own_name(text.as_str()) {
+            return Err(Error::from(LabelError));
+        }
+        Ok(AlgorithmName { text })
+    }
+
+    /// A name with the same bytes. Only want of memory refuses it.
+    pub fn try_clone(&self, alloc: Global) -> Result<AlgorithmName>
+        ensures ok { IfOk result (λ name. name ≡ self.now) }
+        ensures err { IfErr result (λ e. e ≡ Error.Memory) }
+    {
+        Ok(AlgorithmName {
+            text: String::from_str(alloc, self.text.as_str())?,
+        })
+    }
+}
+
+// What stands before the first at sign, and behind it.
+fn split_at_sign(text: &str) -> Option<(&str, &str)>
+    ensures { IsCutOf text.now result }
+{
+    text.split_once('@')
+}
+
+// Whether it is a name of somebody's own.
+#[tactic(auto, unfolding(crate::specs::NameReaders::is_own_name))]
+fn is_own_name(text: &str) -> bool
+    ensures { result ≡ is_own_name text.now }
+{
+    is_ascii(text) && text.len() <= MAX_LEN && is_split(text)
+}
+
+fn is_ascii(text: &str) -> bool
+    ensures { result ≡ are_ascii text.now }
+{
+    text.is_ascii()
+}
+
+// Whether there is one at sign, neither first nor last.
+fn is_split(text: &str) -> bool
+    ensures { result ≡ is_split (cut text.now) }
+{
+    match split_at_sign(text) {
+        Some((name, domain)) => {
+            !name.is_empty() && !domain.is_empty() && split_at_sign(domain).is_none()
+        }
+        None => false,
+    }
+}
+
+// The two parts of a certificate type, without the suffix of the first.
+fn without_suffix(text: &str) -> Option<(&str, &str)>
+    ensures { IsWithoutSuffix text.now result }
+{
+    let (name, domain) = split_at_sign(text)?;
+    let name = name.strip_suffix(CERTIFICATE_SUFFIX)?;
+    Some((name, domain))
+}
+
+impl AsStr for AlgorithmName {
+    ghost text = { λ name. name };
+
+    fn as_str(&self) -> &str {
+        AlgorithmName::as_str(self)
+    }
+}
+
+impl fmt::Display for AlgorithmName {
+    ghost output = { λ name. Some name };
+
+    fn fmt<W: fmt::Write>(&self, f: &mut fmt::Formatter<W>) -> fmt::Result {
+        f.write_str(self.as_str())
+    }
+}
+
+impl fmt::Debug for AlgorithmName {
+    fn fmt<W: fmt::Write>(&self, f: &mut fmt::Formatter<W>) -> fmt::Result {
+        fmt::Debug::fmt(&self.as_str(), f)
+    }
+}
+
+impl PartialEq for AlgorithmName {
+    ghost eq = { pointwise nat_eq };
+
+    ghost laws = { partial_equiv_from_equiv nat_list_eq_equiv };
+
+    fn eq(&self, other: &AlgorithmName) -> bool {
+        self.as_str() == other.as_str()
+    }
+}
+
+impl Eq for AlgorithmName {
+    ghost laws = { nat_list_eq_equiv };
+}
+
+impl PartialOrd for AlgorithmName {
+    ghost partial_cmp = { λ x y. Some (slice_cmp nat_cmp x y) };
+
+    ghost laws = { texts_po };
+
+    fn partial_cmp(&self, other: &AlgorithmName) -> Option<Ordering> {
+        Some(self.cmp(other))
+    }
+}
+
+impl Ord for AlgorithmName {
+    ghost cmp = { slice_cmp nat_cmp };
+
+    ghost total = { nat_list_cmp_total };
+
+    ghost matches_partial_cmp = { λ x y. refl };
+
+    ghost matches_eq = { texts_ties };
+
+    fn cmp(&self, other: &AlgorithmName) -> Ordering {
+        self.as_str().cmp(other.as_str())
+    }
+}
+
+impl Hash for AlgorithmName {
+    ghost hash_input = { fed.str };
+
+    ghost respects_eq = { Prim.search (hashing, rules) };
+
+    fn hash<H: Hasher>(&self, state: &mut H) {
+        self.as_str().hash(state);
+    }
+}
