@@ -22,6 +22,7 @@ pub mod LineCuts
 pub mod Laws
 pub mod HexText
 pub mod Computed
+pub mod StringExamples
 pub mod NameExamples
 pub mod NumberExamples
 pub mod KeyExamples

@@ -61,4 +61,5 @@ pub mod numbers;
 pub mod private;
 pub mod signatures;
 pub mod ssh_signatures;
+pub mod strings;
 pub mod texts;
