@@ -1,5 +1,5 @@
 -- A reader and the spelling that it reads: the law of each part, and how laws combine.
-use Rattle.std.proofs.Common.{◌≡◌, ◌⊎◌, ℕ, zero, suc, ◌+◌, ◌^◌, ◌%◌, ◌<◌, ◌≤◌, Option, Some, None, Bool, true, false, cond, ltb, List, [], ◌∷◌, ◌++◌, length, get_or, take, drop, Result, Ok, Err, refl, sym, ap, subst, ◌∙◌, append_assoc, append-nil, bytes_eq, arith, inl, inr}
+use Rattle.std.proofs.Common.{◌≡◌, ◌⊎◌, ℕ, zero, suc, ◌^◌, ◌%◌, ◌<◌, ◌≤◌, Option, Some, Bool, true, false, cond, ltb, List, [], ◌∷◌, ◌++◌, length, get_or, take, drop, Result, Ok, Err, refl, sym, ap, subst, ◌∙◌, append_assoc, append-nil, bytes_eq, arith, inl, inr}
 use Rattle.std.specs.Int.{Width, w8, w32, w64, byte_len, byte_at, bytes_high_first, from_be_bytes, to_be_bytes}
 use mir.Val.{bits}
 use Rattle.std.proofs.lemmas.Bool.{ltb-false, ltb-true, le-ltb, lt-ltb, and_parts}
@@ -8,7 +8,7 @@ use Rattle.std.proofs.lemmas.Slice.Eq.{bytes_eq-Decides}
 use Rattle.std.proofs.lemmas.Nat.{be_bytes_4, be_bytes_8, from_be_bytes-to_be_bytes_4, from_be_bytes-to_be_bytes_8}
 pub use Rattle.sshkey_model.specs.Parts.{Any}
 use Rattle.sshkey_model.specs.Parts.{Parts, bytes, number, box, ◌&◌, flat, Fits, InRange, BoxesFit, are_bytes, each, IsPrefixFree}
-use Rattle.sshkey_model.specs.Reading.{Fault, Length, FormatEncoding, TrailingData, ◌>>=◌, Front, Whole, end_of, whole, then_at, checked_at, checked_whole, list_within, list_whole, IsChain, number_at, bytes_at, string_at, literal_from, literal_at, box_at}
+use Rattle.sshkey_model.specs.Reading.{Fault, Length, FormatEncoding, ◌>>=◌, Front, Whole, end_of, whole, then_at, checked_at, checked_whole, list_within, IsChain, number_at, bytes_at, string_at, literal_from, literal_at, box_at}
 
 -- ---- steps that did not fail
 

@@ -1,8 +1,8 @@
 -- A lawful reader takes exactly the spellings.
-use Rattle.std.proofs.Common.{◌≡◌, ℕ, List, ◌++◌, Result, Ok, Err, refl, sym, ap, subst, ◌∙◌}
+use Rattle.std.proofs.Common.{◌≡◌, ℕ, List, ◌++◌, Ok, Err, refl, sym, ap, subst, ◌∙◌}
 use Rattle.std.proofs.lemmas.List.{append_cancel_right}
-use Rattle.sshkey_model.specs.Parts.{Parts, flat, Fits}
-use Rattle.sshkey_model.specs.Reading.{Fault, ◌>>=◌, Front}
+use Rattle.sshkey_model.specs.Parts.{Parts, flat}
+use Rattle.sshkey_model.specs.Reading.{Fault, Front}
 use Rattle.sshkey_model.specs.Grammar.{Spells, SpellsWith, IsSpelled, spelled, value_at, IsGrammar}
 use Rattle.sshkey_model.proofs.CombinedReaders.{ReadsFront, bind_ok, ok_is, done}
 

@@ -1,5 +1,5 @@
 -- When a text is a line of a value, and that it is a line of one at most.
-use Rattle.std.proofs.Common.{◌≡◌, ℕ, ◌<◌, List, length, sym, ap, ◌∙◌, subst, refl, arith}
+use Rattle.std.proofs.Common.{◌≡◌, ℕ, List, length, sym, ap, ◌∙◌, subst, refl, arith}
 use Rattle.base64.specs.Engines.{standard}
 use Rattle.base64.specs.GeneralPurpose.{encode_of, IsBytes}
 use Rattle.sshkey_model.specs.Lines.{IsLine, IsLineOf, HasWordCharacters, joined}

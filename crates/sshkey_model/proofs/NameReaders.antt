@@ -1,5 +1,5 @@
 -- Names of algorithms, curves and hashes are read as they are spelled.
-use Rattle.std.proofs.Common.{◌≡◌, ℕ, Option, Some, None, is_none, Bool, true, false, cond, ◌&&◌, List, [], ◌∷◌, Result, Ok, Err, bytes_eq, refl, sym, ap, subst, ◌∙◌, inl, inr}
+use Rattle.std.proofs.Common.{◌≡◌, ℕ, Option, Some, None, is_none, true, List, [], ◌∷◌, Ok, Err, bytes_eq, refl, sym, ap, subst, ◌∙◌, inl, inr}
 use Rattle.std.specs.List.{AllByRecursion}
 use Rattle.std.proofs.lemmas.Slice.Eq.{bytes_eq-Decides}
 use Rattle.std.proofs.lemmas.Bool.{and_parts}

@@ -1,6 +1,6 @@
 -- Normal forms determine values, and are read back.
-use Rattle.std.proofs.Common.{◌≡◌, ℕ, List, [], ◌∷◌, ◌++◌, Ok, refl, sym, ap, ◌∙◌, append-nil}
-use Rattle.sshkey_model.specs.Parts.{Parts, flat, Fits}
+use Rattle.std.proofs.Common.{◌≡◌, List, [], ◌∷◌, sym, ap, ◌∙◌, append-nil}
+use Rattle.sshkey_model.specs.Parts.{Parts, flat}
 use Rattle.sshkey_model.specs.Reading.{Front}
 use Rattle.sshkey_model.specs.Grammar.{IsSpelled, spelled}
 use Rattle.sshkey_model.specs.Options.{CertificateOption, HasOptionPlaces, plain_nestings}

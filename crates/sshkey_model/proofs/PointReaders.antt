@@ -1,8 +1,8 @@
 -- Points are read as they are spelled.
-use Rattle.std.proofs.Common.{◌≡◌, ℕ, ◌+◌, ◌*◌, ◌/◌, ◌%◌, ◌≤◌, true, false, cond, eqb, ltb, List, [], ◌∷◌, length, Ok, Err, refl, subst, ◌∙◌, arith, inl, inr, ◌&&◌, ◌||◌}
+use Rattle.std.proofs.Common.{◌≡◌, ℕ, ◌+◌, ◌*◌, ◌/◌, ◌%◌, ◌≤◌, true, false, cond, eqb, ltb, List, [], ◌∷◌, length, Ok, Err, refl, subst, arith, inl, inr, ◌&&◌, ◌||◌}
 use Rattle.std.proofs.lemmas.Bool.{and_parts, and_from, or_cases, or_left, or_right, eqb-true, eq-eqb, le-ltb}
 use Rattle.sshkey_model.specs.Parts.{bytes}
-use Rattle.sshkey_model.specs.Reading.{Length, UnknownAlgorithm, EcdsaEncoding, ◌>>=◌}
+use Rattle.sshkey_model.specs.Reading.{Length, EcdsaEncoding, ◌>>=◌}
 use Rattle.sshkey_model.specs.Names.{Curve, Nistp256, Nistp384, Nistp521}
 use Rattle.sshkey_model.specs.Points.{field_size, is_point, IsPoint, curve_eq, curve_of_size, point_curve, point_from, p256_point_from}
 use Rattle.sshkey_model.proofs.CombinedReaders.{bind_ok, ok_is, done, passed, chosen, Checks, Any, kept_bytes}

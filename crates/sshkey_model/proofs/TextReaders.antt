@@ -1,5 +1,5 @@
 -- Texts and lists of texts are read as they are spelled.
-use Rattle.std.proofs.Common.{◌≡◌, ℕ, ◌<◌, List, [], ◌∷◌, length, Option, None, Some, arith}
+use Rattle.std.proofs.Common.{◌<◌, List, [], ◌∷◌, length, Option, None, Some, arith}
 use Rattle.std.specs.Str.{is_utf8}
 use Rattle.std.specs.List.{AllByRecursion}
 use Rattle.sshkey_model.specs.Parts.{Parts, bytes, box, flat}

@@ -1,14 +1,12 @@
 -- Worked examples: certificates.
-use Rattle.std.specs.Prelude.{◌≡◌, ℕ, ◌+◌, ◌-◌, ◌^◌, List, [], ◌∷◌, ◌++◌, length, take, drop, replicate, Bool, true, false, Some, Result, Ok, Err, codes}
+use Rattle.std.specs.Prelude.{◌≡◌, ℕ, ◌+◌, ◌-◌, ◌^◌, List, [], ◌∷◌, ◌++◌, length, take, drop, replicate, true, false, Some, Ok, Err, codes}
 use Rattle.sshkey_model.specs.HexText.{hex}
 use Rattle.sshkey_model.specs.Parts.{flat}
-use Rattle.sshkey_model.specs.Reading.{Fault, Length, CharacterEncoding, Label, TrailingData, FormatEncoding, InvalidTime, whole}
+use Rattle.sshkey_model.specs.Reading.{Length, CharacterEncoding, Label, TrailingData, FormatEncoding, InvalidTime, whole}
 use Rattle.sshkey_model.specs.Names.{Sha256, Algorithm}
 use Rattle.sshkey_model.specs.Keys.{Key, Ed25519, Plain, Head256}
 use Rattle.sshkey_model.specs.Options.{Bare}
-use Rattle.sshkey_model.specs.Certificates.{CertificateType, User, Host, Unsigned, Certificate, CertificateChoices, to_be_signed, plain_certificate, normal_to_be_signed, normal_certificate, is_time, type_at, time_at, certificate_at}
-use Rattle.sshkey_model.specs.Verification.{Question}
-use Rattle.sshkey_model.specs.Validity.{IsValid}
+use Rattle.sshkey_model.specs.Certificates.{CertificateType, User, Host, Unsigned, Certificate, CertificateChoices, to_be_signed, normal_to_be_signed, normal_certificate, is_time, type_at, time_at, certificate_at}
 use Rattle.sshkey_model.specs.KeyExamples.{ed25519_point, ed25519_key, ed25519_bytes, rsa_key, rsa_bytes, rsa_256_bytes}
 
 -- ---- times and types

@@ -1,7 +1,7 @@
 -- Names of algorithms in certificates (PROTOCOL.certkeys).
 use Rattle.std.specs.Prelude.{◌≡◌, ℕ, ◌-◌, List, [], ◌∷◌, ◌++◌, length, take, drop, true, Option, Some, None, Result, Ok, Err, if◌then◌else◌, codes, bytes_eq}
 use Rattle.sshkey_model.specs.Parts.{Parts}
-use Rattle.sshkey_model.specs.Reading.{Fault, Label, ◌>>=◌, Front, string_at, checked_at}
+use Rattle.sshkey_model.specs.Reading.{Fault, Label, Front, string_at, checked_at}
 use Rattle.sshkey_model.specs.Texts.{string}
 use Rattle.sshkey_model.specs.Names.{Nistp256, Nistp384, Nistp521, Algorithm, Dsa, Ecdsa, Ed25519, Rsa, SkEcdsa, SkEd25519, Other, named, at_sign, cut, is_other_name, algorithm_or}
 

@@ -1,10 +1,9 @@
 -- Worked examples: what a verifier is asked, and of which pairs of a key and an algorithm.
-use Rattle.std.specs.Prelude.{◌≡◌, ℕ, List, [], ◌∷◌, ◌++◌, length, replicate, Bool, true, false, Option, Some, None, is_some, filter, codes}
+use Rattle.std.specs.Prelude.{◌≡◌, ℕ, List, [], ◌∷◌, ◌++◌, length, replicate, Bool, true, false, Some, None, is_some, filter, codes}
 use Rattle.sshkey_model.specs.HexText.{hex}
 use Rattle.sshkey_model.specs.Names.{Nistp256, Nistp384, Nistp521, Sha256, Sha512, Algorithm, Dsa, Ecdsa, Ed25519, Rsa, SkEcdsa, SkEd25519, Other}
 use Rattle.sshkey_model.specs.Keys.{Key}
-use Rattle.sshkey_model.specs.Signatures.{Signature}
-use Rattle.sshkey_model.specs.Verification.{Question, question, security_key_message, IsAccepted}
+use Rattle.sshkey_model.specs.Verification.{question, security_key_message, IsAccepted}
 use Rattle.sshkey_model.specs.KeyExamples.{ed25519_point, ed25519_key, rsa_key, p256_point, sk_ecdsa_key, sk_ed25519_key, opaque_key}
 use Rattle.sshkey_model.specs.SignatureExamples.{sk_ecdsa_blob, sk_ecdsa_signature, sk_ed25519_within, sk_ed25519_signature}
 

@@ -1,5 +1,5 @@
 -- Which bytes are a spelling of which value.
-use Rattle.std.specs.Prelude.{◌≡◌, List, ◌++◌, ℕ, Ok, Err}
+use Rattle.std.specs.Prelude.{◌≡◌, List, ◌++◌, ℕ, Ok}
 use Rattle.sshkey_model.specs.Parts.{Parts, flat, Fits}
 use Rattle.sshkey_model.specs.Reading.{◌>>=◌, Front}
 

@@ -3,8 +3,8 @@ use Rattle.std.specs.Prelude.{◌≡◌, ℕ, List, [], ◌∷◌, ◌++◌, len
 use Rattle.sshkey_model.specs.HexText.{hex}
 use Rattle.sshkey_model.specs.Parts.{flat}
 use Rattle.sshkey_model.specs.Reading.{Length, CharacterEncoding, Label, TrailingData, FormatEncoding, UnknownAlgorithm, Cryptographic, EcdsaEncoding, whole}
-use Rattle.sshkey_model.specs.Names.{Nistp256, Nistp384, Algorithm}
-use Rattle.sshkey_model.specs.Keys.{Key, Dsa, Ecdsa, Ed25519, Rsa, SkEcdsa, SkEd25519, Opaque, Head, Plain, Head256, Head512, key, normal_key, body, body_at, key_at}
+use Rattle.sshkey_model.specs.Names.{Nistp256, Algorithm}
+use Rattle.sshkey_model.specs.Keys.{Key, Dsa, Ecdsa, Ed25519, Rsa, SkEcdsa, SkEd25519, Opaque, Plain, Head256, Head512, key, normal_key, body, body_at, key_at}
 
 -- ---- Ed25519
 

@@ -1,5 +1,5 @@
 -- Public keys (RFC 4253, section 6.6; RFC 5656, section 3.1; RFC 8709, section 4; PROTOCOL.u2f).
-use Rattle.std.specs.Prelude.{◌≡◌, ℕ, List, length, Bool, true, false, ◌&&◌, Some, None, Result, Ok, Err, if◌then◌else◌}
+use Rattle.std.specs.Prelude.{◌≡◌, ℕ, List, length, ◌&&◌, Some, None, Result, Ok, Err, if◌then◌else◌}
 use Rattle.sshkey_model.specs.Parts.{Parts, ◌&◌}
 use Rattle.sshkey_model.specs.Reading.{Fault, UnknownAlgorithm, Cryptographic, ◌>>=◌, Front, string_at, box_at, whole, bytes_at, checked_at}
 use Rattle.sshkey_model.specs.Texts.{string, IsText, text_at}

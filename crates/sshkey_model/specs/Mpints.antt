@@ -1,6 +1,6 @@
 -- Whole numbers of any size, in two's complement (RFC 4251, section 5).
 use Rattle.std.specs.Prelude.{◌≡◌, ℕ, zero, suc, List, [], ◌∷◌, Bool, true, false, Option, Some, None, Result, Ok, Err, nat_lt, if◌then◌else◌}
-use Rattle.sshkey_model.specs.Reading.{Fault, FormatEncoding, ◌>>=◌, Front, string_at, checked_at}
+use Rattle.sshkey_model.specs.Reading.{Fault, FormatEncoding, Front, string_at, checked_at}
 
 -- Not the byte 00 alone, nor 00 before a byte below 80. (The RFC forbids a needless leading ff too; it is let through.)
 abbrev pub is_mpint : List ℕ → Bool

@@ -1,5 +1,5 @@
 -- Worked examples: names of algorithms, curves and hashes.
-use Rattle.std.specs.Prelude.{◌≡◌, ℕ, List, [], ◌∷◌, ◌++◌, length, true, false, Some, None, Ok, Err, codes}
+use Rattle.std.specs.Prelude.{◌≡◌, ℕ, List, [], ◌++◌, length, true, false, Some, None, Ok, Err, codes}
 use Rattle.sshkey_model.specs.HexText.{hex}
 use Rattle.sshkey_model.specs.Reading.{Length, Label}
 use Rattle.sshkey_model.specs.Names.{Curve, Nistp256, Nistp384, Nistp521, curve_name, curve_from, curve_at, Hash, Sha256, Sha512, hash_name, hash_from, Algorithm, Dsa, Ecdsa, Ed25519, Rsa, SkEcdsa, SkEd25519, Other, algorithm_name, algorithm_from, algorithm_at, is_other_name}

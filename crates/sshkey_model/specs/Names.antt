@@ -1,7 +1,7 @@
 -- Names of algorithms, curves and hashes.
 use Rattle.std.specs.Prelude.{◌≡◌, ℕ, List, [], ◌∷◌, length, Bool, true, false, ◌&&◌, Option, Some, None, is_none, Result, Ok, Err, nat_lt, nat_le, ◌==◌, if◌then◌else◌, codes, bytes_eq}
 use Rattle.sshkey_model.specs.Parts.{Parts}
-use Rattle.sshkey_model.specs.Reading.{Fault, Label, ◌>>=◌, Front, string_at, checked_at}
+use Rattle.sshkey_model.specs.Reading.{Fault, Label, Front, string_at, checked_at}
 use Rattle.sshkey_model.specs.Texts.{string}
 
 -- ---- curves and hashes

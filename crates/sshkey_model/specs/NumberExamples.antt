@@ -1,9 +1,7 @@
 -- Worked examples: mpints and points.
-use Rattle.std.specs.Prelude.{◌≡◌, ℕ, ◌+◌, ◌-◌, ◌*◌, List, [], ◌∷◌, ◌++◌, length, replicate, true, false, Some, None, Ok, Err, codes}
+use Rattle.std.specs.Prelude.{◌≡◌, ℕ, ◌+◌, ◌-◌, ◌*◌, List, [], ◌∷◌, replicate, true, false, Some, None, Ok, Err}
 use Rattle.sshkey_model.specs.HexText.{hex}
-use Rattle.sshkey_model.specs.Parts.{flat}
 use Rattle.sshkey_model.specs.Reading.{Length, FormatEncoding, UnknownAlgorithm, EcdsaEncoding}
-use Rattle.sshkey_model.specs.Texts.{string}
 use Rattle.sshkey_model.specs.Names.{Curve, Nistp256, Nistp384, Nistp521}
 use Rattle.sshkey_model.specs.Mpints.{is_mpint, positive_part, of_positive, mpint_at}
 use Rattle.sshkey_model.specs.Points.{field_size, is_point, point_from, p256_point_from}

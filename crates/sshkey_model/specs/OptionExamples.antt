@@ -1,9 +1,9 @@
 -- Worked examples: critical options and extensions.
-use Rattle.std.specs.Prelude.{◌≡◌, ℕ, List, [], ◌∷◌, ◌++◌, true, false, Ok, Err, codes}
+use Rattle.std.specs.Prelude.{◌≡◌, [], ◌∷◌, true, false, Ok, Err, codes}
 use Rattle.sshkey_model.specs.HexText.{hex}
 use Rattle.sshkey_model.specs.Parts.{flat}
 use Rattle.sshkey_model.specs.Reading.{Length, CharacterEncoding, TrailingData, FormatEncoding}
-use Rattle.sshkey_model.specs.Options.{CertificateOption, Nesting, Bare, Nested, is_below, options, normal_options, options_at}
+use Rattle.sshkey_model.specs.Options.{CertificateOption, Bare, Nested, is_below, options, normal_options, options_at}
 
 -- By bytes, and a beginning first.
 abbrev pub NameOrder : Type 0

@@ -1,5 +1,5 @@
 -- Plain readers on lists: from left to right, with the first fault that is met.
-use Rattle.std.specs.Prelude.{ℕ, zero, suc, List, [], ◌∷◌, length, take, drop, Option, Some, None, Result, Ok, Err, Bool, true, false, nat_lt, bytes_eq, if◌then◌else◌}
+use Rattle.std.specs.Prelude.{ℕ, zero, suc, List, [], ◌∷◌, length, take, drop, Option, Some, None, Result, Ok, Err, nat_lt, bytes_eq, if◌then◌else◌}
 use Rattle.std.specs.Int.{Width, w32, byte_len, from_be_bytes}
 use Rattle.sshkey_model.specs.Parts.{are_bytes}
 

@@ -1,9 +1,9 @@
 -- Worked examples: SSH signatures.
-use Rattle.std.specs.Prelude.{◌≡◌, ℕ, List, [], ◌∷◌, ◌++◌, length, take, drop, replicate, Ok, Err, codes}
+use Rattle.std.specs.Prelude.{◌≡◌, ℕ, List, [], ◌++◌, length, take, drop, replicate, Ok, Err, codes}
 use Rattle.sshkey_model.specs.HexText.{hex}
 use Rattle.sshkey_model.specs.Parts.{flat}
 use Rattle.sshkey_model.specs.Reading.{Length, CharacterEncoding, Label, TrailingData, FormatEncoding, InvalidNamespace, UnsupportedVersion, whole}
-use Rattle.sshkey_model.specs.Names.{Hash, Sha256, Sha512, Algorithm}
+use Rattle.sshkey_model.specs.Names.{Sha256, Sha512, Algorithm}
 use Rattle.sshkey_model.specs.Keys.{Plain, Head256}
 use Rattle.sshkey_model.specs.SshSignatures.{SshSignature, signed_data, ssh_signature, normal_ssh_signature, ssh_signature_at}
 use Rattle.sshkey_model.specs.KeyExamples.{ed25519_key, ed25519_bytes, rsa_key, rsa_bytes, rsa_256_bytes}

@@ -1,5 +1,5 @@
 -- Worked examples: numbers, strings, texts and lists of texts.
-use Rattle.std.specs.Prelude.{◌≡◌, ℕ, List, [], ◌∷◌, Ok, Err, codes}
+use Rattle.std.specs.Prelude.{◌≡◌, [], ◌∷◌, Ok, Err, codes}
 use Rattle.std.specs.Int.{w8, w32, w64}
 use Rattle.sshkey_model.specs.HexText.{hex}
 use Rattle.sshkey_model.specs.Parts.{number, flat}

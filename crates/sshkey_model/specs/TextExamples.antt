@@ -1,7 +1,7 @@
 -- Worked examples: fingerprints and lines.
-use Rattle.std.specs.Prelude.{◌≡◌, ℕ, List, [], length, codes}
+use Rattle.std.specs.Prelude.{◌≡◌, [], codes}
 use Rattle.sshkey_model.specs.HexText.{hex}
-use Rattle.sshkey_model.specs.Names.{Sha256, algorithm_name}
+use Rattle.sshkey_model.specs.Names.{Sha256}
 use Rattle.sshkey_model.specs.CertificateNames.{certificate_name}
 use Rattle.sshkey_model.specs.Keys.{key_algorithm}
 use Rattle.sshkey_model.specs.Fingerprints.{fingerprint, fingerprint_text}

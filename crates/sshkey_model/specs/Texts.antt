@@ -2,7 +2,7 @@
 use Rattle.std.specs.Prelude.{◌≡◌, ℕ, List, true, Result, Ok, Err, if◌then◌else◌}
 use Rattle.std.specs.Str.{is_utf8}
 use Rattle.sshkey_model.specs.Parts.{Parts, bytes, box, each}
-use Rattle.sshkey_model.specs.Reading.{Fault, CharacterEncoding, ◌>>=◌, Front, string_at, box_at, checked_at, list_whole}
+use Rattle.sshkey_model.specs.Reading.{Fault, CharacterEncoding, Front, string_at, box_at, checked_at, list_whole}
 
 -- A string is any bytes in a box.
 abbrev pub string : List ℕ → Parts

@@ -3,7 +3,7 @@ use Rattle.std.specs.Prelude.{◌≡◌, ℕ, List, ◌++◌, Bool, true, false,
 use Rattle.sha2.specs.Sha256.{sha256}
 use Rattle.sshkey_model.specs.Names.{Nistp256, Algorithm}
 use Rattle.sshkey_model.specs.Points.{curve_eq}
-use Rattle.sshkey_model.specs.Keys.{Key, Dsa, Ecdsa, Ed25519, Rsa, SkEcdsa, SkEd25519, SecurityKey}
+use Rattle.sshkey_model.specs.Keys.{Key, Dsa, Ecdsa, Ed25519, Rsa, SkEcdsa, SkEd25519}
 use Rattle.sshkey_model.specs.Signatures.{Signature, without_trailer, trailer}
 
 pub record Question : Type 0 where
