@@ -12,12 +12,12 @@ use Rattle.sshkey_model.specs.Names.{Curve, Nistp256, Hash, Algorithm, IsAlgorit
 use Rattle.sshkey_model.specs.Mpints.{IsMpint}
 use Rattle.sshkey_model.specs.Points.{field_size, IsPoint, curve_eq, point_from}
 use Rattle.sshkey_model.specs.Keys.{Head, headed, head_of}
-use Rattle.sshkey_model.specs.KeyPairs.{Sign, Usual, Without, With, is_high, signed_if, scalar_bytes, scalar, IsScalar, HasScalarPlaces, RsaPrivate, SecurityPrivate, KeyPair, DsaPair, EcdsaPair, Ed25519Pair, RsaPair, SkEcdsaPair, SkEd25519Pair, OpaquePair, public_half, pair_algorithm, rsa_private, security_private, pair, IsRsaPrivate, IsEcdsaPair, HasPairPlaces, IsPairUnder, KeyPairChoices, plain_pair, IsKeyPair, HasKeyPairPlaces, keypair, unsigned_scalar, signed_scalar, behind_sign, scalar_from, scalar_at, dsa_pair_at, of_curve, any_ecdsa_pair_at, wanted_curve, ecdsa_pair_at, private_before, ed25519_pair_at, rsa_private_at, rsa_pair_at, security_private_at, sk_ecdsa_pair_at, sk_ed25519_pair_at, opaque_pair_at, pair_at, keypair_at}
+use Rattle.sshkey_model.specs.KeyPairs.{Sign, Usual, Without, With, is_high, signed_if, scalar_bytes, scalar, IsScalar, HasScalarPlaces, RsaPrivate, SecurityPrivate, KeyPair, DsaPair, EcdsaPair, Ed25519Pair, RsaPair, SkEcdsaPair, SkEd25519Pair, OpaquePair, public_half, pair_algorithm, rsa_private, security_private, pair, IsRsaPrivate, IsEcdsaPair, HasPairPlaces, IsPairUnder, KeyPairChoices, plain_pair, IsKeyPair, HasKeyPairPlaces, keypair, unsigned_scalar, signed_scalar, behind_sign, scalar_from, scalar_at, dsa_pair_at, any_ecdsa_pair_at, wanted_curve, ecdsa_pair_at, private_before, ed25519_pair_at, rsa_private_at, rsa_pair_at, security_private_at, sk_ecdsa_pair_at, sk_ed25519_pair_at, opaque_pair_at, pair_at, keypair_at}
 use Rattle.sshkey_model.proofs.CombinedReaders.{bind_assoc, done, ok_is, chosen, met, ReadsFront, Checks, Any, HasLength, wide8, number_reads, string_reads, whole_reads, bytes_reads, box_reads, then_reads, checked_reads, checked_string_reads, to_form, kept, same_front}
 use Rattle.sshkey_model.proofs.NameReaders.{curve_reads, algorithm_reads}
 use Rattle.sshkey_model.proofs.TextReaders.{text_reads}
 use Rattle.sshkey_model.proofs.MpintReaders.{mpint_reads}
-use Rattle.sshkey_model.proofs.PointReaders.{IsPointOf, same_curve, curve_itself, point_checks, p256_point_checks}
+use Rattle.sshkey_model.proofs.PointReaders.{IsPointOf, same_curve, curve_itself, point_checks, p256_point_checks, of_curve_reads}
 use Rattle.sshkey_model.proofs.KeyReaders.{ed25519_string_reads, p256_checks, split_head, join_head}
 
 -- ---- scalars
@@ -101,9 +101,6 @@ dsa_pair_reads = same_front (checked_reads (to_form
     back _ s h place = absurd (cc h.0)
 
 -- ---- ECDSA
-
-of_curve_reads : (stated : Curve) → ReadsFront (λ x. IsPointOf x × (curve_eq x.0 stated ≡ true)) (λ x. string x.1) (checked_at (of_curve stated) (checked_at point_from string_at))
-of_curve_reads stated = checked_reads (kept (λ x. curve_eq x.0 stated) UnknownAlgorithm) (checked_string_reads point_checks)
 
 pub any_ecdsa_pair_reads : ReadsFront (IsSpelled IsEcdsaPair HasPairPlaces) (spelled pair) any_ecdsa_pair_at
 unfolding any_ecdsa_pair_at

@@ -1,19 +1,19 @@
 -- Public keys are read as they are spelled.
-use Rattle.std.proofs.Common.{◌≡◌, ℕ, Option, None, Some, true, List, Ok, Err, refl, sym, ap, subst, ◌∙◌, inl, inr, ◌&&◌}
+use Rattle.std.proofs.Common.{◌≡◌, ℕ, Option, None, Some, true, List, length, Ok, Err, refl, sym, ap, subst, ◌∙◌, inl, inr, ◌&&◌}
 use Rattle.std.proofs.lemmas.Bool.{and_parts}
 use Rattle.sshkey_model.specs.Parts.{◌&◌}
-use Rattle.sshkey_model.specs.Reading.{UnknownAlgorithm, ◌>>=◌, string_at}
+use Rattle.sshkey_model.specs.Reading.{UnknownAlgorithm, ◌>>=◌, Front, string_at}
 use Rattle.sshkey_model.specs.Grammar.{IsSpelled, spelled}
 use Rattle.sshkey_model.specs.Texts.{string, IsText}
 use Rattle.sshkey_model.specs.Names.{Curve, Nistp256, Hash, Sha256, Sha512, Algorithm, IsAlgorithm, algorithm, curve}
 use Rattle.sshkey_model.specs.Mpints.{IsMpint}
-use Rattle.sshkey_model.specs.Points.{field_size, is_point, IsPoint, curve_eq}
-use Rattle.sshkey_model.specs.Keys.{Key, Dsa, Ecdsa, Ed25519, Rsa, SkEcdsa, SkEd25519, Opaque, key_algorithm, body, IsKey, key, HasKeyPlaces, dsa_at, ecdsa_at, ed25519_at, rsa_at, sk_ecdsa_at, sk_ed25519_at, body_at, p256_only, on_curve, Head, Plain, Head256, Head512, headed, HasHead, head_of, key_at, unhashed, IsBodyUnder}
-use Rattle.sshkey_model.proofs.CombinedReaders.{bind_assoc, done, chosen, ok_is, ReadsFront, Checks, Any, whole_reads, HasLength, bytes_reads, string_reads, box_reads, then_reads, checked_reads, checked_string_reads, to_form, same_front}
+use Rattle.sshkey_model.specs.Points.{IsPoint, curve_eq, of_curve}
+use Rattle.sshkey_model.specs.Keys.{Key, Dsa, Ecdsa, Ed25519, Rsa, SkEcdsa, SkEd25519, Opaque, key_algorithm, body, IsBody, IsKey, key, HasKeyPlaces, dsa_at, any_ecdsa_at, ecdsa_at, ed25519_at, rsa_at, sk_ecdsa_at, sk_ed25519_at, body_at, p256_only, wanted_curve, IsEcdsa, Head, Plain, Head256, Head512, headed, HasHead, head_of, key_at, unhashed, IsBodyUnder}
+use Rattle.sshkey_model.proofs.CombinedReaders.{bind_assoc, done, met, ok_is, ReadsFront, Checks, Any, whole_reads, HasLength, bytes_reads, string_reads, box_reads, then_reads, checked_reads, checked_string_reads, to_form, same_front}
 use Rattle.sshkey_model.proofs.NameReaders.{curve_reads, algorithm_reads}
 use Rattle.sshkey_model.proofs.TextReaders.{text_reads}
 use Rattle.sshkey_model.proofs.MpintReaders.{mpint_reads}
-use Rattle.sshkey_model.proofs.PointReaders.{IsPointOf, same_curve, curve_itself, point_checks, p256_point_checks}
+use Rattle.sshkey_model.proofs.PointReaders.{IsPointOf, same_curve, curve_itself, of_curve_reads, p256_point_checks}
 
 pub rsa_reads : (hash : Option Hash) → ReadsFront (IsBodyUnder (Algorithm.Rsa hash)) body rsa_at
 unfolding rsa_at
@@ -57,26 +57,29 @@ opaque_reads name = checked_reads (to_form (Opaque name) (λ a h. ((refl, tt), r
     back (Opaque n k) h = (k, tt, (let same : n ≡ name = cc h.0 in ap (λ (z : List ℕ). Opaque z k) (sym same)), refl)
     back _ h = absurd (cc h.0)
 
+pub any_ecdsa_reads : ReadsFront IsEcdsa body any_ecdsa_at
+unfolding any_ecdsa_at
+any_ecdsa_reads = same_front (checked_reads (to_form (λ (stated, on). Ecdsa on.0 on.1) (λ a h. (h.1.0, ap (λ (c : Curve). curve c & string a.1.1) (sym (same_curve a.1.0 a.0 h.1.1)))) back) (then_reads curve_reads (λ stated. of_curve_reads stated))) (λ b. simp bind_assoc)
+  where
+    back : (k : Key) → IsEcdsa k → (a : Curve × (Curve × List ℕ)) × (Any a.0 × (IsPointOf a.1 × (curve_eq a.1.0 a.0 ≡ true))) × (Ecdsa a.1.0 a.1.1 ≡ k) × (curve a.0 & string a.1.1 ≡ body k)
+    back (Ecdsa c p) h = ((c, (c, p)), (tt, (h, curve_itself c)), refl, refl)
+    back _ h = absurd h
+
 pub ecdsa_reads : (c : Curve) → ReadsFront (IsBodyUnder (Algorithm.Ecdsa c)) body (ecdsa_at c)
 unfolding ecdsa_at
-ecdsa_reads c = same_front (checked_reads (record { takes = there; again = back }) (then_reads curve_reads (λ _. checked_string_reads point_checks))) (λ b. simp bind_assoc)
+ecdsa_reads c = checked_reads (record { takes = there; again = back }) any_ecdsa_reads
   where
-    there : (a : Curve × (Curve × List ℕ)) (k : Key) → Any a.0 × IsPointOf a.1 → on_curve c a.0 a.1 ≡ Ok k → IsBodyUnder (Algorithm.Ecdsa c) k × (curve a.0 & string a.1.1 ≡ body k)
-    there a k was e =
-        elim (chosen (curve_eq a.1.0 a.0 && curve_eq a.0 c) (Ok (Ecdsa c a.1.1)) (Err UnknownAlgorithm) (Ok k) e) [
-          | inl same ↦
-              let p = and_parts _ _ same.0 in
-              let first = same_curve a.1.0 a.0 p.0 in
-              let second = same_curve a.0 c p.1 in
-              let on : is_point (field_size c) a.1.1 ≡ true = subst (λ (d : Curve). is_point (field_size d) a.1.1 ≡ true) (first ∙ second) was.1 in
-              subst (λ (z : Key). IsBodyUnder (Algorithm.Ecdsa c) z × (curve a.0 & string a.1.1 ≡ body z)) (ok_is (Ecdsa c a.1.1) k same.1) ((refl, on), ap (λ (d : Curve). curve d & string a.1.1) second)
-          | inr other ↦ absurd (cc other.1)
-        ]
+    there : (k l : Key) → IsEcdsa k → wanted_curve c k ≡ Ok l → IsBodyUnder (Algorithm.Ecdsa c) l × (body k ≡ body l)
+    there (Ecdsa d p) l is e =
+        let h = met (curve_eq d c) UnknownAlgorithm (Ok (Ecdsa d p)) l e in
+        let same : d ≡ c = same_curve d c h.0 in
+        subst (λ (z : Key). IsBodyUnder (Algorithm.Ecdsa c) z × (body (Ecdsa d p) ≡ body z)) (ok_is (Ecdsa d p) l h.1) ((ap Algorithm.Ecdsa same, is), refl)
+    there _ l is e = absurd is
 
-    back : (k : Key) → IsBodyUnder (Algorithm.Ecdsa c) k → (a : Curve × (Curve × List ℕ)) × (Any a.0 × IsPointOf a.1) × (on_curve c a.0 a.1 ≡ Ok k) × (curve a.0 & string a.1.1 ≡ body k)
+    back : (l : Key) → IsBodyUnder (Algorithm.Ecdsa c) l → (k : Key) × IsEcdsa k × (wanted_curve c k ≡ Ok l) × (body k ≡ body l)
     back (Ecdsa d p) h =
         let same : d ≡ c = cc h.0 in
-        ((d, (d, p)), (tt, h.1), rw (curve_itself d, same, curve_itself c) refl, refl)
+        (Ecdsa d p, h.1, (let equal : curve_eq d c ≡ true = ap (λ (x : Curve). curve_eq x c) same ∙ curve_itself c in rw equal refl), refl)
     back _ h = absurd (cc h.0)
 
 pub p256_checks : Checks Any curve (λ c. c ≡ Nistp256) (λ c. curve Nistp256) p256_only

@@ -6,7 +6,7 @@ use Rattle.sshkey_model.specs.Reading.{Fault, Length, FormatEncoding, UnknownAlg
 use Rattle.sshkey_model.specs.Texts.{string, text_at}
 use Rattle.sshkey_model.specs.Names.{Curve, Nistp256, Algorithm, IsAlgorithm, algorithm, algorithm_at, curve, curve_at}
 use Rattle.sshkey_model.specs.Mpints.{IsMpint, mpint_at}
-use Rattle.sshkey_model.specs.Points.{field_size, curve_eq, point_from, p256_point_from}
+use Rattle.sshkey_model.specs.Points.{field_size, curve_eq, point_from, p256_point_from, of_curve}
 use Rattle.sshkey_model.specs.Keys.{Key, Dsa, Ecdsa, Ed25519, Rsa, SkEcdsa, SkEd25519, Opaque, DsaKey, RsaKey, SecurityKey, key_algorithm, IsBody, Head, Plain, headed, HasHead, head_of, unhashed, ed25519_at, p256_only}
 
 -- ---- private scalars of ECDSA
@@ -200,9 +200,6 @@ dsa_pair_at b = do
   y ← mpint_at g.1
   x ← mpint_at y.1
   Ok ((DsaPair (record { p = p.0; q = q.0; g = g.0; y = y.0 }) x.0, Usual), x.1)
-
-abbrev pub of_curve : Curve → Curve × List ℕ → Result (Curve × List ℕ) Fault
-of_curve stated point = if curve_eq point.0 stated then Ok point else Err UnknownAlgorithm
 
 -- of whichever curve it states
 unfoldable pub any_ecdsa_pair_at : Front (KeyPair × Sign)

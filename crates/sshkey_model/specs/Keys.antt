@@ -5,7 +5,7 @@ use Rattle.sshkey_model.specs.Reading.{Fault, UnknownAlgorithm, Cryptographic, �
 use Rattle.sshkey_model.specs.Texts.{string, IsText, text_at}
 use Rattle.sshkey_model.specs.Names.{Curve, Nistp256, Sha256, Sha512, Algorithm, IsAlgorithm, algorithm, algorithm_at, curve, curve_at}
 use Rattle.sshkey_model.specs.Mpints.{IsMpint, mpint_at}
-use Rattle.sshkey_model.specs.Points.{IsPoint, curve_eq, point_from, p256_point_from}
+use Rattle.sshkey_model.specs.Points.{IsPoint, curve_eq, of_curve, point_from, p256_point_from}
 
 pub record DsaKey : Type 0 where
   pub p : List ℕ
@@ -95,6 +95,11 @@ unhashed a = a
 abbrev pub IsBodyUnder : Algorithm → Key → Type 0
 IsBodyUnder a k = (key_algorithm k ≡ unhashed a) × IsBody k
 
+-- an ECDSA key of any curve
+abbrev pub IsEcdsa : Key → Type 0
+IsEcdsa (Ecdsa c point) = IsPoint c point
+IsEcdsa _ = ⊥
+
 -- ---- reading
 
 unfoldable pub dsa_at : Front Key
@@ -105,16 +110,21 @@ dsa_at b = do
   y ← mpint_at g.1
   Ok (Dsa (record { p = p.0; q = q.0; g = g.0; y = y.0 }), y.1)
 
--- the point of the stated curve, and that of the algorithm
-abbrev pub on_curve : Curve → Curve → Curve × List ℕ → Result Key Fault
-on_curve wanted stated point = if curve_eq point.0 stated && curve_eq stated wanted then Ok (Ecdsa wanted point.1) else Err UnknownAlgorithm
-
-unfoldable pub ecdsa_at : Curve → Front Key
-ecdsa_at wanted b = do
+-- of whichever curve it states
+unfoldable pub any_ecdsa_at : Front Key
+any_ecdsa_at b = do
   stated ← curve_at b
   point ← checked_at point_from string_at stated.1
-  key ← on_curve wanted stated.0 point.0
-  Ok (key, point.1)
+  on ← of_curve stated.0 point.0
+  Ok (Ecdsa on.0 on.1, point.1)
+
+abbrev pub wanted_curve : Curve → Key → Result Key Fault
+wanted_curve wanted (Ecdsa c point) = if curve_eq c wanted then Ok (Ecdsa c point) else Err UnknownAlgorithm
+wanted_curve wanted _ = Err UnknownAlgorithm
+
+-- of the curve that the algorithm names
+unfoldable pub ecdsa_at : Curve → Front Key
+ecdsa_at wanted = checked_at (wanted_curve wanted) any_ecdsa_at
 
 unfoldable pub ed25519_at : Front (List ℕ)
 ed25519_at = box_at (whole (bytes_at 32))

@@ -43,3 +43,7 @@ point_from b = if nat_lt 133 (length b) then Err Length else (point_curve b >>= 
 -- a point string of P-256
 abbrev pub p256_point_from : Whole (List ℕ)
 p256_point_from b = if nat_lt 65 (length b) then Err Length else if is_point 32 b then Ok b else Err EcdsaEncoding
+
+-- the point, if it is of the stated curve
+abbrev pub of_curve : Curve → Curve × List ℕ → Result (Curve × List ℕ) Fault
+of_curve stated point = if curve_eq point.0 stated then Ok point else Err UnknownAlgorithm
