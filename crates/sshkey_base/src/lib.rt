@@ -16,6 +16,8 @@ mod normal_form;
 mod reader;
 mod refusal;
 mod text;
+#[cfg(test)]
+mod tests;
 mod writer;
 
 pub use algorithm::{Algorithm, AlgorithmName, EcdsaCurve, HashAlg};

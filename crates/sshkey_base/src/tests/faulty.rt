@@ -1,0 +1,92 @@
+//! A source that has a fault of its own behind its bytes.
+
+ghost use Rattle.std.specs.Prelude.{◌≡◌, ◌+◌, ◌<◌, ◌^◌, length, []};
+
+use super::*;
+use crate::encoding::Error;
+
+/// Some bytes, and a fault in place of those that are missing.
+#[derive(Clone, Copy)]
+struct Faulty<'s> {
+    bytes: &'s [u8],
+    missing: usize,
+    ghost fits: { length bytes.now + missing < 2 ^ 64 },
+}
+
+#[tactic(auto, using(crate::proofs::NestedSources::part_advances))]
+impl Reader for Faulty<'_> {
+    ghost source = { λ s. record { left = s.bytes.now; missing = s.missing; outer = [] } };
+
+    fn read(&mut self, buffer: &mut [u8]) -> encoding::Result<()> {
+        let missing = self.missing;
+        let mut rest = self.bytes;
+        match rest.read(buffer) {
+            Ok(()) => {
+                self.bytes = rest;
+                Ok(())
+            }
+            Err(error) => {
+                if missing == 0 {
+                    Err(error)
+                } else {
+                    Err(Error::Base64)
+                }
+            }
+        }
+    }
+
+    fn remaining_len(&self) -> usize {
+        self.bytes.len() + self.missing
+    }
+}
+
+/// The first `len` bytes, and behind them a fault in place of the next `missing`.
+fn cut_short(bytes: &[u8], len: u8, missing: u8) -> Faulty<'_> {
+    let len = bytes.len().min(len as usize);
+    Faulty {
+        bytes: &bytes[..len],
+        missing: missing as usize,
+    }
+}
+
+#[test]
+fn a_fault_is_never_accepted_whole(rt: HostRuntime) {
+    for len in 0..15u8 {
+        for missing in 1..17u8 {
+            let source = cut_short(&NAME, len, missing);
+            assert!(rt; decode_whole::<Algorithm, _>(rt.alloc(), source).is_err());
+            assert!(rt; decode_whole::<Bytes, _>(rt.alloc(), source).is_err());
+        }
+    }
+    // all of the name is there, and more is announced
+    assert_eq!(rt;
+        decode_whole::<Algorithm, _>(rt.alloc(), cut_short(&NAME, 15, 2)),
+        Err(Error::TrailingData { remaining: 2 })
+    );
+    assert_eq!(rt;
+        decode_whole::<Algorithm, _>(rt.alloc(), cut_short(&NAME, 15, 0)),
+        Ok(Algorithm::Ed25519)
+    );
+}
+
+#[test]
+fn a_front_before_a_fault(rt: HostRuntime) {
+    for len in 0..16u8 {
+        let mut source = cut_short(&NAME, len, 20);
+        match Bytes::decode(rt.alloc(), &mut source) {
+            Ok(name) => {
+                assert_eq!(rt; len, 15);
+                assert_eq!(rt; name.as_slice(), b"ssh-ed25519".as_slice());
+                assert_eq!(rt; source.remaining_len(), 20);
+                assert!(rt; !source.is_finished());
+            }
+            Err(error) => {
+                assert!(rt; len < 15);
+                assert_eq!(rt; error, Error::Base64);
+            }
+        }
+    }
+    // a length past what was announced is `Length`, whatever is missing
+    assert!(rt; matches!(Bytes::decode(rt.alloc(), &mut cut_short(&NAME, 14, 0)), Err(Error::Length)));
+    assert!(rt; matches!(Bytes::decode(rt.alloc(), &mut cut_short(&NAME, 10, 4)), Err(Error::Length)));
+}

@@ -1,0 +1,106 @@
+//! Readers and the values that they give.
+
+use super::*;
+use crate::encoding::Error;
+
+#[test]
+fn numbers(rt: HostRuntime) {
+    let alloc = rt.alloc();
+    assert!(rt; reads(alloc, &[0x29, 0xb7, 0xf4, 0xaa, 7], &699_921_578u32, 1));
+    assert!(rt; reads(alloc, &[7, 8, 9], &7u8, 2));
+    assert!(rt; reads(alloc, &[0, 0, 0, 1, 0, 0, 0, 2], &4_294_967_298u64, 0));
+    assert!(rt; refuses::<u8>(alloc, &[], Error::Length));
+    assert!(rt; refuses::<u32>(alloc, &[0, 0, 0], Error::Length));
+    assert!(rt; refuses::<u64>(alloc, &[0; 7], Error::Length));
+}
+
+#[test]
+fn strings(rt: HostRuntime) -> Result<(), Fail> {
+    let alloc = rt.alloc();
+    let text = Bytes::from_slice(alloc, b"testing")?;
+    assert!(rt; reads(alloc, &TESTING, &text, 0));
+    assert!(rt; reads(alloc, &TESTING, &text.into_vec(), 0));
+    assert!(rt; reads(alloc, &TESTING, b"testing", 0));
+    assert!(rt; refuses::<[u8; 8]>(alloc, &TESTING, Error::Length));
+    assert!(rt; refuses::<[u8; 5]>(alloc, &TESTING, Error::TrailingData { remaining: 2 }));
+    Ok(())
+}
+
+#[test]
+fn a_length_past_the_rest(rt: HostRuntime) {
+    let alloc = rt.alloc();
+    assert!(rt; refuses::<Vec<u8>>(alloc, &[0xff; 4], Error::Length));
+    assert!(rt; refuses::<Bytes>(alloc, &[0xff; 4], Error::Length));
+    for len in 0..15 {
+        assert!(rt; refuses::<Algorithm>(alloc, &NAME[..len], Error::Length));
+        assert!(rt; refuses::<Bytes>(alloc, &NAME[..len], Error::Length));
+    }
+}
+
+#[test]
+fn names_in_bytes(rt: HostRuntime) {
+    let alloc = rt.alloc();
+    assert!(rt; reads(alloc, &NAME, &Algorithm::Ed25519, 0));
+    assert!(rt; refuses::<Algorithm>(alloc, &TESTING, Error::Label));
+    assert!(rt; refuses::<Algorithm>(alloc, &[0, 0, 0, 2, 0xc3, 0x28], Error::Label));
+}
+
+#[test]
+fn whole_inputs(rt: HostRuntime) {
+    let alloc = rt.alloc();
+    let longer = [
+        0u8, 0, 0, 11, b's', b's', b'h', b'-', b'e', b'd', b'2', b'5', b'5', b'1', b'9', 0,
+    ];
+    assert_eq!(rt; decode_whole(alloc, NAME.as_slice()), Ok(Algorithm::Ed25519));
+    assert_eq!(rt;
+        decode_whole::<Algorithm, _>(alloc, longer.as_slice()),
+        Err(Error::TrailingData { remaining: 1 })
+    );
+    let mut front = longer.as_slice();
+    assert_eq!(rt; decode_front(alloc, &mut front), Ok(Algorithm::Ed25519));
+    assert!(rt; front.remaining_len() == 1 && !front.is_finished());
+    assert_eq!(rt; front.finish(4), Err(Error::TrailingData { remaining: 1 }));
+    assert_eq!(rt; TESTING[11..].finish(4), Ok(4));
+}
+
+/// A number in a box at the front, and how many bytes are left behind it.
+fn boxed(alloc: Global, bytes: &[u8]) -> Result<(u32, usize), Error> {
+    let mut left = bytes;
+    let value = decode_boxed::<u32, _>(alloc, &mut left)?;
+    Ok((value, left.len()))
+}
+
+#[test]
+fn parts(rt: HostRuntime) {
+    let alloc = rt.alloc();
+    assert_eq!(rt; boxed(alloc, &[0, 0, 0, 4, 0, 0, 1, 0, 9]), Ok((256, 1)));
+    let longer = [0, 0, 0, 6, 0, 0, 1, 0, 9, 9];
+    assert_eq!(rt; boxed(alloc, &longer), Err(Error::TrailingData { remaining: 2 }));
+    assert_eq!(rt; boxed(alloc, &[0, 0, 0, 4, 0, 0, 1]), Err(Error::Length));
+    // what is behind the part is not read
+    assert_eq!(rt; boxed(alloc, &[0, 0, 0, 3, 0, 0, 1, 0]), Err(Error::Length));
+}
+
+/// The bytes of a part of two, by a closure of two reads.
+fn pair(alloc: Global, bytes: &[u8]) -> Result<(u8, u8), Error> {
+    let mut left = bytes;
+    left.read_prefixed(|part| Ok((u8::decode(alloc, part)?, u8::decode(alloc, part)?)))
+}
+
+#[test]
+fn a_closure_over_a_part(rt: HostRuntime) {
+    assert_eq!(rt; pair(rt.alloc(), &[0, 0, 0, 2, 5, 6, 7]), Ok((5, 6)));
+    assert_eq!(rt; pair(rt.alloc(), &[0, 0, 0, 1, 5, 6, 7]), Err(Error::Length));
+    assert_eq!(rt;
+        pair(rt.alloc(), &[0, 0, 0, 3, 5, 6, 7]),
+        Err(Error::TrailingData { remaining: 1 })
+    );
+}
+
+#[test]
+fn the_laws_are_called(_rt: HostRuntime) {
+    laws::read_back::<Algorithm>();
+    laws::read_back::<Bytes>();
+    laws::read_back::<[u8; 32]>();
+    laws::one_front::<u32>();
+}
