@@ -8,11 +8,11 @@ use denote.Param.Members.{Once}
 use Rattle.sshkey_model.specs.Reading.{Fault, Length, TrailingData, ◌>>=◌, Front, end_of, whole, number_at, box_at}
 use Rattle.sshkey_base.specs.declared.encoding.Error.{Error}
 use Rattle.sshkey_base.specs.declared.encoding.Error.TheVariants as encoding
-use Rattle.sshkey_base.specs.Causes.{Cause, Faulty, encoding_cause}
+use Rattle.sshkey_base.specs.Causes.{Cause, NoMemory, Faulty, encoding_cause}
 use Rattle.sshkey_base.specs.Source.{Outer, Source, told, part}
-use Rattle.sshkey_base.specs.Reading.{Reads, Refuses, IsRefused, Gives, LengthPast}
+use Rattle.sshkey_base.specs.Reading.{Reads, Refuses, IsRefused, Gives, GivesAlways, LengthPast}
 use Rattle.sshkey_base.specs.Nested.{ReadsBy, Calls, Past, Trails, Finishes, NoLength, Prefixed, PastIs}
-use Rattle.sshkey_base.proofs.Steps.{refused_first}
+use Rattle.sshkey_base.proofs.Steps.{refuses_first}
 
 -- the head of the readers around, apart from where it lies
 same_outer : (a b : Outer) (xs ys : List Outer) → a ∷ xs ≡ b ∷ ys → (a ≡ b) × (xs ≡ ys)
@@ -24,9 +24,9 @@ some_behind x [] n e lt = absurd (omega arith)
 some_behind x (b ∷ rest) n e lt = rw (← e) refl
 
 module _ {X Y : Type 0} (means : X → Y) (read : Front Y) (s t : Source) (n : ℕ) where
-  box_few : (c : Cause) → IsRefused s.missing c (number_at w32 s.left) → IsRefused s.missing c (box_at (whole read) s.left)
+  box_few : (c : Cause) → Refuses s.missing c (number_at w32 s.left) → Refuses s.missing c (box_at (whole read) s.left)
   unfolding box_at
-  box_few c h = refused_first s.missing c (number_at w32 s.left) _ h
+  box_few c h = refuses_first s.missing c (number_at w32 s.left) _ h
 
   -- the length passes what is left
   box_past : Reads (λ k. k) (number_at w32) s n t → length t.left < n → box_at (whole read) s.left ≡ Err Length
@@ -37,18 +37,18 @@ module _ {X Y : Type 0} (means : X → Y) (read : Front Y) (s t : Source) (n : �
   unfolding box_at
   box_within a le = rw (a.value, le-ltb _ _ le) refl
 
-  box_too_long : Reads (λ k. k) (number_at w32) s n t → told t < n → IsRefused s.missing (Faulty Length) (box_at (whole read) s.left)
-  box_too_long a lt = λ _. record { met = Length; is = box_past a (omega arith); same = λ _. refl }
+  box_too_long : Reads (λ k. k) (number_at w32) s n t → told t < n → Refuses s.missing (Faulty Length) (box_at (whole read) s.left)
+  box_too_long a lt = record { met = Length; is = box_past a (omega arith); same = λ _. refl }
 
-  box_inner : (c : Cause) → Reads (λ k. k) (number_at w32) s n t → n ≤ told t → IsRefused (n - length t.left) c (read (take n t.left)) → IsRefused s.missing c (box_at (whole read) s.left)
-  box_inner c a le h = λ other.
+  box_inner : (c : Cause) → Reads (λ k. k) (number_at w32) s n t → n ≤ told t → Refuses (n - length t.left) c (read (take n t.left)) → Refuses s.missing c (box_at (whole read) s.left)
+  box_inner c a le r =
       elim (cases_lt (length t.left) n) [
         | inl lt ↦ record { met = Length; is = box_past a lt; same = λ sound. let m = a.missing in absurd (omega arith) }
-        | inr ge ↦ let r = h other in record { met = r.met; is = box_within a ge ∙ rw r.is refl; same = λ _. r.same (omega arith) }
+        | inr ge ↦ record { met = r.met; is = box_within a ge ∙ rw r.is refl; same = λ _. r.same (omega arith) }
       ]
 
-  box_trailing : (name other rest : ℕ) (u : Source) (x : X) → Reads (λ k. k) (number_at w32) s n t → n ≤ told t → Reads means read (part name n t) x (part other rest u) → 0 < rest → IsRefused s.missing (Faulty (TrailingData rest)) (box_at (whole read) s.left)
-  box_trailing name other rest u x a le h lt = λ _.
+  box_trailing : (name other rest : ℕ) (u : Source) (x : X) → Reads (λ k. k) (number_at w32) s n t → n ≤ told t → Reads means read (part name n t) x (part other rest u) → 0 < rest → Refuses s.missing (Faulty (TrailingData rest)) (box_at (whole read) s.left)
+  box_trailing name other rest u x a le h lt =
       elim (cases_lt (length t.left) n) [
         | inl short ↦ record { met = Length; is = box_past a short; same = λ sound. let m = a.missing in absurd (omega arith) }
         | inr ge ↦
@@ -70,36 +70,65 @@ module _ {X Y : Type 0} (means : X → Y) (read : Front Y) (s t : Source) (n : �
       }
 
 -- A call of a closure over a part, seen as reading a box.
-module _ {F N T E Y : Type 0} (call : Once F (MutBor N × Unit {0}) (Result T E × (MutBor N × Unit {0}))) (source : N → Source) (from_gives : Error → E → Type 0) (cause : E → Cause) (f : F) (means : T → Y) (read : Front Y) (keeps : (x : Error) (e : E) → from_gives x e → cause e ≡ encoding_cause x) (by : ReadsBy call source cause f means read) where
-  of_calls : (s : Source) (e : E) (h : Calls call source from_gives f s (Err e)) → IsRefused s.missing (cause e) (box_at (whole read) s.left)
-  of_calls s e h =
-      let g : IsRefused (part h.name h.len h.after).missing (cause e) (read (part h.name h.len h.after).left) = rw h.starts at (by h.given h.left (Err e) h.met) in
-      box_inner means read s h.after h.len (cause e) h.number h.within g
+module _ {F N T E Y : Type 0} (call : Once F (MutBor N × Unit {0}) (Result T E × (MutBor N × Unit {0}))) (source : N → Source) (from_gives : Error → E → Type 0) (cause : E → Cause) (f : F) (means : T → Y) (read : Front Y) (keeps : (x : Error) (e : E) → from_gives x e → cause e ≡ encoding_cause x) where
+  module _ (by : ReadsBy call source cause f means read) where
+    of_calls : (s : Source) (e : E) (h : Calls call source from_gives f s (Err e)) → cause e ≢ NoMemory → Refuses s.missing (cause e) (box_at (whole read) s.left)
+    of_calls s e h other =
+        let g : IsRefused (part h.name h.len h.after).missing (cause e) (read (part h.name h.len h.after).left) = rw h.starts at (by h.given h.left (Err e) h.met) in
+        box_inner means read s h.after h.len (cause e) h.number h.within (g other)
 
-  of_trails : (s : Source) (e : E) (h : Trails call source from_gives f s e) → IsRefused s.missing (cause e) (box_at (whole read) s.left)
-  of_trails s e h =
-      let c = h.calls in
-      let g : Reads means read (part c.name c.len c.after) h.value (part h.other h.rest h.now) = rw (c.starts, h.ends) at (by c.given c.left (Ok h.value) c.met) in
-      rw (keeps (encoding.TrailingData h.rest) e h.is) (box_trailing means read s c.after c.len c.name h.other h.rest h.now h.value c.number c.within g h.some)
+    of_trails : (s : Source) (e : E) (h : Trails call source from_gives f s e) → Refuses s.missing (cause e) (box_at (whole read) s.left)
+    of_trails s e h =
+        let c = h.calls in
+        let g : Reads means read (part c.name c.len c.after) h.value (part h.other h.rest h.now) = rw (c.starts, h.ends) at (by c.given c.left (Ok h.value) c.met) in
+        rw (keeps (encoding.TrailingData h.rest) e h.is) (box_trailing means read s c.after c.len c.name h.other h.rest h.now h.value c.number c.within g h.some)
 
-  of_finishes : (s u : Source) (x : T) (h : Finishes call source from_gives f s x u) → Reads means (box_at (whole read)) s x u
-  of_finishes s u x h =
-      let c = h.calls in
-      let g : Reads means read (part c.name c.len c.after) x (part h.other 0 h.now) = rw (c.starts, h.ends) at (by c.given c.left (Ok x) c.met) in
-      let name_is : c.name ≡ h.other = sym (ap (λ (o : Outer). o.name) (same_outer _ _ _ _ g.outer).0) in
-      rw (h.same name_is) (box_read means read s c.after c.len c.name h.other h.now x c.number g)
+    of_finishes : (s u : Source) (x : T) (h : Finishes call source from_gives f s x u) → Reads means (box_at (whole read)) s x u
+    of_finishes s u x h =
+        let c = h.calls in
+        let g : Reads means read (part c.name c.len c.after) x (part h.other 0 h.now) = rw (c.starts, h.ends) at (by c.given c.left (Ok x) c.met) in
+        let name_is : c.name ≡ h.other = sym (ap (λ (o : Outer). o.name) (same_outer _ _ _ _ g.outer).0) in
+        rw (h.same name_is) (box_read means read s c.after c.len c.name h.other h.now x c.number g)
 
-  -- What `read_prefixed` gives is what the plain reader of the box gives.
-  pub prefixed_gives : (s u : Source) (r : Result T E) → Prefixed call source from_gives f s r u → Gives means cause (box_at (whole read)) s r u
-  prefixed_gives s u (Ok x) h = of_finishes s u x h
-  prefixed_gives s u (Err e) (inl h) = rw (keeps h.met e h.is) (box_few means read s s 0 (encoding_cause h.met) (λ _. h.refused))
-  prefixed_gives s u (Err e) (inr (inl h)) = rw (keeps encoding.Length e h.is) (box_too_long means read s h.after h.len h.number h.past)
-  prefixed_gives s u (Err e) (inr (inr (inl h))) = of_calls s e h
-  prefixed_gives s u (Err e) (inr (inr (inr h))) = of_trails s e h
+    of_length : (s : Source) (e : E) (h : NoLength call source from_gives f s e) → Refuses s.missing (cause e) (box_at (whole read) s.left)
+    of_length s e h = rw (keeps h.met e h.is) (box_few means read s s 0 (encoding_cause h.met) h.refused)
+
+    of_past : (s : Source) (e : E) (h : Past call source from_gives f s e) → Refuses s.missing (cause e) (box_at (whole read) s.left)
+    of_past s e h = rw (keeps encoding.Length e h.is) (box_too_long means read s h.after h.len h.number h.past)
+
+    -- What `read_prefixed` gives is what the plain reader of the box gives.
+    pub prefixed_gives : (s u : Source) (r : Result T E) → Prefixed call source from_gives f s r u → Gives means cause (box_at (whole read)) s r u
+    prefixed_gives s u (Ok x) h = of_finishes s u x h
+    prefixed_gives s u (Err e) (inl h) = λ _. of_length s e h
+    prefixed_gives s u (Err e) (inr (inl h)) = λ _. of_past s e h
+    prefixed_gives s u (Err e) (inr (inr (inl h))) = of_calls s e h
+    prefixed_gives s u (Err e) (inr (inr (inr h))) = λ _. of_trails s e h
+
+  -- a closure that takes no memory
+  abbrev pub AlwaysReadsBy : Type 0
+  AlwaysReadsBy = (p q : MutBor N) (r : Result T E) → call.post f (p, tt) (r, (q, tt)) → GivesAlways means cause read (source p.now) r (source q.now)
+
+  module _ (by : AlwaysReadsBy) where
+    also : ReadsBy call source cause f means read
+    also p q (Ok x) met = by p q (Ok x) met
+    also p q (Err e) met = λ _. by p q (Err e) met
+
+    always_calls : (s : Source) (e : E) (h : Calls call source from_gives f s (Err e)) → Refuses s.missing (cause e) (box_at (whole read) s.left)
+    always_calls s e h =
+        let g : Refuses (part h.name h.len h.after).missing (cause e) (read (part h.name h.len h.after).left) = rw h.starts at (by h.given h.left (Err e) h.met) in
+        box_inner means read s h.after h.len (cause e) h.number h.within g
+
+    -- The same of a closure that takes no memory.
+    pub prefixed_gives_always : (s u : Source) (r : Result T E) → Prefixed call source from_gives f s r u → GivesAlways means cause (box_at (whole read)) s r u
+    prefixed_gives_always s u (Ok x) h = of_finishes also s u x h
+    prefixed_gives_always s u (Err e) (inl h) = of_length also s e h
+    prefixed_gives_always s u (Err e) (inr (inl h)) = of_past also s e h
+    prefixed_gives_always s u (Err e) (inr (inr (inl h))) = always_calls s e h
+    prefixed_gives_always s u (Err e) (inr (inr (inr h))) = of_trails also s e h
 
 -- A length that passes what was announced has the cause that it says.
 pub past_keeps : {X E : Type 0} (from_gives : Error → E → Type 0) (cause : E → Cause) (keeps : (x : Error) (e : E) → from_gives x e → cause e ≡ encoding_cause x) (s : Source) (r : Result X E) → PastIs from_gives s r → LengthPast cause s r
 past_keeps from_gives cause keeps s (Ok x) h = λ n rest is lt. h n rest is lt
 past_keeps from_gives cause keeps s (Err e) h = λ n rest is lt. keeps encoding.Length e (h n rest is lt)
 
-pub ruleset boxes = (prefixed_gives, past_keeps)
+pub ruleset boxes = (prefixed_gives, prefixed_gives_always, past_keeps)

@@ -14,6 +14,11 @@ abbrev pub LooksUp : {X N : Type 0} → (X → N) → Whole N → List ℕ → R
 LooksUp stands_for named name (Ok x) = named name ≡ Ok (stands_for x)
 LooksUp stands_for named name (Err e) = e ≢ encoding.Memory → (named name ≡ Err Label) × (e ≡ encoding.Label)
 
+-- The same of a call that takes no memory.
+abbrev pub LooksUpAlways : {X N : Type 0} → (X → N) → Whole N → List ℕ → Result X Error → Type 0
+LooksUpAlways stands_for named name (Ok x) = named name ≡ Ok (stands_for x)
+LooksUpAlways stands_for named name (Err e) = (named name ≡ Err Label) × (e ≡ encoding.Label)
+
 -- a string that is looked up
 unfoldable pub label_at : {N : Type 0} → Whole N → Front N
 label_at named = checked_at named string_at

@@ -122,7 +122,10 @@ impl Decode for Vec<u8> {
 
     ghost grammar = { string_grammar };
 
-    fn decode<R: Reader>(alloc: Global, reader: &mut R) -> Result<Vec<u8>, Error> {
+    fn decode<R: Reader>(alloc: Global, reader: &mut R) -> Result<Vec<u8>, Error>
+        ensures gives { Gives (λ v. v.items) encoding_cause string_at (R.source reader.old) result (R.source reader.new) }
+        ensures past { LengthPast encoding_cause (R.source reader.old) result }
+    {
         let bytes = Bytes::decode(alloc, reader)?;
         Ok(bytes.into_vec())
     }

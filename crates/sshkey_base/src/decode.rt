@@ -132,10 +132,13 @@ impl<const N: usize> Decode for [u8; N] {
 
     ghost grammar = { array_grammar N };
 
-    fn decode<R: Reader>(_alloc: Global, reader: &mut R) -> Result<[u8; N], encoding::Error> {
+    fn decode<R: Reader>(_alloc: Global, reader: &mut R) -> Result<[u8; N], encoding::Error>
+        ensures gives { Gives (λ b. b) encoding_cause (box_at (whole (bytes_at N))) (R.source reader.old) result (R.source reader.new) }
+        ensures always { GivesAlways (λ b. b) encoding_cause (box_at (whole (bytes_at N))) (R.source reader.old) result (R.source reader.new) }
+    {
         reader.read_prefixed(
             |part: &mut NestedReader<'_, R>| -> encoding::Result<[u8; N]>
-                ensures { Gives (λ x. x) encoding_cause (bytes_at N) (nested_source R.source part.old) result (nested_source R.source part.new) }
+                ensures { GivesAlways (λ x. x) encoding_cause (bytes_at N) (nested_source R.source part.old) result (nested_source R.source part.new) }
             { array_from(part) },
         )
     }

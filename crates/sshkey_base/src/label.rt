@@ -1,6 +1,6 @@
 //! Names that are read and written as strings.
 
-ghost use Rattle.std.specs.Prelude.{◌≡◌, ℕ, List, true, Err};
+ghost use Rattle.std.specs.Prelude.{◌≡◌, ◌+◌, ◌^◌, ℕ, List, true, Err};
 ghost use Rattle.sshkey_model.specs.Names.{are_ascii};
 ghost use Rattle.sshkey_model.specs.Parts.{Parts, Any, bytes};
 ghost use Rattle.sshkey_model.specs.Reading.{Fault, Whole, Label as label_fault};
@@ -8,6 +8,8 @@ ghost use Rattle.sshkey_model.specs.Texts.{string};
 ghost use Rattle.sshkey_model.specs.Grammar.{Spells};
 ghost use Rattle.sshkey_model.proofs.CombinedReaders.{Checks, checked_string_reads};
 ghost use Rattle.sshkey_model.proofs.Grammars.{grammar};
+ghost use Rattle.sshkey_base.specs.Causes.{encoding_cause};
+ghost use Rattle.sshkey_base.specs.Reading.{Gives, LengthPast};
 ghost use Rattle.sshkey_base.specs.Labels.{LooksUp, label_at, label_grammar};
 
 use crate::bytes::Bytes;
@@ -69,7 +71,10 @@ impl<T: Label> Decode for T {
 
     ghost grammar = { label_grammar T.checks };
 
-    fn decode<R: Reader>(alloc: Global, reader: &mut R) -> Result<T> {
+    fn decode<R: Reader>(alloc: Global, reader: &mut R) -> Result<T>
+        ensures gives { Gives T.stands_for encoding_cause (label_at T.named) (R.source reader.old) result (R.source reader.new) }
+        ensures past { LengthPast encoding_cause (R.source reader.old) result }
+    {
         let name = Bytes::decode(alloc, reader)?;
         match str::from_utf8(name.as_slice()) {
             Ok(text) => T::from_label(alloc, text),
@@ -82,7 +87,7 @@ impl<T: Label> Decode for T {
 impl<T: Label> Encode for T {
     ghost normal = { λ x. string (T.name (T.stands_for x)) };
 
-    ghost most = { 4294967299 };
+    ghost most = { 2 ^ 32 + 3 };
 
     fn encoded_len(&self) -> Result<usize> {
         string_len(self.label().as_bytes())

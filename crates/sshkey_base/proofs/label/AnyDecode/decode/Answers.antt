@@ -1,5 +1,5 @@
 use Rattle.sshkey_base.proofs.Labels.{text_refused}
 use Rattle.sshkey_base.proofs.label.AnyDecode.decode.Goals as goal
 
-pub returns : goal.returns
-returns g c = text_refused g.met.T.Label.checks g.met.T.Label.ascii g.met.T.Label.refusals (g.R.Reader.source c.args.reader.now) _ _ c.in_ok-name.ensures.gives (λ text. c.in-Err.ensures.cases.0 (rw c.as_slice.ensures text))
+pub returns-clause-gives : goal.returns-clause-gives
+returns-clause-gives g c = text_refused g.met.T.Label.checks g.met.T.Label.ascii g.met.T.Label.refusals (g.R.Reader.source c.args.reader.now) _ _ c.in_ok-name.ensures.gives (λ text. c.in-Err.ensures.cases.0 (rw c.as_slice.ensures text))
