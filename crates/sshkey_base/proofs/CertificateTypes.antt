@@ -1,8 +1,9 @@
 -- Names of somebody's own in certificates.
-use Rattle.std.proofs.Common.{◌≡◌, ◌≢◌, ℕ, Option, Some, None, Result, Ok, Err, IfOk, IfErr, IsSome, List, ◌∷◌, ◌++◌, length, nat_le, ◌&&◌, true, false, refl, sym, ap, subst, ◌∙◌, rules}
+use Rattle.std.proofs.Common.{◌≡◌, ◌≢◌, ℕ, Option, Some, None, Result, Ok, Err, IfOk, IfErr, IsSome, List, [], ◌∷◌, ◌++◌, length, nat_le, ◌&&◌, true, false, refl, sym, ap, subst, ◌∙◌, rules, append_assoc}
 use Rattle.std.proofs.lemmas.Bool.{and_parts, both_ways}
 use Rattle.std.proofs.lemmas.List.{append_cancel_right}
 use denote.Ref.{Bor}
+use Rattle.sshkey_model.specs.Parts.{bytes, ◌&◌, flat}
 use Rattle.sshkey_model.specs.Names.{Other, at_sign, cut, are_ascii, is_split, is_own_name}
 use Rattle.sshkey_model.specs.CertificateNames.{suffix, with_suffix, certificate_name}
 use Rattle.sshkey_model.proofs.CertificateNameReaders.{cut_parts}
@@ -80,3 +81,7 @@ named_of t l r bare (Err e) parts is ok own_ err = λ _. record {
     both_ways (is_own_name bare) err.0 (rw form own);
   label = ap cause err.1;
 }
+
+pub flat-name : (n : List ℕ) (p : List ℕ × List ℕ) → cut n ≡ Some p → flat (bytes p.0 & bytes suffix & bytes (at_sign ∷ []) & bytes p.1) ≡ certificate_name (Other n)
+unfolding flat
+flat-name n p e = sym (append_assoc p.0 suffix (at_sign ∷ p.1)) ∙ sym (certificate_name-cut n p e)

@@ -1,14 +1,21 @@
 -- Names in certificates that are none of the fixed ones.
-use Rattle.std.proofs.Common.{◌≡◌, ◌≢◌, ℕ, ◌-◌, Option, Some, None, is_none, Result, Ok, Err, IsErrAnd, List, [], ◌∷◌, ◌++◌, length, take, drop, Bool, true, false, ◌&&◌, bytes_eq, refl, sym, ap, subst, ◌∙◌, inl, inr, arith}
+use Rattle.std.proofs.Common.{◌≡◌, ◌≢◌, ℕ, ◌-◌, Option, Some, None, is_none, Result, Ok, Err, IsErrAnd, List, [], ◌∷◌, ◌++◌, length, take, drop, Bool, true, false, ◌&&◌, nat_lt, nat_le, bytes_eq, refl, sym, ap, subst, ◌∙◌, inl, inr, arith}
 use Rattle.std.specs.List.{AllByRecursion}
 use Rattle.std.proofs.lemmas.Bool.{and_parts}
 use Rattle.std.proofs.lemmas.List.{take_at, drop_at, take-append-drop, length-append}
 use Rattle.std.proofs.lemmas.Slice.Eq.{bytes_eq-Decides}
-use Rattle.sshkey_model.specs.Reading.{Fault, Label}
-use Rattle.sshkey_model.specs.Names.{Algorithm, Other, algorithm_name, algorithms, named, at_sign, cut, is_own_name, is_other_name, algorithm_or}
-use Rattle.sshkey_model.specs.CertificateNames.{suffix, certificate_name, certified, without_suffix, certified_or, certified_from}
-use Rattle.sshkey_model.proofs.CombinedReaders.{chosen}
+use Rattle.sshkey_model.specs.Parts.{Any, bytes}
+use Rattle.sshkey_model.specs.Reading.{Fault, Label, string_at}
+use Rattle.sshkey_model.specs.Names.{Nistp256, Nistp384, Nistp521, Algorithm, Dsa, Ecdsa, Ed25519, Rsa, SkEcdsa, SkEd25519, Other, algorithm_name, algorithms, named, are_ascii, at_sign, cut, is_split, is_own_name, is_other_name, algorithm_or}
+use Rattle.sshkey_model.specs.CertificateNames.{IsCertified, suffix, certificate_name, certified, without_suffix, certified_or, certified_from, certificate_algorithm_at}
+use Rattle.sshkey_model.proofs.CombinedReaders.{Checks, chosen}
 use Rattle.sshkey_model.proofs.NameReaders.{found}
+use Rattle.std.specs.Str.{IsUtf8}
+use Rattle.sshkey_base.specs.Causes.{Cause, NoMemory, Faulty}
+use Rattle.sshkey_base.specs.Labels.{label_at}
+use Rattle.sshkey_base.specs.Reading.{Reads, Refuses}
+use Rattle.sshkey_base.specs.Source.{Source}
+use Rattle.sshkey_base.proofs.Labels.{text_refused}
 use Rattle.sshkey_base.specs.OwnNames.{HasCertificateName, AreParts}
 use Rattle.sshkey_base.proofs.AtSigns.{cut-at, cut-suffixed}
 use Rattle.sshkey_base.proofs.CertificateTypes.{parts_of, are_parts, certificate_name-cut}
@@ -46,23 +53,115 @@ certified_other t n fresh has =
     ∙ stripped p.0 p.1 (rw (← p.2) other)
     ∙ ap (λ (z : List ℕ). Ok (Other z)) (sym p.2)
 
-unstripped : (t : List ℕ) (o : Option (List ℕ × List ℕ)) → cut t ≡ o → ((n : List ℕ) → is_own_name n ≡ true → certificate_name (Other n) ≢ t) → without_suffix o ≡ Err Label
+-- what is left of a text without the suffix before its at sign
+abbrev pub IsStripped : List ℕ → Result Algorithm Fault → Type 0
+IsStripped t (Ok a) = (n : List ℕ) × (a ≡ Other n) × (is_other_name n ≡ true) × HasCertificateName t n
+IsStripped t (Err fault) = fault ≡ Label
+
+stripped_is : (t : List ℕ) (o : Option (List ℕ × List ℕ)) → cut t ≡ o → IsStripped t (without_suffix o)
 unfolding is_other_name
-unstripped t None whole none = refl
-unstripped t (Some p) whole none =
+stripped_is t None whole = refl
+stripped_is t (Some p) whole =
     let l = take (length p.0 - 9) p.0 in
-    elim (chosen (bytes_eq (drop (length p.0 - 9) p.0) suffix) (algorithm_or None (l ++ at_sign ∷ p.1)) (Err Label) (without_suffix (Some p)) refl) [
+    let bare = l ++ at_sign ∷ p.1 in
+    elim (chosen (bytes_eq (drop (length p.0 - 9) p.0) suffix) (algorithm_or None bare) (Err Label) (without_suffix (Some p)) refl) [
       | inl yes_ ↦
           let both : p.0 ≡ l ++ suffix = sym (take-append-drop (length p.0 - 9) p.0) ∙ ap (λ (z : List ℕ). l ++ z) ((bytes_eq-Decides _ _).0 yes_.0) in
           let parts = are_parts t p.0 p.1 l whole both in
-          elim (chosen (is_other_name (l ++ at_sign ∷ p.1)) (Ok (Other (l ++ at_sign ∷ p.1))) (Err Label) (algorithm_or None (l ++ at_sign ∷ p.1)) refl) [
-            | inl own ↦
-                let is_own = (and_parts (is_own_name (l ++ at_sign ∷ p.1)) (is_none (named algorithm_name algorithms (l ++ at_sign ∷ p.1))) own.0).0 in
-                absurd (none (l ++ at_sign ∷ p.1) is_own (certificate_name-cut (l ++ at_sign ∷ p.1) (l, p.1) (cut-at l p.1 parts.first) ∙ sym parts.whole))
-            | inr no_ ↦ sym yes_.1 ∙ sym no_.1
+          elim (chosen (is_other_name bare) (Ok (Other bare)) (Err Label) (algorithm_or None bare) refl) [
+            | inl other ↦
+                let own = (and_parts (is_own_name bare) (is_none (named algorithm_name algorithms bare)) other.0).0 in
+                let spelled = certificate_name-cut bare (l, p.1) (cut-at l p.1 parts.first) ∙ sym parts.whole in
+                subst (IsStripped t) (other.1 ∙ yes_.1) (bare, refl, other.0, record { own = own; spelled = spelled })
+            | inr no_ ↦ subst (IsStripped t) (no_.1 ∙ yes_.1) refl
           ]
-      | inr no_ ↦ sym no_.1
+      | inr no_ ↦ subst (IsStripped t) no_.1 refl
     ]
 
+certified_is : (t : List ℕ) → named certificate_name certified t ≡ None → IsStripped t (certified_from t)
+certified_is t fresh = subst (IsStripped t) (ap (λ (o : Option Algorithm). certified_or o t) (sym fresh)) (stripped_is t (cut t) refl)
+
+unknown_is : (t : List ℕ) (r : Result Algorithm Fault) → ((n : List ℕ) → is_own_name n ≡ true → certificate_name (Other n) ≢ t) → IsStripped t r → r ≡ Err Label
+unknown_is t (Ok a) none is = absurd (none is.0 is.3.own is.3.spelled)
+unknown_is t (Err fault) none is = ap (λ (f : Fault). Err f) is
+
 pub certified_unknown : (t : List ℕ) → named certificate_name certified t ≡ None → ((n : List ℕ) → is_own_name n ≡ true → certificate_name (Other n) ≢ t) → certified_from t ≡ Err Label
-certified_unknown t fresh none = ap (λ (o : Option Algorithm). certified_or o t) fresh ∙ unstripped t (cut t) refl none
+certified_unknown t fresh none = unknown_is t (certified_from t) none (certified_is t fresh)
+
+-- ---- names in certificates as labels
+
+certified_takes : (o : Option Algorithm) (t : List ℕ) (a : Algorithm) → named certificate_name certified t ≡ o → certified_from t ≡ Ok a → IsCertified a × (certificate_name a ≡ t)
+certified_takes (Some x) t a from e =
+    let is : Ok x ≡ Ok a = ap (λ (o : Option Algorithm). certified_or o t) (sym from) ∙ e in
+    subst (λ (z : Algorithm). IsCertified z × (certificate_name z ≡ t)) (cc is) (found IsCertified certificate_name certified t x (assumption) from)
+certified_takes None t a from e =
+    let is : IsStripped t (Ok a) = subst (IsStripped t) e (certified_is t from) in
+    subst (λ (z : Algorithm). IsCertified z × (certificate_name z ≡ t)) (sym is.1) ((is.2, rw is.3.spelled from), is.3.spelled)
+
+certified_again : (a : Algorithm) → IsCertified a → certified_from (certificate_name a) ≡ Ok a
+unfolding named is_other_name
+certified_again Dsa is = refl
+certified_again (Ecdsa Nistp256) is = refl
+certified_again (Ecdsa Nistp384) is = refl
+certified_again (Ecdsa Nistp521) is = refl
+certified_again Ed25519 is = refl
+certified_again (Rsa None) is = refl
+certified_again (Rsa (Some h)) is = absurd is
+certified_again SkEcdsa is = refl
+certified_again SkEd25519 is = refl
+certified_again (Other n) is =
+    let own = (and_parts (is_own_name n) (is_none (named algorithm_name algorithms n)) is.0).0 in
+    certified_other (certificate_name (Other n)) n is.1 (record { own = own; spelled = refl })
+
+pub certified_checks : Checks Any bytes IsCertified (λ a. bytes (certificate_name a)) certified_from
+certified_checks = record {
+  takes = λ t a was e. let is = certified_takes (named certificate_name certified t) t a refl e in (is.0, ap bytes (sym is.1));
+  again = λ a is. (certificate_name a, tt, certified_again a is, refl);
+}
+
+are_ascii-append : (a b : List ℕ) → are_ascii (a ++ b) ≡ (are_ascii a && are_ascii b)
+are_ascii-append [] b = refl
+are_ascii-append (c ∷ a) b = ap (λ (z : Bool). nat_lt c 0x80 && z) (are_ascii-append a b) ∙ and-assoc (nat_lt c 0x80) (are_ascii a) (are_ascii b)
+  where
+    and-assoc : (x y z : Bool) → (x && (y && z)) ≡ ((x && y) && z)
+    and-assoc true y z = refl
+    and-assoc false y z = refl
+
+other_ascii : (n : List ℕ) → is_other_name n ≡ true → are_ascii (certificate_name (Other n)) ≡ true
+unfolding is_other_name is_own_name
+other_ascii n is =
+    let own = (and_parts (is_own_name n) (is_none (named algorithm_name algorithms n)) is).0 in
+    let short = (and_parts (are_ascii n && nat_le (length n) 64) (is_split (cut n)) own).0 in
+    let ascii = (and_parts (are_ascii n) (nat_le (length n) 64) short).0 in
+    let p = parts_of n (certificate_name (Other n)) own refl in
+    let l = p.0 in
+    let r = p.1 in
+    let both : (are_ascii l && are_ascii (at_sign ∷ r)) ≡ true = sym (are_ascii-append l (at_sign ∷ r)) ∙ ap are_ascii (sym p.2) ∙ ascii in
+    let parts = and_parts (are_ascii l) (are_ascii (at_sign ∷ r)) both in
+    ap are_ascii p.3.whole
+    ∙ are_ascii-append (l ++ suffix) (at_sign ∷ r)
+    ∙ rw (are_ascii-append l suffix, parts.0, parts.1) refl
+
+pub certified_ascii : (a : Algorithm) → IsCertified a → are_ascii (certificate_name a) ≡ true
+certified_ascii Dsa is = refl
+certified_ascii (Ecdsa Nistp256) is = refl
+certified_ascii (Ecdsa Nistp384) is = refl
+certified_ascii (Ecdsa Nistp521) is = refl
+certified_ascii Ed25519 is = refl
+certified_ascii (Rsa None) is = refl
+certified_ascii (Rsa (Some h)) is = absurd is
+certified_ascii SkEcdsa is = refl
+certified_ascii SkEd25519 is = refl
+certified_ascii (Other n) is = other_ascii n is.0
+
+certified_faults : (o : Option Algorithm) (t : List ℕ) (fault : Fault) → named certificate_name certified t ≡ o → certified_from t ≡ Err fault → fault ≡ Label
+certified_faults (Some x) t fault from e = absurd (cc (sym (ap (λ (o : Option Algorithm). certified_or o t) from) ∙ e))
+certified_faults None t fault from e = subst (IsStripped t) e (certified_is t from)
+
+pub certified_refusals : (t : List ℕ) (fault : Fault) → certified_from t ≡ Err fault → fault ≡ Label
+certified_refusals t fault = certified_faults (named certificate_name certified t) t fault refl
+
+-- a string that is no text is no name
+pub certificate_refused : (s t : Source) (x : List ℕ) (c : Cause) → Reads (λ b. b) string_at s x t → (IsUtf8 x → ⊥) → c ≡ Faulty Label → c ≢ NoMemory → Refuses s.missing c (certificate_algorithm_at s.left)
+unfolding label_at certificate_algorithm_at
+certificate_refused s t x c h no_text is some = rw is (text_refused certified_checks certified_ascii certified_refusals s t x h no_text (λ e. cc e))

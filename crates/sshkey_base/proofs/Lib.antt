@@ -11,3 +11,4 @@ pub mod OwnNameTests
 pub mod CertificateTypes
 pub mod OtherNames
 pub mod CertifiedNames
+pub mod PlainParts

@@ -19,5 +19,6 @@ pub mod Kinds
 pub mod Naming
 pub mod OwnNames
 pub mod Digests
+pub mod Fields
 pub mod LabelLaws
 pub mod NameReaders

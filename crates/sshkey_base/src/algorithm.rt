@@ -1,18 +1,18 @@
 //! Algorithms of keys and signatures.
 
-ghost use Rattle.std.specs.Prelude.{◌≡◌, ◌↔◌, IsTrue, IsOk, IfOk, option_map, IfErr, Err, Some, None, codes, string_bytes};
-ghost use Rattle.sshkey_model.specs.CertificateNames.{certificate_name, certified, certified_from};
+ghost use Rattle.std.specs.Prelude.{◌≡◌, ◌↔◌, IsTrue, IsOk, IfOk, option_map, IfErr, Err, Some};
 ghost use Rattle.sshkey_model.specs.Names.{Dsa, Ed25519, algorithm_name, IsAlgorithm, algorithms, algorithm_from, named};
 ghost use Rattle.sshkey_model.specs.Names as model;
 ghost use Rattle.sshkey_model.specs.Reading as fault;
 ghost use Rattle.sshkey_base.specs.Causes.{cause};
-ghost use Rattle.sshkey_base.specs.Kinds.{is_ecdsa, is_rsa, IsFixed};
+ghost use Rattle.sshkey_base.specs.Kinds.{is_ecdsa, is_rsa};
 ghost use Rattle.sshkey_base.specs.LabelLaws.{algorithm_checks, algorithm_ascii, algorithm_refusals};
 ghost use Rattle.sshkey_base.specs.Labels.{LooksUp};
 ghost use Rattle.sshkey_base.specs.Names.{algorithm_of};
 ghost use Rattle.sshkey_base.specs.Naming.{Names};
 ghost use Rattle.sshkey_base.specs.declared.encoding.Error.TheVariants as encoding;
 
+mod certificate_type;
 mod curve;
 mod hash;
 mod name;
@@ -67,21 +67,6 @@ impl Algorithm {
         Ok(Algorithm::from_label(alloc, name)?)
     }
 
-    /// The algorithm with that name in a certificate (PROTOCOL.certkeys), and `Label` where it is
-    /// no such name. An RSA algorithm has no hash then. No memory is asked for at a fixed name.
-    pub fn new_certificate(alloc: Global, name: &str) -> Result<Algorithm>
-        ensures gives { Names algorithm_of cause (certified_from name.now) result }
-        ensures fixed { (a : model.Algorithm) → named certificate_name certified name.now ≡ Some a → IsOk result }
-    {
-        match fixed_in_certificate(name) {
-            Some(algorithm) => Ok(algorithm),
-            None => {
-                let name = AlgorithmName::from_certificate_type(alloc, name)?;
-                Ok(Algorithm::Other(name))
-            }
-        }
-    }
-
     /// The name of the algorithm, as `ssh-ed25519`.
     pub fn as_str(&self) -> &str
         ensures { result.now ≡ algorithm_name (algorithm_of self.now) }
@@ -102,39 +87,6 @@ impl Algorithm {
             Algorithm::SkEcdsaSha2NistP256 => "sk-ecdsa-sha2-nistp256@openssh.com",
             Algorithm::SkEd25519 => "sk-ssh-ed25519@openssh.com",
             Algorithm::Other(name) => name.as_str(),
-        }
-    }
-
-    /// The name of the algorithm in a certificate (PROTOCOL.certkeys), as
-    /// `ssh-ed25519-cert-v01@openssh.com`. RSA has one name there, with and without a hash. Only
-    /// want of memory refuses it.
-    pub fn to_certificate_type(&self, alloc: Global) -> Result<String>
-        ensures ok { IfOk result (λ text. string_bytes text ≡ certificate_name (algorithm_of self.now)) }
-        ensures err { IfErr result (λ e. e ≡ Error.Memory) }
-    {
-        match self {
-            Algorithm::Other(name) => name.certificate_type(alloc),
-            _ => Ok(String::from_str(alloc, self.fixed_certificate_type())?),
-        }
-    }
-
-    // The name in a certificate of an algorithm that is none of somebody's own.
-    fn fixed_certificate_type(&self) -> &'static str
-        requires { IsFixed (algorithm_of self.now) }
-        ensures { result.now ≡ certificate_name (algorithm_of self.now) }
-    {
-        match self {
-            Algorithm::Dsa => "ssh-dss-cert-v01@openssh.com",
-            Algorithm::Ecdsa { curve } => match curve {
-                EcdsaCurve::NistP256 => "ecdsa-sha2-nistp256-cert-v01@openssh.com",
-                EcdsaCurve::NistP384 => "ecdsa-sha2-nistp384-cert-v01@openssh.com",
-                EcdsaCurve::NistP521 => "ecdsa-sha2-nistp521-cert-v01@openssh.com",
-            },
-            Algorithm::Ed25519 => "ssh-ed25519-cert-v01@openssh.com",
-            Algorithm::Rsa { .. } => "ssh-rsa-cert-v01@openssh.com",
-            Algorithm::SkEcdsaSha2NistP256 => "sk-ecdsa-sha2-nistp256-cert-v01@openssh.com",
-            Algorithm::SkEd25519 => "sk-ssh-ed25519-cert-v01@openssh.com",
-            Algorithm::Other(_) => unreachable!(),
         }
     }
 
@@ -199,25 +151,6 @@ fn fixed(name: &str) -> Option<Algorithm>
         "rsa-sha2-512" => rsa(HashAlg::Sha512),
         "sk-ecdsa-sha2-nistp256@openssh.com" => Algorithm::SkEcdsaSha2NistP256,
         "sk-ssh-ed25519@openssh.com" => Algorithm::SkEd25519,
-        _ => return None,
-    };
-    Some(algorithm)
-}
-
-// The algorithm with that fixed name in a certificate.
-#[tactic(auto, unfolding(crate::specs::NameReaders::named))]
-fn fixed_in_certificate(name: &str) -> Option<Algorithm>
-    ensures { option_map algorithm_of result ≡ named certificate_name certified name.now }
-{
-    let algorithm = match name {
-        "ssh-dss-cert-v01@openssh.com" => Algorithm::Dsa,
-        "ecdsa-sha2-nistp256-cert-v01@openssh.com" => ecdsa(EcdsaCurve::NistP256),
-        "ecdsa-sha2-nistp384-cert-v01@openssh.com" => ecdsa(EcdsaCurve::NistP384),
-        "ecdsa-sha2-nistp521-cert-v01@openssh.com" => ecdsa(EcdsaCurve::NistP521),
-        "ssh-ed25519-cert-v01@openssh.com" => Algorithm::Ed25519,
-        "ssh-rsa-cert-v01@openssh.com" => Algorithm::Rsa { hash: None },
-        "sk-ecdsa-sha2-nistp256-cert-v01@openssh.com" => Algorithm::SkEcdsaSha2NistP256,
-        "sk-ssh-ed25519-cert-v01@openssh.com" => Algorithm::SkEd25519,
         _ => return None,
     };
     Some(algorithm)

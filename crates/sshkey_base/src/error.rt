@@ -6,6 +6,7 @@ ghost use Rattle.sshkey_base.specs.Causes.{widened, of_machine};
 ghost use Rattle.sshkey_base.specs.declared.encoding.Error.TheVariants as encoding;
 ghost use Rattle.sshkey_base.specs.declared.error.Error.TheVariants as wide;
 
+use crate::certificate::Field;
 use crate::encoding;
 use std::alloc::{AllocError, AllocFailed};
 use std::io;
@@ -20,6 +21,9 @@ pub enum Error {
     /// A point of an elliptic curve is not encoded as one.
     #[error("ECDSA encoding error")]
     Ecdsa,
+    /// A field of a certificate is invalid.
+    #[error("certificate field invalid: {0}")]
+    CertificateFieldInvalid(Field),
     /// The bytes do not keep the wire encoding.
     #[error("{0}")]
     Encoding(encoding::Error),

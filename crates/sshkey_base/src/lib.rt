@@ -3,6 +3,7 @@
 
 mod algorithm;
 mod bytes;
+pub mod certificate;
 mod decode;
 mod encode;
 pub mod encoding;

@@ -1,23 +1,26 @@
 //! Names of algorithms of somebody's own.
 
-ghost use Rattle.std.specs.Prelude.{◌≡◌, true, false, IfOk, IfErr, Err, Some, nat_eq, refl, string_bytes};
+ghost use Rattle.std.specs.Prelude.{◌≡◌, ◌∷◌, [], true, false, IfOk, IfErr, Err, Some, nat_eq, refl, string_bytes};
 ghost use Rattle.std.specs.Cmp.{partial_equiv_from_equiv};
 ghost use Rattle.std.specs.Cmp.Lexicographic.{pointwise, slice_cmp, nat_list_eq_equiv, nat_list_cmp_total, texts_ties, texts_po};
 ghost use Rattle.std.specs.Cmp.Rules.{hashing};
 ghost use Rattle.std.specs.Hash as fed;
 ghost use Rattle.std.specs.Ordering.{nat_cmp};
 ghost use Rattle.std.proofs.Common.{rules};
-ghost use Rattle.sshkey_model.specs.CertificateNames.{certificate_name};
-ghost use Rattle.sshkey_model.specs.Names.{Other, are_ascii, cut, is_own_name, is_split};
+ghost use Rattle.sshkey_model.specs.CertificateNames.{certificate_name, suffix};
+ghost use Rattle.sshkey_model.specs.Names.{Other, are_ascii, at_sign, cut, is_own_name, is_split};
+ghost use Rattle.sshkey_model.specs.Parts.{bytes, ◌&◌};
 ghost use Rattle.sshkey_base.specs.Causes.{cause};
 ghost use Rattle.sshkey_base.specs.Labels.{LooksUp};
 ghost use Rattle.sshkey_base.specs.Naming.{Names};
 ghost use Rattle.sshkey_base.specs.OwnNames.{own_name_from, NamesCertified, IsCutOf, IsWithoutSuffix};
+ghost use Rattle.sshkey_base.specs.Sink.{Encodes};
 ghost use Rattle.sshkey_base.specs.declared.encoding.Error.TheVariants as encoding;
 
 use crate::encoding;
 use crate::error::{Error, Result};
 use crate::label_error::LabelError;
+use crate::writer::Writer;
 use std::alloc::Global;
 use std::cmp::Ordering;
 use std::convert::AsStr;
@@ -90,6 +93,14 @@ impl AlgorithmName {
     {
         let (name, domain) = split_at_sign(&self.text).unwrap();
         Ok(format!(in alloc; "{name}{CERTIFICATE_SUFFIX}@{domain}")?)
+    }
+
+    // Writes the name in a certificate, with no length before it.
+    pub(crate) fn write_certificate_type<W: Writer>(&self, writer: &mut W) -> encoding::Result<()>
+        ensures { Encodes W.fault (bytes (certificate_name (Other self.now))) (W.sink writer.old) result (W.sink writer.new) }
+    {
+        let (name, domain) = split_at_sign(&self.text).unwrap();
+        write_parts(name, domain, writer)
     }
 
     /// The name whose certificate type is that text, and `Label` where it is that of none.
@@ -165,6 +176,23 @@ fn without_suffix(text: &str) -> Option<(&str, &str)>
     let (name, domain) = split_at_sign(text)?;
     let name = name.strip_suffix(CERTIFICATE_SUFFIX)?;
     Some((name, domain))
+}
+
+#[tactic(auto, using(crate::proofs::Writing::writing))]
+fn write_parts<W: Writer>(name: &str, domain: &str, writer: &mut W) -> encoding::Result<()>
+    ensures { Encodes W.fault (bytes name.now & bytes suffix & bytes (at_sign ∷ []) & bytes domain.now) (W.sink writer.old) result (W.sink writer.new) }
+{
+    write_text(name, writer)?;
+    write_text(CERTIFICATE_SUFFIX, writer)?;
+    write_text("@", writer)?;
+    write_text(domain, writer)
+}
+
+#[tactic(auto, using(crate::proofs::Writing::plain_bytes))]
+fn write_text<W: Writer>(text: &str, writer: &mut W) -> encoding::Result<()>
+    ensures { Encodes W.fault (bytes text.now) (W.sink writer.old) result (W.sink writer.new) }
+{
+    writer.write(text.as_bytes())
 }
 
 impl AsStr for AlgorithmName {

@@ -1,0 +1,7 @@
+use Rattle.std.proofs.Common.{ap}
+use Rattle.sshkey_base.specs.Causes.{cause}
+use Rattle.sshkey_base.proofs.CertifiedNames.{certificate_refused}
+use Rattle.sshkey_base.proofs.algorithm.certificate_type.read_certificate_type.Goals as goal
+
+pub returns : goal.returns
+returns g c = certificate_refused (g.R.Reader.source c.args.reader.now) _ _ _ c.in_ok-name.ensures.gives (λ text. c.in-Err.ensures.cases.0 (rw c.as_slice.ensures text)) (ap cause c.from.ensures)

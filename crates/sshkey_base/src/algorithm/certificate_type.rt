@@ -1,0 +1,132 @@
+//! Names of algorithms in certificates (PROTOCOL.certkeys).
+
+ghost use Rattle.std.specs.Prelude.{◌≡◌, IsOk, IfOk, IfErr, Some, option_map, string_bytes};
+ghost use Rattle.sshkey_model.specs.CertificateNames.{IsCertified, certificate_algorithm, certificate_algorithm_at, certificate_name, certified, certified_from};
+ghost use Rattle.sshkey_model.specs.Grammar.{Spells};
+ghost use Rattle.sshkey_model.specs.Names.{named};
+ghost use Rattle.sshkey_model.specs.Names as model;
+ghost use Rattle.sshkey_model.specs.Parts.{bytes};
+ghost use Rattle.sshkey_base.specs.Accepting.{AcceptsFront};
+ghost use Rattle.sshkey_base.specs.Causes.{cause};
+ghost use Rattle.sshkey_base.specs.Kinds.{IsFixed};
+ghost use Rattle.sshkey_base.specs.Names.{algorithm_of};
+ghost use Rattle.sshkey_base.specs.Naming.{Names};
+ghost use Rattle.sshkey_base.specs.Reading.{Gives};
+ghost use Rattle.sshkey_base.specs.Sink.{Encodes};
+
+use super::{Algorithm, AlgorithmName, EcdsaCurve, ecdsa};
+use crate::bytes::Bytes;
+use crate::decode::Decode;
+use crate::encoding;
+use crate::error::{Error, Result};
+use crate::label_error::LabelError;
+use crate::reader::Reader;
+use crate::writer::Writer;
+use std::alloc::Global;
+use std::str;
+
+impl Algorithm {
+    /// The algorithm with that name in a certificate (PROTOCOL.certkeys), and `Label` where it is
+    /// no such name. An RSA algorithm has no hash then. No memory is asked for at a fixed name.
+    pub fn new_certificate(alloc: Global, name: &str) -> Result<Algorithm>
+        ensures gives { Names algorithm_of cause (certified_from name.now) result }
+        ensures fixed { (a : model.Algorithm) → named certificate_name certified name.now ≡ Some a → IsOk result }
+    {
+        match fixed_in_certificate(name) {
+            Some(algorithm) => Ok(algorithm),
+            None => {
+                let name = AlgorithmName::from_certificate_type(alloc, name)?;
+                Ok(Algorithm::Other(name))
+            }
+        }
+    }
+
+    /// The name of the algorithm in a certificate (PROTOCOL.certkeys), as
+    /// `ssh-ed25519-cert-v01@openssh.com`. RSA has one name there, with and without a hash. Only
+    /// want of memory refuses it.
+    pub fn to_certificate_type(&self, alloc: Global) -> Result<String>
+        ensures ok { IfOk result (λ text. string_bytes text ≡ certificate_name (algorithm_of self.now)) }
+        ensures err { IfErr result (λ e. e ≡ Error.Memory) }
+    {
+        match self {
+            Algorithm::Other(name) => name.certificate_type(alloc),
+            _ => Ok(String::from_str(alloc, self.fixed_certificate_type())?),
+        }
+    }
+
+    // The name in a certificate of an algorithm that is none of somebody's own.
+    fn fixed_certificate_type(&self) -> &'static str
+        requires { IsFixed (algorithm_of self.now) }
+        ensures { result.now ≡ certificate_name (algorithm_of self.now) }
+    {
+        match self {
+            Algorithm::Dsa => "ssh-dss-cert-v01@openssh.com",
+            Algorithm::Ecdsa { curve } => match curve {
+                EcdsaCurve::NistP256 => "ecdsa-sha2-nistp256-cert-v01@openssh.com",
+                EcdsaCurve::NistP384 => "ecdsa-sha2-nistp384-cert-v01@openssh.com",
+                EcdsaCurve::NistP521 => "ecdsa-sha2-nistp521-cert-v01@openssh.com",
+            },
+            Algorithm::Ed25519 => "ssh-ed25519-cert-v01@openssh.com",
+            Algorithm::Rsa { .. } => "ssh-rsa-cert-v01@openssh.com",
+            Algorithm::SkEcdsaSha2NistP256 => "sk-ecdsa-sha2-nistp256-cert-v01@openssh.com",
+            Algorithm::SkEd25519 => "sk-ssh-ed25519-cert-v01@openssh.com",
+            Algorithm::Other(_) => unreachable!(),
+        }
+    }
+
+    /// Reads the string of a name in a certificate from the front, and leaves what follows it.
+    ///
+    /// `Length` where the string is not there whole, and `Label` where it is no such name. After a
+    /// refusal the place in the source is open.
+    #[tactic(auto, using(crate::proofs::Steps::steps), unfolding(crate::specs::NameReaders::certificate_algorithm_at))]
+    pub fn decode_certificate<R: Reader>(alloc: Global, reader: &mut R) -> Result<Algorithm>
+        ensures gives { Gives algorithm_of cause certificate_algorithm_at (R.source reader.old) result (R.source reader.new) }
+        ensures accepts { AcceptsFront algorithm_of (Spells IsCertified certificate_algorithm) cause (R.source reader.old) result (R.source reader.new) }
+    {
+        read_certificate_type(alloc, reader)
+    }
+
+    /// Writes the name in a certificate, with no length before it.
+    ///
+    /// A refusal is the writer's own; then it holds what it held, and a beginning of the name.
+    /// Takes no memory of its own.
+    #[tactic(auto, using(crate::proofs::Writing::plain_bytes))]
+    pub fn write_certificate_name<W: Writer>(&self, writer: &mut W) -> encoding::Result<()>
+        ensures { Encodes W.fault (bytes (certificate_name (algorithm_of self.now))) (W.sink writer.old) result (W.sink writer.new) }
+    {
+        match self {
+            Algorithm::Other(name) => name.write_certificate_type(writer),
+            _ => writer.write(self.fixed_certificate_type().as_bytes()),
+        }
+    }
+}
+
+#[tactic(auto, using(crate::proofs::Steps::steps), unfolding(crate::specs::NameReaders::certificate_algorithm_at))]
+fn read_certificate_type<R: Reader>(alloc: Global, reader: &mut R) -> Result<Algorithm>
+    ensures { Gives algorithm_of cause certificate_algorithm_at (R.source reader.old) result (R.source reader.new) }
+{
+    let name = Bytes::decode(alloc, reader)?;
+    match str::from_utf8(name.as_slice()) {
+        Ok(text) => Algorithm::new_certificate(alloc, text),
+        Err(_) => Err(Error::from(LabelError)),
+    }
+}
+
+// The algorithm with that fixed name in a certificate.
+#[tactic(auto, unfolding(crate::specs::NameReaders::named))]
+fn fixed_in_certificate(name: &str) -> Option<Algorithm>
+    ensures { option_map algorithm_of result ≡ named certificate_name certified name.now }
+{
+    let algorithm = match name {
+        "ssh-dss-cert-v01@openssh.com" => Algorithm::Dsa,
+        "ecdsa-sha2-nistp256-cert-v01@openssh.com" => ecdsa(EcdsaCurve::NistP256),
+        "ecdsa-sha2-nistp384-cert-v01@openssh.com" => ecdsa(EcdsaCurve::NistP384),
+        "ecdsa-sha2-nistp521-cert-v01@openssh.com" => ecdsa(EcdsaCurve::NistP521),
+        "ssh-ed25519-cert-v01@openssh.com" => Algorithm::Ed25519,
+        "ssh-rsa-cert-v01@openssh.com" => Algorithm::Rsa { hash: None },
+        "sk-ecdsa-sha2-nistp256-cert-v01@openssh.com" => Algorithm::SkEcdsaSha2NistP256,
+        "sk-ssh-ed25519-cert-v01@openssh.com" => Algorithm::SkEd25519,
+        _ => return None,
+    };
+    Some(algorithm)
+}

@@ -1,0 +1,5 @@
+//! Parts of certificates (PROTOCOL.certkeys).
+
+mod field;
+
+pub use field::Field;
