@@ -1,3 +1,1 @@
-pub mod KnownNames
 pub mod KnownBlobs
-pub mod Ed25519

@@ -1,9 +1,12 @@
 -- What a fingerprint's value means.
-use Rattle.std.specs.Prelude.{◌≡◌, ℕ, List}
+use Rattle.std.specs.Prelude.{◌≡◌, ◌≢◌, ℕ, List, Result, Ok, Err}
 use Rattle.sshkey_model.specs.Fingerprints.{digest_text, fingerprint}
-use Rattle.sshkey_model.specs.Keys.{Key}
+use Rattle.sshkey_base.specs.Causes.{cause, NoMemory}
+use Rattle.sshkey_base.specs.declared.error.Error.{Error}
+use Rattle.sshkey_model.specs.Keys.{Key, normal_key}
 use Rattle.sshkey_model.specs.Names.{Hash}
 use Rattle.sshkey_model.specs.Names as model
+use Rattle.sshkey_model.specs.Parts.{BoxesFit}
 use Rattle.sshkey_keys.specs.declared.fingerprint.Fingerprint.{Fingerprint}
 use Rattle.sshkey_keys.specs.declared.fingerprint.Fingerprint.TheVariants as kinds
 use Rattle.sshkey_keys.specs.declared.hash_alg.HashAlg.{HashAlg}
@@ -29,3 +32,8 @@ shown f = digest_text (algorithm_of f) (digest_of f)
 pub record IsFingerprint (h : Hash) (k : Key) (f : Fingerprint) : Type 0 where
   pub by : algorithm_of f ≡ h
   pub digest : digest_of f ≡ fingerprint h k
+
+-- It is that fingerprint; refused for anything but memory, a part of the key is too long.
+abbrev pub GivesFingerprint : Hash → Key → Result Fingerprint Error → Type 0
+GivesFingerprint h k (Ok f) = IsFingerprint h k f
+GivesFingerprint h k (Err e) = cause e ≢ NoMemory → BoxesFit (normal_key k) → ⊥

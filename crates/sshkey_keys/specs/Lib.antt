@@ -1,5 +1,4 @@
 pub mod Readers
 pub mod Keys
-pub mod KnownKeys
-pub mod Laws
+pub mod KeyReaders
 pub mod Fingerprints

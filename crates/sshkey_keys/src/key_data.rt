@@ -1,17 +1,20 @@
 //! Public keys of any kind.
 
-ghost use Rattle.std.specs.Prelude.{◌≡◌, ◌↔◌, ℕ, List, IsTrue, codes};
-ghost use Rattle.sshkey_model.specs.Keys.{Key};
+ghost use Rattle.std.specs.Prelude.{◌≡◌, ◌≤◌, ℕ, List, IfOk};
+ghost use Rattle.sshkey_model.specs.Keys.{Key, normal_key, body, body_at};
 ghost use Rattle.sshkey_model.specs.Lines.{key_name};
-ghost use Rattle.sshkey_model.specs.Names.{Algorithm};
-ghost use Rattle.sshkey_base.specs.Causes.{encoding_cause};
+ghost use Rattle.sshkey_base.specs.Algorithms.{algorithm_of};
+ghost use Rattle.sshkey_base.specs.Causes.{cause};
 ghost use Rattle.sshkey_base.specs.Reading.{Gives};
-ghost use Rattle.sshkey_keys.specs.Keys.{key_of};
-ghost use Rattle.sshkey_keys.specs.KnownKeys.{SpellsKnown, known_key_at, known_algorithm_at};
-ghost use Rattle.sshkey_keys.specs.Laws.{known_grammar};
+ghost use Rattle.sshkey_base.specs.Sink.{Encodes, Measures};
+ghost use Rattle.sshkey_keys.specs.Keys.{key_of, IsKnownKey, SpellsKnown, known_key_at};
+ghost use Rattle.sshkey_keys.specs.KeyReaders.{known_grammar, known_normal};
 
 use crate::ed25519_public_key::Ed25519PublicKey;
-use sshkey_base::{Bytes, Decode, Error, Reader, encoding};
+use sshkey_base::{
+    Algorithm, Decode, Encode, Error, NormalForm, Reader, Result, Writer, encode_string, encoding,
+    string_len,
+};
 use std::alloc::Global;
 
 /// A public key: the name of its algorithm, and what that algorithm's keys are made of
@@ -31,28 +34,54 @@ impl KeyData {
             KeyData::Ed25519(_) => "ssh-ed25519",
         }
     }
-}
 
-/// Reads the name of a known algorithm. Any other is `Label`.
-fn algorithm_from<R: Reader>(alloc: Global, reader: &mut R) -> encoding::Result<()>
-    ensures { Gives (λ _. Algorithm.Ed25519) encoding_cause known_algorithm_at (R.source reader.old) result (R.source reader.new) }
-{
-    let name = Bytes::decode(alloc, reader)?;
-    if is_ed25519(name.as_slice()) {
-        Ok(())
-    } else {
-        Err(encoding::Error::Label)
+    /// Reads what stands behind the name of that algorithm.
+    ///
+    /// Want of memory aside, it is refused only where no front is the body of such a key, by a
+    /// sound source with the first fault from the left.
+    #[tactic(auto, using(sshkey_base::proofs::Steps::steps))]
+    pub fn decode_as<R: Reader>(
+        alloc: Global,
+        reader: &mut R,
+        algorithm: Algorithm,
+    ) -> Result<KeyData>
+        ensures { Gives key_of cause (body_at (algorithm_of algorithm)) (R.source reader.old) result (R.source reader.new) }
+    {
+        match algorithm {
+            Algorithm::Ed25519 => {
+                let key = Ed25519PublicKey::decode(alloc, reader)?;
+                Ok(KeyData::Ed25519(key))
+            }
+        }
+    }
+
+    /// How many bytes stand behind the name of the algorithm. Exactly where a part of the key is
+    /// longer than 2^32 - 1 bytes, the answer is `Length`. Takes no memory.
+    pub fn encoded_key_data_len(&self) -> encoding::Result<usize>
+        ensures measures { Measures (body (key_of self.now)) result }
+        ensures short { IfOk result (λ n. n ≤ 4294967299) }
+    {
+        match self {
+            KeyData::Ed25519(key) => key.encoded_len(),
+        }
+    }
+
+    /// Writes what stands behind the name of the algorithm.
+    ///
+    /// `Length` where a part of the key is longer than 2^32 - 1 bytes; any other refusal is the
+    /// writer's own. After a refusal the writer holds what it held, and a beginning of the bytes.
+    /// Takes no memory of its own.
+    pub fn encode_key_data<W: Writer>(&self, writer: &mut W) -> encoding::Result<()>
+        ensures { Encodes W.fault (body (key_of self.now)) (W.sink writer.old) result (W.sink writer.new) }
+    {
+        match self {
+            KeyData::Ed25519(key) => key.encode(writer),
+        }
     }
 }
 
-fn is_ed25519(name: &[u8]) -> bool
-    ensures { IsTrue result ↔ (name.now ≡ codes "ssh-ed25519") }
-{
-    name == b"ssh-ed25519".as_slice()
-}
-
 /// The name of the algorithm and the key's body. `Label` for a name that is not known.
-#[tactic(auto, using(sshkey_base::proofs::Steps::steps), unfolding(crate::specs::KnownKeys::known_key_at))]
+#[tactic(auto, using(sshkey_base::proofs::Steps::steps), unfolding(crate::specs::Keys::known_key_at))]
 impl Decode for KeyData {
     type Error = Error;
 
@@ -66,9 +95,32 @@ impl Decode for KeyData {
 
     ghost grammar = { known_grammar };
 
-    fn decode<R: Reader>(alloc: Global, reader: &mut R) -> Result<KeyData, Error> {
-        algorithm_from(alloc, reader)?;
-        let key = Ed25519PublicKey::decode(alloc, reader)?;
-        Ok(KeyData::Ed25519(key))
+    fn decode<R: Reader>(alloc: Global, reader: &mut R) -> Result<KeyData> {
+        let algorithm = Algorithm::decode(alloc, reader)?;
+        KeyData::decode_as(alloc, reader, algorithm)
     }
+}
+
+/// The normal form: the name of the algorithm, and the key's body.
+#[tactic(auto, using(sshkey_base::proofs::Writing::writing, sshkey_base::proofs::Writing::measuring))]
+impl Encode for KeyData {
+    ghost normal = { λ k. normal_key (key_of k) };
+
+    ghost most = { 8589934598 };
+
+    fn encoded_len(&self) -> encoding::Result<usize> {
+        let name = string_len(self.algorithm_name().as_bytes())?;
+        Ok(name + self.encoded_key_data_len()?)
+    }
+
+    fn encode<W: Writer>(&self, writer: &mut W) -> encoding::Result<()> {
+        encode_string(self.algorithm_name().as_bytes(), writer)?;
+        self.encode_key_data(writer)
+    }
+}
+
+impl NormalForm for KeyData {
+    ghost IsWellFormed = { λ k. IsKnownKey (key_of k) };
+
+    ghost normal_spells = { λ k. known_normal (key_of k) };
 }

@@ -2,7 +2,7 @@
 
 ghost use Rattle.std.specs.Prelude.{◌≡◌, ◌++◌, ℕ, List};
 ghost use Rattle.sshkey_model.specs.Keys.{Key};
-ghost use Rattle.sshkey_keys.specs.KnownKeys.{SpellsKnown};
+ghost use Rattle.sshkey_keys.specs.Keys.{SpellsKnown};
 
 /// No spelling of a key begins another: what follows it does not matter, and it is that of one key.
 pub fn prefix_key()

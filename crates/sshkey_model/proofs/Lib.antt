@@ -21,3 +21,4 @@ pub mod LineCuts
 pub mod Lines
 pub mod Blobs
 pub mod PrivateExamples
+pub mod NormalKeysFit

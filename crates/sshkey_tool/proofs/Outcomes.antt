@@ -7,11 +7,13 @@ use Rattle.sshkey_base.specs.declared.encoding.Error.TheVariants as encoding
 use Rattle.sshkey_base.specs.declared.error.Error.{Error}
 use Rattle.sshkey_base.specs.declared.error.Error.TheVariants as wide
 use Rattle.sshkey_keys.specs.declared.fingerprint.Fingerprint.{Fingerprint}
-use Rattle.sshkey_keys.specs.Fingerprints.{shown}
+use Rattle.sshkey_keys.specs.Fingerprints.{shown, GivesFingerprint}
+use Rattle.sshkey_model.specs.Keys.{Key}
+use Rattle.sshkey_model.proofs.NormalKeysFit.{normal_boxes}
 use Rattle.sshkey_model.specs.Names.{Sha256}
 use Rattle.sshkey_model.specs.Fingerprints.{digest_text, fingerprint_text}
 use Rattle.sshkey_tool.specs.Faults.{IsMachineFault, Writes}
-use Rattle.sshkey_tool.specs.KeyLines.{IsNoKnownLine}
+use Rattle.sshkey_tool.specs.KeyLines.{IsKnownLine, IsNoKnownLine}
 use Rattle.sshkey_tool.specs.Outcomes.{HasFingerprint, ShowsText, ShowsBytes, ShowsInput, WritesOutcome}
 use Rattle.sshkey_tool.specs.Table.{Usage, Shown, Refused, IsFingerprintWord, IsRefused, IsShown, Runs, WritesFault}
 
@@ -21,6 +23,11 @@ refusal text (wide.Encoding encoding.Memory) h = inl tt
 refusal text (wide.Io kind) h = inl tt
 refusal text wide.Memory h = inl tt
 refusal text _ h = inr (h (λ e. cc e))
+
+-- a key that was read is refused for want of memory alone, since its normal form fits
+pub shows : (text : List ℕ) (k : Key) (comment : List ℕ) (r : Result Fingerprint Error) → IsKnownLine text k comment → GivesFingerprint Sha256 k r → ShowsText text r
+shows text k comment (Ok f) line h = record { key = k; comment = comment; line = line; is = h }
+shows text k comment (Err e) line h = refusal text e (λ other. absurd (h other (normal_boxes k line.spelled.choices line.spelled.is.1.0 line.spelled.fits.boxes)))
 
 pub text_of_bytes : (text bytes : List ℕ) (r : Result Fingerprint Error) → text ≡ bytes → IsUtf8 bytes → ShowsText text r → ShowsBytes bytes r
 text_of_bytes text bytes (Ok f) same utf8 h = (utf8, subst (λ (t : List ℕ). HasFingerprint t f) same h)

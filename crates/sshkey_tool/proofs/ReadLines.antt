@@ -7,7 +7,7 @@ use Rattle.sshkey_base.specs.Causes.{cause, NoMemory}
 use Rattle.sshkey_base.specs.Source.{Source}
 use Rattle.sshkey_base.specs.declared.error.Error.{Error}
 use Rattle.sshkey_keys.specs.Keys.{key_of}
-use Rattle.sshkey_keys.specs.KnownKeys.{SpellsKnown}
+use Rattle.sshkey_keys.specs.Keys.{SpellsKnown}
 use Rattle.sshkey_keys.specs.declared.key_data.KeyData.{KeyData}
 use Rattle.sshkey_keys.proofs.KnownBlobs.{known_blobs}
 use Rattle.sshkey_model.specs.Keys.{Key}

@@ -6,7 +6,7 @@ use Rattle.base64.specs.GeneralPurpose.{encode_of, IsBytes}
 use Rattle.sshkey_base.specs.Causes.{cause, NoMemory}
 use Rattle.sshkey_base.specs.declared.error.Error.{Error}
 use Rattle.sshkey_keys.specs.Keys.{key_of}
-use Rattle.sshkey_keys.specs.KnownKeys.{SpellsKnown}
+use Rattle.sshkey_keys.specs.Keys.{SpellsKnown}
 use Rattle.sshkey_keys.specs.declared.key_data.KeyData.{KeyData}
 use Rattle.sshkey_model.specs.Keys.{Key}
 use Rattle.sshkey_model.specs.Lines.{IsLineOf, key_name}

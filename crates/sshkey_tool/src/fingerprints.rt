@@ -15,7 +15,7 @@ fn fingerprint_of_text(alloc: Global, text: &str) -> Result<Fingerprint, Error>
     ensures { ShowsText text.now result }
 {
     let (key, _comment) = read_key_line(alloc, text)?;
-    Ok(Fingerprint::new(HashAlg::Sha256, &key))
+    Fingerprint::new(alloc, HashAlg::Sha256, &key)
 }
 
 /// The same of bytes that may be a text.

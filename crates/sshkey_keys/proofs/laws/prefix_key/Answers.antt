@@ -1,5 +1,5 @@
 use Rattle.sshkey_model.proofs.Grammars.{one_front}
-use Rattle.sshkey_keys.specs.Laws.{known_grammar}
+use Rattle.sshkey_keys.specs.KeyReaders.{known_grammar}
 use Rattle.sshkey_keys.proofs.laws.prefix_key.Goals as goal
 
 pub returns : goal.returns
