@@ -1,20 +1,15 @@
 -- What a fingerprint's value means.
-use Rattle.std.specs.Prelude.{◌≡◌, ◌≢◌, ℕ, List, Result, Ok, Err}
+use Rattle.std.specs.Prelude.{◌≡◌, ◌⊎◌, ℕ, List, Result, Ok, Err}
 use Rattle.sshkey_model.specs.Fingerprints.{digest_text, fingerprint}
-use Rattle.sshkey_base.specs.Causes.{cause, NoMemory}
+use Rattle.sshkey_base.specs.declared.encoding.Error.TheVariants.{Length}
 use Rattle.sshkey_base.specs.declared.error.Error.{Error}
+use Rattle.sshkey_base.specs.declared.error.Error.TheVariants.{Encoding, Memory}
 use Rattle.sshkey_model.specs.Keys.{Key, normal_key}
 use Rattle.sshkey_model.specs.Names.{Hash}
 use Rattle.sshkey_model.specs.Names as model
 use Rattle.sshkey_model.specs.Parts.{BoxesFit}
 use Rattle.sshkey_keys.specs.declared.fingerprint.Fingerprint.{Fingerprint}
 use Rattle.sshkey_keys.specs.declared.fingerprint.Fingerprint.TheVariants as kinds
-use Rattle.sshkey_keys.specs.declared.hash_alg.HashAlg.{HashAlg}
-use Rattle.sshkey_keys.specs.declared.hash_alg.HashAlg.TheVariants as hashes
-
-abbrev pub hash_of : HashAlg → Hash
-hash_of hashes.Sha256 = model.Sha256
-hash_of hashes.Sha512 = model.Sha512
 
 abbrev pub algorithm_of : Fingerprint → Hash
 algorithm_of (kinds.Sha256 d) = model.Sha256
@@ -33,7 +28,7 @@ pub record IsFingerprint (h : Hash) (k : Key) (f : Fingerprint) : Type 0 where
   pub by : algorithm_of f ≡ h
   pub digest : digest_of f ≡ fingerprint h k
 
--- It is that fingerprint; refused for anything but memory, a part of the key is too long.
+-- It is that fingerprint. Exactly where a part of the key is too long, it is `Length`, and else refused for want of memory alone.
 abbrev pub GivesFingerprint : Hash → Key → Result Fingerprint Error → Type 0
 GivesFingerprint h k (Ok f) = IsFingerprint h k f
-GivesFingerprint h k (Err e) = cause e ≢ NoMemory → BoxesFit (normal_key k) → ⊥
+GivesFingerprint h k (Err e) = ((BoxesFit (normal_key k) → ⊥) × (e ≡ Encoding Length)) ⊎ (BoxesFit (normal_key k) × (e ≡ Memory))

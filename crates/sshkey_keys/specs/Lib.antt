@@ -1,4 +1,3 @@
-pub mod Readers
 pub mod Keys
 pub mod KeyReaders
 pub mod Fingerprints

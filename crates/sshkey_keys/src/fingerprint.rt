@@ -1,15 +1,15 @@
 //! Fingerprints of public keys.
 
 ghost use Rattle.std.specs.Prelude.{Some};
-ghost use Rattle.sshkey_keys.specs.Fingerprints.{hash_of, shown, GivesFingerprint};
+ghost use Rattle.sshkey_base.specs.Names.{hash_of};
+ghost use Rattle.sshkey_keys.specs.Fingerprints.{shown, GivesFingerprint};
 ghost use Rattle.sshkey_keys.specs.Keys.{key_of};
 
-use crate::hash_alg::HashAlg;
 use crate::key_data::KeyData;
 use base64::display::Base64Display;
 use base64::engine::general_purpose::STANDARD_NO_PAD;
 use sha2::{Digest, Sha256, Sha512};
-use sshkey_base::{Encode, Result};
+use sshkey_base::{HashAlg, Result, encode_vec};
 use std::alloc::Global;
 use std::fmt;
 
@@ -27,12 +27,12 @@ pub enum Fingerprint {
 impl Fingerprint {
     /// The digest by that hash of the key's normal form.
     ///
-    /// Want of memory aside, it is refused only where a part of the key is too long to be written.
+    /// Exactly where a part of the key is longer than 2^32 - 1 bytes, the answer is `Length`;
+    /// otherwise it is refused for want of memory alone.
     pub fn new(alloc: Global, hash_alg: HashAlg, key: &KeyData) -> Result<Fingerprint>
         ensures { GivesFingerprint (hash_of hash_alg) (key_of key.now) result }
     {
-        let mut bytes = Vec::new(alloc);
-        key.encode(&mut bytes)?;
+        let bytes = encode_vec(alloc, key)?;
         Ok(match hash_alg {
             HashAlg::Sha256 => Fingerprint::Sha256(Sha256::digest(bytes.as_slice())),
             HashAlg::Sha512 => Fingerprint::Sha512(Sha512::digest(bytes.as_slice())),

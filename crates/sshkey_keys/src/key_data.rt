@@ -1,25 +1,25 @@
 //! Public keys of any kind.
 
-ghost use Rattle.std.specs.Prelude.{◌≡◌, ◌≤◌, ℕ, List, IfOk};
-ghost use Rattle.sshkey_model.specs.Keys.{Key, normal_key, body, body_at};
+ghost use Rattle.std.specs.Prelude.{◌≡◌, ◌≤◌, ◌+◌, ◌^◌, ℕ, List, IfOk};
+ghost use Rattle.sshkey_model.specs.Keys.{Key, normal_key, body};
 ghost use Rattle.sshkey_model.specs.Lines.{key_name};
-ghost use Rattle.sshkey_base.specs.Algorithms.{algorithm_of};
 ghost use Rattle.sshkey_base.specs.Causes.{cause};
+ghost use Rattle.sshkey_base.specs.Names.{algorithm_of};
 ghost use Rattle.sshkey_base.specs.Reading.{Gives};
 ghost use Rattle.sshkey_base.specs.Sink.{Encodes, Measures};
-ghost use Rattle.sshkey_keys.specs.Keys.{key_of, IsKnownKey, SpellsKnown, known_key_at};
+ghost use Rattle.sshkey_keys.specs.Keys.{key_of, IsKnownKey, SpellsKnown, known_body_at, known_key_at};
 ghost use Rattle.sshkey_keys.specs.KeyReaders.{known_grammar, known_normal};
 
-use crate::ed25519_public_key::Ed25519PublicKey;
 use sshkey_base::{
     Algorithm, Decode, Encode, Error, NormalForm, Reader, Result, Writer, encode_string, encoding,
     string_len,
 };
+use sshkey_kinds::Ed25519PublicKey;
 use std::alloc::Global;
 
 /// A public key: the name of its algorithm, and what that algorithm's keys are made of
 /// (RFC 4253, section 6.6).
-#[derive(Debug, Clone, Copy, PartialEq, Eq)]
+#[derive(Debug, Drop, PartialEq, Eq)]
 pub enum KeyData {
     /// `ssh-ed25519` (RFC 8709).
     Ed25519(Ed25519PublicKey),
@@ -35,7 +35,8 @@ impl KeyData {
         }
     }
 
-    /// Reads what stands behind the name of that algorithm.
+    /// Reads what stands behind the name of that algorithm. `Label` for an algorithm whose keys are
+    /// not known.
     ///
     /// Want of memory aside, it is refused only where no front is the body of such a key, by a
     /// sound source with the first fault from the left.
@@ -45,13 +46,14 @@ impl KeyData {
         reader: &mut R,
         algorithm: Algorithm,
     ) -> Result<KeyData>
-        ensures { Gives key_of cause (body_at (algorithm_of algorithm)) (R.source reader.old) result (R.source reader.new) }
+        ensures { Gives key_of cause (known_body_at (algorithm_of algorithm)) (R.source reader.old) result (R.source reader.new) }
     {
         match algorithm {
             Algorithm::Ed25519 => {
                 let key = Ed25519PublicKey::decode(alloc, reader)?;
                 Ok(KeyData::Ed25519(key))
             }
+            _ => Err(Error::Encoding(encoding::Error::Label)),
         }
     }
 
@@ -59,7 +61,7 @@ impl KeyData {
     /// longer than 2^32 - 1 bytes, the answer is `Length`. Takes no memory.
     pub fn encoded_key_data_len(&self) -> encoding::Result<usize>
         ensures measures { Measures (body (key_of self.now)) result }
-        ensures short { IfOk result (λ n. n ≤ 4294967299) }
+        ensures short { IfOk result (λ n. n ≤ 2 ^ 32 + 4) }
     {
         match self {
             KeyData::Ed25519(key) => key.encoded_len(),
@@ -106,7 +108,7 @@ impl Decode for KeyData {
 impl Encode for KeyData {
     ghost normal = { λ k. normal_key (key_of k) };
 
-    ghost most = { 8589934598 };
+    ghost most = { 2 ^ 33 + 8 };
 
     fn encoded_len(&self) -> encoding::Result<usize> {
         let name = string_len(self.algorithm_name().as_bytes())?;
