@@ -1,1 +1,2 @@
+pub mod KnownBodies
 pub mod KnownBlobs

@@ -7,6 +7,7 @@ ghost use Rattle.sshkey_base.specs.Causes.{cause};
 ghost use Rattle.sshkey_base.specs.Names.{algorithm_of};
 ghost use Rattle.sshkey_base.specs.Reading.{Gives};
 ghost use Rattle.sshkey_base.specs.Sink.{Encodes, Measures};
+ghost use Rattle.sshkey_kinds.specs.Bodies.{ed25519_body_at};
 ghost use Rattle.sshkey_keys.specs.Keys.{key_of, IsKnownKey, SpellsKnown, known_body_at, known_key_at};
 ghost use Rattle.sshkey_keys.specs.KeyReaders.{known_grammar, known_normal};
 
@@ -40,7 +41,6 @@ impl KeyData {
     ///
     /// Want of memory aside, it is refused only where no front is the body of such a key, by a
     /// sound source with the first fault from the left.
-    #[tactic(auto, using(sshkey_base::proofs::Steps::steps))]
     pub fn decode_as<R: Reader>(
         alloc: Global,
         reader: &mut R,
@@ -48,12 +48,10 @@ impl KeyData {
     ) -> Result<KeyData>
         ensures { Gives key_of cause (known_body_at (algorithm_of algorithm)) (R.source reader.old) result (R.source reader.new) }
     {
-        match algorithm {
-            Algorithm::Ed25519 => {
-                let key = Ed25519PublicKey::decode(alloc, reader)?;
-                Ok(KeyData::Ed25519(key))
-            }
-            _ => Err(Error::Encoding(encoding::Error::Label)),
+        if algorithm.is_ed25519() {
+            ed25519_from(alloc, reader)
+        } else {
+            Err(Error::Encoding(encoding::Error::Label))
         }
     }
 
@@ -80,6 +78,15 @@ impl KeyData {
             KeyData::Ed25519(key) => key.encode(writer),
         }
     }
+}
+
+/// The body of an Ed25519 key.
+#[tactic(auto, using(sshkey_base::proofs::Steps::steps))]
+fn ed25519_from<R: Reader>(alloc: Global, reader: &mut R) -> Result<KeyData>
+    ensures { Gives key_of cause ed25519_body_at (R.source reader.old) result (R.source reader.new) }
+{
+    let key = Ed25519PublicKey::decode(alloc, reader)?;
+    Ok(KeyData::Ed25519(key))
 }
 
 /// The name of the algorithm and the key's body. `Label` for a name that is not known.

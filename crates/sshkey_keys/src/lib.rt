@@ -7,3 +7,6 @@ pub mod laws;
 
 pub use fingerprint::Fingerprint;
 pub use key_data::KeyData;
+
+#[cfg(test)]
+mod tests;

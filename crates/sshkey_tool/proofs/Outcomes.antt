@@ -27,7 +27,10 @@ refusal text _ h = inr (h (λ e. cc e))
 -- a key that was read is refused for want of memory alone, since its normal form fits
 pub shows : (text : List ℕ) (k : Key) (comment : List ℕ) (r : Result Fingerprint Error) → IsKnownLine text k comment → GivesFingerprint Sha256 k r → ShowsText text r
 shows text k comment (Ok f) line h = record { key = k; comment = comment; line = line; is = h }
-shows text k comment (Err e) line h = refusal text e (λ other. absurd (h other (normal_boxes k line.spelled.choices line.spelled.is.1.0 line.spelled.fits.boxes)))
+shows text k comment (Err e) line h = elim h [
+  | inl long ↦ absurd (long.0 (normal_boxes k line.spelled.choices line.spelled.is.1.0 line.spelled.fits.boxes))
+  | inr want ↦ inl (subst IsMachineFault (sym want.1) tt)
+]
 
 pub text_of_bytes : (text bytes : List ℕ) (r : Result Fingerprint Error) → text ≡ bytes → IsUtf8 bytes → ShowsText text r → ShowsBytes bytes r
 text_of_bytes text bytes (Ok f) same utf8 h = (utf8, subst (λ (t : List ℕ). HasFingerprint t f) same h)

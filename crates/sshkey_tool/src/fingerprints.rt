@@ -4,8 +4,8 @@ ghost use Rattle.sshkey_tool.specs.Outcomes.{ShowsText, ShowsBytes, ShowsInput};
 
 use crate::input::read_all;
 use crate::key_line::read_key_line;
-use sshkey_base::Error;
-use sshkey_keys::{Fingerprint, HashAlg};
+use sshkey_base::{Error, HashAlg};
+use sshkey_keys::Fingerprint;
 use std::alloc::Global;
 use std::io::Read;
 use std::str;
