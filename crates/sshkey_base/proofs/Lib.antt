@@ -12,3 +12,4 @@ pub mod CertificateTypes
 pub mod OtherNames
 pub mod CertifiedNames
 pub mod PlainParts
+pub mod Judging

@@ -18,6 +18,9 @@ pub enum Error {
     /// The algorithm is unknown.
     #[error("unknown algorithm")]
     AlgorithmUnknown,
+    /// A key or a signature is not one of its kind.
+    #[error("cryptographic error")]
+    Crypto,
     /// A point of an elliptic curve is not encoded as one.
     #[error("ECDSA encoding error")]
     Ecdsa,

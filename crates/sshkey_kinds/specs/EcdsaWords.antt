@@ -4,6 +4,7 @@ use Rattle.std.specs.Str.{bytes_eq}
 use Rattle.sshkey_model.specs.Reading.{Whole, ◌>>=◌}
 use Rattle.sshkey_model.specs.Names.{Curve, Nistp256, Nistp384, Nistp521}
 use Rattle.sshkey_model.specs.Points.{point_curve}
+use Rattle.sshkey_model.specs.Keys.{Key, Ecdsa}
 use Rattle.sshkey_kinds.specs.declared.ecdsa.EcdsaPublicKey.{EcdsaPublicKey}
 use Rattle.sshkey_kinds.specs.declared.ecdsa.EcdsaPublicKey.TheVariants.{NistP256, NistP384, NistP521}
 use Rattle.sshkey_kinds.specs.PointWords.{point_of}
@@ -13,6 +14,9 @@ abbrev pub ecdsa_of : EcdsaPublicKey → Curve × List ℕ
 ecdsa_of (NistP256 p) = (Nistp256, point_of p)
 ecdsa_of (NistP384 p) = (Nistp384, point_of p)
 ecdsa_of (NistP521 p) = (Nistp521, point_of p)
+
+abbrev pub ecdsa_key_of : EcdsaPublicKey → Key
+ecdsa_key_of k = Ecdsa (ecdsa_of k).0 (ecdsa_of k).1
 
 -- the key of a point string, whose curve its tag and its length tell
 abbrev pub sec1_from : Whole (Curve × List ℕ)

@@ -7,7 +7,7 @@ ghost use Rattle.sshkey_kinds.specs.PointSizes.{curve_of_longest, is_point_withi
 #[cfg(test)]
 mod tests;
 
-use sshkey_base::{Error, Result};
+use sshkey_base::{Encode, Error, Result, Writer, encode_string, encoding, string_len};
 use std::cmp::Ordering;
 use std::convert::AsSlice;
 use std::hash::{Hash, Hasher};
@@ -178,5 +178,24 @@ impl<const LEN: usize> AsSlice<u8> for EcPoint<LEN> {
 
     fn as_slice(&self) -> &[u8] {
         self.as_bytes()
+    }
+}
+
+/// A string of the point's bytes.
+impl<const LEN: usize> Encode for EcPoint<LEN> {
+    ghost use Rattle.std.specs.Prelude.{◌+◌, ◌^◌};
+    ghost use Rattle.sshkey_model.specs.Texts.{string};
+    ghost use Rattle.sshkey_kinds.specs.PointWords.{point_of};
+
+    ghost normal = { λ p. string (point_of p) };
+
+    ghost most = { 2 ^ 32 + 3 };
+
+    fn encoded_len(&self) -> encoding::Result<usize> {
+        string_len(self.as_bytes())
+    }
+
+    fn encode<W: Writer>(&self, writer: &mut W) -> encoding::Result<()> {
+        encode_string(self.as_bytes(), writer)
     }
 }

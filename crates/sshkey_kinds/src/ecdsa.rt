@@ -5,6 +5,10 @@ ghost use Rattle.std.specs.Prelude.{◌≡◌};
 ghost use Rattle.hex.specs.Hex.{encode_lower, encode_upper};
 ghost use Rattle.sshkey_base.specs.Answering.{AnswersAlways};
 ghost use Rattle.sshkey_base.specs.Causes.{cause};
+ghost use Rattle.sshkey_base.specs.Reading.{Gives};
+ghost use Rattle.sshkey_model.specs.Points.{point_from};
+ghost use Rattle.sshkey_model.specs.Reading.{checked_at, string_at};
+ghost use Rattle.sshkey_kinds.specs.EcdsaWords.{ecdsa_of};
 ghost use Rattle.sshkey_kinds.specs.PointSizes.{known_size, size_from};
 
 #[cfg(test)]
@@ -13,7 +17,11 @@ mod tests;
 use crate::ec_point::{
     EcPoint, EcdsaNistP256PublicKey, EcdsaNistP384PublicKey, EcdsaNistP521PublicKey,
 };
-use sshkey_base::{Error, Result, encoding, write_lower_hex, write_upper_hex};
+use sshkey_base::{
+    Algorithm, Bytes, Decode, EcdsaCurve, Encode, Error, Reader, Result, Writer, encode_string,
+    encoding, string_len, write_lower_hex, write_upper_hex,
+};
+use std::alloc::Global;
 use std::convert::AsSlice;
 use std::fmt;
 
@@ -59,6 +67,117 @@ impl EcdsaPublicKey {
             EcdsaPublicKey::NistP384(point) => point.as_bytes(),
             EcdsaPublicKey::NistP521(point) => point.as_bytes(),
         }
+    }
+}
+
+impl EcdsaPublicKey {
+    ghost use Rattle.sshkey_base.specs.Names.{curve_of, algorithm_of};
+    ghost use Rattle.sshkey_model.specs.Names.{Ecdsa};
+    ghost use Rattle.sshkey_model.specs.Points.{curve_eq};
+    ghost use Rattle.sshkey_kinds.specs.EcdsaWords.{ecdsa_of};
+
+    /// The curve of the point.
+    pub fn curve(&self) -> EcdsaCurve
+        ensures { curve_of result ≡ (ecdsa_of self.now).0 }
+    {
+        match self {
+            EcdsaPublicKey::NistP256(_) => EcdsaCurve::NistP256,
+            EcdsaPublicKey::NistP384(_) => EcdsaCurve::NistP384,
+            EcdsaPublicKey::NistP521(_) => EcdsaCurve::NistP521,
+        }
+    }
+
+    /// The algorithm of the key: ECDSA on its curve.
+    pub fn algorithm(&self) -> Algorithm
+        ensures { algorithm_of result ≡ Ecdsa (ecdsa_of self.now).0 }
+    {
+        Algorithm::Ecdsa {
+            curve: self.curve(),
+        }
+    }
+
+    /// Whether the key is on that curve.
+    pub fn is_on(&self, curve: EcdsaCurve) -> bool
+        ensures { result ≡ curve_eq (ecdsa_of self.now).0 (curve_of curve) }
+    {
+        match (self, curve) {
+            (EcdsaPublicKey::NistP256(_), EcdsaCurve::NistP256) => true,
+            (EcdsaPublicKey::NistP384(_), EcdsaCurve::NistP384) => true,
+            (EcdsaPublicKey::NistP521(_), EcdsaCurve::NistP521) => true,
+            _ => false,
+        }
+    }
+}
+
+/// The name of the curve as a string, and the point string.
+///
+/// `Length` for a point string of more than 133 bytes, the faults of `from_sec1_bytes`, and
+/// `AlgorithmUnknown` for a point of another curve than the stated one.
+#[tactic(auto, using(sshkey_base::proofs::Steps::steps), unfolding(crate::specs::Bodies::any_ecdsa_at, crate::specs::Bodies::curve_at, crate::specs::Bodies::label_at))]
+impl Decode for EcdsaPublicKey {
+    ghost use Rattle.sshkey_model.specs.Keys.{Key};
+    ghost use Rattle.sshkey_kinds.specs.Bodies.{SpellsEcdsa, any_ecdsa_at, any_ecdsa_grammar};
+    ghost use Rattle.sshkey_kinds.specs.EcdsaWords.{ecdsa_key_of};
+
+    type Error = Error;
+
+    ghost Meaning = { Key };
+
+    ghost means = { ecdsa_key_of };
+
+    ghost parse = { any_ecdsa_at };
+
+    ghost Spells = { SpellsEcdsa };
+
+    ghost grammar = { any_ecdsa_grammar };
+
+    fn decode<R: Reader>(alloc: Global, reader: &mut R) -> Result<EcdsaPublicKey> {
+        let stated = EcdsaCurve::decode(alloc, reader)?;
+        let key = decode_point(alloc, reader)?;
+        if !key.is_on(stated) {
+            return Err(Error::AlgorithmUnknown);
+        }
+        Ok(key)
+    }
+}
+
+/// A point string of any of the curves.
+#[tactic(auto, using(sshkey_base::proofs::Steps::steps))]
+fn decode_point<R: Reader>(alloc: Global, reader: &mut R) -> Result<EcdsaPublicKey>
+    ensures { Gives ecdsa_of cause (checked_at point_from string_at) (R.source reader.old) result (R.source reader.new) }
+{
+    let bytes = Bytes::decode(alloc, reader)?;
+    key_from(bytes.as_slice())
+}
+
+/// The key of the string. `Length` for more than 133 bytes, and the faults of `from_sec1_bytes`.
+fn key_from(bytes: &[u8]) -> Result<EcdsaPublicKey>
+    ensures { AnswersAlways ecdsa_of cause (point_from bytes.now) result }
+{
+    if bytes.len() > 133 {
+        return Err(Error::Encoding(encoding::Error::Length));
+    }
+    EcdsaPublicKey::from_sec1_bytes(bytes)
+}
+
+/// The name of the curve as a string, and the point string.
+#[tactic(auto, using(sshkey_base::proofs::Writing::writing, sshkey_base::proofs::Writing::measuring))]
+impl Encode for EcdsaPublicKey {
+    ghost use Rattle.std.specs.Prelude.{◌+◌, ◌*◌, ◌^◌};
+    ghost use Rattle.sshkey_model.specs.Keys.{body};
+    ghost use Rattle.sshkey_kinds.specs.EcdsaWords.{ecdsa_key_of};
+
+    ghost normal = { λ k. body (ecdsa_key_of k) };
+
+    ghost most = { 2 * (2 ^ 32 + 4) };
+
+    fn encoded_len(&self) -> encoding::Result<usize> {
+        Ok(self.curve().encoded_len()? + string_len(self.as_sec1_bytes())?)
+    }
+
+    fn encode<W: Writer>(&self, writer: &mut W) -> encoding::Result<()> {
+        self.curve().encode(writer)?;
+        encode_string(self.as_sec1_bytes(), writer)
     }
 }
 

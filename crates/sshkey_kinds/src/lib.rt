@@ -5,7 +5,9 @@ mod dsa;
 mod ec_point;
 mod ecdsa;
 mod ed25519;
+mod opaque;
 mod rsa;
+mod sk;
 
 pub use dsa::DsaPublicKey;
 pub use ec_point::{
@@ -13,4 +15,6 @@ pub use ec_point::{
 };
 pub use ecdsa::EcdsaPublicKey;
 pub use ed25519::Ed25519PublicKey;
+pub use opaque::{OpaquePublicKey, OpaquePublicKeyBytes};
 pub use rsa::RsaPublicKey;
+pub use sk::{SkEcdsaSha2NistP256, SkEd25519};

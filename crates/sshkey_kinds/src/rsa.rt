@@ -4,9 +4,7 @@ ghost use Rattle.std.specs.Prelude.{ℕ, ◌+◌, ◌*◌, ◌^◌};
 ghost use Rattle.sshkey_model.specs.Keys.{Key, body};
 ghost use Rattle.sshkey_kinds.specs.Bodies.{SpellsRsa, rsa_at, rsa_grammar};
 
-use sshkey_base::{
-    Decode, Encode, Error, Mpint, Reader, Result, Writer, encode_both, encoding,
-};
+use sshkey_base::{Decode, Encode, Error, Mpint, Reader, Result, Writer, encoding};
 use std::alloc::Global;
 
 /// An RSA public key (RFC 4253, section 6.6).
@@ -56,6 +54,7 @@ impl Encode for RsaPublicKey {
     }
 
     fn encode<W: Writer>(&self, writer: &mut W) -> encoding::Result<()> {
-        encode_both(&self.e, &self.n, writer)
+        self.e.encode(writer)?;
+        self.n.encode(writer)
     }
 }

@@ -1,0 +1,120 @@
+//! Public keys under names of somebody's own.
+
+ghost use Rattle.std.specs.Prelude.{◌≡◌, ℕ, List, ◌+◌, ◌^◌};
+ghost use Rattle.sshkey_base.specs.Leaves.{SpellsString, string_grammar};
+ghost use Rattle.sshkey_base.specs.Readers.{string_at};
+ghost use Rattle.sshkey_model.specs.Keys.{body};
+ghost use Rattle.sshkey_model.specs.Texts.{string};
+
+use sshkey_base::{Algorithm, Bytes, Decode, Encode, Reader, Writer, encoding};
+use std::alloc::Global;
+use std::marker::Model;
+
+/// The bytes of a key whose format is not known, which contracts see as a list.
+#[derive(Debug, Drop)]
+pub struct OpaquePublicKeyBytes {
+    bytes: Bytes,
+}
+
+impl Model for OpaquePublicKeyBytes {
+    ghost Value = { List ℕ };
+
+    ghost view = { λ k. k.bytes };
+}
+
+impl OpaquePublicKeyBytes {
+    /// The bytes.
+    pub fn as_bytes(&self) -> &[u8]
+        ensures { result.now ≡ self.now }
+    {
+        self.bytes.as_slice()
+    }
+}
+
+/// A string of any bytes.
+#[tactic(auto, using(sshkey_base::proofs::Steps::steps))]
+impl Decode for OpaquePublicKeyBytes {
+    type Error = encoding::Error;
+
+    ghost Meaning = { List ℕ };
+
+    ghost means = { λ k. k };
+
+    ghost parse = { string_at };
+
+    ghost Spells = { SpellsString };
+
+    ghost grammar = { string_grammar };
+
+    fn decode<R: Reader>(alloc: Global, reader: &mut R) -> encoding::Result<OpaquePublicKeyBytes> {
+        let bytes = Bytes::decode(alloc, reader)?;
+        Ok(OpaquePublicKeyBytes { bytes })
+    }
+}
+
+/// A string of the bytes.
+impl Encode for OpaquePublicKeyBytes {
+    ghost normal = { string };
+
+    ghost most = { 2 ^ 32 + 3 };
+
+    fn encoded_len(&self) -> encoding::Result<usize> {
+        self.bytes.encoded_len()
+    }
+
+    fn encode<W: Writer>(&self, writer: &mut W) -> encoding::Result<()> {
+        self.bytes.encode(writer)
+    }
+}
+
+/// A key under a name of somebody's own (RFC 4251, section 6).
+#[derive(Debug, Drop)]
+pub struct OpaquePublicKey {
+    /// The algorithm, whose name stands before the key.
+    pub algorithm: Algorithm,
+    /// The key's bytes.
+    pub key: OpaquePublicKeyBytes,
+}
+
+impl OpaquePublicKey {
+    ghost use Rattle.sshkey_model.specs.Keys.{Opaque};
+    ghost use Rattle.sshkey_model.specs.Names.{algorithm_name};
+    ghost use Rattle.sshkey_base.specs.Names.{algorithm_of};
+    ghost use Rattle.sshkey_kinds.specs.Kinds.{opaque_of};
+
+    /// The key of these bytes under that algorithm, whichever it is. Takes no memory.
+    pub fn new(key: Vec<u8>, algorithm: Algorithm) -> OpaquePublicKey
+        ensures { opaque_of result ≡ Opaque (algorithm_name (algorithm_of algorithm)) key.items }
+    {
+        OpaquePublicKey {
+            algorithm,
+            key: OpaquePublicKeyBytes {
+                bytes: Bytes::new(key),
+            },
+        }
+    }
+
+    /// The algorithm.
+    pub fn algorithm(&self) -> &Algorithm
+        ensures { result.now ≡ self.now.algorithm }
+    {
+        &self.algorithm
+    }
+}
+
+/// A string of the key's bytes. The name that stands before it is not written.
+impl Encode for OpaquePublicKey {
+    ghost use Rattle.sshkey_kinds.specs.Kinds.{opaque_of};
+
+    ghost normal = { λ k. body (opaque_of k) };
+
+    ghost most = { 2 ^ 32 + 3 };
+
+    fn encoded_len(&self) -> encoding::Result<usize> {
+        self.key.encoded_len()
+    }
+
+    fn encode<W: Writer>(&self, writer: &mut W) -> encoding::Result<()> {
+        self.key.encode(writer)
+    }
+}

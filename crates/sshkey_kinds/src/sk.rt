@@ -1,0 +1,239 @@
+//! Public keys that a security key holds.
+
+ghost use Rattle.std.specs.Prelude.{◌≡◌, ℕ, ◌+◌, ◌*◌, ◌^◌, codes, string_bytes, IfOk, IfErr};
+ghost use Rattle.sshkey_base.specs.Answering.{AnswersAlways};
+ghost use Rattle.sshkey_base.specs.Causes.{cause};
+ghost use Rattle.sshkey_base.specs.Reading.{Gives};
+ghost use Rattle.sshkey_base.specs.declared.error.Error.TheVariants as wide;
+ghost use Rattle.sshkey_model.specs.Keys.{Key, SkEcdsa, SkEd25519 as SkEd25519Key, body, p256_only};
+ghost use Rattle.sshkey_model.specs.Points.{p256_point_from};
+ghost use Rattle.sshkey_model.specs.Reading.{checked_at, string_at};
+ghost use Rattle.sshkey_kinds.specs.Bodies.{SpellsSkEcdsa, sk_ecdsa_at, sk_ecdsa_grammar, SpellsSkEd25519, sk_ed25519_at, sk_ed25519_grammar};
+ghost use Rattle.sshkey_kinds.specs.PointWords.{point_of};
+
+use crate::ec_point::{EcPoint, EcdsaNistP256PublicKey};
+use crate::ed25519::Ed25519PublicKey;
+use sshkey_base::{
+    Bytes, Decode, EcdsaCurve, Encode, Error, Reader, Result, Text, Writer, encoding,
+};
+use std::alloc::Global;
+
+/// The application of keys for SSH.
+const DEFAULT_APPLICATION: &str = "ssh:";
+
+/// A P-256 public key that a security key holds, and the application that it is for (OpenSSH,
+/// PROTOCOL.u2f).
+#[derive(Debug, Drop)]
+pub struct SkEcdsaSha2NistP256 {
+    ec_point: EcdsaNistP256PublicKey,
+    application: Text,
+}
+
+impl SkEcdsaSha2NistP256 {
+    ghost use Rattle.sshkey_kinds.specs.Kinds.{sk_ecdsa_of};
+
+    /// The key for that application. Takes no memory.
+    pub fn new(ec_point: EcdsaNistP256PublicKey, application: String) -> SkEcdsaSha2NistP256
+        ensures { sk_ecdsa_of result ≡ SkEcdsa (record { key = point_of ec_point; application = string_bytes application }) }
+    {
+        SkEcdsaSha2NistP256 {
+            ec_point,
+            application: Text::new(application),
+        }
+    }
+
+    /// The key for the application `ssh:`. Refuses only with `Memory`.
+    pub fn with_default_application(
+        alloc: Global,
+        ec_point: EcdsaNistP256PublicKey,
+    ) -> Result<SkEcdsaSha2NistP256>
+        ensures value { IfOk result (λ k. sk_ecdsa_of k ≡ SkEcdsa (record { key = point_of ec_point; application = codes "ssh:" })) }
+        ensures refused { IfErr result (λ e. e ≡ wide.Memory) }
+    {
+        let application = String::from_str(alloc, DEFAULT_APPLICATION)?;
+        Ok(SkEcdsaSha2NistP256::new(ec_point, application))
+    }
+
+    /// The point.
+    pub fn ec_point(&self) -> &EcdsaNistP256PublicKey
+        ensures { SkEcdsa (record { key = point_of result.now; application = self.now.application }) ≡ sk_ecdsa_of self.now }
+    {
+        &self.ec_point
+    }
+
+    /// The application.
+    pub fn application(&self) -> &str
+        ensures { SkEcdsa (record { key = point_of self.now.ec_point; application = result.now }) ≡ sk_ecdsa_of self.now }
+    {
+        self.application.as_str()
+    }
+}
+
+/// The string `nistp256`, the point string and the application as a text.
+///
+/// `Crypto` for another curve, `Length` for a point string of more than 65 bytes, and `Ecdsa` for
+/// one that is no point of P-256.
+#[tactic(auto, using(sshkey_base::proofs::Steps::steps), unfolding(crate::specs::Bodies::sk_ecdsa_at, crate::specs::Bodies::curve_at, crate::specs::Bodies::label_at))]
+impl Decode for SkEcdsaSha2NistP256 {
+    ghost use Rattle.sshkey_kinds.specs.Kinds.{sk_ecdsa_of};
+
+    type Error = Error;
+
+    ghost Meaning = { Key };
+
+    ghost means = { sk_ecdsa_of };
+
+    ghost parse = { sk_ecdsa_at };
+
+    ghost Spells = { SpellsSkEcdsa };
+
+    ghost grammar = { sk_ecdsa_grammar };
+
+    fn decode<R: Reader>(alloc: Global, reader: &mut R) -> Result<SkEcdsaSha2NistP256> {
+        let stated = EcdsaCurve::decode(alloc, reader)?;
+        if !matches!(stated, EcdsaCurve::NistP256) {
+            return Err(Error::Crypto);
+        }
+        let ec_point = decode_point(alloc, reader)?;
+        let application = Text::decode(alloc, reader)?;
+        Ok(SkEcdsaSha2NistP256 {
+            ec_point,
+            application,
+        })
+    }
+}
+
+/// A point string of P-256.
+#[tactic(auto, using(sshkey_base::proofs::Steps::steps))]
+fn decode_point<R: Reader>(alloc: Global, reader: &mut R) -> Result<EcdsaNistP256PublicKey>
+    ensures { Gives point_of cause (checked_at p256_point_from string_at) (R.source reader.old) result (R.source reader.new) }
+{
+    let bytes = Bytes::decode(alloc, reader)?;
+    point_from(bytes.as_slice())
+}
+
+/// The point of the string. `Length` for more than 65 bytes, and `Ecdsa` where it is no point.
+fn point_from(bytes: &[u8]) -> Result<EcdsaNistP256PublicKey>
+    ensures { AnswersAlways point_of cause (p256_point_from bytes.now) result }
+{
+    if bytes.len() > 65 {
+        return Err(Error::Encoding(encoding::Error::Length));
+    }
+    EcPoint::from_bytes(bytes)
+}
+
+/// The string `nistp256`, the point string and the application.
+#[tactic(auto, using(sshkey_base::proofs::Writing::writing, sshkey_base::proofs::Writing::measuring))]
+impl Encode for SkEcdsaSha2NistP256 {
+    ghost use Rattle.sshkey_kinds.specs.Kinds.{sk_ecdsa_of};
+
+    ghost normal = { λ k. body (sk_ecdsa_of k) };
+
+    ghost most = { 3 * (2 ^ 32 + 4) };
+
+    fn encoded_len(&self) -> encoding::Result<usize> {
+        Ok(EcdsaCurve::NistP256.encoded_len()?
+            + self.ec_point.encoded_len()?
+            + self.application.encoded_len()?)
+    }
+
+    fn encode<W: Writer>(&self, writer: &mut W) -> encoding::Result<()> {
+        EcdsaCurve::NistP256.encode(writer)?;
+        self.ec_point.encode(writer)?;
+        self.application.encode(writer)
+    }
+}
+
+/// An Ed25519 public key that a security key holds, and the application that it is for
+/// (OpenSSH, PROTOCOL.u2f).
+#[derive(Debug, Drop)]
+pub struct SkEd25519 {
+    public_key: Ed25519PublicKey,
+    application: Text,
+}
+
+impl SkEd25519 {
+    ghost use Rattle.sshkey_kinds.specs.Kinds.{sk_ed25519_of};
+
+    /// The key for that application. Takes no memory.
+    pub fn new(public_key: Ed25519PublicKey, application: String) -> SkEd25519
+        ensures { sk_ed25519_of result ≡ SkEd25519Key (record { key = public_key.0; application = string_bytes application }) }
+    {
+        SkEd25519 {
+            public_key,
+            application: Text::new(application),
+        }
+    }
+
+    /// The key for the application `ssh:`. Refuses only with `Memory`.
+    pub fn with_default_application(
+        alloc: Global,
+        public_key: Ed25519PublicKey,
+    ) -> Result<SkEd25519>
+        ensures value { IfOk result (λ k. sk_ed25519_of k ≡ SkEd25519Key (record { key = public_key.0; application = codes "ssh:" })) }
+        ensures refused { IfErr result (λ e. e ≡ wide.Memory) }
+    {
+        let application = String::from_str(alloc, DEFAULT_APPLICATION)?;
+        Ok(SkEd25519::new(public_key, application))
+    }
+
+    /// The key without its application.
+    pub fn public_key(&self) -> &Ed25519PublicKey
+        ensures { SkEd25519Key (record { key = result.now.0; application = self.now.application }) ≡ sk_ed25519_of self.now }
+    {
+        &self.public_key
+    }
+
+    /// The application.
+    pub fn application(&self) -> &str
+        ensures { SkEd25519Key (record { key = self.now.public_key.0; application = result.now }) ≡ sk_ed25519_of self.now }
+    {
+        self.application.as_str()
+    }
+}
+
+/// A string of 32 bytes, and the application as a text.
+#[tactic(auto, using(sshkey_base::proofs::Steps::steps), unfolding(crate::specs::Bodies::sk_ed25519_at, crate::specs::Bodies::ed25519_body_at, crate::specs::Bodies::ed25519_at))]
+impl Decode for SkEd25519 {
+    ghost use Rattle.sshkey_kinds.specs.Kinds.{sk_ed25519_of};
+
+    type Error = Error;
+
+    ghost Meaning = { Key };
+
+    ghost means = { sk_ed25519_of };
+
+    ghost parse = { sk_ed25519_at };
+
+    ghost Spells = { SpellsSkEd25519 };
+
+    ghost grammar = { sk_ed25519_grammar };
+
+    fn decode<R: Reader>(alloc: Global, reader: &mut R) -> Result<SkEd25519> {
+        let bytes = <[u8; 32]>::decode(alloc, reader)?;
+        let application = Text::decode(alloc, reader)?;
+        Ok(SkEd25519 {
+            public_key: Ed25519PublicKey(bytes),
+            application,
+        })
+    }
+}
+
+/// A string of the 32 bytes, and the application.
+#[tactic(auto, using(sshkey_base::proofs::Writing::writing, sshkey_base::proofs::Writing::measuring))]
+impl Encode for SkEd25519 {
+    ghost use Rattle.sshkey_kinds.specs.Kinds.{sk_ed25519_of};
+
+    ghost normal = { λ k. body (sk_ed25519_of k) };
+
+    ghost most = { 2 * (2 ^ 32 + 4) };
+
+    fn encoded_len(&self) -> encoding::Result<usize> {
+        Ok(self.public_key.encoded_len()? + self.application.encoded_len()?)
+    }
+
+    fn encode<W: Writer>(&self, writer: &mut W) -> encoding::Result<()> {
+        self.public_key.encode(writer)?;
+        self.application.encode(writer)
+    }
+}
