@@ -1,7 +1,7 @@
 -- A call that gives what a lawful plain reader gives accepts exactly the spellings.
 use Rattle.std.proofs.Common.{◌≡◌, ◌≢◌, ℕ, List, [], ◌∷◌, ◌++◌, append-nil, Result, Ok, Err, refl, subst, sym, cond, eqb, Bool, true, false, ◌<◌, length, arith, ap, ◌∙◌}
 use Rattle.std.proofs.lemmas.Bool.{eqb-false}
-use Rattle.sshkey_model.specs.Reading.{Fault, Front, TrailingData, ◌>>=◌, whole, end_of}
+use Rattle.sshkey_model.specs.Reading.{Front, TrailingData, whole, end_of}
 use Rattle.sshkey_model.specs.Grammar.{IsGrammar}
 use Rattle.sshkey_model.proofs.CombinedReaders.{bind_ok, ok_is}
 use Rattle.sshkey_model.proofs.Grammars.{none_spelled}

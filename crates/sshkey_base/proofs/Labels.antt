@@ -1,15 +1,15 @@
 -- A name is ASCII, so what is no text is no name.
-use Rattle.std.proofs.Common.{◌≡◌, ℕ, zero, suc, List, [], ◌∷◌, true, arith, Result, Ok, Err, refl, sym, ap, subst, ◌∙◌}
+use Rattle.std.proofs.Common.{◌≡◌, ℕ, zero, suc, List, [], ◌∷◌, true, arith, Result, Ok, Err, refl, sym, ap, subst}
 use Rattle.std.specs.Str.{IsUtf8, IsAscii}
 use Rattle.std.proofs.lemmas.Bool.{and_parts, ltb-true}
 use Rattle.std.proofs.lemmas.Str.{IsUtf8-from_ascii}
-use Rattle.sshkey_model.specs.Parts.{Parts, Any, bytes}
+use Rattle.sshkey_model.specs.Parts.{Any, bytes}
 use Rattle.sshkey_model.specs.Names.{are_ascii}
 use Rattle.sshkey_model.specs.Reading.{Fault, Label, Whole, string_at}
 use Rattle.sshkey_model.proofs.CombinedReaders.{Checks}
-use Rattle.sshkey_base.specs.Causes.{Cause, Faulty}
+use Rattle.sshkey_base.specs.Causes.{Faulty}
 use Rattle.sshkey_base.specs.Source.{Source}
-use Rattle.sshkey_base.specs.Reading.{Reads, Refuses, IsRefused}
+use Rattle.sshkey_base.specs.Reading.{Reads, IsRefused}
 use Rattle.sshkey_base.specs.Labels.{label_at}
 
 ascii : (b : List ℕ) → are_ascii b ≡ true → IsAscii b

@@ -1,11 +1,11 @@
 -- The steps of a reading function, as the plain reader takes them.
-use Rattle.std.proofs.Common.{◌≡◌, ℕ, Bool, false, true, ltb, List, ◌++◌, length, Result, Ok, Err, refl, sym, ap, ◌∙◌, arith, lt-ltb}
+use Rattle.std.proofs.Common.{◌≡◌, ℕ, false, true, ltb, List, ◌++◌, length, Result, Ok, refl, ap, arith, lt-ltb}
 use Rattle.std.proofs.lemmas.Bool.{le-ltb}
 use Rattle.std.proofs.lemmas.List.{length-append, take_at, drop_at}
 use Rattle.sshkey_model.specs.Parts.{are_bytes}
 use Rattle.sshkey_model.specs.Reading.{Fault, Length, ◌>>=◌, Front, bytes_at}
 use Rattle.sshkey_base.specs.declared.encoding.Error.{Error}
-use Rattle.sshkey_base.specs.Causes.{Cause, Faulty, encoding_cause}
+use Rattle.sshkey_base.specs.Causes.{Cause, encoding_cause}
 use Rattle.sshkey_base.specs.Source.{Source, Advances, TooFew}
 use Rattle.sshkey_base.specs.Reading.{Reads, Refuses, IsRefused}
 

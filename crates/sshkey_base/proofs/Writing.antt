@@ -1,16 +1,16 @@
 -- The steps of a writing function.
 use Rattle.std.proofs.Common.{◌≡◌, ℕ, ◌+◌, ◌<◌, ◌≤◌, ◌^◌, List, [], ◌++◌, length, take, take_all, Option, Some, None, Result, Ok, Err, refl, sym, ap, ◌∙◌, append_assoc, arith, inl, inr}
-use Rattle.std.specs.Prelude.{IfSome, ◌⊎◌}
-use Rattle.std.specs.Int.{Width, w8, w32, w64, to_be_bytes, byte_len}
+use Rattle.std.specs.Prelude.{IfSome}
+use Rattle.std.specs.Int.{Width, w8, w32, w64, to_be_bytes}
 use Rattle.std.proofs.lemmas.List.{length-append, append-nil, take-append-le}
 use Rattle.std.proofs.lemmas.Bool.{cases_lt}
 use Rattle.std.proofs.Math.Seq.{take-append-add}
 use mir.Val.{bits}
-use Rattle.sshkey_model.specs.Parts.{Parts, bytes, number, box, ◌&◌, flat, InRange, BoxesFit, Fits}
+use Rattle.sshkey_model.specs.Parts.{Parts, bytes, number, box, ◌&◌, flat, BoxesFit}
 use Rattle.sshkey_model.proofs.CombinedReaders.{fits_both, fits_box, fits_bytes, fits_number}
 use Rattle.sshkey_base.specs.declared.encoding.Error.{Error}
 use Rattle.sshkey_base.specs.declared.encoding.Error.TheVariants.{Length, Memory}
-use Rattle.sshkey_base.specs.Sink.{Sink, Wrote, Began, Stopped, Writes, Written, after, TooLong, NotWritten, Encodes, Measures}
+use Rattle.sshkey_base.specs.Sink.{Sink, Began, Stopped, Writes, Written, after, NotWritten, Encodes}
 
 -- nothing was added
 pub none_began : (s t : Sink) (b : List ℕ) → t.written ≡ s.written → Began s b t

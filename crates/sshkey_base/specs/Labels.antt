@@ -1,6 +1,6 @@
 -- A name that is read and written as a string (RFC 4251, section 6).
 use Rattle.std.specs.Prelude.{◌≡◌, ◌≢◌, ℕ, List, Result, Ok, Err, refl}
-use Rattle.sshkey_model.specs.Reading.{Fault, Whole, Label, Front, string_at, checked_at}
+use Rattle.sshkey_model.specs.Reading.{Whole, Label, Front, string_at, checked_at}
 use Rattle.sshkey_model.specs.Parts.{Any, bytes, flat, Fits}
 use Rattle.sshkey_model.specs.Texts.{string}
 use Rattle.sshkey_model.specs.Grammar.{IsGrammar, Spells}

@@ -1,6 +1,6 @@
 -- What holds of every value that is read and written.
 use Rattle.std.specs.Prelude.{◌≡◌, ℕ, List, ◌++◌, Ok}
-use Rattle.sshkey_model.specs.Parts.{Parts, ◌&◌, flat, Fits}
+use Rattle.sshkey_model.specs.Parts.{Parts, flat, Fits}
 use Rattle.sshkey_model.specs.Reading.{Front}
 
 -- What is written of a value is read back as that value, whatever follows it.

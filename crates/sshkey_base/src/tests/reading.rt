@@ -104,3 +104,22 @@ fn the_laws_are_called(_rt: HostRuntime) {
     laws::read_back::<[u8; 32]>();
     laws::one_front::<u32>();
 }
+
+/// The answer is the one that is expected, or memory was refused.
+fn is_or_memory<T: PartialEq>(answer: &Result<T, Error>, expected: &Result<T, Error>) -> bool {
+    answer == expected || matches!(answer, Err(Error::Memory))
+}
+
+/// Run with each allocation refused in turn: no other answer takes the place of `Memory`.
+#[test]
+fn refused_memory_is_said(rt: HostRuntime) {
+    let alloc = rt.alloc();
+    let name = decode_whole::<Algorithm, _>(alloc, NAME.as_slice());
+    assert!(rt; is_or_memory(&name, &Ok(Algorithm::Ed25519)));
+    let label = decode_whole::<Algorithm, _>(alloc, TESTING.as_slice());
+    assert!(rt; is_or_memory(&label, &Err(Error::Label)));
+    // nothing is asked of the allocator for a length past the rest
+    assert!(rt; refuses::<Vec<u8>>(alloc, &[0xff; 4], Error::Length));
+    let written = encode_vec(alloc, &Algorithm::Ed25519).map(|bytes| bytes.len());
+    assert!(rt; is_or_memory(&written, &Ok(15)));
+}

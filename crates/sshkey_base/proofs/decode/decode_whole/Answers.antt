@@ -1,4 +1,3 @@
-use Rattle.std.proofs.Common.{rules}
 use Rattle.std.proofs.lemmas.Result.{err_from_is_err_and}
 use Rattle.sshkey_base.proofs.Accepted.{accepts_whole, front_refused, finish_refused}
 use Rattle.sshkey_base.proofs.decode.decode_whole.Goals as goal

@@ -1,4 +1,4 @@
-use Rattle.std.proofs.Common.{◌≡◌, ◌∙◌, length, sym, arith}
+use Rattle.std.proofs.Common.{◌∙◌, sym, arith}
 use Rattle.std.proofs.lemmas.Result.{err_from_is_err_and}
 use Rattle.sshkey_model.specs.Parts.{bytes}
 use Rattle.sshkey_base.proofs.Writing.{outside_misfit, box_first, box_later, plain_bytes, length_bytes}

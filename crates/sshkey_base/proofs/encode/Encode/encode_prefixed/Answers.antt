@@ -1,4 +1,4 @@
-use Rattle.std.proofs.Common.{◌≡◌, ◌∙◌, arith}
+use Rattle.std.proofs.Common.{◌∙◌, arith}
 use Rattle.std.proofs.lemmas.Result.{err_from_is_err_and}
 use Rattle.sshkey_base.proofs.Writing.{inside_misfit, outside_misfit, box_first, box_later}
 use Rattle.sshkey_base.proofs.encode.Encode.encode_prefixed.Goals as goal

@@ -1,6 +1,5 @@
-use Rattle.std.proofs.Common.{rules, arith, inl, inr, refl, ap, sym, ◌≡◌, ◌∙◌}
+use Rattle.std.proofs.Common.{rules, arith, inl, inr, refl, ◌≡◌}
 use Rattle.std.proofs.lemmas.Result.{err_from_is_err_and}
-use Rattle.sshkey_base.specs.Source.{Source, part}
 use Rattle.sshkey_base.proofs.Steps.{not_refused}
 use Rattle.sshkey_base.proofs.reader.Reader.read_prefixed.Goals as goal
 
