@@ -1,6 +1,6 @@
 use crate::{
-    Algorithm, Bytes, Decode, Encode, Error, Label, Reader, SliceWriter, Writer, decode_boxed, decode_front,
-    decode_whole, encode_both, encode_string, encode_vec, encoding, laws, string_len,
+    Algorithm, Bytes, Decode, Encode, Error, Label, Reader, SliceWriter, Writer, decode_boxed,
+    decode_front, decode_whole, encode_both, encode_string, encode_vec, encoding, laws, string_len,
 };
 use std::alloc::{AllocError, Global};
 use std::hash::{DefaultHasher, Hash, Hasher};
@@ -29,7 +29,12 @@ fn writes<T: Encode>(value: &T, bytes: &[u8]) -> bool {
 }
 
 /// The bytes begin with the value, and `rest` bytes are left behind it.
-fn reads<T: Decode + PartialEq + Drop>(alloc: Global, bytes: &[u8], value: &T, rest: usize) -> bool {
+fn reads<T: Decode + PartialEq + Drop>(
+    alloc: Global,
+    bytes: &[u8],
+    value: &T,
+    rest: usize,
+) -> bool {
     let mut left = bytes;
     match T::decode(alloc, &mut left) {
         Ok(read) => read == *value && left.len() == rest,
@@ -70,7 +75,10 @@ fn texts_of_errors(rt: HostRuntime) {
 fn texts_of_encoding_errors(rt: HostRuntime) {
     let texts = [
         (encoding::Error::Base64, "Base64 encoding error"),
-        (encoding::Error::CharacterEncoding, "character encoding invalid"),
+        (
+            encoding::Error::CharacterEncoding,
+            "character encoding invalid",
+        ),
         (encoding::Error::Label, "label invalid"),
         (encoding::Error::Length, "length invalid"),
         (
@@ -86,7 +94,10 @@ fn texts_of_encoding_errors(rt: HostRuntime) {
 
 #[test]
 fn errors_widen(rt: HostRuntime) {
-    assert_eq!(rt; Error::from(encoding::Error::Label), Error::Encoding(encoding::Error::Label));
+    assert_eq!(rt;
+        Error::from(encoding::Error::Label),
+        Error::Encoding(encoding::Error::Label)
+    );
     assert_eq!(rt; Error::from(encoding::Error::Memory), Error::Memory);
     let full = io::Error::from(io::ErrorKind::OutOfMemory);
     assert_eq!(rt; Error::from(full), Error::Memory);
@@ -99,8 +110,14 @@ fn errors_widen(rt: HostRuntime) {
 #[test]
 fn no_text(rt: HostRuntime) {
     if let Err(error) = std::str::from_utf8(&[0xff]) {
-        assert_eq!(rt; encoding::Error::from(error), encoding::Error::CharacterEncoding);
-        assert_eq!(rt; Error::from(error), Error::Encoding(encoding::Error::CharacterEncoding));
+        assert_eq!(rt;
+            encoding::Error::from(error),
+            encoding::Error::CharacterEncoding
+        );
+        assert_eq!(rt;
+            Error::from(error),
+            Error::Encoding(encoding::Error::CharacterEncoding)
+        );
     } else {
         panic!(rt; "ff is no text");
     }
@@ -108,10 +125,16 @@ fn no_text(rt: HostRuntime) {
 
 #[test]
 fn names(rt: HostRuntime) {
-    assert_eq!(rt; Algorithm::from_label(rt.alloc(), "ssh-ed25519"), Ok(Algorithm::Ed25519));
+    assert_eq!(rt;
+        Algorithm::from_label(rt.alloc(), "ssh-ed25519"),
+        Ok(Algorithm::Ed25519)
+    );
     assert_eq!(rt; Algorithm::Ed25519.label(), "ssh-ed25519");
     for name in ["", "ssh-ed2551", "ssh-ed25519 ", "SSH-ED25519", "ssh-rsa"] {
-        assert_eq!(rt; Algorithm::from_label(rt.alloc(), name), Err(encoding::Error::Label));
+        assert_eq!(rt;
+            Algorithm::from_label(rt.alloc(), name),
+            Err(encoding::Error::Label)
+        );
     }
 }
 

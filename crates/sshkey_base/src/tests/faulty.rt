@@ -87,6 +87,16 @@ fn a_front_before_a_fault(rt: HostRuntime) {
         }
     }
     // a length past what was announced is `Length`, whatever is missing
-    assert!(rt; matches!(Bytes::decode(rt.alloc(), &mut cut_short(&NAME, 14, 0)), Err(Error::Length)));
-    assert!(rt; matches!(Bytes::decode(rt.alloc(), &mut cut_short(&NAME, 10, 4)), Err(Error::Length)));
+    assert!(rt;
+        matches!(
+            Bytes::decode(rt.alloc(), &mut cut_short(&NAME, 14, 0)),
+            Err(Error::Length)
+        )
+    );
+    assert!(rt;
+        matches!(
+            Bytes::decode(rt.alloc(), &mut cut_short(&NAME, 10, 4)),
+            Err(Error::Length)
+        )
+    );
 }

@@ -51,7 +51,10 @@ fn whole_inputs(rt: HostRuntime) {
     let longer = [
         0u8, 0, 0, 11, b's', b's', b'h', b'-', b'e', b'd', b'2', b'5', b'5', b'1', b'9', 0,
     ];
-    assert_eq!(rt; decode_whole(alloc, NAME.as_slice()), Ok(Algorithm::Ed25519));
+    assert_eq!(rt;
+        decode_whole(alloc, NAME.as_slice()),
+        Ok(Algorithm::Ed25519)
+    );
     assert_eq!(rt;
         decode_whole::<Algorithm, _>(alloc, longer.as_slice()),
         Err(Error::TrailingData { remaining: 1 })
@@ -75,7 +78,10 @@ fn parts(rt: HostRuntime) {
     let alloc = rt.alloc();
     assert_eq!(rt; boxed(alloc, &[0, 0, 0, 4, 0, 0, 1, 0, 9]), Ok((256, 1)));
     let longer = [0, 0, 0, 6, 0, 0, 1, 0, 9, 9];
-    assert_eq!(rt; boxed(alloc, &longer), Err(Error::TrailingData { remaining: 2 }));
+    assert_eq!(rt;
+        boxed(alloc, &longer),
+        Err(Error::TrailingData { remaining: 2 })
+    );
     assert_eq!(rt; boxed(alloc, &[0, 0, 0, 4, 0, 0, 1]), Err(Error::Length));
     // what is behind the part is not read
     assert_eq!(rt; boxed(alloc, &[0, 0, 0, 3, 0, 0, 1, 0]), Err(Error::Length));
@@ -90,7 +96,10 @@ fn pair(alloc: Global, bytes: &[u8]) -> Result<(u8, u8), Error> {
 #[test]
 fn a_closure_over_a_part(rt: HostRuntime) {
     assert_eq!(rt; pair(rt.alloc(), &[0, 0, 0, 2, 5, 6, 7]), Ok((5, 6)));
-    assert_eq!(rt; pair(rt.alloc(), &[0, 0, 0, 1, 5, 6, 7]), Err(Error::Length));
+    assert_eq!(rt;
+        pair(rt.alloc(), &[0, 0, 0, 1, 5, 6, 7]),
+        Err(Error::Length)
+    );
     assert_eq!(rt;
         pair(rt.alloc(), &[0, 0, 0, 3, 5, 6, 7]),
         Err(Error::TrailingData { remaining: 1 })
