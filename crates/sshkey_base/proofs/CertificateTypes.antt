@@ -75,10 +75,10 @@ named_of t l r bare (Ok n) parts is ok own err = record {
 }
 named_of t l r bare (Err e) parts is ok own_ err = λ _. record {
   none = λ n own spelt.
-    let p = parts_of n t own spelt in
-    let same = same_parts t p.0 p.1 l r p.3 parts in
-    let form : bare ≡ n = is ∙ cc (p.2, same.0, same.1) in
-    both_ways (is_own_name bare) err.0 (rw form own);
+      let p = parts_of n t own spelt in
+      let same = same_parts t p.0 p.1 l r p.3 parts in
+      let form : bare ≡ n = is ∙ cc (p.2, same.0, same.1) in
+      both_ways (is_own_name bare) err.0 (rw form own);
   label = ap cause err.1;
 }
 

@@ -20,5 +20,6 @@ pub mod Naming
 pub mod OwnNames
 pub mod Digests
 pub mod Fields
+pub mod Comparisons
 pub mod LabelLaws
 pub mod NameReaders

@@ -17,13 +17,12 @@ mod curve;
 mod hash;
 mod name;
 
-pub use curve::EcdsaCurve;
-pub use hash::HashAlg;
-pub use name::AlgorithmName;
-
 use crate::encoding;
 use crate::error::{Error, Result};
 use crate::label::Label;
+pub use curve::EcdsaCurve;
+pub use hash::HashAlg;
+pub use name::AlgorithmName;
 use std::alloc::Global;
 use std::convert::AsStr;
 use std::fmt;
@@ -225,3 +224,6 @@ impl Default for Algorithm {
         Algorithm::Ed25519
     }
 }
+
+#[cfg(test)]
+mod tests;

@@ -3,8 +3,14 @@
 
 ghost use Rattle.sshkey_base.specs.Laws.{ReadBackBefore, OneFront};
 
+mod names;
+
 use crate::decode::Decode;
 use crate::normal_form::NormalForm;
+pub use names::{
+    compared_algorithm_names, compared_algorithms, compared_curves, compared_fields,
+    compared_hashes,
+};
 
 /// What is written of a well-formed value that fits is read back as that value, whatever follows.
 pub fn read_back<T: NormalForm>()

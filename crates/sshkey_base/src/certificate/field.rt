@@ -84,3 +84,35 @@ impl fmt::Display for Field {
         f.write_str(self.as_str())
     }
 }
+
+#[cfg(test)]
+mod tests {
+    use super::Field;
+    use std::test::Fail;
+
+    #[test]
+    fn texts(rt: HostRuntime) -> Result<(), Fail> {
+        let alloc = rt.alloc();
+        for (field, text) in [
+            (Field::PublicKey, "public key"),
+            (Field::Nonce, "nonce"),
+            (Field::Serial, "serial"),
+            (Field::CertType, "type"),
+            (Field::KeyId, "key id"),
+            (Field::ValidPrincipals, "valid principals"),
+            (Field::ValidAfter, "valid after"),
+            (Field::ValidBefore, "valid before"),
+            (Field::CriticalOptions, "critical options"),
+            (Field::Extensions, "extensions"),
+            (Field::SignatureKey, "signature key"),
+            (Field::Signature, "signature"),
+            (Field::Comment, "comment"),
+        ] {
+            assert_eq!(rt; field.as_str(), text);
+            assert_eq!(rt; field.to_string(alloc)?.as_str(), text);
+            let error = format!(in alloc; "certificate field invalid: {text}")?;
+            assert_eq!(rt; field.invalid_error().to_string(alloc)?, error);
+        }
+        Ok(())
+    }
+}

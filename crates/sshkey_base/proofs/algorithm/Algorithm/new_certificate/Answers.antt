@@ -9,8 +9,8 @@ use Rattle.sshkey_base.proofs.algorithm.Algorithm.new_certificate.Goals as goal
 pub returns-in_err-name-in-None-clause-gives : goal.returns-in_err-name-in-None-clause-gives
 returns-in_err-name-in-None-clause-gives c =
     names_unknown algorithm_of cause (certified_from c.args.name.now) _ c.in_err-name-in-None.field-0.0 c.from_residual.result c.from_residual.ensures.1 (λ e. e) (λ some.
-      let unknown = c.in_err-name-in-None.ensures some in
-      record { none = certified_unknown c.args.name.now (sym c.in-None.ensures) unknown.none; label = unknown.label })
+    let unknown = c.in_err-name-in-None.ensures some in
+    record { none = certified_unknown c.args.name.now (sym c.in-None.ensures) unknown.none; label = unknown.label })
 
 pub returns-in_ok-name-in-None-clause-gives : goal.returns-in_ok-name-in-None-clause-gives
 returns-in_ok-name-in-None-clause-gives c = certified_other c.args.name.now _ (sym c.in-None.ensures) c.in_ok-name-in-None.ensures
