@@ -1,7 +1,7 @@
 -- Names of somebody's own in certificates.
-use Rattle.std.proofs.Common.{◌≡◌, ◌≢◌, ℕ, Option, Some, None, Result, Ok, Err, IfOk, IfErr, IsSome, List, [], ◌∷◌, ◌++◌, length, nat_le, ◌&&◌, true, false, refl, sym, ap, subst, ◌∙◌, rules, append_assoc}
-use Rattle.std.proofs.lemmas.Bool.{and_parts, both_ways}
-use Rattle.std.proofs.lemmas.List.{append_cancel_right}
+use Rattle.std.proofs.Common.{◌≡◌, ◌≢◌, ℕ, Option, Some, None, Result, Ok, Err, IfOk, IfErr, IsSome, List, [], ◌∷◌, ◌++◌, length, nat_le, ◌&&◌, true, false, refl, sym, ap, subst, ◌∙◌, rules, append_assoc, arith, ◌+◌, ◌≤◌}
+use Rattle.std.proofs.lemmas.Bool.{and_parts, both_ways, leb-true}
+use Rattle.std.proofs.lemmas.List.{append_cancel_right, length-append}
 use denote.Ref.{Bor}
 use Rattle.sshkey_model.specs.Parts.{bytes, ◌&◌, flat}
 use Rattle.sshkey_model.specs.Names.{Other, at_sign, cut, are_ascii, is_split, is_own_name}
@@ -85,3 +85,12 @@ named_of t l r bare (Err e) parts is ok own_ err = λ _. record {
 pub flat-name : (n : List ℕ) (p : List ℕ × List ℕ) → cut n ≡ Some p → flat (bytes p.0 & bytes suffix & bytes (at_sign ∷ []) & bytes p.1) ≡ certificate_name (Other n)
 unfolding flat
 flat-name n p e = sym (append_assoc p.0 suffix (at_sign ∷ p.1)) ∙ sym (certificate_name-cut n p e)
+
+pub certificate_length : (n : List ℕ) → is_own_name n ≡ true → (length (certificate_name (Other n)) ≡ length n + 9) × (length n ≤ 64)
+unfolding is_own_name
+certificate_length n own =
+    let short = (and_parts (are_ascii n && nat_le (length n) 64) (is_split (cut n)) own).0 in
+    let p = parts_of n (certificate_name (Other n)) own refl in
+    let all : length (certificate_name (Other n)) ≡ length (p.0 ++ suffix ++ at_sign ∷ p.1) = ap length p.3.whole in
+    let bare : length n ≡ length (p.0 ++ at_sign ∷ p.1) = ap length p.2 in
+    (omega (arith, all, bare, length-append p.0 suffix, length-append (p.0 ++ suffix) (at_sign ∷ p.1), length-append p.0 (at_sign ∷ p.1)), leb-true (length n) 64 (and_parts (are_ascii n) (nat_le (length n) 64) short).1)

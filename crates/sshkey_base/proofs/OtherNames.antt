@@ -69,11 +69,3 @@ looked_up means t e (Ok x) is none met = absurd is
 looked_up means t e (Err x) is none met = λ some.
     let unknown = met (λ memory. some (is ∙ memory)) in
     (unknown_from t none unknown.0, is ∙ unknown.1)
-
--- the same of the wider error
-pub widened_names : {X Y : Type 0} (means : X → Y) (read : Whole Y) (t : List ℕ) (e : narrow.Error) (result : Result X wide.Error) → IsErrAnd result (λ x. x ≡ widened e) → (e ≢ encoding.Memory → (read t ≡ Err Label) × (e ≡ encoding.Label)) → Names means cause (read t) result
-widened_names means read t e (Ok x) is met = absurd is
-widened_names means read t e (Err x) is met = λ some.
-    let same = ap cause is ∙ same_cause e in
-    let unknown = met (λ memory. some (same ∙ ap encoding_cause memory)) in
-    record { none = unknown.0; label = same ∙ ap encoding_cause unknown.1 }

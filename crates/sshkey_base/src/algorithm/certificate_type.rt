@@ -1,6 +1,6 @@
 //! Names of algorithms in certificates (PROTOCOL.certkeys).
 
-ghost use Rattle.std.specs.Prelude.{◌≡◌, IsOk, IfOk, IfErr, Some, option_map, string_bytes};
+ghost use Rattle.std.specs.Prelude.{◌≡◌, ◌≤◌, length, IsOk, IfOk, IfErr, Some, option_map, string_bytes};
 ghost use Rattle.sshkey_model.specs.CertificateNames.{IsCertified, certificate_algorithm, certificate_algorithm_at, certificate_name, certified, certified_from};
 ghost use Rattle.sshkey_model.specs.Grammar.{Spells};
 ghost use Rattle.sshkey_model.specs.Names.{named};
@@ -17,6 +17,7 @@ ghost use Rattle.sshkey_base.specs.Sink.{Encodes};
 use super::{Algorithm, AlgorithmName, EcdsaCurve, ecdsa};
 use crate::bytes::Bytes;
 use crate::decode::Decode;
+use crate::encode::Encode;
 use crate::encoding;
 use crate::error::{Error, Result};
 use crate::label_error::LabelError;
@@ -84,6 +85,28 @@ impl Algorithm {
         ensures accepts { AcceptsFront algorithm_of (Spells IsCertified certificate_algorithm) cause (R.source reader.old) result (R.source reader.new) }
     {
         read_certificate_type(alloc, reader)
+    }
+
+    /// How many bytes the name in a certificate has, at most 73. Takes no memory.
+    pub fn certificate_name_len(&self) -> usize
+        ensures value { result ≡ length (certificate_name (algorithm_of self.now)) }
+        ensures short { result ≤ 73 }
+    {
+        match self {
+            Algorithm::Other(name) => name.certificate_type_len(),
+            _ => self.fixed_certificate_type().len(),
+        }
+    }
+
+    /// Writes the string of the name in a certificate: a length of four bytes, and the name.
+    ///
+    /// A refusal is the writer's own; then it holds what it held, and a beginning of the string.
+    /// Takes no memory of its own.
+    pub fn encode_certificate_name<W: Writer>(&self, writer: &mut W) -> encoding::Result<()>
+        ensures { Encodes W.fault (certificate_algorithm (algorithm_of self.now)) (W.sink writer.old) result (W.sink writer.new) }
+    {
+        (self.certificate_name_len() as u32).encode(writer)?;
+        self.write_certificate_name(writer)
     }
 
     /// Writes the name in a certificate, with no length before it.

@@ -5,6 +5,7 @@ ghost use Rattle.sshkey_model.specs.Names.{Curve, curve_name, curve_from};
 ghost use Rattle.sshkey_model.specs.Reading as fault;
 ghost use Rattle.sshkey_base.specs.Causes.{Faulty, cause};
 ghost use Rattle.sshkey_model.specs.Parts.{Any};
+ghost use Rattle.sshkey_base.specs.Labels.{LooksUp, LooksUpAlways};
 ghost use Rattle.sshkey_base.specs.LabelLaws.{curve_checks, curve_ascii, curve_refusals};
 ghost use Rattle.sshkey_base.specs.Names.{curve_of};
 ghost use Rattle.sshkey_base.specs.Naming.{NamesAlways};
@@ -80,7 +81,10 @@ impl Label for EcdsaCurve {
         self.as_str()
     }
 
-    fn from_label(_alloc: Global, name: &str) -> encoding::Result<EcdsaCurve> {
+    fn from_label(_alloc: Global, name: &str) -> encoding::Result<EcdsaCurve>
+        ensures gives { LooksUp curve_of curve_from name.now result }
+        ensures always { LooksUpAlways curve_of curve_from name.now result }
+    {
         Ok(name.parse::<EcdsaCurve>()?)
     }
 

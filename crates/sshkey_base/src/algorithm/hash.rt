@@ -1,17 +1,18 @@
 //! Hashes of messages and keys.
 
-ghost use Rattle.std.specs.Prelude.{◌≡◌, IfOk, Some};
+ghost use Rattle.std.specs.Prelude.{◌≡◌, IfOk, IfErr, Some, length};
 ghost use Rattle.sshkey_model.specs.Names.{Hash, hash_name, hash_from};
 ghost use Rattle.sshkey_model.specs.Reading as fault;
 ghost use Rattle.sshkey_base.specs.Causes.{Faulty, cause};
 ghost use Rattle.sshkey_model.specs.Parts.{Any};
+ghost use Rattle.sshkey_base.specs.Labels.{LooksUp, LooksUpAlways};
 ghost use Rattle.sshkey_base.specs.LabelLaws.{hash_checks, hash_ascii, hash_refusals};
 ghost use Rattle.sshkey_base.specs.Names.{hash_of};
 ghost use Rattle.sshkey_base.specs.Naming.{NamesAlways};
 ghost use Rattle.sshkey_base.specs.Digests.{digest_of, digest_len};
 
 use crate::encoding;
-use crate::error::Result;
+use crate::error::{Error, Result};
 use crate::label::Label;
 use crate::label_error::LabelError;
 use sha2::{Digest, Sha256, Sha512};
@@ -60,7 +61,9 @@ impl HashAlg {
 
     /// The digest of the message, of `digest_size` bytes (FIPS 180-4).
     pub fn digest(&self, alloc: Global, message: &[u8]) -> Result<Vec<u8>>
-        ensures { IfOk result (λ digest. digest.items ≡ digest_of (hash_of self.now) message.now) }
+        ensures ok { IfOk result (λ digest. digest.items ≡ digest_of (hash_of self.now) message.now) }
+        ensures len { IfOk result (λ digest. length digest.items ≡ digest_len (hash_of self.now)) }
+        ensures err { IfErr result (λ e. e ≡ Error.Memory) }
     {
         let digest = match self {
             HashAlg::Sha256 => Sha256::digest(message).to_vec(alloc)?,
@@ -100,7 +103,10 @@ impl Label for HashAlg {
         self.as_str()
     }
 
-    fn from_label(_alloc: Global, name: &str) -> encoding::Result<HashAlg> {
+    fn from_label(_alloc: Global, name: &str) -> encoding::Result<HashAlg>
+        ensures gives { LooksUp hash_of hash_from name.now result }
+        ensures always { LooksUpAlways hash_of hash_from name.now result }
+    {
         Ok(name.parse::<HashAlg>()?)
     }
 

@@ -1,6 +1,6 @@
 //! Names of algorithms of somebody's own.
 
-ghost use Rattle.std.specs.Prelude.{◌≡◌, ◌∷◌, [], true, false, IfOk, IfErr, Err, Some, nat_eq, refl, string_bytes};
+ghost use Rattle.std.specs.Prelude.{◌≡◌, ◌≤◌, ◌∷◌, [], length, true, false, IfOk, IfErr, Err, Some, nat_eq, refl, string_bytes};
 ghost use Rattle.std.specs.Cmp.{partial_equiv_from_equiv};
 ghost use Rattle.std.specs.Cmp.Lexicographic.{pointwise, slice_cmp, nat_list_eq_equiv, nat_list_cmp_total, texts_ties, texts_po};
 ghost use Rattle.std.specs.Cmp.Rules.{hashing};
@@ -93,6 +93,14 @@ impl AlgorithmName {
     {
         let (name, domain) = split_at_sign(&self.text).unwrap();
         Ok(format!(in alloc; "{name}{CERTIFICATE_SUFFIX}@{domain}")?)
+    }
+
+    // How many bytes the name has in a certificate.
+    pub(crate) fn certificate_type_len(&self) -> usize
+        ensures value { result ≡ length (certificate_name (Other self.now)) }
+        ensures short { result ≤ 73 }
+    {
+        self.as_str().len() + CERTIFICATE_SUFFIX.len()
     }
 
     // Writes the name in a certificate, with no length before it.

@@ -118,6 +118,10 @@ fn certificate_names_both_ways(rt: HostRuntime) -> Result<(), Fail> {
         let mut written = Vec::new(alloc);
         algorithm.write_certificate_name(&mut written)?;
         assert_eq!(rt; written.as_slice(), name.as_bytes());
+        assert_eq!(rt; algorithm.certificate_name_len(), name.len());
+        let mut written = Vec::new(alloc);
+        algorithm.encode_certificate_name(&mut written)?;
+        assert_eq!(rt; written, bytes);
     }
     Ok(())
 }
@@ -214,6 +218,7 @@ fn other_algorithms(rt: HostRuntime) -> Result<(), Fail> {
         Algorithm::new_certificate(alloc, certificate_type)?,
         algorithm
     );
+    assert_eq!(rt; algorithm.certificate_name_len(), 25);
     let mut room = [0; 25];
     let mut writer = SliceWriter::new(&mut room);
     algorithm.write_certificate_name(&mut writer)?;
