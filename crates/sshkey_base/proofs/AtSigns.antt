@@ -1,5 +1,5 @@
 -- Where a text is cut at its first at sign.
-use Rattle.std.proofs.Common.{◌≡◌, ◌≢◌, ℕ, ◌+◌, ◌<◌, Option, Some, None, MatchOption, List, [], ◌∷◌, ◌++◌, length, get_or, eqb, false, refl, sym, ap, ◌∙◌, arith, add-one, inl, inr, append_assoc, append-nil}
+use Rattle.std.proofs.Common.{◌≡◌, ◌≢◌, ℕ, ◌+◌, ◌<◌, Option, Some, None, MatchOption, List, [], ◌∷◌, ◌++◌, length, get_or, eqb, refl, ap, ◌∙◌, arith, add-one, inl, inr, append_assoc, append-nil}
 use Rattle.std.proofs.lemmas.Bool.{ne_eqb}
 use denote.Ref.{Bor}
 use Rattle.sshkey_model.specs.Names.{at_sign, cut, behind_first}

@@ -1,5 +1,5 @@
 -- Names in certificates that are none of the fixed ones.
-use Rattle.std.proofs.Common.{◌≡◌, ◌≢◌, ℕ, ◌-◌, Option, Some, None, is_none, Result, Ok, Err, IsErrAnd, List, [], ◌∷◌, ◌++◌, length, take, drop, Bool, true, false, ◌&&◌, nat_lt, nat_le, bytes_eq, refl, sym, ap, subst, ◌∙◌, inl, inr, arith}
+use Rattle.std.proofs.Common.{◌≡◌, ◌≢◌, ℕ, ◌-◌, Option, Some, None, is_none, Result, Ok, Err, List, [], ◌∷◌, ◌++◌, length, take, drop, Bool, true, false, ◌&&◌, nat_lt, nat_le, bytes_eq, refl, sym, ap, subst, ◌∙◌, inl, inr, arith}
 use Rattle.std.specs.List.{AllByRecursion}
 use Rattle.std.proofs.lemmas.Bool.{and_parts}
 use Rattle.std.proofs.lemmas.List.{take_at, drop_at, take-append-drop, length-append}
@@ -16,7 +16,7 @@ use Rattle.sshkey_base.specs.Labels.{label_at}
 use Rattle.sshkey_base.specs.Reading.{Reads, Refuses}
 use Rattle.sshkey_base.specs.Source.{Source}
 use Rattle.sshkey_base.proofs.Labels.{text_refused}
-use Rattle.sshkey_base.specs.OwnNames.{HasCertificateName, AreParts}
+use Rattle.sshkey_base.specs.OwnNames.{HasCertificateName}
 use Rattle.sshkey_base.proofs.AtSigns.{cut-at, cut-suffixed}
 use Rattle.sshkey_base.proofs.CertificateTypes.{parts_of, are_parts, certificate_name-cut}
 

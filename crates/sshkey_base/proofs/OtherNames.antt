@@ -1,12 +1,12 @@
 -- Names that are none of the fixed ones.
-use Rattle.std.proofs.Common.{◌≡◌, ◌≢◌, ℕ, Option, Some, None, is_none, Result, Ok, Err, IsErrAnd, List, [], ◌∷◌, Bool, true, false, ◌&&◌, cond, bytes_eq, refl, sym, ap, ◌∙◌, inl, inr}
+use Rattle.std.proofs.Common.{◌≡◌, ◌≢◌, ℕ, Option, None, Result, Ok, Err, IsErrAnd, List, [], ◌∷◌, Bool, true, false, ◌&&◌, cond, bytes_eq, refl, sym, ap, ◌∙◌, inl, inr}
 use Rattle.std.specs.List.{AllByRecursion}
-use Rattle.std.proofs.lemmas.Bool.{false_from_ne_true, and_left}
+use Rattle.std.proofs.lemmas.Bool.{false_from_ne_true}
 use Rattle.std.proofs.lemmas.Slice.Eq.{bytes_eq-Decides}
-use Rattle.sshkey_model.specs.Reading.{Fault, Whole, Label}
+use Rattle.sshkey_model.specs.Reading.{Fault, Label}
 use Rattle.sshkey_model.specs.Names.{Algorithm, Other, algorithm_name, algorithms, named, is_own_name, is_other_name, algorithm_or, algorithm_from}
 use Rattle.sshkey_model.proofs.CombinedReaders.{chosen}
-use Rattle.sshkey_base.specs.Causes.{Cause, NoMemory, cause, encoding_cause, widened, same_cause}
+use Rattle.sshkey_base.specs.Causes.{Cause, NoMemory, cause}
 use Rattle.sshkey_base.specs.Labels.{LooksUp}
 use Rattle.sshkey_base.specs.declared.encoding.Error as narrow
 use Rattle.sshkey_base.specs.declared.encoding.Error.TheVariants as encoding

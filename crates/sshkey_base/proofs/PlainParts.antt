@@ -1,7 +1,7 @@
 -- Bytes one after the other are written as bytes.
-use Rattle.std.proofs.Common.{◌≡◌, ℕ, List, [], ◌∷◌, ◌++◌, Bool, true, ◌&&◌, nat_lt, Result, Ok, Err, IsErrAnd, refl, subst, sym, ap, ◌∙◌, inl, inr}
+use Rattle.std.proofs.Common.{◌≡◌, ℕ, List, [], ◌∷◌, ◌++◌, true, nat_lt, Result, Ok, Err, IsErrAnd, refl, subst, sym, ap, ◌∙◌, inl, inr}
 use Rattle.std.proofs.lemmas.Bool.{and_parts}
-use Rattle.sshkey_model.specs.Parts.{Parts, nothing, bytes, number, box, ◌&◌, flat, InRange, BoxesFit, Fits, are_bytes}
+use Rattle.sshkey_model.specs.Parts.{Parts, nothing, bytes, number, box, ◌&◌, flat, InRange, BoxesFit, are_bytes}
 use Rattle.sshkey_model.proofs.CombinedReaders.{fits_both, fits_bytes}
 use Rattle.sshkey_base.specs.declared.encoding.Error.{Error}
 use Rattle.sshkey_base.specs.Sink.{Sink, Written, Encodes, NotWritten, after}

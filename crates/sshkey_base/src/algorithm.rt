@@ -5,7 +5,7 @@ ghost use Rattle.sshkey_model.specs.Names.{Dsa, Ed25519, algorithm_name, IsAlgor
 ghost use Rattle.sshkey_model.specs.Names as model;
 ghost use Rattle.sshkey_model.specs.Reading as fault;
 ghost use Rattle.sshkey_base.specs.Causes.{cause};
-ghost use Rattle.sshkey_base.specs.Kinds.{is_ecdsa, is_rsa};
+ghost use Rattle.sshkey_base.specs.Kinds.{IsFixed, is_ecdsa, is_rsa};
 ghost use Rattle.sshkey_base.specs.LabelLaws.{algorithm_checks, algorithm_ascii, algorithm_refusals};
 ghost use Rattle.sshkey_base.specs.Labels.{LooksUp};
 ghost use Rattle.sshkey_base.specs.Names.{algorithm_of};
@@ -119,7 +119,8 @@ impl Algorithm {
 
     /// The same algorithm. Only want of memory refuses it, and only for a name of somebody's own.
     pub fn try_clone(&self, alloc: Global) -> Result<Algorithm>
-        ensures ok { IfOk result (λ clone. algorithm_of clone ≡ algorithm_of self.now) }
+        ensures ok { IfOk result (λ clone. clone ≡ self.now) }
+        ensures fixed { IsFixed (algorithm_of self.now) → IsOk result }
         ensures err { IfErr result (λ e. e ≡ Error.Memory) }
     {
         Ok(match self {

@@ -1,6 +1,5 @@
 //! Laws of names.
 
-ghost use Rattle.std.specs.Prelude.{◌≡◌};
 ghost use Rattle.sshkey_base.specs.Comparisons.{IsEqualityOf, IsOrderOf, curve_key, hash_key, algorithm_key, field_key};
 ghost use Rattle.sshkey_base.specs.Names.{curve_of, hash_of, algorithm_of};
 

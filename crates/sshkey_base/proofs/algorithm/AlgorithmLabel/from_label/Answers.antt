@@ -1,6 +1,6 @@
 use Rattle.std.proofs.Common.{sym}
 use Rattle.sshkey_base.specs.Names.{algorithm_of}
-use Rattle.sshkey_base.proofs.OtherNames.{other_from, unknown_from, not_own, handed_on, looked_up}
+use Rattle.sshkey_base.proofs.OtherNames.{other_from, not_own, handed_on, looked_up}
 use Rattle.sshkey_base.proofs.algorithm.AlgorithmLabel.from_label.Goals as goal
 
 pub returns-in_err-checked-in-None-clause-gives : goal.returns-in_err-checked-in-None-clause-gives
