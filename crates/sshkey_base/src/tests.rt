@@ -130,7 +130,7 @@ fn names(rt: HostRuntime) {
         Ok(Algorithm::Ed25519)
     );
     assert_eq!(rt; Algorithm::Ed25519.label(), "ssh-ed25519");
-    for name in ["", "ssh-ed2551", "ssh-ed25519 ", "SSH-ED25519", "ssh-rsa"] {
+    for name in ["", "ssh-ed2551", "ssh-ed25519 ", "SSH-ED25519", "ssh-rs"] {
         assert_eq!(rt;
             Algorithm::from_label(rt.alloc(), name),
             Err(encoding::Error::Label)
