@@ -50,3 +50,7 @@ key_name k = algorithm_name (key_algorithm k)
 
 abbrev pub IsKeyLine : List ℕ → Key → List ℕ → Type 0
 IsKeyLine = IsLineOf key_name (SpellsWith IsKey HasKeyPlaces key)
+
+-- A text is a line of one value at most, and with one comment.
+abbrev pub LinesDetermineValues : {V : Type 0} → (V → List ℕ) → (V → List ℕ → Type 0) → Type 0
+LinesDetermineValues {V} first Spelling = (text m n : List ℕ) (v w : V) → IsLineOf first Spelling text v m → IsLineOf first Spelling text w n → (v ≡ w) × (m ≡ n)
