@@ -6,6 +6,8 @@ ghost use Rattle.sshkey_base.specs.Answering.{AnswersAlways};
 ghost use Rattle.sshkey_base.specs.Causes.{encoding_cause};
 ghost use Rattle.sshkey_base.specs.Texts.{SpellsText, text_at, text_grammar};
 
+mod compare;
+
 use crate::bytes::Bytes;
 use crate::decode::Decode;
 use crate::encode::{Encode, encode_string, string_len};

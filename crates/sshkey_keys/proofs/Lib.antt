@@ -1,2 +1,0 @@
-pub mod KnownBodies
-pub mod KnownBlobs

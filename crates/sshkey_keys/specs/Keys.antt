@@ -1,35 +1,33 @@
--- What a public key's value means, and which kinds are known so far.
-use Rattle.std.specs.Prelude.{◌≡◌, ℕ, List, Ok, Err}
-use Rattle.sshkey_model.specs.Reading.{Label, ◌>>=◌, Front}
+-- What a public key's value means, and which bytes spell it.
+use Rattle.std.specs.Prelude.{ℕ, List, Ok}
+use Rattle.sshkey_model.specs.Reading.{◌>>=◌, Front}
 use Rattle.sshkey_model.specs.Grammar.{SpellsWith}
-use Rattle.sshkey_model.specs.Names.{Algorithm, algorithm_from}
-use Rattle.sshkey_model.specs.Keys.{Key, key_algorithm, IsKey, HasKeyPlaces, key, body_at}
+use Rattle.sshkey_model.specs.Names.{algorithm_from}
+use Rattle.sshkey_model.specs.Keys.{Key, IsKey, HasKeyPlaces, key, body_at}
 use Rattle.sshkey_base.specs.Labels.{label_at}
-use Rattle.sshkey_kinds.specs.Kinds.{ed25519_of}
+use Rattle.sshkey_kinds.specs.Kinds.{dsa_of, ed25519_of, rsa_of, sk_ecdsa_of, sk_ed25519_of, opaque_of}
+use Rattle.sshkey_kinds.specs.EcdsaWords.{ecdsa_key_of}
 use Rattle.sshkey_keys.specs.declared.key_data.KeyData.{KeyData}
 use Rattle.sshkey_keys.specs.declared.key_data.KeyData.TheVariants as kinds
 
 abbrev pub key_of : KeyData → Key
+key_of (kinds.Dsa k) = dsa_of k
+key_of (kinds.Ecdsa k) = ecdsa_key_of k
 key_of (kinds.Ed25519 k) = ed25519_of k
+key_of (kinds.Rsa k) = rsa_of k
+key_of (kinds.SkEcdsaSha2NistP256 k) = sk_ecdsa_of k
+key_of (kinds.SkEd25519 k) = sk_ed25519_of k
+key_of (kinds.Other k) = opaque_of k
 
--- The kinds that are known so far.
-abbrev pub IsKnown : Algorithm → Type 0
-IsKnown a = a ≡ Algorithm.Ed25519
-
-abbrev pub IsKnownKey : Key → Type 0
-IsKnownKey k = IsKnown (key_algorithm k) × IsKey k
-
-abbrev pub SpellsKnown : Key → List ℕ → Type 0
-SpellsKnown = SpellsWith IsKnownKey HasKeyPlaces key
+-- the bytes spell the key, whose name stands before its body
+abbrev pub SpellsKey : Key → List ℕ → Type 0
+SpellsKey = SpellsWith IsKey HasKeyPlaces key
 
 -- ---- reading
 
-abbrev pub known_body_at : Algorithm → Front Key
-known_body_at Algorithm.Ed25519 b = body_at Algorithm.Ed25519 b
-known_body_at _ b = Err Label
-
-unfoldable pub known_key_at : Front Key
-known_key_at b = do
+-- the key, without the way in which its name is spelled
+unfoldable pub key_data_at : Front Key
+key_data_at b = do
   name ← label_at algorithm_from b
-  key ← known_body_at name.0 name.1
+  key ← body_at name.0 name.1
   Ok (key.0, key.1)

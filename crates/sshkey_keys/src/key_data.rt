@@ -1,29 +1,44 @@
 //! Public keys of any kind.
 
-ghost use Rattle.std.specs.Prelude.{◌≡◌, ◌≤◌, ◌+◌, ◌^◌, ℕ, List, IfOk};
-ghost use Rattle.sshkey_model.specs.Keys.{Key, normal_key, body};
+ghost use Rattle.std.specs.Prelude.{◌≡◌, ◌≤◌, ◌+◌, ◌*◌, ◌^◌, ℕ, List, IfOk, None};
+ghost use Rattle.sshkey_model.specs.Keys.{Key, normal_key, body, body_at, IsKey};
 ghost use Rattle.sshkey_model.specs.Lines.{key_name};
 ghost use Rattle.sshkey_base.specs.Causes.{cause};
-ghost use Rattle.sshkey_base.specs.Names.{algorithm_of};
+ghost use Rattle.sshkey_base.specs.Names.{algorithm_of, curve_of};
+ghost use Rattle.sshkey_model.specs.Names.{algorithm_name, Dsa, Ecdsa, Ed25519, Rsa, SkEcdsa, SkEd25519 as AlgorithmSkEd25519, Other};
 ghost use Rattle.sshkey_base.specs.Reading.{Gives};
 ghost use Rattle.sshkey_base.specs.Sink.{Encodes, Measures};
-ghost use Rattle.sshkey_kinds.specs.Bodies.{ed25519_body_at};
-ghost use Rattle.sshkey_keys.specs.Keys.{key_of, IsKnownKey, SpellsKnown, known_body_at, known_key_at};
-ghost use Rattle.sshkey_keys.specs.KeyReaders.{known_grammar, known_normal};
+ghost use Rattle.sshkey_keys.specs.Keys.{key_of, SpellsKey, key_data_at};
+ghost use Rattle.sshkey_keys.specs.KeyReaders.{key_grammar, key_normal};
 
 use sshkey_base::{
-    Algorithm, Decode, Encode, Error, NormalForm, Reader, Result, Writer, encode_string, encoding,
-    string_len,
+    Algorithm, Decode, EcdsaCurve, Encode, Error, NormalForm, Reader, Result, Writer,
+    encode_string, encoding, string_len,
 };
-use sshkey_kinds::Ed25519PublicKey;
+use sshkey_kinds::{
+    DsaPublicKey, EcdsaPublicKey, Ed25519PublicKey, OpaquePublicKey, OpaquePublicKeyBytes,
+    RsaPublicKey, SkEcdsaSha2NistP256, SkEd25519,
+};
 use std::alloc::Global;
 
 /// A public key: the name of its algorithm, and what that algorithm's keys are made of
 /// (RFC 4253, section 6.6).
 #[derive(Debug, Drop, PartialEq, Eq)]
 pub enum KeyData {
+    /// `ssh-dss` (RFC 4253).
+    Dsa(DsaPublicKey),
+    /// `ecdsa-sha2-nistp256`, `-nistp384` and `-nistp521` (RFC 5656).
+    Ecdsa(EcdsaPublicKey),
     /// `ssh-ed25519` (RFC 8709).
     Ed25519(Ed25519PublicKey),
+    /// `ssh-rsa` (RFC 4253).
+    Rsa(RsaPublicKey),
+    /// `sk-ecdsa-sha2-nistp256@openssh.com` (OpenSSH, PROTOCOL.u2f).
+    SkEcdsaSha2NistP256(SkEcdsaSha2NistP256),
+    /// `sk-ssh-ed25519@openssh.com` (OpenSSH, PROTOCOL.u2f).
+    SkEd25519(SkEd25519),
+    /// A key under a name of somebody's own.
+    Other(OpaquePublicKey),
 }
 
 impl KeyData {
@@ -32,12 +47,17 @@ impl KeyData {
         ensures { result.now ≡ key_name (key_of self.now) }
     {
         match self {
+            KeyData::Dsa(_) => "ssh-dss",
+            KeyData::Ecdsa(key) => ecdsa_name(key.curve()),
             KeyData::Ed25519(_) => "ssh-ed25519",
+            KeyData::Rsa(_) => "ssh-rsa",
+            KeyData::SkEcdsaSha2NistP256(_) => "sk-ecdsa-sha2-nistp256@openssh.com",
+            KeyData::SkEd25519(_) => "sk-ssh-ed25519@openssh.com",
+            KeyData::Other(key) => key.algorithm.as_str(),
         }
     }
 
-    /// Reads what stands behind the name of that algorithm. `Label` for an algorithm whose keys are
-    /// not known.
+    /// Reads what stands behind the name of that algorithm, an RSA key's with or without a hash.
     ///
     /// Want of memory aside, it is refused only where no front is the body of such a key, by a
     /// sound source with the first fault from the left.
@@ -46,12 +66,16 @@ impl KeyData {
         reader: &mut R,
         algorithm: Algorithm,
     ) -> Result<KeyData>
-        ensures { Gives key_of cause (known_body_at (algorithm_of algorithm)) (R.source reader.old) result (R.source reader.new) }
+        ensures { Gives key_of cause (body_at (algorithm_of algorithm)) (R.source reader.old) result (R.source reader.new) }
     {
-        if algorithm.is_ed25519() {
-            ed25519_from(alloc, reader)
-        } else {
-            Err(Error::Encoding(encoding::Error::Label))
+        match algorithm {
+            Algorithm::Dsa => dsa_from(alloc, reader),
+            Algorithm::Ecdsa { curve } => ecdsa_from(alloc, reader, curve),
+            Algorithm::Ed25519 => ed25519_from(alloc, reader),
+            Algorithm::Rsa { hash: _ } => rsa_from(alloc, reader),
+            Algorithm::SkEcdsaSha2NistP256 => sk_ecdsa_from(alloc, reader),
+            Algorithm::SkEd25519 => sk_ed25519_from(alloc, reader),
+            Algorithm::Other(name) => opaque_from(alloc, reader, Algorithm::Other(name)),
         }
     }
 
@@ -59,10 +83,16 @@ impl KeyData {
     /// longer than 2^32 - 1 bytes, the answer is `Length`. Takes no memory.
     pub fn encoded_key_data_len(&self) -> encoding::Result<usize>
         ensures measures { Measures (body (key_of self.now)) result }
-        ensures short { IfOk result (λ n. n ≤ 2 ^ 32 + 4) }
+        ensures short { IfOk result (λ n. n ≤ 4 * (2 ^ 32 + 4)) }
     {
         match self {
+            KeyData::Dsa(key) => key.encoded_len(),
+            KeyData::Ecdsa(key) => key.encoded_len(),
             KeyData::Ed25519(key) => key.encoded_len(),
+            KeyData::Rsa(key) => key.encoded_len(),
+            KeyData::SkEcdsaSha2NistP256(key) => key.encoded_len(),
+            KeyData::SkEd25519(key) => key.encoded_len(),
+            KeyData::Other(key) => key.encoded_len(),
         }
     }
 
@@ -75,22 +105,99 @@ impl KeyData {
         ensures { Encodes W.fault (body (key_of self.now)) (W.sink writer.old) result (W.sink writer.new) }
     {
         match self {
+            KeyData::Dsa(key) => key.encode(writer),
+            KeyData::Ecdsa(key) => key.encode(writer),
             KeyData::Ed25519(key) => key.encode(writer),
+            KeyData::Rsa(key) => key.encode(writer),
+            KeyData::SkEcdsaSha2NistP256(key) => key.encode(writer),
+            KeyData::SkEd25519(key) => key.encode(writer),
+            KeyData::Other(key) => key.encode(writer),
         }
     }
 }
 
-/// The body of an Ed25519 key.
+/// The name of the ECDSA algorithm on that curve.
+fn ecdsa_name(curve: EcdsaCurve) -> &'static str
+    ensures { result.now ≡ algorithm_name (Ecdsa (curve_of curve)) }
+{
+    match curve {
+        EcdsaCurve::NistP256 => "ecdsa-sha2-nistp256",
+        EcdsaCurve::NistP384 => "ecdsa-sha2-nistp384",
+        EcdsaCurve::NistP521 => "ecdsa-sha2-nistp521",
+    }
+}
+
+/// The body of a DSA key.
 #[tactic(auto, using(sshkey_base::proofs::Steps::steps))]
+fn dsa_from<R: Reader>(alloc: Global, reader: &mut R) -> Result<KeyData>
+    ensures { Gives key_of cause (body_at Dsa) (R.source reader.old) result (R.source reader.new) }
+{
+    let key = DsaPublicKey::decode(alloc, reader)?;
+    Ok(KeyData::Dsa(key))
+}
+
+/// The body of an ECDSA key of that curve. `AlgorithmUnknown` for another curve.
+#[tactic(auto, using(sshkey_base::proofs::Steps::steps), unfolding(crate::specs::KeyReaders::ecdsa_at))]
+fn ecdsa_from<R: Reader>(alloc: Global, reader: &mut R, curve: EcdsaCurve) -> Result<KeyData>
+    ensures { Gives key_of cause (body_at (Ecdsa (curve_of curve))) (R.source reader.old) result (R.source reader.new) }
+{
+    let key = EcdsaPublicKey::decode(alloc, reader)?;
+    if !key.is_on(curve) {
+        return Err(Error::AlgorithmUnknown);
+    }
+    Ok(KeyData::Ecdsa(key))
+}
+
+/// The body of an Ed25519 key.
+#[tactic(auto, using(sshkey_base::proofs::Steps::steps), unfolding(crate::specs::KeyReaders::ed25519_body_at))]
 fn ed25519_from<R: Reader>(alloc: Global, reader: &mut R) -> Result<KeyData>
-    ensures { Gives key_of cause ed25519_body_at (R.source reader.old) result (R.source reader.new) }
+    ensures { Gives key_of cause (body_at Ed25519) (R.source reader.old) result (R.source reader.new) }
 {
     let key = Ed25519PublicKey::decode(alloc, reader)?;
     Ok(KeyData::Ed25519(key))
 }
 
-/// The name of the algorithm and the key's body. `Label` for a name that is not known.
-#[tactic(auto, using(sshkey_base::proofs::Steps::steps), unfolding(crate::specs::Keys::known_key_at))]
+/// The body of an RSA key.
+#[tactic(auto, using(sshkey_base::proofs::Steps::steps))]
+fn rsa_from<R: Reader>(alloc: Global, reader: &mut R) -> Result<KeyData>
+    ensures { Gives key_of cause (body_at (Rsa None)) (R.source reader.old) result (R.source reader.new) }
+{
+    let key = RsaPublicKey::decode(alloc, reader)?;
+    Ok(KeyData::Rsa(key))
+}
+
+/// The body of a P-256 key that a security key holds.
+#[tactic(auto, using(sshkey_base::proofs::Steps::steps))]
+fn sk_ecdsa_from<R: Reader>(alloc: Global, reader: &mut R) -> Result<KeyData>
+    ensures { Gives key_of cause (body_at SkEcdsa) (R.source reader.old) result (R.source reader.new) }
+{
+    let key = SkEcdsaSha2NistP256::decode(alloc, reader)?;
+    Ok(KeyData::SkEcdsaSha2NistP256(key))
+}
+
+/// The body of an Ed25519 key that a security key holds.
+#[tactic(auto, using(sshkey_base::proofs::Steps::steps))]
+fn sk_ed25519_from<R: Reader>(alloc: Global, reader: &mut R) -> Result<KeyData>
+    ensures { Gives key_of cause (body_at AlgorithmSkEd25519) (R.source reader.old) result (R.source reader.new) }
+{
+    let key = SkEd25519::decode(alloc, reader)?;
+    Ok(KeyData::SkEd25519(key))
+}
+
+/// The body of a key under a name of somebody's own.
+#[tactic(auto, using(sshkey_base::proofs::Steps::steps))]
+fn opaque_from<R: Reader>(alloc: Global, reader: &mut R, algorithm: Algorithm) -> Result<KeyData>
+    ensures { Gives key_of cause (body_at (Other (algorithm_name (algorithm_of algorithm)))) (R.source reader.old) result (R.source reader.new) }
+{
+    let key = OpaquePublicKeyBytes::decode(alloc, reader)?;
+    Ok(KeyData::Other(OpaquePublicKey { algorithm, key }))
+}
+
+/// The name of the algorithm and the key's body.
+///
+/// An RSA key may stand under a name with a hash, which is not kept. `Label` for a name of no
+/// algorithm, and the faults of the kind.
+#[tactic(auto, using(sshkey_base::proofs::Steps::steps), unfolding(crate::specs::Keys::key_data_at))]
 impl Decode for KeyData {
     type Error = Error;
 
@@ -98,11 +205,11 @@ impl Decode for KeyData {
 
     ghost means = { key_of };
 
-    ghost parse = { known_key_at };
+    ghost parse = { key_data_at };
 
-    ghost Spells = { SpellsKnown };
+    ghost Spells = { SpellsKey };
 
-    ghost grammar = { known_grammar };
+    ghost grammar = { key_grammar };
 
     fn decode<R: Reader>(alloc: Global, reader: &mut R) -> Result<KeyData> {
         let algorithm = Algorithm::decode(alloc, reader)?;
@@ -115,7 +222,7 @@ impl Decode for KeyData {
 impl Encode for KeyData {
     ghost normal = { λ k. normal_key (key_of k) };
 
-    ghost most = { 2 ^ 33 + 8 };
+    ghost most = { 5 * (2 ^ 32 + 4) };
 
     fn encoded_len(&self) -> encoding::Result<usize> {
         let name = string_len(self.algorithm_name().as_bytes())?;
@@ -129,7 +236,7 @@ impl Encode for KeyData {
 }
 
 impl NormalForm for KeyData {
-    ghost IsWellFormed = { λ k. IsKnownKey (key_of k) };
+    ghost IsWellFormed = { λ k. IsKey (key_of k) };
 
-    ghost normal_spells = { λ k. known_normal (key_of k) };
+    ghost normal_spells = { λ k. key_normal (key_of k) };
 }

@@ -2,9 +2,9 @@
 
 ghost use Rattle.std.specs.Prelude.{◌≡◌, ◌++◌, ℕ, List};
 ghost use Rattle.sshkey_model.specs.Keys.{Key};
-ghost use Rattle.sshkey_keys.specs.Keys.{SpellsKnown};
+ghost use Rattle.sshkey_keys.specs.Keys.{SpellsKey};
 
 /// No spelling of a key begins another: what follows it does not matter, and it is that of one key.
 pub fn prefix_key()
-    ensures { (k j : Key) (a b r q : List ℕ) → SpellsKnown k a → SpellsKnown j b → a ++ r ≡ b ++ q → (k ≡ j) × (a ≡ b) × (r ≡ q) }
+    ensures { (k j : Key) (a b r q : List ℕ) → SpellsKey k a → SpellsKey j b → a ++ r ≡ b ++ q → (k ≡ j) × (a ≡ b) × (r ≡ q) }
 {}

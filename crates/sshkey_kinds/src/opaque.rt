@@ -31,6 +31,26 @@ impl OpaquePublicKeyBytes {
     }
 }
 
+impl PartialEq for OpaquePublicKeyBytes {
+    ghost use Rattle.std.specs.Prelude.{nat_eq};
+    ghost use Rattle.std.specs.Cmp.{partial_equiv_from_equiv};
+    ghost use Rattle.std.specs.Cmp.Lexicographic.{nat_list_eq_equiv, pointwise};
+
+    ghost eq = { pointwise nat_eq };
+
+    ghost laws = { partial_equiv_from_equiv nat_list_eq_equiv };
+
+    fn eq(&self, other: &OpaquePublicKeyBytes) -> bool {
+        self.bytes == other.bytes
+    }
+}
+
+impl Eq for OpaquePublicKeyBytes {
+    ghost use Rattle.std.specs.Cmp.Lexicographic.{nat_list_eq_equiv};
+
+    ghost laws = { nat_list_eq_equiv };
+}
+
 /// A string of any bytes.
 #[tactic(auto, using(sshkey_base::proofs::Steps::steps))]
 impl Decode for OpaquePublicKeyBytes {
@@ -68,7 +88,7 @@ impl Encode for OpaquePublicKeyBytes {
 }
 
 /// A key under a name of somebody's own (RFC 4251, section 6).
-#[derive(Debug, Drop)]
+#[derive(Debug, Drop, PartialEq, Eq)]
 pub struct OpaquePublicKey {
     /// The algorithm, whose name stands before the key.
     pub algorithm: Algorithm,

@@ -8,7 +8,7 @@ use sshkey_base::{Decode, Encode, Error, Mpint, Reader, Result, Writer, encoding
 use std::alloc::Global;
 
 /// An RSA public key (RFC 4253, section 6.6).
-#[derive(Debug, Drop)]
+#[derive(Debug, Drop, PartialEq, Eq)]
 pub struct RsaPublicKey {
     /// The public exponent.
     pub e: Mpint,

@@ -23,7 +23,7 @@ const DEFAULT_APPLICATION: &str = "ssh:";
 
 /// A P-256 public key that a security key holds, and the application that it is for (OpenSSH,
 /// PROTOCOL.u2f).
-#[derive(Debug, Drop)]
+#[derive(Debug, Drop, PartialEq, Eq)]
 pub struct SkEcdsaSha2NistP256 {
     ec_point: EcdsaNistP256PublicKey,
     application: Text,
@@ -146,7 +146,7 @@ impl Encode for SkEcdsaSha2NistP256 {
 
 /// An Ed25519 public key that a security key holds, and the application that it is for
 /// (OpenSSH, PROTOCOL.u2f).
-#[derive(Debug, Drop)]
+#[derive(Debug, Drop, PartialEq, Eq)]
 pub struct SkEd25519 {
     public_key: Ed25519PublicKey,
     application: Text,

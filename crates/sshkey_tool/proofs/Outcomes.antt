@@ -13,28 +13,29 @@ use Rattle.sshkey_model.proofs.NormalKeysFit.{normal_boxes}
 use Rattle.sshkey_model.specs.Names.{Sha256}
 use Rattle.sshkey_model.specs.Fingerprints.{digest_text, fingerprint_text}
 use Rattle.sshkey_tool.specs.Faults.{IsMachineFault, Writes}
-use Rattle.sshkey_tool.specs.KeyLines.{IsKnownLine, IsNoKnownLine}
+use Rattle.sshkey_model.specs.Lines.{IsKeyLine}
+use Rattle.sshkey_tool.specs.KeyLines.{IsNoKeyLine}
 use Rattle.sshkey_tool.specs.Outcomes.{HasFingerprint, ShowsText, ShowsBytes, ShowsInput, WritesOutcome}
 use Rattle.sshkey_tool.specs.Table.{Usage, Shown, Refused, IsFingerprintWord, IsRefused, IsShown, Runs, WritesFault}
 
 -- a refusal says that the machine failed, or what is wrong with the text
-pub refusal : (text : List ℕ) (e : Error) → (cause e ≢ NoMemory → IsNoKnownLine text) → IsMachineFault e ⊎ IsNoKnownLine text
+pub refusal : (text : List ℕ) (e : Error) → (cause e ≢ NoMemory → IsNoKeyLine text) → IsMachineFault e ⊎ IsNoKeyLine text
 refusal text (wide.Encoding encoding.Memory) h = inl tt
 refusal text (wide.Io kind) h = inl tt
 refusal text wide.Memory h = inl tt
 refusal text _ h = inr (h (λ e. cc e))
 
 -- a key that was read is refused for want of memory alone, since its normal form fits
-pub shows : (text : List ℕ) (k : Key) (comment : List ℕ) (r : Result Fingerprint Error) → IsKnownLine text k comment → GivesFingerprint Sha256 k r → ShowsText text r
+pub shows : (text : List ℕ) (k : Key) (comment : List ℕ) (r : Result Fingerprint Error) → IsKeyLine text k comment → GivesFingerprint Sha256 k r → ShowsText text r
 shows text k comment (Ok f) line h = record { key = k; comment = comment; line = line; is = h }
 shows text k comment (Err e) line h = elim h [
-  | inl long ↦ absurd (long.0 (normal_boxes k line.spelled.choices line.spelled.is.1.0 line.spelled.fits.boxes))
+  | inl long ↦ absurd (long.0 (normal_boxes k line.spelled.choices line.spelled.is.0 line.spelled.fits.boxes))
   | inr want ↦ inl (subst IsMachineFault (sym want.1) tt)
 ]
 
 pub text_of_bytes : (text bytes : List ℕ) (r : Result Fingerprint Error) → text ≡ bytes → IsUtf8 bytes → ShowsText text r → ShowsBytes bytes r
 text_of_bytes text bytes (Ok f) same utf8 h = (utf8, subst (λ (t : List ℕ). HasFingerprint t f) same h)
-text_of_bytes text bytes (Err e) same utf8 h = elim h [ inl fault ↦ inl fault | inr none ↦ inr (λ _. subst IsNoKnownLine same none) ]
+text_of_bytes text bytes (Err e) same utf8 h = elim h [ inl fault ↦ inl fault | inr none ↦ inr (λ _. subst IsNoKeyLine same none) ]
 
 pub bytes_of_input : (known : Option (List ℕ)) (bytes : List ℕ) (r : Result Fingerprint Error) → IfSome known (λ all. bytes ≡ all) → ShowsBytes bytes r → ShowsInput known r
 bytes_of_input None bytes (Ok f) all h = tt

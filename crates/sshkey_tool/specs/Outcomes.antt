@@ -7,20 +7,21 @@ use Rattle.sshkey_keys.specs.declared.fingerprint.Fingerprint.{Fingerprint}
 use Rattle.sshkey_model.specs.Keys.{Key}
 use Rattle.sshkey_model.specs.Names.{Sha256}
 use Rattle.sshkey_tool.specs.Faults.{IsMachineFault, Writes}
-use Rattle.sshkey_tool.specs.KeyLines.{IsKnownLine, IsNoKnownLine}
+use Rattle.sshkey_model.specs.Lines.{IsKeyLine}
+use Rattle.sshkey_tool.specs.KeyLines.{IsNoKeyLine}
 use Rattle.sshkey_tool.specs.Table.{Shown, Refused, answer_line, WritesFault, IsRefused}
 
 -- The text is a line of a key, and this is the key's fingerprint.
 pub record HasFingerprint (text : List ℕ) (f : Fingerprint) : Type 0 where
   pub key : Key
   pub comment : List ℕ
-  pub line : IsKnownLine text key comment
+  pub line : IsKeyLine text key comment
   pub is : IsFingerprint Sha256 key f
 
 -- It has that fingerprint; or it is a line of no key, or the machine failed.
 abbrev pub ShowsText : List ℕ → Result Fingerprint Error → Type 0
 ShowsText text (Ok f) = HasFingerprint text f
-ShowsText text (Err e) = IsMachineFault e ⊎ IsNoKnownLine text
+ShowsText text (Err e) = IsMachineFault e ⊎ IsNoKeyLine text
 
 -- the same of bytes that may be a text
 abbrev pub ShowsBytes : List ℕ → Result Fingerprint Error → Type 0

@@ -6,7 +6,8 @@ use Rattle.sshkey_model.specs.Fingerprints.{fingerprint_text}
 use Rattle.sshkey_model.specs.Keys.{Key}
 use Rattle.sshkey_model.specs.Names.{Sha256}
 use Rattle.sshkey_tool.specs.Faults.{Writes}
-use Rattle.sshkey_tool.specs.KeyLines.{IsKnownLine, IsNoKnownLine}
+use Rattle.sshkey_model.specs.Lines.{IsKeyLine}
+use Rattle.sshkey_tool.specs.KeyLines.{IsNoKeyLine}
 
 -- How it is used; a text that is shown; or why the input is refused.
 pub data Answer : Type 0 where
@@ -32,11 +33,11 @@ IsFingerprintWord words = map (λ w. w.now) words ≡ codes "fingerprint" ∷ []
 
 -- the fingerprint of the key in the bytes
 abbrev pub IsShown : List ℕ → List ℕ → Type 0
-IsShown text bytes = IsUtf8 bytes × ((k : Key) × (comment : List ℕ) × IsKnownLine bytes k comment × (text ≡ fingerprint_text Sha256 k))
+IsShown text bytes = IsUtf8 bytes × ((k : Key) × (comment : List ℕ) × IsKeyLine bytes k comment × (text ≡ fingerprint_text Sha256 k))
 
 -- The bytes are no text, or a line of no key.
 abbrev pub IsRefused : List ℕ → Type 0
-IsRefused bytes = IsUtf8 bytes → IsNoKnownLine bytes
+IsRefused bytes = IsUtf8 bytes → IsNoKeyLine bytes
 
 -- The table. An input is known where the reader tells its bytes.
 abbrev pub IsAnswer : List (Bor (List ℕ)) → Option (List ℕ) → Answer → Type 0
