@@ -11,7 +11,7 @@ ghost use Rattle.sshkey_base.specs.Causes.{cause};
 ghost use Rattle.sshkey_base.specs.Kinds.{IsFixed};
 ghost use Rattle.sshkey_base.specs.Names.{algorithm_of};
 ghost use Rattle.sshkey_base.specs.Naming.{Names};
-ghost use Rattle.sshkey_base.specs.Reading.{Gives};
+ghost use Rattle.sshkey_base.specs.Reading.{Gives, LengthPast};
 ghost use Rattle.sshkey_base.specs.Sink.{Encodes};
 
 use super::{Algorithm, AlgorithmName, EcdsaCurve, ecdsa};
@@ -77,10 +77,10 @@ impl Algorithm {
 
     /// Reads the string of a name in a certificate from the front, and leaves what follows it.
     ///
-    /// `Length` where the string is not there whole, and `Label` where it is no such name. After a
-    /// refusal the place in the source is open.
-    #[tactic(auto, using(crate::proofs::Steps::steps), unfolding(crate::specs::NameReaders::certificate_algorithm_at))]
+    /// `Length` where the string is not there whole, and no memory is asked for it then; `Label`
+    /// where it is no such name. After a refusal the place in the source is open.
     pub fn decode_certificate<R: Reader>(alloc: Global, reader: &mut R) -> Result<Algorithm>
+        ensures past { LengthPast cause (R.source reader.old) result }
         ensures gives { Gives algorithm_of cause certificate_algorithm_at (R.source reader.old) result (R.source reader.new) }
         ensures accepts { AcceptsFront algorithm_of (Spells IsCertified certificate_algorithm) cause (R.source reader.old) result (R.source reader.new) }
     {
@@ -126,7 +126,8 @@ impl Algorithm {
 
 #[tactic(auto, using(crate::proofs::Steps::steps), unfolding(crate::specs::NameReaders::certificate_algorithm_at))]
 fn read_certificate_type<R: Reader>(alloc: Global, reader: &mut R) -> Result<Algorithm>
-    ensures { Gives algorithm_of cause certificate_algorithm_at (R.source reader.old) result (R.source reader.new) }
+    ensures past { LengthPast cause (R.source reader.old) result }
+    ensures gives { Gives algorithm_of cause certificate_algorithm_at (R.source reader.old) result (R.source reader.new) }
 {
     let name = Bytes::decode(alloc, reader)?;
     match str::from_utf8(name.as_slice()) {

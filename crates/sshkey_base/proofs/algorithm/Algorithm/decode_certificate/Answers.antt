@@ -6,4 +6,4 @@ use Rattle.sshkey_base.proofs.Accepted.{accepts_front}
 use Rattle.sshkey_base.proofs.algorithm.Algorithm.decode_certificate.Goals as goal
 
 pub returns-clause-accepts : goal.returns-clause-accepts
-returns-clause-accepts g c = accepts_front (grammar certificate_algorithm_reads) algorithm_of cause _ _ _ c.read_certificate_type.ensures
+returns-clause-accepts g c = accepts_front (grammar certificate_algorithm_reads) algorithm_of cause _ _ _ c.read_certificate_type.ensures.gives

@@ -3,5 +3,5 @@ use Rattle.sshkey_base.specs.Causes.{cause}
 use Rattle.sshkey_base.proofs.CertifiedNames.{certificate_refused}
 use Rattle.sshkey_base.proofs.algorithm.certificate_type.read_certificate_type.Goals as goal
 
-pub returns : goal.returns
-returns g c = certificate_refused (g.R.Reader.source c.args.reader.now) _ _ _ c.in_ok-name.ensures.gives (λ text. c.in-Err.ensures.cases.0 (rw c.as_slice.ensures text)) (ap cause c.from.ensures)
+pub returns-clause-gives : goal.returns-clause-gives
+returns-clause-gives g c = certificate_refused (g.R.Reader.source c.args.reader.now) _ _ _ c.in_ok-name.ensures.gives (λ text. c.in-Err.ensures.cases.0 (rw c.as_slice.ensures text)) (ap cause c.from.ensures)
