@@ -16,9 +16,9 @@ mod mpint;
 mod normal_form;
 mod reader;
 mod refusal;
-mod text;
 #[cfg(test)]
 mod tests;
+mod text;
 mod writer;
 
 pub use algorithm::{Algorithm, AlgorithmName, EcdsaCurve, HashAlg};

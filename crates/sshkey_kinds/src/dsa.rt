@@ -56,10 +56,12 @@ impl Encode for DsaPublicKey {
     ghost most = { 4 * (2 ^ 32 + 4) };
 
     fn encoded_len(&self) -> encoding::Result<usize> {
-        Ok(self.p.encoded_len()?
-            + self.q.encoded_len()?
-            + self.g.encoded_len()?
-            + self.y.encoded_len()?)
+        Ok(
+            self.p.encoded_len()?
+                + self.q.encoded_len()?
+                + self.g.encoded_len()?
+                + self.y.encoded_len()?,
+        )
     }
 
     fn encode<W: Writer>(&self, writer: &mut W) -> encoding::Result<()> {

@@ -132,9 +132,11 @@ impl Encode for SkEcdsaSha2NistP256 {
     ghost most = { 3 * (2 ^ 32 + 4) };
 
     fn encoded_len(&self) -> encoding::Result<usize> {
-        Ok(EcdsaCurve::NistP256.encoded_len()?
-            + self.ec_point.encoded_len()?
-            + self.application.encoded_len()?)
+        Ok(
+            EcdsaCurve::NistP256.encoded_len()?
+                + self.ec_point.encoded_len()?
+                + self.application.encoded_len()?,
+        )
     }
 
     fn encode<W: Writer>(&self, writer: &mut W) -> encoding::Result<()> {
