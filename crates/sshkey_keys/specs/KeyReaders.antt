@@ -1,25 +1,17 @@
 -- The plain reader of keys takes exactly the spellings.
-use Rattle.std.proofs.Common.{◌≡◌, ℕ, List, ◌++◌, Ok, refl, sym, ◌∙◌}
+use Rattle.std.proofs.Common.{refl}
 use Rattle.sshkey_model.specs.Parts.{flat, Fits}
-use Rattle.sshkey_model.specs.Reading.{Front}
 use Rattle.sshkey_model.specs.Grammar.{IsGrammar}
 use Rattle.sshkey_model.specs.Names.{algorithm_at}
 use Rattle.sshkey_model.specs.Keys.{Key, Plain, IsKey, normal_key, key_at}
 use Rattle.sshkey_model.proofs.CombinedReaders.{bind_assoc}
-use Rattle.sshkey_model.proofs.Grammars.{grammar_with}
+use Rattle.sshkey_model.proofs.Grammars.{grammar_with, same_grammar}
 use Rattle.sshkey_model.proofs.KeyReaders.{key_reads}
 use Rattle.sshkey_base.specs.Labels.{label_at}
 use Rattle.sshkey_keys.specs.Keys.{SpellsKey, key_data_at}
 -- under names that an attribute of this crate can unfold
 unfoldable pub use Rattle.sshkey_model.specs.Keys.{ecdsa_at}
 unfoldable pub use Rattle.sshkey_kinds.specs.Bodies.{ed25519_body_at}
-
--- readers that give the same have one grammar
-same_grammar : {V : Type 0} {Spelling : V → List ℕ → Type 0} {read other : Front V} → IsGrammar Spelling read → ((b : List ℕ) → read b ≡ other b) → IsGrammar Spelling other
-same_grammar g same = record {
-  takes = λ b x rest e. g.takes b x rest (same b ∙ e);
-  again = λ x front rest s. sym (same (front ++ rest)) ∙ g.again x front rest s;
-}
 
 pub key_grammar : IsGrammar SpellsKey key_data_at
 unfolding key_data_at key_at algorithm_at label_at

@@ -25,6 +25,13 @@ grammar_with {V} {S} {Is} {HasPlace} {spell} {read} reads = record {
   again = λ x front rest s. rw s.shape (rw (reads.again (x, s.choices) rest (record { is = s.is; place = s.place }) s.fits) refl);
 }
 
+-- readers that give the same have one grammar
+pub same_grammar : {V : Type 0} {Spelling : V → List ℕ → Type 0} {read other : Front V} → IsGrammar Spelling read → ((b : List ℕ) → read b ≡ other b) → IsGrammar Spelling other
+same_grammar g same = record {
+  takes = λ b x rest e. g.takes b x rest (same b ∙ e);
+  again = λ x front rest s. sym (same (front ++ rest)) ∙ g.again x front rest s;
+}
+
 module _ {V : Type 0} {Spelling : V → List ℕ → Type 0} {read : Front V} (g : IsGrammar Spelling read) where
   -- No spelling is the front of another, or of the same value twice.
   pub one_front : (v w : V) (a b r q : List ℕ) → Spelling v a → Spelling w b → a ++ r ≡ b ++ q → (v ≡ w) × (a ≡ b) × (r ≡ q)

@@ -5,7 +5,7 @@ use Rattle.std.proofs.lemmas.Slice.Eq.{bytes_eq-Decides}
 use Rattle.std.proofs.lemmas.Bool.{and_parts}
 use Rattle.sshkey_model.specs.Parts.{bytes}
 use Rattle.sshkey_model.specs.Reading.{Label}
-use Rattle.sshkey_model.specs.Names.{Curve, Nistp256, Nistp384, Nistp521, Hash, Sha256, Sha512, Algorithm, Dsa, Ecdsa, Ed25519, Rsa, SkEcdsa, SkEd25519, Other, curves, hashes, algorithms, curve_name, hash_name, algorithm_name, named, is_own_name, is_other_name, IsAlgorithm, algorithm, or_label, algorithm_or, algorithm_at, curve, curve_at, hash, hash_at}
+use Rattle.sshkey_model.specs.Names.{Curve, Nistp256, Nistp384, Nistp521, Hash, Sha256, Sha512, Algorithm, Dsa, Ecdsa, Ed25519, Rsa, SkEcdsa, SkEd25519, Other, curves, hashes, algorithms, curve_name, hash_name, algorithm_name, named, is_own_name, is_other_name, IsAlgorithm, algorithm, or_label, algorithm_or, algorithm_from, algorithm_at, curve, curve_from, curve_at, hash, hash_from, hash_at}
 use Rattle.sshkey_model.proofs.CombinedReaders.{ok_is, done, chosen, ReadsFront, Checks, Any, checked_string_reads}
 
 -- what is found in a table has that name
@@ -35,18 +35,24 @@ each_curve Nistp256 = refl
 each_curve Nistp384 = refl
 each_curve Nistp521 = refl
 
+pub curve_checks : Checks Any bytes Any (λ c. bytes (curve_name c)) curve_from
+curve_checks = table_checks curve_name curves (assumption) each_curve
+
 pub curve_reads : ReadsFront Any curve curve_at
 unfolding curve_at
-curve_reads = checked_string_reads (table_checks curve_name curves (assumption) each_curve)
+curve_reads = checked_string_reads curve_checks
 
 each_hash : (h : Hash) → named hash_name hashes (hash_name h) ≡ Some h
 unfolding named
 each_hash Sha256 = refl
 each_hash Sha512 = refl
 
+pub hash_checks : Checks Any bytes Any (λ h. bytes (hash_name h)) hash_from
+hash_checks = table_checks hash_name hashes (assumption) each_hash
+
 pub hash_reads : ReadsFront Any hash hash_at
 unfolding hash_at
-hash_reads = checked_string_reads (table_checks hash_name hashes (assumption) each_hash)
+hash_reads = checked_string_reads hash_checks
 
 -- an other name is no fixed one
 unlisted : (n : List ℕ) → is_other_name n ≡ true → named algorithm_name algorithms n ≡ None
@@ -79,7 +85,7 @@ algorithm_takes None n a from e =
       | inr no_ ↦ absurd (cc no_.1)
     ]
 
-algorithm_checks : Checks Any bytes IsAlgorithm (λ a. bytes (algorithm_name a)) (λ n. algorithm_or (named algorithm_name algorithms n) n)
+pub algorithm_checks : Checks Any bytes IsAlgorithm (λ a. bytes (algorithm_name a)) algorithm_from
 algorithm_checks = record {
   takes = λ n a was e. let t = algorithm_takes (named algorithm_name algorithms n) n a refl e in (t.0, ap bytes (sym t.1));
   again = λ a is. (algorithm_name a, tt, algorithm_again a is, refl);

@@ -73,6 +73,36 @@ pub fn prefix_ssh_signature()
     ensures { IsPrefixFree (IsSpelled IsSshSignature HasSshSignaturePlaces) (spelled ssh_signature) }
 {}
 
+/// Two mpints are written alike exactly if they are equal.
+pub fn normal_mpints()
+    ensures { DetermineValues IsMpint string }
+{}
+
+/// Two texts are written alike exactly if they are equal.
+pub fn normal_texts()
+    ensures { DetermineValues IsText string }
+{}
+
+/// Two points of a curve are written alike exactly if they are equal.
+pub fn normal_points()
+    ensures { (c : Curve) → DetermineValues (IsPoint c) string }
+{}
+
+/// Two algorithms are named alike exactly if they are equal.
+pub fn normal_names()
+    ensures { DetermineValues IsAlgorithm algorithm }
+{}
+
+/// Two algorithms of certified keys are named alike in certificates exactly if they are equal.
+pub fn normal_certificate_names()
+    ensures { DetermineValues IsCertified certificate_algorithm }
+{}
+
+/// Under one algorithm two key bodies are written alike exactly if they are equal.
+pub fn normal_bodies()
+    ensures { (a : Algorithm) → DetermineValues (IsBodyUnder a) body }
+{}
+
 /// Two public keys have equal normal forms exactly if they are equal.
 pub fn normal_keys()
     ensures { DetermineValues IsKey normal_key }
