@@ -12,7 +12,8 @@ use Rattle.sshkey_base.specs.Causes.{cause}
 use Rattle.sshkey_base.specs.declared.error.Error.{Error}
 use Rattle.sshkey_base.specs.declared.error.Error.TheVariants as wide
 use Rattle.sshkey_base.specs.declared.encoding.Error.TheVariants as encoding
-use Rattle.sshkey_base.proofs.AtSigns.{cut-at, cut-front, cut-suffixed}
+use Rattle.sshkey_model.proofs.CertificateNameReaders.{cut_left}
+use Rattle.sshkey_base.proofs.AtSigns.{cut-at, cut-suffixed}
 
 split_some : (o : Option (List ℕ × List ℕ)) → is_split o ≡ true → (p : List ℕ × List ℕ) × (o ≡ Some p)
 split_some None e = absurd cc
@@ -58,7 +59,7 @@ no_suffix t name domain e none l r p =
 pub are_parts : (t name domain l : List ℕ) → cut t ≡ Some (name, domain) → name ≡ l ++ suffix → AreParts t l domain
 are_parts t name domain l e ends =
     let parts = cut_parts t (name, domain) e in
-    record { first = cut-front l suffix (subst (λ (z : List ℕ). cut z ≡ None) ends parts.1); whole = parts.0 ∙ ap (λ (z : List ℕ). z ++ at_sign ∷ domain) ends }
+    record { first = cut_left l suffix (subst (λ (z : List ℕ). cut z ≡ None) ends parts.1); whole = parts.0 ∙ ap (λ (z : List ℕ). z ++ at_sign ∷ domain) ends }
 
 -- a text without those parts is the certificate type of no name
 pub refused : (t : List ℕ) (e : Error) → ((l r : List ℕ) → AreParts t l r → ⊥) → e ≡ wide.Encoding encoding.Label → IsNoCertificateName t (cause e)

@@ -1,8 +1,8 @@
 -- Bytes one after the other are written as bytes.
-use Rattle.std.proofs.Common.{◌≡◌, ℕ, List, [], ◌∷◌, ◌++◌, true, nat_lt, Result, Ok, Err, IsErrAnd, refl, subst, sym, ap, ◌∙◌, inl, inr}
-use Rattle.std.proofs.lemmas.Bool.{and_parts}
-use Rattle.sshkey_model.specs.Parts.{Parts, nothing, bytes, number, box, ◌&◌, flat, InRange, BoxesFit, are_bytes}
+use Rattle.std.proofs.Common.{◌≡◌, ℕ, List, [], true, Result, Ok, Err, IsErrAnd, refl, subst, sym, ap, ◌∙◌, inl, inr}
+use Rattle.sshkey_model.specs.Parts.{Parts, nothing, bytes, number, box, ◌&◌, flat, BoxesFit, are_bytes}
 use Rattle.sshkey_model.proofs.CombinedReaders.{fits_both, fits_bytes}
+use Rattle.sshkey_model.proofs.Blobs.{flat_bytes}
 use Rattle.sshkey_base.specs.declared.encoding.Error.{Error}
 use Rattle.sshkey_base.specs.Sink.{Sink, Written, Encodes, NotWritten, after}
 use Rattle.sshkey_base.proofs.Writing.{not_first, not_later, after_both}
@@ -23,21 +23,9 @@ plain_fit (number w n) plain = absurd plain
 plain_fit (box p) plain = absurd plain
 plain_fit (p & q) plain = (plain_fit p plain.0, plain_fit q plain.1)
 
-are_bytes-append : (a b : List ℕ) → are_bytes a ≡ true → are_bytes b ≡ true → are_bytes (a ++ b) ≡ true
-are_bytes-append [] b e f = f
-are_bytes-append (c ∷ a) b e f = let p = and_parts (nat_lt c 256) (are_bytes a) e in rw (p.0, are_bytes-append a b p.1 f) refl
-
-plain_range : (p : Parts) → ArePlain p → InRange p → are_bytes (flat p) ≡ true
-unfolding InRange flat
-plain_range nothing plain range = refl
-plain_range (bytes b) plain range = range
-plain_range (number w n) plain range = absurd plain
-plain_range (box p) plain range = absurd plain
-plain_range (p & q) plain range = are_bytes-append (flat p) (flat q) (plain_range p plain.0 range.0) (plain_range q plain.1 range.1)
-
 pub plain_parts : (fault : Error → Type 0) (p : Parts) (b : List ℕ) (s t : Sink) (r : Result (Unit {0}) Error) → ArePlain p → flat p ≡ b → Encodes fault p s r t → Encodes fault (bytes b) s r t
 unfolding flat NotWritten after
-plain_parts fault p b s t (Ok x) plain is h = (fits_bytes b (subst (λ (z : List ℕ). are_bytes z ≡ true) is (plain_range p plain h.0.range)), rw (← is) h.1)
+plain_parts fault p b s t (Ok x) plain is h = (fits_bytes b (subst (λ (z : List ℕ). are_bytes z ≡ true) is (flat_bytes p h.0.range)), rw (← is) h.1)
 plain_parts fault p b s t (Err e) plain is h =
     elim h [
       | inl long ↦ absurd (long.misfit (plain_fit p plain))

@@ -28,7 +28,7 @@ cut_parts (c ∷ rest) p e =
     ]
 
 -- no at sign in a, so the first one is in b
-cut_append : (a b : List ℕ) (q : List ℕ × List ℕ) → cut a ≡ None → cut b ≡ Some q → cut (a ++ b) ≡ Some (a ++ q.0, q.1)
+pub cut_append : (a b : List ℕ) (q : List ℕ × List ℕ) → cut a ≡ None → cut b ≡ Some q → cut (a ++ b) ≡ Some (a ++ q.0, q.1)
 unfolding cut
 cut_append [] b q none e = e
 cut_append (c ∷ a) b q none e =
@@ -41,7 +41,7 @@ cut_append (c ∷ a) b q none e =
     rest_none c None e = refl
     rest_none c (Some q) e = absurd cc
 
-cut_left : (a b : List ℕ) → cut (a ++ b) ≡ None → cut a ≡ None
+pub cut_left : (a b : List ℕ) → cut (a ++ b) ≡ None → cut a ≡ None
 unfolding cut
 cut_left [] b none = refl
 cut_left (c ∷ a) b none =
@@ -55,7 +55,7 @@ cut_left (c ∷ a) b none =
     rest_none c (Some q) e = absurd cc
 
 -- a name of two parts, and the same with the suffix
-suffix_before : (l r : List ℕ) → cut l ≡ None → (cut (l ++ at_sign ∷ r) ≡ Some (l, r)) × (cut (l ++ suffix ++ at_sign ∷ r) ≡ Some (l ++ suffix, r))
+pub suffix_before : (l r : List ℕ) → cut l ≡ None → (cut (l ++ at_sign ∷ r) ≡ Some (l, r)) × (cut (l ++ suffix ++ at_sign ∷ r) ≡ Some (l ++ suffix, r))
 unfolding cut
 suffix_before l r none = (cut_append l (at_sign ∷ r) ([], r) none refl ∙ ap (λ (z : List ℕ). Some (z, r)) (append-nil l), ap cut (append_assoc l suffix (at_sign ∷ r)) ∙ cut_append l (suffix ++ at_sign ∷ r) (suffix, r) none refl)
 
@@ -68,7 +68,7 @@ own_parts n is = go (cut n) (and_parts (are_ascii n && nat_le (length n) 64) (is
     go None e = absurd cc
     go (Some p) e = (p, refl)
 
-stripped_again : (l r n : List ℕ) → n ≡ l ++ at_sign ∷ r → is_other_name n ≡ true → without_suffix (Some (l ++ suffix, r)) ≡ Ok (Other n)
+pub stripped_again : (l r n : List ℕ) → n ≡ l ++ at_sign ∷ r → is_other_name n ≡ true → without_suffix (Some (l ++ suffix, r)) ≡ Ok (Other n)
 stripped_again l r n e is =
     let size : length (l ++ suffix) - 9 ≡ length l = omega (arith, length-append l suffix) in
     let front : take (length (l ++ suffix) - 9) (l ++ suffix) ≡ l = take_at l suffix _ (sym size) in
