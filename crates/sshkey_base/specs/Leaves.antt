@@ -1,7 +1,7 @@
 -- The readers of the leaves take exactly their spellings.
-use Rattle.std.specs.Prelude.{◌≡◌, ℕ, List, length, refl}
+use Rattle.std.specs.Prelude.{◌≡◌, ℕ, ◌^◌, List, length, replicate, nat_lt, if◌then◌else◌, refl}
 use Rattle.std.specs.Int.{w8, w32, w64}
-use Rattle.sshkey_model.specs.Parts.{Any, number, flat, Fits}
+use Rattle.sshkey_model.specs.Parts.{Parts, Any, bytes, number, box, flat, Fits}
 use Rattle.sshkey_model.specs.Texts.{string}
 use Rattle.sshkey_model.specs.Reading.{whole, bytes_at, number_at, string_at, box_at}
 use Rattle.sshkey_model.specs.Grammar.{IsGrammar, Spells}
@@ -17,6 +17,10 @@ SpellsNumber32 = Spells Any (number w32)
 
 abbrev pub SpellsNumber64 : ℕ → List ℕ → Type 0
 SpellsNumber64 = Spells Any (number w64)
+
+-- A count in four bytes. One that needs more is spelled as a box of so many bytes, which does not fit either.
+unfoldable pub count : ℕ → Parts
+count n = if nat_lt n (2 ^ 32) then number w32 n else box (bytes (replicate n 0))
 
 -- a string of bytes
 abbrev pub SpellsString : List ℕ → List ℕ → Type 0

@@ -6,6 +6,7 @@ pub mod Nested
 pub mod Accepting
 pub mod Sink
 pub mod Leaves
+pub mod Counts
 pub mod Labels
 pub mod Laws
 pub mod Answering

@@ -60,7 +60,7 @@ pub trait Encode {
 }
 
 /// The number in four bytes. `Length` where it needs more.
-fn u32_of(len: usize) -> Result<u32>
+pub(crate) fn u32_of(len: usize) -> Result<u32>
     ensures { IsLength len result }
 {
     if len > u32::MAX as usize {

@@ -16,6 +16,7 @@ mod mpint;
 mod normal_form;
 mod reader;
 mod refusal;
+mod size;
 #[cfg(test)]
 mod tests;
 mod text;

@@ -1,0 +1,66 @@
+//! Counts, which the machine holds in a `usize` and the wire in four bytes.
+
+ghost use Rattle.std.specs.Prelude.{ℕ};
+ghost use Rattle.std.specs.Int.{w32};
+ghost use Rattle.sshkey_model.specs.Reading.{number_at};
+ghost use Rattle.sshkey_base.specs.Causes.{encoding_cause};
+ghost use Rattle.sshkey_base.specs.Counts.{count_normal};
+ghost use Rattle.sshkey_base.specs.Leaves.{SpellsNumber32, number32_grammar, count};
+ghost use Rattle.sshkey_base.specs.Reading.{Gives, GivesAlways};
+
+#[cfg(test)]
+mod tests;
+
+use crate::decode::Decode;
+use crate::encode::{Encode, u32_of};
+use crate::encoding::{Error, Result};
+use crate::normal_form::NormalForm;
+use crate::reader::{Reader, length_from};
+use crate::writer::Writer;
+use std::alloc::Global;
+
+/// A number of four bytes, most significant first (RFC 4251, section 5). Takes no memory.
+#[tactic(auto, using(crate::proofs::Steps::steps))]
+impl Decode for usize {
+    type Error = Error;
+
+    ghost Meaning = { ℕ };
+
+    ghost means = { λ n. n };
+
+    ghost parse = { number_at w32 };
+
+    ghost Spells = { SpellsNumber32 };
+
+    ghost grammar = { number32_grammar };
+
+    fn decode<R: Reader>(_alloc: Global, reader: &mut R) -> Result<usize>
+        ensures gives { Gives (λ x. x) encoding_cause (number_at w32) (R.source reader.old) result (R.source reader.new) }
+        ensures always { GivesAlways (λ x. x) encoding_cause (number_at w32) (R.source reader.old) result (R.source reader.new) }
+    {
+        length_from(reader)
+    }
+}
+
+/// Four bytes, most significant first (RFC 4251, section 5). Exactly a number above 2^32 - 1 is
+/// refused with `Length`, and then nothing is written of it.
+#[tactic(auto)]
+impl Encode for usize {
+    ghost normal = { count };
+
+    ghost most = { 4 };
+
+    fn encoded_len(&self) -> Result<usize> {
+        u32_of(*self)?.encoded_len()
+    }
+
+    fn encode<W: Writer>(&self, writer: &mut W) -> Result<()> {
+        u32_of(*self)?.encode(writer)
+    }
+}
+
+impl NormalForm for usize {
+    ghost IsWellFormed = { λ _. Unit {0} };
+
+    ghost normal_spells = { count_normal };
+}
