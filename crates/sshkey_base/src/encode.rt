@@ -180,6 +180,21 @@ impl<const N: usize> Encode for [u8; N] {
 }
 
 /// A string.
+impl Encode for &[u8] {
+    ghost normal = { λ s. string s.now };
+
+    ghost most = { 2 ^ 32 + 3 };
+
+    fn encoded_len(&self) -> Result<usize> {
+        string_len(*self)
+    }
+
+    fn encode<W: Writer>(&self, writer: &mut W) -> Result<()> {
+        encode_string(*self, writer)
+    }
+}
+
+/// A string.
 impl Encode for Bytes {
     ghost normal = { string };
 

@@ -17,6 +17,7 @@ mod normal_form;
 mod reader;
 mod refusal;
 mod size;
+mod string;
 #[cfg(test)]
 mod tests;
 mod text;

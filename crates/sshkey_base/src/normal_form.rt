@@ -3,13 +3,16 @@
 ghost use Rattle.std.specs.Prelude.{◌≡◌, ℕ, length};
 ghost use Rattle.std.specs.Int.{w8, w32, w64};
 ghost use Rattle.sshkey_model.specs.Parts.{Fits, flat, Any};
+ghost use Rattle.sshkey_model.specs.Texts.{IsText};
 ghost use Rattle.sshkey_base.specs.Leaves.{byte_normal, number32_normal, number64_normal, string_normal, array_normal};
 ghost use Rattle.sshkey_base.specs.Labels.{label_normal};
+ghost use Rattle.sshkey_base.specs.Texts.{text_normal};
 
 use crate::bytes::Bytes;
 use crate::decode::Decode;
 use crate::encode::Encode;
 use crate::label::Label;
+use crate::text::Text;
 
 /// A value whose normal form is one of its spellings, so that it is read back from what is written.
 pub trait NormalForm: Decode + Encode {
@@ -42,6 +45,12 @@ impl NormalForm for Bytes {
     ghost IsWellFormed = { λ _. Unit {0} };
 
     ghost normal_spells = { string_normal };
+}
+
+impl NormalForm for Text {
+    ghost IsWellFormed = { IsText };
+
+    ghost normal_spells = { text_normal };
 }
 
 impl NormalForm for Vec<u8> {

@@ -4,6 +4,7 @@ ghost use Rattle.std.specs.Prelude.{◌≡◌, ℕ, ◌+◌, ◌^◌, List, stri
 ghost use Rattle.sshkey_model.specs.Texts.{string, text_from};
 ghost use Rattle.sshkey_base.specs.Answering.{AnswersAlways};
 ghost use Rattle.sshkey_base.specs.Causes.{encoding_cause};
+ghost use Rattle.sshkey_base.specs.Reading.{Gives, LengthPast};
 ghost use Rattle.sshkey_base.specs.Texts.{SpellsText, text_at, text_grammar};
 
 mod compare;
@@ -53,6 +54,8 @@ impl Text {
 }
 
 /// A string whose bytes are UTF-8, else `CharacterEncoding` (RFC 4251, section 5).
+///
+/// A length that passes what is left is `Length`, and no memory is asked for it.
 #[tactic(auto, using(crate::proofs::Steps::steps), unfolding(crate::specs::Texts::text_at))]
 impl Decode for Text {
     type Error = Error;
@@ -67,7 +70,10 @@ impl Decode for Text {
 
     ghost grammar = { text_grammar };
 
-    fn decode<R: Reader>(alloc: Global, reader: &mut R) -> Result<Text> {
+    fn decode<R: Reader>(alloc: Global, reader: &mut R) -> Result<Text>
+        ensures gives { Gives (λ t. t) encoding_cause text_at (R.source reader.old) result (R.source reader.new) }
+        ensures past { LengthPast encoding_cause (R.source reader.old) result }
+    {
         let bytes = Bytes::decode(alloc, reader)?;
         text_of(bytes)
     }

@@ -1,0 +1,81 @@
+//! The texts of std.
+
+ghost use Rattle.std.specs.Prelude.{ℕ, ◌+◌, ◌^◌, List, string_bytes};
+ghost use Rattle.sshkey_model.specs.Texts.{string};
+ghost use Rattle.sshkey_base.specs.Causes.{encoding_cause};
+ghost use Rattle.sshkey_base.specs.Reading.{Gives, LengthPast};
+ghost use Rattle.sshkey_base.specs.Texts.{SpellsText, text_at, text_grammar, string_text_normal};
+
+#[cfg(test)]
+mod tests;
+
+use crate::decode::Decode;
+use crate::encode::{Encode, encode_string, string_len};
+use crate::encoding::{Error, Result};
+use crate::normal_form::NormalForm;
+use crate::reader::Reader;
+use crate::text::Text;
+use crate::writer::Writer;
+use std::alloc::Global;
+
+/// A string whose bytes are UTF-8, else `CharacterEncoding` (RFC 4251, section 5).
+///
+/// A length that passes what is left is `Length`, and no memory is asked for it.
+#[tactic(auto, using(crate::proofs::Steps::steps))]
+impl Decode for String {
+    type Error = Error;
+
+    ghost Meaning = { List ℕ };
+
+    ghost means = { string_bytes };
+
+    ghost parse = { text_at };
+
+    ghost Spells = { SpellsText };
+
+    ghost grammar = { text_grammar };
+
+    fn decode<R: Reader>(alloc: Global, reader: &mut R) -> Result<String>
+        ensures gives { Gives string_bytes encoding_cause text_at (R.source reader.old) result (R.source reader.new) }
+        ensures past { LengthPast encoding_cause (R.source reader.old) result }
+    {
+        let text = Text::decode(alloc, reader)?;
+        Ok(text.into_string())
+    }
+}
+
+/// A string.
+impl Encode for String {
+    ghost normal = { λ s. string (string_bytes s) };
+
+    ghost most = { 2 ^ 32 + 3 };
+
+    fn encoded_len(&self) -> Result<usize> {
+        self.as_str().encoded_len()
+    }
+
+    fn encode<W: Writer>(&self, writer: &mut W) -> Result<()> {
+        self.as_str().encode(writer)
+    }
+}
+
+/// A string.
+impl Encode for &str {
+    ghost normal = { λ s. string s.now };
+
+    ghost most = { 2 ^ 32 + 3 };
+
+    fn encoded_len(&self) -> Result<usize> {
+        string_len(self.as_bytes())
+    }
+
+    fn encode<W: Writer>(&self, writer: &mut W) -> Result<()> {
+        encode_string(self.as_bytes(), writer)
+    }
+}
+
+impl NormalForm for String {
+    ghost IsWellFormed = { λ _. Unit {0} };
+
+    ghost normal_spells = { string_text_normal };
+}
