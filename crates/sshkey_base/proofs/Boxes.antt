@@ -9,8 +9,8 @@ use Rattle.sshkey_model.specs.Reading.{Length, TrailingData, ◌>>=◌, Front, e
 use Rattle.sshkey_base.specs.declared.encoding.Error.{Error}
 use Rattle.sshkey_base.specs.declared.encoding.Error.TheVariants as encoding
 use Rattle.sshkey_base.specs.Causes.{Cause, NoMemory, Faulty, encoding_cause}
-use Rattle.sshkey_base.specs.Source.{Outer, Source, told, part}
-use Rattle.sshkey_base.specs.Reading.{Reads, Refuses, IsRefused, Gives, GivesAlways, LengthPast}
+use Rattle.sshkey_base.specs.Source.{Outer, Source, IsSound, told, part}
+use Rattle.sshkey_base.specs.Reading.{Reads, Refuses, IsRefused, Gives, GivesSoundly, GivesAlways, LengthPast}
 use Rattle.sshkey_base.specs.Nested.{ReadsBy, Calls, Past, Trails, Finishes, NoLength, Prefixed, PastIs}
 use Rattle.sshkey_base.proofs.Steps.{refuses_first}
 
@@ -40,11 +40,14 @@ module _ {X Y : Type 0} (means : X → Y) (read : Front Y) (s t : Source) (n : �
   box_too_long : Reads (λ k. k) (number_at w32) s n t → told t < n → Refuses s.missing (Faulty Length) (box_at (whole read) s.left)
   box_too_long a lt = record { met = Length; is = box_past a (omega arith); same = λ _. refl }
 
-  box_inner : (c : Cause) → Reads (λ k. k) (number_at w32) s n t → n ≤ told t → Refuses (n - length t.left) c (read (take n t.left)) → Refuses s.missing c (box_at (whole read) s.left)
+  box_inner : (c : Cause) → Reads (λ k. k) (number_at w32) s n t → n ≤ told t → (n - length t.left ≡ 0 → Refuses (n - length t.left) c (read (take n t.left))) → Refuses s.missing c (box_at (whole read) s.left)
   box_inner c a le r =
       elim (cases_lt (length t.left) n) [
         | inl lt ↦ record { met = Length; is = box_past a lt; same = λ sound. let m = a.missing in absurd (omega arith) }
-        | inr ge ↦ record { met = r.met; is = box_within a ge ∙ rw r.is refl; same = λ _. r.same (omega arith) }
+        | inr ge ↦
+            let none : n - length t.left ≡ 0 = omega arith in
+            let h = r none in
+            record { met = h.met; is = box_within a ge ∙ rw h.is refl; same = λ _. h.same none }
       ]
 
   box_trailing : (name other rest : ℕ) (u : Source) (x : X) → Reads (λ k. k) (number_at w32) s n t → n ≤ told t → Reads means read (part name n t) x (part other rest u) → 0 < rest → Refuses s.missing (Faulty (TrailingData rest)) (box_at (whole read) s.left)
@@ -71,11 +74,15 @@ module _ {X Y : Type 0} (means : X → Y) (read : Front Y) (s t : Source) (n : �
 
 -- A call of a closure over a part, seen as reading a box.
 module _ {F N T E Y : Type 0} (call : Once F (MutBor N × Unit {0}) (Result T E × (MutBor N × Unit {0}))) (source : N → Source) (from_gives : Error → E → Type 0) (cause : E → Cause) (f : F) (means : T → Y) (read : Front Y) (keeps : (x : Error) (e : E) → from_gives x e → cause e ≡ encoding_cause x) where
-  module _ (by : ReadsBy call source cause f means read) where
+  -- a closure of which nothing is said where it refuses a part with a fault
+  abbrev pub ReadsSoundlyBy : Type 0
+  ReadsSoundlyBy = (p q : MutBor N) (r : Result T E) → call.post f (p, tt) (r, (q, tt)) → GivesSoundly means cause read (source p.now) r (source q.now)
+
+  module _ (by : ReadsSoundlyBy) where
     of_calls : (s : Source) (e : E) (h : Calls call source from_gives f s (Err e)) → cause e ≢ NoMemory → Refuses s.missing (cause e) (box_at (whole read) s.left)
     of_calls s e h other =
-        let g : IsRefused (part h.name h.len h.after).missing (cause e) (read (part h.name h.len h.after).left) = rw h.starts at (by h.given h.left (Err e) h.met) in
-        box_inner means read s h.after h.len (cause e) h.number h.within (g other)
+        let g : IsSound (part h.name h.len h.after) → IsRefused (part h.name h.len h.after).missing (cause e) (read (part h.name h.len h.after).left) = rw h.starts at (by h.given h.left (Err e) h.met) in
+        box_inner means read s h.after h.len (cause e) h.number h.within (λ sound. g sound other)
 
     of_trails : (s : Source) (e : E) (h : Trails call source from_gives f s e) → Refuses s.missing (cause e) (box_at (whole read) s.left)
     of_trails s e h =
@@ -97,26 +104,35 @@ module _ {F N T E Y : Type 0} (call : Once F (MutBor N × Unit {0}) (Result T E 
     of_past s e h = rw (keeps encoding.Length e h.is) (box_too_long means read s h.after h.len h.number h.past)
 
     -- What `read_prefixed` gives is what the plain reader of the box gives.
+    pub prefixed_gives_soundly : (s u : Source) (r : Result T E) → Prefixed call source from_gives f s r u → Gives means cause (box_at (whole read)) s r u
+    prefixed_gives_soundly s u (Ok x) h = of_finishes s u x h
+    prefixed_gives_soundly s u (Err e) (inl h) = λ _. of_length s e h
+    prefixed_gives_soundly s u (Err e) (inr (inl h)) = λ _. of_past s e h
+    prefixed_gives_soundly s u (Err e) (inr (inr (inl h))) = of_calls s e h
+    prefixed_gives_soundly s u (Err e) (inr (inr (inr h))) = λ _. of_trails s e h
+
+  -- The same of a closure of which more is said.
+  module _ (by : ReadsBy call source cause f means read) where
+    soundly : ReadsSoundlyBy
+    soundly p q (Ok x) met = by p q (Ok x) met
+    soundly p q (Err e) met = λ _. by p q (Err e) met
+
     pub prefixed_gives : (s u : Source) (r : Result T E) → Prefixed call source from_gives f s r u → Gives means cause (box_at (whole read)) s r u
-    prefixed_gives s u (Ok x) h = of_finishes s u x h
-    prefixed_gives s u (Err e) (inl h) = λ _. of_length s e h
-    prefixed_gives s u (Err e) (inr (inl h)) = λ _. of_past s e h
-    prefixed_gives s u (Err e) (inr (inr (inl h))) = of_calls s e h
-    prefixed_gives s u (Err e) (inr (inr (inr h))) = λ _. of_trails s e h
+    prefixed_gives s u r h = prefixed_gives_soundly soundly s u r h
 
   -- a closure that takes no memory
   abbrev pub AlwaysReadsBy : Type 0
   AlwaysReadsBy = (p q : MutBor N) (r : Result T E) → call.post f (p, tt) (r, (q, tt)) → GivesAlways means cause read (source p.now) r (source q.now)
 
   module _ (by : AlwaysReadsBy) where
-    also : ReadsBy call source cause f means read
+    also : ReadsSoundlyBy
     also p q (Ok x) met = by p q (Ok x) met
-    also p q (Err e) met = λ _. by p q (Err e) met
+    also p q (Err e) met = λ _ _. by p q (Err e) met
 
     always_calls : (s : Source) (e : E) (h : Calls call source from_gives f s (Err e)) → Refuses s.missing (cause e) (box_at (whole read) s.left)
     always_calls s e h =
         let g : Refuses (part h.name h.len h.after).missing (cause e) (read (part h.name h.len h.after).left) = rw h.starts at (by h.given h.left (Err e) h.met) in
-        box_inner means read s h.after h.len (cause e) h.number h.within g
+        box_inner means read s h.after h.len (cause e) h.number h.within (λ _. g)
 
     -- The same of a closure that takes no memory.
     pub prefixed_gives_always : (s u : Source) (r : Result T E) → Prefixed call source from_gives f s r u → GivesAlways means cause (box_at (whole read)) s r u

@@ -13,3 +13,5 @@ pub mod OtherNames
 pub mod CertifiedNames
 pub mod PlainParts
 pub mod Judging
+pub mod WrittenLists
+pub mod ReadLists

@@ -181,6 +181,11 @@ pub ruleset measuring = (length_both, boxes_both, boxes_first, boxes_second)
 -- the same of a leaf or a box
 pub ruleset measuring_leaves = (length_box, length_bytes, length_number8, length_number32, length_number64, boxes_box, boxes_length, boxes_inside, boxes_bytes, boxes_number)
 
+-- nothing is added of what does not fit
+pub misfit : (fault : Error → Type 0) (p : Parts) (s : Sink) (e : Error) → (BoxesFit p → ⊥) × (e ≡ Length) → NotWritten fault p s e s
+unfolding NotWritten
+misfit fault p s e h = inl (record { misfit = h.0; is = h.1; began = none_began s s (flat p) refl })
+
 -- what a box holds does not fit
 pub inside_misfit : (fault : Error → Type 0) (p : Parts) (s : Sink) (e : Error) → (BoxesFit p → ⊥) × (e ≡ Length) → NotWritten fault (box p) s e s
 unfolding NotWritten

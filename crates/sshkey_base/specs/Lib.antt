@@ -13,6 +13,7 @@ pub mod Answering
 pub mod Numbers
 pub mod MpintSpelling
 pub mod Texts
+pub mod TextLists
 pub mod MpintNormal
 pub mod Equality
 pub mod Names

@@ -1,7 +1,7 @@
 -- What a reading call gives, measured by a plain reader on lists.
-use Rattle.std.specs.Prelude.{◌≡◌, ◌≢◌, ℕ, ◌<◌, ◌+◌, IsErrAnd, List, length, Result, Ok, Err}
+use Rattle.std.specs.Prelude.{◌≡◌, ◌≢◌, ℕ, ◌<◌, ◌+◌, IsErrAnd, List, [], length, Result, Ok, Err}
 use Rattle.std.specs.Int.{w32}
-use Rattle.sshkey_model.specs.Reading.{Fault, Length, Front, Whole, number_at}
+use Rattle.sshkey_model.specs.Reading.{Fault, Length, ◌>>=◌, Front, Whole, number_at}
 use Rattle.sshkey_base.specs.Causes.{Cause, NoMemory, Faulty}
 use Rattle.sshkey_base.specs.Source.{Source, IsSound}
 
@@ -44,3 +44,20 @@ pub record ReadsAll {X Y : Type 0} (means : X → Y) (read : Whole Y) (s : Sourc
 abbrev pub GivesWhole : {X Y E : Type 0} → (X → Y) → (E → Cause) → Whole Y → Source → Result X E → Type 0
 GivesWhole means cause read s (Ok x) = ReadsAll means read s x
 GivesWhole means cause read s (Err e) = cause e ≢ NoMemory → IsSound s → Refuses s.missing (cause e) (read s.left)
+
+-- ---- up to the end
+
+-- The same, but of a source with a fault only what it gives, and not what it refuses.
+abbrev pub GivesSoundly : {X Y E : Type 0} → (X → Y) → (E → Cause) → Front Y → Source → Result X E → Source → Type 0
+GivesSoundly means cause read s (Ok x) t = Reads means read s x t
+GivesSoundly means cause read s (Err e) t = IsSound s → IsRefused s.missing (cause e) (read s.left)
+
+-- A reader of all bytes, as one that leaves none.
+abbrev pub to_end : {A : Type 0} → Whole A → Front A
+to_end read b = do
+  x ← read b
+  Ok (x, [])
+
+-- What a call gives that reads up to the end: a source with a fault has none, and is refused.
+abbrev pub GivesToEnd : {X Y E : Type 0} → (X → Y) → (E → Cause) → Whole Y → Source → Result X E → Source → Type 0
+GivesToEnd means cause read s r t = GivesSoundly means cause (to_end read) s r t

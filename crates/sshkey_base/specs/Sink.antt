@@ -1,6 +1,6 @@
 -- What a writer holds, and what a writing call adds to it.
 use Rattle.std.specs.Prelude.{◌≡◌, ℕ, ◌+◌, ◌<◌, ◌≤◌, ◌^◌, List, ◌++◌, length, take, true, Option, IfSome, Result, Ok, Err, ◌⊎◌, Vec}
-use Rattle.sshkey_model.specs.Parts.{Parts, flat, are_bytes, BoxesFit, Fits}
+use Rattle.sshkey_model.specs.Parts.{Parts, box, flat, are_bytes, BoxesFit, Fits}
 use Rattle.sshkey_base.specs.declared.encoding.Error.{Error}
 use Rattle.sshkey_base.specs.declared.encoding.Error.TheVariants.{Length, Memory}
 
@@ -60,6 +60,11 @@ Encodes fault p s (Err e) t = NotWritten fault p s e t
 abbrev pub Measures : Parts → Result ℕ Error → Type 0
 Measures p (Ok n) = BoxesFit p × (n ≡ length (flat p))
 Measures p (Err e) = (BoxesFit p → ⊥) × (e ≡ Length)
+
+-- The same of the parts in a box, without its length.
+abbrev pub MeasuresBoxed : Parts → Result ℕ Error → Type 0
+MeasuresBoxed p (Ok n) = BoxesFit (box p) × (n ≡ length (flat p))
+MeasuresBoxed p (Err e) = (BoxesFit (box p) → ⊥) × (e ≡ Length)
 
 -- What a call gives that makes the bytes of the parts: `Length` exactly where a box of them is too long, else only want of memory.
 abbrev pub MakesBytes : {Z : Type 0} → Parts → Result (Vec ℕ Z) Error → Type 0

@@ -1,0 +1,104 @@
+-- A loop that reads values up to the end of a source.
+use Rattle.std.proofs.Common.{◌≡◌, ◌≢◌, ◌≤◌, ◌<◌, ◌+◌, ℕ, zero, suc, Option, None, Some, List, [], ◌∷◌, ◌++◌, append-nil, append_assoc, length, take, drop, Result, Ok, Err, refl, sym, ap, ◌∙◌, arith, inl, inr}
+use Rattle.std.proofs.lemmas.List.{nil_from_length, length-append}
+use Rattle.sshkey_model.specs.Reading.{Fault, ◌>>=◌, Front, Whole, whole, box_at, number_at, list_within, list_whole}
+use Rattle.sshkey_model.specs.Parts.{Parts, flat}
+use Rattle.sshkey_model.proofs.CombinedReaders.{ReadsFront}
+use Rattle.sshkey_base.specs.Causes.{Cause, NoMemory}
+use Rattle.sshkey_base.specs.Source.{Source, IsSound, told}
+use Rattle.sshkey_base.specs.Reading.{Reads, Refuses, Gives, to_end}
+
+module _ {A : Type 0} (item : Option A → Front A) where
+  first_step : (n : ℕ) (before : Option A) (b : List ℕ) → 0 < length b → list_within item (suc n) before b ≡ (item before b >>= λ x. list_within item n (Some x.0) x.1 >>= λ xs. Ok (x.0 ∷ xs))
+  unfolding list_within
+  first_step n before [] some = absurd (omega arith)
+  first_step n before (c ∷ b) some = refl
+
+  no_step : (n : ℕ) (before : Option A) → list_within item n before [] ≡ Ok []
+  unfolding list_within
+  no_step zero before = refl
+  no_step (suc n) before = refl
+
+  -- What the list reader gives of the bytes, whatever its bound, if that is enough.
+  abbrev GivesFrom : Option A → List ℕ → Result (List A) Fault → Type 0
+  GivesFrom before b r = (n : ℕ) → length b ≤ n → list_within item n before b ≡ r
+
+  give_step : (before : Option A) (b : List ℕ) (x : A) (rest : List ℕ) (r : Result (List A) Fault) → item before b ≡ Ok (x, rest) → length rest < length b → GivesFrom (Some x) rest r → GivesFrom before b (r >>= λ xs. Ok (x ∷ xs))
+  give_step before b x rest r e shorter h zero enough = absurd (omega arith)
+  give_step before b x rest r e shorter h (suc n) enough = rw (first_step n before b (omega arith), e, h n (omega arith)) refl
+
+  give_refused : (before : Option A) (b : List ℕ) (fault : Fault) → item before b ≡ Err fault → 0 < length b → GivesFrom before b (Err fault)
+  give_refused before b fault e some zero enough = absurd (omega arith)
+  give_refused before b fault e some (suc n) enough = rw (first_step n before b some, e) refl
+
+  joined : (done : List A) (x : A) (r : Result (List A) Fault) → ((r >>= λ xs. Ok (x ∷ xs)) >>= λ ys. Ok (done ++ ys)) ≡ (r >>= λ ys. Ok ((done ++ x ∷ []) ++ ys))
+  joined done x (Ok ys) = rw append_assoc refl
+  joined done x (Err fault) = refl
+
+  -- The values so far, of which `before` is the last, stand before what is left: what follows them decides.
+  pub record Collects (s : Source) (before : Option A) (done : List A) (t : Source) : Type 0 where
+    pub missing : t.missing ≡ s.missing
+    pub outer : t.outer ≡ s.outer
+    pub rest : (r : Result (List A) Fault) → GivesFrom before t.left r → GivesFrom None s.left (r >>= λ ys. Ok (done ++ ys))
+
+  same_step : (r : Result (List A) Fault) → r ≡ (r >>= λ ys. Ok ([] ++ ys))
+  same_step (Ok ys) = refl
+  same_step (Err fault) = refl
+
+  pub collects_none : (s : Source) → Collects s None [] s
+  collects_none s = record { missing = refl; outer = refl; rest = λ r h n enough. h n enough ∙ same_step r }
+
+  pub collects_more : {X : Type 0} (means : X → A) (s t u : Source) (before : Option A) (done : List A) (x : X) → Collects s before done t → Reads means (item before) t x u → length u.left < length t.left → Collects s (Some (means x)) (done ++ means x ∷ []) u
+  collects_more means s t u before done x c h shorter = record {
+    missing = h.missing ∙ c.missing;
+    outer = h.outer ∙ c.outer;
+    rest = λ r g n enough. c.rest (r >>= λ xs. Ok (means x ∷ xs)) (give_step before t.left (means x) u.left r h.value shorter g) n enough ∙ joined done (means x) r;
+  }
+
+  -- the next value is refused
+  pub collects_refused : (s t : Source) (before : Option A) (done : List A) (cause : Cause) → Collects s before done t → (told t ≢ 0) → IsSound s → Refuses t.missing cause (item before t.left) → Refuses s.missing cause (to_end (list_whole item) s.left)
+  collects_refused s t before done cause c some sound h =
+      let m = c.missing in
+      let left : 0 < length t.left = omega arith in
+      record {
+        met = h.met;
+        is = rw (c.rest (Err h.met) (give_refused before t.left h.met h.is left) (length s.left) (omega arith)) refl;
+        same = λ none. h.same (m ∙ none);
+      }
+
+  -- nothing is left
+  pub collects_end : {V : Type 0} (means : V → List A) (s t : Source) (before : Option A) (v : V) → Collects s before (means v) t → told t ≡ 0 → Reads means (to_end (list_whole item)) s v t
+  collects_end means s t before v c none =
+      let left : t.left ≡ [] = nil_from_length t.left (omega arith) in
+      let given : GivesFrom before t.left (Ok []) = (λ n enough. rw left (no_step n before)) in
+      record {
+        value = rw (c.rest (Ok []) given (length s.left) (omega arith), left, append-nil) refl;
+        missing = c.missing;
+        outer = c.outer;
+      }
+
+-- a value that has bytes leaves less
+pub leaves_less : {A : Type 0} {Is : A → Type 0} {spell : A → Parts} {read : Front A} → ReadsFront Is spell read → ((x : A) → 0 < length (flat (spell x))) → (b : List ℕ) (x : A) (rest : List ℕ) → read b ≡ Ok (x, rest) → length rest < length b
+leaves_less {A} {Is} {spell} {read} reads shows b x rest e =
+    let t = reads.takes b x rest e in
+    let all : length b ≡ length (flat (spell x)) + length rest = ap length t.2 ∙ length-append (flat (spell x)) rest in
+    omega (arith, shows x)
+
+-- ---- in a box
+
+module _ {A : Type 0} (read : Whole A) where
+  end_same : (b : List ℕ) → whole (to_end read) b ≡ read b
+  end_same b = go (read b)
+    where
+      go : (r : Result A Fault) → whole (λ (c : List ℕ). r >>= λ x. Ok (x, [])) b ≡ r
+      go (Ok x) = refl
+      go (Err fault) = refl
+
+  pub box_to_end : (b : List ℕ) → box_at (whole (to_end read)) b ≡ box_at read b
+  unfolding box_at
+  box_to_end b = simp end_same
+
+-- readers that give the same
+pub same_gives : {X Y E : Type 0} (means : X → Y) (cause : E → Cause) (read other : Front Y) (s t : Source) (r : Result X E) → ((b : List ℕ) → read b ≡ other b) → Gives means cause read s r t → Gives means cause other s r t
+same_gives means cause read other s t (Ok x) same h = record { value = sym (same s.left) ∙ h.value; missing = h.missing; outer = h.outer }
+same_gives means cause read other s t (Err e) same h = λ memory. let g = h memory in record { met = g.met; is = sym (same s.left) ∙ g.is; same = g.same }

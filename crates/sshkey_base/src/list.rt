@@ -1,0 +1,129 @@
+//! Lists of values, all of them in one box.
+
+ghost use Rattle.std.specs.Prelude.{◌≡◌, ◌+◌, ◌<◌, ◌^◌, ℕ, List, IfOk};
+ghost use Rattle.sshkey_model.specs.Parts.{box, each};
+ghost use Rattle.sshkey_model.specs.Texts.{texts, texts_at};
+ghost use Rattle.sshkey_base.specs.Causes.{encoding_cause};
+ghost use Rattle.sshkey_base.specs.Nested.{nested_source};
+ghost use Rattle.sshkey_base.specs.Reading.{Gives, GivesToEnd, LengthPast};
+ghost use Rattle.sshkey_base.specs.Sink.{Encodes, Measures, MeasuresBoxed};
+ghost use Rattle.sshkey_base.specs.TextLists.{SpellsTexts, texts_of, text_list_at, texts_grammar, texts_normal};
+
+#[cfg(test)]
+mod tests;
+
+use crate::decode::Decode;
+use crate::encode::{Encode, u32_of};
+use crate::encoding::{Error, Result};
+use crate::normal_form::NormalForm;
+use crate::reader::{NestedReader, Reader};
+use crate::writer::Writer;
+use std::alloc::Global;
+
+/// How many bytes the values have, one behind the other. `Length` exactly where a box can't hold
+/// them, or a box in one of them is too long.
+fn each_len<T: Encode>(values: &[T]) -> Result<u32>
+    ensures { MeasuresBoxed (each T.normal values.now) result }
+{
+    let mut len = 0;
+    for value in values {
+        let total = value.encoded_len()?.saturating_add(len as usize);
+        len = u32_of(total)?;
+    }
+    Ok(len)
+}
+
+/// Writes the values, one behind the other.
+fn encode_each<T: Encode, W: Writer>(values: &[T], writer: &mut W) -> Result<()>
+    ensures { Encodes W.fault (each T.normal values.now) (W.sink writer.old) result (W.sink writer.new) }
+{
+    for value in values {
+        value.encode(writer)?;
+    }
+    Ok(())
+}
+
+/// How many bytes a list has: a length of four bytes, and the values, one behind the other.
+///
+/// `Length` exactly where the values pass 2^32 - 1 bytes, or a box in one of them does. Takes no
+/// memory.
+pub fn list_len<T: Encode>(values: &[T]) -> Result<usize>
+    ensures measures { Measures (box (each T.normal values.now)) result }
+    ensures short { IfOk result (λ n. n < 2 ^ 32 + 4) }
+{
+    let len = each_len(values)?;
+    Ok(4 + len as usize)
+}
+
+/// Writes a list: a length of four bytes, and the values, one behind the other.
+///
+/// The refusals are those of the values, and `Length` where they pass 2^32 - 1 bytes.
+pub fn encode_list<T: Encode, W: Writer>(values: &[T], writer: &mut W) -> Result<()>
+    ensures { Encodes W.fault (box (each T.normal values.now)) (W.sink writer.old) result (W.sink writer.new) }
+{
+    each_len(values)?.encode(writer)?;
+    encode_each(values, writer)
+}
+
+/// The texts up to the end of the reader.
+fn texts_from<R: Reader>(alloc: Global, reader: &mut R) -> Result<Vec<String>>
+    ensures { GivesToEnd texts_of encoding_cause text_list_at (R.source reader.old) result (R.source reader.new) }
+{
+    let mut texts = Vec::new(alloc);
+    'reads: while !reader.is_finished() {
+        texts.push(String::decode(alloc, reader)?)?;
+    }
+    Ok(texts)
+}
+
+/// A list of texts in one string (RFC 4251, section 5; so a certificate holds its principals,
+/// PROTOCOL.certkeys): a length of four bytes, and strings up to the end of that part.
+///
+/// A length that passes what is left is `Length`, and no memory is asked for it; so is the length
+/// of a text that passes the list. A text that is not UTF-8 is `CharacterEncoding`.
+#[tactic(auto, using(crate::proofs::Boxes::boxes))]
+impl Decode for Vec<String> {
+    type Error = Error;
+
+    ghost Meaning = { List (List ℕ) };
+
+    ghost means = { texts_of };
+
+    ghost parse = { texts_at };
+
+    ghost Spells = { SpellsTexts };
+
+    ghost grammar = { texts_grammar };
+
+    fn decode<R: Reader>(alloc: Global, reader: &mut R) -> Result<Vec<String>>
+        ensures gives { Gives texts_of encoding_cause texts_at (R.source reader.old) result (R.source reader.new) }
+        ensures past { LengthPast encoding_cause (R.source reader.old) result }
+    {
+        reader.read_prefixed(
+            |part: &mut NestedReader<'_, R>| -> Result<Vec<String>>
+                ensures { GivesToEnd texts_of encoding_cause text_list_at (nested_source R.source part.old) result (nested_source R.source part.new) }
+            { texts_from(alloc, part) },
+        )
+    }
+}
+
+/// A list of texts in one box.
+impl Encode for Vec<String> {
+    ghost normal = { λ v. texts (texts_of v) };
+
+    ghost most = { 2 ^ 32 + 3 };
+
+    fn encoded_len(&self) -> Result<usize> {
+        list_len(self)
+    }
+
+    fn encode<W: Writer>(&self, writer: &mut W) -> Result<()> {
+        encode_list(self, writer)
+    }
+}
+
+impl NormalForm for Vec<String> {
+    ghost IsWellFormed = { λ _. Unit {0} };
+
+    ghost normal_spells = { texts_normal };
+}
