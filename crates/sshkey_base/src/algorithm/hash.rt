@@ -1,6 +1,7 @@
 //! Hashes of messages and keys.
 
 ghost use Rattle.std.specs.Prelude.{◌≡◌, IfOk, IfErr, Some, length};
+ghost use Rattle.sshkey_model.specs.Fingerprints.{digest as digest_of};
 ghost use Rattle.sshkey_model.specs.Names.{Hash, hash_name, hash_from};
 ghost use Rattle.sshkey_model.specs.Reading as fault;
 ghost use Rattle.sshkey_base.specs.Causes.{Faulty, cause};
@@ -9,7 +10,7 @@ ghost use Rattle.sshkey_base.specs.Labels.{LooksUp, LooksUpAlways};
 ghost use Rattle.sshkey_base.specs.LabelLaws.{hash_checks, hash_ascii, hash_refusals};
 ghost use Rattle.sshkey_base.specs.Names.{hash_of};
 ghost use Rattle.sshkey_base.specs.Naming.{NamesAlways};
-ghost use Rattle.sshkey_base.specs.Digests.{digest_of, digest_len};
+ghost use Rattle.sshkey_base.specs.Digests.{digest_len};
 
 use crate::encoding;
 use crate::error::{Error, Result};
