@@ -88,11 +88,23 @@ impl fmt::Display for Field {
 #[cfg(test)]
 mod tests {
     use super::Field;
-    use std::test::Fail;
+    use crate::tests::answers::shows;
+    use std::alloc::Global;
+
+    // The field has that text, and so has the error that says that it is invalid.
+    fn is_named(alloc: Global, field: Field, text: &str) -> bool {
+        match format!(in alloc; "certificate field invalid: {text}") {
+            Ok(error) => {
+                field.as_str() == text
+                    && shows(alloc, &field, text)
+                    && shows(alloc, &field.invalid_error(), &error)
+            }
+            Err(_) => false,
+        }
+    }
 
     #[test]
-    fn texts(rt: HostRuntime) -> Result<(), Fail> {
-        let alloc = rt.alloc();
+    fn texts(rt: HostRuntime) {
         for (field, text) in [
             (Field::PublicKey, "public key"),
             (Field::Nonce, "nonce"),
@@ -108,11 +120,7 @@ mod tests {
             (Field::Signature, "signature"),
             (Field::Comment, "comment"),
         ] {
-            assert_eq!(rt; field.as_str(), text);
-            assert_eq!(rt; field.to_string(alloc)?.as_str(), text);
-            let error = format!(in alloc; "certificate field invalid: {text}")?;
-            assert_eq!(rt; field.invalid_error().to_string(alloc)?, error);
+            assert!(rt; is_named(rt.alloc(), field, text), "{text}");
         }
-        Ok(())
     }
 }

@@ -1,7 +1,7 @@
 //! The numbers of RFC 4251, section 5, and those at the edges of the form.
 
 use super::*;
-use std::test::Fail;
+use crate::tests::answers::{appends, faults, gives, shows};
 
 /// A number, and its bytes.
 const NUMBERS: [(&str, &[u8]); 5] = [
@@ -12,15 +12,24 @@ const NUMBERS: [(&str, &[u8]); 5] = [
     ("FF21524111", b"\xff\x21\x52\x41\x11"),
 ];
 
-#[test]
-fn takes_the_bytes_of_numbers(rt: HostRuntime) -> std::result::Result<(), Fail> {
-    for (text, bytes) in NUMBERS {
-        let number = Mpint::from_bytes(rt.alloc(), bytes)?;
-        assert_eq!(rt; number.as_bytes(), bytes, "{text}");
-        assert_eq!(rt; number.as_slice(), bytes, "{text}");
-        assert!(rt; number == number.try_clone(rt.alloc())?, "{text}");
+/// The bytes are a number, which has that text.
+fn is_number(alloc: Global, text: &str, bytes: &[u8]) -> bool {
+    match Mpint::from_bytes(alloc, bytes) {
+        Ok(number) => {
+            number.as_bytes() == bytes
+                && number.as_slice() == bytes
+                && shows(alloc, &number, text)
+                && gives(number.try_clone(alloc), &number)
+        }
+        Err(_) => false,
     }
-    Ok(())
+}
+
+#[test]
+fn takes_the_bytes_of_numbers(rt: HostRuntime) {
+    for (text, bytes) in NUMBERS {
+        assert!(rt; is_number(rt.alloc(), text, bytes), "{text}");
+    }
 }
 
 /// A number between its two hexadecimal forms.
@@ -36,18 +45,11 @@ impl fmt::Display for Forms<'_> {
 }
 
 #[test]
-fn prints_hexadecimal(rt: HostRuntime) -> std::result::Result<(), Fail> {
-    for (text, bytes) in NUMBERS {
-        let number = Mpint::from_bytes(rt.alloc(), bytes)?;
-        assert_eq!(rt; format!(in rt.alloc(); "{number}")?.as_str(), text);
+fn prints_hexadecimal(rt: HostRuntime) {
+    match Mpint::from_bytes(rt.alloc(), b"\xed\xcc") {
+        Ok(number) => assert!(rt; shows(rt.alloc(), &Forms(&number), "EDCC EDCC edcc")),
+        Err(_) => panic!(rt; "edcc is a number"),
     }
-    let number = Mpint::from_bytes(rt.alloc(), b"\xed\xcc")?;
-    let forms = Forms(&number);
-    assert_eq!(rt;
-        format!(in rt.alloc(); "{forms}")?.as_str(),
-        "EDCC EDCC edcc"
-    );
-    Ok(())
 }
 
 #[test]
@@ -55,12 +57,19 @@ fn refuses_a_needless_zero(rt: HostRuntime) {
     let needless: [&[u8]; 4] = [b"\x00", b"\x00\x00", b"\x00\x01", b"\x00\x7f\xff"];
     for bytes in needless {
         let answer = Mpint::from_bytes(rt.alloc(), bytes);
-        assert!(rt; matches!(answer, Err(Error::FormatEncoding)), "{bytes:?}");
+        assert!(rt; faults(answer, Error::FormatEncoding), "{bytes:?}");
+    }
+}
+
+fn has_positive_part(alloc: Global, bytes: &[u8], part: Option<&[u8]>) -> bool {
+    match Mpint::from_bytes(alloc, bytes) {
+        Ok(number) => number.as_positive_bytes() == part,
+        Err(_) => false,
     }
 }
 
 #[test]
-fn knows_the_positive_part(rt: HostRuntime) -> std::result::Result<(), Fail> {
+fn knows_the_positive_part(rt: HostRuntime) {
     let parts: [(&[u8], Option<&[u8]>); 5] = [
         (b"", None),
         (b"\x00\x80", Some(b"\x80")),
@@ -69,14 +78,19 @@ fn knows_the_positive_part(rt: HostRuntime) -> std::result::Result<(), Fail> {
         (b"\xff\x21\x52\x41\x11", None),
     ];
     for (bytes, part) in parts {
-        let number = Mpint::from_bytes(rt.alloc(), bytes)?;
-        assert!(rt; number.as_positive_bytes() == part, "{bytes:?}");
+        assert!(rt; has_positive_part(rt.alloc(), bytes, part), "{bytes:?}");
     }
-    Ok(())
+}
+
+fn is_made_of(alloc: Global, bytes: &[u8], number: &[u8]) -> bool {
+    match Mpint::from_positive_bytes(alloc, bytes) {
+        Ok(made) => made.as_bytes() == number,
+        Err(_) => false,
+    }
 }
 
 #[test]
-fn makes_positive_numbers(rt: HostRuntime) -> std::result::Result<(), Fail> {
+fn makes_positive_numbers(rt: HostRuntime) {
     let made: [(&[u8], &[u8]); 6] = [
         (b"\x00", b""),
         (b"\x00\x00", b""),
@@ -86,14 +100,21 @@ fn makes_positive_numbers(rt: HostRuntime) -> std::result::Result<(), Fail> {
         (b"\x7f\x00", b"\x7f\x00"),
     ];
     for (bytes, number) in made {
-        let answer = Mpint::from_positive_bytes(rt.alloc(), bytes)?;
-        assert_eq!(rt; answer.as_bytes(), number, "{bytes:?}");
+        assert!(rt; is_made_of(rt.alloc(), bytes, number), "{bytes:?}");
     }
-    Ok(())
+}
+
+/// The string is read as a number, which is written as that string.
+fn is_read_and_written(alloc: Global, string: &[u8]) -> bool {
+    let mut left = string;
+    match Mpint::decode(alloc, &mut left) {
+        Ok(number) => left.is_empty() && appends(alloc, &number, string),
+        Err(_) => false,
+    }
 }
 
 #[test]
-fn reads_and_writes_strings(rt: HostRuntime) -> std::result::Result<(), Fail> {
+fn reads_and_writes_strings(rt: HostRuntime) {
     let written: [&[u8]; 5] = [
         b"\0\0\0\0",
         b"\0\0\0\x08\x09\xa3\x78\xf9\xb2\xe3\x32\xa7",
@@ -101,28 +122,25 @@ fn reads_and_writes_strings(rt: HostRuntime) -> std::result::Result<(), Fail> {
         b"\0\0\0\x02\xed\xcc",
         b"\0\0\0\x05\xff\x21\x52\x41\x11",
     ];
-    for bytes in written {
-        let mut reader = bytes;
-        let number = Mpint::decode(rt.alloc(), &mut reader)?;
-        assert!(rt; reader.is_empty(), "{bytes:?}");
-        assert_eq!(rt; number.encoded_len()?, bytes.len());
-        let mut writer = Vec::new(rt.alloc());
-        number.encode(&mut writer)?;
-        assert_eq!(rt; writer.as_slice(), bytes);
+    for string in written {
+        assert!(rt; is_read_and_written(rt.alloc(), string), "{string:?}");
     }
     let refused = Mpint::decode(rt.alloc(), &mut &b"\0\0\0\x01\0"[..]);
-    assert!(rt; matches!(refused, Err(Error::FormatEncoding)));
-    Ok(())
+    assert!(rt; faults(refused, Error::FormatEncoding));
+}
+
+/// Of two numbers of these bytes the first is less than the second.
+fn is_less(alloc: Global, first: &[u8], second: &[u8]) -> Result<bool> {
+    let first = Mpint::from_bytes(alloc, first)?;
+    let second = Mpint::from_bytes(alloc, second)?;
+    Ok(first < second && first != second)
 }
 
 #[test]
-fn orders_by_bytes(rt: HostRuntime) -> std::result::Result<(), Fail> {
+fn orders_by_bytes(rt: HostRuntime) {
     let rising: [&[u8]; 5] = [b"", b"\x00\x80", b"\x01\x02", b"\x02", b"\x02\x00"];
     for i in 1..rising.len() {
-        let before = Mpint::from_bytes(rt.alloc(), rising[i - 1])?;
-        let after = Mpint::from_bytes(rt.alloc(), rising[i])?;
-        assert!(rt; before < after, "{before} and {after}");
-        assert!(rt; before != after, "{before} and {after}");
+        let answer = is_less(rt.alloc(), rising[i - 1], rising[i]);
+        assert!(rt; gives(answer, &true), "{i}");
     }
-    Ok(())
 }

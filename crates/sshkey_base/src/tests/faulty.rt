@@ -58,45 +58,38 @@ fn a_fault_is_never_accepted_whole(rt: HostRuntime) {
             assert!(rt; decode_whole::<Bytes, _>(rt.alloc(), source).is_err());
         }
     }
+}
+
+#[test]
+fn a_fault_behind_the_whole(rt: HostRuntime) {
     // all of the name is there, and more is announced
-    assert_eq!(rt;
-        decode_whole::<Algorithm, _>(rt.alloc(), cut_short(&NAME, 15, 2)),
-        Err(Error::TrailingData { remaining: 2 })
-    );
-    assert_eq!(rt;
-        decode_whole::<Algorithm, _>(rt.alloc(), cut_short(&NAME, 15, 0)),
-        Ok(Algorithm::Ed25519)
-    );
+    let more = decode_whole::<Algorithm, _>(rt.alloc(), cut_short(&NAME, 15, 2));
+    assert!(rt; faults(more, Error::TrailingData { remaining: 2 }));
+    let whole = decode_whole::<Algorithm, _>(rt.alloc(), cut_short(&NAME, 15, 0));
+    assert!(rt; gives(whole, &Algorithm::Ed25519));
+}
+
+/// The fault of a string that is cut short.
+fn fault_of_string(alloc: Global, len: u8, missing: u8) -> Option<Error> {
+    Bytes::decode(alloc, &mut cut_short(&NAME, len, missing)).err()
 }
 
 #[test]
 fn a_front_before_a_fault(rt: HostRuntime) {
-    for len in 0..16u8 {
-        let mut source = cut_short(&NAME, len, 20);
-        match Bytes::decode(rt.alloc(), &mut source) {
-            Ok(name) => {
-                assert_eq!(rt; len, 15);
-                assert_eq!(rt; name.as_slice(), b"ssh-ed25519".as_slice());
-                assert_eq!(rt; source.remaining_len(), 20);
-                assert!(rt; !source.is_finished());
-            }
-            Err(error) => {
-                assert!(rt; len < 15);
-                assert_eq!(rt; error, Error::Base64);
-            }
-        }
+    for len in 0..15u8 {
+        assert!(rt; fault_of_string(rt.alloc(), len, 20) == Some(Error::Base64));
     }
     // a length past what was announced is `Length`, whatever is missing
-    assert!(rt;
-        matches!(
-            Bytes::decode(rt.alloc(), &mut cut_short(&NAME, 14, 0)),
-            Err(Error::Length)
-        )
-    );
-    assert!(rt;
-        matches!(
-            Bytes::decode(rt.alloc(), &mut cut_short(&NAME, 10, 4)),
-            Err(Error::Length)
-        )
-    );
+    assert!(rt; fault_of_string(rt.alloc(), 14, 0) == Some(Error::Length));
+    assert!(rt; fault_of_string(rt.alloc(), 10, 4) == Some(Error::Length));
+}
+
+#[test]
+fn a_fault_behind_the_front(rt: HostRuntime) {
+    let mut source = cut_short(&NAME, 15, 20);
+    match Bytes::decode(rt.alloc(), &mut source) {
+        Ok(name) => assert!(rt; name.as_slice() == b"ssh-ed25519".as_slice()),
+        Err(_) => panic!(rt; "the name is there"),
+    }
+    assert!(rt; source.remaining_len() == 20 && !source.is_finished());
 }

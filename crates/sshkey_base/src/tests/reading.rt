@@ -21,9 +21,14 @@ fn strings(rt: HostRuntime) -> Result<(), Fail> {
     assert!(rt; reads(alloc, &TESTING, &text, 0));
     assert!(rt; reads(alloc, &TESTING, &text.into_vec(), 0));
     assert!(rt; reads(alloc, &TESTING, b"testing", 0));
+    Ok(())
+}
+
+#[test]
+fn arrays_of_another_length(rt: HostRuntime) {
+    let alloc = rt.alloc();
     assert!(rt; refuses::<[u8; 8]>(alloc, &TESTING, Error::Length));
     assert!(rt; refuses::<[u8; 5]>(alloc, &TESTING, Error::TrailingData { remaining: 2 }));
-    Ok(())
 }
 
 #[test]
@@ -45,25 +50,27 @@ fn names_in_bytes(rt: HostRuntime) {
     assert!(rt; refuses::<Algorithm>(alloc, &[0, 0, 0, 2, 0xc3, 0x28], Error::Label));
 }
 
+/// The name, and a byte behind it.
+const LONGER: [u8; 16] = [
+    0, 0, 0, 11, b's', b's', b'h', b'-', b'e', b'd', b'2', b'5', b'5', b'1', b'9', 0,
+];
+
 #[test]
 fn whole_inputs(rt: HostRuntime) {
-    let alloc = rt.alloc();
-    let longer = [
-        0u8, 0, 0, 11, b's', b's', b'h', b'-', b'e', b'd', b'2', b'5', b'5', b'1', b'9', 0,
-    ];
-    assert_eq!(rt;
-        decode_whole(alloc, NAME.as_slice()),
-        Ok(Algorithm::Ed25519)
-    );
-    assert_eq!(rt;
-        decode_whole::<Algorithm, _>(alloc, longer.as_slice()),
-        Err(Error::TrailingData { remaining: 1 })
-    );
-    let mut front = longer.as_slice();
-    assert_eq!(rt; decode_front(alloc, &mut front), Ok(Algorithm::Ed25519));
+    let whole = decode_whole::<Algorithm, _>(rt.alloc(), NAME.as_slice());
+    assert!(rt; gives(whole, &Algorithm::Ed25519));
+    let longer = decode_whole::<Algorithm, _>(rt.alloc(), LONGER.as_slice());
+    assert!(rt; faults(longer, Error::TrailingData { remaining: 1 }));
+}
+
+#[test]
+fn fronts(rt: HostRuntime) {
+    let mut front = LONGER.as_slice();
+    let name = decode_front::<Algorithm, _>(rt.alloc(), &mut front);
+    assert!(rt; gives(name, &Algorithm::Ed25519));
     assert!(rt; front.remaining_len() == 1 && !front.is_finished());
-    assert_eq!(rt; front.finish(4), Err(Error::TrailingData { remaining: 1 }));
-    assert_eq!(rt; TESTING[11..].finish(4), Ok(4));
+    assert!(rt; front.finish(4) == Err(Error::TrailingData { remaining: 1 }));
+    assert!(rt; TESTING[11..].finish(4) == Ok(4));
 }
 
 /// A number in a box at the front, and how many bytes are left behind it.
@@ -76,15 +83,12 @@ fn boxed(alloc: Global, bytes: &[u8]) -> Result<(u32, usize), Error> {
 #[test]
 fn parts(rt: HostRuntime) {
     let alloc = rt.alloc();
-    assert_eq!(rt; boxed(alloc, &[0, 0, 0, 4, 0, 0, 1, 0, 9]), Ok((256, 1)));
-    let longer = [0, 0, 0, 6, 0, 0, 1, 0, 9, 9];
-    assert_eq!(rt;
-        boxed(alloc, &longer),
-        Err(Error::TrailingData { remaining: 2 })
-    );
-    assert_eq!(rt; boxed(alloc, &[0, 0, 0, 4, 0, 0, 1]), Err(Error::Length));
+    assert!(rt; boxed(alloc, &[0, 0, 0, 4, 0, 0, 1, 0, 9]) == Ok((256, 1)));
+    let longer = boxed(alloc, &[0, 0, 0, 6, 0, 0, 1, 0, 9, 9]);
+    assert!(rt; longer == Err(Error::TrailingData { remaining: 2 }));
+    assert!(rt; boxed(alloc, &[0, 0, 0, 4, 0, 0, 1]) == Err(Error::Length));
     // what is behind the part is not read
-    assert_eq!(rt; boxed(alloc, &[0, 0, 0, 3, 0, 0, 1, 0]), Err(Error::Length));
+    assert!(rt; boxed(alloc, &[0, 0, 0, 3, 0, 0, 1, 0]) == Err(Error::Length));
 }
 
 /// The bytes of a part of two, by a closure of two reads.
@@ -95,15 +99,11 @@ fn pair(alloc: Global, bytes: &[u8]) -> Result<(u8, u8), Error> {
 
 #[test]
 fn a_closure_over_a_part(rt: HostRuntime) {
-    assert_eq!(rt; pair(rt.alloc(), &[0, 0, 0, 2, 5, 6, 7]), Ok((5, 6)));
-    assert_eq!(rt;
-        pair(rt.alloc(), &[0, 0, 0, 1, 5, 6, 7]),
-        Err(Error::Length)
-    );
-    assert_eq!(rt;
-        pair(rt.alloc(), &[0, 0, 0, 3, 5, 6, 7]),
-        Err(Error::TrailingData { remaining: 1 })
-    );
+    let alloc = rt.alloc();
+    assert!(rt; pair(alloc, &[0, 0, 0, 2, 5, 6, 7]) == Ok((5, 6)));
+    assert!(rt; pair(alloc, &[0, 0, 0, 1, 5, 6, 7]) == Err(Error::Length));
+    let longer = pair(alloc, &[0, 0, 0, 3, 5, 6, 7]);
+    assert!(rt; longer == Err(Error::TrailingData { remaining: 1 }));
 }
 
 #[test]

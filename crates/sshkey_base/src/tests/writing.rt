@@ -19,29 +19,38 @@ fn strings_written(rt: HostRuntime) -> Result<(), Fail> {
     assert!(rt; writes(&text.into_vec(), &TESTING));
     assert!(rt; writes(b"testing", &TESTING));
     assert!(rt; writes(&Algorithm::Ed25519, &NAME));
-    assert_eq!(rt; string_len(b"testing"), Ok(11));
+    assert!(rt; string_len(b"testing") == Ok(11));
     Ok(())
 }
 
-#[test]
-fn into_a_vector(rt: HostRuntime) -> Result<(), Fail> {
-    let mut bytes = encode_vec(rt.alloc(), &Algorithm::Ed25519)?;
-    assert_eq!(rt; bytes.as_slice(), NAME.as_slice());
+/// The bytes of the name, and two more.
+fn name_and_more(alloc: Global) -> Result<Vec<u8>, Error> {
+    let mut bytes = encode_vec(alloc, &Algorithm::Ed25519)?;
     bytes.write(&[1, 2])?;
-    assert!(rt; reads(rt.alloc(), &bytes, &Algorithm::Ed25519, 2));
-    Ok(())
+    Ok(bytes)
+}
+
+#[test]
+fn into_a_vector(rt: HostRuntime) {
+    match name_and_more(rt.alloc()) {
+        Ok(bytes) => {
+            assert!(rt; bytes.len() == 17 && bytes.starts_with(&NAME) && bytes.ends_with(&[1, 2]));
+            assert!(rt; reads(rt.alloc(), &bytes, &Algorithm::Ed25519, 2));
+        }
+        Err(_) => panic!(rt; "out of memory"),
+    }
 }
 
 #[test]
 fn prefixed(rt: HostRuntime) {
     let mut room = [0u8; 20];
     let mut writer = SliceWriter::new(&mut room);
-    assert_eq!(rt; 256u32.encoded_len_prefixed(), Ok(8));
-    assert_eq!(rt; 256u32.encode_prefixed(&mut writer), Ok(()));
-    assert_eq!(rt; encode_both(&513u32, &9u8, &mut writer), Ok(()));
-    assert_eq!(rt; encode_string(&[4, 5], &mut writer), Ok(()));
+    assert!(rt; 256u32.encoded_len_prefixed() == Ok(8));
+    assert!(rt; 256u32.encode_prefixed(&mut writer).is_ok());
+    assert!(rt; encode_both(&513u32, &9u8, &mut writer).is_ok());
+    assert!(rt; encode_string(&[4, 5], &mut writer).is_ok());
     let bytes = [0u8, 0, 0, 4, 0, 0, 1, 0, 0, 0, 2, 1, 9, 0, 0, 0, 2, 4, 5];
-    assert_eq!(rt; writer.written(), bytes.as_slice());
+    assert!(rt; writer.written() == bytes.as_slice());
 }
 
 /// What stands in a slice of this length after the string `testing` was written to it.
@@ -61,5 +70,5 @@ fn a_slice_of_each_length(rt: HostRuntime) {
         let (result, _, is_beginning) = written_into(len);
         assert!(rt; result == Err(Error::Length) && is_beginning);
     }
-    assert_eq!(rt; written_into(11), (Ok(()), 11, true));
+    assert!(rt; written_into(11) == (Ok(()), 11, true));
 }
