@@ -15,6 +15,7 @@ pub mod MpintSpelling
 pub mod Texts
 pub mod TextLists
 pub mod MpintNormal
+pub mod ByteHash
 pub mod Equality
 pub mod Names
 pub mod Kinds

@@ -5,6 +5,7 @@ ghost use Rattle.std.specs.Fmt.{WritesOnOk};
 ghost use Rattle.hex.specs.Hex.{encode_lower, encode_upper};
 ghost use Rattle.sshkey_model.specs.Mpints.{IsMpint, is_mpint, of_positive};
 
+mod hash;
 #[cfg(test)]
 mod tests;
 

@@ -1,6 +1,6 @@
 //! Texts.
 
-ghost use Rattle.std.specs.Prelude.{◌≡◌, ℕ, ◌+◌, ◌^◌, List, string_bytes};
+ghost use Rattle.std.specs.Prelude.{◌≡◌, ℕ, ◌+◌, ◌^◌, List, IfOk, IfErr, string_bytes};
 ghost use Rattle.sshkey_model.specs.Texts.{string, text_from};
 ghost use Rattle.sshkey_base.specs.Answering.{AnswersAlways};
 ghost use Rattle.sshkey_base.specs.Causes.{encoding_cause};
@@ -36,6 +36,16 @@ impl Text {
         ensures { result ≡ string_bytes text }
     {
         Text { text }
+    }
+
+    /// A copy. Refused only for want of memory.
+    pub fn try_clone(&self, alloc: Global) -> Result<Text>
+        ensures copy { IfOk result (λ t. t ≡ self.now) }
+        ensures memory { IfErr result (λ e. e ≡ Error.Memory) }
+    {
+        Ok(Text {
+            text: String::from_str(alloc, self.as_str())?,
+        })
     }
 
     /// The text.

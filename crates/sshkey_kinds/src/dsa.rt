@@ -1,6 +1,7 @@
 //! DSA public keys.
 
-ghost use Rattle.std.specs.Prelude.{ℕ, ◌+◌, ◌*◌, ◌^◌};
+ghost use Rattle.std.specs.Prelude.{◌≡◌, ℕ, IfOk, IfErr, ◌+◌, ◌*◌, ◌^◌};
+ghost use Rattle.sshkey_base.specs.declared.error.Error.TheVariants as wide;
 ghost use Rattle.sshkey_model.specs.Keys.{Key, body};
 ghost use Rattle.sshkey_kinds.specs.Bodies.{SpellsDsa, dsa_at, dsa_grammar};
 
@@ -8,7 +9,9 @@ use sshkey_base::{Decode, Encode, Error, Mpint, Reader, Result, Writer, encoding
 use std::alloc::Global;
 
 /// A DSA public key (RFC 4253, section 6.6).
-#[derive(Debug, Drop, PartialEq, Eq)]
+///
+/// Keys are ordered by p, then by q, g and y, each by its bytes.
+#[derive(Debug, Drop, PartialEq, Eq, PartialOrd, Ord, Hash)]
 pub struct DsaPublicKey {
     /// The prime.
     pub p: Mpint,
@@ -18,6 +21,23 @@ pub struct DsaPublicKey {
     pub g: Mpint,
     /// The public value.
     pub y: Mpint,
+}
+
+impl DsaPublicKey {
+    ghost use Rattle.sshkey_kinds.specs.Kinds.{dsa_of};
+
+    /// The same key in memory of its own. Refuses only with `Memory`.
+    pub fn try_clone(&self, alloc: Global) -> Result<DsaPublicKey>
+        ensures value { IfOk result (λ k. dsa_of k ≡ dsa_of self.now) }
+        ensures refused { IfErr result (λ e. e ≡ wide.Memory) }
+    {
+        Ok(DsaPublicKey {
+            p: self.p.try_clone(alloc)?,
+            q: self.q.try_clone(alloc)?,
+            g: self.g.try_clone(alloc)?,
+            y: self.y.try_clone(alloc)?,
+        })
+    }
 }
 
 /// The four numbers p, q, g and y, each as a string.

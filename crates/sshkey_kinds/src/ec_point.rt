@@ -159,11 +159,11 @@ impl<const LEN: usize> PartialOrd for EcPoint<LEN> {
 impl<const LEN: usize> Hash for EcPoint<LEN> {
     ghost use Rattle.std.specs.Hash as fed;
     ghost use Rattle.sshkey_kinds.specs.PointWords.{point_of};
-    ghost use Rattle.sshkey_kinds.specs.PointHash.{same_hash};
+    ghost use Rattle.sshkey_base.specs.ByteHash.{same_hash};
 
     ghost hash_input = { λ p. fed.slice fed.u8 (point_of p) };
 
-    ghost respects_eq = { same_hash };
+    ghost respects_eq = { same_hash point_of };
 
     /// Feeds the bytes.
     fn hash<H: Hasher>(&self, state: &mut H) {

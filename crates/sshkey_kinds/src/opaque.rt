@@ -1,12 +1,15 @@
 //! Public keys under names of somebody's own.
 
-ghost use Rattle.std.specs.Prelude.{◌≡◌, ℕ, List, ◌+◌, ◌^◌};
+ghost use Rattle.std.specs.Prelude.{◌≡◌, ℕ, List, IfOk, IfErr, ◌+◌, ◌^◌};
 ghost use Rattle.sshkey_base.specs.Leaves.{SpellsString, string_grammar};
+ghost use Rattle.sshkey_base.specs.declared.error.Error.TheVariants as wide;
 ghost use Rattle.sshkey_base.specs.Readers.{string_at};
 ghost use Rattle.sshkey_model.specs.Keys.{body};
 ghost use Rattle.sshkey_model.specs.Texts.{string};
 
-use sshkey_base::{Algorithm, Bytes, Decode, Encode, Reader, Writer, encoding};
+mod compare;
+
+use sshkey_base::{Algorithm, Bytes, Decode, Encode, Reader, Result, Writer, encoding};
 use std::alloc::Global;
 use std::marker::Model;
 
@@ -29,26 +32,16 @@ impl OpaquePublicKeyBytes {
     {
         self.bytes.as_slice()
     }
-}
 
-impl PartialEq for OpaquePublicKeyBytes {
-    ghost use Rattle.std.specs.Prelude.{nat_eq};
-    ghost use Rattle.std.specs.Cmp.{partial_equiv_from_equiv};
-    ghost use Rattle.std.specs.Cmp.Lexicographic.{nat_list_eq_equiv, pointwise};
-
-    ghost eq = { pointwise nat_eq };
-
-    ghost laws = { partial_equiv_from_equiv nat_list_eq_equiv };
-
-    fn eq(&self, other: &OpaquePublicKeyBytes) -> bool {
-        self.bytes == other.bytes
+    /// The same bytes in memory of their own. Refuses only with `Memory`.
+    pub fn try_clone(&self, alloc: Global) -> Result<OpaquePublicKeyBytes>
+        ensures value { IfOk result (λ k. k ≡ self.now) }
+        ensures refused { IfErr result (λ e. e ≡ wide.Memory) }
+    {
+        Ok(OpaquePublicKeyBytes {
+            bytes: self.bytes.try_clone(alloc)?,
+        })
     }
-}
-
-impl Eq for OpaquePublicKeyBytes {
-    ghost use Rattle.std.specs.Cmp.Lexicographic.{nat_list_eq_equiv};
-
-    ghost laws = { nat_list_eq_equiv };
 }
 
 /// A string of any bytes.
@@ -88,7 +81,7 @@ impl Encode for OpaquePublicKeyBytes {
 }
 
 /// A key under a name of somebody's own (RFC 4251, section 6).
-#[derive(Debug, Drop, PartialEq, Eq)]
+#[derive(Debug, Drop, PartialEq, Eq, PartialOrd, Ord, Hash)]
 pub struct OpaquePublicKey {
     /// The algorithm, whose name stands before the key.
     pub algorithm: Algorithm,
@@ -112,6 +105,17 @@ impl OpaquePublicKey {
                 bytes: Bytes::new(key),
             },
         }
+    }
+
+    /// The same key in memory of its own. Refuses only with `Memory`.
+    pub fn try_clone(&self, alloc: Global) -> Result<OpaquePublicKey>
+        ensures value { IfOk result (λ k. opaque_of k ≡ opaque_of self.now) }
+        ensures refused { IfErr result (λ e. e ≡ wide.Memory) }
+    {
+        Ok(OpaquePublicKey {
+            algorithm: self.algorithm.try_clone(alloc)?,
+            key: self.key.try_clone(alloc)?,
+        })
     }
 
     /// The algorithm.

@@ -1,6 +1,7 @@
 //! RSA public keys.
 
-ghost use Rattle.std.specs.Prelude.{ℕ, ◌+◌, ◌*◌, ◌^◌};
+ghost use Rattle.std.specs.Prelude.{◌≡◌, ℕ, IfOk, IfErr, ◌+◌, ◌*◌, ◌^◌};
+ghost use Rattle.sshkey_base.specs.declared.error.Error.TheVariants as wide;
 ghost use Rattle.sshkey_model.specs.Keys.{Key, body};
 ghost use Rattle.sshkey_kinds.specs.Bodies.{SpellsRsa, rsa_at, rsa_grammar};
 
@@ -8,12 +9,29 @@ use sshkey_base::{Decode, Encode, Error, Mpint, Reader, Result, Writer, encoding
 use std::alloc::Global;
 
 /// An RSA public key (RFC 4253, section 6.6).
-#[derive(Debug, Drop, PartialEq, Eq)]
+///
+/// Keys are ordered by e and then by n, each by its bytes.
+#[derive(Debug, Drop, PartialEq, Eq, PartialOrd, Ord, Hash)]
 pub struct RsaPublicKey {
     /// The public exponent.
     pub e: Mpint,
     /// The modulus.
     pub n: Mpint,
+}
+
+impl RsaPublicKey {
+    ghost use Rattle.sshkey_kinds.specs.Kinds.{rsa_of};
+
+    /// The same key in memory of its own. Refuses only with `Memory`.
+    pub fn try_clone(&self, alloc: Global) -> Result<RsaPublicKey>
+        ensures value { IfOk result (λ k. rsa_of k ≡ rsa_of self.now) }
+        ensures refused { IfErr result (λ e. e ≡ wide.Memory) }
+    {
+        Ok(RsaPublicKey {
+            e: self.e.try_clone(alloc)?,
+            n: self.n.try_clone(alloc)?,
+        })
+    }
 }
 
 /// The two numbers, e and then n, each as a string.

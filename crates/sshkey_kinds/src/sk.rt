@@ -23,7 +23,7 @@ const DEFAULT_APPLICATION: &str = "ssh:";
 
 /// A P-256 public key that a security key holds, and the application that it is for (OpenSSH,
 /// PROTOCOL.u2f).
-#[derive(Debug, Drop, PartialEq, Eq)]
+#[derive(Debug, Drop, PartialEq, Eq, PartialOrd, Ord, Hash)]
 pub struct SkEcdsaSha2NistP256 {
     ec_point: EcdsaNistP256PublicKey,
     application: Text,
@@ -52,6 +52,17 @@ impl SkEcdsaSha2NistP256 {
     {
         let application = String::from_str(alloc, DEFAULT_APPLICATION)?;
         Ok(SkEcdsaSha2NistP256::new(ec_point, application))
+    }
+
+    /// The same key in memory of its own. Refuses only with `Memory`.
+    pub fn try_clone(&self, alloc: Global) -> Result<SkEcdsaSha2NistP256>
+        ensures value { IfOk result (λ k. sk_ecdsa_of k ≡ sk_ecdsa_of self.now) }
+        ensures refused { IfErr result (λ e. e ≡ wide.Memory) }
+    {
+        Ok(SkEcdsaSha2NistP256 {
+            ec_point: self.ec_point,
+            application: self.application.try_clone(alloc)?,
+        })
     }
 
     /// The point.
@@ -148,7 +159,7 @@ impl Encode for SkEcdsaSha2NistP256 {
 
 /// An Ed25519 public key that a security key holds, and the application that it is for
 /// (OpenSSH, PROTOCOL.u2f).
-#[derive(Debug, Drop, PartialEq, Eq)]
+#[derive(Debug, Drop, PartialEq, Eq, PartialOrd, Ord, Hash)]
 pub struct SkEd25519 {
     public_key: Ed25519PublicKey,
     application: Text,
@@ -177,6 +188,17 @@ impl SkEd25519 {
     {
         let application = String::from_str(alloc, DEFAULT_APPLICATION)?;
         Ok(SkEd25519::new(public_key, application))
+    }
+
+    /// The same key in memory of its own. Refuses only with `Memory`.
+    pub fn try_clone(&self, alloc: Global) -> Result<SkEd25519>
+        ensures value { IfOk result (λ k. sk_ed25519_of k ≡ sk_ed25519_of self.now) }
+        ensures refused { IfErr result (λ e. e ≡ wide.Memory) }
+    {
+        Ok(SkEd25519 {
+            public_key: self.public_key,
+            application: self.application.try_clone(alloc)?,
+        })
     }
 
     /// The key without its application.
