@@ -4,3 +4,4 @@ pub mod EcdsaWords
 pub mod EcdsaEquality
 pub mod Kinds
 pub mod Bodies
+pub mod Ed25519Bytes

@@ -1,13 +1,22 @@
 //! Ed25519 public keys.
 
-ghost use Rattle.std.specs.Prelude.{ℕ, ◌+◌, ◌^◌};
+ghost use Rattle.std.specs.Fmt.{WritesOnOk};
+ghost use Rattle.std.specs.Prelude.{◌≡◌, ℕ, Some, ◌+◌, ◌^◌};
+ghost use Rattle.hex.specs.Hex.{encode_lower, encode_upper};
+ghost use Rattle.sshkey_base.specs.Answering.{AnswersAlways};
+ghost use Rattle.sshkey_base.specs.Causes.{cause};
 ghost use Rattle.sshkey_model.specs.Keys.{Key, body};
 ghost use Rattle.sshkey_kinds.specs.Bodies.{SpellsEd25519, ed25519_body_at, ed25519_body_grammar};
+ghost use Rattle.sshkey_kinds.specs.Ed25519Bytes.{ed25519_from};
 
-use sshkey_base::{Decode, Encode, Reader, Writer, encoding};
+use sshkey_base::{
+    Decode, Encode, Error, Reader, Result, Writer, encoding, write_lower_hex, write_upper_hex,
+};
 use std::alloc::Global;
+use std::convert::{AsSlice, TryFrom};
+use std::fmt;
 
-/// An Ed25519 public key, 32 bytes (RFC 8709, section 4).
+/// An Ed25519 public key, 32 bytes (RFC 8709, section 4). Keys are ordered by their bytes.
 #[derive(Clone, Copy, Debug, PartialEq, Eq, PartialOrd, Ord, Hash)]
 pub struct Ed25519PublicKey(pub [u8; 32]);
 
@@ -53,5 +62,55 @@ impl Encode for Ed25519PublicKey {
 
     fn encode<W: Writer>(&self, writer: &mut W) -> encoding::Result<()> {
         self.0.encode(writer)
+    }
+}
+
+/// The key of these bytes. `Length` for any number of bytes but 32. Takes no memory.
+impl TryFrom<&[u8]> for Ed25519PublicKey {
+    type Error = Error;
+
+    ghost try_from_gives = { λ bytes r. AnswersAlways (λ k. k.0) cause (ed25519_from bytes.now) r };
+
+    fn try_from(bytes: &[u8]) -> Result<Ed25519PublicKey> {
+        match <[u8; 32]>::try_from(bytes) {
+            Ok(bytes) => Ok(Ed25519PublicKey(bytes)),
+            Err(_) => Err(Error::Encoding(encoding::Error::Length)),
+        }
+    }
+}
+
+/// The bytes.
+impl AsSlice<u8> for Ed25519PublicKey {
+    ghost items = { λ k. k.0 };
+
+    fn as_slice(&self) -> &[u8] {
+        &self.0
+    }
+}
+
+/// Two digits a byte, with small letters.
+impl fmt::LowerHex for Ed25519PublicKey {
+    fn fmt<W: fmt::Write>(&self, f: &mut fmt::Formatter<W>) -> fmt::Result
+        ensures { WritesOnOk W.write_str_gives f.old result (encode_lower self.now.0) f.new }
+    {
+        write_lower_hex(&self.0, f)
+    }
+}
+
+/// Two digits a byte, with capital letters.
+impl fmt::UpperHex for Ed25519PublicKey {
+    fn fmt<W: fmt::Write>(&self, f: &mut fmt::Formatter<W>) -> fmt::Result
+        ensures { WritesOnOk W.write_str_gives f.old result (encode_upper self.now.0) f.new }
+    {
+        write_upper_hex(&self.0, f)
+    }
+}
+
+/// Two digits a byte, with capital letters.
+impl fmt::Display for Ed25519PublicKey {
+    ghost output = { λ k. Some (encode_upper k.0) };
+
+    fn fmt<W: fmt::Write>(&self, f: &mut fmt::Formatter<W>) -> fmt::Result {
+        fmt::UpperHex::fmt(self, f)
     }
 }

@@ -11,6 +11,7 @@ mod compare;
 
 use sshkey_base::{Algorithm, Bytes, Decode, Encode, Reader, Result, Writer, encoding};
 use std::alloc::Global;
+use std::convert::AsSlice;
 use std::marker::Model;
 
 /// The bytes of a key whose format is not known, which contracts see as a list.
@@ -41,6 +42,15 @@ impl OpaquePublicKeyBytes {
         Ok(OpaquePublicKeyBytes {
             bytes: self.bytes.try_clone(alloc)?,
         })
+    }
+}
+
+/// The bytes.
+impl AsSlice<u8> for OpaquePublicKeyBytes {
+    ghost items = { λ k. k };
+
+    fn as_slice(&self) -> &[u8] {
+        self.bytes.as_slice()
     }
 }
 
@@ -123,6 +133,15 @@ impl OpaquePublicKey {
         ensures { result.now ≡ self.now.algorithm }
     {
         &self.algorithm
+    }
+}
+
+/// The key's bytes.
+impl AsSlice<u8> for OpaquePublicKey {
+    ghost items = { λ k. k.key };
+
+    fn as_slice(&self) -> &[u8] {
+        self.key.as_bytes()
     }
 }
 

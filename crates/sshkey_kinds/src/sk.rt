@@ -80,6 +80,15 @@ impl SkEcdsaSha2NistP256 {
     }
 }
 
+/// The point, without the application.
+impl From<SkEcdsaSha2NistP256> for EcdsaNistP256PublicKey {
+    ghost from_gives = { λ k point. point ≡ k.ec_point };
+
+    fn from(key: SkEcdsaSha2NistP256) -> EcdsaNistP256PublicKey {
+        key.ec_point
+    }
+}
+
 /// The string `nistp256`, the point string and the application as a text.
 ///
 /// `Crypto` for another curve, `Length` for a point string of more than 65 bytes, and `Ecdsa` for
@@ -213,6 +222,15 @@ impl SkEd25519 {
         ensures { SkEd25519Key (record { key = self.now.public_key.0; application = result.now }) ≡ sk_ed25519_of self.now }
     {
         self.application.as_str()
+    }
+}
+
+/// The key, without the application.
+impl From<SkEd25519> for Ed25519PublicKey {
+    ghost from_gives = { λ k plain. plain ≡ k.public_key };
+
+    fn from(key: SkEd25519) -> Ed25519PublicKey {
+        key.public_key
     }
 }
 
