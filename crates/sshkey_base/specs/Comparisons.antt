@@ -20,6 +20,10 @@ IsEqualityOf {X} means eq = (x y : X) → (eq x y ≡ true) ↔ (means x ≡ mea
 abbrev pub IsOrderOf : {X : Type 0} → (X → List ℕ) → (X → X → Ordering) → Type 0
 IsOrderOf {X} key cmp = (x y : X) → cmp x y ≡ slice_cmp nat_cmp (key x) (key y)
 
+-- They are ordered as their lists of parts, by the first part that differs, and each part by its first number that differs.
+abbrev pub IsOrderByParts : {X : Type 0} → (X → List (List ℕ)) → (X → X → Ordering) → Type 0
+IsOrderByParts {X} parts cmp = (x y : X) → cmp x y ≡ slice_cmp (slice_cmp nat_cmp) (parts x) (parts y)
+
 abbrev pub curve_key : EcdsaCurve → List ℕ
 curve_key NistP256 = 0 ∷ []
 curve_key NistP384 = 1 ∷ []

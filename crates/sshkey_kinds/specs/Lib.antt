@@ -4,4 +4,5 @@ pub mod EcdsaWords
 pub mod EcdsaEquality
 pub mod Kinds
 pub mod Bodies
+pub mod Comparisons
 pub mod Ed25519Bytes

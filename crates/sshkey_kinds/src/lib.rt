@@ -5,6 +5,7 @@ mod dsa;
 mod ec_point;
 mod ecdsa;
 mod ed25519;
+pub mod laws;
 mod opaque;
 mod rsa;
 mod sk;
