@@ -1,6 +1,6 @@
 -- A value that is read and then judged.
-use Rattle.std.proofs.Common.{◌≡◌, ℕ, List, Result, Ok, Err, refl, ap, ◌∙◌}
-use Rattle.sshkey_model.specs.Reading.{Fault, ◌>>=◌, Front, checked_at}
+use Rattle.std.proofs.Common.{◌≡◌, Result, Ok, Err, refl}
+use Rattle.sshkey_model.specs.Reading.{Fault, Front, checked_at}
 use Rattle.sshkey_base.specs.Answering.{AnswersAlways}
 use Rattle.sshkey_base.specs.Causes.{Cause}
 use Rattle.sshkey_base.specs.Source.{Source}

@@ -15,3 +15,4 @@ pub mod PlainParts
 pub mod Judging
 pub mod WrittenLists
 pub mod ReadLists
+pub mod ShortStrings

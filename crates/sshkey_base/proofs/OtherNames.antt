@@ -10,7 +10,6 @@ use Rattle.sshkey_base.specs.Causes.{Cause, NoMemory, cause}
 use Rattle.sshkey_base.specs.Labels.{LooksUp}
 use Rattle.sshkey_base.specs.declared.encoding.Error as narrow
 use Rattle.sshkey_base.specs.declared.encoding.Error.TheVariants as encoding
-use Rattle.sshkey_base.specs.declared.error.Error as wide
 use Rattle.sshkey_base.specs.Naming.{IsUnknown, Names}
 use Rattle.sshkey_base.specs.OwnNames.{own_name_from}
 

@@ -1,5 +1,5 @@
 -- Bytes one after the other are written as bytes.
-use Rattle.std.proofs.Common.{◌≡◌, ℕ, List, [], true, Result, Ok, Err, IsErrAnd, refl, subst, sym, ap, ◌∙◌, inl, inr}
+use Rattle.std.proofs.Common.{◌≡◌, ℕ, List, true, Result, Ok, Err, IsErrAnd, subst, sym, ap, ◌∙◌, inl, inr}
 use Rattle.sshkey_model.specs.Parts.{Parts, nothing, bytes, number, box, ◌&◌, flat, BoxesFit, are_bytes}
 use Rattle.sshkey_model.proofs.CombinedReaders.{fits_both, fits_bytes}
 use Rattle.sshkey_model.proofs.Blobs.{flat_bytes}

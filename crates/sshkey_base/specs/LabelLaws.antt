@@ -1,5 +1,5 @@
 -- Names are ASCII, and what is no name is refused as such.
-use Rattle.std.specs.Prelude.{◌≡◌, ℕ, List, Bool, true, false, cond, ◌&&◌, is_none, nat_le, length, Option, Some, None, Result, Ok, Err, refl}
+use Rattle.std.specs.Prelude.{◌≡◌, ℕ, List, true, ◌&&◌, is_none, nat_le, length, Option, Some, None, Ok, Err, refl}
 use Rattle.std.proofs.Common.{inl, inr}
 use Rattle.std.proofs.lemmas.Bool.{and_parts}
 use Rattle.sshkey_model.specs.Parts.{Any}

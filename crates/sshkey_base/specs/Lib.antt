@@ -10,6 +10,8 @@ pub mod Counts
 pub mod Labels
 pub mod Laws
 pub mod Answering
+pub mod ShortStrings
+pub mod ShortBytes
 pub mod Numbers
 pub mod MpintSpelling
 pub mod Texts

@@ -17,6 +17,7 @@ mod mpint;
 mod normal_form;
 mod reader;
 mod refusal;
+mod short_bytes;
 mod size;
 mod string;
 #[cfg(test)]
@@ -37,5 +38,6 @@ pub use mpint::Mpint;
 pub use normal_form::NormalForm;
 pub use reader::{NestedReader, Reader};
 pub use refusal::Refusal;
+pub use short_bytes::ShortBytes;
 pub use text::Text;
 pub use writer::{SliceWriter, Writer};

@@ -18,8 +18,8 @@ use crate::ec_point::{
     EcPoint, EcdsaNistP256PublicKey, EcdsaNistP384PublicKey, EcdsaNistP521PublicKey,
 };
 use sshkey_base::{
-    Algorithm, Bytes, Decode, EcdsaCurve, Encode, Error, Reader, Result, Writer, encode_string,
-    encoding, string_len, write_lower_hex, write_upper_hex,
+    Algorithm, Decode, EcdsaCurve, Encode, Error, Reader, Result, ShortBytes, Writer,
+    encode_string, encoding, string_len, write_lower_hex, write_upper_hex,
 };
 use std::alloc::Global;
 use std::convert::AsSlice;
@@ -141,23 +141,13 @@ impl Decode for EcdsaPublicKey {
     }
 }
 
-/// A point string of any of the curves.
+/// A point string of any of the curves, none of which is longer than 133 bytes.
 #[tactic(auto, using(sshkey_base::proofs::Steps::steps))]
 fn decode_point<R: Reader>(alloc: Global, reader: &mut R) -> Result<EcdsaPublicKey>
     ensures { Gives ecdsa_of cause (checked_at point_from string_at) (R.source reader.old) result (R.source reader.new) }
 {
-    let bytes = Bytes::decode(alloc, reader)?;
-    key_from(bytes.as_slice())
-}
-
-/// The key of the string. `Length` for more than 133 bytes, and the faults of `from_sec1_bytes`.
-fn key_from(bytes: &[u8]) -> Result<EcdsaPublicKey>
-    ensures { AnswersAlways ecdsa_of cause (point_from bytes.now) result }
-{
-    if bytes.len() > 133 {
-        return Err(Error::Encoding(encoding::Error::Length));
-    }
-    EcdsaPublicKey::from_sec1_bytes(bytes)
+    let bytes = ShortBytes::<133>::decode(alloc, reader)?;
+    EcdsaPublicKey::from_sec1_bytes(bytes.as_slice())
 }
 
 /// The name of the curve as a string, and the point string.

@@ -14,7 +14,7 @@ ghost use Rattle.sshkey_kinds.specs.PointWords.{point_of};
 use crate::ec_point::{EcPoint, EcdsaNistP256PublicKey};
 use crate::ed25519::Ed25519PublicKey;
 use sshkey_base::{
-    Bytes, Decode, EcdsaCurve, Encode, Error, Reader, Result, Text, Writer, encoding,
+    Decode, EcdsaCurve, Encode, Error, Reader, Result, ShortBytes, Text, Writer, encoding,
 };
 use std::alloc::Global;
 
@@ -123,23 +123,13 @@ impl Decode for SkEcdsaSha2NistP256 {
     }
 }
 
-/// A point string of P-256.
+/// A point string of P-256, none of which is longer than 65 bytes.
 #[tactic(auto, using(sshkey_base::proofs::Steps::steps))]
 fn decode_point<R: Reader>(alloc: Global, reader: &mut R) -> Result<EcdsaNistP256PublicKey>
     ensures { Gives point_of cause (checked_at p256_point_from string_at) (R.source reader.old) result (R.source reader.new) }
 {
-    let bytes = Bytes::decode(alloc, reader)?;
-    point_from(bytes.as_slice())
-}
-
-/// The point of the string. `Length` for more than 65 bytes, and `Ecdsa` where it is no point.
-fn point_from(bytes: &[u8]) -> Result<EcdsaNistP256PublicKey>
-    ensures { AnswersAlways point_of cause (p256_point_from bytes.now) result }
-{
-    if bytes.len() > 65 {
-        return Err(Error::Encoding(encoding::Error::Length));
-    }
-    EcPoint::from_bytes(bytes)
+    let bytes = ShortBytes::<65>::decode(alloc, reader)?;
+    EcPoint::from_bytes(bytes.as_slice())
 }
 
 /// The string `nistp256`, the point string and the application.

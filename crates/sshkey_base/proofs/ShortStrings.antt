@@ -1,0 +1,59 @@
+-- Strings of bounded length: too long ones are refused before they are read.
+use Rattle.std.proofs.Common.{◌≡◌, ℕ, ◌<◌, ◌≤◌, Bool, true, false, cond, ltb, leb, List, length, take, Result, Ok, Err, refl, arith, ◌∙◌}
+use Rattle.std.proofs.lemmas.Bool.{le-leb, lt-leb, leb-true, leb-false, ltb-false, le-ltb, lt-ltb}
+use Rattle.std.proofs.lemmas.List.{length-take-le}
+use Rattle.sshkey_model.specs.Parts.{are_bytes}
+use Rattle.sshkey_model.specs.Reading.{Fault, Length, bytes_at, string_at, checked_at}
+use Rattle.sshkey_base.specs.Causes.{Cause, Faulty}
+use Rattle.sshkey_base.specs.Source.{Source}
+use Rattle.sshkey_base.specs.Reading.{Reads, Refuses, IsRefused, Gives}
+use Rattle.sshkey_base.specs.ShortStrings.{at_most, short_at}
+use Rattle.sshkey_base.proofs.Steps.{refused_first}
+
+-- more bytes than may be are `Length`, whether they are there or not
+long_is_length : (max n : ℕ) (b : List ℕ) → max < n → checked_at (at_most max) (bytes_at n) b ≡ Err Length
+unfolding bytes_at
+long_is_length max n b long = go (ltb (length b) n) (are_bytes (take n b)) refl refl
+  where
+    go : (few are : Bool) → ltb (length b) n ≡ few → are_bytes (take n b) ≡ are → checked_at (at_most max) (bytes_at n) b ≡ Err Length
+    go true are e f = rw e refl
+    go false false e f = rw (e, f) refl
+    go false true e f =
+        let enough : n ≤ length b = ltb-false (length b) n e in
+        let over : leb (length (take n b)) max ≡ false = lt-leb _ _ (omega (arith, length-take-le n b enough)) in
+        rw (e, f, over) refl
+
+pub long_refused : (max n : ℕ) (s : Source) → max < n → Refuses s.missing (Faulty Length) (checked_at (at_most max) (bytes_at n) s.left)
+long_refused max n s long = record { met = Length; is = long_is_length max n s.left long; same = λ _. refl }
+
+-- bytes that are no more than may be
+pub short_reads : (max n : ℕ) (s t : Source) (front : List ℕ) → n ≤ max → length front ≡ n → Reads (λ x. x) (bytes_at n) s front t → Reads (λ x. x) (checked_at (at_most max) (bytes_at n)) s front t
+short_reads max n s t front within len r =
+    let fits : leb (length front) max ≡ true = le-leb _ _ (omega arith) in
+    record { value = rw (r.value, fits) refl; missing = r.missing; outer = r.outer }
+
+-- A judgement of short strings is one of all strings that refuses the long ones first.
+pub bounded : {C : Type 0} (max : ℕ) (judge : List ℕ → Result C Fault) (b : List ℕ) → checked_at (λ x. cond (ltb max (length x)) (Err Length) (judge x)) string_at b ≡ checked_at judge (short_at max) b
+unfolding short_at
+bounded {C} max judge b = go (string_at b) refl
+  where
+    go : (found : Result (List ℕ × List ℕ) Fault) → string_at b ≡ found → checked_at (λ x. cond (ltb max (length x)) (Err Length) (judge x)) string_at b ≡ checked_at judge (short_at max) b
+    go (Err f) e = rw e refl
+    go (Ok x) e = by_length (leb (length x.0) max) refl
+      where
+        by_length : (short : Bool) → leb (length x.0) max ≡ short → checked_at (λ x. cond (ltb max (length x)) (Err Length) (judge x)) string_at b ≡ checked_at judge (short_at max) b
+        by_length true h =
+            let long : ltb max (length x.0) ≡ false = le-ltb _ _ (leb-true _ _ h) in
+            rw (e, h, long) refl
+        by_length false h =
+            let long : ltb max (length x.0) ≡ true = lt-ltb _ _ (leb-false _ _ h) in
+            rw (e, h, long) refl
+
+-- So a call that reads a short string and judges it gives what the judgement of all strings gives.
+module _ {C : Type 0} (max : ℕ) (judge : List ℕ → Result C Fault) (s : Source) where
+  pub bounded_refused : (c : Cause) → IsRefused s.missing c (short_at max s.left) → IsRefused s.missing c (checked_at (λ x. cond (ltb max (length x)) (Err Length) (judge x)) string_at s.left)
+  bounded_refused c h = rw (bounded max judge s.left) (refused_first _ _ _ _ h)
+
+  pub bounded_gives : {X E : Type 0} (means : X → C) (cause : E → Cause) (r : Result X E) (t : Source) → Gives means cause (checked_at judge (short_at max)) s r t → Gives means cause (checked_at (λ x. cond (ltb max (length x)) (Err Length) (judge x)) string_at) s r t
+  bounded_gives means cause (Ok x) t h = record { value = bounded max judge s.left ∙ h.value; missing = h.missing; outer = h.outer }
+  bounded_gives means cause (Err e) t h = rw (bounded max judge s.left) h

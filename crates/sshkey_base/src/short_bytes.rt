@@ -1,0 +1,74 @@
+//! Byte strings that are short.
+
+ghost use Rattle.std.specs.Prelude.{◌≡◌, ◌<◌, ◌≤◌, ℕ, List, Err};
+ghost use Rattle.sshkey_model.specs.Reading.{bytes_at, checked_at};
+ghost use Rattle.sshkey_base.specs.Causes.{encoding_cause};
+ghost use Rattle.sshkey_base.specs.Reading.{Gives, GivesAlways, LengthPast};
+ghost use Rattle.sshkey_base.specs.ShortStrings.{SpellsShort, at_most, short_at, short_grammar};
+ghost use Rattle.sshkey_base.specs.Source.{told};
+
+use crate::decode::Decode;
+use crate::encoding::{Error, Result};
+use crate::reader::{Reader, length_from};
+use std::alloc::Global;
+
+/// At most `MAX` bytes. They take no memory.
+#[derive(Clone, Copy, Debug)]
+pub struct ShortBytes<const MAX: usize> {
+    bytes: [u8; MAX],
+    len: usize,
+    pub ghost within: { len ≤ MAX },
+}
+
+impl<const MAX: usize> ShortBytes<MAX> {
+    ghost use Rattle.std.specs.Prelude.{◌≡◌};
+    ghost use Rattle.sshkey_base.specs.ShortBytes.{short_of};
+
+    /// The bytes.
+    pub fn as_slice(&self) -> &[u8]
+        ensures { result.now ≡ short_of self.now }
+    {
+        &self.bytes[..self.len]
+    }
+
+    /// The next `len` bytes. `Length` where there are more than `MAX`, or more than are announced.
+    fn take_from<R: Reader>(len: usize, reader: &mut R) -> Result<ShortBytes<MAX>>
+        ensures gives { GivesAlways short_of encoding_cause (checked_at (at_most MAX) (bytes_at len)) (R.source reader.old) result (R.source reader.new) }
+        ensures past { told (R.source reader.old) < len → result ≡ Err Error.Length }
+    {
+        if len > MAX || reader.remaining_len() < len {
+            return Err(Error::Length);
+        }
+        let mut bytes = [0u8; MAX];
+        reader.read(&mut bytes[..len])?;
+        Ok(ShortBytes { bytes, len })
+    }
+}
+
+/// A string of at most `MAX` bytes: a length of four bytes, and the bytes (RFC 4251, section 5).
+///
+/// `Length` for a longer one, and for a length that passes what is left. Takes no memory.
+#[tactic(auto, using(crate::proofs::Steps::steps), unfolding(crate::specs::ShortStrings::short_at, crate::specs::Readers::string_at))]
+impl<const MAX: usize> Decode for ShortBytes<MAX> {
+    ghost use Rattle.sshkey_base.specs.ShortBytes.{short_of};
+
+    type Error = Error;
+
+    ghost Meaning = { List ℕ };
+
+    ghost means = { short_of };
+
+    ghost parse = { short_at MAX };
+
+    ghost Spells = { SpellsShort MAX };
+
+    ghost grammar = { short_grammar MAX };
+
+    fn decode<R: Reader>(_alloc: Global, reader: &mut R) -> Result<ShortBytes<MAX>>
+        ensures gives { Gives short_of encoding_cause (short_at MAX) (R.source reader.old) result (R.source reader.new) }
+        ensures past { LengthPast encoding_cause (R.source reader.old) result }
+    {
+        let len = length_from(reader)?;
+        ShortBytes::take_from(len, reader)
+    }
+}
