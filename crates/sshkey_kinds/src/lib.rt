@@ -9,6 +9,8 @@ pub mod laws;
 mod opaque;
 mod rsa;
 mod sk;
+#[cfg(test)]
+mod tests;
 
 pub use dsa::DsaPublicKey;
 pub use ec_point::{
