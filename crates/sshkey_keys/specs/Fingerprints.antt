@@ -1,5 +1,5 @@
 -- What a fingerprint's value means.
-use Rattle.std.specs.Prelude.{◌≡◌, ◌⊎◌, ℕ, List, Result, Ok, Err}
+use Rattle.std.specs.Prelude.{◌≡◌, ◌⊎◌, ◌∷◌, ℕ, List, Result, Ok, Err}
 use Rattle.sshkey_model.specs.Fingerprints.{digest_text, fingerprint}
 use Rattle.sshkey_base.specs.declared.encoding.Error.TheVariants.{Length}
 use Rattle.sshkey_base.specs.declared.error.Error.{Error}
@@ -18,6 +18,11 @@ algorithm_of (kinds.Sha512 d) = model.Sha512
 abbrev pub digest_of : Fingerprint → List ℕ
 digest_of (kinds.Sha256 d) = d
 digest_of (kinds.Sha512 d) = d
+
+-- what it is ordered by: SHA-256 before SHA-512, and then the digest
+abbrev pub fingerprint_key : Fingerprint → List ℕ
+fingerprint_key (kinds.Sha256 d) = 0 ∷ d
+fingerprint_key (kinds.Sha512 d) = 1 ∷ d
 
 -- what it is shown as
 abbrev pub shown : Fingerprint → List ℕ

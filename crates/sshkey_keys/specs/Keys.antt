@@ -2,9 +2,10 @@
 use Rattle.std.specs.Prelude.{ℕ, List, Ok}
 use Rattle.sshkey_model.specs.Reading.{◌>>=◌, Front}
 use Rattle.sshkey_model.specs.Grammar.{SpellsWith}
-use Rattle.sshkey_model.specs.Names.{algorithm_from}
-use Rattle.sshkey_model.specs.Keys.{Key, IsKey, HasKeyPlaces, key, body_at}
+use Rattle.sshkey_model.specs.Names.{Algorithm, algorithm_from}
+use Rattle.sshkey_model.specs.Keys.{Key, IsKey, HasKeyPlaces, key, key_algorithm, body_at}
 use Rattle.sshkey_base.specs.Labels.{label_at}
+use Rattle.sshkey_base.specs.Names.{algorithm_of}
 use Rattle.sshkey_kinds.specs.Kinds.{dsa_of, ed25519_of, rsa_of, sk_ecdsa_of, sk_ed25519_of, opaque_of}
 use Rattle.sshkey_kinds.specs.EcdsaWords.{ecdsa_key_of}
 use Rattle.sshkey_keys.specs.declared.key_data.KeyData.{KeyData}
@@ -18,6 +19,11 @@ key_of (kinds.Rsa k) = rsa_of k
 key_of (kinds.SkEcdsaSha2NistP256 k) = sk_ecdsa_of k
 key_of (kinds.SkEd25519 k) = sk_ed25519_of k
 key_of (kinds.Other k) = opaque_of k
+
+-- its algorithm; an opaque key's is the one beside its bytes, whichever that is
+abbrev pub algorithm_beside : KeyData → Algorithm
+algorithm_beside (kinds.Other k) = algorithm_of k.algorithm
+algorithm_beside k = key_algorithm (key_of k)
 
 -- the bytes spell the key, whose name stands before its body
 abbrev pub SpellsKey : Key → List ℕ → Type 0

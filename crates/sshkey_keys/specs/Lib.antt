@@ -1,3 +1,4 @@
 pub mod Keys
+pub mod KeyKinds
 pub mod KeyReaders
 pub mod Fingerprints

@@ -1,8 +1,10 @@
 //! Fingerprints of public keys.
 
-ghost use Rattle.std.specs.Prelude.{Some};
+ghost use Rattle.std.specs.Prelude.{◌≡◌, ◌↔◌, ◌++◌, IsTrue, MatchOption, Some, codes};
 ghost use Rattle.sshkey_base.specs.Names.{hash_of};
-ghost use Rattle.sshkey_keys.specs.Fingerprints.{shown, GivesFingerprint};
+ghost use Rattle.sshkey_model.specs.Fingerprints.{fingerprint_prefix};
+ghost use Rattle.sshkey_model.specs.Names as model;
+ghost use Rattle.sshkey_keys.specs.Fingerprints.{algorithm_of, digest_of, shown, GivesFingerprint};
 ghost use Rattle.sshkey_keys.specs.Keys.{key_of};
 
 use crate::key_data::KeyData;
@@ -11,12 +13,14 @@ use base64::engine::general_purpose::STANDARD_NO_PAD;
 use sha2::{Digest, Sha256, Sha512};
 use sshkey_base::{HashAlg, Result, encode_vec};
 use std::alloc::Global;
+use std::convert::AsSlice;
 use std::fmt;
 
 /// The digest of a public key's normal form, whatever bytes the key was read from.
 ///
 /// It is shown as `SHA256:` and 43, or `SHA512:` and 86 characters of Base64 without padding.
-#[derive(Debug, Clone, Copy, PartialEq, Eq)]
+/// Fingerprints are ordered by their hash, SHA-256 first, and then by the digest's bytes.
+#[derive(Debug, Clone, Copy, PartialEq, Eq, PartialOrd, Ord)]
 pub enum Fingerprint {
     /// A digest by SHA-256.
     Sha256([u8; 32]),
@@ -37,6 +41,79 @@ impl Fingerprint {
             HashAlg::Sha256 => Fingerprint::Sha256(Sha256::digest(bytes.as_slice())),
             HashAlg::Sha512 => Fingerprint::Sha512(Sha512::digest(bytes.as_slice())),
         })
+    }
+
+    /// The hash.
+    pub fn algorithm(self) -> HashAlg
+        ensures { hash_of result ≡ algorithm_of self }
+    {
+        match self {
+            Fingerprint::Sha256(_) => HashAlg::Sha256,
+            Fingerprint::Sha512(_) => HashAlg::Sha512,
+        }
+    }
+
+    /// What stands before the colon where the fingerprint is shown: `SHA256` or `SHA512`.
+    pub fn prefix(self) -> &'static str
+        ensures { result.now ++ codes ":" ≡ fingerprint_prefix (algorithm_of self) }
+    {
+        match self {
+            Fingerprint::Sha256(_) => "SHA256",
+            Fingerprint::Sha512(_) => "SHA512",
+        }
+    }
+
+    /// The digest, of 32 or 64 bytes.
+    pub fn as_bytes(&self) -> &[u8]
+        ensures { result.now ≡ digest_of self.now }
+    {
+        match self {
+            Fingerprint::Sha256(digest) => digest,
+            Fingerprint::Sha512(digest) => digest,
+        }
+    }
+
+    /// The digest by SHA-256; `None` where it is by SHA-512.
+    pub fn sha256(self) -> Option<[u8; 32]>
+        ensures { MatchOption result (algorithm_of self ≡ model.Sha512) (λ d. self ≡ Fingerprint.Sha256 d) }
+    {
+        match self {
+            Fingerprint::Sha256(digest) => Some(digest),
+            Fingerprint::Sha512(_) => None,
+        }
+    }
+
+    /// The digest by SHA-512; `None` where it is by SHA-256.
+    pub fn sha512(self) -> Option<[u8; 64]>
+        ensures { MatchOption result (algorithm_of self ≡ model.Sha256) (λ d. self ≡ Fingerprint.Sha512 d) }
+    {
+        match self {
+            Fingerprint::Sha256(_) => None,
+            Fingerprint::Sha512(digest) => Some(digest),
+        }
+    }
+
+    /// Whether the hash is SHA-256.
+    pub fn is_sha256(self) -> bool
+        ensures { IsTrue result ↔ (algorithm_of self ≡ model.Sha256) }
+    {
+        matches!(self, Fingerprint::Sha256(_))
+    }
+
+    /// Whether the hash is SHA-512.
+    pub fn is_sha512(self) -> bool
+        ensures { IsTrue result ↔ (algorithm_of self ≡ model.Sha512) }
+    {
+        matches!(self, Fingerprint::Sha512(_))
+    }
+}
+
+/// The digest.
+impl AsSlice<u8> for Fingerprint {
+    ghost items = { digest_of };
+
+    fn as_slice(&self) -> &[u8] {
+        self.as_bytes()
     }
 }
 

@@ -1,18 +1,24 @@
 //! Public keys of any kind.
 
-ghost use Rattle.std.specs.Prelude.{◌≡◌, ◌≤◌, ◌+◌, ◌*◌, ◌^◌, ℕ, List, IfOk, None};
-ghost use Rattle.sshkey_model.specs.Keys.{Key, normal_key, body, body_at, IsKey};
+ghost use Rattle.std.specs.Prelude.{◌≡◌, ◌≤◌, ◌+◌, ◌*◌, ◌^◌, ℕ, List, IfOk, IfErr, IsOk, None};
+ghost use Rattle.sshkey_model.specs.Keys.{Key, key_algorithm, normal_key, body, body_at, IsKey};
 ghost use Rattle.sshkey_model.specs.Lines.{key_name};
 ghost use Rattle.sshkey_base.specs.Causes.{cause};
-ghost use Rattle.sshkey_base.specs.Names.{algorithm_of, curve_of};
+ghost use Rattle.sshkey_base.specs.Kinds.{IsFixed};
+ghost use Rattle.sshkey_base.specs.Names.{algorithm_of, curve_of, hash_of};
 ghost use Rattle.sshkey_model.specs.Names.{algorithm_name, Dsa, Ecdsa, Ed25519, Rsa, SkEcdsa, SkEd25519 as AlgorithmSkEd25519, Other};
 ghost use Rattle.sshkey_base.specs.Reading.{Gives};
 ghost use Rattle.sshkey_base.specs.Sink.{Encodes, Measures};
-ghost use Rattle.sshkey_keys.specs.Keys.{key_of, SpellsKey, key_data_at};
+ghost use Rattle.sshkey_keys.specs.Fingerprints.{GivesFingerprint};
+ghost use Rattle.sshkey_keys.specs.Keys.{key_of, algorithm_beside, SpellsKey, key_data_at};
 ghost use Rattle.sshkey_keys.specs.KeyReaders.{key_grammar, key_normal};
 
+mod from;
+mod kinds;
+
+use crate::fingerprint::Fingerprint;
 use sshkey_base::{
-    Algorithm, Decode, EcdsaCurve, Encode, Error, NormalForm, Reader, Result, Writer,
+    Algorithm, Decode, EcdsaCurve, Encode, Error, HashAlg, NormalForm, Reader, Result, Writer,
     encode_string, encoding, string_len,
 };
 use sshkey_kinds::{
@@ -55,6 +61,38 @@ impl KeyData {
             KeyData::SkEd25519(_) => "sk-ssh-ed25519@openssh.com",
             KeyData::Other(key) => key.algorithm.as_str(),
         }
+    }
+
+    /// The key's algorithm. That of an opaque key is the one that stands beside its bytes, and for
+    /// a well-formed key the one that its name tells.
+    ///
+    /// Only want of memory refuses it, and only under a name of somebody's own.
+    #[tactic(auto, using(crate::proofs::OwnAlgorithms::well_formed_algorithm))]
+    pub fn algorithm(&self, alloc: Global) -> Result<Algorithm>
+        ensures ok { IfOk result (λ a. algorithm_of a ≡ algorithm_beside self.now) }
+        ensures well_formed { IsKey (key_of self.now) → algorithm_beside self.now ≡ key_algorithm (key_of self.now) }
+        ensures fixed { IsFixed (algorithm_beside self.now) → IsOk result }
+        ensures err { IfErr result (λ e. e ≡ Error.Memory) }
+    {
+        Ok(match self {
+            KeyData::Dsa(_) => Algorithm::Dsa,
+            KeyData::Ecdsa(key) => key.algorithm(),
+            KeyData::Ed25519(_) => Algorithm::Ed25519,
+            KeyData::Rsa(_) => Algorithm::Rsa { hash: None },
+            KeyData::SkEcdsaSha2NistP256(_) => Algorithm::SkEcdsaSha2NistP256,
+            KeyData::SkEd25519(_) => Algorithm::SkEd25519,
+            KeyData::Other(key) => key.algorithm.try_clone(alloc)?,
+        })
+    }
+
+    /// The fingerprint by that hash: the digest of the key's normal form.
+    ///
+    /// Exactly where a part of the key is longer than 2^32 - 1 bytes, the answer is `Length`;
+    /// otherwise it is refused for want of memory alone.
+    pub fn fingerprint(&self, alloc: Global, hash_alg: HashAlg) -> Result<Fingerprint>
+        ensures { GivesFingerprint (hash_of hash_alg) (key_of self.now) result }
+    {
+        Fingerprint::new(alloc, hash_alg, self)
     }
 
     /// Reads what stands behind the name of that algorithm, an RSA key's with or without a hash.
