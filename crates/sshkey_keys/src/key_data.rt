@@ -1,6 +1,6 @@
 //! Public keys of any kind.
 
-ghost use Rattle.std.specs.Prelude.{◌≡◌, ◌≤◌, ◌+◌, ◌*◌, ◌^◌, ℕ, List, IfOk, IfErr, IsOk, None};
+ghost use Rattle.std.specs.Prelude.{◌≡◌, ◌≤◌, ◌+◌, ◌*◌, ◌^◌, ◌||◌, ℕ, List, IfOk, IfErr, IsOk, IsTrue, None};
 ghost use Rattle.sshkey_model.specs.Keys.{Key, key_algorithm, normal_key, body, body_at, IsKey};
 ghost use Rattle.sshkey_model.specs.Lines.{key_name};
 ghost use Rattle.sshkey_base.specs.Causes.{cause};
@@ -11,6 +11,7 @@ ghost use Rattle.sshkey_base.specs.Reading.{Gives};
 ghost use Rattle.sshkey_base.specs.Sink.{Encodes, Measures};
 ghost use Rattle.sshkey_keys.specs.Fingerprints.{GivesFingerprint};
 ghost use Rattle.sshkey_keys.specs.Keys.{key_of, algorithm_beside, SpellsKey, key_data_at};
+ghost use Rattle.sshkey_keys.specs.KeyKinds.{is_ecdsa, is_ed25519};
 ghost use Rattle.sshkey_keys.specs.KeyReaders.{key_grammar, key_normal};
 
 mod from;
@@ -29,7 +30,9 @@ use std::alloc::Global;
 
 /// A public key: the name of its algorithm, and what that algorithm's keys are made of
 /// (RFC 4253, section 6.6).
-#[derive(Debug, Drop, PartialEq, Eq)]
+///
+/// Keys are ordered by their kind, as the kinds stand here, and then field by field.
+#[derive(Debug, Drop, PartialEq, Eq, PartialOrd, Ord, Hash)]
 pub enum KeyData {
     /// `ssh-dss` (RFC 4253).
     Dsa(DsaPublicKey),
@@ -82,6 +85,26 @@ impl KeyData {
             KeyData::SkEcdsaSha2NistP256(_) => Algorithm::SkEcdsaSha2NistP256,
             KeyData::SkEd25519(_) => Algorithm::SkEd25519,
             KeyData::Other(key) => key.algorithm.try_clone(alloc)?,
+        })
+    }
+
+    /// The same key in memory of its own. Refuses only with `Memory`, and of an ECDSA or an Ed25519
+    /// key never.
+    pub fn try_clone(&self, alloc: Global) -> Result<KeyData>
+        ensures value { IfOk result (λ k. key_of k ≡ key_of self.now) }
+        ensures refused { IfErr result (λ e. e ≡ Error.Memory) }
+        ensures in_place { IsTrue (is_ecdsa (key_of self.now) || is_ed25519 (key_of self.now)) → IsOk result }
+    {
+        Ok(match self {
+            KeyData::Dsa(key) => KeyData::Dsa(key.try_clone(alloc)?),
+            KeyData::Ecdsa(key) => KeyData::Ecdsa(*key),
+            KeyData::Ed25519(key) => KeyData::Ed25519(*key),
+            KeyData::Rsa(key) => KeyData::Rsa(key.try_clone(alloc)?),
+            KeyData::SkEcdsaSha2NistP256(key) => KeyData::SkEcdsaSha2NistP256(key.try_clone(
+                alloc,
+            )?),
+            KeyData::SkEd25519(key) => KeyData::SkEd25519(key.try_clone(alloc)?),
+            KeyData::Other(key) => KeyData::Other(key.try_clone(alloc)?),
         })
     }
 
