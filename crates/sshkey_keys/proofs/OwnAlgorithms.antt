@@ -1,5 +1,5 @@
 -- An opaque key whose name is one of somebody's own stands under an algorithm of somebody's own.
-use Rattle.std.proofs.Common.{◌≡◌, Some, None, refl}
+use Rattle.std.proofs.Common.{◌≡◌, ◌∙◌, ℕ, List, Some, None, refl, sym, ap}
 use Rattle.sshkey_model.specs.Keys.{IsKey, key_algorithm}
 use Rattle.sshkey_model.specs.Names.{Algorithm, Dsa, Ecdsa, Ed25519, Rsa, SkEcdsa, SkEd25519, Other, Nistp256, Nistp384, Nistp521, Sha256, Sha512, algorithm_name, named, cut, is_own_name, is_other_name, IsAlgorithm}
 use Rattle.sshkey_base.specs.Names.{algorithm_of}
@@ -20,6 +20,9 @@ own_algorithm (Rsa (Some Sha512)) is = absurd cc
 own_algorithm SkEcdsa is = absurd cc
 own_algorithm SkEd25519 is = absurd cc
 own_algorithm (Other n) is = refl
+
+pub same_name : (a b : Algorithm) → IsAlgorithm (Other (algorithm_name a)) → IsAlgorithm (Other (algorithm_name b)) → algorithm_name a ≡ algorithm_name b → a ≡ b
+same_name a b is_a is_b e = own_algorithm a is_a ∙ ap (λ (n : List ℕ). Other n) e ∙ sym (own_algorithm b is_b)
 
 pub well_formed_algorithm : (k : KeyData) → IsKey (key_of k) → algorithm_beside k ≡ key_algorithm (key_of k)
 well_formed_algorithm (kinds.Dsa k) is = refl

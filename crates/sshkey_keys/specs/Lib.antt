@@ -1,4 +1,5 @@
 pub mod Keys
 pub mod KeyKinds
+pub mod Comparisons
 pub mod KeyReaders
 pub mod Fingerprints

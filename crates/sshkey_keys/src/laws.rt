@@ -2,11 +2,15 @@
 
 ghost use Rattle.std.specs.Prelude.{◌≡◌, ◌++◌, ℕ, List};
 ghost use Rattle.sshkey_model.specs.Keys.{Key};
-ghost use Rattle.sshkey_base.specs.Comparisons.{IsEqualityOf, IsOrderOf};
+ghost use Rattle.sshkey_base.specs.Comparisons.{IsEqualityOf, IsOrderOf, IsOrderByParts};
+ghost use Rattle.sshkey_keys.specs.Comparisons.{IsEqualityOfKeys, IsEqualityOfForms, key_parts};
 ghost use Rattle.sshkey_keys.specs.Fingerprints.{fingerprint_key};
 ghost use Rattle.sshkey_keys.specs.Keys.{SpellsKey};
 
 use crate::fingerprint::Fingerprint;
+use crate::key_data::KeyData;
+use sshkey_kinds::laws;
+use sshkey_model::laws::normal_keys;
 
 /// No spelling of a key begins another: what follows it does not matter, and it is that of one key.
 pub fn prefix_key()
@@ -19,3 +23,21 @@ pub fn compared_fingerprints()
     ensures equal { IsEqualityOf (λ fingerprint. fingerprint) ⟦<Fingerprint as PartialEq>⟧.eq }
     ensures ordered { IsOrderOf fingerprint_key ⟦<Fingerprint as Ord>⟧.cmp }
 {}
+
+/// Two well-formed keys are equal exactly if they mean the same, and two that can be written
+/// exactly if the same bytes are written of them. Keys are ordered by their kind, and then part by
+/// part.
+pub fn compared_keys()
+    ensures equal { IsEqualityOfKeys ⟦<KeyData as PartialEq>⟧.eq }
+    ensures written { IsEqualityOfForms ⟦<KeyData as PartialEq>⟧.eq }
+    ensures ordered { IsOrderByParts key_parts ⟦<KeyData as Ord>⟧.cmp }
+{
+    laws::compared_dsa_keys();
+    laws::compared_ecdsa_keys();
+    laws::compared_ed25519_keys();
+    laws::compared_rsa_keys();
+    laws::compared_sk_ecdsa_keys();
+    laws::compared_sk_ed25519_keys();
+    laws::compared_opaque_keys();
+    normal_keys();
+}
