@@ -25,6 +25,7 @@ encoding_cause encoding.Memory = NoMemory
 
 abbrev pub cause : wide-error.Error → Cause
 cause wide.AlgorithmUnknown = Faulty fault.UnknownAlgorithm
+cause (wide.AlgorithmUnsupported algorithm) = Other
 cause wide.Crypto = Faulty fault.Cryptographic
 cause wide.Ecdsa = Faulty fault.EcdsaEncoding
 cause (wide.CertificateFieldInvalid field) = Other

@@ -6,6 +6,7 @@ ghost use Rattle.sshkey_base.specs.Causes.{widened, of_machine};
 ghost use Rattle.sshkey_base.specs.declared.encoding.Error.TheVariants as encoding;
 ghost use Rattle.sshkey_base.specs.declared.error.Error.TheVariants as wide;
 
+use crate::algorithm::Algorithm;
 use crate::certificate::Field;
 use crate::encoding;
 use std::alloc::{AllocError, AllocFailed};
@@ -18,6 +19,12 @@ pub enum Error {
     /// The algorithm is unknown.
     #[error("unknown algorithm")]
     AlgorithmUnknown,
+    /// Keys or signatures of the algorithm can't be used for what was asked.
+    #[error("unsupported algorithm: {algorithm}")]
+    AlgorithmUnsupported {
+        /// The algorithm.
+        algorithm: Algorithm,
+    },
     /// A key or a signature is not one of its kind.
     #[error("cryptographic error")]
     Crypto,

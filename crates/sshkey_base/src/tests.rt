@@ -25,6 +25,10 @@ const NAME: [u8; 15] = [
 fn texts_of_errors(rt: HostRuntime) {
     let alloc = rt.alloc();
     assert!(rt; shows(alloc, &Error::AlgorithmUnknown, "unknown algorithm"));
+    let unsupported = Error::AlgorithmUnsupported {
+        algorithm: Algorithm::Rsa { hash: None },
+    };
+    assert!(rt; shows(alloc, &unsupported, "unsupported algorithm: ssh-rsa"));
     assert!(rt; shows(alloc, &Error::FormatEncoding, "format encoding error"));
     assert!(rt; shows(alloc, &Error::Io(io::ErrorKind::Other), "I/O error"));
     assert!(rt; shows(alloc, &Error::Memory, "out of memory"));
