@@ -132,8 +132,11 @@ impl<R: Reader> Reader for NestedReader<'_, R> {
     }
 }
 
-/// The next `N` bytes. Takes no memory.
-pub(crate) fn array_from<const N: usize, R: Reader>(reader: &mut R) -> Result<[u8; N]>
+/// Reads the next `N` bytes. Takes no memory.
+///
+/// Where fewer are left, the answer is `Length` from a sound source, and from another one a fault
+/// of its own.
+pub fn array_from<const N: usize, R: Reader>(reader: &mut R) -> Result<[u8; N]>
     ensures { GivesAlways (λ x. x) encoding_cause (bytes_at N) (R.source reader.old) result (R.source reader.new) }
 {
     let mut bytes = [0u8; N];

@@ -3,6 +3,18 @@ use Rattle.sshkey_base.proofs.Steps.{refused_first, refused_later}
 use Rattle.sshkey_kinds.specs.Bodies.{dsa_at}
 use Rattle.sshkey_kinds.proofs.dsa.DsaPublicKeyDecode.decode.Goals as goal
 
+pub returns-in_err-q : goal.returns-in_err-q
+unfolding dsa_at
+returns-in_err-q g c =
+    let p = err_from_is_err_and c.from_residual-in_err-q.result c.from_residual-in_err-q.ensures.1 in
+    rw (p.1, p.2) (refused_later _ _ _ _ _ _ _ c.in_ok-p.ensures.gives (refused_first _ _ _ _ c.in_err-q.ensures.gives))
+
+pub returns-in_err-g : goal.returns-in_err-g
+unfolding dsa_at
+returns-in_err-g g c =
+    let p = err_from_is_err_and c.from_residual-in_err-g.result c.from_residual-in_err-g.ensures.1 in
+    rw (p.1, p.2) (refused_later _ _ _ _ _ _ _ c.in_ok-p.ensures.gives (refused_later _ _ _ _ _ _ _ c.in_ok-q.ensures.gives (refused_first _ _ _ _ c.in_err-g.ensures.gives)))
+
 pub returns-in_err-y : goal.returns-in_err-y
 unfolding dsa_at
 returns-in_err-y g c =
