@@ -1,5 +1,5 @@
 -- A value that is read and then judged.
-use Rattle.std.proofs.Common.{◌≡◌, Result, Ok, Err, IsErrAnd, refl, ◌∙◌}
+use Rattle.std.proofs.Common.{◌≡◌, Result, Ok, Err, refl, ◌∙◌}
 use Rattle.sshkey_model.specs.Reading.{Fault, ◌>>=◌, Front, checked_at}
 use Rattle.sshkey_base.specs.Answering.{AnswersAlways}
 use Rattle.sshkey_base.specs.Causes.{Cause}
@@ -18,10 +18,9 @@ judged {A} {B} {C} {X} {E} first means cause read judge s t x r h answer = go (j
 -- ---- one judgement after another
 
 -- the first refuses, and its error is handed on
-pub answers_first : {A B C D E X : Type 0} (first : X → A) (narrow : D → Cause) (means : C → B) (cause : E → Cause) (found : Result A Fault) (next : A → Result B Fault) (d : D) (r : Result C E) → AnswersAlways first narrow found (Err d) → IsErrAnd r (λ e. cause e ≡ narrow d) → AnswersAlways means cause (found >>= next) r
-answers_first first narrow means cause (Ok a) next d r h same = absurd h
-answers_first first narrow means cause (Err f) next d (Ok c) h same = absurd same
-answers_first first narrow means cause (Err f) next d (Err e) h same = same ∙ h
+pub answers_first : {A B C D E X : Type 0} (first : X → A) (narrow : D → Cause) (means : C → B) (cause : E → Cause) (found : Result A Fault) (next : A → Result B Fault) (d : D) (e : E) → AnswersAlways first narrow found (Err d) → cause e ≡ narrow d → AnswersAlways means cause (found >>= next) (Err e)
+answers_first first narrow means cause (Ok a) next d e h same = absurd h
+answers_first first narrow means cause (Err f) next d e h same = same ∙ h
 
 -- the first is done, and the next decides
 pub answers_later : {A B C D E X : Type 0} (first : X → A) (narrow : D → Cause) (means : C → B) (cause : E → Cause) (found : Result A Fault) (next : A → Result B Fault) (x : X) (r : Result C E) → AnswersAlways first narrow found (Ok x) → AnswersAlways means cause (next (first x)) r → AnswersAlways means cause (found >>= next) r

@@ -36,7 +36,7 @@ pub use label_error::LabelError;
 pub use list::{encode_list, list_len};
 pub use mpint::Mpint;
 pub use normal_form::NormalForm;
-pub use reader::{NestedReader, Reader, array_from};
+pub use reader::{NestedReader, Reader, array_from, length_from};
 pub use refusal::Refusal;
 pub use short_bytes::ShortBytes;
 pub use text::Text;

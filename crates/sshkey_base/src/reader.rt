@@ -144,9 +144,12 @@ pub fn array_from<const N: usize, R: Reader>(reader: &mut R) -> Result<[u8; N]>
     Ok(bytes)
 }
 
-/// The length before a string, four bytes. Takes no memory.
+/// Reads the length before a string, four bytes (RFC 4251, section 5). Takes no memory.
+///
+/// Where fewer are left, the answer is `Length` from a sound source, and from another one a fault
+/// of its own.
 #[tactic(auto, using(crate::proofs::Steps::steps), unfolding(crate::specs::Readers::number_at))]
-pub(crate) fn length_from<R: Reader>(reader: &mut R) -> Result<usize>
+pub fn length_from<R: Reader>(reader: &mut R) -> Result<usize>
     ensures { GivesAlways (λ x. x) encoding_cause (number_at w32) (R.source reader.old) result (R.source reader.new) }
 {
     let bytes = array_from::<4, R>(reader)?;

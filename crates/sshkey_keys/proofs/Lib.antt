@@ -1,1 +1,3 @@
 pub mod OwnAlgorithms
+pub mod SignatureForms
+pub mod SplitStrings

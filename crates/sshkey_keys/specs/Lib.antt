@@ -3,3 +3,5 @@ pub mod KeyKinds
 pub mod Comparisons
 pub mod KeyReaders
 pub mod Fingerprints
+pub mod SignatureForms
+pub mod Signatures

@@ -1,0 +1,60 @@
+-- Which bytes are those of a signature, and why others are not.
+use Rattle.std.specs.Prelude.{ℕ, suc, List, length, Bool, true, false, Option, Some, None, Result, Ok, Err, nat_lt, ◌==◌, if◌then◌else◌}
+use Rattle.sshkey_model.specs.Reading.{Fault, Length, Cryptographic, ◌>>=◌, Whole, string_at}
+use Rattle.sshkey_model.specs.Names.{Nistp256, Algorithm}
+use Rattle.sshkey_model.specs.Mpints.{mpint_from, positive_part}
+use Rattle.sshkey_model.specs.Points.{field_size}
+use Rattle.sshkey_model.specs.Signatures.{Signature, without_trailer, ecdsa_blob_from, sized_from, some_from, none_from}
+
+-- Flags and a counter stand behind the string.
+abbrev pub has_trailer : Algorithm → Bool
+has_trailer Algorithm.SkEcdsa = true
+has_trailer Algorithm.SkEd25519 = true
+has_trailer _ = false
+
+-- what stands in the string, which the five bytes behind it are no part of
+abbrev pub string_from : Algorithm → Whole (List ℕ)
+string_from Algorithm.Dsa b = sized_from 40 b
+string_from (Algorithm.Ecdsa c) b = ecdsa_blob_from (field_size c) b
+string_from Algorithm.Ed25519 b = sized_from 64 b
+string_from (Algorithm.Rsa None) b = none_from b
+string_from (Algorithm.Rsa (Some h)) b = Ok b
+string_from Algorithm.SkEcdsa b = ecdsa_blob_from (field_size Nistp256) b
+string_from Algorithm.SkEd25519 b = sized_from 64 b
+string_from (Algorithm.Other n) b = some_from b
+
+-- the bytes of a security key's signature, which end with its flags and its counter
+abbrev pub trailed_from : Whole (List ℕ) → Whole (List ℕ)
+trailed_from judge b = if nat_lt (length b) 5 then Err Length else (judge (without_trailer b) >>= λ _. Ok b)
+
+abbrev pub blob_from : Algorithm → Whole (List ℕ)
+blob_from a b = if has_trailer a then trailed_from (string_from a) b else string_from a b
+
+abbrev pub is_taken : {A : Type 0} → Result A Fault → Bool
+is_taken (Ok x) = true
+is_taken (Err f) = false
+
+-- the same as `IsSignatureBlob`, as a test
+abbrev pub is_blob : Algorithm → List ℕ → Bool
+is_blob a b = is_taken (blob_from a b)
+
+-- the signature of these bytes
+abbrev pub signature_from : Algorithm → List ℕ → Result Signature Fault
+signature_from a b = blob_from a b >>= λ blob. Ok (record { algorithm = a; blob = blob })
+
+-- ---- the numbers of an ECDSA signature, step by step
+
+abbrev pub or_none : Option (List ℕ) → Result (List ℕ) Fault
+or_none None = Err Cryptographic
+or_none (Some p) = Ok p
+
+-- the positive number of these bytes
+abbrev pub positive_from : Whole (List ℕ)
+positive_from b = mpint_from b >>= λ r. or_none (positive_part r)
+
+-- what stands behind a positive number of at most so many bytes
+abbrev pub after_component : ℕ → Whole (List ℕ)
+after_component size b = string_at b >>= λ x. positive_from x.0 >>= λ p. (if nat_lt (length p) (suc size) then Ok x.1 else Err Length)
+
+abbrev pub ecdsa_from : ℕ → Whole (List ℕ)
+ecdsa_from size b = after_component size b >>= λ r. after_component size r >>= λ s. (if length s == 0 then Ok b else Err Length)

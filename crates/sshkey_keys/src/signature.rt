@@ -1,0 +1,67 @@
+//! Signatures.
+
+ghost use Rattle.std.specs.Prelude.{◌≡◌, ◌↔◌, IsOk, true};
+ghost use Rattle.sshkey_base.specs.Names.{algorithm_of};
+ghost use Rattle.sshkey_model.specs.Signatures.{IsSignatureBlob};
+ghost use Rattle.sshkey_keys.specs.SignatureForms.{is_blob};
+
+mod form;
+
+use form::check_blob;
+use sshkey_base::{Algorithm, Bytes, Result};
+
+/// A signature: its algorithm, and the bytes that are well-formed for it (RFC 4253, section 6.6).
+///
+/// | Algorithm | Bytes |
+/// |---|---|
+/// | DSA | 40 |
+/// | ECDSA (RFC 5656, section 3.1.2) | two mpints with a positive part of at most the size of a coordinate, 32, 48 or 66 |
+/// | Ed25519 (RFC 8709, section 6) | 64 |
+/// | RSA with a hash (RFC 8332, section 3) | any |
+/// | RSA without a hash | none are well-formed |
+/// | security keys (PROTOCOL.u2f) | those of ECDSA over P-256, or of Ed25519, then one byte of flags and four of a counter |
+/// | of somebody's own | at least 1 |
+#[derive(Debug, Drop)]
+pub struct Signature {
+    algorithm: Algorithm,
+    blob: Bytes,
+    pub ghost form: { is_blob (algorithm_of algorithm) blob ≡ true },
+}
+
+impl Signature {
+    ghost use Rattle.sshkey_base.specs.Answering.{AnswersAlways};
+    ghost use Rattle.sshkey_base.specs.Causes.{cause};
+    ghost use Rattle.sshkey_keys.specs.SignatureForms.{signature_from};
+    ghost use Rattle.sshkey_keys.specs.Signatures.{signature_of};
+
+    /// The signature by that algorithm that has these bytes, where they are well-formed for it.
+    ///
+    /// Of an ECDSA signature the first fault from the left is answered: `FormatEncoding` for a
+    /// number with a needless leading 00, `Crypto` for one that is not positive. All else that is
+    /// not well-formed is `Length`. Takes no memory.
+    pub fn new(algorithm: Algorithm, bytes: Vec<u8>) -> Result<Signature>
+        ensures exactly { IsOk result ↔ IsSignatureBlob (algorithm_of algorithm) bytes.items }
+        ensures answer { AnswersAlways signature_of cause (signature_from (algorithm_of algorithm) bytes.items) result }
+    {
+        check_blob(&algorithm, &bytes)?;
+        Ok(Signature {
+            algorithm,
+            blob: Bytes::new(bytes),
+        })
+    }
+
+    /// The algorithm.
+    pub fn algorithm(&self) -> &Algorithm
+        ensures { result.now ≡ self.now.algorithm }
+    {
+        &self.algorithm
+    }
+
+    /// The bytes, with the flags and the counter of a security key at their end.
+    pub fn as_bytes(&self) -> &[u8]
+        ensures bytes { result.now ≡ (signature_of self.now).blob }
+        ensures form { IsSignatureBlob (signature_of self.now).algorithm result.now }
+    {
+        self.blob.as_slice()
+    }
+}

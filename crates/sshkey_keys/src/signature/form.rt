@@ -1,0 +1,137 @@
+//! Which bytes are those of a signature.
+
+ghost use Rattle.std.specs.Prelude.{◌≡◌};
+ghost use Rattle.sshkey_base.specs.Answering.{AnswersAlways};
+ghost use Rattle.sshkey_base.specs.Causes.{cause, encoding_cause};
+ghost use Rattle.sshkey_base.specs.Names.{algorithm_of, curve_of};
+ghost use Rattle.sshkey_model.specs.Points.{field_size as size_of_field};
+ghost use Rattle.sshkey_model.specs.Reading.{string_at};
+ghost use Rattle.sshkey_model.specs.Signatures.{sized_from, without_trailer, trailer, ecdsa_blob_from};
+ghost use Rattle.sshkey_keys.specs.SignatureForms.{has_trailer, string_from, blob_from, positive_from, after_component};
+
+use sshkey_base::{Algorithm, EcdsaCurve, Error, Result, encoding, length_from};
+
+/// How many bytes stand behind a security key's signature: one of flags, four of a counter.
+const TRAILER_LEN: usize = 5;
+
+/// Whether the bytes are those of a signature by the algorithm.
+pub(crate) fn check_blob(algorithm: &Algorithm, bytes: &[u8]) -> Result<()>
+    ensures { AnswersAlways (λ _. bytes.now) cause (blob_from (algorithm_of algorithm.now) bytes.now) result }
+{
+    if !has_trailer(algorithm) {
+        return check_string(algorithm, bytes);
+    }
+    if bytes.len() < TRAILER_LEN {
+        return Err(Error::Encoding(encoding::Error::Length));
+    }
+    check_string(algorithm, split_trailer(bytes).0)
+}
+
+/// Whether flags and a counter stand behind the string, as in the signatures of security keys.
+pub(crate) fn has_trailer(algorithm: &Algorithm) -> bool
+    ensures { result ≡ has_trailer (algorithm_of algorithm.now) }
+{
+    matches!(
+        algorithm,
+        Algorithm::SkEcdsaSha2NistP256 | Algorithm::SkEd25519
+    )
+}
+
+/// Whether the bytes are those that stand in the string of a signature by the algorithm.
+pub(crate) fn check_string(algorithm: &Algorithm, bytes: &[u8]) -> Result<()>
+    ensures { AnswersAlways (λ _. bytes.now) cause (string_from (algorithm_of algorithm.now) bytes.now) result }
+{
+    match algorithm {
+        Algorithm::Dsa => check_len(40, bytes),
+        Algorithm::Ecdsa { curve } => check_ecdsa(field_size(*curve), bytes),
+        Algorithm::Ed25519 | Algorithm::SkEd25519 => check_len(64, bytes),
+        Algorithm::Rsa { hash: Some(_) } => Ok(()),
+        Algorithm::Rsa { hash: None } => Err(Error::Encoding(encoding::Error::Length)),
+        Algorithm::SkEcdsaSha2NistP256 => check_ecdsa(32, bytes),
+        Algorithm::Other(_) => {
+            if bytes.is_empty() {
+                return Err(Error::Encoding(encoding::Error::Length));
+            }
+            Ok(())
+        }
+    }
+}
+
+/// What stands in the string, and the flags and the counter behind it.
+pub(crate) fn split_trailer(blob: &[u8]) -> (&[u8], &[u8])
+    ensures string { result.0.now ≡ without_trailer blob.now }
+    ensures trailer { result.1.now ≡ trailer blob.now }
+{
+    blob.split_at(blob.len().saturating_sub(TRAILER_LEN))
+}
+
+/// `Length` where there are more or fewer bytes.
+fn check_len(len: usize, bytes: &[u8]) -> Result<()>
+    ensures { AnswersAlways (λ _. bytes.now) cause (sized_from len bytes.now) result }
+{
+    if bytes.len() != len {
+        return Err(Error::Encoding(encoding::Error::Length));
+    }
+    Ok(())
+}
+
+/// How many bytes a coordinate on the curve has.
+fn field_size(curve: EcdsaCurve) -> usize
+    ensures { result ≡ size_of_field (curve_of curve) }
+{
+    match curve {
+        EcdsaCurve::NistP256 => 32,
+        EcdsaCurve::NistP384 => 48,
+        EcdsaCurve::NistP521 => 66,
+    }
+}
+
+/// Whether the bytes are two positive numbers of at most `size` bytes each, and nothing more.
+fn check_ecdsa(size: usize, bytes: &[u8]) -> Result<()>
+    ensures { AnswersAlways (λ _. bytes.now) cause (ecdsa_blob_from size bytes.now) result }
+{
+    let behind_r = after_component(size, bytes)?;
+    let behind_s = after_component(size, behind_r)?;
+    if !behind_s.is_empty() {
+        return Err(Error::Encoding(encoding::Error::Length));
+    }
+    Ok(())
+}
+
+/// What stands behind a positive number of at most `size` bytes.
+fn after_component(size: usize, bytes: &[u8]) -> Result<&[u8]>
+    ensures { AnswersAlways (λ rest. rest.now) cause (after_component size bytes.now) result }
+{
+    let (number, rest) = split_string(bytes)?;
+    if positive_part(number)?.len() > size {
+        return Err(Error::Encoding(encoding::Error::Length));
+    }
+    Ok(rest)
+}
+
+/// The bytes of a positive number, without the 00 that may stand first.
+///
+/// `FormatEncoding` where they are those of no number, `Crypto` for zero and a negative number.
+fn positive_part(number: &[u8]) -> Result<&[u8]>
+    ensures { AnswersAlways (λ part. part.now) cause (positive_from number.now) result }
+{
+    match number {
+        [0] => Err(Error::FormatEncoding),
+        [0, second, ..] if *second < 0x80 => Err(Error::FormatEncoding),
+        [0, part @ ..] => Ok(part),
+        [first, ..] if *first < 0x80 => Ok(number),
+        _ => Err(Error::Crypto),
+    }
+}
+
+/// The bytes that a length of four bytes before them counts, and what stands behind them.
+fn split_string(bytes: &[u8]) -> encoding::Result<(&[u8], &[u8])>
+    ensures { AnswersAlways (λ parts. (parts.0.now, parts.1.now)) encoding_cause (string_at bytes.now) result }
+{
+    let mut behind = bytes;
+    let len = length_from(&mut behind)?;
+    if behind.len() < len {
+        return Err(encoding::Error::Length);
+    }
+    Ok(behind.split_at(len))
+}
