@@ -1,3 +1,4 @@
 pub mod OwnAlgorithms
 pub mod SignatureForms
 pub mod SplitStrings
+pub mod SignatureParts

@@ -5,3 +5,5 @@ pub mod KeyReaders
 pub mod Fingerprints
 pub mod SignatureForms
 pub mod Signatures
+pub mod Blobs
+pub mod SignatureReaders

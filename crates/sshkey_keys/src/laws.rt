@@ -2,10 +2,12 @@
 
 ghost use Rattle.std.specs.Prelude.{◌≡◌, ◌++◌, ℕ, List};
 ghost use Rattle.sshkey_model.specs.Keys.{Key};
+ghost use Rattle.sshkey_model.specs.Signatures.{Signature};
 ghost use Rattle.sshkey_base.specs.Comparisons.{IsEqualityOf, IsOrderOf, IsOrderByParts};
 ghost use Rattle.sshkey_keys.specs.Comparisons.{IsEqualityOfKeys, IsEqualityOfForms, key_parts};
 ghost use Rattle.sshkey_keys.specs.Fingerprints.{fingerprint_key};
 ghost use Rattle.sshkey_keys.specs.Keys.{SpellsKey};
+ghost use Rattle.sshkey_keys.specs.SignatureReaders.{SpellsSignature};
 
 use crate::fingerprint::Fingerprint;
 use crate::key_data::KeyData;
@@ -41,3 +43,9 @@ pub fn compared_keys()
     laws::compared_opaque_keys();
     normal_keys();
 }
+
+/// No spelling of a signature begins another: what follows it does not matter, and it is that of
+/// one signature.
+pub fn prefix_signature()
+    ensures { (g h : Signature) (a b r q : List ℕ) → SpellsSignature g a → SpellsSignature h b → a ++ r ≡ b ++ q → (g ≡ h) × (a ≡ b) × (r ≡ q) }
+{}

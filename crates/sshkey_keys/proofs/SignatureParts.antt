@@ -1,0 +1,67 @@
+-- What stands behind the name of an algorithm.
+use Rattle.std.proofs.Common.{◌≡◌, ℕ, ◌-◌, ◌≤◌, Bool, true, false, Option, Some, None, List, ◌++◌, length, take, drop, Result, Ok, Err, refl, sym, ap, subst, ◌∙◌, arith}
+use Rattle.std.proofs.lemmas.List.{length-drop}
+use Rattle.sshkey_model.specs.Parts.{Parts, bytes, ◌&◌}
+use Rattle.sshkey_model.specs.Reading.{Fault, ◌>>=◌, string_at, checked_at}
+use Rattle.sshkey_model.specs.Texts.{string}
+use Rattle.sshkey_model.specs.Names.{Algorithm}
+use Rattle.sshkey_model.specs.Signatures.{IsSignatureBlob, signature_blob, signature_blob_at, trailed_at, without_trailer, trailer}
+use Rattle.sshkey_model.proofs.SignatureReaders.{signature_blob_reads}
+use Rattle.std.specs.Prelude.{IfOk}
+use Rattle.sshkey_base.specs.declared.error.Error.{Error}
+use Rattle.sshkey_base.specs.Causes.{cause}
+use Rattle.sshkey_base.specs.Source.{Source}
+use Rattle.sshkey_base.specs.Reading.{Gives}
+use Rattle.sshkey_keys.specs.SignatureForms.{has_trailer, string_from}
+
+-- ---- reading
+
+kept_string : (m : Result (List ℕ × List ℕ) Fault) → (m >>= λ x. Ok x) ≡ m
+kept_string (Ok x) = refl
+kept_string (Err f) = refl
+
+-- no trailer stands behind the string
+pub string_is : (a : Algorithm) (b : List ℕ) → has_trailer a ≡ false → checked_at (string_from a) string_at b ≡ signature_blob_at a b
+string_is Algorithm.Dsa b e = refl
+string_is (Algorithm.Ecdsa c) b e = refl
+string_is Algorithm.Ed25519 b e = refl
+string_is (Algorithm.Rsa None) b e = refl
+string_is (Algorithm.Rsa (Some h)) b e = kept_string (string_at b)
+string_is Algorithm.SkEcdsa b e = absurd cc
+string_is Algorithm.SkEd25519 b e = absurd cc
+string_is (Algorithm.Other n) b e = refl
+
+-- a trailer stands behind it
+pub trailed_is : (a : Algorithm) (b : List ℕ) → has_trailer a ≡ true → trailed_at (string_from a) b ≡ signature_blob_at a b
+trailed_is Algorithm.SkEcdsa b e = refl
+trailed_is Algorithm.SkEd25519 b e = refl
+trailed_is _ b e = absurd cc
+
+-- what is read is well-formed
+pub read_formed : (a : Algorithm) (b blob rest : List ℕ) → signature_blob_at a b ≡ Ok (blob, rest) → IsSignatureBlob a blob
+read_formed a b blob rest e = ((signature_blob_reads a).takes b blob rest e).0
+
+-- ---- writing
+
+pub plain_parts : (a : Algorithm) (b : List ℕ) → has_trailer a ≡ false → signature_blob a b ≡ string b
+plain_parts Algorithm.SkEcdsa b e = absurd cc
+plain_parts Algorithm.SkEd25519 b e = absurd cc
+plain_parts _ b e = refl
+
+pub trailed_parts : (a : Algorithm) (b : List ℕ) → has_trailer a ≡ true → signature_blob a b ≡ string (without_trailer b) & bytes (trailer b)
+trailed_parts Algorithm.SkEcdsa b e = refl
+trailed_parts Algorithm.SkEd25519 b e = refl
+trailed_parts _ b e = absurd cc
+
+pub short_trailer : (b : List ℕ) → length (trailer b) ≤ 5
+short_trailer b = omega (arith, length-drop (length b - 5) b)
+
+-- ---- what a call gives
+
+pub string_formed : (a : Algorithm) (s t : Source) (r : Result (List ℕ) Error) → has_trailer a ≡ false → Gives (λ b. b) cause (checked_at (string_from a) string_at) s r t → IfOk r (IsSignatureBlob a)
+string_formed a s t (Ok x) e h = read_formed a s.left x t.left (sym (string_is a s.left e) ∙ h.value)
+string_formed a s t (Err d) e h = tt
+
+pub trailed_formed : (a : Algorithm) (s t : Source) (r : Result (List ℕ) Error) → has_trailer a ≡ true → Gives (λ b. b) cause (trailed_at (string_from a)) s r t → IfOk r (IsSignatureBlob a)
+trailed_formed a s t (Ok x) e h = read_formed a s.left x t.left (sym (trailed_is a s.left e) ∙ h.value)
+trailed_formed a s t (Err d) e h = tt

@@ -1,0 +1,14 @@
+use Rattle.std.proofs.lemmas.Result.{err_from_is_err_and}
+use Rattle.sshkey_base.proofs.Steps.{refused_first, refused_later}
+use Rattle.sshkey_keys.specs.SignatureReaders.{signature_at, algorithm_at, label_at}
+use Rattle.sshkey_keys.proofs.SignatureForms.{tested}
+use Rattle.sshkey_keys.proofs.signature.wire.SignatureDecode.decode.Goals as goal
+
+pub returns-in_err-blob : goal.returns-in_err-blob
+unfolding signature_at algorithm_at label_at
+returns-in_err-blob g c =
+    let p = err_from_is_err_and c.from_residual-in_err-blob.result c.from_residual-in_err-blob.ensures.1 in
+    rw (p.1, p.2) (refused_later _ _ _ _ _ _ _ c.in_ok-algorithm.ensures.gives (refused_first _ _ _ _ c.in_err-blob.ensures.gives))
+
+pub invariant_of-result : goal.invariant_of-result
+invariant_of-result g c = record { form = tested _ _ c.in_ok-blob.ensures.form }

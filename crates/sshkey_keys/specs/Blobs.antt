@@ -1,0 +1,26 @@
+-- Reading from a list of bytes, and making one.
+use Rattle.std.specs.Prelude.{◌≡◌, ℕ, List, [], Result, Ok, Err, ◌⊎◌, Vec}
+use Rattle.sshkey_model.specs.Parts.{Parts, flat, Fits, BoxesFit}
+use Rattle.sshkey_model.specs.Reading.{Front}
+use Rattle.sshkey_base.specs.declared.encoding.Error.TheVariants.{Length}
+use Rattle.sshkey_base.specs.declared.error.Error.{Error}
+use Rattle.sshkey_base.specs.declared.error.Error.TheVariants.{Encoding, Memory}
+use Rattle.sshkey_base.specs.Causes.{Cause}
+use Rattle.sshkey_base.specs.Source.{Source}
+use Rattle.sshkey_base.specs.Reading.{Gives}
+use Rattle.sshkey_base.specs.Accepting.{AcceptsFront}
+
+-- all the bytes of a list, and no fault
+abbrev pub all_of : List ℕ → Source
+all_of b = record { left = b; missing = 0; outer = [] }
+
+-- A front of the bytes was read, whatever follows it.
+pub record ReadsFrontOf {X Y E : Type 0} (means : X → Y) (read : Front Y) (Spells : Y → List ℕ → Type 0) (cause : E → Cause) (b : List ℕ) (r : Result X E) : Type 0 where
+  pub rest : Source
+  pub gives : Gives means cause read (all_of b) r rest
+  pub accepts : AcceptsFront means Spells cause (all_of b) r rest
+
+-- The vector holds the bytes of the parts. `Length` exactly where a box of them is too long, else only want of memory.
+abbrev pub MakesBlob : {Z : Type 0} → Parts → Result (Vec ℕ Z) Error → Type 0
+MakesBlob p (Ok v) = Fits p × (v.items ≡ flat p)
+MakesBlob p (Err e) = ((BoxesFit p → ⊥) × (e ≡ Encoding Length)) ⊎ (BoxesFit p × (e ≡ Memory))

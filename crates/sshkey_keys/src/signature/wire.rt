@@ -1,0 +1,185 @@
+//! How signatures are read and written.
+
+ghost use Rattle.std.specs.Prelude.{◌≡◌, ◌++◌, ◌+◌, ◌*◌, ◌^◌, ◌≤◌, IfOk, IfErr};
+ghost use Rattle.sshkey_base.specs.Accepting.{AcceptsWhole};
+ghost use Rattle.sshkey_base.specs.Answering.{AnswersAlways};
+ghost use Rattle.sshkey_base.specs.Causes.{cause};
+ghost use Rattle.sshkey_base.specs.Names.{algorithm_of};
+ghost use Rattle.sshkey_base.specs.Reading.{Gives, GivesWhole};
+ghost use Rattle.sshkey_base.specs.Sink.{Encodes, Measures};
+ghost use Rattle.sshkey_base.specs.declared.error.Error.TheVariants as wide;
+ghost use Rattle.sshkey_model.specs.Reading.{checked_at, string_at, whole};
+ghost use Rattle.sshkey_model.specs.Signatures.{Signature as TheSignature, IsSignature, IsSignatureBlob, signature, signature_blob, signature_blob_at, signature_at, trailed_at};
+ghost use Rattle.sshkey_keys.specs.Blobs.{all_of, ReadsFrontOf, MakesBlob};
+ghost use Rattle.sshkey_keys.specs.SignatureForms.{string_from};
+ghost use Rattle.sshkey_keys.specs.SignatureReaders.{SpellsSignature, signature_grammar, signature_normal};
+ghost use Rattle.sshkey_keys.specs.Signatures.{signature_of};
+
+use super::Signature;
+use super::form::{check_string, has_trailer, split_trailer};
+use sshkey_base::{
+    Algorithm, Bytes, Decode, Encode, Error, NormalForm, Reader, Result, Writer, array_from,
+    decode_front, decode_whole, encode_string, encode_vec, encoding, string_len,
+};
+use std::alloc::Global;
+
+impl Signature {
+    /// Reads a signature from the front of the bytes, whatever follows it.
+    ///
+    /// Want of memory aside, it is refused only where no front spells a signature. The refusals
+    /// are those of `decode`.
+    pub fn from_front(alloc: Global, bytes: &[u8]) -> Result<Signature>
+        ensures { ReadsFrontOf signature_of signature_at SpellsSignature cause bytes.now result }
+    {
+        let mut left = bytes;
+        decode_front(alloc, &mut left)
+    }
+
+    /// Reads a signature that all the bytes spell.
+    ///
+    /// Want of memory aside, they are refused only where they spell no signature: `TrailingData`
+    /// with the number of bytes behind one, else the refusals of `decode`.
+    pub fn from_bytes(alloc: Global, bytes: &[u8]) -> Result<Signature>
+        ensures gives { GivesWhole signature_of cause (whole signature_at) (all_of bytes.now) result }
+        ensures accepts { AcceptsWhole signature_of SpellsSignature cause (all_of bytes.now) result }
+    {
+        decode_whole(alloc, bytes)
+    }
+
+    /// The bytes that spell the signature, in memory of their own.
+    ///
+    /// Exactly where the bytes of the signature are more than 2^32 - 1 (those behind the string
+    /// aside), the answer is `Length`; otherwise it is refused for want of memory alone.
+    pub fn to_bytes(&self, alloc: Global) -> Result<Vec<u8>>
+        ensures { MakesBlob (signature (signature_of self.now)) result }
+    {
+        Ok(encode_vec(alloc, self)?)
+    }
+}
+
+/// The name of the algorithm, and the bytes as a string, but that the flags and the counter of a
+/// security key stand behind it (RFC 4253, section 6.6; PROTOCOL.u2f).
+///
+/// `Label` for a name of no algorithm, and the faults of `Signature::new`, for which the bytes
+/// behind the string are read first.
+#[tactic(auto, using(sshkey_base::proofs::Steps::steps), unfolding(crate::specs::SignatureReaders::signature_at, crate::specs::SignatureReaders::algorithm_at, crate::specs::SignatureReaders::label_at))]
+impl Decode for Signature {
+    type Error = Error;
+
+    ghost Meaning = { TheSignature };
+
+    ghost means = { signature_of };
+
+    ghost parse = { signature_at };
+
+    ghost Spells = { SpellsSignature };
+
+    ghost grammar = { signature_grammar };
+
+    fn decode<R: Reader>(alloc: Global, reader: &mut R) -> Result<Signature> {
+        let algorithm = Algorithm::decode(alloc, reader)?;
+        let blob = decode_blob(alloc, reader, &algorithm)?;
+        Ok(Signature { algorithm, blob })
+    }
+}
+
+/// What stands behind the name of that algorithm.
+fn decode_blob<R: Reader>(alloc: Global, reader: &mut R, algorithm: &Algorithm) -> Result<Bytes>
+    ensures gives { Gives (λ b. b) cause (signature_blob_at (algorithm_of algorithm.now)) (R.source reader.old) result (R.source reader.new) }
+    ensures form { IfOk result (IsSignatureBlob (algorithm_of algorithm.now)) }
+{
+    if has_trailer(algorithm) {
+        decode_trailed(alloc, reader, algorithm)
+    } else {
+        decode_string(alloc, reader, algorithm)
+    }
+}
+
+/// A string of bytes that are well-formed.
+#[tactic(auto, using(sshkey_base::proofs::Steps::steps))]
+fn decode_string<R: Reader>(alloc: Global, reader: &mut R, algorithm: &Algorithm) -> Result<Bytes>
+    ensures { Gives (λ b. b) cause (checked_at (string_from (algorithm_of algorithm.now)) string_at) (R.source reader.old) result (R.source reader.new) }
+{
+    let bytes = Bytes::decode(alloc, reader)?;
+    checked(algorithm, bytes)
+}
+
+/// The bytes, where they stand in the string of a signature by the algorithm.
+fn checked(algorithm: &Algorithm, bytes: Bytes) -> Result<Bytes>
+    ensures { AnswersAlways (λ b. b) cause (string_from (algorithm_of algorithm.now) bytes) result }
+{
+    check_string(algorithm, bytes.as_slice())?;
+    Ok(bytes)
+}
+
+/// A string of bytes that are well-formed, and the five bytes behind it.
+#[tactic(auto, using(sshkey_base::proofs::Steps::steps))]
+fn decode_trailed<R: Reader>(alloc: Global, reader: &mut R, algorithm: &Algorithm) -> Result<Bytes>
+    ensures { Gives (λ b. b) cause (trailed_at (string_from (algorithm_of algorithm.now))) (R.source reader.old) result (R.source reader.new) }
+{
+    let bytes = Bytes::decode(alloc, reader)?;
+    let trailer = array_from::<5, R>(reader)?;
+    check_string(algorithm, bytes.as_slice())?;
+    with_trailer(bytes, &trailer)
+}
+
+/// The bytes, and then the trailer. Refused only for want of memory.
+fn with_trailer(bytes: Bytes, trailer: &[u8]) -> Result<Bytes>
+    ensures joined { IfOk result (λ blob. blob ≡ bytes ++ trailer.now) }
+    ensures refused { IfErr result (λ e. e ≡ wide.Memory) }
+{
+    let mut blob = bytes.into_vec();
+    blob.extend_from_slice(trailer)?;
+    Ok(Bytes::new(blob))
+}
+
+/// The name of the algorithm, and the bytes as a string, with flags and counter behind it.
+#[tactic(auto, using(sshkey_base::proofs::Writing::writing, sshkey_base::proofs::Writing::measuring))]
+impl Encode for Signature {
+    ghost normal = { λ g. signature (signature_of g) };
+
+    ghost most = { 2 * (2 ^ 32 + 8) };
+
+    fn encoded_len(&self) -> encoding::Result<usize> {
+        Ok(self.algorithm.encoded_len()? + blob_len(&self.algorithm, self.blob.as_slice())?)
+    }
+
+    fn encode<W: Writer>(&self, writer: &mut W) -> encoding::Result<()> {
+        self.algorithm.encode(writer)?;
+        encode_blob(&self.algorithm, self.blob.as_slice(), writer)
+    }
+}
+
+/// How many bytes stand behind the name of the algorithm.
+fn blob_len(algorithm: &Algorithm, blob: &[u8]) -> encoding::Result<usize>
+    ensures measures { Measures (signature_blob (algorithm_of algorithm.now) blob.now) result }
+    ensures short { IfOk result (λ n. n ≤ 2 ^ 32 + 8) }
+{
+    if !has_trailer(algorithm) {
+        return string_len(blob);
+    }
+    let (string, trailer) = split_trailer(blob);
+    Ok(string_len(string)? + trailer.len())
+}
+
+/// Writes what stands behind the name of the algorithm.
+fn encode_blob<W: Writer>(
+    algorithm: &Algorithm,
+    blob: &[u8],
+    writer: &mut W,
+) -> encoding::Result<()>
+    ensures { Encodes W.fault (signature_blob (algorithm_of algorithm.now) blob.now) (W.sink writer.old) result (W.sink writer.new) }
+{
+    if !has_trailer(algorithm) {
+        return encode_string(blob, writer);
+    }
+    let (string, trailer) = split_trailer(blob);
+    encode_string(string, writer)?;
+    writer.write(trailer)
+}
+
+impl NormalForm for Signature {
+    ghost IsWellFormed = { λ g. IsSignature (signature_of g) };
+
+    ghost normal_spells = { λ g. signature_normal (signature_of g) };
+}
