@@ -1,16 +1,16 @@
 -- What is taken as the bytes of a signature is well-formed, and the other way round.
-use Rattle.std.proofs.Common.{◌≡◌, ◌↔◌, ℕ, suc, ◌≤◌, ◌<◌, ◌-◌, Option, None, Some, Bool, true, false, cond, eqb, ltb, List, ◌++◌, length, take, drop, get_or, Result, Ok, Err, refl, sym, ap, subst, ◌∙◌, arith}
+use Rattle.std.proofs.Common.{◌≡◌, ℕ, suc, ◌≤◌, ◌-◌, Option, None, Some, Bool, true, false, cond, eqb, ltb, List, length, take, Result, Ok, Err, refl, sym, subst, ◌∙◌, arith}
 use Rattle.std.proofs.lemmas.Bool.{eqb-true, eq-eqb, ltb-true, lt-ltb, ltb-false, le-ltb}
 use Rattle.std.proofs.lemmas.List.{length-take}
 use Rattle.sshkey_model.specs.Parts.{bytes}
-use Rattle.sshkey_model.specs.Reading.{Fault, Length, ◌>>=◌, Whole, string_at, checked_at}
+use Rattle.sshkey_model.specs.Reading.{Fault, Length, ◌>>=◌, Whole, string_at}
 use Rattle.sshkey_model.specs.Names.{Algorithm}
-use Rattle.sshkey_model.specs.Mpints.{is_mpint, mpint_from, positive_part}
+use Rattle.sshkey_model.specs.Mpints.{mpint_from, positive_part}
 use Rattle.sshkey_model.specs.Points.{field_size}
 use Rattle.sshkey_model.specs.Signatures.{IsSignatureBlob, IsEcdsaBlob, without_trailer, sized_from, ecdsa_blob_from, component_at, component_from, small_part}
-use Rattle.sshkey_model.proofs.CombinedReaders.{bind_ok, bind_assoc, passed, met, ok_is, done, Checks}
-use Rattle.sshkey_model.proofs.SignatureReaders.{ecdsa_blob_checks, sized_checks}
-use Rattle.sshkey_keys.specs.SignatureForms.{string_from, trailed_from, blob_from, is_taken, is_blob, or_none, positive_from, after_component, ecdsa_from}
+use Rattle.sshkey_model.proofs.CombinedReaders.{bind_ok, passed, met, ok_is, done}
+use Rattle.sshkey_model.proofs.SignatureReaders.{ecdsa_blob_checks}
+use Rattle.sshkey_keys.specs.SignatureForms.{trailed_from, blob_from, is_taken, is_blob, or_none, positive_from, after_component, ecdsa_from}
 
 same_bytes : (a b : List ℕ) → bytes a ≡ bytes b → a ≡ b
 same_bytes a b e = cc

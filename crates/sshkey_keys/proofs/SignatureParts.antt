@@ -1,7 +1,7 @@
 -- What stands behind the name of an algorithm.
-use Rattle.std.proofs.Common.{◌≡◌, ℕ, ◌-◌, ◌≤◌, Bool, true, false, Option, Some, None, List, ◌++◌, length, take, drop, Result, Ok, Err, refl, sym, ap, subst, ◌∙◌, arith}
+use Rattle.std.proofs.Common.{◌≡◌, ℕ, ◌-◌, ◌≤◌, true, false, Some, None, List, length, Result, Ok, Err, refl, sym, ◌∙◌, arith}
 use Rattle.std.proofs.lemmas.List.{length-drop}
-use Rattle.sshkey_model.specs.Parts.{Parts, bytes, ◌&◌}
+use Rattle.sshkey_model.specs.Parts.{bytes, ◌&◌}
 use Rattle.sshkey_model.specs.Reading.{Fault, ◌>>=◌, string_at, checked_at}
 use Rattle.sshkey_model.specs.Texts.{string}
 use Rattle.sshkey_model.specs.Names.{Algorithm}

@@ -5,5 +5,6 @@ pub mod KeyReaders
 pub mod Fingerprints
 pub mod SignatureForms
 pub mod Signatures
+pub mod Verdicts
 pub mod Blobs
 pub mod SignatureReaders

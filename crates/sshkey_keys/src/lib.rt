@@ -4,11 +4,16 @@
 mod fingerprint;
 mod key_data;
 pub mod laws;
+mod raw_verifier;
 mod signature;
+mod signing_key;
+mod verify;
 
 pub use fingerprint::Fingerprint;
 pub use key_data::KeyData;
+pub use raw_verifier::RawVerifier;
 pub use signature::Signature;
+pub use signing_key::SigningKey;
 
 #[cfg(test)]
 mod tests;

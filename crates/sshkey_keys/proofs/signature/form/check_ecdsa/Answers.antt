@@ -1,6 +1,5 @@
-use Rattle.std.proofs.Common.{◌≡◌, ℕ, List, Result, Ok, Err, cond, eqb, length, refl, rules}
+use Rattle.std.proofs.Common.{refl, rules}
 use Rattle.std.proofs.lemmas.Result.{err_from_is_err_and}
-use Rattle.sshkey_base.specs.Causes.{cause}
 use Rattle.sshkey_base.proofs.Judging.{answers_first, answers_later}
 use Rattle.sshkey_keys.proofs.SignatureForms.{ecdsa_is}
 use Rattle.sshkey_keys.proofs.signature.form.check_ecdsa.Goals as goal

@@ -1,0 +1,44 @@
+-- What a verification answers.
+use Rattle.std.specs.Prelude.{◌≡◌, List, ℕ, Bool, Option, Some, None, Result, Ok, Err, if◌then◌else◌}
+use Rattle.sshkey_model.specs.Verification.{Question, question}
+use Rattle.sshkey_base.specs.declared.algorithm.Algorithm.{Algorithm}
+use Rattle.sshkey_base.specs.declared.error.Error.{Error}
+use Rattle.sshkey_base.specs.declared.error.Error.TheVariants.{AlgorithmUnsupported, Crypto, Memory}
+use Rattle.sshkey_keys.specs.declared.key_data.KeyData.{KeyData}
+use Rattle.sshkey_keys.specs.declared.key_data.KeyData.TheVariants as kinds
+use Rattle.sshkey_keys.specs.declared.signature.Signature.{Signature}
+use Rattle.sshkey_keys.specs.Keys.{key_of}
+use Rattle.sshkey_keys.specs.Signatures.{signature_of}
+
+-- Why a signature is refused: nothing is asked about it, or the verifier says no.
+pub data Refusal : Type 0 where
+  Unsupported : Algorithm → Refusal
+  NotAccepted : Refusal
+
+-- what the verifier is asked decides
+abbrev pub judged : (Question → Bool) → Algorithm → Option Question → Result Unit Refusal
+judged accepts algorithm None = Err (Unsupported algorithm)
+judged accepts algorithm (Some q) = if accepts q then Ok tt else Err NotAccepted
+
+-- A key of somebody's own verifies nothing, and its algorithm is named. Else that of the signature is, where nothing is asked.
+abbrev pub verdict : (Question → Bool) → KeyData → List ℕ → Signature → Result Unit Refusal
+verdict accepts (kinds.Other key) message g = Err (Unsupported key.algorithm)
+verdict accepts key message g = judged accepts g.algorithm (question (key_of key) message (signature_of g))
+
+-- The error says so, unless memory was refused.
+abbrev pub Says : Result Unit Refusal → Error → Type 0
+Says answer Memory = Unit {0}
+Says answer (AlgorithmUnsupported algorithm) = answer ≡ Err (Unsupported algorithm)
+Says answer Crypto = answer ≡ Err NotAccepted
+Says answer _ = ⊥
+
+-- The result is that answer, unless memory was refused.
+abbrev pub Verifies : Result Unit Refusal → Result Unit Error → Type 0
+Verifies answer (Ok x) = answer ≡ Ok tt
+Verifies answer (Err e) = Says answer e
+
+-- The error names that algorithm, unless memory was refused.
+abbrev pub IsUnsupported : Algorithm → Error → Type 0
+IsUnsupported algorithm Memory = Unit {0}
+IsUnsupported algorithm (AlgorithmUnsupported named) = named ≡ algorithm
+IsUnsupported algorithm _ = ⊥

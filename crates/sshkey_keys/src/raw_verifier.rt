@@ -1,0 +1,28 @@
+//! Who says whether a signature is one: the caller.
+
+ghost use Rattle.std.specs.Prelude.{◌≡◌, Bool, IfOk};
+ghost use Rattle.sshkey_model.specs.Verification.{Question};
+ghost use Rattle.sshkey_base.specs.Names.{algorithm_of};
+ghost use Rattle.sshkey_keys.specs.Keys.{key_of};
+
+use crate::key_data::KeyData;
+use sshkey_base::Algorithm;
+use std::alloc::AllocError;
+
+/// The mathematics of signatures, which is the caller's. None of it is here.
+pub trait RawVerifier {
+    /// Which signatures it accepts, a function of its value and the question.
+    ghost accepts: { Self → Question → Bool };
+
+    /// Whether these bytes are a signature of the message under the key by the algorithm.
+    ///
+    /// It may be refused memory, and then has no answer.
+    fn verify(
+        &self,
+        algorithm: &Algorithm,
+        key: &KeyData,
+        message: &[u8],
+        signature: &[u8],
+    ) -> std::result::Result<bool, AllocError>
+        ensures { IfOk result (λ yes. yes ≡ accepts self.now (record { algorithm = algorithm_of algorithm.now; key = key_of key.now; message = message.now; blob = signature.now })) };
+}
