@@ -94,3 +94,7 @@ pub(crate) const OPAQUE: Known = Known {
     sha256: "SHA256:4bUj2o3LxjBcRMQZ3v/h+IsBjFU2rNAXck0cyZ0fg2w",
     sha512: "SHA512:Eg8IqzZLgzWC3Ay/EniblzJoruuWR+L3TyKhWG+SZQJ4PUivCNLsVvjfJ/LRpdfvu/5QOB26fG0R9zJZqWlRRA",
 };
+
+pub(crate) const EACH_KIND: [Known; 10] = [
+    DSA, RSA_1024, RSA_3072, ECDSA_256, ECDSA_384, ECDSA_521, ED25519, SK_ECDSA, SK_ED25519, OPAQUE,
+];

@@ -1,4 +1,4 @@
-//! The parts of known keys, as another program shows them.
+//! Keys that are made of their parts, as another program shows them, are the known keys.
 //!
 //! `ssh-keygen -e -m PKCS8 -f key.pub | openssl pkey -pubin -text -noout` (OpenSSL 3.0) gave the
 //! numbers and the points. `load_ssh_public_key(line).public_bytes_raw().hex()` of Python's
@@ -8,11 +8,14 @@ use crate::known::{
     DSA, ECDSA_256, ECDSA_384, ECDSA_521, ED25519, Known, OPAQUE, RSA_1024, SK_ECDSA, SK_ED25519,
 };
 use crate::support::known_key;
-use sshkey_base::{EcdsaCurve, Mpint};
+use hex::FromHex;
+use sshkey_base::{Algorithm, Mpint};
 use sshkey_keys::KeyData;
+use sshkey_kinds::{
+    DsaPublicKey, EcPoint, EcdsaPublicKey, Ed25519PublicKey, OpaquePublicKey, RsaPublicKey,
+    SkEcdsaSha2NistP256, SkEd25519,
+};
 use std::alloc::Global;
-use std::process::Abort;
-use std::test::Fail;
 
 const MODULUS: &str =
     "cf1119f01a533ce2f193f6fae7db2689e747122b314de80528c05a38a9196c77935626f550b65b454825c5cebd21822286e414831a841cadda9f436213f843ec35762ccf6d3cdaae168186a70eb2bbb48c1f2afb5d260f33b49dc0647510c6510ecd114b32f91e5d7096513579cfef1515af86fdb94ef56151fdcb03d65a3997";
@@ -39,99 +42,89 @@ const POINT_521: &str =
 
 const BYTES: &str = "cd2deb45d9be2f138b2d118cd173f9a4cab288f138692a67583d6cc8fd2a7f21";
 
-/// The number is positive, and these are its bytes.
-fn is_number(
-    rt: &(impl Abort + AllocGlobal),
-    number: &Mpint,
-    hexadecimal: &str,
-) -> Result<(), Fail> {
-    let bytes = hex::decode(rt.alloc(), hexadecimal)?;
-    assert_eq!(rt; number.as_positive_bytes(), Some(bytes.as_slice()));
-    Ok(())
+/// The positive number of these digits.
+fn number(alloc: Global, digits: &str) -> Option<Mpint> {
+    let bytes = hex::decode(alloc, digits).ok()?;
+    Mpint::from_positive_bytes(alloc, &bytes).ok()
 }
 
-/// These are the bytes.
-fn are_bytes(rt: &(impl Abort + AllocGlobal), bytes: &[u8], hexadecimal: &str) -> Result<(), Fail> {
-    assert_eq!(rt; hex::decode(rt.alloc(), hexadecimal)?.as_slice(), bytes);
-    Ok(())
+fn rsa(alloc: Global) -> Option<KeyData> {
+    let e = number(alloc, "010001")?;
+    let n = number(alloc, MODULUS)?;
+    Some(KeyData::Rsa(RsaPublicKey { e, n }))
 }
 
-#[test]
-fn an_rsa_key(rt: HostRuntime) -> Result<(), Fail> {
-    let KeyData::Rsa(key) = known_key(rt.alloc(), &RSA_1024)? else {
-        panic!(rt; "it is no RSA key");
-    };
-    is_number(&rt, &key.e, "010001")?;
-    is_number(&rt, &key.n, MODULUS)
+fn dsa(alloc: Global) -> Option<KeyData> {
+    let p = number(alloc, P)?;
+    let q = number(alloc, Q)?;
+    let g = number(alloc, G)?;
+    let y = number(alloc, Y)?;
+    Some(KeyData::Dsa(DsaPublicKey { p, q, g, y }))
 }
 
-#[test]
-fn a_dsa_key(rt: HostRuntime) -> Result<(), Fail> {
-    let KeyData::Dsa(key) = known_key(rt.alloc(), &DSA)? else {
-        panic!(rt; "it is no DSA key");
-    };
-    is_number(&rt, &key.p, P)?;
-    is_number(&rt, &key.q, Q)?;
-    is_number(&rt, &key.g, G)?;
-    is_number(&rt, &key.y, Y)
+fn ecdsa(alloc: Global, point: &str) -> Option<KeyData> {
+    let bytes = hex::decode(alloc, point).ok()?;
+    Some(KeyData::Ecdsa(EcdsaPublicKey::from_sec1_bytes(&bytes).ok()?))
 }
 
-#[test]
-fn ecdsa_keys(rt: HostRuntime) -> Result<(), Fail> {
-    for (known, curve, point) in [
-        (ECDSA_256, EcdsaCurve::NistP256, POINT_256),
-        (ECDSA_384, EcdsaCurve::NistP384, POINT_384),
-        (ECDSA_521, EcdsaCurve::NistP521, POINT_521),
-    ] {
-        is_on_curve(&rt, &known, curve, point)?;
+fn ed25519() -> Option<Ed25519PublicKey> {
+    let bytes = <[u8; 32]>::from_hex(BYTES).ok()?;
+    Some(Ed25519PublicKey(bytes))
+}
+
+fn sk_ed25519(alloc: Global) -> Option<KeyData> {
+    let key = ed25519()?;
+    let application = String::from_str(alloc, "ssh:").ok()?;
+    Some(KeyData::SkEd25519(SkEd25519::new(key, application)))
+}
+
+fn sk_ecdsa(alloc: Global) -> Option<KeyData> {
+    let bytes = hex::decode(alloc, POINT_256).ok()?;
+    let point = EcPoint::from_bytes(&bytes).ok()?;
+    let application = String::from_str(alloc, "ssh:").ok()?;
+    let key = SkEcdsaSha2NistP256::new(point, application);
+    Some(KeyData::SkEcdsaSha2NistP256(key))
+}
+
+fn opaque(alloc: Global) -> Option<KeyData> {
+    let bytes = hex::decode(alloc, "00ff10").ok()?;
+    let algorithm = Algorithm::new(alloc, "name@example.com").ok()?;
+    Some(KeyData::Other(OpaquePublicKey::new(bytes, algorithm)))
+}
+
+/// The known key is read as the key that was made.
+fn is_key(alloc: Global, known: &Known, made: Option<KeyData>) -> bool {
+    match (known_key(alloc, known), made) {
+        (Some(read), Some(made)) => read == made,
+        _ => false,
     }
-    Ok(())
-}
-
-fn is_on_curve(
-    rt: &(impl Abort + AllocGlobal),
-    known: &Known,
-    curve: EcdsaCurve,
-    point: &str,
-) -> Result<(), Fail> {
-    let KeyData::Ecdsa(key) = known_key(rt.alloc(), known)? else {
-        panic!(rt; "it is no ECDSA key");
-    };
-    assert_eq!(rt; key.curve(), curve);
-    are_bytes(rt, key.as_sec1_bytes(), point)
 }
 
 #[test]
-fn an_ed25519_key(rt: HostRuntime) -> Result<(), Fail> {
-    let KeyData::Ed25519(key) = known_key(rt.alloc(), &ED25519)? else {
-        panic!(rt; "it is no Ed25519 key");
-    };
-    are_bytes(&rt, &key.0, BYTES)
+fn keys_of_numbers(rt: HostRuntime) {
+    let alloc = rt.alloc();
+    assert!(rt; is_key(alloc, &RSA_1024, rsa(alloc)));
+    assert!(rt; is_key(alloc, &DSA, dsa(alloc)));
 }
 
 #[test]
-fn an_ecdsa_key_that_a_security_key_holds(rt: HostRuntime) -> Result<(), Fail> {
-    let KeyData::SkEcdsaSha2NistP256(key) = known_key(rt.alloc(), &SK_ECDSA)? else {
-        panic!(rt; "it is another key");
-    };
-    assert_eq!(rt; key.application(), "ssh:");
-    are_bytes(&rt, key.ec_point().as_bytes(), POINT_256)
+fn keys_of_points(rt: HostRuntime) {
+    let alloc = rt.alloc();
+    assert!(rt; is_key(alloc, &ECDSA_256, ecdsa(alloc, POINT_256)));
+    assert!(rt; is_key(alloc, &ECDSA_384, ecdsa(alloc, POINT_384)));
+    assert!(rt; is_key(alloc, &ECDSA_521, ecdsa(alloc, POINT_521)));
+    assert!(rt; is_key(alloc, &ED25519, ed25519().map(KeyData::Ed25519)));
 }
 
 #[test]
-fn an_ed25519_key_that_a_security_key_holds(rt: HostRuntime) -> Result<(), Fail> {
-    let KeyData::SkEd25519(key) = known_key(rt.alloc(), &SK_ED25519)? else {
-        panic!(rt; "it is another key");
-    };
-    assert_eq!(rt; key.application(), "ssh:");
-    are_bytes(&rt, &key.public_key().0, BYTES)
+fn keys_that_a_security_key_holds(rt: HostRuntime) {
+    let alloc = rt.alloc();
+    assert!(rt; is_key(alloc, &SK_ECDSA, sk_ecdsa(alloc)));
+    assert!(rt; is_key(alloc, &SK_ED25519, sk_ed25519(alloc)));
 }
 
 #[test]
-fn a_key_under_a_name_of_somebodys_own(rt: HostRuntime) -> Result<(), Fail> {
-    let KeyData::Other(key) = known_key(rt.alloc(), &OPAQUE)? else {
-        panic!(rt; "it is a key of a fixed name");
-    };
-    assert_eq!(rt; key.algorithm().as_str(), "name@example.com");
-    are_bytes(&rt, key.key.as_bytes(), "00ff10")
+fn a_key_under_a_name_of_somebodys_own(rt: HostRuntime) {
+    let alloc = rt.alloc();
+    assert!(rt; is_key(alloc, &OPAQUE, opaque(alloc)));
 }

@@ -1,62 +1,55 @@
-//! What the tests share.
+//! What the tests share. Each question is a function that answers yes or no: that is quick to prove.
 
 use crate::known::Known;
 use base64::engine::general_purpose::STANDARD;
-use sshkey_base::{Encode, Error, HashAlg, decode_whole, encode_vec};
+use sshkey_base::{Error, HashAlg, decode_whole, encode_vec};
 use sshkey_keys::{Fingerprint, KeyData};
 use std::alloc::Global;
-use std::process::Abort;
-use std::test::Fail;
 
 /// The key that all these bytes spell.
 pub(crate) fn key_of(alloc: Global, blob: &[u8]) -> Result<KeyData, Error> {
     decode_whole(alloc, blob)
 }
 
-/// The bytes of a key.
-pub(crate) fn blob_of(alloc: Global, known: &Known) -> Result<Vec<u8>, Fail> {
-    Ok(STANDARD.decode(alloc, known.base64.as_bytes())?)
+/// The bytes of a known key.
+pub(crate) fn blob_of(alloc: Global, known: &Known) -> Option<Vec<u8>> {
+    STANDARD.decode(alloc, known.base64.as_bytes()).ok()
 }
 
 /// A known key, read.
-pub(crate) fn known_key(alloc: Global, known: &Known) -> Result<KeyData, Fail> {
+pub(crate) fn known_key(alloc: Global, known: &Known) -> Option<KeyData> {
     let blob = blob_of(alloc, known)?;
-    Ok(key_of(alloc, &blob)?)
+    key_of(alloc, &blob).ok()
 }
 
-/// The text of the key's fingerprint by that hash is this.
-pub(crate) fn has_fingerprint(
-    rt: &(impl Abort + AllocGlobal),
-    key: &KeyData,
-    hash_alg: HashAlg,
-    wanted: &str,
-) -> Result<(), Fail> {
-    let fingerprint = Fingerprint::new(rt.alloc(), hash_alg, key)?;
-    let text = format!(in rt.alloc(); "{fingerprint}")?;
-    assert_eq!(rt; text.as_str(), wanted);
-    Ok(())
+/// The key is written as these bytes.
+pub(crate) fn is_written(alloc: Global, key: &KeyData, normal: &[u8]) -> bool {
+    match encode_vec(alloc, key) {
+        Ok(bytes) => bytes.as_slice() == normal,
+        Err(_) => false,
+    }
 }
 
 /// The blob spells a key, which is written as `normal`.
-pub(crate) fn read_and_write(
-    rt: &(impl Abort + AllocGlobal),
-    blob: &[u8],
-    normal: &[u8],
-) -> Result<KeyData, Fail> {
-    let key = key_of(rt.alloc(), blob)?;
-    assert_eq!(rt; encode_vec(rt.alloc(), &key)?.as_slice(), normal);
-    assert_eq!(rt; key.encoded_len()?, normal.len());
-    Ok(key)
+pub(crate) fn is_read_and_written(alloc: Global, blob: &[u8], normal: &[u8]) -> bool {
+    match key_of(alloc, blob) {
+        Ok(key) => is_written(alloc, &key, normal),
+        Err(_) => false,
+    }
 }
 
-/// The known key is read whole, is written back the same, and has its name and fingerprints.
-pub(crate) fn read_and_write_back(
-    rt: &(impl Abort + AllocGlobal),
-    known: &Known,
-) -> Result<(), Fail> {
-    let blob = blob_of(rt.alloc(), known)?;
-    let key = read_and_write(rt, &blob, &blob)?;
-    assert_eq!(rt; key.algorithm_name(), known.name);
-    has_fingerprint(rt, &key, HashAlg::Sha256, known.sha256)?;
-    has_fingerprint(rt, &key, HashAlg::Sha512, known.sha512)
+/// The text of the key's fingerprint by that hash is this.
+pub(crate) fn is_shown(alloc: Global, key: &KeyData, hash_alg: HashAlg, wanted: &str) -> bool {
+    let Ok(fingerprint) = Fingerprint::new(alloc, hash_alg, key) else {
+        return false;
+    };
+    match format!(in alloc; "{fingerprint}") {
+        Ok(text) => text.as_str() == wanted,
+        Err(_) => false,
+    }
+}
+
+/// The texts of the key's fingerprints are these.
+pub(crate) fn has_fingerprints(alloc: Global, key: &KeyData, sha256: &str, sha512: &str) -> bool {
+    is_shown(alloc, key, HashAlg::Sha256, sha256) && is_shown(alloc, key, HashAlg::Sha512, sha512)
 }

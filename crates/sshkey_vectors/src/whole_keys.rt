@@ -1,33 +1,36 @@
 //! Each known key is read whole and written back the same, under its name and with its fingerprints.
 
-use crate::known::{
-    DSA, ECDSA_256, ECDSA_384, ECDSA_521, ED25519, OPAQUE, RSA_1024, RSA_3072, SK_ECDSA, SK_ED25519,
-};
-use crate::support::read_and_write_back;
-use std::test::Fail;
+use crate::known::{EACH_KIND, Known};
+use crate::support::{blob_of, has_fingerprints, is_read_and_written, known_key};
+use std::alloc::Global;
 
-#[test]
-fn keys_by_numbers(rt: HostRuntime) -> Result<(), Fail> {
-    read_and_write_back(&rt, &DSA)?;
-    read_and_write_back(&rt, &RSA_1024)?;
-    read_and_write_back(&rt, &RSA_3072)
+fn is_written_back(alloc: Global, known: &Known) -> bool {
+    match blob_of(alloc, known) {
+        Some(blob) => is_read_and_written(alloc, &blob, &blob),
+        None => false,
+    }
+}
+
+fn has_its_words(alloc: Global, known: &Known) -> bool {
+    match known_key(alloc, known) {
+        Some(key) => {
+            key.algorithm_name() == known.name
+                && has_fingerprints(alloc, &key, known.sha256, known.sha512)
+        }
+        None => false,
+    }
 }
 
 #[test]
-fn keys_on_curves(rt: HostRuntime) -> Result<(), Fail> {
-    read_and_write_back(&rt, &ECDSA_256)?;
-    read_and_write_back(&rt, &ECDSA_384)?;
-    read_and_write_back(&rt, &ECDSA_521)?;
-    read_and_write_back(&rt, &ED25519)
+fn keys_are_written_back(rt: HostRuntime) {
+    for known in EACH_KIND {
+        assert!(rt; is_written_back(rt.alloc(), &known), "{}", known.base64);
+    }
 }
 
 #[test]
-fn keys_that_a_security_key_holds(rt: HostRuntime) -> Result<(), Fail> {
-    read_and_write_back(&rt, &SK_ECDSA)?;
-    read_and_write_back(&rt, &SK_ED25519)
-}
-
-#[test]
-fn a_key_under_a_name_of_somebodys_own(rt: HostRuntime) -> Result<(), Fail> {
-    read_and_write_back(&rt, &OPAQUE)
+fn names_and_fingerprints_are_those_of_ssh_keygen(rt: HostRuntime) {
+    for known in EACH_KIND {
+        assert!(rt; has_its_words(rt.alloc(), &known), "{}", known.base64);
+    }
 }
