@@ -18,8 +18,10 @@ pub(crate) fn blob_of(alloc: Global, known: &Known) -> Option<Vec<u8>> {
 
 /// A known key, read.
 pub(crate) fn known_key(alloc: Global, known: &Known) -> Option<KeyData> {
-    let blob = blob_of(alloc, known)?;
-    key_of(alloc, &blob).ok()
+    match key_of(alloc, &blob_of(alloc, known)?) {
+        Ok(key) => Some(key),
+        Err(_) => None,
+    }
 }
 
 /// The key is written as these bytes.
