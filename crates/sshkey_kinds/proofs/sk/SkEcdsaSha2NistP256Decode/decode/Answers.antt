@@ -10,6 +10,6 @@ unfolding sk_ecdsa_at curve_at label_at
 returns-in_err-application g c =
     let p = err_from_is_err_and c.from_residual-in_err-application.result c.from_residual-in_err-application.ensures.1 in
     elim c.match-matches.branch [
-      | in-NistP256 w ↦ rw (p.1, p.2, same_cause) (refused_later _ _ _ _ _ _ _ c.in_ok-stated.ensures.gives (rw w.in-NistP256.is (refused_later _ _ _ _ _ _ _ c.in_ok-ec_point.ensures (refused_first _ _ _ _ c.in_err-application.ensures))))
+      | in-NistP256 w ↦ rw (p.1, p.2, same_cause) (refused_later _ _ _ _ _ _ _ c.in_ok-stated.ensures.gives (rw w.in-NistP256.is (refused_later _ _ _ _ _ _ _ c.in_ok-ec_point.ensures (refused_first _ _ _ _ c.in_err-application.ensures.gives))))
       | in_default w ↦ absurd (let f = c.if-not-matches.false in let m = w.matches-is in cc)
     ]
