@@ -1,10 +1,10 @@
 -- A loop that reads values up to the end of a source.
-use Rattle.std.proofs.Common.{◌≡◌, ◌≢◌, ◌≤◌, ◌<◌, ◌+◌, ℕ, zero, suc, Option, None, Some, List, [], ◌∷◌, ◌++◌, append-nil, append_assoc, length, take, drop, Result, Ok, Err, refl, sym, ap, ◌∙◌, arith, inl, inr}
+use Rattle.std.proofs.Common.{◌≡◌, ◌≢◌, ◌≤◌, ◌<◌, ◌+◌, ℕ, zero, suc, Option, None, Some, List, [], ◌∷◌, ◌++◌, append-nil, append_assoc, length, Result, Ok, Err, refl, sym, ap, ◌∙◌, arith}
 use Rattle.std.proofs.lemmas.List.{nil_from_length, length-append}
-use Rattle.sshkey_model.specs.Reading.{Fault, ◌>>=◌, Front, Whole, whole, box_at, number_at, list_within, list_whole}
+use Rattle.sshkey_model.specs.Reading.{Fault, ◌>>=◌, Front, Whole, whole, box_at, list_within, list_whole}
 use Rattle.sshkey_model.specs.Parts.{Parts, flat}
 use Rattle.sshkey_model.proofs.CombinedReaders.{ReadsFront}
-use Rattle.sshkey_base.specs.Causes.{Cause, NoMemory}
+use Rattle.sshkey_base.specs.Causes.{Cause}
 use Rattle.sshkey_base.specs.Source.{Source, IsSound, told}
 use Rattle.sshkey_base.specs.Reading.{Reads, Refuses, Gives, to_end}
 

@@ -1,7 +1,7 @@
 -- A loop that writes values one behind the other, or adds up their bytes.
-use Rattle.std.proofs.Common.{◌≡◌, ◌≤◌, ◌<◌, ◌+◌, ◌^◌, ℕ, List, [], ◌∷◌, ◌++◌, append-nil, length, get_or, drop, map, Result, Ok, Err, refl, sym, ap, ◌∙◌, arith}
-use Rattle.std.proofs.lemmas.List.{drop_more, drop_all, length-append}
-use Rattle.sshkey_model.specs.Parts.{Parts, nothing, box, ◌&◌, each, flat, InRange, BoxesFit, Fits}
+use Rattle.std.proofs.Common.{◌≡◌, ◌≤◌, ◌<◌, ◌+◌, ◌^◌, ℕ, List, [], ◌∷◌, append-nil, length, get_or, drop, map, Result, Ok, Err, refl, arith}
+use Rattle.std.proofs.lemmas.List.{drop_more, drop_all}
+use Rattle.sshkey_model.specs.Parts.{Parts, nothing, box, ◌&◌, each, flat, InRange, BoxesFit}
 use Rattle.sshkey_base.specs.declared.encoding.Error.{Error}
 use Rattle.sshkey_base.specs.Sink.{Sink, Written, after, Encodes, NotWritten}
 use Rattle.sshkey_base.proofs.Writing.{not_first, boxes_first, boxes_second, boxes_both, boxes_box, boxes_length, boxes_inside, length_both}

@@ -1,9 +1,9 @@
 -- A count in four bytes is one of its spellings, where it fits.
-use Rattle.std.proofs.Common.{◌≡◌, ◌<◌, ◌≤◌, ◌^◌, ℕ, arith, inl, inr, refl, length}
+use Rattle.std.proofs.Common.{◌≡◌, ◌<◌, ◌≤◌, ◌^◌, ℕ, arith, inl, inr, refl}
 use Rattle.std.proofs.lemmas.Bool.{cases_lt, lt-ltb, le-ltb}
 use Rattle.std.proofs.lemmas.List.{length-replicate}
 use Rattle.std.specs.Int.{w32}
-use Rattle.sshkey_model.specs.Parts.{Any, Parts, number, flat, Fits, BoxesFit}
+use Rattle.sshkey_model.specs.Parts.{Any, number, flat, Fits, BoxesFit}
 use Rattle.sshkey_base.specs.Leaves.{SpellsNumber32, number32_normal, count}
 
 pub count_is : (n : ℕ) → n < 2 ^ 32 → count n ≡ number w32 n

@@ -1,4 +1,4 @@
-use Rattle.std.proofs.Common.{◌≡◌, arith}
+use Rattle.std.proofs.Common.{arith}
 use Rattle.sshkey_model.specs.Parts.{each}
 use Rattle.sshkey_base.proofs.Writing.{length_box}
 use Rattle.sshkey_base.proofs.list.list_len.Goals as goal

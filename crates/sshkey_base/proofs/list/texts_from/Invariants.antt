@@ -1,4 +1,4 @@
-use Rattle.std.proofs.Common.{ℕ, List, Option, map, length}
+use Rattle.std.proofs.Common.{ℕ, List, Option, map}
 use Rattle.std.specs.Prelude.{string_bytes}
 use Rattle.sshkey_model.specs.Texts.{text_at}
 use Rattle.sshkey_base.specs.Source.{told}

@@ -1,4 +1,4 @@
-use Rattle.std.proofs.Common.{rules, refl}
+use Rattle.std.proofs.Common.{rules}
 use Rattle.sshkey_model.specs.Reading.{whole, box_at}
 use Rattle.sshkey_model.specs.Texts.{texts_at}
 use Rattle.sshkey_base.specs.Causes.{encoding_cause}
