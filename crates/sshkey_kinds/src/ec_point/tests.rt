@@ -1,38 +1,29 @@
 //! Point strings of the right size, and of one byte less and more.
 
-ghost use Rattle.std.specs.Prelude.{◌<◌};
-
 use super::*;
-use std::alloc::Global;
 use std::hash::DefaultHasher;
-use std::test::Fail;
 
 /// Whether a tag and so many bytes are taken as a point whose longest string has `longest` bytes.
-fn is_taken(alloc: Global, longest: usize, tag: u8, len: usize) -> std::result::Result<bool, Fail> {
-    let mut bytes = vec![in alloc; 7u8; len]?;
-    bytes.insert(0, tag)?;
-    let bytes = bytes.as_slice();
-    Ok(match longest {
+fn is_taken(longest: usize, tag: u8, len: u8) -> bool {
+    let mut bytes = [7u8; 256];
+    bytes[0] = tag;
+    let bytes = &bytes[..=len as usize];
+    match longest {
         65 => EcPoint::<65>::from_bytes(bytes).is_ok_and(|point| point.as_bytes() == bytes),
         97 => EcPoint::<97>::from_bytes(bytes).is_ok_and(|point| point.as_bytes() == bytes),
         133 => EcPoint::<133>::from_bytes(bytes).is_ok_and(|point| point.as_bytes() == bytes),
         _ => EcPoint::<64>::from_bytes(bytes).is_ok(),
-    })
+    }
 }
 
-/// A size of coordinates, and of one byte less and more, of one and of two.
-fn sizes_round(size: usize) -> [usize; 6]
-    requires { (0 < size) × (size < 1000) }
-{
-    [
-        size - 1,
-        size,
-        size + 1,
-        2 * size - 1,
-        2 * size,
-        2 * size + 1,
-    ]
-}
+/// Sizes of a coordinate, and of one byte less and more, and the same of two coordinates.
+type Sizes = [u8; 6];
+
+const P256_SIZES: Sizes = [31, 32, 33, 63, 64, 65];
+
+const P384_SIZES: Sizes = [47, 48, 49, 95, 96, 97];
+
+const P521_SIZES: Sizes = [65, 66, 67, 131, 132, 133];
 
 /// One coordinate behind 02 and 03, both behind 04, and none behind another tag.
 const TAKEN: [(u8, [bool; 6]); 7] = [
@@ -45,32 +36,37 @@ const TAKEN: [(u8, [bool; 6]); 7] = [
     (6, [false; 6]),
 ];
 
+/// Which of the sizes are taken behind that tag.
+fn taken(longest: usize, tag: u8, sizes: Sizes) -> [bool; 6] {
+    sizes.map(|len| is_taken(longest, tag, len))
+}
+
 #[test]
-fn takes_point_strings_of_the_curve(rt: HostRuntime) -> std::result::Result<(), Fail> {
-    for (tag, taken) in TAKEN {
-        for i in 0..6 {
-            for (longest, size) in [(65, 32), (97, 48), (133, 66)] {
-                let len = sizes_round(size)[i];
-                assert_eq!(rt;
-                    is_taken(rt.alloc(), longest, tag, len)?,
-                    taken[i],
-                    "{tag}, {len}"
-                );
-            }
-            let other = sizes_round(48)[i];
-            assert!(rt;
-                !is_taken(rt.alloc(), 65, tag, other)?,
-                "another curve: {tag}, {other}"
-            );
-            let none = sizes_round(32)[i];
-            assert!(rt;
-                !is_taken(rt.alloc(), 64, tag, none)?,
-                "no curve: {tag}, {none}"
-            );
-        }
+fn takes_point_strings_of_the_curve(rt: HostRuntime) {
+    for (tag, expected) in TAKEN {
+        assert!(rt; taken(65, tag, P256_SIZES) == expected, "P-256: {tag}");
+        assert!(rt; taken(97, tag, P384_SIZES) == expected, "P-384: {tag}");
+        assert!(rt; taken(133, tag, P521_SIZES) == expected, "P-521: {tag}");
     }
     assert!(rt; EcdsaNistP256PublicKey::from_bytes(b"").is_err());
-    Ok(())
+}
+
+#[test]
+fn refuses_point_strings_of_another_curve(rt: HostRuntime) {
+    for (tag, _) in TAKEN {
+        assert!(rt;
+            taken(65, tag, P384_SIZES) == [false; 6],
+            "another curve: {tag}"
+        );
+        assert!(rt; taken(64, tag, P256_SIZES) == [false; 6], "no curve: {tag}");
+    }
+}
+
+/// Of two points of these bytes the first is less than the second.
+fn is_less(first: &[u8], second: &[u8]) -> Result<bool> {
+    let first = EcdsaNistP256PublicKey::from_bytes(first)?;
+    let second = EcdsaNistP256PublicKey::from_bytes(second)?;
+    Ok(first < second && first != second)
 }
 
 fn hash_of(point: &EcdsaNistP256PublicKey) -> u64 {
@@ -79,14 +75,18 @@ fn hash_of(point: &EcdsaNistP256PublicKey) -> u64 {
     state.finish()
 }
 
+/// A point of these bytes and a copy of it are the same.
+fn is_same(bytes: &[u8]) -> Result<bool> {
+    let point = EcdsaNistP256PublicKey::from_bytes(bytes)?;
+    let copy = point;
+    let is_equal = copy == point && hash_of(&copy) == hash_of(&point);
+    Ok(is_equal && copy.as_slice() == point.as_bytes())
+}
+
 #[test]
-fn compares_and_hashes_bytes(rt: HostRuntime) -> std::result::Result<(), Fail> {
-    let small = EcdsaNistP256PublicKey::from_bytes(&[2; 33])?;
-    let large = EcdsaNistP256PublicKey::from_bytes(&[4; 65])?;
-    let short = EcdsaNistP256PublicKey::from_bytes(&[3; 33])?;
-    assert!(rt; small < short && short < large && small != large);
-    let same = small;
-    assert!(rt; same == small && hash_of(&same) == hash_of(&small));
-    assert_eq!(rt; same.as_slice(), small.as_bytes());
-    Ok(())
+fn compares_and_hashes_bytes(rt: HostRuntime) {
+    assert!(rt; matches!(is_less(&[2; 33], &[3; 33]), Ok(true)));
+    assert!(rt; matches!(is_less(&[3; 33], &[4; 65]), Ok(true)));
+    assert!(rt; matches!(is_less(&[2; 33], &[4; 65]), Ok(true)));
+    assert!(rt; matches!(is_same(&[2; 33]), Ok(true)));
 }

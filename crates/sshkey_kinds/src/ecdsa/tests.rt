@@ -1,11 +1,10 @@
 //! SEC 1 point strings: which curve they tell, and the faults of the others.
 
 use super::*;
-use std::alloc::Global;
-use std::test::Fail;
+use std::alloc::{AllocError, Global};
 
 /// What a point string tells.
-#[derive(Clone, Copy, Debug, PartialEq, Eq)]
+#[derive(Clone, Copy, PartialEq, Eq)]
 enum Told {
     P256,
     P384,
@@ -17,11 +16,12 @@ enum Told {
 }
 
 /// What a tag and so many bytes tell.
-fn answer_to(alloc: Global, tag: u8, len: usize) -> std::result::Result<Told, Fail> {
-    let mut bytes = vec![in alloc; 7u8; len]?;
-    bytes.insert(0, tag)?;
-    Ok(match EcdsaPublicKey::from_sec1_bytes(&bytes) {
-        Ok(key) if key.as_sec1_bytes() != bytes.as_slice() => Told::Other,
+fn answer_to(tag: u8, len: u8) -> Told {
+    let mut bytes = [7u8; 256];
+    bytes[0] = tag;
+    let bytes = &bytes[..=len as usize];
+    match EcdsaPublicKey::from_sec1_bytes(bytes) {
+        Ok(key) if key.as_sec1_bytes() != bytes => Told::Other,
         Ok(EcdsaPublicKey::NistP256(_)) => Told::P256,
         Ok(EcdsaPublicKey::NistP384(_)) => Told::P384,
         Ok(EcdsaPublicKey::NistP521(_)) => Told::P521,
@@ -29,12 +29,12 @@ fn answer_to(alloc: Global, tag: u8, len: usize) -> std::result::Result<Told, Fa
         Err(Error::AlgorithmUnknown) => Told::AlgorithmUnknown,
         Err(Error::Ecdsa) => Told::Ecdsa,
         Err(_) => Told::Other,
-    })
+    }
 }
 
 #[test]
-fn tells_the_curve_by_tag_and_size(rt: HostRuntime) -> std::result::Result<(), Fail> {
-    let strings = [
+fn tells_the_curve_by_tag_and_size(rt: HostRuntime) {
+    for (tag, len, answer) in [
         (0, 0, Told::AlgorithmUnknown),
         (5, 32, Told::AlgorithmUnknown),
         (7, 32, Told::Ecdsa),
@@ -53,17 +53,11 @@ fn tells_the_curve_by_tag_and_size(rt: HostRuntime) -> std::result::Result<(), F
         (4, 132, Told::P521),
         (4, 133, Told::Ecdsa),
         (4, 134, Told::Length),
-    ];
-    for (tag, len, answer) in strings {
-        assert_eq!(rt;
-            answer_to(rt.alloc(), tag, len)?,
-            answer,
-            "{tag} and {len} bytes"
-        );
+    ] {
+        assert!(rt; answer_to(tag, len) == answer, "{tag} and {len} bytes");
     }
     let empty = EcdsaPublicKey::from_sec1_bytes(b"");
     assert!(rt; matches!(empty, Err(Error::Encoding(encoding::Error::Length))));
-    Ok(())
 }
 
 /// The base point of P-256, compressed (SEC 2, section 2.4.2).
@@ -85,36 +79,47 @@ impl fmt::Display for Forms<'_> {
     }
 }
 
-#[test]
-fn prints_hexadecimal(rt: HostRuntime) -> std::result::Result<(), Fail> {
-    let key = EcdsaPublicKey::from_sec1_bytes(&BASE_POINT)?;
-    let forms = Forms(&key);
-    let text = format!(in rt.alloc(); "{forms}")?;
-    let upper = "036B17D1F2E12C4247F8BCE6E563A440F277037D812DEB33A0F4A13945D898C296";
-    let lower = "036b17d1f2e12c4247f8bce6e563a440f277037d812deb33a0f4a13945d898c296";
-    assert_eq!(rt;
-        text.as_str(),
-        format!(in rt.alloc(); "{upper} {upper} {lower}")?.as_str()
-    );
-    assert_eq!(rt; key.as_slice(), BASE_POINT.as_slice());
-    Ok(())
+/// The key is printed as `upper` twice, and as `lower`.
+fn prints(
+    alloc: Global,
+    key: &EcdsaPublicKey,
+    upper: &str,
+    lower: &str,
+) -> std::result::Result<bool, AllocError> {
+    let forms = Forms(key);
+    let printed = format!(in alloc; "{forms}")?;
+    let expected = format!(in alloc; "{upper} {upper} {lower}")?;
+    Ok(printed.as_str() == expected.as_str())
 }
 
 #[test]
-fn orders_by_curve_and_bytes(rt: HostRuntime) -> std::result::Result<(), Fail> {
-    let rising = [
-        EcdsaPublicKey::from_sec1_bytes(&[2; 33])?,
-        EcdsaPublicKey::from_sec1_bytes(&[3; 33])?,
-        EcdsaPublicKey::from_sec1_bytes(&[4; 65])?,
-        EcdsaPublicKey::from_sec1_bytes(&[2; 49])?,
-        EcdsaPublicKey::from_sec1_bytes(&[2; 67])?,
-    ];
+fn prints_hexadecimal(rt: HostRuntime) {
+    let upper = "036B17D1F2E12C4247F8BCE6E563A440F277037D812DEB33A0F4A13945D898C296";
+    let lower = "036b17d1f2e12c4247f8bce6e563a440f277037d812deb33a0f4a13945d898c296";
+    match EcdsaPublicKey::from_sec1_bytes(&BASE_POINT) {
+        Ok(key) => {
+            assert!(rt; matches!(prints(rt.alloc(), &key, upper, lower), Ok(true)));
+            assert!(rt; key.as_slice() == BASE_POINT.as_slice());
+        }
+        Err(_) => panic!(rt; "the base point is a point"),
+    }
+}
+
+/// Of two keys of these bytes the first is less than the second, which equals itself.
+fn is_less(first: &[u8], second: &[u8]) -> Result<bool> {
+    let first = EcdsaPublicKey::from_sec1_bytes(first)?;
+    let second = EcdsaPublicKey::from_sec1_bytes(second)?;
+    let same = second;
+    Ok(first < second && first != second && second == same)
+}
+
+#[test]
+fn orders_by_curve_and_bytes(rt: HostRuntime) {
+    let rising: [&[u8]; 5] = [&[2; 33], &[3; 33], &[4; 65], &[2; 49], &[2; 67]];
     for i in 1..rising.len() {
         assert!(rt;
-            rising[i - 1] < rising[i] && rising[i - 1] != rising[i],
+            matches!(is_less(rising[i - 1], rising[i]), Ok(true)),
             "{i}"
         );
-        assert!(rt; rising[i] == rising[i], "{i}");
     }
-    Ok(())
 }
