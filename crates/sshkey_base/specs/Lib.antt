@@ -12,6 +12,7 @@ pub mod Laws
 pub mod Answering
 pub mod ShortStrings
 pub mod ShortBytes
+pub mod NameBytes
 pub mod Numbers
 pub mod MpintSpelling
 pub mod Texts

@@ -95,7 +95,11 @@ impl Decode for Bytes {
 }
 
 /// The next `len` bytes. `Length` where more are asked for than are announced.
-fn bytes_from<R: Reader>(alloc: Global, len: usize, reader: &mut R) -> Result<Bytes, Error>
+pub(crate) fn bytes_from<R: Reader>(
+    alloc: Global,
+    len: usize,
+    reader: &mut R,
+) -> Result<Bytes, Error>
     ensures gives { Gives (λ x. x) encoding_cause (bytes_at len) (R.source reader.old) result (R.source reader.new) }
     ensures past { told (R.source reader.old) < len → result ≡ Err Error.Length }
 {

@@ -12,10 +12,10 @@ ghost use Rattle.sshkey_base.specs.Causes.{encoding_cause};
 ghost use Rattle.sshkey_base.specs.Reading.{Gives, LengthPast};
 ghost use Rattle.sshkey_base.specs.Labels.{LooksUp, label_at, label_grammar};
 
-use crate::bytes::Bytes;
 use crate::decode::Decode;
 use crate::encode::{Encode, encode_string, string_len};
 use crate::encoding::{Error, Result};
+use crate::name_bytes::NameBytes;
 use crate::reader::Reader;
 use crate::writer::Writer;
 use std::alloc::Global;
@@ -75,7 +75,7 @@ impl<T: Label> Decode for T {
         ensures gives { Gives T.stands_for encoding_cause (label_at T.named) (R.source reader.old) result (R.source reader.new) }
         ensures past { LengthPast encoding_cause (R.source reader.old) result }
     {
-        let name = Bytes::decode(alloc, reader)?;
+        let name = NameBytes::decode(alloc, reader)?;
         match str::from_utf8(name.as_slice()) {
             Ok(text) => T::from_label(alloc, text),
             Err(_) => Err(Error::Label),

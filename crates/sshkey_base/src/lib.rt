@@ -14,6 +14,7 @@ mod label_error;
 pub mod laws;
 mod list;
 mod mpint;
+mod name_bytes;
 mod normal_form;
 mod reader;
 mod refusal;

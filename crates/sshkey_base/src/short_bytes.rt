@@ -32,8 +32,9 @@ impl<const MAX: usize> ShortBytes<MAX> {
     }
 
     /// The next `len` bytes. `Length` where there are more than `MAX`, or more than are announced.
-    fn take_from<R: Reader>(len: usize, reader: &mut R) -> Result<ShortBytes<MAX>>
+    pub(crate) fn take_from<R: Reader>(len: usize, reader: &mut R) -> Result<ShortBytes<MAX>>
         ensures gives { GivesAlways short_of encoding_cause (checked_at (at_most MAX) (bytes_at len)) (R.source reader.old) result (R.source reader.new) }
+        ensures plain { len ≤ MAX → GivesAlways short_of encoding_cause (bytes_at len) (R.source reader.old) result (R.source reader.new) }
         ensures past { told (R.source reader.old) < len → result ≡ Err Error.Length }
     {
         if len > MAX || reader.remaining_len() < len {

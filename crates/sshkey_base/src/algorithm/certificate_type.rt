@@ -15,12 +15,11 @@ ghost use Rattle.sshkey_base.specs.Reading.{Gives, LengthPast};
 ghost use Rattle.sshkey_base.specs.Sink.{Encodes};
 
 use super::{Algorithm, AlgorithmName, EcdsaCurve, ecdsa};
-use crate::bytes::Bytes;
-use crate::decode::Decode;
 use crate::encode::Encode;
 use crate::encoding;
 use crate::error::{Error, Result};
 use crate::label_error::LabelError;
+use crate::name_bytes::NameBytes;
 use crate::reader::Reader;
 use crate::writer::Writer;
 use std::alloc::Global;
@@ -129,7 +128,7 @@ fn read_certificate_type<R: Reader>(alloc: Global, reader: &mut R) -> Result<Alg
     ensures past { LengthPast cause (R.source reader.old) result }
     ensures gives { Gives algorithm_of cause certificate_algorithm_at (R.source reader.old) result (R.source reader.new) }
 {
-    let name = Bytes::decode(alloc, reader)?;
+    let name = NameBytes::decode(alloc, reader)?;
     match str::from_utf8(name.as_slice()) {
         Ok(text) => Algorithm::new_certificate(alloc, text),
         Err(_) => Err(Error::from(LabelError)),

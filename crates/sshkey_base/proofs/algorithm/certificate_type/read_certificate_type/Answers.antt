@@ -1,7 +1,10 @@
 use Rattle.std.proofs.Common.{ap}
 use Rattle.sshkey_base.specs.Causes.{cause}
+use Rattle.sshkey_base.specs.NameBytes.{name_bytes_of}
 use Rattle.sshkey_base.proofs.CertifiedNames.{certificate_refused}
 use Rattle.sshkey_base.proofs.algorithm.certificate_type.read_certificate_type.Goals as goal
 
 pub returns-clause-gives : goal.returns-clause-gives
-returns-clause-gives g c = certificate_refused (g.R.Reader.source c.args.reader.now) _ _ _ c.in_ok-name.ensures.gives (λ text. c.in-Err.ensures.cases.0 (rw c.as_slice.ensures text)) (ap cause c.from.ensures)
+returns-clause-gives g c =
+    let name = c.in_ok-name.ensures.gives in
+    certificate_refused (g.R.Reader.source c.args.reader.now) (g.R.Reader.source c.decode.new.reader) (name_bytes_of c.in_ok-name.name) _ record { value = name.value; missing = name.missing; outer = name.outer } (λ text. c.in-Err.ensures.cases.0 (rw c.as_slice.ensures text)) (ap cause c.from.ensures)

@@ -1,0 +1,46 @@
+//! The bytes of names.
+
+ghost use Rattle.std.specs.Prelude.{◌≡◌, ◌≤◌};
+ghost use Rattle.sshkey_model.specs.Reading.{string_at};
+ghost use Rattle.sshkey_base.specs.Causes.{encoding_cause};
+ghost use Rattle.sshkey_base.specs.NameBytes.{name_bytes_of};
+ghost use Rattle.sshkey_base.specs.Reading.{Gives, LengthPast};
+
+use crate::bytes::{Bytes, bytes_from};
+use crate::encoding::Result;
+use crate::reader::{Reader, length_from};
+use crate::short_bytes::ShortBytes;
+use std::alloc::Global;
+
+/// A string that is likely a name. No name has more than 73 bytes, and so many take no memory.
+#[derive(Drop)]
+pub(crate) enum NameBytes {
+    Short(ShortBytes<73>),
+    Long(Bytes),
+}
+
+impl NameBytes {
+    /// A string of any bytes (RFC 4251, section 5). A length that passes what is left is `Length`.
+    #[tactic(auto, using(crate::proofs::Steps::steps), unfolding(crate::specs::Readers::string_at))]
+    pub(crate) fn decode<R: Reader>(alloc: Global, reader: &mut R) -> Result<NameBytes>
+        ensures gives { Gives name_bytes_of encoding_cause string_at (R.source reader.old) result (R.source reader.new) }
+        ensures past { LengthPast encoding_cause (R.source reader.old) result }
+    {
+        let len = length_from(reader)?;
+        if len <= 73 {
+            Ok(NameBytes::Short(ShortBytes::take_from(len, reader)?))
+        } else {
+            Ok(NameBytes::Long(bytes_from(alloc, len, reader)?))
+        }
+    }
+
+    /// The bytes.
+    pub(crate) fn as_slice(&self) -> &[u8]
+        ensures { result.now ≡ name_bytes_of self.now }
+    {
+        match self {
+            NameBytes::Short(bytes) => bytes.as_slice(),
+            NameBytes::Long(bytes) => bytes.as_slice(),
+        }
+    }
+}
