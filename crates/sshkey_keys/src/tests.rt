@@ -1,3 +1,6 @@
+mod fingerprints;
+mod kinds;
+
 use super::{Fingerprint, KeyData};
 use sshkey_base::{Decode, Encode, Error, HashAlg, decode_whole, encode_vec, encoding};
 use sshkey_kinds::Ed25519PublicKey;
