@@ -1,9 +1,10 @@
 -- The plain reader of keys takes exactly the spellings.
-use Rattle.std.proofs.Common.{refl}
+use Rattle.std.proofs.Common.{◌≡◌, ℕ, List, Result, Ok, Err, refl}
 use Rattle.sshkey_model.specs.Parts.{flat, Fits}
+use Rattle.sshkey_model.specs.Reading.{Fault, ◌>>=◌}
 use Rattle.sshkey_model.specs.Grammar.{IsGrammar}
 use Rattle.sshkey_model.specs.Names.{algorithm_at}
-use Rattle.sshkey_model.specs.Keys.{Key, Plain, IsKey, normal_key, key_at}
+use Rattle.sshkey_model.specs.Keys.{Key, Plain, IsKey, normal_key, key_at, body_at, head_of}
 use Rattle.sshkey_model.proofs.CombinedReaders.{bind_assoc}
 use Rattle.sshkey_model.proofs.Grammars.{grammar_with, same_grammar}
 use Rattle.sshkey_model.proofs.KeyReaders.{key_reads}
@@ -13,9 +14,14 @@ use Rattle.sshkey_keys.specs.Keys.{SpellsKey, key_data_at}
 unfoldable pub use Rattle.sshkey_model.specs.Keys.{ecdsa_at}
 unfoldable pub use Rattle.sshkey_kinds.specs.Bodies.{ed25519_body_at}
 
+-- what follows two steps follows the second of them
+after_both : {A B C D : Type 0} (name : Result A Fault) (body : A → Result B Fault) (both : A → B → Result C Fault) (value : C → Result D Fault) → ((name >>= λ n. body n >>= both n) >>= value) ≡ (name >>= λ n. body n >>= λ k. both n k >>= value)
+after_both (Ok n) body both value = bind_assoc (body n) (both n) value
+after_both (Err fault) body both value = refl
+
 pub key_grammar : IsGrammar SpellsKey key_data_at
 unfolding key_data_at key_at algorithm_at label_at
-key_grammar = same_grammar (grammar_with key_reads) (λ b. simp bind_assoc)
+key_grammar = same_grammar (grammar_with key_reads) (λ b. after_both {B = Key × List ℕ} (algorithm_at b) (λ n. body_at n.0 n.1) (λ n k. Ok ((k.0, head_of n.0), k.1)) (λ k. Ok (k.0.0, k.1)))
 
 -- what is written of a key is one of its spellings
 pub key_normal : (k : Key) → IsKey k → Fits (normal_key k) → SpellsKey k (flat (normal_key k))
