@@ -1,16 +1,21 @@
 //! Laws over the definitions alone.
 
+ghost use Rattle.std.specs.Cmp.Lexicographic.{slice_cmp};
+ghost use Rattle.std.specs.Ordering.{nat_cmp};
 ghost use Rattle.std.specs.Prelude.{◌≡◌, ◌++◌, ℕ, List};
 ghost use Rattle.sshkey_model.specs.Keys.{Key};
-ghost use Rattle.sshkey_model.specs.Signatures.{Signature};
+ghost use Rattle.sshkey_model.specs.Signatures.{Signature as TheSignature};
 ghost use Rattle.sshkey_base.specs.Comparisons.{IsEqualityOf, IsOrderOf, IsOrderByParts};
 ghost use Rattle.sshkey_keys.specs.Comparisons.{IsEqualityOfKeys, IsEqualityOfForms, key_parts};
 ghost use Rattle.sshkey_keys.specs.Fingerprints.{fingerprint_key};
 ghost use Rattle.sshkey_keys.specs.Keys.{SpellsKey};
+ghost use Rattle.sshkey_keys.specs.Signatures.{signature_of, signature_parts};
 ghost use Rattle.sshkey_keys.specs.SignatureReaders.{SpellsSignature};
 
 use crate::fingerprint::Fingerprint;
 use crate::key_data::KeyData;
+use crate::signature::Signature;
+use sshkey_base::laws::compared_algorithms;
 use sshkey_kinds::laws;
 use sshkey_model::laws::normal_keys;
 
@@ -47,5 +52,14 @@ pub fn compared_keys()
 /// No spelling of a signature begins another: what follows it does not matter, and it is that of
 /// one signature.
 pub fn prefix_signature()
-    ensures { (g h : Signature) (a b r q : List ℕ) → SpellsSignature g a → SpellsSignature h b → a ++ r ≡ b ++ q → (g ≡ h) × (a ≡ b) × (r ≡ q) }
+    ensures { (g h : TheSignature) (a b r q : List ℕ) → SpellsSignature g a → SpellsSignature h b → a ++ r ≡ b ++ q → (g ≡ h) × (a ≡ b) × (r ≡ q) }
 {}
+
+/// Two signatures are equal exactly if they mean the same: one algorithm and the same bytes. They
+/// are ordered by the algorithm, and then by the bytes.
+pub fn compared_signatures()
+    ensures equal { IsEqualityOf signature_of ⟦<Signature as PartialEq>⟧.eq }
+    ensures ordered { (g h : _) → ⟦<Signature as Ord>⟧.cmp g h ≡ slice_cmp (slice_cmp nat_cmp) (signature_parts g) (signature_parts h) }
+{
+    compared_algorithms();
+}

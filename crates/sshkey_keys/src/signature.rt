@@ -6,6 +6,9 @@ ghost use Rattle.sshkey_model.specs.Signatures.{IsSignatureBlob};
 ghost use Rattle.sshkey_keys.specs.SignatureForms.{is_blob};
 
 mod form;
+#[cfg(test)]
+mod tests;
+mod views;
 mod wire;
 
 use form::check_blob;
@@ -23,7 +26,7 @@ use sshkey_base::{Algorithm, Bytes, Result};
 /// | RSA without a hash | none are well-formed |
 /// | security keys (PROTOCOL.u2f) | those of ECDSA over P-256, or of Ed25519, then one byte of flags and four of a counter |
 /// | of somebody's own | at least 1 |
-#[derive(Debug, Drop)]
+#[derive(Debug, Drop, PartialEq, Eq, PartialOrd, Ord)]
 pub struct Signature {
     algorithm: Algorithm,
     blob: Bytes,

@@ -8,6 +8,13 @@ ghost use Rattle.sshkey_keys.specs.Keys.{key_of};
 ghost use Rattle.sshkey_keys.specs.Signatures.{signature_of};
 ghost use Rattle.sshkey_keys.specs.Verdicts.{IsUnsupported, Verifies, verdict};
 
+#[cfg(test)]
+mod doubles;
+#[cfg(test)]
+mod openssh;
+#[cfg(test)]
+mod tests;
+
 use crate::key_data::KeyData;
 use crate::raw_verifier::RawVerifier;
 use crate::signature::{Signature, split_trailer};
@@ -51,18 +58,18 @@ impl KeyData {
                 verifier.verify(algorithm, self, message, blob)?
             }
             (KeyData::SkEcdsaSha2NistP256(key), Algorithm::SkEcdsaSha2NistP256) => {
-                let (within, trailer) = split_trailer(blob);
-                let signed = security_key_message(alloc, key.application(), trailer, message)?;
                 let plain = KeyData::Ecdsa(EcdsaPublicKey::NistP256(*key.ec_point()));
                 let algorithm = Algorithm::Ecdsa {
                     curve: EcdsaCurve::NistP256,
                 };
+                let (within, trailer) = split_trailer(blob);
+                let signed = security_key_message(alloc, key.application(), trailer, message)?;
                 verifier.verify(&algorithm, &plain, signed.as_slice(), within)?
             }
             (KeyData::SkEd25519(key), Algorithm::SkEd25519) => {
+                let plain = KeyData::Ed25519(*key.public_key());
                 let (within, trailer) = split_trailer(blob);
                 let signed = security_key_message(alloc, key.application(), trailer, message)?;
-                let plain = KeyData::Ed25519(*key.public_key());
                 verifier.verify(&Algorithm::Ed25519, &plain, signed.as_slice(), within)?
             }
             (KeyData::Other(key), _) => return Err(unsupported(alloc, &key.algorithm)),
@@ -82,12 +89,12 @@ fn security_key_message(
 ) -> std::result::Result<Vec<u8>, AllocError>
     ensures { IfOk result (λ signed. signed.items ≡ sha256 application.now ++ trailer.now ++ sha256 message.now) }
 {
-    let application: [u8; 32] = Sha256::digest(application);
-    let digest: [u8; 32] = Sha256::digest(message);
+    let application_digest: [u8; 32] = Sha256::digest(application);
+    let message_digest: [u8; 32] = Sha256::digest(message);
     let mut signed = Vec::new(alloc);
-    signed.extend_from_slice(&application)?;
+    signed.extend_from_slice(&application_digest)?;
     signed.extend_from_slice(trailer)?;
-    signed.extend_from_slice(&digest)?;
+    signed.extend_from_slice(&message_digest)?;
     Ok(signed)
 }
 
