@@ -1,8 +1,6 @@
 use super::run;
 use std::alloc::Global;
 use std::io::{self, ErrorKind, Read, Write};
-use std::process::Abort;
-use std::test::Fail;
 
 const LINE: &[u8] =
     b"ssh-ed25519 AAAAC3NzaC1lZDI1NTE5AAAAILM+rvN+ot98qgEN796jTiQfZfG1KaT0PtFDJ/XFSqti user@example.com\r\n";
@@ -76,91 +74,91 @@ impl Write for Narrow {
     }
 }
 
-/// The status on that input, and what was written.
-fn answer(alloc: Global, words: &[&str], input: &[u8]) -> (u8, Vec<u8>) {
+const FINGERPRINT: [&str; 1] = ["fingerprint"];
+
+/// On that input it answers with that status, and writes that.
+fn answers(alloc: Global, input: &[u8], status: u8, text: &[u8]) -> bool {
     let mut left = input;
     let mut output = Vec::new(alloc);
-    let status = run(alloc, words, &mut left, &mut output);
-    (status, output)
-}
-
-fn refuses(rt: &(impl Abort + AllocGlobal), input: &[u8], why: &str) -> Result<(), Fail> {
-    let (status, output) = answer(rt.alloc(), &["fingerprint"], input);
-    let wanted = format!(in rt.alloc(); "refused: {why}\n")?;
-    assert_eq!(rt; status, 1);
-    assert_eq!(rt; output.as_slice(), wanted.as_bytes());
-    Ok(())
+    run(alloc, &FINGERPRINT, &mut left, &mut output) == status && output.as_slice() == text
 }
 
 #[test]
 fn a_line_is_shown(rt: HostRuntime) {
-    let (status, output) = answer(rt.alloc(), &["fingerprint"], LINE);
-    assert_eq!(rt; status, 0);
-    assert_eq!(rt; output.as_slice(), SHOWN);
+    assert!(rt; answers(rt.alloc(), LINE, 0, SHOWN));
 }
+
+/// Inputs, and what is written of each.
+const REFUSED: [(&[u8], &[u8]); 9] = [
+    (b"", b"refused: length invalid\n"),
+    (b"ssh-ed25519", b"refused: length invalid\n"),
+    (b"ssh-ed25519  AAAA", b"refused: length invalid\n"),
+    (
+        b"ssh_ed25519 AAAA",
+        b"refused: character encoding invalid\n",
+    ),
+    (b"\xff", b"refused: character encoding invalid\n"),
+    (b"ssh-ed25519 AP9=", b"refused: Base64 encoding error\n"),
+    (b"ssh-ed25519 AAAABG5vbmU=", b"refused: label invalid\n"),
+    (
+        b"ssh-rsa AAAAC3NzaC1lZDI1NTE5AAAAILM+rvN+ot98qgEN796jTiQfZfG1KaT0PtFDJ/XFSqti",
+        b"refused: unknown algorithm\n",
+    ),
+    (
+        b"ssh-ed25519 AAAAC3NzaC1lZDI1NTE5AAAAILM+rvN+ot98qgEN796jTiQfZfG1KaT0PtFDJ/XFSqtiAA==",
+        b"refused: unexpected trailing data at end of message (1 bytes)\n",
+    ),
+];
 
 #[test]
-fn refusals_say_why(rt: HostRuntime) -> Result<(), Fail> {
-    refuses(&rt, b"", "length invalid")?;
-    refuses(&rt, b"ssh-ed25519", "length invalid")?;
-    refuses(&rt, b"ssh-ed25519  AAAA", "length invalid")?;
-    refuses(&rt, b"ssh_ed25519 AAAA", "character encoding invalid")?;
-    refuses(&rt, b"\xff", "character encoding invalid")?;
-    refuses(&rt, b"ssh-ed25519 AP9=", "Base64 encoding error")?;
-    refuses(&rt, b"ssh-ed25519 AAAABG5vbmU=", "label invalid")?;
-    refuses(
-        &rt,
-        b"ssh-rsa AAAAC3NzaC1lZDI1NTE5AAAAILM+rvN+ot98qgEN796jTiQfZfG1KaT0PtFDJ/XFSqti",
-        "unknown algorithm",
-    )?;
-    refuses(
-        &rt,
-        b"ssh-ed25519 AAAAC3NzaC1lZDI1NTE5AAAAILM+rvN+ot98qgEN796jTiQfZfG1KaT0PtFDJ/XFSqtiAA==",
-        "unexpected trailing data at end of message (1 bytes)",
-    )
+fn refusals_say_why(rt: HostRuntime) {
+    for (input, text) in REFUSED {
+        assert!(rt; answers(rt.alloc(), input, 1, text), "{text:?}");
+    }
 }
 
-fn shows_usage(rt: &(impl Abort + AllocGlobal), words: &[&str]) {
+/// At these words it shows the usage, and leaves the input.
+fn shows_usage(alloc: Global, words: &[&str]) -> bool {
     let mut left = LINE;
-    let mut output = Vec::new(rt.alloc());
-    assert_eq!(rt; run(rt.alloc(), words, &mut left, &mut output), 2);
-    assert_eq!(rt; output.as_slice(), USAGE);
-    assert_eq!(rt; left.len(), LINE.len());
+    let mut output = Vec::new(alloc);
+    let status = run(alloc, words, &mut left, &mut output);
+    status == 2 && output.as_slice() == USAGE && left.len() == LINE.len()
 }
 
 #[test]
 fn other_words_are_judged_before_the_input(rt: HostRuntime) {
-    shows_usage(&rt, &[]);
-    shows_usage(&rt, &["Fingerprint"]);
-    shows_usage(&rt, &["fingerprint", "x"]);
+    assert!(rt; shows_usage(rt.alloc(), &[]));
+    assert!(rt; shows_usage(rt.alloc(), &["Fingerprint"]));
+    assert!(rt; shows_usage(rt.alloc(), &["fingerprint", "x"]));
+}
+
+/// An input that fails before that byte is refused in these words.
+fn fails_before(alloc: Global, before: usize, kind: ErrorKind, text: &[u8]) -> bool {
+    let mut input = Failing {
+        bytes: LINE,
+        most: 7,
+        before,
+        kind,
+        interrupted: false,
+    };
+    let mut output = Vec::new(alloc);
+    run(alloc, &FINGERPRINT, &mut input, &mut output) == 1 && output.as_slice() == text
 }
 
 #[test]
-fn an_input_that_fails_is_refused_at_each_byte(rt: HostRuntime) -> Result<(), Fail> {
-    for (kind, wanted) in [
-        (ErrorKind::BrokenPipe, b"refused: I/O error\n".as_slice()),
-        (
-            ErrorKind::OutOfMemory,
-            b"refused: out of memory\n".as_slice(),
-        ),
-    ] {
-        for before in 0..LINE.len() {
-            let mut input = Failing {
-                bytes: LINE,
-                most: 7,
-                before,
-                kind,
-                interrupted: false,
-            };
-            let mut output = Vec::new(rt.alloc());
-            assert_eq!(rt;
-                run(rt.alloc(), &["fingerprint"], &mut input, &mut output),
-                1
-            );
-            assert_eq!(rt; output.as_slice(), wanted);
-        }
+fn an_input_that_fails_is_refused_at_each_byte(rt: HostRuntime) {
+    let failed = b"refused: I/O error\n";
+    let full = b"refused: out of memory\n";
+    for before in 0..LINE.len() {
+        assert!(rt;
+            fails_before(rt.alloc(), before, ErrorKind::BrokenPipe, failed),
+            "{before}"
+        );
+        assert!(rt;
+            fails_before(rt.alloc(), before, ErrorKind::OutOfMemory, full),
+            "{before}"
+        );
     }
-    Ok(())
 }
 
 #[test]
@@ -173,11 +171,8 @@ fn short_and_interrupted_calls_change_nothing(rt: HostRuntime) {
         interrupted: false,
     };
     let mut output = with_room(rt.alloc(), SHOWN.len(), false);
-    assert_eq!(rt;
-        run(rt.alloc(), &["fingerprint"], &mut input, &mut output),
-        0
-    );
-    assert_eq!(rt; output.taken.as_slice(), SHOWN);
+    let status = run(rt.alloc(), &FINGERPRINT, &mut input, &mut output);
+    assert!(rt; status == 0 && output.taken.as_slice() == SHOWN);
 }
 
 fn with_room(alloc: Global, room: usize, is_full: bool) -> Narrow {
@@ -190,19 +185,34 @@ fn with_room(alloc: Global, room: usize, is_full: bool) -> Narrow {
     }
 }
 
+/// An output with room for less than the text holds its beginning, and the status is 1.
+fn holds_a_beginning(
+    alloc: Global,
+    words: &[&str],
+    text: &[u8],
+    room: usize,
+    is_full: bool,
+) -> bool {
+    let mut left = LINE;
+    let mut output = with_room(alloc, room, is_full);
+    let status = run(alloc, words, &mut left, &mut output);
+    let taken = output.taken.as_slice();
+    status == 1 && taken.len() == room && text.starts_with(taken)
+}
+
 #[test]
 fn an_output_that_fails_holds_a_beginning(rt: HostRuntime) {
-    for is_full in [false, true] {
-        for (words, wanted) in [
-            (["fingerprint"].as_slice(), SHOWN),
-            (["other"].as_slice(), USAGE),
-        ] {
-            for room in 0..wanted.len() {
-                let mut left = LINE;
-                let mut output = with_room(rt.alloc(), room, is_full);
-                assert_eq!(rt; run(rt.alloc(), words, &mut left, &mut output), 1);
-                assert_eq!(rt; output.taken.as_slice(), &wanted[..room]);
-            }
+    let alloc = rt.alloc();
+    for (words, text) in [(FINGERPRINT, SHOWN), (["other"], USAGE)] {
+        for room in 0..text.len() {
+            assert!(rt;
+                holds_a_beginning(alloc, &words, text, room, false),
+                "{room}"
+            );
+            assert!(rt;
+                holds_a_beginning(alloc, &words, text, room, true),
+                "{room}"
+            );
         }
     }
 }
