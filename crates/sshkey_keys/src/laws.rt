@@ -1,7 +1,5 @@
 //! Laws over the definitions alone.
 
-ghost use Rattle.std.specs.Cmp.Lexicographic.{slice_cmp};
-ghost use Rattle.std.specs.Ordering.{nat_cmp};
 ghost use Rattle.std.specs.Prelude.{◌≡◌, ◌++◌, ℕ, List};
 ghost use Rattle.sshkey_model.specs.Keys.{Key};
 ghost use Rattle.sshkey_model.specs.Signatures.{Signature as TheSignature};
@@ -59,7 +57,7 @@ pub fn prefix_signature()
 /// are ordered by the algorithm, and then by the bytes.
 pub fn compared_signatures()
     ensures equal { IsEqualityOf signature_of ⟦<Signature as PartialEq>⟧.eq }
-    ensures ordered { (g h : _) → ⟦<Signature as Ord>⟧.cmp g h ≡ slice_cmp (slice_cmp nat_cmp) (signature_parts g) (signature_parts h) }
+    ensures ordered { IsOrderByParts signature_parts ⟦<Signature as Ord>⟧.cmp }
 {
     compared_algorithms();
 }
