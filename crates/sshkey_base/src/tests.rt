@@ -6,7 +6,6 @@ use answers::{faults, gives, reads, refuses, shows, writes};
 use std::alloc::{AllocError, Global};
 use std::hash::{DefaultHasher, Hash, Hasher};
 use std::io;
-use std::test::*;
 
 pub(crate) mod answers;
 mod faulty;
@@ -93,23 +92,23 @@ fn hash_of(bytes: &Bytes) -> u64 {
     hasher.finish()
 }
 
-fn is_same(first: &Bytes, second: &Bytes) -> bool {
-    first == second && hash_of(first) == hash_of(second)
+/// A copy of the first byte string equals it, and the first is before the second.
+fn is_before(alloc: Global, first: &[u8], second: &[u8]) -> Result<bool, encoding::Error> {
+    let low = Bytes::from_slice(alloc, first)?;
+    let same = low.try_clone(alloc)?;
+    let high = Bytes::from_slice(alloc, second)?;
+    let is_copy = low == same && hash_of(&low) == hash_of(&same);
+    Ok(is_copy && low < high && low != high && hash_of(&low) != hash_of(&high))
 }
 
-fn is_before(first: &Bytes, second: &Bytes) -> bool {
-    first < second && first != second && hash_of(first) != hash_of(second)
+/// The bytes are given back by the byte string that was made of them.
+fn is_given_back(alloc: Global, bytes: &[u8]) -> Result<bool, AllocError> {
+    let made = Bytes::new(bytes.to_vec(alloc)?);
+    Ok(made.into_vec().as_slice() == bytes)
 }
 
 #[test]
-fn byte_strings(rt: HostRuntime) -> Result<(), Fail> {
-    let low = Bytes::from_slice(rt.alloc(), &[1, 2])?;
-    let high = Bytes::new(vec![in rt.alloc(); 1, 3]?);
-    assert!(rt; is_before(&low, &high));
-    match low.try_clone(rt.alloc()) {
-        Ok(same) => assert!(rt; is_same(&low, &same)),
-        Err(_) => panic!(rt; "out of memory"),
-    }
-    assert!(rt; high.into_vec().as_slice() == [1u8, 3].as_slice());
-    Ok(())
+fn byte_strings(rt: HostRuntime) {
+    assert!(rt; gives(is_before(rt.alloc(), &[1, 2], &[1, 3]), &true));
+    assert!(rt; gives(is_given_back(rt.alloc(), &[1, 3]), &true));
 }
