@@ -100,6 +100,7 @@ pub struct OpaquePublicKey {
 }
 
 impl OpaquePublicKey {
+    ghost use Rattle.sshkey_kinds.specs.Comparisons.{opaque_fields};
     ghost use Rattle.sshkey_model.specs.Keys.{Opaque};
     ghost use Rattle.sshkey_model.specs.Names.{algorithm_name};
     ghost use Rattle.sshkey_base.specs.Names.{algorithm_of};
@@ -107,7 +108,8 @@ impl OpaquePublicKey {
 
     /// The key of these bytes under that algorithm, whichever it is. Takes no memory.
     pub fn new(key: Vec<u8>, algorithm: Algorithm) -> OpaquePublicKey
-        ensures { opaque_of result ≡ Opaque (algorithm_name (algorithm_of algorithm)) key.items }
+        ensures value { opaque_of result ≡ Opaque (algorithm_name (algorithm_of algorithm)) key.items }
+        ensures fields { opaque_fields result ≡ (algorithm_of algorithm, key.items) }
     {
         OpaquePublicKey {
             algorithm,
@@ -120,6 +122,7 @@ impl OpaquePublicKey {
     /// The same key in memory of its own. Refuses only with `Memory`.
     pub fn try_clone(&self, alloc: Global) -> Result<OpaquePublicKey>
         ensures value { IfOk result (λ k. opaque_of k ≡ opaque_of self.now) }
+        ensures fields { IfOk result (λ k. opaque_fields k ≡ opaque_fields self.now) }
         ensures refused { IfErr result (λ e. e ≡ wide.Memory) }
     {
         Ok(OpaquePublicKey {
