@@ -1,6 +1,7 @@
 use crate::{
-    Algorithm, Bytes, Decode, Encode, Error, Label, Reader, SliceWriter, Writer, decode_boxed,
-    decode_front, decode_whole, encode_both, encode_string, encode_vec, encoding, laws, string_len,
+    Algorithm, Bytes, Decode, Encode, Error, Label, Reader, ShortBytes, SliceWriter, Writer,
+    decode_boxed, decode_front, decode_whole, encode_both, encode_string, encode_vec, encoding,
+    laws, string_len,
 };
 use answers::{faults, gives, reads, refuses, shows, writes};
 use std::alloc::{AllocError, Global};

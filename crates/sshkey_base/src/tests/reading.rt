@@ -35,6 +35,17 @@ fn arrays_of_another_length(rt: HostRuntime) {
 }
 
 #[test]
+fn short_strings(rt: HostRuntime) -> Result<(), Fail> {
+    let alloc = rt.alloc();
+    let mut left = TESTING.as_slice();
+    let short = ShortBytes::<7>::decode(alloc, &mut left)?;
+    assert!(rt; short.as_slice() == &TESTING[4..] && left.is_empty());
+    assert!(rt; refuses::<ShortBytes<6>>(alloc, &TESTING, Error::Length));
+    assert!(rt; refuses::<ShortBytes<7>>(alloc, &TESTING[..10], Error::Length));
+    Ok(())
+}
+
+#[test]
 fn a_length_past_the_rest(rt: HostRuntime) {
     let alloc = rt.alloc();
     assert!(rt; refuses::<Vec<u8>>(alloc, &[0xff; 4], Error::Length));
@@ -51,6 +62,10 @@ fn names_in_bytes(rt: HostRuntime) {
     assert!(rt; reads(alloc, &NAME, &Algorithm::Ed25519, 0));
     assert!(rt; refuses::<Algorithm>(alloc, &TESTING, Error::Label));
     assert!(rt; refuses::<Algorithm>(alloc, &[0, 0, 0, 2, 0xc3, 0x28], Error::Label));
+    let mut long = [b'a'; 78];
+    long[..4].copy_from_slice(&[0, 0, 0, 74]);
+    assert!(rt; refuses::<Algorithm>(alloc, &long, Error::Label));
+    assert!(rt; refuses::<Algorithm>(alloc, &long[..77], Error::Length));
 }
 
 /// The name, and a byte behind it.
