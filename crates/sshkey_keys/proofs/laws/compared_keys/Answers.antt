@@ -1,10 +1,8 @@
-use Rattle.std.proofs.Common.{rules, refl, ap, ◌≡◌, ◌∙◌, sym, List, ℕ}
+use Rattle.std.proofs.Common.{rules, refl, ap, ◌≡◌, List, ℕ}
 use Rattle.std.proofs.lemmas.Bool.Decides.{Decides-like}
-use Rattle.sshkey_model.specs.Keys.{Key, Ecdsa, Opaque}
+use Rattle.sshkey_model.specs.Keys.{Ecdsa, Opaque}
 use Rattle.sshkey_model.specs.Names.{Algorithm, Curve, algorithm_name}
 use Rattle.sshkey_base.specs.Names.{algorithm_of}
-use Rattle.sshkey_kinds.specs.Comparisons.{opaque_fields}
-use Rattle.sshkey_kinds.specs.EcdsaWords.{ecdsa_of}
 use Rattle.sshkey_keys.specs.Keys.{key_of}
 use Rattle.sshkey_keys.proofs.OwnAlgorithms.{same_name}
 use Rattle.sshkey_keys.specs.declared.key_data.KeyData.TheVariants as kinds
