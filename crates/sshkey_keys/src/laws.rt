@@ -13,7 +13,6 @@ ghost use Rattle.sshkey_keys.specs.SignatureReaders.{SpellsSignature};
 use crate::fingerprint::Fingerprint;
 use crate::key_data::KeyData;
 use crate::signature::Signature;
-use sshkey_base::laws::compared_algorithms;
 use sshkey_kinds::laws;
 use sshkey_model::laws::normal_keys;
 
@@ -58,6 +57,4 @@ pub fn prefix_signature()
 pub fn compared_signatures()
     ensures equal { IsEqualityOf signature_of ⟦<Signature as PartialEq>⟧.eq }
     ensures ordered { IsOrderByParts signature_parts ⟦<Signature as Ord>⟧.cmp }
-{
-    compared_algorithms();
-}
+{}
