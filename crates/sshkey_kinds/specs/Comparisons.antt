@@ -8,7 +8,6 @@ use Rattle.sshkey_kinds.specs.declared.dsa.DsaPublicKey.{DsaPublicKey}
 use Rattle.sshkey_kinds.specs.declared.rsa.RsaPublicKey.{RsaPublicKey}
 use Rattle.sshkey_kinds.specs.declared.ecdsa.EcdsaPublicKey.{EcdsaPublicKey}
 use Rattle.sshkey_kinds.specs.declared.ecdsa.EcdsaPublicKey.TheVariants.{NistP256, NistP384, NistP521}
-use Rattle.sshkey_kinds.specs.declared.ed25519.Ed25519PublicKey.{Ed25519PublicKey}
 use Rattle.sshkey_kinds.specs.declared.sk.SkEcdsaSha2NistP256.{SkEcdsaSha2NistP256}
 use Rattle.sshkey_kinds.specs.declared.sk.SkEd25519.{SkEd25519}
 use Rattle.sshkey_kinds.specs.declared.opaque.OpaquePublicKey.{OpaquePublicKey}

@@ -8,7 +8,6 @@ use Rattle.sshkey_model.specs.Names.{Curve, Nistp256, Nistp384, Nistp521}
 use Rattle.sshkey_base.specs.Equality.{decided_equivalence, decided_partial_equivalence}
 use Rattle.sshkey_kinds.specs.declared.ecdsa.EcdsaPublicKey.{EcdsaPublicKey}
 use Rattle.sshkey_kinds.specs.declared.ecdsa.EcdsaPublicKey.TheVariants.{NistP256, NistP384, NistP521}
-use Rattle.sshkey_kinds.specs.PointWords.{point_of}
 use Rattle.sshkey_kinds.specs.EcdsaWords.{ecdsa_of, same_key}
 
 pub same_key_exact : (k l : EcdsaPublicKey) → Decides (same_key k l) (ecdsa_of k ≡ ecdsa_of l)

@@ -1,5 +1,5 @@
 -- What ECDSA keys mean.
-use Rattle.std.specs.Prelude.{ℕ, List, Bool, true, false, Result, Ok, Err}
+use Rattle.std.specs.Prelude.{ℕ, List, Bool, false, Ok}
 use Rattle.std.specs.Str.{bytes_eq}
 use Rattle.sshkey_model.specs.Reading.{Whole, ◌>>=◌}
 use Rattle.sshkey_model.specs.Names.{Curve, Nistp256, Nistp384, Nistp521}

@@ -1,5 +1,5 @@
 -- The bytes of an Ed25519 key (RFC 8709, section 4).
-use Rattle.std.specs.Prelude.{ℕ, ◌==◌, List, length, Result, Ok, Err, if◌then◌else◌}
+use Rattle.std.specs.Prelude.{ℕ, ◌==◌, List, length, Ok, Err, if◌then◌else◌}
 use Rattle.sshkey_model.specs.Reading.{Whole, Length}
 
 -- the bytes, if there are 32

@@ -1,5 +1,5 @@
 -- Point strings by the size of the longest (SEC 1, section 2.3.3).
-use Rattle.std.specs.Prelude.{◌≡◌, ℕ, ◌==◌, List, Bool, true, false, Option, Some, None, Result, Ok, Err, if◌then◌else◌}
+use Rattle.std.specs.Prelude.{ℕ, ◌==◌, List, Bool, false, Option, Some, None, Result, Ok, Err, if◌then◌else◌}
 use Rattle.sshkey_model.specs.Reading.{Fault, Whole, EcdsaEncoding, ◌>>=◌}
 use Rattle.sshkey_model.specs.Names.{Curve, Nistp256, Nistp384, Nistp521}
 use Rattle.sshkey_model.specs.Points.{field_size, is_point, curve_of_size, point_curve}
