@@ -92,6 +92,7 @@ impl KeyData {
     /// key never.
     pub fn try_clone(&self, alloc: Global) -> Result<KeyData>
         ensures value { IfOk result (λ k. key_of k ≡ key_of self.now) }
+        ensures algorithm { IfOk result (λ k. algorithm_beside k ≡ algorithm_beside self.now) }
         ensures refused { IfErr result (λ e. e ≡ Error.Memory) }
         ensures in_place { IsTrue (is_ecdsa (key_of self.now) || is_ed25519 (key_of self.now)) → IsOk result }
     {
