@@ -8,13 +8,6 @@ ghost use Rattle.sshkey_keys.specs.Keys.{key_of};
 ghost use Rattle.sshkey_keys.specs.Signatures.{signature_of};
 ghost use Rattle.sshkey_keys.specs.Verdicts.{IsUnsupported, Verifies, verdict};
 
-#[cfg(test)]
-mod doubles;
-#[cfg(test)]
-mod openssh;
-#[cfg(test)]
-mod tests;
-
 use crate::key_data::KeyData;
 use crate::raw_verifier::RawVerifier;
 use crate::signature::{Signature, split_trailer};

@@ -1,5 +1,10 @@
-//! Keys from outside, read, written and fingerprinted through all crates. It holds tests alone.
+//! Verifiers and a signer for tests; and tests that cross the crates, over keys and signatures
+//! from outside.
 #![tactic(auto)]
+
+mod doubles;
+
+pub use doubles::{AcceptAll, Fixed, Only, RefuseAll};
 
 #[cfg(test)]
 mod edges;
@@ -8,10 +13,16 @@ mod faults;
 #[cfg(test)]
 mod known;
 #[cfg(test)]
+mod openssh;
+#[cfg(test)]
 mod parts;
 #[cfg(test)]
 mod rsa_names;
 #[cfg(test)]
+mod signatures;
+#[cfg(test)]
 mod support;
+#[cfg(test)]
+mod verification;
 #[cfg(test)]
 mod whole_keys;

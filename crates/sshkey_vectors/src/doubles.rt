@@ -1,0 +1,137 @@
+//! Verifiers and a signer for tests. No cryptography is in them.
+
+ghost use Rattle.std.specs.Prelude.{◌≡◌, true, false};
+ghost use Rattle.sshkey_base.specs.Names.{algorithm_of};
+ghost use Rattle.sshkey_base.specs.declared.error.Error.TheVariants as wide;
+ghost use Rattle.sshkey_keys.specs.KeyKinds.{is_ed25519};
+ghost use Rattle.sshkey_keys.specs.Keys.{key_of};
+ghost use Rattle.sshkey_vectors.specs.Doubles.{is_asked};
+
+use sshkey_base::{Algorithm, Result};
+use sshkey_keys::{KeyData, RawVerifier, Signature, SigningKey};
+use sshkey_kinds::Ed25519PublicKey;
+use std::alloc::{AllocError, Global};
+
+/// A verifier that accepts all that it is asked.
+#[derive(Clone, Copy, Debug)]
+pub struct AcceptAll;
+
+impl RawVerifier for AcceptAll {
+    ghost accepts = { λ _ _. true };
+
+    fn verify(
+        &self,
+        _: &Algorithm,
+        _: &KeyData,
+        _: &[u8],
+        _: &[u8],
+    ) -> std::result::Result<bool, AllocError> {
+        Ok(true)
+    }
+}
+
+/// A verifier that accepts nothing.
+#[derive(Clone, Copy, Debug)]
+pub struct RefuseAll;
+
+impl RawVerifier for RefuseAll {
+    ghost accepts = { λ _ _. false };
+
+    fn verify(
+        &self,
+        _: &Algorithm,
+        _: &KeyData,
+        _: &[u8],
+        _: &[u8],
+    ) -> std::result::Result<bool, AllocError> {
+        Ok(false)
+    }
+}
+
+/// A verifier that accepts one signature of one message by one algorithm, whatever the key.
+#[derive(Debug, Drop)]
+pub struct Only {
+    /// The algorithm.
+    pub algorithm: Algorithm,
+    /// The message.
+    pub message: Vec<u8>,
+    /// The bytes of the signature.
+    pub signature: Vec<u8>,
+}
+
+impl Only {
+    /// The verifier that accepts this signature of this message by this algorithm.
+    pub fn new(algorithm: Algorithm, message: Vec<u8>, signature: Vec<u8>) -> Only
+        ensures algorithm { result.algorithm ≡ algorithm }
+        ensures message { result.message ≡ message }
+        ensures signature { result.signature ≡ signature }
+    {
+        Only {
+            algorithm,
+            message,
+            signature,
+        }
+    }
+}
+
+impl RawVerifier for Only {
+    ghost accepts = { λ v. is_asked (algorithm_of v.algorithm) v.message.items v.signature.items };
+
+    fn verify(
+        &self,
+        algorithm: &Algorithm,
+        _: &KeyData,
+        message: &[u8],
+        signature: &[u8],
+    ) -> std::result::Result<bool, AllocError> {
+        Ok(
+            self.algorithm.as_str() == algorithm.as_str()
+                && self.message.as_slice() == message
+                && self.signature.as_slice() == signature,
+        )
+    }
+}
+
+/// A signer that signs every message with 64 bytes 00, as an Ed25519 key would (RFC 8709,
+/// section 6). `AcceptAll` is the verifier of its signatures.
+#[derive(Debug, Drop)]
+pub struct Fixed {
+    key: KeyData,
+    raw: AcceptAll,
+    ghost plain: { is_ed25519 (key_of key) ≡ true },
+}
+
+impl Fixed {
+    /// The signer with that public key.
+    pub fn new(key: Ed25519PublicKey) -> Fixed
+        ensures { result.key ≡ KeyData.Ed25519 key }
+    {
+        Fixed {
+            key: KeyData::Ed25519(key),
+            raw: AcceptAll,
+        }
+    }
+}
+
+impl SigningKey for Fixed {
+    type Raw = AcceptAll;
+
+    ghost raw_of = { λ s. s.raw };
+
+    ghost public_of = { λ s. s.key };
+
+    ghost refuses = { λ _ _ e. e ≡ wide.Memory };
+
+    fn raw(&self) -> &AcceptAll {
+        &self.raw
+    }
+
+    fn public_key(&self) -> &KeyData {
+        &self.key
+    }
+
+    /// 64 bytes 00 under Ed25519, whatever the message. Refused only for want of memory.
+    fn try_sign(&self, alloc: Global, _: &[u8]) -> Result<Signature> {
+        Signature::new(Algorithm::Ed25519, vec![in alloc; 0; 64]?)
+    }
+}
