@@ -2,10 +2,9 @@ mod fingerprints;
 mod kinds;
 
 use super::{Fingerprint, KeyData};
-use sshkey_base::{Decode, Encode, Error, HashAlg, decode_whole, encode_vec, encoding};
+use sshkey_base::{Decode, Encode, Error, HashAlg, Result, decode_whole, encode_vec, encoding};
 use sshkey_kinds::Ed25519PublicKey;
 use std::alloc::Global;
-use std::test::Fail;
 
 const KEY: KeyData = KeyData::Ed25519(Ed25519PublicKey(
     *b"\xb3\x3e\xae\xf3\x7e\xa2\xdf\x7c\xaa\x01\x0d\xef\xde\xa3\x4e\x24\x1f\x65\xf1\xb5\x29\xa4\xf4\x3e\xd1\x43\x27\xf5\xc5\x4a\xab\x62",
@@ -23,52 +22,104 @@ const LONGER: &[u8] =
 const OTHER: &[u8] =
     b"\0\0\0\x0bSSH-ed25519\0\0\0\x20\xb3\x3e\xae\xf3\x7e\xa2\xdf\x7c\xaa\x01\x0d\xef\xde\xa3\x4e\x24\x1f\x65\xf1\xb5\x29\xa4\xf4\x3e\xd1\x43\x27\xf5\xc5\x4a\xab\x62";
 
-fn whole(alloc: Global, bytes: &[u8]) -> Result<KeyData, Error> {
-    decode_whole(alloc, bytes)
+/// The bytes begin with the key, and `rest` bytes are left behind it.
+fn begins_with_key(alloc: Global, bytes: &[u8], rest: usize) -> bool {
+    let mut left = bytes;
+    match KeyData::decode(alloc, &mut left) {
+        Ok(read) => read == KEY && left.len() == rest,
+        Err(_) => false,
+    }
+}
+
+/// The bytes are the key's, and no more.
+fn is_whole_key(alloc: Global, bytes: &[u8]) -> bool {
+    match decode_whole::<KeyData, &[u8]>(alloc, bytes) {
+        Ok(read) => read == KEY,
+        Err(_) => false,
+    }
+}
+
+/// The key is written as these bytes, and has their length.
+fn is_written_as(alloc: Global, key: &KeyData, bytes: &[u8]) -> bool {
+    match encode_vec(alloc, key) {
+        Ok(written) => written.as_slice() == bytes && key.encoded_len() == Ok(bytes.len()),
+        Err(_) => false,
+    }
+}
+
+/// The bytes are no key, with that fault.
+fn is_refused(alloc: Global, bytes: &[u8], error: encoding::Error) -> bool {
+    match decode_whole::<KeyData, &[u8]>(alloc, bytes) {
+        Err(Error::Encoding(fault)) => fault == error,
+        _ => false,
+    }
+}
+
+/// Nothing that is cut off behind is a key.
+fn is_refused_where_cut(alloc: Global, bytes: &[u8]) -> bool {
+    for len in 0..bytes.len() {
+        if !is_refused(alloc, &bytes[..len], encoding::Error::Length) {
+            return false;
+        }
+    }
+    true
 }
 
 #[test]
-fn a_key_is_read_and_written(rt: HostRuntime) -> Result<(), Fail> {
-    let mut left = LONGER;
-    assert_eq!(rt; KeyData::decode(rt.alloc(), &mut left)?, KEY);
-    assert_eq!(rt; left.len(), 1);
-    assert_eq!(rt; whole(rt.alloc(), SPELLING)?, KEY);
-    assert_eq!(rt; encode_vec(rt.alloc(), &KEY)?.as_slice(), SPELLING);
-    assert_eq!(rt; KEY.encoded_len()?, 51);
-    assert_eq!(rt; KEY.encoded_key_data_len()?, 36);
-    assert_eq!(rt; KEY.algorithm_name(), "ssh-ed25519");
-    Ok(())
+fn a_key_is_read(rt: HostRuntime) {
+    assert!(rt; begins_with_key(rt.alloc(), LONGER, 1));
+    assert!(rt; is_whole_key(rt.alloc(), SPELLING));
+}
+
+#[test]
+fn a_key_is_written(rt: HostRuntime) {
+    let key = KEY;
+    assert!(rt; is_written_as(rt.alloc(), &key, SPELLING) && SPELLING.len() == 51);
+    assert!(rt;
+        key.encoded_key_data_len().is_ok_and(|len| len == 36)
+            && key.algorithm_name() == "ssh-ed25519"
+    );
 }
 
 #[test]
 fn a_key_with_a_rest_or_cut_short_is_refused(rt: HostRuntime) {
-    let trailing = Error::Encoding(encoding::Error::TrailingData { remaining: 1 });
-    assert_eq!(rt; whole(rt.alloc(), LONGER), Err(trailing));
-    for len in 0..SPELLING.len() {
-        let short = Error::Encoding(encoding::Error::Length);
-        assert_eq!(rt; whole(rt.alloc(), &SPELLING[..len]), Err(short));
-    }
+    let trailing = encoding::Error::TrailingData { remaining: 1 };
+    assert!(rt; is_refused(rt.alloc(), LONGER, trailing));
+    assert!(rt; is_refused_where_cut(rt.alloc(), SPELLING));
 }
 
 #[test]
 fn another_name_is_refused(rt: HostRuntime) {
-    let label = Error::Encoding(encoding::Error::Label);
-    assert_eq!(rt; whole(rt.alloc(), OTHER), Err(label));
+    assert!(rt; is_refused(rt.alloc(), OTHER, encoding::Error::Label));
+}
+
+/// The answer is a fingerprint that is shown by this text.
+fn shows(alloc: Global, answer: Result<Fingerprint>, text: &str) -> bool {
+    let Ok(fingerprint) = answer else {
+        return false;
+    };
+    match fingerprint.to_string(alloc) {
+        Ok(shown) => shown.as_str() == text,
+        Err(_) => false,
+    }
 }
 
 #[test]
-fn fingerprints_are_those_of_ssh_keygen(rt: HostRuntime) -> Result<(), Fail> {
-    let short = Fingerprint::new(rt.alloc(), HashAlg::Sha256, &KEY)?;
-    let text = format!(in rt.alloc(); "{short}")?;
-    assert_eq!(rt;
-        text.as_str(),
-        "SHA256:UCUiLr7Pjs9wFFJMDByLgc3NrtdU344OgUM45wZPcIQ"
+fn fingerprints_are_those_of_ssh_keygen(rt: HostRuntime) {
+    let short = Fingerprint::new(rt.alloc(), HashAlg::Sha256, &KEY);
+    assert!(rt;
+        shows(
+            rt.alloc(),
+            short,
+            "SHA256:UCUiLr7Pjs9wFFJMDByLgc3NrtdU344OgUM45wZPcIQ"
+        )
     );
-    let long = Fingerprint::new(rt.alloc(), HashAlg::Sha512, &KEY)?;
-    let text = format!(in rt.alloc(); "{long}")?;
-    assert_eq!(rt;
-        text.as_str(),
-        "SHA512:8Hm4eNTiYk9l6WR85IqY+UK4AXajRf5auLD/QIxCZQLwGpDiEDiXZ0ZttPuhyG8IHsWbt2zu8G0+G6VIVXoHhA"
+    let long = Fingerprint::new(rt.alloc(), HashAlg::Sha512, &KEY);
+    assert!(rt;
+        shows(
+            rt.alloc(),
+            long,
+            "SHA512:8Hm4eNTiYk9l6WR85IqY+UK4AXajRf5auLD/QIxCZQLwGpDiEDiXZ0ZttPuhyG8IHsWbt2zu8G0+G6VIVXoHhA"
+        )
     );
-    Ok(())
 }

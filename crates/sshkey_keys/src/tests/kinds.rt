@@ -1,14 +1,14 @@
 //! Keys of each kind, told apart.
 
 use super::super::KeyData;
-use sshkey_base::{Algorithm, Decode, EcdsaCurve, HashAlg, decode_whole, encode_vec};
+use super::is_written_as;
+use sshkey_base::{Algorithm, Decode, EcdsaCurve, HashAlg, decode_whole};
 use sshkey_kinds::{
     DsaPublicKey, EcdsaPublicKey, Ed25519PublicKey, OpaquePublicKey, RsaPublicKey,
     SkEcdsaSha2NistP256, SkEd25519,
 };
 use std::alloc::Global;
 use std::hash::{DefaultHasher, Hash, Hasher};
-use std::test::Fail;
 
 /// A DSA key of four small numbers.
 const DSA: &[u8] = b"\0\0\0\x07ssh-dss\0\0\0\x01\x17\0\0\0\x01\x0b\0\0\0\x01\x04\0\0\0\x01\x08";
@@ -34,8 +34,12 @@ const SK_ED25519: &[u8] =
 
 const OPAQUE: &[u8] = b"\0\0\0\x10name@example.com\0\0\0\x03\x01\x02\x03";
 
-fn whole(alloc: Global, bytes: &[u8]) -> Result<KeyData, Fail> {
-    Ok(decode_whole(alloc, bytes)?)
+/// The bytes are that key's, and no more.
+fn is_whole(alloc: Global, bytes: &[u8], key: &KeyData) -> bool {
+    match decode_whole::<KeyData, &[u8]>(alloc, bytes) {
+        Ok(read) => read == *key,
+        Err(_) => false,
+    }
 }
 
 /// The kinds that a key is said to be of.
@@ -70,137 +74,187 @@ fn hash_of(key: &KeyData) -> u64 {
     state.finish()
 }
 
-/// Whether the key in the bytes is of that kind alone, has that algorithm, is written as it was
-/// read, and has an equal clone that is hashed alike.
-fn is_kind(alloc: Global, bytes: &[u8], kind: usize, algorithm: Algorithm) -> Result<bool, Fail> {
-    let key = whole(alloc, bytes)?;
+/// Whether the key is of that kind alone.
+fn is_of(key: &KeyData, kind: usize) -> bool {
     let mut only = [false; 7];
     only[kind % 7] = true;
-    let clone = key.try_clone(alloc)?;
-    Ok(
-        said(&key) == only
-            && seen(&key) == only
-            && key.algorithm(alloc)? == algorithm
-            && key.algorithm_name() == algorithm.as_str()
-            && encode_vec(alloc, &key)?.as_slice() == bytes
-            && clone == key
-            && hash_of(&clone) == hash_of(&key),
-    )
+    said(key) == only && seen(key) == only
 }
 
-#[test]
-fn dsa(rt: HostRuntime) -> Result<(), Fail> {
-    assert!(rt; is_kind(rt.alloc(), DSA, 0, Algorithm::Dsa)?);
-    Ok(())
-}
-
-#[test]
-fn ecdsa(rt: HostRuntime) -> Result<(), Fail> {
-    let curve = EcdsaCurve::NistP256;
-    assert!(rt; is_kind(rt.alloc(), ECDSA, 1, Algorithm::Ecdsa { curve })?);
-    Ok(())
-}
-
-#[test]
-fn ed25519(rt: HostRuntime) -> Result<(), Fail> {
-    assert!(rt; is_kind(rt.alloc(), ED25519, 2, Algorithm::Ed25519)?);
-    Ok(())
-}
-
-#[test]
-fn rsa(rt: HostRuntime) -> Result<(), Fail> {
-    assert!(rt; is_kind(rt.alloc(), RSA, 3, Algorithm::Rsa { hash: None })?);
-    Ok(())
-}
-
-#[test]
-fn sk_ecdsa(rt: HostRuntime) -> Result<(), Fail> {
-    assert!(rt; is_kind(rt.alloc(), SK_ECDSA, 4, Algorithm::SkEcdsaSha2NistP256)?);
-    Ok(())
-}
-
-#[test]
-fn sk_ed25519(rt: HostRuntime) -> Result<(), Fail> {
-    assert!(rt; is_kind(rt.alloc(), SK_ED25519, 5, Algorithm::SkEd25519)?);
-    Ok(())
-}
-
-#[test]
-fn opaque(rt: HostRuntime) -> Result<(), Fail> {
-    let algorithm = Algorithm::new(rt.alloc(), "name@example.com")?;
-    assert!(rt; is_kind(rt.alloc(), OPAQUE, 6, algorithm)?);
-    Ok(())
-}
-
-#[test]
-fn a_name_with_a_hash_is_written_without(rt: HostRuntime) -> Result<(), Fail> {
-    let key = whole(rt.alloc(), RSA_SHA_256)?;
-    assert_eq!(rt; key, whole(rt.alloc(), RSA)?);
-    assert_eq!(rt; key.algorithm_name(), "ssh-rsa");
-    assert_eq!(rt; encode_vec(rt.alloc(), &key)?.as_slice(), RSA);
-    Ok(())
-}
-
-#[test]
-fn a_body_is_read_under_an_algorithm(rt: HostRuntime) -> Result<(), Fail> {
-    let mut body = &RSA[11..];
-    let algorithm = Algorithm::Rsa {
-        hash: Some(HashAlg::Sha512),
-    };
-    let key = KeyData::decode_as(rt.alloc(), &mut body, algorithm)?;
-    assert_eq!(rt; key, whole(rt.alloc(), RSA)?);
-    assert_eq!(rt; body.len(), 0);
-    Ok(())
-}
-
-#[test]
-fn kinds_are_in_order(rt: HostRuntime) -> Result<(), Fail> {
-    let mut before = whole(rt.alloc(), DSA)?;
-    for bytes in [ECDSA, ED25519, RSA, SK_ECDSA, SK_ED25519, OPAQUE] {
-        let key = whole(rt.alloc(), bytes)?;
-        assert!(rt; before < key);
-        before = key;
+fn has_algorithm(alloc: Global, key: &KeyData, algorithm: &Algorithm) -> bool {
+    match key.algorithm(alloc) {
+        Ok(own) => own == *algorithm && key.algorithm_name() == algorithm.as_str(),
+        Err(_) => false,
     }
-    Ok(())
+}
+
+/// Whether the key has an equal clone that is hashed alike.
+fn has_clone(alloc: Global, key: &KeyData) -> bool {
+    match key.try_clone(alloc) {
+        Ok(clone) => clone == *key && hash_of(&clone) == hash_of(key),
+        Err(_) => false,
+    }
+}
+
+/// Whether the key in the bytes is of that kind alone, has that algorithm, is written as it was
+/// read, and has an equal clone that is hashed alike.
+fn is_kind(alloc: Global, bytes: &[u8], kind: usize, algorithm: &Algorithm) -> bool {
+    match decode_whole::<KeyData, &[u8]>(alloc, bytes) {
+        Ok(key) => {
+            is_of(&key, kind)
+                && has_algorithm(alloc, &key, algorithm)
+                && is_written_as(alloc, &key, bytes)
+                && has_clone(alloc, &key)
+        }
+        Err(_) => false,
+    }
 }
 
 #[test]
-fn made_of_a_kind(rt: HostRuntime) -> Result<(), Fail> {
-    let key = Ed25519PublicKey([7; 32]);
-    assert_eq!(rt; KeyData::from(key).ed25519(), Some(&key));
-    assert_eq!(rt; KeyData::from(key).rsa(), None);
-    Ok(())
+fn dsa(rt: HostRuntime) {
+    assert!(rt; is_kind(rt.alloc(), DSA, 0, &Algorithm::Dsa));
 }
 
 #[test]
-fn made_of_numbers(rt: HostRuntime) -> Result<(), Fail> {
-    let mut body = &DSA[11..];
-    let key = DsaPublicKey::decode(rt.alloc(), &mut body)?;
-    assert_eq!(rt; KeyData::from(key), whole(rt.alloc(), DSA)?);
-    let mut body = &RSA[11..];
-    let key = RsaPublicKey::decode(rt.alloc(), &mut body)?;
-    assert_eq!(rt; KeyData::from(key), whole(rt.alloc(), RSA)?);
-    Ok(())
+fn ecdsa(rt: HostRuntime) {
+    let curve = EcdsaCurve::NistP256;
+    assert!(rt; is_kind(rt.alloc(), ECDSA, 1, &Algorithm::Ecdsa { curve }));
 }
 
 #[test]
-fn made_of_points(rt: HostRuntime) -> Result<(), Fail> {
-    let mut body = &ECDSA[23..];
-    let key = EcdsaPublicKey::decode(rt.alloc(), &mut body)?;
-    assert_eq!(rt; KeyData::from(key), whole(rt.alloc(), ECDSA)?);
-    let mut body = &SK_ECDSA[38..];
-    let key = SkEcdsaSha2NistP256::decode(rt.alloc(), &mut body)?;
-    assert_eq!(rt; KeyData::from(key), whole(rt.alloc(), SK_ECDSA)?);
-    Ok(())
+fn ed25519(rt: HostRuntime) {
+    assert!(rt; is_kind(rt.alloc(), ED25519, 2, &Algorithm::Ed25519));
 }
 
 #[test]
-fn made_of_bytes(rt: HostRuntime) -> Result<(), Fail> {
-    let mut body = &SK_ED25519[30..];
-    let key = SkEd25519::decode(rt.alloc(), &mut body)?;
-    assert_eq!(rt; KeyData::from(key), whole(rt.alloc(), SK_ED25519)?);
-    let algorithm = Algorithm::new(rt.alloc(), "name@example.com")?;
-    let key = OpaquePublicKey::new(vec![in rt.alloc(); 1, 2, 3]?, algorithm);
-    assert_eq!(rt; KeyData::from(key), whole(rt.alloc(), OPAQUE)?);
-    Ok(())
+fn rsa(rt: HostRuntime) {
+    assert!(rt; is_kind(rt.alloc(), RSA, 3, &Algorithm::Rsa { hash: None }));
+}
+
+#[test]
+fn sk_ecdsa(rt: HostRuntime) {
+    assert!(rt; is_kind(rt.alloc(), SK_ECDSA, 4, &Algorithm::SkEcdsaSha2NistP256));
+}
+
+#[test]
+fn sk_ed25519(rt: HostRuntime) {
+    assert!(rt; is_kind(rt.alloc(), SK_ED25519, 5, &Algorithm::SkEd25519));
+}
+
+/// Whether the key in the bytes is opaque, with the algorithm of that name.
+fn is_opaque(alloc: Global, bytes: &[u8], name: &str) -> bool {
+    match Algorithm::new(alloc, name) {
+        Ok(algorithm) => is_kind(alloc, bytes, 6, &algorithm),
+        Err(_) => false,
+    }
+}
+
+#[test]
+fn opaque(rt: HostRuntime) {
+    assert!(rt; is_opaque(rt.alloc(), OPAQUE, "name@example.com"));
+}
+
+/// Whether the key in the bytes has that name, and is written as the others.
+fn is_written_under(alloc: Global, bytes: &[u8], name: &str, written: &[u8]) -> bool {
+    match decode_whole::<KeyData, &[u8]>(alloc, bytes) {
+        Ok(key) => {
+            key.algorithm_name() == name
+                && is_written_as(alloc, &key, written)
+                && is_whole(alloc, written, &key)
+        }
+        Err(_) => false,
+    }
+}
+
+#[test]
+fn a_name_with_a_hash_is_written_without(rt: HostRuntime) {
+    assert!(rt; is_written_under(rt.alloc(), RSA_SHA_256, "ssh-rsa", RSA));
+}
+
+/// Whether the body of that algorithm is the key in the bytes, with no rest.
+fn is_body(alloc: Global, body: &[u8], algorithm: Algorithm, bytes: &[u8]) -> bool {
+    let mut left = body;
+    match KeyData::decode_as(alloc, &mut left, algorithm) {
+        Ok(key) => is_whole(alloc, bytes, &key) && left.is_empty(),
+        Err(_) => false,
+    }
+}
+
+#[test]
+fn a_body_is_read_under_an_algorithm(rt: HostRuntime) {
+    let hash = Some(HashAlg::Sha512);
+    assert!(rt; is_body(rt.alloc(), &RSA[11..], Algorithm::Rsa { hash }, RSA));
+}
+
+fn is_less(key: &KeyData, alloc: Global, greater: &[u8]) -> bool {
+    match decode_whole::<KeyData, &[u8]>(alloc, greater) {
+        Ok(greater) => *key < greater,
+        Err(_) => false,
+    }
+}
+
+/// The key in the first bytes is less than the one in the others.
+fn rises(alloc: Global, less: &[u8], greater: &[u8]) -> bool {
+    match decode_whole::<KeyData, &[u8]>(alloc, less) {
+        Ok(less) => is_less(&less, alloc, greater),
+        Err(_) => false,
+    }
+}
+
+#[test]
+fn kinds_are_in_order(rt: HostRuntime) {
+    let mut less = DSA;
+    for greater in [ECDSA, ED25519, RSA, SK_ECDSA, SK_ED25519, OPAQUE] {
+        assert!(rt; rises(rt.alloc(), less, greater));
+        less = greater;
+    }
+}
+
+#[test]
+fn made_of_a_kind(rt: HostRuntime) {
+    let plain = Ed25519PublicKey([7; 32]);
+    let key = KeyData::from(plain);
+    assert!(rt; key.ed25519() == Some(&plain) && key.rsa().is_none());
+}
+
+/// Whether the key of a kind in the body is made the key in the bytes.
+fn is_made<T: Decode + Drop>(alloc: Global, body: &[u8], bytes: &[u8]) -> bool
+where
+    KeyData: From<T>,
+{
+    let mut left = body;
+    match T::decode(alloc, &mut left) {
+        Ok(key) => is_whole(alloc, bytes, &KeyData::from(key)),
+        Err(_) => false,
+    }
+}
+
+#[test]
+fn made_of_numbers(rt: HostRuntime) {
+    assert!(rt; is_made::<DsaPublicKey>(rt.alloc(), &DSA[11..], DSA));
+    assert!(rt; is_made::<RsaPublicKey>(rt.alloc(), &RSA[11..], RSA));
+}
+
+#[test]
+fn made_of_points(rt: HostRuntime) {
+    assert!(rt; is_made::<EcdsaPublicKey>(rt.alloc(), &ECDSA[23..], ECDSA));
+    assert!(rt; is_made::<SkEcdsaSha2NistP256>(rt.alloc(), &SK_ECDSA[38..], SK_ECDSA));
+}
+
+/// Whether the opaque key of the bytes 1, 2 and 3 under that algorithm is the key in the bytes.
+fn is_made_opaque(alloc: Global, algorithm: Algorithm, bytes: &[u8]) -> bool {
+    match Vec::from_slice(alloc, &[1, 2, 3]) {
+        Ok(own) => {
+            let key = OpaquePublicKey::new(own, algorithm);
+            is_whole(alloc, bytes, &KeyData::from(key))
+        }
+        Err(_) => false,
+    }
+}
+
+#[test]
+fn made_of_bytes(rt: HostRuntime) {
+    assert!(rt; is_made::<SkEd25519>(rt.alloc(), &SK_ED25519[30..], SK_ED25519));
+    let algorithm = Algorithm::new(rt.alloc(), "name@example.com");
+    assert!(rt; algorithm.is_ok_and(|own| is_made_opaque(rt.alloc(), own, OPAQUE)));
 }
