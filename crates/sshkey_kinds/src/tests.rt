@@ -6,9 +6,8 @@ mod orders;
 mod parts;
 
 use super::*;
-use sshkey_base::{Decode, Encode, Error, decode_whole, encode_vec, encoding};
+use sshkey_base::{Algorithm, Decode, Encode, Error, Result, decode_whole, encode_vec, encoding};
 use std::alloc::Global;
-use std::test::Fail;
 
 /// The numbers 9a378f9b2e332a7, 80, -1234 and 0, as RFC 4251 writes them in section 5.
 const DSA: &[u8] =
@@ -40,45 +39,56 @@ const SK_ED25519: &[u8] =
 /// Three bytes.
 const OPAQUE: &[u8] = b"\0\0\0\x03abc";
 
+/// Whether the value is written as these bytes, and has their length.
+fn is_written_as<T: Encode>(alloc: Global, value: &T, bytes: &[u8]) -> bool {
+    match encode_vec(alloc, value) {
+        Ok(written) => written.as_slice() == bytes && value.encoded_len() == Ok(bytes.len()),
+        Err(_) => false,
+    }
+}
+
 /// Whether the bytes are read whole as a value, of which they are written.
-fn is_kept<T: Decode + Encode + Drop>(alloc: Global, bytes: &[u8]) -> Result<bool, Fail> {
-    let Ok(key) = decode_whole::<T, &[u8]>(alloc, bytes) else {
-        return Ok(false);
-    };
-    let written = encode_vec(alloc, &key)?;
-    Ok(written.as_slice() == bytes && key.encoded_len()? == bytes.len())
+fn is_kept<T: Decode + Encode + Drop>(alloc: Global, bytes: &[u8]) -> bool {
+    match decode_whole::<T, &[u8]>(alloc, bytes) {
+        Ok(key) => is_written_as(alloc, &key, bytes),
+        Err(_) => false,
+    }
 }
 
 #[test]
-fn numbers_are_kept(rt: HostRuntime) -> Result<(), Fail> {
-    assert!(rt; is_kept::<DsaPublicKey>(rt.alloc(), DSA)?);
-    assert!(rt; is_kept::<RsaPublicKey>(rt.alloc(), RSA)?);
-    Ok(())
+fn numbers_are_kept(rt: HostRuntime) {
+    assert!(rt; is_kept::<DsaPublicKey>(rt.alloc(), DSA));
+    assert!(rt; is_kept::<RsaPublicKey>(rt.alloc(), RSA));
 }
 
 #[test]
-fn points_are_kept(rt: HostRuntime) -> Result<(), Fail> {
-    assert!(rt; is_kept::<EcdsaPublicKey>(rt.alloc(), P256)?);
-    assert!(rt; is_kept::<EcdsaPublicKey>(rt.alloc(), P384)?);
-    assert!(rt; is_kept::<SkEcdsaSha2NistP256>(rt.alloc(), SK_ECDSA)?);
-    Ok(())
+fn points_are_kept(rt: HostRuntime) {
+    assert!(rt; is_kept::<EcdsaPublicKey>(rt.alloc(), P256));
+    assert!(rt; is_kept::<EcdsaPublicKey>(rt.alloc(), P384));
+    assert!(rt; is_kept::<SkEcdsaSha2NistP256>(rt.alloc(), SK_ECDSA));
 }
 
 #[test]
-fn strings_are_kept(rt: HostRuntime) -> Result<(), Fail> {
-    assert!(rt; is_kept::<Ed25519PublicKey>(rt.alloc(), ED25519)?);
-    assert!(rt; is_kept::<SkEd25519>(rt.alloc(), SK_ED25519)?);
-    assert!(rt; is_kept::<OpaquePublicKeyBytes>(rt.alloc(), OPAQUE)?);
-    Ok(())
+fn strings_are_kept(rt: HostRuntime) {
+    assert!(rt; is_kept::<Ed25519PublicKey>(rt.alloc(), ED25519));
+    assert!(rt; is_kept::<SkEd25519>(rt.alloc(), SK_ED25519));
+    assert!(rt; is_kept::<OpaquePublicKeyBytes>(rt.alloc(), OPAQUE));
+}
+
+/// The opaque key of these bytes under that algorithm.
+fn opaque_of(alloc: Global, algorithm: Algorithm, bytes: &[u8]) -> Result<OpaquePublicKey> {
+    Ok(OpaquePublicKey::new(Vec::from_slice(alloc, bytes)?, algorithm))
+}
+
+/// The opaque key of these bytes under the algorithm of that name.
+fn opaque_of_name(alloc: Global, name: &str, bytes: &[u8]) -> Result<OpaquePublicKey> {
+    opaque_of(alloc, Algorithm::new(alloc, name)?, bytes)
 }
 
 #[test]
-fn opaque_keys_are_written_without_their_name(rt: HostRuntime) -> Result<(), Fail> {
-    let bytes = Vec::from_slice(rt.alloc(), b"abc")?;
-    let key = OpaquePublicKey::new(bytes, sshkey_base::Algorithm::Dsa);
-    assert_eq!(rt; encode_vec(rt.alloc(), &key)?.as_slice(), OPAQUE);
-    assert_eq!(rt; key.encoded_len()?, 7);
-    Ok(())
+fn opaque_keys_are_written_without_their_name(rt: HostRuntime) {
+    let key = opaque_of(rt.alloc(), Algorithm::Dsa, b"abc");
+    assert!(rt; key.is_ok_and(|own| is_written_as(rt.alloc(), &own, OPAQUE)));
 }
 
 /// Whether the bytes, cut short anywhere, are refused with `Length`.

@@ -14,43 +14,84 @@ fn are_alike<T: Eq + Hash>(one: &T, other: &T) -> bool {
     one == other && hash_of(one) == hash_of(other)
 }
 
-#[test]
-fn copies_of_numbers(rt: HostRuntime) -> Result<(), Fail> {
-    let dsa = decode_whole::<DsaPublicKey, &[u8]>(rt.alloc(), DSA)?;
-    assert!(rt; are_alike(&dsa, &dsa.try_clone(rt.alloc())?));
-    let rsa = decode_whole::<RsaPublicKey, &[u8]>(rt.alloc(), RSA)?;
-    assert!(rt; are_alike(&rsa, &rsa.try_clone(rt.alloc())?));
-    Ok(())
+fn has_dsa_copy(alloc: Global, key: &DsaPublicKey) -> bool {
+    match key.try_clone(alloc) {
+        Ok(copy) => are_alike(key, &copy),
+        Err(_) => false,
+    }
+}
+
+fn has_rsa_copy(alloc: Global, key: &RsaPublicKey) -> bool {
+    match key.try_clone(alloc) {
+        Ok(copy) => are_alike(key, &copy),
+        Err(_) => false,
+    }
 }
 
 #[test]
-fn copies_of_security_keys(rt: HostRuntime) -> Result<(), Fail> {
-    let ecdsa = decode_whole::<SkEcdsaSha2NistP256, &[u8]>(rt.alloc(), SK_ECDSA)?;
-    assert!(rt; are_alike(&ecdsa, &ecdsa.try_clone(rt.alloc())?));
-    let ed25519 = decode_whole::<SkEd25519, &[u8]>(rt.alloc(), SK_ED25519)?;
-    assert!(rt; are_alike(&ed25519, &ed25519.try_clone(rt.alloc())?));
-    Ok(())
+fn copies_of_numbers(rt: HostRuntime) {
+    let dsa = decode_whole::<DsaPublicKey, &[u8]>(rt.alloc(), DSA);
+    assert!(rt; dsa.is_ok_and(|key| has_dsa_copy(rt.alloc(), &key)));
+    let rsa = decode_whole::<RsaPublicKey, &[u8]>(rt.alloc(), RSA);
+    assert!(rt; rsa.is_ok_and(|key| has_rsa_copy(rt.alloc(), &key)));
+}
+
+fn has_sk_ecdsa_copy(alloc: Global, key: &SkEcdsaSha2NistP256) -> bool {
+    match key.try_clone(alloc) {
+        Ok(copy) => are_alike(key, &copy),
+        Err(_) => false,
+    }
+}
+
+fn has_sk_ed25519_copy(alloc: Global, key: &SkEd25519) -> bool {
+    match key.try_clone(alloc) {
+        Ok(copy) => are_alike(key, &copy),
+        Err(_) => false,
+    }
 }
 
 #[test]
-fn copies_of_plain_bytes(rt: HostRuntime) -> Result<(), Fail> {
-    let ecdsa = decode_whole::<EcdsaPublicKey, &[u8]>(rt.alloc(), P256)?;
-    let copy = ecdsa;
-    assert!(rt; are_alike(&ecdsa, &copy));
-    let ed25519 = decode_whole::<Ed25519PublicKey, &[u8]>(rt.alloc(), ED25519)?;
-    let copy = ed25519;
-    assert!(rt; are_alike(&ed25519, &copy));
-    Ok(())
+fn copies_of_security_keys(rt: HostRuntime) {
+    let ecdsa = decode_whole::<SkEcdsaSha2NistP256, &[u8]>(rt.alloc(), SK_ECDSA);
+    assert!(rt; ecdsa.is_ok_and(|key| has_sk_ecdsa_copy(rt.alloc(), &key)));
+    let ed25519 = decode_whole::<SkEd25519, &[u8]>(rt.alloc(), SK_ED25519);
+    assert!(rt; ed25519.is_ok_and(|key| has_sk_ed25519_copy(rt.alloc(), &key)));
+}
+
+fn is_copied<T: Copy + Eq + Hash>(key: T) -> bool {
+    let copy = key;
+    are_alike(&key, &copy)
 }
 
 #[test]
-fn copies_of_opaque_keys(rt: HostRuntime) -> Result<(), Fail> {
-    let name = sshkey_base::Algorithm::new(rt.alloc(), "name@example.com")?;
-    let key = OpaquePublicKey::new(Vec::from_slice(rt.alloc(), b"abc")?, name);
-    let copy = key.try_clone(rt.alloc())?;
-    assert!(rt; are_alike(&key, &copy));
-    assert!(rt; are_alike(&key.key, &copy.key.try_clone(rt.alloc())?));
-    assert_eq!(rt; copy.algorithm().as_str(), "name@example.com");
-    assert_eq!(rt; copy.key.as_bytes(), b"abc".as_slice());
-    Ok(())
+fn copies_of_plain_bytes(rt: HostRuntime) {
+    let ecdsa = decode_whole::<EcdsaPublicKey, &[u8]>(rt.alloc(), P256);
+    assert!(rt; ecdsa.is_ok_and(|key| is_copied(key)));
+    let ed25519 = decode_whole::<Ed25519PublicKey, &[u8]>(rt.alloc(), ED25519);
+    assert!(rt; ed25519.is_ok_and(|key| is_copied(key)));
+}
+
+fn has_copy_of_bytes(alloc: Global, bytes: &OpaquePublicKeyBytes) -> bool {
+    match bytes.try_clone(alloc) {
+        Ok(copy) => are_alike(bytes, &copy) && copy.as_bytes() == b"abc".as_slice(),
+        Err(_) => false,
+    }
+}
+
+fn has_opaque_copy(alloc: Global, key: &OpaquePublicKey) -> bool {
+    match key.try_clone(alloc) {
+        Ok(copy) => {
+            are_alike(key, &copy)
+                && copy.algorithm().as_str() == "name@example.com"
+                && copy.key.as_bytes() == b"abc".as_slice()
+                && has_copy_of_bytes(alloc, &copy.key)
+        }
+        Err(_) => false,
+    }
+}
+
+#[test]
+fn copies_of_opaque_keys(rt: HostRuntime) {
+    let key = opaque_of_name(rt.alloc(), "name@example.com", b"abc");
+    assert!(rt; key.is_ok_and(|own| has_opaque_copy(rt.alloc(), &own)));
 }
