@@ -11,12 +11,11 @@ use Rattle.sshkey_keys.specs.Fingerprints.{shown, GivesFingerprint}
 use Rattle.sshkey_model.specs.Keys.{Key}
 use Rattle.sshkey_model.proofs.NormalKeysFit.{normal_boxes}
 use Rattle.sshkey_model.specs.Names.{Sha256}
-use Rattle.sshkey_model.specs.Fingerprints.{digest_text, fingerprint_text}
-use Rattle.sshkey_tool.specs.Faults.{IsMachineFault, Writes}
+use Rattle.sshkey_tool.specs.Faults.{IsMachineFault}
 use Rattle.sshkey_model.specs.Lines.{IsKeyLine}
 use Rattle.sshkey_tool.specs.KeyLines.{IsNoKeyLine}
 use Rattle.sshkey_tool.specs.Outcomes.{HasFingerprint, ShowsText, ShowsBytes, ShowsInput, WritesOutcome}
-use Rattle.sshkey_tool.specs.Table.{Usage, Shown, Refused, IsFingerprintWord, IsRefused, IsShown, Runs, WritesFault}
+use Rattle.sshkey_tool.specs.Table.{Shown, Refused, IsFingerprintWord, IsRefused, IsShown, Runs}
 
 -- a refusal says that the machine failed, or what is wrong with the text
 pub refusal : (text : List ℕ) (e : Error) → (cause e ≢ NoMemory → IsNoKeyLine text) → IsMachineFault e ⊎ IsNoKeyLine text
