@@ -1,6 +1,6 @@
 use crate::encoding::Error;
-use crate::{Decode, Encode, SliceWriter, decode_whole, laws};
-use std::test::*;
+use crate::tests::answers::{reads, refuses, writes};
+use crate::{Decode, Encode, SliceWriter, laws};
 
 /// The example of RFC 4251, section 5, and the largest number of four bytes.
 const COUNTS: [(usize, [u8; 4]); 3] = [
@@ -12,41 +12,32 @@ const COUNTS: [(usize, [u8; 4]); 3] = [
 #[test]
 fn counts_are_read(rt: HostRuntime) {
     for (count, bytes) in COUNTS {
-        assert_eq!(rt;
-            decode_whole::<usize, _>(rt.alloc(), bytes.as_slice()),
-            Ok(count)
-        );
+        assert!(rt; reads(rt.alloc(), bytes.as_slice(), &count, 0));
     }
 }
 
 #[test]
 fn a_count_has_four_bytes(rt: HostRuntime) {
     let mut rest: &[u8] = &[0, 0, 1, 2, 9];
-    assert_eq!(rt; usize::decode(rt.alloc(), &mut rest), Ok(258));
-    assert_eq!(rt; rest, [9u8].as_slice());
-    assert_eq!(rt;
-        decode_whole::<usize, _>(rt.alloc(), [0u8; 3].as_slice()),
-        Err(Error::Length)
-    );
+    assert!(rt; usize::decode(rt.alloc(), &mut rest) == Ok(258));
+    assert!(rt; rest == [9u8].as_slice());
+    assert!(rt; refuses::<usize>(rt.alloc(), &[0; 3], Error::Length));
 }
 
 #[test]
 fn counts_are_written(rt: HostRuntime) {
     for (count, bytes) in COUNTS {
-        let mut room = [0u8; 6];
-        let mut writer = SliceWriter::new(&mut room);
-        assert_eq!(rt; count.encoded_len(), Ok(4));
-        assert_eq!(rt; count.encode(&mut writer), Ok(()));
-        assert_eq!(rt; writer.written(), bytes.as_slice());
+        assert!(rt; writes(&count, bytes.as_slice()));
     }
 }
 
 #[test]
 fn a_count_past_four_bytes(rt: HostRuntime) {
+    let count = 4_294_967_296usize;
     let mut room = [0u8; 6];
     let mut writer = SliceWriter::new(&mut room);
-    assert_eq!(rt; 4_294_967_296usize.encoded_len(), Err(Error::Length));
-    assert_eq!(rt; 4_294_967_296usize.encode(&mut writer), Err(Error::Length));
+    assert!(rt; count.encoded_len() == Err(Error::Length));
+    assert!(rt; count.encode(&mut writer) == Err(Error::Length));
     assert!(rt; writer.written().is_empty());
 }
 

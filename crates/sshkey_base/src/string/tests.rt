@@ -1,6 +1,6 @@
 use crate::encoding::Error;
-use crate::{Decode, Encode, SliceWriter, Text, decode_whole, laws};
-use std::test::*;
+use crate::tests::answers::{refuses, says, writes};
+use crate::{Text, decode_whole, laws};
 
 /// `text` as a string (RFC 4251, section 5, where it is an example).
 const TESTING: [u8; 11] = [0, 0, 0, 7, b't', b'e', b's', b't', b'i', b'n', b'g'];
@@ -17,55 +17,48 @@ const NO_TEXTS: [&[u8]; 4] = [
     &[0, 0, 0, 1, 0xc3],
 ];
 
-/// The value is written as these bytes, and has their length.
-fn writes<T: Encode>(value: &T, bytes: &[u8]) -> bool {
-    let mut room = [0u8; 16];
-    let mut writer = SliceWriter::new(&mut room);
-    value.encode(&mut writer).is_ok()
-        && writer.written() == bytes
-        && value.encoded_len() == Ok(bytes.len())
-}
-
 #[test]
-fn texts_are_read(rt: HostRuntime) -> Result<(), Fail> {
-    let text: String = decode_whole(rt.alloc(), TESTING.as_slice())?;
-    assert_eq!(rt; text.as_str(), "testing");
-    let letters: String = decode_whole(rt.alloc(), TWO_LETTERS.as_slice())?;
-    assert_eq!(rt; letters.as_str(), "\u{e9}\u{20ac}");
-    let empty: String = decode_whole(rt.alloc(), [0u8; 4].as_slice())?;
-    assert!(rt; empty.is_empty());
-    Ok(())
+fn texts_are_read(rt: HostRuntime) {
+    let text = decode_whole::<String, _>(rt.alloc(), TESTING.as_slice());
+    assert!(rt; says(text, "testing"));
+    let letters = decode_whole::<String, _>(rt.alloc(), TWO_LETTERS.as_slice());
+    assert!(rt; says(letters, "\u{e9}\u{20ac}"));
+    let empty = decode_whole::<String, _>(rt.alloc(), [0u8; 4].as_slice());
+    assert!(rt; says(empty, ""));
 }
 
 #[test]
 fn what_is_no_text(rt: HostRuntime) {
     for bytes in NO_TEXTS {
-        let text = decode_whole::<String, _>(rt.alloc(), bytes);
-        assert!(rt; matches!(text, Err(Error::CharacterEncoding)));
-        let text = decode_whole::<Text, _>(rt.alloc(), bytes);
-        assert!(rt; matches!(text, Err(Error::CharacterEncoding)));
+        assert!(rt; refuses::<String>(rt.alloc(), bytes, Error::CharacterEncoding));
+        assert!(rt; refuses::<Text>(rt.alloc(), bytes, Error::CharacterEncoding));
     }
 }
 
 #[test]
 fn a_text_that_is_cut_short(rt: HostRuntime) {
     for len in 0..11 {
-        let text = decode_whole::<String, _>(rt.alloc(), &TESTING[..len]);
-        assert!(rt; matches!(text, Err(Error::Length)));
+        assert!(rt; refuses::<String>(rt.alloc(), &TESTING[..len], Error::Length));
     }
-    let mut past: &[u8] = &[0xff; 4];
-    assert!(rt; matches!(String::decode(rt.alloc(), &mut past), Err(Error::Length)));
+    assert!(rt; refuses::<String>(rt.alloc(), &[0xff; 4], Error::Length));
 }
 
 #[test]
-fn texts_are_written(rt: HostRuntime) -> Result<(), Fail> {
+fn slices_are_written(rt: HostRuntime) {
     assert!(rt; writes(&"testing", &TESTING));
     assert!(rt; writes(&"\u{e9}\u{20ac}", &TWO_LETTERS));
     assert!(rt; writes(&b"testing".as_slice(), &TESTING));
-    let text = String::from_str(rt.alloc(), "testing")?;
-    assert!(rt; writes(&text, &TESTING));
-    assert!(rt; writes(&Text::new(text), &TESTING));
-    Ok(())
+}
+
+/// The text is written as `testing`, and so is the checked text of it.
+fn is_testing(text: String) -> bool {
+    writes(&text, &TESTING) && writes(&Text::new(text), &TESTING)
+}
+
+#[test]
+fn texts_are_written(rt: HostRuntime) {
+    let text = String::from_str(rt.alloc(), "testing");
+    assert!(rt; text.is_ok_and(is_testing));
 }
 
 #[test]
