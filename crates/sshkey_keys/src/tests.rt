@@ -22,19 +22,19 @@ const LONGER: &[u8] =
 const OTHER: &[u8] =
     b"\0\0\0\x0bSSH-ed25519\0\0\0\x20\xb3\x3e\xae\xf3\x7e\xa2\xdf\x7c\xaa\x01\x0d\xef\xde\xa3\x4e\x24\x1f\x65\xf1\xb5\x29\xa4\xf4\x3e\xd1\x43\x27\xf5\xc5\x4a\xab\x62";
 
-/// The bytes begin with the key, and `rest` bytes are left behind it.
-fn begins_with_key(alloc: Global, bytes: &[u8], rest: usize) -> bool {
+/// The bytes begin with that key, and `rest` bytes are left behind it.
+fn begins(alloc: Global, bytes: &[u8], key: &KeyData, rest: usize) -> bool {
     let mut left = bytes;
     match KeyData::decode(alloc, &mut left) {
-        Ok(read) => read == KEY && left.len() == rest,
+        Ok(read) => read == *key && left.len() == rest,
         Err(_) => false,
     }
 }
 
-/// The bytes are the key's, and no more.
-fn is_whole_key(alloc: Global, bytes: &[u8]) -> bool {
+/// The bytes are that key's, and no more.
+fn is_whole(alloc: Global, bytes: &[u8], key: &KeyData) -> bool {
     match decode_whole::<KeyData, &[u8]>(alloc, bytes) {
-        Ok(read) => read == KEY,
+        Ok(read) => read == *key,
         Err(_) => false,
     }
 }
@@ -67,18 +67,20 @@ fn is_refused_where_cut(alloc: Global, bytes: &[u8]) -> bool {
 
 #[test]
 fn a_key_is_read(rt: HostRuntime) {
-    assert!(rt; begins_with_key(rt.alloc(), LONGER, 1));
-    assert!(rt; is_whole_key(rt.alloc(), SPELLING));
+    let key = KEY;
+    assert!(rt; begins(rt.alloc(), LONGER, &key, 1) && is_whole(rt.alloc(), SPELLING, &key));
+}
+
+/// The body has 36 bytes, and the name is this one.
+fn has_parts(key: &KeyData) -> bool {
+    key.encoded_key_data_len().is_ok_and(|len| len == 36) && key.algorithm_name() == "ssh-ed25519"
 }
 
 #[test]
 fn a_key_is_written(rt: HostRuntime) {
     let key = KEY;
-    assert!(rt; is_written_as(rt.alloc(), &key, SPELLING) && SPELLING.len() == 51);
-    assert!(rt;
-        key.encoded_key_data_len().is_ok_and(|len| len == 36)
-            && key.algorithm_name() == "ssh-ed25519"
-    );
+    assert!(rt; is_written_as(rt.alloc(), &key, SPELLING) && has_parts(&key));
+    assert!(rt; SPELLING.len() == 51);
 }
 
 #[test]
@@ -104,22 +106,16 @@ fn shows(alloc: Global, answer: Result<Fingerprint>, text: &str) -> bool {
     }
 }
 
+/// The fingerprint of the key is shown by these texts.
+fn has_fingerprints(alloc: Global, key: &KeyData, short: &str, long: &str) -> bool {
+    shows(alloc, Fingerprint::new(alloc, HashAlg::Sha256, key), short)
+        && shows(alloc, Fingerprint::new(alloc, HashAlg::Sha512, key), long)
+}
+
 #[test]
 fn fingerprints_are_those_of_ssh_keygen(rt: HostRuntime) {
-    let short = Fingerprint::new(rt.alloc(), HashAlg::Sha256, &KEY);
-    assert!(rt;
-        shows(
-            rt.alloc(),
-            short,
-            "SHA256:UCUiLr7Pjs9wFFJMDByLgc3NrtdU344OgUM45wZPcIQ"
-        )
-    );
-    let long = Fingerprint::new(rt.alloc(), HashAlg::Sha512, &KEY);
-    assert!(rt;
-        shows(
-            rt.alloc(),
-            long,
-            "SHA512:8Hm4eNTiYk9l6WR85IqY+UK4AXajRf5auLD/QIxCZQLwGpDiEDiXZ0ZttPuhyG8IHsWbt2zu8G0+G6VIVXoHhA"
-        )
-    );
+    let short = "SHA256:UCUiLr7Pjs9wFFJMDByLgc3NrtdU344OgUM45wZPcIQ";
+    let long =
+        "SHA512:8Hm4eNTiYk9l6WR85IqY+UK4AXajRf5auLD/QIxCZQLwGpDiEDiXZ0ZttPuhyG8IHsWbt2zu8G0+G6VIVXoHhA";
+    assert!(rt; has_fingerprints(rt.alloc(), &KEY, short, long));
 }

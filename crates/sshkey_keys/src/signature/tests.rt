@@ -138,10 +138,7 @@ const SIZES: [(&str, usize, Outcome); 15] = [
 #[test]
 fn sizes_are_exact_or_open_or_bounded(rt: HostRuntime) {
     for (name, len, answer) in SIZES {
-        assert!(rt;
-            told_of_len(rt.alloc(), name, len) == answer,
-            "{name}: {len}"
-        );
+        assert!(rt; told_of_len(rt.alloc(), name, len) == answer, "{name}");
     }
 }
 

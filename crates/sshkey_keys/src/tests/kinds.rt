@@ -1,7 +1,7 @@
 //! Keys of each kind, told apart.
 
 use super::super::KeyData;
-use super::is_written_as;
+use super::{is_whole, is_written_as};
 use sshkey_base::{Algorithm, Decode, EcdsaCurve, HashAlg, decode_whole};
 use sshkey_kinds::{
     DsaPublicKey, EcdsaPublicKey, Ed25519PublicKey, OpaquePublicKey, RsaPublicKey,
@@ -33,14 +33,6 @@ const SK_ED25519: &[u8] =
     b"\0\0\0\x1ask-ssh-ed25519@openssh.com\0\0\0\x20\xb3\x3e\xae\xf3\x7e\xa2\xdf\x7c\xaa\x01\x0d\xef\xde\xa3\x4e\x24\x1f\x65\xf1\xb5\x29\xa4\xf4\x3e\xd1\x43\x27\xf5\xc5\x4a\xab\x62\0\0\0\x04ssh:";
 
 const OPAQUE: &[u8] = b"\0\0\0\x10name@example.com\0\0\0\x03\x01\x02\x03";
-
-/// The bytes are that key's, and no more.
-fn is_whole(alloc: Global, bytes: &[u8], key: &KeyData) -> bool {
-    match decode_whole::<KeyData, &[u8]>(alloc, bytes) {
-        Ok(read) => read == *key,
-        Err(_) => false,
-    }
-}
 
 /// The kinds that a key is said to be of.
 fn said(key: &KeyData) -> [bool; 7] {
@@ -210,11 +202,14 @@ fn kinds_are_in_order(rt: HostRuntime) {
     }
 }
 
+fn is_plain(key: &KeyData, plain: &Ed25519PublicKey) -> bool {
+    key.ed25519() == Some(plain) && key.rsa().is_none()
+}
+
 #[test]
 fn made_of_a_kind(rt: HostRuntime) {
     let plain = Ed25519PublicKey([7; 32]);
-    let key = KeyData::from(plain);
-    assert!(rt; key.ed25519() == Some(&plain) && key.rsa().is_none());
+    assert!(rt; is_plain(&KeyData::from(plain), &plain));
 }
 
 /// Whether the key of a kind in the body is made the key in the bytes.
