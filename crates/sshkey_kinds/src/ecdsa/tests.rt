@@ -1,7 +1,7 @@
 //! SEC 1 point strings: which curve they tell, and the faults of the others.
 
 use super::*;
-use std::alloc::{AllocError, Global};
+use std::alloc::Global;
 
 /// What a point string tells.
 #[derive(Clone, Copy, PartialEq, Eq)]
@@ -79,47 +79,38 @@ impl fmt::Display for Forms<'_> {
     }
 }
 
-/// The key is printed as `upper` twice, and as `lower`.
-fn prints(
-    alloc: Global,
-    key: &EcdsaPublicKey,
-    upper: &str,
-    lower: &str,
-) -> std::result::Result<bool, AllocError> {
-    let forms = Forms(key);
-    let printed = format!(in alloc; "{forms}")?;
-    let expected = format!(in alloc; "{upper} {upper} {lower}")?;
-    Ok(printed.as_str() == expected.as_str())
+/// The key is printed as that text, and is of these bytes.
+fn prints(alloc: Global, key: &EcdsaPublicKey, text: &str, bytes: &[u8]) -> bool {
+    match Forms(key).to_string(alloc) {
+        Ok(printed) => printed.as_str() == text && key.as_slice() == bytes,
+        Err(_) => false,
+    }
 }
 
 #[test]
 fn prints_hexadecimal(rt: HostRuntime) {
-    let upper = "036B17D1F2E12C4247F8BCE6E563A440F277037D812DEB33A0F4A13945D898C296";
-    let lower = "036b17d1f2e12c4247f8bce6e563a440f277037d812deb33a0f4a13945d898c296";
-    match EcdsaPublicKey::from_sec1_bytes(&BASE_POINT) {
-        Ok(key) => {
-            assert!(rt; matches!(prints(rt.alloc(), &key, upper, lower), Ok(true)));
-            assert!(rt; key.as_slice() == BASE_POINT.as_slice());
-        }
-        Err(_) => panic!(rt; "the base point is a point"),
-    }
+    let text =
+        "036B17D1F2E12C4247F8BCE6E563A440F277037D812DEB33A0F4A13945D898C296 036B17D1F2E12C4247F8BCE6E563A440F277037D812DEB33A0F4A13945D898C296 036b17d1f2e12c4247f8bce6e563a440f277037d812deb33a0f4a13945d898c296";
+    let key = EcdsaPublicKey::from_sec1_bytes(&BASE_POINT);
+    assert!(rt; key.is_ok_and(|point| prints(rt.alloc(), &point, text, &BASE_POINT)));
 }
 
 /// Of two keys of these bytes the first is less than the second, which equals itself.
-fn is_less(first: &[u8], second: &[u8]) -> Result<bool> {
-    let first = EcdsaPublicKey::from_sec1_bytes(first)?;
-    let second = EcdsaPublicKey::from_sec1_bytes(second)?;
+fn is_less(first: &[u8], second: &[u8]) -> bool {
+    let second = EcdsaPublicKey::from_sec1_bytes(second).ok();
     let same = second;
-    Ok(first < second && first != second && second == same)
+    match EcdsaPublicKey::from_sec1_bytes(first) {
+        Ok(first) => {
+            second.is_some_and(|second| first < second && first != second) && second == same
+        }
+        Err(_) => false,
+    }
 }
 
 #[test]
 fn orders_by_curve_and_bytes(rt: HostRuntime) {
     let rising: [&[u8]; 5] = [&[2; 33], &[3; 33], &[4; 65], &[2; 49], &[2; 67]];
     for i in 1..rising.len() {
-        assert!(rt;
-            matches!(is_less(rising[i - 1], rising[i]), Ok(true)),
-            "{i}"
-        );
+        assert!(rt; is_less(rising[i - 1], rising[i]), "{i}");
     }
 }
