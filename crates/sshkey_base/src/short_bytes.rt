@@ -67,6 +67,7 @@ impl<const MAX: usize> Decode for ShortBytes<MAX> {
 
     fn decode<R: Reader>(_alloc: Global, reader: &mut R) -> Result<ShortBytes<MAX>>
         ensures gives { Gives short_of encoding_cause (short_at MAX) (R.source reader.old) result (R.source reader.new) }
+        ensures always { GivesAlways short_of encoding_cause (short_at MAX) (R.source reader.old) result (R.source reader.new) }
         ensures past { LengthPast encoding_cause (R.source reader.old) result }
     {
         let len = length_from(reader)?;
