@@ -225,6 +225,3 @@ impl Default for Algorithm {
         Algorithm::Ed25519
     }
 }
-
-#[cfg(test)]
-mod tests;

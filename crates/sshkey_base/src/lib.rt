@@ -21,8 +21,6 @@ mod refusal;
 mod short_bytes;
 mod size;
 mod string;
-#[cfg(test)]
-mod tests;
 mod text;
 mod writer;
 

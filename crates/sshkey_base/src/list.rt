@@ -9,9 +9,6 @@ ghost use Rattle.sshkey_base.specs.Reading.{Gives, GivesToEnd, LengthPast};
 ghost use Rattle.sshkey_base.specs.Sink.{Encodes, Measures, MeasuresBoxed};
 ghost use Rattle.sshkey_base.specs.TextLists.{SpellsTexts, texts_of, text_list_at, texts_grammar, texts_normal};
 
-#[cfg(test)]
-mod tests;
-
 use crate::decode::Decode;
 use crate::encode::{Encode, u32_of};
 use crate::encoding::{Error, Result};

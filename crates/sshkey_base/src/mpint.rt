@@ -6,8 +6,6 @@ ghost use Rattle.hex.specs.Hex.{encode_lower, encode_upper};
 ghost use Rattle.sshkey_model.specs.Mpints.{IsMpint, is_mpint, of_positive};
 
 mod hash;
-#[cfg(test)]
-mod tests;
 
 use crate::bytes::Bytes;
 use crate::decode::Decode;

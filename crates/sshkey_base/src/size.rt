@@ -8,9 +8,6 @@ ghost use Rattle.sshkey_base.specs.Counts.{count_normal};
 ghost use Rattle.sshkey_base.specs.Leaves.{SpellsNumber32, number32_grammar, count};
 ghost use Rattle.sshkey_base.specs.Reading.{Gives, GivesAlways};
 
-#[cfg(test)]
-mod tests;
-
 use crate::decode::Decode;
 use crate::encode::{Encode, u32_of};
 use crate::encoding::{Error, Result};

@@ -6,9 +6,6 @@ ghost use Rattle.sshkey_base.specs.Causes.{encoding_cause};
 ghost use Rattle.sshkey_base.specs.Reading.{Gives, LengthPast};
 ghost use Rattle.sshkey_base.specs.Texts.{SpellsText, text_at, text_grammar, string_text_normal};
 
-#[cfg(test)]
-mod tests;
-
 use crate::decode::Decode;
 use crate::encode::{Encode, encode_string, string_len};
 use crate::encoding::{Error, Result};

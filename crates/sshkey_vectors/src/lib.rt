@@ -26,3 +26,5 @@ mod support;
 mod verification;
 #[cfg(test)]
 mod whole_keys;
+#[cfg(test)]
+mod wire;

@@ -1,6 +1,8 @@
-use crate::encoding::{Error, Result};
-use crate::tests::answers::{refuses, writes};
-use crate::{Decode, SliceWriter, decode_whole, encode_list, laws, list_len};
+//! Lists of values in one string.
+
+use super::answers::{refuses, writes};
+use sshkey_base::encoding::{Error, Result};
+use sshkey_base::{Decode, SliceWriter, decode_whole, encode_list, laws, list_len};
 use std::alloc::Global;
 
 /// The principals `alice` and `bob`, as a certificate holds them (PROTOCOL.certkeys).

@@ -1,9 +1,9 @@
-use super::{Algorithm, AlgorithmName, EcdsaCurve, HashAlg};
-use crate::encoding;
-use crate::error::Error;
-use crate::label_error::LabelError;
-use crate::tests::answers::{appends, faults, gives, labels, reads, refuses, says, shows};
-use crate::writer::SliceWriter;
+//! The names of algorithms, curves and hashes.
+
+use super::answers::{appends, faults, gives, labels, reads, refuses, says, shows};
+use sshkey_base::{
+    Algorithm, AlgorithmName, EcdsaCurve, Error, HashAlg, Label, LabelError, SliceWriter, encoding,
+};
 use std::alloc::{AllocError, Global};
 use std::cmp::Ordering;
 
@@ -83,6 +83,14 @@ fn is_named(alloc: Global, algorithm: &Algorithm, name: &str) -> bool {
 fn fixed_names_both_ways(rt: HostRuntime) {
     for (algorithm, name) in &fixed_names() {
         assert!(rt; is_named(rt.alloc(), algorithm, name), "{name}");
+    }
+}
+
+#[test]
+fn nearly_fixed_names(rt: HostRuntime) {
+    for name in ["", "ssh-ed2551", "ssh-ed25519 ", "SSH-ED25519", "ssh-rs"] {
+        let answer = Algorithm::from_label(rt.alloc(), name);
+        assert!(rt; faults(answer, encoding::Error::Label), "{name}");
     }
 }
 

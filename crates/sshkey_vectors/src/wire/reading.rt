@@ -1,7 +1,13 @@
 //! Readers and the values that they give.
 
-use super::*;
-use crate::encoding::Error;
+use super::answers::{faults, gives, reads, refuses};
+use super::{NAME, TESTING};
+use sshkey_base::encoding::Error;
+use sshkey_base::{
+    Algorithm, Bytes, Decode, Encode, Reader, ShortBytes, decode_boxed, decode_front, decode_whole,
+    encode_vec, laws,
+};
+use std::alloc::Global;
 
 #[test]
 fn numbers(rt: HostRuntime) {

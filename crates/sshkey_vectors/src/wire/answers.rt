@@ -1,7 +1,7 @@
 //! Questions that tests ask. Each is answered with a `bool`, so that a test has few ways out of
 //! its body: one with a `?` or an `assert_eq!` at every call takes much longer to prove.
 
-use crate::{Decode, Encode, Label, SliceWriter, encode_vec, encoding};
+use sshkey_base::{Decode, Encode, Label, SliceWriter, encode_vec, encoding};
 use std::alloc::Global;
 use std::fmt::Display;
 

@@ -1,6 +1,8 @@
-use crate::encoding::Error;
-use crate::tests::answers::{refuses, says, writes};
-use crate::{Text, decode_whole, laws};
+//! Texts.
+
+use super::answers::{refuses, says, writes};
+use sshkey_base::encoding::Error;
+use sshkey_base::{Text, decode_whole, laws};
 
 /// `text` as a string (RFC 4251, section 5, where it is an example).
 const TESTING: [u8; 11] = [0, 0, 0, 7, b't', b'e', b's', b't', b'i', b'n', b'g'];

@@ -1,7 +1,10 @@
 //! The numbers of RFC 4251, section 5, and those at the edges of the form.
 
-use super::*;
-use crate::tests::answers::{appends, faults, gives, shows};
+use super::answers::{appends, faults, gives, shows};
+use sshkey_base::{Decode, Error, Mpint, Result};
+use std::alloc::Global;
+use std::convert::AsSlice;
+use std::fmt;
 
 /// A number, and its bytes.
 const NUMBERS: [(&str, &[u8]); 5] = [

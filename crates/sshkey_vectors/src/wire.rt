@@ -1,16 +1,20 @@
-use crate::{
-    Algorithm, Bytes, Decode, Encode, Error, Label, Reader, ShortBytes, SliceWriter, Writer,
-    decode_boxed, decode_front, decode_whole, encode_both, encode_string, encode_vec, encoding,
-    laws, string_len,
-};
-use answers::{faults, gives, reads, refuses, shows, writes};
+//! The wire encoding: numbers, strings, texts, lists and names, read and written.
+
+use answers::{gives, shows};
+use sshkey_base::{Algorithm, Bytes, Error, encoding};
 use std::alloc::{AllocError, Global};
 use std::hash::{DefaultHasher, Hash, Hasher};
 use std::io;
 
-pub(crate) mod answers;
+mod answers;
+mod counts;
 mod faulty;
+mod fields;
+mod lists;
+mod mpints;
+mod names;
 mod reading;
+mod strings;
 mod writing;
 
 /// `text` as a string (RFC 4251, section 5, where it is an example).
@@ -75,15 +79,6 @@ fn no_text(rt: HostRuntime) {
         assert!(rt; Error::from(error) == Error::Encoding(expected));
     } else {
         panic!(rt; "ff is no text");
-    }
-}
-
-#[test]
-fn names(rt: HostRuntime) {
-    assert!(rt; answers::labels(rt.alloc(), &Algorithm::Ed25519, "ssh-ed25519"));
-    for name in ["", "ssh-ed2551", "ssh-ed25519 ", "SSH-ED25519", "ssh-rs"] {
-        let answer = Algorithm::from_label(rt.alloc(), name);
-        assert!(rt; faults(answer, encoding::Error::Label), "{name}");
     }
 }
 

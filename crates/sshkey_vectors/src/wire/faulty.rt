@@ -2,8 +2,11 @@
 
 ghost use Rattle.std.specs.Prelude.{◌≡◌, ◌+◌, ◌<◌, ◌^◌, length, []};
 
-use super::*;
-use crate::encoding::Error;
+use super::NAME;
+use super::answers::{faults, gives};
+use sshkey_base::encoding::{Error, Result};
+use sshkey_base::{Algorithm, Bytes, Decode, Reader, decode_whole};
+use std::alloc::Global;
 
 /// Some bytes, and a fault in place of those that are missing.
 #[derive(Clone, Copy)]
@@ -13,11 +16,11 @@ struct Faulty<'s> {
     ghost fits: { length bytes.now + missing < 2 ^ 64 },
 }
 
-#[tactic(auto, using(crate::proofs::NestedSources::part_advances))]
+#[tactic(auto, using(sshkey_base::proofs::NestedSources::part_advances))]
 impl Reader for Faulty<'_> {
     ghost source = { λ s. record { left = s.bytes.now; missing = s.missing; outer = [] } };
 
-    fn read(&mut self, buffer: &mut [u8]) -> encoding::Result<()> {
+    fn read(&mut self, buffer: &mut [u8]) -> Result<()> {
         let missing = self.missing;
         let mut rest = self.bytes;
         match rest.read(buffer) {

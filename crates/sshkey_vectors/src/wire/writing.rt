@@ -2,8 +2,14 @@
 
 ghost use Rattle.std.specs.Prelude.{◌≤◌};
 
-use super::*;
-use crate::encoding::Error;
+use super::answers::{reads, writes};
+use super::{NAME, TESTING};
+use sshkey_base::encoding::Error;
+use sshkey_base::{
+    Algorithm, Bytes, Encode, SliceWriter, Writer, encode_both, encode_string, encode_vec,
+    string_len,
+};
+use std::alloc::Global;
 
 #[test]
 fn numbers_written(rt: HostRuntime) {

@@ -1,6 +1,8 @@
-use crate::encoding::Error;
-use crate::tests::answers::{reads, refuses, writes};
-use crate::{Decode, Encode, SliceWriter, laws};
+//! Counts, a `usize` here and four bytes on the wire.
+
+use super::answers::{reads, refuses, writes};
+use sshkey_base::encoding::Error;
+use sshkey_base::{Decode, Encode, SliceWriter, laws};
 
 /// The example of RFC 4251, section 5, and the largest number of four bytes.
 const COUNTS: [(usize, [u8; 4]); 3] = [
