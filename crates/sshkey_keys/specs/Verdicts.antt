@@ -20,10 +20,13 @@ abbrev pub judged : (Question → Bool) → Algorithm → Option Question → Re
 judged accepts algorithm None = Err (Unsupported algorithm)
 judged accepts algorithm (Some q) = if accepts q then Ok tt else Err NotAccepted
 
--- A key of somebody's own verifies nothing, and its algorithm is named. Else that of the signature is, where nothing is asked.
+-- A key of somebody's own verifies nothing, and its algorithm is named. Else that of the signature is.
+abbrev pub unsupported_of : KeyData → Signature → Algorithm
+unsupported_of (kinds.Other key) g = key.algorithm
+unsupported_of key g = g.algorithm
+
 abbrev pub verdict : (Question → Bool) → KeyData → List ℕ → Signature → Result Unit Refusal
-verdict accepts (kinds.Other key) message g = Err (Unsupported key.algorithm)
-verdict accepts key message g = judged accepts g.algorithm (question (key_of key) message (signature_of g))
+verdict accepts key message g = judged accepts (unsupported_of key g) (question (key_of key) message (signature_of g))
 
 -- The error says so, unless memory was refused.
 abbrev pub Says : Result Unit Refusal → Error → Type 0

@@ -1,12 +1,12 @@
 //! Which question the caller's verifier is asked about a signature.
 
-ghost use Rattle.std.specs.Prelude.{◌≡◌, ◌≢◌, ◌++◌, OnOk, IfOk, IfErr};
+ghost use Rattle.std.specs.Prelude.{◌≡◌, ◌≢◌, ◌++◌, OnOk, IfOk, IfErr, option_map};
 ghost use Rattle.sha2.specs.Sha256.{sha256};
 ghost use Rattle.sshkey_model.specs.Verification.{IsAccepted, question, is_yes};
 ghost use Rattle.sshkey_base.specs.declared.error.Error.TheVariants as wide;
 ghost use Rattle.sshkey_keys.specs.Keys.{key_of};
 ghost use Rattle.sshkey_keys.specs.Signatures.{signature_of};
-ghost use Rattle.sshkey_keys.specs.Verdicts.{IsUnsupported, Verifies, verdict};
+ghost use Rattle.sshkey_keys.specs.Verdicts.{IsUnsupported, Verifies, unsupported_of, verdict};
 
 use crate::key_data::KeyData;
 use crate::raw_verifier::RawVerifier;
@@ -39,6 +39,23 @@ impl KeyData {
         ensures accepted { OnOk result (IsAccepted (V.accepts verifier.now) (key_of self.now) message.now (signature_of signature.now)) }
         ensures refused { IfErr result (λ e. e ≢ wide.Memory → IsAccepted (V.accepts verifier.now) (key_of self.now) message.now (signature_of signature.now) → ⊥) }
     {
+        match self.ask(alloc, message, signature, verifier)? {
+            Some(true) => Ok(()),
+            Some(false) => Err(Error::Crypto),
+            None => Err(unsupported(alloc, self.unsupported_algorithm(signature))),
+        }
+    }
+
+    /// What the verifier answers, where the key and the signature's algorithm are listed.
+    fn ask<V: RawVerifier>(
+        &self,
+        alloc: Global,
+        message: &[u8],
+        signature: &Signature,
+        verifier: &V,
+    ) -> std::result::Result<Option<bool>, AllocError>
+        ensures { IfOk result (λ answer. answer ≡ option_map (V.accepts verifier.now) (question (key_of self.now) message.now (signature_of signature.now))) }
+    {
         let algorithm = signature.algorithm();
         let blob = signature.as_bytes();
         let accepted = match (self, algorithm) {
@@ -51,24 +68,31 @@ impl KeyData {
                 verifier.verify(algorithm, self, message, blob)?
             }
             (KeyData::SkEcdsaSha2NistP256(key), Algorithm::SkEcdsaSha2NistP256) => {
+                let curve = EcdsaCurve::NistP256;
                 let plain = KeyData::Ecdsa(EcdsaPublicKey::NistP256(*key.ec_point()));
-                let algorithm = Algorithm::Ecdsa {
-                    curve: EcdsaCurve::NistP256,
-                };
                 let (within, trailer) = split_trailer(blob);
                 let signed = security_key_message(alloc, key.application(), trailer, message)?;
-                verifier.verify(&algorithm, &plain, signed.as_slice(), within)?
+                verifier.verify(&Algorithm::Ecdsa { curve }, &plain, &signed, within)?
             }
             (KeyData::SkEd25519(key), Algorithm::SkEd25519) => {
                 let plain = KeyData::Ed25519(*key.public_key());
                 let (within, trailer) = split_trailer(blob);
                 let signed = security_key_message(alloc, key.application(), trailer, message)?;
-                verifier.verify(&Algorithm::Ed25519, &plain, signed.as_slice(), within)?
+                verifier.verify(&Algorithm::Ed25519, &plain, &signed, within)?
             }
-            (KeyData::Other(key), _) => return Err(unsupported(alloc, &key.algorithm)),
-            _ => return Err(unsupported(alloc, algorithm)),
+            _ => return Ok(None),
         };
-        if accepted { Ok(()) } else { Err(Error::Crypto) }
+        Ok(Some(accepted))
+    }
+
+    /// The algorithm that is named where nothing is asked.
+    fn unsupported_algorithm<'a>(&'a self, signature: &'a Signature) -> &'a Algorithm
+        ensures { result.now ≡ unsupported_of self.now signature.now }
+    {
+        match self {
+            KeyData::Other(key) => &key.algorithm,
+            _ => signature.algorithm(),
+        }
     }
 }
 
