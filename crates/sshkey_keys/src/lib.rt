@@ -14,6 +14,3 @@ pub use key_data::KeyData;
 pub use raw_verifier::RawVerifier;
 pub use signature::Signature;
 pub use signing_key::SigningKey;
-
-#[cfg(test)]
-mod tests;

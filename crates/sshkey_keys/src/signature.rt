@@ -6,8 +6,6 @@ ghost use Rattle.sshkey_model.specs.Signatures.{IsSignatureBlob};
 ghost use Rattle.sshkey_keys.specs.SignatureForms.{is_blob};
 
 mod form;
-#[cfg(test)]
-mod tests;
 mod views;
 mod wire;
 

@@ -11,13 +11,21 @@ mod edges;
 #[cfg(test)]
 mod faults;
 #[cfg(test)]
+mod fingerprints;
+#[cfg(test)]
+mod key_kinds;
+#[cfg(test)]
 mod known;
+#[cfg(test)]
+mod one_key;
 #[cfg(test)]
 mod openssh;
 #[cfg(test)]
 mod parts;
 #[cfg(test)]
 mod rsa_names;
+#[cfg(test)]
+mod signature_bytes;
 #[cfg(test)]
 mod signatures;
 #[cfg(test)]

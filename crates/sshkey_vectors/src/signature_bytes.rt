@@ -1,7 +1,7 @@
 //! Signatures from outside, and the sizes at both sides of each edge.
 
-use super::Signature;
 use sshkey_base::{Algorithm, EcdsaCurve, Encode, Error, encoding};
+use sshkey_keys::Signature;
 use std::alloc::Global;
 use std::convert::AsSlice;
 use std::fmt;

@@ -1,8 +1,8 @@
 //! Keys of each kind, told apart.
 
-use super::super::KeyData;
-use super::{is_whole, is_written_as};
-use sshkey_base::{Algorithm, Decode, EcdsaCurve, HashAlg, decode_whole};
+use crate::support::{is_written, key_of};
+use sshkey_base::{Algorithm, Decode, EcdsaCurve, HashAlg};
+use sshkey_keys::KeyData;
 use sshkey_kinds::{
     DsaPublicKey, EcdsaPublicKey, Ed25519PublicKey, OpaquePublicKey, RsaPublicKey,
     SkEcdsaSha2NistP256, SkEd25519,
@@ -88,14 +88,22 @@ fn has_clone(alloc: Global, key: &KeyData) -> bool {
     }
 }
 
+/// The bytes are that key's, and no more.
+fn is_whole(alloc: Global, bytes: &[u8], key: &KeyData) -> bool {
+    match key_of(alloc, bytes) {
+        Ok(read) => read == *key,
+        Err(_) => false,
+    }
+}
+
 /// Whether the key in the bytes is of that kind alone, has that algorithm, is written as it was
 /// read, and has an equal clone that is hashed alike.
 fn is_kind(alloc: Global, bytes: &[u8], kind: usize, algorithm: &Algorithm) -> bool {
-    match decode_whole::<KeyData, &[u8]>(alloc, bytes) {
+    match key_of(alloc, bytes) {
         Ok(key) => {
             is_of(&key, kind)
                 && has_algorithm(alloc, &key, algorithm)
-                && is_written_as(alloc, &key, bytes)
+                && is_written(alloc, &key, bytes)
                 && has_clone(alloc, &key)
         }
         Err(_) => false,
@@ -148,10 +156,10 @@ fn opaque(rt: HostRuntime) {
 
 /// Whether the key in the bytes has that name, and is written as the others.
 fn is_written_under(alloc: Global, bytes: &[u8], name: &str, written: &[u8]) -> bool {
-    match decode_whole::<KeyData, &[u8]>(alloc, bytes) {
+    match key_of(alloc, bytes) {
         Ok(key) => {
             key.algorithm_name() == name
-                && is_written_as(alloc, &key, written)
+                && is_written(alloc, &key, written)
                 && is_whole(alloc, written, &key)
         }
         Err(_) => false,
@@ -179,7 +187,7 @@ fn a_body_is_read_under_an_algorithm(rt: HostRuntime) {
 }
 
 fn is_less(key: &KeyData, alloc: Global, greater: &[u8]) -> bool {
-    match decode_whole::<KeyData, &[u8]>(alloc, greater) {
+    match key_of(alloc, greater) {
         Ok(greater) => *key < greater,
         Err(_) => false,
     }
@@ -187,7 +195,7 @@ fn is_less(key: &KeyData, alloc: Global, greater: &[u8]) -> bool {
 
 /// The key in the first bytes is less than the one in the others.
 fn rises(alloc: Global, less: &[u8], greater: &[u8]) -> bool {
-    match decode_whole::<KeyData, &[u8]>(alloc, less) {
+    match key_of(alloc, less) {
         Ok(less) => is_less(&less, alloc, greater),
         Err(_) => false,
     }
