@@ -4,9 +4,6 @@ ghost use Rattle.std.specs.Prelude.{◌≡◌, ◌≤◌, true, take, option_map
 ghost use Rattle.sshkey_model.specs.Points.{is_point, field_size};
 ghost use Rattle.sshkey_kinds.specs.PointSizes.{curve_of_longest, is_point_within};
 
-#[cfg(test)]
-mod tests;
-
 use sshkey_base::{Encode, Error, Result, Writer, encode_string, encoding, string_len};
 use std::cmp::Ordering;
 use std::convert::AsSlice;

@@ -11,9 +11,6 @@ ghost use Rattle.sshkey_model.specs.Reading.{checked_at, string_at};
 ghost use Rattle.sshkey_kinds.specs.EcdsaWords.{ecdsa_of};
 ghost use Rattle.sshkey_kinds.specs.PointSizes.{known_size, size_from};
 
-#[cfg(test)]
-mod tests;
-
 use crate::ec_point::{
     EcPoint, EcdsaNistP256PublicKey, EcdsaNistP384PublicKey, EcdsaNistP521PublicKey,
 };

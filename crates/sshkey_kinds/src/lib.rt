@@ -9,8 +9,6 @@ pub mod laws;
 mod opaque;
 mod rsa;
 mod sk;
-#[cfg(test)]
-mod tests;
 
 pub use dsa::DsaPublicKey;
 pub use ec_point::{

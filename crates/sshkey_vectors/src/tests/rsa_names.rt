@@ -1,6 +1,6 @@
 //! An RSA key may stand under a name with a hash (RFC 8332), and is written as `ssh-rsa`.
 
-use crate::support::{has_fingerprints, is_read_and_written, key_of};
+use super::support::{has_fingerprints, is_read_and_written, key_of};
 use std::alloc::Global;
 
 /// The name `ssh-rsa`, the exponent 65537 and a modulus of one byte: 24 bytes.

@@ -1,8 +1,8 @@
 //! Signatures that OpenSSH made, read and written, and asked of a verifier that knows them.
 
+use super::openssh::{ED25519, Made, P256, P384, P521, RSA_SHA256, RSA_SHA512};
+use super::support::key_of;
 use crate::Only;
-use crate::openssh::{ED25519, Made, P256, P384, P521, RSA_SHA256, RSA_SHA512};
-use crate::support::key_of;
 use sshkey_base::{Algorithm, Error};
 use sshkey_keys::Signature;
 use std::alloc::Global;

@@ -1,7 +1,7 @@
 //! Each known key is read whole and written back the same, under its name and with its fingerprints.
 
-use crate::known::{EACH_KIND, Known};
-use crate::support::{blob_of, has_fingerprints, is_read_and_written, known_key};
+use super::known::{EACH_KIND, Known};
+use super::support::{blob_of, has_fingerprints, is_read_and_written, known_key};
 use std::alloc::Global;
 
 fn is_written_back(alloc: Global, known: &Known) -> bool {

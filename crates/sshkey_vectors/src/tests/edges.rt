@@ -1,7 +1,7 @@
 //! Keys that are cut short, or have a byte behind them.
 
-use crate::known::{EACH_KIND, Known};
-use crate::support::{blob_of, key_of};
+use super::known::{EACH_KIND, Known};
+use super::support::{blob_of, key_of};
 use sshkey_base::{Decode, Error, encoding};
 use sshkey_keys::KeyData;
 use std::alloc::Global;

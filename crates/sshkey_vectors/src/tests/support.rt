@@ -1,6 +1,6 @@
 //! What the tests share. Each question is a function that answers yes or no: that is quick to prove.
 
-use crate::known::Known;
+use super::known::Known;
 use base64::engine::general_purpose::STANDARD;
 use sshkey_base::{Error, HashAlg, decode_whole, encode_vec};
 use sshkey_keys::{Fingerprint, KeyData};

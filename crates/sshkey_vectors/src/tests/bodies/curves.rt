@@ -1,7 +1,10 @@
 //! SEC 1 point strings: which curve they tell, and the faults of the others.
 
-use super::*;
+use sshkey_base::{Error, Result, encoding};
+use sshkey_kinds::EcdsaPublicKey;
 use std::alloc::Global;
+use std::convert::AsSlice;
+use std::fmt;
 
 /// What a point string tells.
 #[derive(Clone, Copy, PartialEq, Eq)]

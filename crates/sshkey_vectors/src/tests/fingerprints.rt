@@ -1,6 +1,6 @@
 //! Fingerprints, made and taken apart.
 
-use crate::one_key::KEY;
+use super::one_key::KEY;
 use sshkey_base::HashAlg;
 use sshkey_keys::Fingerprint;
 use std::alloc::Global;

@@ -1,6 +1,12 @@
 //! Copies of keys are equal, and hashed alike.
 
-use super::*;
+use super::{DSA, ED25519, P256, RSA, SK_ECDSA, SK_ED25519, opaque_of_name};
+use sshkey_base::decode_whole;
+use sshkey_kinds::{
+    DsaPublicKey, EcdsaPublicKey, Ed25519PublicKey, OpaquePublicKey, OpaquePublicKeyBytes,
+    RsaPublicKey, SkEcdsaSha2NistP256, SkEd25519,
+};
+use std::alloc::Global;
 use std::hash::{DefaultHasher, Hash, Hasher};
 
 fn hash_of<T: Hash>(value: &T) -> u64 {

@@ -1,6 +1,6 @@
 //! Keys of each kind, told apart.
 
-use crate::support::{is_written, key_of};
+use super::support::{is_written, key_of};
 use sshkey_base::{Algorithm, Decode, EcdsaCurve, HashAlg};
 use sshkey_keys::KeyData;
 use sshkey_kinds::{

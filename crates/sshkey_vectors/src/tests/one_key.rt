@@ -1,6 +1,6 @@
 //! An Ed25519 key that ssh-keygen made, from its bytes to its fingerprints.
 
-use crate::support::{has_fingerprints, is_read_and_written, key_of};
+use super::support::{has_fingerprints, is_read_and_written, key_of};
 use sshkey_base::{Error, encoding};
 use sshkey_keys::KeyData;
 use sshkey_kinds::Ed25519PublicKey;

@@ -1,7 +1,9 @@
 //! The orders of keys.
 
-use super::*;
-use sshkey_base::Mpint;
+use super::opaque_of_name;
+use sshkey_base::{Mpint, Result};
+use sshkey_kinds::{DsaPublicKey, Ed25519PublicKey, RsaPublicKey, SkEd25519};
+use std::alloc::Global;
 
 fn number(alloc: Global, byte: u8) -> Result<Mpint> {
     Mpint::from_positive_bytes(alloc, &[byte])

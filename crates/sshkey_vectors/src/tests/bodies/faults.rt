@@ -1,6 +1,10 @@
 //! Bodies that spell no key, and the first fault of each.
 
-use super::*;
+use sshkey_base::{Decode, Error, Result, decode_whole, encoding};
+use sshkey_kinds::{
+    EcdsaPublicKey, Ed25519PublicKey, RsaPublicKey, SkEcdsaSha2NistP256, SkEd25519,
+};
+use std::alloc::Global;
 
 /// Why bytes are refused.
 #[derive(Clone, Copy, PartialEq, Eq)]

@@ -1,6 +1,12 @@
 //! What keys are made of, and what they are turned into.
 
-use super::*;
+use super::{DSA, ED25519, OPAQUE, P384, RSA, SK_ECDSA, SK_ED25519, opaque_of};
+use sshkey_base::{Algorithm, Error, Result, decode_whole, encoding};
+use sshkey_kinds::{
+    DsaPublicKey, EcdsaNistP256PublicKey, EcdsaPublicKey, Ed25519PublicKey, OpaquePublicKey,
+    OpaquePublicKeyBytes, RsaPublicKey, SkEcdsaSha2NistP256, SkEd25519,
+};
+use std::alloc::Global;
 use std::convert::AsSlice;
 use std::fmt;
 

@@ -1,7 +1,8 @@
 //! Point strings of the right size, and of one byte less and more.
 
-use super::*;
-use std::hash::DefaultHasher;
+use sshkey_kinds::{EcPoint, EcdsaNistP256PublicKey};
+use std::convert::AsSlice;
+use std::hash::{DefaultHasher, Hash, Hasher};
 
 /// Whether a tag and so many bytes are taken as a point whose longest string has `longest` bytes.
 fn is_taken(longest: usize, tag: u8, len: u8) -> bool {

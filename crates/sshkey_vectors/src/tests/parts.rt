@@ -4,10 +4,10 @@
 //! numbers and the points. `load_ssh_public_key(line).public_bytes_raw().hex()` of Python's
 //! `cryptography` gave the bytes of the Ed25519 key.
 
-use crate::known::{
+use super::known::{
     DSA, ECDSA_256, ECDSA_384, ECDSA_521, ED25519, Known, OPAQUE, RSA_1024, SK_ECDSA, SK_ED25519,
 };
-use crate::support::known_key;
+use super::support::known_key;
 use hex::FromHex;
 use sshkey_base::{Algorithm, Mpint};
 use sshkey_keys::KeyData;

@@ -1,6 +1,6 @@
 //! Blobs that spell no key, and the first fault of each from the left.
 
-use crate::support::key_of;
+use super::support::key_of;
 use sshkey_base::{Error, encoding};
 use std::alloc::Global;
 

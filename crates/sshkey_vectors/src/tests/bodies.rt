@@ -1,12 +1,17 @@
 //! Bodies of each kind: read, written, cut short, and with a rest.
 
 mod copies;
+mod curves;
 mod faults;
 mod orders;
 mod parts;
+mod points;
 
-use super::*;
 use sshkey_base::{Algorithm, Decode, Encode, Error, Result, decode_whole, encode_vec, encoding};
+use sshkey_kinds::{
+    DsaPublicKey, EcdsaPublicKey, Ed25519PublicKey, OpaquePublicKey, OpaquePublicKeyBytes,
+    RsaPublicKey, SkEcdsaSha2NistP256, SkEd25519,
+};
 use std::alloc::Global;
 
 /// The numbers 9a378f9b2e332a7, 80, -1234 and 0, as RFC 4251 writes them in section 5.
