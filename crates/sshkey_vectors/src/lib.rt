@@ -1,5 +1,5 @@
-//! Verifiers and a signer for tests; and tests that cross the crates, over keys and signatures
-//! from outside.
+//! Verifiers and a signer for tests; and the tests of the crates below, over worked examples, and
+//! over keys and signatures from outside.
 #![tactic(auto)]
 
 mod doubles;
