@@ -7,7 +7,8 @@ mod orders;
 mod parts;
 mod points;
 
-use sshkey_base::{Algorithm, Decode, Encode, Error, Result, decode_whole, encode_vec, encoding};
+use super::wire::answers::appends;
+use sshkey_base::{Algorithm, Decode, Encode, Error, Result, decode_whole, encoding};
 use sshkey_kinds::{
     DsaPublicKey, EcdsaPublicKey, Ed25519PublicKey, OpaquePublicKey, OpaquePublicKeyBytes,
     RsaPublicKey, SkEcdsaSha2NistP256, SkEd25519,
@@ -44,18 +45,10 @@ const SK_ED25519: &[u8] =
 /// Three bytes.
 const OPAQUE: &[u8] = b"\0\0\0\x03abc";
 
-/// Whether the value is written as these bytes, and has their length.
-fn is_written_as<T: Encode>(alloc: Global, value: &T, bytes: &[u8]) -> bool {
-    match encode_vec(alloc, value) {
-        Ok(written) => written.as_slice() == bytes && value.encoded_len() == Ok(bytes.len()),
-        Err(_) => false,
-    }
-}
-
 /// Whether the bytes are read whole as a value, of which they are written.
 fn is_kept<T: Decode + Encode + Drop>(alloc: Global, bytes: &[u8]) -> bool {
     match decode_whole::<T, &[u8]>(alloc, bytes) {
-        Ok(key) => is_written_as(alloc, &key, bytes),
+        Ok(key) => appends(alloc, &key, bytes),
         Err(_) => false,
     }
 }
@@ -93,7 +86,7 @@ fn opaque_of_name(alloc: Global, name: &str, bytes: &[u8]) -> Result<OpaquePubli
 #[test]
 fn opaque_keys_are_written_without_their_name(rt: HostRuntime) {
     let key = opaque_of(rt.alloc(), Algorithm::Dsa, b"abc");
-    assert!(rt; key.is_ok_and(|own| is_written_as(rt.alloc(), &own, OPAQUE)));
+    assert!(rt; key.is_ok_and(|own| appends(rt.alloc(), &own, OPAQUE)));
 }
 
 /// Whether the bytes, cut short anywhere, are refused with `Length`.

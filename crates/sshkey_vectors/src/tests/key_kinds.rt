@@ -1,6 +1,7 @@
 //! Keys of each kind, told apart.
 
 use super::support::{is_written, key_of};
+use super::wire::answers::hash_of;
 use sshkey_base::{Algorithm, Decode, EcdsaCurve, HashAlg};
 use sshkey_keys::KeyData;
 use sshkey_kinds::{
@@ -8,7 +9,6 @@ use sshkey_kinds::{
     SkEcdsaSha2NistP256, SkEd25519,
 };
 use std::alloc::Global;
-use std::hash::{DefaultHasher, Hash, Hasher};
 
 /// A DSA key of four small numbers.
 const DSA: &[u8] = b"\0\0\0\x07ssh-dss\0\0\0\x01\x17\0\0\0\x01\x0b\0\0\0\x01\x04\0\0\0\x01\x08";
@@ -58,12 +58,6 @@ fn seen(key: &KeyData) -> [bool; 7] {
         key.sk_ed25519().is_some(),
         key.other().is_some(),
     ]
-}
-
-fn hash_of(key: &KeyData) -> u64 {
-    let mut state = DefaultHasher::new();
-    key.hash(&mut state);
-    state.finish()
 }
 
 /// Whether the key is of that kind alone.

@@ -1,12 +1,11 @@
 //! The wire encoding: numbers, strings, texts, lists and names, read and written.
 
-use answers::{gives, shows};
+use answers::{gives, hash_of, shows};
 use sshkey_base::{Algorithm, Bytes, Error, encoding};
 use std::alloc::{AllocError, Global};
-use std::hash::{DefaultHasher, Hash, Hasher};
 use std::io;
 
-mod answers;
+pub(super) mod answers;
 mod counts;
 mod faulty;
 mod fields;
@@ -80,12 +79,6 @@ fn no_text(rt: HostRuntime) {
     } else {
         panic!(rt; "ff is no text");
     }
-}
-
-fn hash_of(bytes: &Bytes) -> u64 {
-    let mut hasher = DefaultHasher::new();
-    bytes.hash(&mut hasher);
-    hasher.finish()
 }
 
 /// A copy of the first byte string equals it, and the first is before the second.

@@ -1,19 +1,14 @@
 //! Copies of keys are equal, and hashed alike.
 
 use super::{DSA, ED25519, P256, RSA, SK_ECDSA, SK_ED25519, opaque_of_name};
+use crate::tests::wire::answers::hash_of;
 use sshkey_base::decode_whole;
 use sshkey_kinds::{
     DsaPublicKey, EcdsaPublicKey, Ed25519PublicKey, OpaquePublicKey, OpaquePublicKeyBytes,
     RsaPublicKey, SkEcdsaSha2NistP256, SkEd25519,
 };
 use std::alloc::Global;
-use std::hash::{DefaultHasher, Hash, Hasher};
-
-fn hash_of<T: Hash>(value: &T) -> u64 {
-    let mut state = DefaultHasher::new();
-    value.hash(&mut state);
-    state.finish()
-}
+use std::hash::Hash;
 
 /// Whether two are equal and hashed alike.
 fn are_alike<T: Eq + Hash>(one: &T, other: &T) -> bool {

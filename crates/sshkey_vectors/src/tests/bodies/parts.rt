@@ -1,6 +1,7 @@
 //! What keys are made of, and what they are turned into.
 
 use super::{DSA, ED25519, OPAQUE, P384, RSA, SK_ECDSA, SK_ED25519, opaque_of};
+use crate::tests::wire::answers::gives;
 use sshkey_base::{Algorithm, Error, Result, decode_whole, encoding};
 use sshkey_kinds::{
     DsaPublicKey, EcdsaNistP256PublicKey, EcdsaPublicKey, Ed25519PublicKey, OpaquePublicKey,
@@ -27,14 +28,6 @@ fn fields_in_the_order_of_the_bytes(rt: HostRuntime) {
     assert!(rt; rsa.is_ok_and(|key| are_of_rsa(&key)));
     let dsa = decode_whole::<DsaPublicKey, &[u8]>(rt.alloc(), DSA);
     assert!(rt; dsa.is_ok_and(|key| are_of_dsa(&key)));
-}
-
-/// The answer is an equal value.
-fn gives<T: PartialEq + Drop>(answer: Result<T>, value: &T) -> bool {
-    match answer {
-        Ok(given) => given == *value,
-        Err(_) => false,
-    }
 }
 
 fn sk_ecdsa_of(alloc: Global, point: EcdsaNistP256PublicKey) -> Result<SkEcdsaSha2NistP256> {

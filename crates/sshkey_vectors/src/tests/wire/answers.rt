@@ -4,6 +4,7 @@
 use sshkey_base::{Decode, Encode, Label, SliceWriter, encode_vec, encoding};
 use std::alloc::Global;
 use std::fmt::Display;
+use std::hash::{DefaultHasher, Hash, Hasher};
 
 /// The answer is this value.
 pub(crate) fn gives<T: PartialEq + Drop, E: Drop>(answer: Result<T, E>, value: &T) -> bool {
@@ -78,4 +79,11 @@ pub(crate) fn refuses<T: Decode<Error = encoding::Error> + Drop>(
 ) -> bool {
     let mut left = bytes;
     faults(T::decode(alloc, &mut left), error)
+}
+
+/// What the value is hashed to.
+pub(crate) fn hash_of<T: Hash>(value: &T) -> u64 {
+    let mut state = DefaultHasher::new();
+    value.hash(&mut state);
+    state.finish()
 }
