@@ -5,12 +5,13 @@ use Rattle.std.proofs.lemmas.Bool.{and_parts, ltb-true}
 use Rattle.std.proofs.lemmas.Str.{IsUtf8-from_ascii}
 use Rattle.sshkey_model.specs.Parts.{Any, bytes}
 use Rattle.sshkey_model.specs.Names.{are_ascii}
-use Rattle.sshkey_model.specs.Reading.{Fault, Label, Whole, string_at}
+use Rattle.sshkey_model.specs.Reading.{Fault, Label, Front, Whole, string_at, checked_at}
 use Rattle.sshkey_model.proofs.CombinedReaders.{Checks}
-use Rattle.sshkey_base.specs.Causes.{Faulty}
+use Rattle.sshkey_base.specs.declared.encoding.Error.{Error}
+use Rattle.sshkey_base.specs.Causes.{Faulty, encoding_cause}
 use Rattle.sshkey_base.specs.Source.{Source}
-use Rattle.sshkey_base.specs.Reading.{Reads, IsRefused}
-use Rattle.sshkey_base.specs.Labels.{label_at}
+use Rattle.sshkey_base.specs.Reading.{Reads, IsRefused, Gives}
+use Rattle.sshkey_base.specs.Labels.{LooksUp, label_at}
 
 ascii : (b : List ℕ) → are_ascii b ≡ true → IsAscii b
 ascii [] e i = omega arith
@@ -28,6 +29,17 @@ module _ {N : Type 0} {IsNamed : N → Type 0} {name : N → List ℕ} {named : 
       absurd (no_text (subst IsUtf8 (sym same) (IsUtf8-from_ascii (name n) (ascii (name n) (spelled n c.0)))))
   looked_up t (Err fault) e no_text = ap (λ (f : Fault). Err f) (refusals t fault e)
 
+  pub not_named : (t : List ℕ) → (IsUtf8 t → ⊥) → named t ≡ Err Label
+  not_named t no_text = looked_up t (named t) refl no_text
+
   pub text_refused : (s t : Source) (x : List ℕ) → Reads (λ b. b) string_at s x t → (IsUtf8 x → ⊥) → IsRefused s.missing (Faulty Label) (label_at named s.left)
   unfolding label_at
-  text_refused s t x h no_text = λ other. record { met = Label; is = rw (h.value, looked_up x (named x) refl no_text) refl; same = λ sound. refl }
+  text_refused s t x h no_text = λ other. record { met = Label; is = rw (h.value, not_named x no_text) refl; same = λ sound. refl }
+
+-- Bytes that are read and looked up.
+module _ {X N : Type 0} (stands_for : X → N) (named : Whole N) (read : Front (List ℕ)) (s u : Source) (b : List ℕ) (h : Reads (λ x. x) read s b u) where
+  pub looked_up_gives : (r : Result X Error) → LooksUp stands_for named b r → Gives stands_for encoding_cause (checked_at named read) s r u
+  looked_up_gives (Ok x) l = record { value = rw (h.value, l) refl; missing = h.missing; outer = h.outer }
+  looked_up_gives (Err e) l = λ other.
+      let found = l (λ memory. other (ap encoding_cause memory)) in
+      record { met = Label; is = rw (h.value, found.0) refl; same = λ _. ap encoding_cause found.1 }

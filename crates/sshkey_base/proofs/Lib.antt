@@ -1,6 +1,8 @@
 pub mod HexDigits
 pub mod NestedSources
 pub mod Steps
+pub mod Places
+pub mod Lending
 pub mod Boxes
 pub mod Accepted
 pub mod Writing

@@ -3,12 +3,12 @@ use Rattle.std.proofs.Common.{◌≡◌, ℕ, ◌<◌, ◌≤◌, Bool, true, fa
 use Rattle.std.proofs.lemmas.Bool.{le-leb, lt-leb, leb-true, leb-false, ltb-false, le-ltb, lt-ltb}
 use Rattle.std.proofs.lemmas.List.{length-take-le}
 use Rattle.sshkey_model.specs.Parts.{are_bytes}
-use Rattle.sshkey_model.specs.Reading.{Fault, Length, bytes_at, string_at, checked_at}
+use Rattle.sshkey_model.specs.Reading.{Fault, Length, Front, bytes_at, checked_at}
 use Rattle.sshkey_base.specs.Causes.{Cause, Faulty}
 use Rattle.sshkey_base.specs.Source.{Source}
 use Rattle.sshkey_base.specs.Reading.{Reads, Refuses, IsRefused, Gives}
-use Rattle.sshkey_base.specs.ShortStrings.{at_most, short_at}
-use Rattle.sshkey_base.proofs.Steps.{refused_first}
+use Rattle.sshkey_base.specs.ShortStrings.{at_most}
+use Rattle.sshkey_base.proofs.Steps.{refuses_first}
 
 -- more bytes than may be are `Length`, whether they are there or not
 long_is_length : (max n : ℕ) (b : List ℕ) → max < n → checked_at (at_most max) (bytes_at n) b ≡ Err Length
@@ -33,15 +33,14 @@ short_reads max n s t front within len r =
     record { value = rw (r.value, fits) refl; missing = r.missing; outer = r.outer }
 
 -- A judgement of short strings is one of all strings that refuses the long ones first.
-pub bounded : {C : Type 0} (max : ℕ) (judge : List ℕ → Result C Fault) (b : List ℕ) → checked_at (λ x. cond (ltb max (length x)) (Err Length) (judge x)) string_at b ≡ checked_at judge (short_at max) b
-unfolding short_at
-bounded {C} max judge b = go (string_at b) refl
+pub bounded : {C : Type 0} (max : ℕ) (judge : List ℕ → Result C Fault) (read : Front (List ℕ)) (b : List ℕ) → checked_at (λ x. cond (ltb max (length x)) (Err Length) (judge x)) read b ≡ checked_at judge (checked_at (at_most max) read) b
+bounded {C} max judge read b = go (read b) refl
   where
-    go : (found : Result (List ℕ × List ℕ) Fault) → string_at b ≡ found → checked_at (λ x. cond (ltb max (length x)) (Err Length) (judge x)) string_at b ≡ checked_at judge (short_at max) b
+    go : (found : Result (List ℕ × List ℕ) Fault) → read b ≡ found → checked_at (λ x. cond (ltb max (length x)) (Err Length) (judge x)) read b ≡ checked_at judge (checked_at (at_most max) read) b
     go (Err f) e = rw e refl
     go (Ok x) e = by_length (leb (length x.0) max) refl
       where
-        by_length : (short : Bool) → leb (length x.0) max ≡ short → checked_at (λ x. cond (ltb max (length x)) (Err Length) (judge x)) string_at b ≡ checked_at judge (short_at max) b
+        by_length : (short : Bool) → leb (length x.0) max ≡ short → checked_at (λ x. cond (ltb max (length x)) (Err Length) (judge x)) read b ≡ checked_at judge (checked_at (at_most max) read) b
         by_length true h =
             let long : ltb max (length x.0) ≡ false = le-ltb _ _ (leb-true _ _ h) in
             rw (e, h, long) refl
@@ -49,11 +48,11 @@ bounded {C} max judge b = go (string_at b) refl
             let long : ltb max (length x.0) ≡ true = lt-ltb _ _ (leb-false _ _ h) in
             rw (e, h, long) refl
 
--- So a call that reads a short string and judges it gives what the judgement of all strings gives.
-module _ {C : Type 0} (max : ℕ) (judge : List ℕ → Result C Fault) (s : Source) where
-  pub bounded_refused : (c : Cause) → IsRefused s.missing c (short_at max s.left) → IsRefused s.missing c (checked_at (λ x. cond (ltb max (length x)) (Err Length) (judge x)) string_at s.left)
-  bounded_refused c h = rw (bounded max judge s.left) (refused_first _ _ _ _ h)
+-- So a call that reads short bytes and judges them gives what the judgement of all bytes gives.
+module _ {C : Type 0} (max : ℕ) (judge : List ℕ → Result C Fault) (read : Front (List ℕ)) (s : Source) where
+  pub bounded_refused : (c : Cause) → Refuses s.missing c (checked_at (at_most max) read s.left) → IsRefused s.missing c (checked_at (λ x. cond (ltb max (length x)) (Err Length) (judge x)) read s.left)
+  bounded_refused c h = rw (bounded max judge read s.left) (λ other. refuses_first _ _ _ _ h)
 
-  pub bounded_gives : {X E : Type 0} (means : X → C) (cause : E → Cause) (r : Result X E) (t : Source) → Gives means cause (checked_at judge (short_at max)) s r t → Gives means cause (checked_at (λ x. cond (ltb max (length x)) (Err Length) (judge x)) string_at) s r t
-  bounded_gives means cause (Ok x) t h = record { value = bounded max judge s.left ∙ h.value; missing = h.missing; outer = h.outer }
-  bounded_gives means cause (Err e) t h = rw (bounded max judge s.left) h
+  pub bounded_gives : {X E : Type 0} (means : X → C) (cause : E → Cause) (r : Result X E) (t : Source) → Gives means cause (checked_at judge (checked_at (at_most max) read)) s r t → Gives means cause (checked_at (λ x. cond (ltb max (length x)) (Err Length) (judge x)) read) s r t
+  bounded_gives means cause (Ok x) t h = record { value = bounded max judge read s.left ∙ h.value; missing = h.missing; outer = h.outer }
+  bounded_gives means cause (Err e) t h = rw (bounded max judge read s.left) h

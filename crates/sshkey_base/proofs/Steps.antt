@@ -1,13 +1,15 @@
 -- The steps of a reading function, as the plain reader takes them.
-use Rattle.std.proofs.Common.{◌≡◌, ℕ, false, true, ltb, List, ◌++◌, length, Result, Ok, refl, ap, arith, lt-ltb}
+use Rattle.std.proofs.Common.{◌≡◌, ℕ, false, true, ltb, List, ◌++◌, length, Result, Ok, Err, refl, ap, ◌∙◌, arith, lt-ltb}
+use Rattle.std.specs.Int.{w32}
 use Rattle.std.proofs.lemmas.Bool.{le-ltb}
 use Rattle.std.proofs.lemmas.List.{length-append, take_at, drop_at}
 use Rattle.sshkey_model.specs.Parts.{are_bytes}
-use Rattle.sshkey_model.specs.Reading.{Fault, Length, ◌>>=◌, Front, bytes_at}
+use Rattle.sshkey_model.specs.Reading.{Fault, Length, ◌>>=◌, Front, number_at, bytes_at, string_at, checked_at}
 use Rattle.sshkey_base.specs.declared.encoding.Error.{Error}
 use Rattle.sshkey_base.specs.Causes.{Cause, encoding_cause}
 use Rattle.sshkey_base.specs.Source.{Source, Advances, TooFew}
-use Rattle.sshkey_base.specs.Reading.{Reads, Refuses, IsRefused}
+use Rattle.sshkey_base.specs.Reading.{Reads, Refuses, IsRefused, Gives}
+use Rattle.sshkey_base.proofs.Places.{later_none, later_then}
 
 -- where the first step is refused, all is
 pub refuses_first : {A B : Type 0} (m : ℕ) (c : Cause) (r : Result A Fault) (k : A → Result B Fault) → Refuses m c r → Refuses m c (r >>= k)
@@ -23,7 +25,18 @@ refuses_later means read s t x c k a h = rw (a.value, ← a.missing) h
 pub refused_later : {A B C : Type 0} (means : C → A) (read : Front A) (s t : Source) (x : C) (c : Cause) (k : A × List ℕ → Result B Fault) → Reads means read s x t → IsRefused t.missing c (k (means x, t.left)) → IsRefused s.missing c (read s.left >>= k)
 refused_later means read s t x c k a h = rw (a.value, ← a.missing) h
 
-pub ruleset steps = (refused_first, refused_later, refuses_first, refuses_later)
+pub ruleset steps = (refused_first, refused_later, refuses_first, refuses_later, later_none, later_then)
+
+-- the bytes of a string, judged behind its length
+pub behind_length : {B X E : Type 0} (means : X → B) (cause : E → Cause) (judge : List ℕ → Result B Fault) (n : ℕ) (s t u : Source) (r : Result X E) → Reads (λ k. k) (number_at w32) s n t → Gives means cause (checked_at judge (bytes_at n)) t r u → Gives means cause (checked_at judge string_at) s r u
+unfolding string_at
+behind_length means cause judge n s t u (Ok x) h k = record { value = rw h.value k.value; missing = k.missing ∙ h.missing; outer = k.outer ∙ h.outer }
+behind_length means cause judge n s t u (Err e) h k = rw (h.value, ← h.missing) k
+
+-- a string without its length
+pub length_refused : {B : Type 0} (judge : List ℕ → Result B Fault) (m : ℕ) (c : Cause) (b : List ℕ) → Refuses m c (number_at w32 b) → IsRefused m c (checked_at judge string_at b)
+unfolding string_at
+length_refused judge m c b h = λ _. refuses_first _ _ _ _ (refuses_first _ _ _ _ h)
 
 -- too few bytes
 pub few_refused : (n : ℕ) (s : Source) (e : Error) → TooFew s n e → Refuses s.missing (encoding_cause e) (bytes_at n s.left)

@@ -13,23 +13,24 @@ use Rattle.sshkey_base.specs.declared.encoding.Error.TheVariants.{Length, Memory
 use Rattle.sshkey_base.specs.Sink.{Sink, Began, Stopped, Writes, Written, after, NotWritten, Encodes}
 
 -- nothing was added
-pub none_began : (s t : Sink) (b : List ℕ) → t.written ≡ s.written → Began s b t
-none_began s t b e = record { count = 0; added = e ∙ sym (append-nil s.written) }
+pub none_began : (s t : Sink) (b : List ℕ) → t.written ≡ s.written → t.limit ≡ s.limit → Began s b t
+none_began s t b e limit = record { count = 0; added = e ∙ sym (append-nil s.written); limit = limit }
 
 began_first : (s t : Sink) (a b : List ℕ) → Began s a t → Began s (a ++ b) t
 began_first s t a b h =
     elim (cases_lt h.count (length a)) [
-      | inl lt ↦ record { count = h.count; added = h.added ∙ ap (λ (l : List ℕ). s.written ++ l) (sym (take-append-le h.count a b (omega arith))) }
+      | inl lt ↦ record { count = h.count; added = h.added ∙ ap (λ (l : List ℕ). s.written ++ l) (sym (take-append-le h.count a b (omega arith))); limit = h.limit }
       | inr ge ↦
           let all : take h.count a ≡ a = take_all h.count a ge in
           let same : take (length a) (a ++ b) ≡ a = take-append-le (length a) a b (omega arith) ∙ take_all (length a) a (omega arith) in
-          record { count = length a; added = h.added ∙ ap (λ (l : List ℕ). s.written ++ l) (all ∙ sym same) }
+          record { count = length a; added = h.added ∙ ap (λ (l : List ℕ). s.written ++ l) (all ∙ sym same); limit = h.limit }
     ]
 
-began_later : (s t u : Sink) (a b : List ℕ) → t.written ≡ s.written ++ a → Began t b u → Began s (a ++ b) u
-began_later s t u a b added h = record {
+began_later : (s t u : Sink) (a b : List ℕ) → t.written ≡ s.written ++ a → t.limit ≡ s.limit → Began t b u → Began s (a ++ b) u
+began_later s t u a b added limit h = record {
   count = length a + h.count;
   added = h.added ∙ rw (added, append_assoc, take-append-add a b h.count) refl;
+  limit = h.limit ∙ limit;
 }
 
 room_first : (limit : Option ℕ) (n a b : ℕ) → IfSome limit (λ m. m < n + a) → IfSome limit (λ m. m < n + (a + b))
@@ -51,7 +52,7 @@ stopped_first fault s t a b e h = record {
 }
 
 stopped_later : (fault : Error → Type 0) (s t u : Sink) (a b : List ℕ) (e : Error) → t.written ≡ s.written ++ a → t.limit ≡ s.limit → Stopped fault t b e u → Stopped fault s (a ++ b) e u
-stopped_later fault s t u a b e added limit h = record { own = h.own; full = room_later s t a b added limit h.full; began = began_later s t u a b added h.began }
+stopped_later fault s t u a b e added limit h = record { own = h.own; full = room_later s t a b added limit h.full; began = began_later s t u a b added limit h.began }
 
 -- ---- parts, one after the other
 
@@ -69,7 +70,7 @@ pub not_later : (fault : Error → Type 0) (p q : Parts) (s u : Sink) (e : Error
 unfolding flat BoxesFit NotWritten after
 not_later fault p q s u e h =
     elim h [
-      | inl l ↦ inl (record { misfit = λ b. l.misfit b.1; is = l.is; began = began_later s (after p s) u (flat p) (flat q) refl l.began })
+      | inl l ↦ inl (record { misfit = λ b. l.misfit b.1; is = l.is; began = began_later s (after p s) u (flat p) (flat q) refl refl l.began })
       | inr o ↦ inr (stopped_later fault s (after p s) u (flat p) (flat q) e refl refl o)
     ]
 
@@ -99,7 +100,7 @@ box_later fault p s t u (Err e) n len lt w h =
     let added : t.written ≡ s.written ++ to_be_bytes w32 (length (flat p)) = rw (w.1, len) refl in
     let limit : t.limit ≡ s.limit = rw w.1 refl in
     elim h [
-      | inl l ↦ inl (record { misfit = λ b. l.misfit b.1; is = l.is; began = began_later s t u (to_be_bytes w32 (length (flat p))) (flat p) added l.began })
+      | inl l ↦ inl (record { misfit = λ b. l.misfit b.1; is = l.is; began = began_later s t u (to_be_bytes w32 (length (flat p))) (flat p) added limit l.began })
       | inr o ↦ inr (stopped_later fault s t u (to_be_bytes w32 (length (flat p))) (flat p) e added limit o)
     ]
 
@@ -184,17 +185,17 @@ pub ruleset measuring_leaves = (length_box, length_bytes, length_number8, length
 -- nothing is added of what does not fit
 pub misfit : (fault : Error → Type 0) (p : Parts) (s : Sink) (e : Error) → (BoxesFit p → ⊥) × (e ≡ Length) → NotWritten fault p s e s
 unfolding NotWritten
-misfit fault p s e h = inl (record { misfit = h.0; is = h.1; began = none_began s s (flat p) refl })
+misfit fault p s e h = inl (record { misfit = h.0; is = h.1; began = none_began s s (flat p) refl refl })
 
 -- what a box holds does not fit
 pub inside_misfit : (fault : Error → Type 0) (p : Parts) (s : Sink) (e : Error) → (BoxesFit p → ⊥) × (e ≡ Length) → NotWritten fault (box p) s e s
 unfolding NotWritten
-inside_misfit fault p s e h = inl (record { misfit = λ b. h.0 (boxes_inside p b); is = h.1; began = none_began s s (flat (box p)) refl })
+inside_misfit fault p s e h = inl (record { misfit = λ b. h.0 (boxes_inside p b); is = h.1; began = none_began s s (flat (box p)) refl refl })
 
 -- it is too long
 pub outside_misfit : (fault : Error → Type 0) (p : Parts) (s : Sink) (e : Error) (n : ℕ) → n ≡ length (flat p) → (2 ^ 32 ≤ n) × (e ≡ Length) → NotWritten fault (box p) s e s
 unfolding NotWritten
-outside_misfit fault p s e n len h = inl (record { misfit = λ b. let lt = boxes_length p b in let ge = h.0 in absurd (omega arith); is = h.1; began = none_began s s (flat (box p)) refl })
+outside_misfit fault p s e n len h = inl (record { misfit = λ b. let lt = boxes_length p b in let ge = h.0 in absurd (omega arith); is = h.1; began = none_began s s (flat (box p)) refl refl })
 
 -- ---- a vector of its own
 

@@ -8,7 +8,7 @@ use Rattle.sshkey_base.specs.declared.encoding.Error.{Error}
 use Rattle.sshkey_base.specs.declared.encoding.Error.TheVariants.{Length, TrailingData}
 use Rattle.sshkey_base.specs.declared.reader.NestedReader.{NestedReader}
 use Rattle.sshkey_base.specs.Causes.{Cause, encoding_cause}
-use Rattle.sshkey_base.specs.Source.{Source, part, told}
+use Rattle.sshkey_base.specs.Source.{Source, Later, part, told}
 use Rattle.sshkey_base.specs.Reading.{Gives, Reads, Refuses}
 
 -- what a nested reader has before it
@@ -19,6 +19,11 @@ module _ {F N T E : Type 0} (call : Once F (MutBor N × Unit {0}) (Result T E ×
   -- Each call of the closure gives what the plain reader gives.
   abbrev pub ReadsBy : {Y : Type 0} → (T → Y) → Front Y → Type 0
   ReadsBy means read = (p q : MutBor N) (r : Result T E) → call.post f (p, tt) (r, (q, tt)) → Gives means cause read (source p.now) r (source q.now)
+
+module _ {F N T E : Type 0} (call : Once F (MutBor N × Unit {0}) (Result T E × (MutBor N × Unit {0}))) (source : N → Source) (f : F) where
+  -- Each call of the closure passes some bytes of its part, and changes nothing else.
+  abbrev pub PassesBy : Type 0
+  PassesBy = (p q : MutBor N) (r : Result T E) → call.post f (p, tt) (r, (q, tt)) → Later (source p.now) (source q.now)
 
 module _ {F N T E : Type 0} (call : Once F (MutBor N × Unit {0}) (Result T E × (MutBor N × Unit {0}))) (source : N → Source) (from_gives : Error → E → Type 0) (f : F) where
   -- A length was read that was announced, and the closure gave r over the part of that length.

@@ -15,10 +15,11 @@ pub record Wrote (s : Sink) (bytes : List ℕ) (t : Sink) : Type 0 where
   pub limit : t.limit ≡ s.limit
   pub are : are_bytes bytes ≡ true
 
--- A beginning of the bytes was added, which may be none of them.
+-- A beginning of the bytes was added, which may be none of them, and nothing else changed.
 pub record Began (s : Sink) (bytes : List ℕ) (t : Sink) : Type 0 where
   pub count : ℕ
   pub added : t.written ≡ s.written ++ take count bytes
+  pub limit : t.limit ≡ s.limit
 
 -- The writer refused, by a fault of its own, which a bounded one has only where there is no room.
 pub record Stopped (fault : Error → Type 0) (s : Sink) (bytes : List ℕ) (e : Error) (t : Sink) : Type 0 where

@@ -1,5 +1,5 @@
 -- What a reader has before it.
-use Rattle.std.specs.Prelude.{◌≡◌, ℕ, ◌+◌, ◌-◌, ◌<◌, List, ◌∷◌, ◌++◌, length, take, drop, true, Result, Ok, Err}
+use Rattle.std.specs.Prelude.{◌≡◌, ℕ, ◌+◌, ◌-◌, ◌<◌, List, [], ◌∷◌, ◌++◌, length, take, drop, true, Result, Ok, Err}
 use Rattle.sshkey_model.specs.Parts.{are_bytes}
 use Rattle.sshkey_base.specs.declared.encoding.Error.{Error}
 use Rattle.sshkey_base.specs.declared.encoding.Error.TheVariants.{Length}
@@ -15,6 +15,10 @@ pub record Source : Type 0 where
   pub left : List ℕ
   pub missing : ℕ
   pub outer : List Outer
+
+-- all of some bytes
+abbrev pub all_of : List ℕ → Source
+all_of b = record { left = b; missing = 0; outer = [] }
 
 -- All that was announced can be read.
 abbrev pub IsSound : Source → Type 0
@@ -35,6 +39,17 @@ pub record Advances (s : Source) (bytes : List ℕ) (t : Source) : Type 0 where
 pub record TooFew (s : Source) (count : ℕ) (e : Error) : Type 0 where
   pub few : length s.left < count
   pub sound : IsSound s → e ≡ Length
+
+-- The same source, at the same place or at a later one: some bytes were passed, and nothing else changed.
+pub record Later (s t : Source) : Type 0 where
+  pub passed : List ℕ
+  pub left : s.left ≡ passed ++ t.left
+  pub missing : t.missing ≡ s.missing
+  pub outer : t.outer ≡ s.outer
+
+-- The source behind its next n bytes.
+abbrev pub behind : ℕ → Source → Source
+behind n s = record { left = drop n s.left; missing = s.missing; outer = s.outer }
 
 -- a call that takes as many bytes as it is given
 abbrev pub Takes : Source → List ℕ → Result (Unit {0}) Error → Source → Type 0

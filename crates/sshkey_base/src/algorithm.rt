@@ -137,6 +137,7 @@ impl Algorithm {
 
 // The algorithm with that fixed name.
 #[tactic(auto, unfolding(crate::specs::NameReaders::named))]
+#[inline(always)]
 fn fixed(name: &str) -> Option<Algorithm>
     ensures { option_map algorithm_of result ≡ named algorithm_name algorithms name.now }
 {
@@ -183,6 +184,7 @@ impl Label for Algorithm {
         self.as_str()
     }
 
+    #[inline(always)]
     fn from_label(alloc: Global, name: &str) -> encoding::Result<Algorithm>
         ensures gives { LooksUp algorithm_of algorithm_from name.now result }
         ensures fixed { (a : model.Algorithm) → named algorithm_name algorithms name.now ≡ Some a → IsOk result }

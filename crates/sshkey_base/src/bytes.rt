@@ -5,7 +5,7 @@ ghost use Rattle.sshkey_model.specs.Reading.{bytes_at, string_at};
 ghost use Rattle.sshkey_base.specs.Causes.{encoding_cause};
 ghost use Rattle.sshkey_base.specs.Leaves.{SpellsString, string_grammar};
 ghost use Rattle.sshkey_base.specs.Reading.{Gives, LengthPast};
-ghost use Rattle.sshkey_base.specs.Source.{told};
+ghost use Rattle.sshkey_base.specs.Source.{told, Later};
 
 mod compare;
 
@@ -87,6 +87,7 @@ impl Decode for Bytes {
 
     fn decode<R: Reader>(alloc: Global, reader: &mut R) -> Result<Bytes, Error>
         ensures gives { Gives (λ x. x) encoding_cause string_at (R.source reader.old) result (R.source reader.new) }
+        ensures later { Later (R.source reader.old) (R.source reader.new) }
         ensures past { LengthPast encoding_cause (R.source reader.old) result }
     {
         let len = length_from(reader)?;
@@ -95,16 +96,24 @@ impl Decode for Bytes {
 }
 
 /// The next `len` bytes. `Length` where more are asked for than are announced.
+#[tactic(auto, using(crate::proofs::Lending::lending))]
+#[inline(always)]
 pub(crate) fn bytes_from<R: Reader>(
     alloc: Global,
     len: usize,
     reader: &mut R,
 ) -> Result<Bytes, Error>
     ensures gives { Gives (λ x. x) encoding_cause (bytes_at len) (R.source reader.old) result (R.source reader.new) }
+    ensures later { Later (R.source reader.old) (R.source reader.new) }
     ensures past { told (R.source reader.old) < len → result ≡ Err Error.Length }
 {
     if reader.remaining_len() < len {
         return Err(Error::Length);
+    }
+    if let Some(front) = reader.ahead(len) {
+        let bytes = Vec::from_slice(alloc, front)?;
+        reader.skip(len);
+        return Ok(Bytes { bytes });
     }
     let mut bytes = vec![in alloc; 0u8; len]?;
     reader.read(&mut bytes)?;
@@ -128,6 +137,7 @@ impl Decode for Vec<u8> {
 
     fn decode<R: Reader>(alloc: Global, reader: &mut R) -> Result<Vec<u8>, Error>
         ensures gives { Gives (λ v. v.items) encoding_cause string_at (R.source reader.old) result (R.source reader.new) }
+        ensures later { Later (R.source reader.old) (R.source reader.new) }
         ensures past { LengthPast encoding_cause (R.source reader.old) result }
     {
         let bytes = Bytes::decode(alloc, reader)?;

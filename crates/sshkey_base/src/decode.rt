@@ -9,6 +9,7 @@ ghost use Rattle.sshkey_base.specs.Causes.{encoding_cause};
 ghost use Rattle.sshkey_base.specs.Leaves.{SpellsByte, SpellsNumber32, SpellsNumber64, SpellsArray, byte_grammar, number32_grammar, number64_grammar, array_grammar};
 ghost use Rattle.sshkey_base.specs.Nested.{nested_source};
 ghost use Rattle.sshkey_base.specs.Reading.{Gives, GivesAlways, GivesWhole, LengthPast};
+ghost use Rattle.sshkey_base.specs.Source.{Later};
 
 use crate::encoding;
 use crate::reader::{NestedReader, Reader, array_from};
@@ -36,9 +37,10 @@ pub trait Decode: Sized {
     ///
     /// It is what the plain reader gives of the bytes that are left. Want of memory aside, it is
     /// refused only where the plain reader refuses too, and by a sound source with the same fault.
-    /// After a refusal the place in the source is open.
+    /// After a refusal some of the bytes that were left may be passed, and nothing else changed.
     fn decode<R: Reader>(alloc: Global, reader: &mut R) -> Result<Self, Self::Error>
-        ensures { Gives means Self.Error.cause parse (R.source reader.old) result (R.source reader.new) };
+        ensures gives { Gives means Self.Error.cause parse (R.source reader.old) result (R.source reader.new) }
+        ensures later { Later (R.source reader.old) (R.source reader.new) };
 
     /// The plain reader takes exactly the spellings.
     ghost grammar: { IsGrammar Spells parse };
@@ -61,6 +63,7 @@ impl Decode for u8 {
 
     fn decode<R: Reader>(_alloc: Global, reader: &mut R) -> Result<u8, encoding::Error>
         ensures gives { Gives (λ x. x) encoding_cause (number_at w8) (R.source reader.old) result (R.source reader.new) }
+        ensures later { Later (R.source reader.old) (R.source reader.new) }
         ensures always { GivesAlways (λ x. x) encoding_cause (number_at w8) (R.source reader.old) result (R.source reader.new) }
     {
         let bytes = array_from::<1, R>(reader)?;
@@ -85,6 +88,7 @@ impl Decode for u32 {
 
     fn decode<R: Reader>(_alloc: Global, reader: &mut R) -> Result<u32, encoding::Error>
         ensures gives { Gives (λ x. x) encoding_cause (number_at w32) (R.source reader.old) result (R.source reader.new) }
+        ensures later { Later (R.source reader.old) (R.source reader.new) }
         ensures always { GivesAlways (λ x. x) encoding_cause (number_at w32) (R.source reader.old) result (R.source reader.new) }
     {
         let bytes = array_from::<4, R>(reader)?;
@@ -109,6 +113,7 @@ impl Decode for u64 {
 
     fn decode<R: Reader>(_alloc: Global, reader: &mut R) -> Result<u64, encoding::Error>
         ensures gives { Gives (λ x. x) encoding_cause (number_at w64) (R.source reader.old) result (R.source reader.new) }
+        ensures later { Later (R.source reader.old) (R.source reader.new) }
         ensures always { GivesAlways (λ x. x) encoding_cause (number_at w64) (R.source reader.old) result (R.source reader.new) }
     {
         let bytes = array_from::<8, R>(reader)?;
@@ -134,11 +139,13 @@ impl<const N: usize> Decode for [u8; N] {
 
     fn decode<R: Reader>(_alloc: Global, reader: &mut R) -> Result<[u8; N], encoding::Error>
         ensures gives { Gives (λ b. b) encoding_cause (box_at (whole (bytes_at N))) (R.source reader.old) result (R.source reader.new) }
+        ensures later { Later (R.source reader.old) (R.source reader.new) }
         ensures always { GivesAlways (λ b. b) encoding_cause (box_at (whole (bytes_at N))) (R.source reader.old) result (R.source reader.new) }
     {
         reader.read_prefixed(
             |part: &mut NestedReader<'_, R>| -> encoding::Result<[u8; N]>
-                ensures { GivesAlways (λ x. x) encoding_cause (bytes_at N) (nested_source R.source part.old) result (nested_source R.source part.new) }
+                ensures gives { GivesAlways (λ x. x) encoding_cause (bytes_at N) (nested_source R.source part.old) result (nested_source R.source part.new) }
+                ensures later { Later (nested_source R.source part.old) (nested_source R.source part.new) }
             { array_from(part) },
         )
     }
@@ -155,6 +162,7 @@ pub fn decode_boxed<T: Decode + Drop, R: Reader>(
 ) -> Result<T, T::Error>
     ensures past { LengthPast T.Error.cause (R.source reader.old) result }
     ensures gives { Gives T.means T.Error.cause (box_at (whole T.parse)) (R.source reader.old) result (R.source reader.new) }
+    ensures later { Later (R.source reader.old) (R.source reader.new) }
 {
     reader.read_prefixed(|part| T::decode(alloc, part))
 }
@@ -165,6 +173,7 @@ pub fn decode_boxed<T: Decode + Drop, R: Reader>(
 /// refused only where no front of it spells any value.
 pub fn decode_front<T: Decode, R: Reader>(alloc: Global, reader: &mut R) -> Result<T, T::Error>
     ensures gives { Gives T.means T.Error.cause T.parse (R.source reader.old) result (R.source reader.new) }
+    ensures later { Later (R.source reader.old) (R.source reader.new) }
     ensures accepts { AcceptsFront T.means T.Spells T.Error.cause (R.source reader.old) result (R.source reader.new) }
 {
     T::decode(alloc, reader)

@@ -1,22 +1,23 @@
 //! Names that are read and written as strings.
 
-ghost use Rattle.std.specs.Prelude.{◌≡◌, ◌+◌, ◌^◌, ℕ, List, true, Err};
+ghost use Rattle.std.specs.Prelude.{◌≡◌, ◌<◌, ◌+◌, ◌^◌, ℕ, List, true, Err};
 ghost use Rattle.sshkey_model.specs.Names.{are_ascii};
 ghost use Rattle.sshkey_model.specs.Parts.{Parts, Any, bytes};
-ghost use Rattle.sshkey_model.specs.Reading.{Fault, Whole, Label as label_fault};
+ghost use Rattle.sshkey_model.specs.Reading.{Fault, Whole, Label as label_fault, bytes_at, checked_at};
 ghost use Rattle.sshkey_model.specs.Texts.{string};
 ghost use Rattle.sshkey_model.specs.Grammar.{Spells};
 ghost use Rattle.sshkey_model.proofs.CombinedReaders.{Checks, checked_string_reads};
 ghost use Rattle.sshkey_model.proofs.Grammars.{grammar};
 ghost use Rattle.sshkey_base.specs.Causes.{encoding_cause};
 ghost use Rattle.sshkey_base.specs.Reading.{Gives, LengthPast};
+ghost use Rattle.sshkey_base.specs.Source.{Later, told};
 ghost use Rattle.sshkey_base.specs.Labels.{LooksUp, label_at, label_grammar};
 
 use crate::decode::Decode;
 use crate::encode::{Encode, encode_string, string_len};
 use crate::encoding::{Error, Result};
 use crate::name_bytes::NameBytes;
-use crate::reader::Reader;
+use crate::reader::{Reader, length_from};
 use crate::writer::Writer;
 use std::alloc::Global;
 use std::str;
@@ -57,7 +58,7 @@ pub trait Label: Sized {
 }
 
 /// The string of a name. `Label` for a string that is none of the names.
-#[tactic(auto, using(crate::proofs::Steps::steps), unfolding(crate::specs::Labels::label_at))]
+#[tactic(auto, using(crate::proofs::Steps::steps), unfolding(crate::specs::Labels::label_at, crate::specs::Readers::string_at))]
 impl<T: Label> Decode for T {
     type Error = Error;
 
@@ -71,15 +72,44 @@ impl<T: Label> Decode for T {
 
     ghost grammar = { label_grammar T.checks };
 
+    #[inline(always)]
     fn decode<R: Reader>(alloc: Global, reader: &mut R) -> Result<T>
         ensures gives { Gives T.stands_for encoding_cause (label_at T.named) (R.source reader.old) result (R.source reader.new) }
+        ensures later { Later (R.source reader.old) (R.source reader.new) }
         ensures past { LengthPast encoding_cause (R.source reader.old) result }
     {
-        let name = NameBytes::decode(alloc, reader)?;
-        match str::from_utf8(name.as_slice()) {
-            Ok(text) => T::from_label(alloc, text),
-            Err(_) => Err(Error::Label),
-        }
+        let len = length_from(reader)?;
+        name_from(alloc, len, reader)
+    }
+}
+
+/// The value of the name that the next `len` bytes spell. `Length` where more are asked for than
+/// are announced.
+#[tactic(auto, using(crate::proofs::Steps::steps, crate::proofs::Lending::lending))]
+#[inline(always)]
+fn name_from<T: Label, R: Reader>(alloc: Global, len: usize, reader: &mut R) -> Result<T>
+    ensures gives { Gives T.stands_for encoding_cause (checked_at T.named (bytes_at len)) (R.source reader.old) result (R.source reader.new) }
+    ensures later { Later (R.source reader.old) (R.source reader.new) }
+    ensures past { told (R.source reader.old) < len → result ≡ Err Error.Length }
+{
+    if let Some(name) = reader.ahead(len) {
+        let value = named(alloc, name)?;
+        reader.skip(len);
+        return Ok(value);
+    }
+    let name = NameBytes::take_from(alloc, len, reader)?;
+    named(alloc, name.as_slice())
+}
+
+/// The value of the name that the bytes spell. `Label` exactly where there is none, want of memory
+/// aside.
+#[inline(always)]
+fn named<T: Label>(alloc: Global, name: &[u8]) -> Result<T>
+    ensures { LooksUp T.stands_for T.named name.now result }
+{
+    match str::from_utf8(name) {
+        Ok(text) => T::from_label(alloc, text),
+        Err(_) => Err(Error::Label),
     }
 }
 

@@ -6,6 +6,7 @@ ghost use Rattle.sshkey_model.specs.Texts.{texts, texts_at};
 ghost use Rattle.sshkey_base.specs.Causes.{encoding_cause};
 ghost use Rattle.sshkey_base.specs.Nested.{nested_source};
 ghost use Rattle.sshkey_base.specs.Reading.{Gives, GivesToEnd, LengthPast};
+ghost use Rattle.sshkey_base.specs.Source.{Later};
 ghost use Rattle.sshkey_base.specs.Sink.{Encodes, Measures, MeasuresBoxed};
 ghost use Rattle.sshkey_base.specs.TextLists.{SpellsTexts, texts_of, text_list_at, texts_grammar, texts_normal};
 
@@ -63,8 +64,10 @@ pub fn encode_list<T: Encode, W: Writer>(values: &[T], writer: &mut W) -> Result
 }
 
 /// The texts up to the end of the reader.
+#[tactic(auto, using(crate::proofs::Places::places))]
 fn texts_from<R: Reader>(alloc: Global, reader: &mut R) -> Result<Vec<String>>
-    ensures { GivesToEnd texts_of encoding_cause text_list_at (R.source reader.old) result (R.source reader.new) }
+    ensures gives { GivesToEnd texts_of encoding_cause text_list_at (R.source reader.old) result (R.source reader.new) }
+    ensures later { Later (R.source reader.old) (R.source reader.new) }
 {
     let mut texts = Vec::new(alloc);
     'reads: while !reader.is_finished() {
@@ -94,11 +97,13 @@ impl Decode for Vec<String> {
 
     fn decode<R: Reader>(alloc: Global, reader: &mut R) -> Result<Vec<String>>
         ensures gives { Gives texts_of encoding_cause texts_at (R.source reader.old) result (R.source reader.new) }
+        ensures later { Later (R.source reader.old) (R.source reader.new) }
         ensures past { LengthPast encoding_cause (R.source reader.old) result }
     {
         reader.read_prefixed(
             |part: &mut NestedReader<'_, R>| -> Result<Vec<String>>
-                ensures { GivesToEnd texts_of encoding_cause text_list_at (nested_source R.source part.old) result (nested_source R.source part.new) }
+                ensures gives { GivesToEnd texts_of encoding_cause text_list_at (nested_source R.source part.old) result (nested_source R.source part.new) }
+                ensures later { Later (nested_source R.source part.old) (nested_source R.source part.new) }
             { texts_from(alloc, part) },
         )
     }

@@ -1,13 +1,14 @@
 //! The bytes of names.
 
-ghost use Rattle.std.specs.Prelude.{◌≡◌, ◌≤◌};
-ghost use Rattle.sshkey_model.specs.Reading.{string_at};
+ghost use Rattle.std.specs.Prelude.{◌≡◌, ◌<◌, ◌≤◌, Err};
+ghost use Rattle.sshkey_model.specs.Reading.{bytes_at, string_at};
 ghost use Rattle.sshkey_base.specs.Causes.{encoding_cause};
 ghost use Rattle.sshkey_base.specs.NameBytes.{name_bytes_of};
 ghost use Rattle.sshkey_base.specs.Reading.{Gives, LengthPast};
+ghost use Rattle.sshkey_base.specs.Source.{Later, told};
 
 use crate::bytes::{Bytes, bytes_from};
-use crate::encoding::Result;
+use crate::encoding::{Error, Result};
 use crate::reader::{Reader, length_from};
 use crate::short_bytes::ShortBytes;
 use std::alloc::Global;
@@ -24,9 +25,23 @@ impl NameBytes {
     #[tactic(auto, using(crate::proofs::Steps::steps), unfolding(crate::specs::Readers::string_at))]
     pub(crate) fn decode<R: Reader>(alloc: Global, reader: &mut R) -> Result<NameBytes>
         ensures gives { Gives name_bytes_of encoding_cause string_at (R.source reader.old) result (R.source reader.new) }
+        ensures later { Later (R.source reader.old) (R.source reader.new) }
         ensures past { LengthPast encoding_cause (R.source reader.old) result }
     {
         let len = length_from(reader)?;
+        NameBytes::take_from(alloc, len, reader)
+    }
+
+    /// The next `len` bytes. `Length` where more are asked for than are announced.
+    pub(crate) fn take_from<R: Reader>(
+        alloc: Global,
+        len: usize,
+        reader: &mut R,
+    ) -> Result<NameBytes>
+        ensures gives { Gives name_bytes_of encoding_cause (bytes_at len) (R.source reader.old) result (R.source reader.new) }
+        ensures later { Later (R.source reader.old) (R.source reader.new) }
+        ensures past { told (R.source reader.old) < len → result ≡ Err Error.Length }
+    {
         if len <= 73 {
             Ok(NameBytes::Short(ShortBytes::take_from(len, reader)?))
         } else {

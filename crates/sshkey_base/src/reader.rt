@@ -1,12 +1,12 @@
 //! Readers of the wire encoding.
 
-ghost use Rattle.std.specs.Prelude.{◌≡◌, ◌↔◌, IsTrue, Ok, Err, [], cond, eqb};
+ghost use Rattle.std.specs.Prelude.{◌≡◌, ◌≤◌, ◌↔◌, IfSome, IsTrue, Ok, Err, cond, eqb, length};
 ghost use Rattle.std.specs.Int.{w32};
 ghost use Rattle.sshkey_model.specs.Reading.{bytes_at, number_at};
 ghost use Rattle.sshkey_base.specs.Causes.{encoding_cause};
-ghost use Rattle.sshkey_base.specs.Nested.{Prefixed, PastIs, nested_source};
-ghost use Rattle.sshkey_base.specs.Reading.{GivesAlways};
-ghost use Rattle.sshkey_base.specs.Source.{Source, Takes, told};
+ghost use Rattle.sshkey_base.specs.Nested.{PassesBy, Prefixed, PastIs, nested_source};
+ghost use Rattle.sshkey_base.specs.Reading.{GivesAlways, Reads};
+ghost use Rattle.sshkey_base.specs.Source.{Source, Later, Takes, all_of, behind, told};
 
 use crate::encoding::{Error, Result};
 
@@ -21,9 +21,36 @@ pub trait Reader: Sized {
     /// Fills the buffer with the next bytes, as many as it has room for.
     ///
     /// Where fewer are left, the answer is `Length` from a sound source, and from another one a
-    /// fault of its own; then the buffer and the place in the source are open.
+    /// fault of its own; then the buffer is open, and of what was left some bytes may be passed.
     fn read(&mut self, buffer: &mut [u8]) -> Result<()>
-        ensures { Takes (source self.old) buffer.new result (source self.new) };
+        ensures takes { Takes (source self.old) buffer.new result (source self.new) }
+        ensures later { Later (source self.old) (source self.new) };
+
+    /// The next `len` bytes where they lie in memory. `None` where fewer are left, and always from
+    /// a reader that does not hold its bytes.
+    fn ahead(&self, len: usize) -> Option<&[u8]>
+        ensures lent { IfSome result (λ bytes. Reads (λ x. x) (bytes_at len) (source self.now) bytes.now (behind len (source self.now))) }
+        ensures within { IfSome result (λ _. len ≤ length (source self.now).left) }
+    {
+        let _ = len;
+        None
+    }
+
+    /// Passes the next `len` bytes, which have to be there.
+    fn skip(&mut self, len: usize)
+        requires { len ≤ length (source self.old).left }
+        ensures { source self.new ≡ behind len (source self.old) }
+    {
+        let mut rest = len;
+        'passes: while rest > 0 {
+            let count = rest.min(64);
+            let mut buffer = [0u8; 64];
+            match self.read(&mut buffer[..count]) {
+                Ok(()) => rest -= count,
+                Err(_) => unreachable!(),
+            }
+        }
+    }
 
     /// How many bytes are left. A source with a fault announces more than it has, and the number
     /// falls by what is read.
@@ -56,8 +83,8 @@ pub trait Reader: Sized {
     /// (RFC 4251, section 5).
     ///
     /// `Length` where the length passes `remaining_len`, `TrailingData` with the number of bytes
-    /// that `f` leaves, and otherwise what `f` answers. After a refusal the place in the source is
-    /// open.
+    /// that `f` leaves, and otherwise what `f` answers. After a refusal some of the
+    /// bytes that were left may be passed, if `f` does no more than that with its part.
     final fn read_prefixed<T, E, F>(&mut self, f: F) -> std::result::Result<T, E>
     where
         T: Drop,
@@ -66,6 +93,7 @@ pub trait Reader: Sized {
         requires { F.IsAlwaysCallable f }
         ensures past { PastIs E.from_gives (source self.old) result }
         ensures calls { Prefixed F.FnOnce ⟦<NestedReader<'static, Self> as Reader>⟧.source E.from_gives f (source self.old) result (source self.new) }
+        ensures later { PassesBy F.FnOnce ⟦<NestedReader<'static, Self> as Reader>⟧.source f → Later (source self.old) (source self.new) }
     {
         let len = length_from(self)?;
         if self.remaining_len() < len {
@@ -88,8 +116,9 @@ pub trait Reader: Sized {
 
 /// All the bytes of a slice; what was read is cut off its front.
 impl Reader for &[u8] {
-    ghost source = { λ s. record { left = s.now; missing = 0; outer = [] } };
+    ghost source = { λ s. all_of s.now };
 
+    #[inline(always)]
     fn read(&mut self, buffer: &mut [u8]) -> Result<()> {
         let bytes = *self;
         if bytes.len() < buffer.len() {
@@ -101,9 +130,33 @@ impl Reader for &[u8] {
         Ok(())
     }
 
+    #[inline(always)]
+    fn ahead(&self, len: usize) -> Option<&[u8]> {
+        first(*self, len)
+    }
+
+    #[inline(always)]
+    fn skip(&mut self, len: usize) {
+        let bytes = *self;
+        *self = &bytes[len..];
+    }
+
+    #[inline(always)]
     fn remaining_len(&self) -> usize {
         self.len()
     }
+}
+
+/// The first `len` bytes, if there are so many.
+#[inline(always)]
+fn first(bytes: &[u8], len: usize) -> Option<&[u8]>
+    ensures lent { IfSome result (λ front. Reads (λ x. x) (bytes_at len) (all_of bytes.now) front.now (behind len (all_of bytes.now))) }
+    ensures within { IfSome result (λ _. len ≤ length bytes.now) }
+{
+    if bytes.len() < len {
+        return None;
+    }
+    Some(&bytes[..len])
 }
 
 /// The next bytes of a reader, as many as a length before them says.
@@ -118,15 +171,32 @@ pub struct NestedReader<'r, R> {
 impl<R: Reader> Reader for NestedReader<'_, R> {
     ghost source = { nested_source R.source };
 
+    #[inline(always)]
     fn read(&mut self, buffer: &mut [u8]) -> Result<()> {
         if self.remaining < buffer.len() {
             return Err(Error::Length);
         }
-        self.inner.read(buffer)?;
-        self.remaining -= buffer.len();
-        Ok(())
+        let before = self.inner.remaining_len();
+        let result = self.inner.read(buffer);
+        self.remaining -= before - self.inner.remaining_len();
+        result
     }
 
+    #[inline(always)]
+    fn ahead(&self, len: usize) -> Option<&[u8]> {
+        if self.remaining < len {
+            return None;
+        }
+        self.inner.ahead(len)
+    }
+
+    #[inline(always)]
+    fn skip(&mut self, len: usize) {
+        self.inner.skip(len);
+        self.remaining -= len;
+    }
+
+    #[inline(always)]
     fn remaining_len(&self) -> usize {
         self.remaining
     }
@@ -136,8 +206,10 @@ impl<R: Reader> Reader for NestedReader<'_, R> {
 ///
 /// Where fewer are left, the answer is `Length` from a sound source, and from another one a fault
 /// of its own.
+#[inline(always)]
 pub fn array_from<const N: usize, R: Reader>(reader: &mut R) -> Result<[u8; N]>
-    ensures { GivesAlways (λ x. x) encoding_cause (bytes_at N) (R.source reader.old) result (R.source reader.new) }
+    ensures gives { GivesAlways (λ x. x) encoding_cause (bytes_at N) (R.source reader.old) result (R.source reader.new) }
+    ensures later { Later (R.source reader.old) (R.source reader.new) }
 {
     let mut bytes = [0u8; N];
     reader.read(&mut bytes)?;
@@ -149,8 +221,10 @@ pub fn array_from<const N: usize, R: Reader>(reader: &mut R) -> Result<[u8; N]>
 /// Where fewer are left, the answer is `Length` from a sound source, and from another one a fault
 /// of its own.
 #[tactic(auto, using(crate::proofs::Steps::steps), unfolding(crate::specs::Readers::number_at))]
+#[inline(always)]
 pub fn length_from<R: Reader>(reader: &mut R) -> Result<usize>
-    ensures { GivesAlways (λ x. x) encoding_cause (number_at w32) (R.source reader.old) result (R.source reader.new) }
+    ensures gives { GivesAlways (λ x. x) encoding_cause (number_at w32) (R.source reader.old) result (R.source reader.new) }
+    ensures later { Later (R.source reader.old) (R.source reader.new) }
 {
     let bytes = array_from::<4, R>(reader)?;
     Ok(u32::from_be_bytes(bytes) as usize)

@@ -1,11 +1,11 @@
 //! Byte strings that are short.
 
-ghost use Rattle.std.specs.Prelude.{◌≡◌, ◌<◌, ◌≤◌, ℕ, List, Err};
+ghost use Rattle.std.specs.Prelude.{◌≡◌, ◌<◌, ◌≤◌, ℕ, List, Err, IfSome, length};
 ghost use Rattle.sshkey_model.specs.Reading.{bytes_at, checked_at};
 ghost use Rattle.sshkey_base.specs.Causes.{encoding_cause};
-ghost use Rattle.sshkey_base.specs.Reading.{Gives, GivesAlways, LengthPast};
+ghost use Rattle.sshkey_base.specs.Reading.{Gives, GivesAlways, LengthPast, Reads};
 ghost use Rattle.sshkey_base.specs.ShortStrings.{SpellsShort, at_most, short_at, short_grammar};
-ghost use Rattle.sshkey_base.specs.Source.{told};
+ghost use Rattle.sshkey_base.specs.Source.{Later, behind, told};
 
 use crate::decode::Decode;
 use crate::encoding::{Error, Result};
@@ -31,9 +31,21 @@ impl<const MAX: usize> ShortBytes<MAX> {
         &self.bytes[..self.len]
     }
 
+    /// The next `len` bytes where they lie in memory, if they are not more than `MAX`.
+    pub fn ahead<R: Reader>(len: usize, reader: &R) -> Option<&[u8]>
+        ensures lent { IfSome result (λ bytes. Reads (λ x. x) (checked_at (at_most MAX) (bytes_at len)) (R.source reader.now) bytes.now (behind len (R.source reader.now))) }
+        ensures within { IfSome result (λ _. len ≤ length (R.source reader.now).left) }
+    {
+        if len > MAX {
+            return None;
+        }
+        reader.ahead(len)
+    }
+
     /// The next `len` bytes. `Length` where there are more than `MAX`, or more than are announced.
-    pub(crate) fn take_from<R: Reader>(len: usize, reader: &mut R) -> Result<ShortBytes<MAX>>
+    pub fn take_from<R: Reader>(len: usize, reader: &mut R) -> Result<ShortBytes<MAX>>
         ensures gives { GivesAlways short_of encoding_cause (checked_at (at_most MAX) (bytes_at len)) (R.source reader.old) result (R.source reader.new) }
+        ensures later { Later (R.source reader.old) (R.source reader.new) }
         ensures plain { len ≤ MAX → GivesAlways short_of encoding_cause (bytes_at len) (R.source reader.old) result (R.source reader.new) }
         ensures past { told (R.source reader.old) < len → result ≡ Err Error.Length }
     {
@@ -67,6 +79,7 @@ impl<const MAX: usize> Decode for ShortBytes<MAX> {
 
     fn decode<R: Reader>(_alloc: Global, reader: &mut R) -> Result<ShortBytes<MAX>>
         ensures gives { Gives short_of encoding_cause (short_at MAX) (R.source reader.old) result (R.source reader.new) }
+        ensures later { Later (R.source reader.old) (R.source reader.new) }
         ensures always { GivesAlways short_of encoding_cause (short_at MAX) (R.source reader.old) result (R.source reader.new) }
         ensures past { LengthPast encoding_cause (R.source reader.old) result }
     {

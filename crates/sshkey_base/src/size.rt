@@ -1,12 +1,14 @@
 //! Counts, which the machine holds in a `usize` and the wire in four bytes.
 
-ghost use Rattle.std.specs.Prelude.{ℕ};
+ghost use Rattle.std.specs.Prelude.{◌≡◌, ◌≤◌, ◌^◌, ℕ, Err};
 ghost use Rattle.std.specs.Int.{w32};
 ghost use Rattle.sshkey_model.specs.Reading.{number_at};
 ghost use Rattle.sshkey_base.specs.Causes.{encoding_cause};
 ghost use Rattle.sshkey_base.specs.Counts.{count_normal};
 ghost use Rattle.sshkey_base.specs.Leaves.{SpellsNumber32, number32_grammar, count};
 ghost use Rattle.sshkey_base.specs.Reading.{Gives, GivesAlways};
+ghost use Rattle.sshkey_base.specs.Sink.{Encodes};
+ghost use Rattle.sshkey_base.specs.Source.{Later};
 
 use crate::decode::Decode;
 use crate::encode::{Encode, u32_of};
@@ -33,6 +35,7 @@ impl Decode for usize {
 
     fn decode<R: Reader>(_alloc: Global, reader: &mut R) -> Result<usize>
         ensures gives { Gives (λ x. x) encoding_cause (number_at w32) (R.source reader.old) result (R.source reader.new) }
+        ensures later { Later (R.source reader.old) (R.source reader.new) }
         ensures always { GivesAlways (λ x. x) encoding_cause (number_at w32) (R.source reader.old) result (R.source reader.new) }
     {
         length_from(reader)
@@ -51,7 +54,10 @@ impl Encode for usize {
         u32_of(*self)?.encoded_len()
     }
 
-    fn encode<W: Writer>(&self, writer: &mut W) -> Result<()> {
+    fn encode<W: Writer>(&self, writer: &mut W) -> Result<()>
+        ensures encodes { Encodes W.fault (count self.now) (W.sink writer.old) result (W.sink writer.new) }
+        ensures unwritten { 2 ^ 32 ≤ self.now → (result ≡ Err Error.Length) × (W.sink writer.new ≡ W.sink writer.old) }
+    {
         u32_of(*self)?.encode(writer)
     }
 }

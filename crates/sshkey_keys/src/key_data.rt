@@ -8,6 +8,7 @@ ghost use Rattle.sshkey_base.specs.Kinds.{IsFixed};
 ghost use Rattle.sshkey_base.specs.Names.{algorithm_of, curve_of, hash_of};
 ghost use Rattle.sshkey_model.specs.Names.{algorithm_name, Dsa, Ecdsa, Ed25519, Rsa, SkEcdsa, SkEd25519 as AlgorithmSkEd25519, Other};
 ghost use Rattle.sshkey_base.specs.Reading.{Gives};
+ghost use Rattle.sshkey_base.specs.Source.{Later};
 ghost use Rattle.sshkey_base.specs.Sink.{Encodes, Measures};
 ghost use Rattle.sshkey_keys.specs.Fingerprints.{GivesFingerprint};
 ghost use Rattle.sshkey_keys.specs.Keys.{key_of, algorithm_beside, SpellsKey, key_data_at};
@@ -128,7 +129,8 @@ impl KeyData {
         reader: &mut R,
         algorithm: Algorithm,
     ) -> Result<KeyData>
-        ensures { Gives key_of cause (body_at (algorithm_of algorithm)) (R.source reader.old) result (R.source reader.new) }
+        ensures gives { Gives key_of cause (body_at (algorithm_of algorithm)) (R.source reader.old) result (R.source reader.new) }
+        ensures later { Later (R.source reader.old) (R.source reader.new) }
     {
         match algorithm {
             Algorithm::Dsa => dsa_from(alloc, reader),
@@ -192,7 +194,8 @@ fn ecdsa_name(curve: EcdsaCurve) -> &'static str
 /// The body of a DSA key.
 #[tactic(auto, using(sshkey_base::proofs::Steps::steps))]
 fn dsa_from<R: Reader>(alloc: Global, reader: &mut R) -> Result<KeyData>
-    ensures { Gives key_of cause (body_at Dsa) (R.source reader.old) result (R.source reader.new) }
+    ensures gives { Gives key_of cause (body_at Dsa) (R.source reader.old) result (R.source reader.new) }
+    ensures later { Later (R.source reader.old) (R.source reader.new) }
 {
     let key = DsaPublicKey::decode(alloc, reader)?;
     Ok(KeyData::Dsa(key))
@@ -201,7 +204,8 @@ fn dsa_from<R: Reader>(alloc: Global, reader: &mut R) -> Result<KeyData>
 /// The body of an ECDSA key of that curve. `AlgorithmUnknown` for another curve.
 #[tactic(auto, using(sshkey_base::proofs::Steps::steps), unfolding(crate::specs::KeyReaders::ecdsa_at))]
 fn ecdsa_from<R: Reader>(alloc: Global, reader: &mut R, curve: EcdsaCurve) -> Result<KeyData>
-    ensures { Gives key_of cause (body_at (Ecdsa (curve_of curve))) (R.source reader.old) result (R.source reader.new) }
+    ensures gives { Gives key_of cause (body_at (Ecdsa (curve_of curve))) (R.source reader.old) result (R.source reader.new) }
+    ensures later { Later (R.source reader.old) (R.source reader.new) }
 {
     let key = EcdsaPublicKey::decode(alloc, reader)?;
     if !key.is_on(curve) {
@@ -213,7 +217,8 @@ fn ecdsa_from<R: Reader>(alloc: Global, reader: &mut R, curve: EcdsaCurve) -> Re
 /// The body of an Ed25519 key.
 #[tactic(auto, using(sshkey_base::proofs::Steps::steps), unfolding(crate::specs::KeyReaders::ed25519_body_at))]
 fn ed25519_from<R: Reader>(alloc: Global, reader: &mut R) -> Result<KeyData>
-    ensures { Gives key_of cause (body_at Ed25519) (R.source reader.old) result (R.source reader.new) }
+    ensures gives { Gives key_of cause (body_at Ed25519) (R.source reader.old) result (R.source reader.new) }
+    ensures later { Later (R.source reader.old) (R.source reader.new) }
 {
     let key = Ed25519PublicKey::decode(alloc, reader)?;
     Ok(KeyData::Ed25519(key))
@@ -222,7 +227,8 @@ fn ed25519_from<R: Reader>(alloc: Global, reader: &mut R) -> Result<KeyData>
 /// The body of an RSA key.
 #[tactic(auto, using(sshkey_base::proofs::Steps::steps))]
 fn rsa_from<R: Reader>(alloc: Global, reader: &mut R) -> Result<KeyData>
-    ensures { Gives key_of cause (body_at (Rsa None)) (R.source reader.old) result (R.source reader.new) }
+    ensures gives { Gives key_of cause (body_at (Rsa None)) (R.source reader.old) result (R.source reader.new) }
+    ensures later { Later (R.source reader.old) (R.source reader.new) }
 {
     let key = RsaPublicKey::decode(alloc, reader)?;
     Ok(KeyData::Rsa(key))
@@ -231,7 +237,8 @@ fn rsa_from<R: Reader>(alloc: Global, reader: &mut R) -> Result<KeyData>
 /// The body of a P-256 key that a security key holds.
 #[tactic(auto, using(sshkey_base::proofs::Steps::steps))]
 fn sk_ecdsa_from<R: Reader>(alloc: Global, reader: &mut R) -> Result<KeyData>
-    ensures { Gives key_of cause (body_at SkEcdsa) (R.source reader.old) result (R.source reader.new) }
+    ensures gives { Gives key_of cause (body_at SkEcdsa) (R.source reader.old) result (R.source reader.new) }
+    ensures later { Later (R.source reader.old) (R.source reader.new) }
 {
     let key = SkEcdsaSha2NistP256::decode(alloc, reader)?;
     Ok(KeyData::SkEcdsaSha2NistP256(key))
@@ -240,7 +247,8 @@ fn sk_ecdsa_from<R: Reader>(alloc: Global, reader: &mut R) -> Result<KeyData>
 /// The body of an Ed25519 key that a security key holds.
 #[tactic(auto, using(sshkey_base::proofs::Steps::steps))]
 fn sk_ed25519_from<R: Reader>(alloc: Global, reader: &mut R) -> Result<KeyData>
-    ensures { Gives key_of cause (body_at AlgorithmSkEd25519) (R.source reader.old) result (R.source reader.new) }
+    ensures gives { Gives key_of cause (body_at AlgorithmSkEd25519) (R.source reader.old) result (R.source reader.new) }
+    ensures later { Later (R.source reader.old) (R.source reader.new) }
 {
     let key = SkEd25519::decode(alloc, reader)?;
     Ok(KeyData::SkEd25519(key))
@@ -249,7 +257,8 @@ fn sk_ed25519_from<R: Reader>(alloc: Global, reader: &mut R) -> Result<KeyData>
 /// The body of a key under a name of somebody's own.
 #[tactic(auto, using(sshkey_base::proofs::Steps::steps))]
 fn opaque_from<R: Reader>(alloc: Global, reader: &mut R, algorithm: Algorithm) -> Result<KeyData>
-    ensures { Gives key_of cause (body_at (Other (algorithm_name (algorithm_of algorithm)))) (R.source reader.old) result (R.source reader.new) }
+    ensures gives { Gives key_of cause (body_at (Other (algorithm_name (algorithm_of algorithm)))) (R.source reader.old) result (R.source reader.new) }
+    ensures later { Later (R.source reader.old) (R.source reader.new) }
 {
     let key = OpaquePublicKeyBytes::decode(alloc, reader)?;
     Ok(KeyData::Other(OpaquePublicKey { algorithm, key }))

@@ -6,8 +6,9 @@ ghost use Rattle.hex.specs.Hex.{encode_lower, encode_upper};
 ghost use Rattle.sshkey_base.specs.Answering.{AnswersAlways};
 ghost use Rattle.sshkey_base.specs.Causes.{cause};
 ghost use Rattle.sshkey_base.specs.Reading.{Gives};
+ghost use Rattle.sshkey_base.specs.Source.{Later};
 ghost use Rattle.sshkey_model.specs.Points.{point_from};
-ghost use Rattle.sshkey_model.specs.Reading.{checked_at, string_at};
+ghost use Rattle.sshkey_model.specs.Reading.{bytes_at, checked_at, string_at};
 ghost use Rattle.sshkey_kinds.specs.EcdsaWords.{ecdsa_of};
 ghost use Rattle.sshkey_kinds.specs.PointSizes.{known_size, size_from};
 
@@ -16,7 +17,7 @@ use crate::ec_point::{
 };
 use sshkey_base::{
     Algorithm, Decode, EcdsaCurve, Encode, Error, Reader, Result, ShortBytes, Writer,
-    encode_string, encoding, string_len, write_lower_hex, write_upper_hex,
+    encode_string, encoding, length_from, string_len, write_lower_hex, write_upper_hex,
 };
 use std::alloc::Global;
 use std::convert::AsSlice;
@@ -130,7 +131,7 @@ impl Decode for EcdsaPublicKey {
 
     fn decode<R: Reader>(alloc: Global, reader: &mut R) -> Result<EcdsaPublicKey> {
         let stated = EcdsaCurve::decode(alloc, reader)?;
-        let key = decode_point(alloc, reader)?;
+        let key = decode_point(reader)?;
         if !key.is_on(stated) {
             return Err(Error::AlgorithmUnknown);
         }
@@ -140,10 +141,26 @@ impl Decode for EcdsaPublicKey {
 
 /// A point string of any of the curves, none of which is longer than 133 bytes.
 #[tactic(auto, using(sshkey_base::proofs::Steps::steps))]
-fn decode_point<R: Reader>(alloc: Global, reader: &mut R) -> Result<EcdsaPublicKey>
-    ensures { Gives ecdsa_of cause (checked_at point_from string_at) (R.source reader.old) result (R.source reader.new) }
+fn decode_point<R: Reader>(reader: &mut R) -> Result<EcdsaPublicKey>
+    ensures gives { Gives ecdsa_of cause (checked_at point_from string_at) (R.source reader.old) result (R.source reader.new) }
+    ensures later { Later (R.source reader.old) (R.source reader.new) }
 {
-    let bytes = ShortBytes::<133>::decode(alloc, reader)?;
+    let len = length_from(reader)?;
+    point_from(len, reader)
+}
+
+/// The point that the next `len` bytes spell.
+#[tactic(auto, using(sshkey_base::proofs::Lending::lending, sshkey_base::proofs::Places::places))]
+fn point_from<R: Reader>(len: usize, reader: &mut R) -> Result<EcdsaPublicKey>
+    ensures gives { Gives ecdsa_of cause (checked_at point_from (bytes_at len)) (R.source reader.old) result (R.source reader.new) }
+    ensures later { Later (R.source reader.old) (R.source reader.new) }
+{
+    if let Some(bytes) = ShortBytes::<133>::ahead(len, reader) {
+        let key = EcdsaPublicKey::from_sec1_bytes(bytes)?;
+        reader.skip(len);
+        return Ok(key);
+    }
+    let bytes = ShortBytes::<133>::take_from(len, reader)?;
     EcdsaPublicKey::from_sec1_bytes(bytes.as_slice())
 }
 

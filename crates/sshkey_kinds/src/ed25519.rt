@@ -6,6 +6,7 @@ ghost use Rattle.hex.specs.Hex.{encode_lower, encode_upper};
 ghost use Rattle.sshkey_base.specs.Answering.{AnswersAlways};
 ghost use Rattle.sshkey_base.specs.Causes.{cause, encoding_cause};
 ghost use Rattle.sshkey_base.specs.Reading.{Gives, GivesAlways};
+ghost use Rattle.sshkey_base.specs.Source.{Later};
 ghost use Rattle.sshkey_model.specs.Keys.{Key, body};
 ghost use Rattle.sshkey_kinds.specs.Bodies.{SpellsEd25519, ed25519_body_at, ed25519_body_grammar};
 ghost use Rattle.sshkey_kinds.specs.Ed25519Bytes.{ed25519_from};
@@ -46,6 +47,7 @@ impl Decode for Ed25519PublicKey {
 
     fn decode<R: Reader>(alloc: Global, reader: &mut R) -> encoding::Result<Ed25519PublicKey>
         ensures gives { Gives ed25519_of encoding_cause ed25519_body_at (R.source reader.old) result (R.source reader.new) }
+        ensures later { Later (R.source reader.old) (R.source reader.new) }
         ensures always { GivesAlways ed25519_of encoding_cause ed25519_body_at (R.source reader.old) result (R.source reader.new) }
     {
         Ok(Ed25519PublicKey(<[u8; 32]>::decode(alloc, reader)?))

@@ -3,10 +3,11 @@
 ghost use Rattle.std.specs.Prelude.{◌≡◌, ℕ, ◌+◌, ◌*◌, ◌^◌, codes, string_bytes, IfOk, IfErr};
 ghost use Rattle.sshkey_base.specs.Causes.{cause};
 ghost use Rattle.sshkey_base.specs.Reading.{Gives};
+ghost use Rattle.sshkey_base.specs.Source.{Later};
 ghost use Rattle.sshkey_base.specs.declared.error.Error.TheVariants as wide;
 ghost use Rattle.sshkey_model.specs.Keys.{Key, SkEcdsa, SkEd25519 as SkEd25519Key, body, p256_only};
 ghost use Rattle.sshkey_model.specs.Points.{p256_point_from};
-ghost use Rattle.sshkey_model.specs.Reading.{checked_at, string_at};
+ghost use Rattle.sshkey_model.specs.Reading.{bytes_at, checked_at, string_at};
 ghost use Rattle.sshkey_kinds.specs.Bodies.{SpellsSkEcdsa, sk_ecdsa_at, sk_ecdsa_grammar, SpellsSkEd25519, sk_ed25519_at, sk_ed25519_grammar};
 ghost use Rattle.sshkey_kinds.specs.PointWords.{point_of};
 
@@ -14,6 +15,7 @@ use crate::ec_point::{EcPoint, EcdsaNistP256PublicKey};
 use crate::ed25519::Ed25519PublicKey;
 use sshkey_base::{
     Decode, EcdsaCurve, Encode, Error, Reader, Result, ShortBytes, Text, Writer, encoding,
+    length_from,
 };
 use std::alloc::Global;
 
@@ -113,7 +115,7 @@ impl Decode for SkEcdsaSha2NistP256 {
         if !matches!(stated, EcdsaCurve::NistP256) {
             return Err(Error::Crypto);
         }
-        let ec_point = decode_point(alloc, reader)?;
+        let ec_point = decode_point(reader)?;
         let application = Text::decode(alloc, reader)?;
         Ok(SkEcdsaSha2NistP256 {
             ec_point,
@@ -124,10 +126,26 @@ impl Decode for SkEcdsaSha2NistP256 {
 
 /// A point string of P-256, none of which is longer than 65 bytes.
 #[tactic(auto, using(sshkey_base::proofs::Steps::steps))]
-fn decode_point<R: Reader>(alloc: Global, reader: &mut R) -> Result<EcdsaNistP256PublicKey>
-    ensures { Gives point_of cause (checked_at p256_point_from string_at) (R.source reader.old) result (R.source reader.new) }
+fn decode_point<R: Reader>(reader: &mut R) -> Result<EcdsaNistP256PublicKey>
+    ensures gives { Gives point_of cause (checked_at p256_point_from string_at) (R.source reader.old) result (R.source reader.new) }
+    ensures later { Later (R.source reader.old) (R.source reader.new) }
 {
-    let bytes = ShortBytes::<65>::decode(alloc, reader)?;
+    let len = length_from(reader)?;
+    point_from(len, reader)
+}
+
+/// The point that the next `len` bytes spell.
+#[tactic(auto, using(sshkey_base::proofs::Lending::lending, sshkey_base::proofs::Places::places))]
+fn point_from<R: Reader>(len: usize, reader: &mut R) -> Result<EcdsaNistP256PublicKey>
+    ensures gives { Gives point_of cause (checked_at p256_point_from (bytes_at len)) (R.source reader.old) result (R.source reader.new) }
+    ensures later { Later (R.source reader.old) (R.source reader.new) }
+{
+    if let Some(bytes) = ShortBytes::<65>::ahead(len, reader) {
+        let point = EcPoint::from_bytes(bytes)?;
+        reader.skip(len);
+        return Ok(point);
+    }
+    let bytes = ShortBytes::<65>::take_from(len, reader)?;
     EcPoint::from_bytes(bytes.as_slice())
 }
 

@@ -12,6 +12,7 @@ ghost use Rattle.sshkey_base.specs.Kinds.{IsFixed};
 ghost use Rattle.sshkey_base.specs.Names.{algorithm_of};
 ghost use Rattle.sshkey_base.specs.Naming.{Names};
 ghost use Rattle.sshkey_base.specs.Reading.{Gives, LengthPast};
+ghost use Rattle.sshkey_base.specs.Source.{Later};
 ghost use Rattle.sshkey_base.specs.Sink.{Encodes};
 
 use super::{Algorithm, AlgorithmName, EcdsaCurve, ecdsa};
@@ -77,10 +78,11 @@ impl Algorithm {
     /// Reads the string of a name in a certificate from the front, and leaves what follows it.
     ///
     /// `Length` where the string is not there whole, and no memory is asked for it then; `Label`
-    /// where it is no such name. After a refusal the place in the source is open.
+    /// where it is no such name. After a refusal some of the bytes may be passed.
     pub fn decode_certificate<R: Reader>(alloc: Global, reader: &mut R) -> Result<Algorithm>
         ensures past { LengthPast cause (R.source reader.old) result }
         ensures gives { Gives algorithm_of cause certificate_algorithm_at (R.source reader.old) result (R.source reader.new) }
+        ensures later { Later (R.source reader.old) (R.source reader.new) }
         ensures accepts { AcceptsFront algorithm_of (Spells IsCertified certificate_algorithm) cause (R.source reader.old) result (R.source reader.new) }
     {
         read_certificate_type(alloc, reader)
@@ -127,6 +129,7 @@ impl Algorithm {
 fn read_certificate_type<R: Reader>(alloc: Global, reader: &mut R) -> Result<Algorithm>
     ensures past { LengthPast cause (R.source reader.old) result }
     ensures gives { Gives algorithm_of cause certificate_algorithm_at (R.source reader.old) result (R.source reader.new) }
+    ensures later { Later (R.source reader.old) (R.source reader.new) }
 {
     let name = NameBytes::decode(alloc, reader)?;
     match str::from_utf8(name.as_slice()) {

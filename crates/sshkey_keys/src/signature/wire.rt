@@ -6,6 +6,7 @@ ghost use Rattle.sshkey_base.specs.Answering.{AnswersAlways};
 ghost use Rattle.sshkey_base.specs.Causes.{cause};
 ghost use Rattle.sshkey_base.specs.Names.{algorithm_of};
 ghost use Rattle.sshkey_base.specs.Reading.{Gives, GivesWhole};
+ghost use Rattle.sshkey_base.specs.Source.{Later};
 ghost use Rattle.sshkey_base.specs.Sink.{Encodes, Measures};
 ghost use Rattle.sshkey_base.specs.declared.error.Error.TheVariants as wide;
 ghost use Rattle.sshkey_model.specs.Reading.{checked_at, string_at, whole};
@@ -86,6 +87,7 @@ impl Decode for Signature {
 /// What stands behind the name of that algorithm.
 fn decode_blob<R: Reader>(alloc: Global, reader: &mut R, algorithm: &Algorithm) -> Result<Bytes>
     ensures gives { Gives (λ b. b) cause (signature_blob_at (algorithm_of algorithm.now)) (R.source reader.old) result (R.source reader.new) }
+    ensures later { Later (R.source reader.old) (R.source reader.new) }
     ensures form { IfOk result (IsSignatureBlob (algorithm_of algorithm.now)) }
 {
     if has_trailer(algorithm) {
@@ -98,7 +100,8 @@ fn decode_blob<R: Reader>(alloc: Global, reader: &mut R, algorithm: &Algorithm) 
 /// A string of bytes that are well-formed.
 #[tactic(auto, using(sshkey_base::proofs::Steps::steps))]
 fn decode_string<R: Reader>(alloc: Global, reader: &mut R, algorithm: &Algorithm) -> Result<Bytes>
-    ensures { Gives (λ b. b) cause (checked_at (string_from (algorithm_of algorithm.now)) string_at) (R.source reader.old) result (R.source reader.new) }
+    ensures gives { Gives (λ b. b) cause (checked_at (string_from (algorithm_of algorithm.now)) string_at) (R.source reader.old) result (R.source reader.new) }
+    ensures later { Later (R.source reader.old) (R.source reader.new) }
 {
     let bytes = Bytes::decode(alloc, reader)?;
     checked(algorithm, bytes)
@@ -115,7 +118,8 @@ fn checked(algorithm: &Algorithm, bytes: Bytes) -> Result<Bytes>
 /// A string of bytes that are well-formed, and the five bytes behind it.
 #[tactic(auto, using(sshkey_base::proofs::Steps::steps))]
 fn decode_trailed<R: Reader>(alloc: Global, reader: &mut R, algorithm: &Algorithm) -> Result<Bytes>
-    ensures { Gives (λ b. b) cause (trailed_at (string_from (algorithm_of algorithm.now))) (R.source reader.old) result (R.source reader.new) }
+    ensures gives { Gives (λ b. b) cause (trailed_at (string_from (algorithm_of algorithm.now))) (R.source reader.old) result (R.source reader.new) }
+    ensures later { Later (R.source reader.old) (R.source reader.new) }
 {
     let bytes = Bytes::decode(alloc, reader)?;
     let trailer = array_from::<5, R>(reader)?;

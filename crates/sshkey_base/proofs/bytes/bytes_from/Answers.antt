@@ -12,10 +12,10 @@ pub returns-in_err-read-clause-gives : goal.returns-in_err-read-clause-gives
 returns-in_err-read-clause-gives g c =
     let p = err_from_is_err_and c.from_residual-in_err-read.result c.from_residual-in_err-read.ensures.1 in
     let len : length c.read.new.buffer ≡ c.args.len = search rules in
-    rw (p.1, p.2) (λ _. few_refused c.args.len (g.R.Reader.source c.args.reader.now) c.in_err-read.field-0.0 (rw (← len) c.in_err-read.ensures))
+    rw (p.1, p.2) (λ _. few_refused c.args.len (g.R.Reader.source c.args.reader.now) c.in_err-read.field-0.0 (rw (← len) c.in_err-read.ensures.takes))
 
 pub returns-clause-gives : goal.returns-clause-gives
 returns-clause-gives g c =
     let len : length c.read.new.buffer ≡ c.args.len = search rules in
-    let all : take c.in_ok-bytes.bytes.len (c.read.new.buffer ++ drop (length c.read.new.buffer) c.in_ok-bytes.bytes.items) ≡ c.read.new.buffer = take_at c.read.new.buffer _ c.in_ok-bytes.bytes.len (search rules) in
-    rw all (front_reads c.args.len (g.R.Reader.source c.args.reader.now) (g.R.Reader.source c.read.new.self) c.read.new.buffer len c.in_ok-read.ensures)
+    let all : take c.in_ok-bytes-2.bytes.len (c.read.new.buffer ++ drop (length c.read.new.buffer) c.in_ok-bytes-2.bytes.items) ≡ c.read.new.buffer = take_at c.read.new.buffer _ c.in_ok-bytes-2.bytes.len (search rules) in
+    rw all (front_reads c.args.len (g.R.Reader.source c.args.reader.now) (g.R.Reader.source c.read.new.self) c.read.new.buffer len c.in_ok-read.ensures.takes)

@@ -8,13 +8,14 @@ use Rattle.sshkey_model.proofs.TextReaders.{text_reads, box_shows}
 use Rattle.sshkey_base.specs.Source.{told}
 use Rattle.sshkey_base.specs.TextLists.{texts_of}
 use Rattle.sshkey_base.proofs.ReadLists.{collects_more, collects_refused, collects_end, leaves_less}
+use Rattle.sshkey_base.proofs.Places.{later_then}
 use Rattle.sshkey_base.proofs.list.texts_from.Goals as goal
 
-pub returns-in_err-decode : goal.returns-in_err-decode
-returns-in_err-decode g c =
+pub returns-in_err-decode-clause-gives : goal.returns-in_err-decode-clause-gives
+returns-in_err-decode-clause-gives g c =
     let p = err_from_is_err_and c.from_residual.result c.from_residual.ensures.1 in
     let some : told (g.R.Reader.source c.reads.reader) ≢ 0 = (λ none. let t = c.is_finished.ensures.1 none in cc) in
-    rw (p.1, p.2) (λ sound other. collects_refused (λ _. text_at) _ _ _ _ _ c.reads.invariant.1 some sound (c.in_err-decode.ensures.gives other))
+    rw (p.1, p.2) (λ sound other. collects_refused (λ _. text_at) _ _ _ _ _ c.reads.invariant.0.1 some sound (c.in_err-decode.ensures.gives other))
 
 pub reads-smaller : goal.reads-smaller
 reads-smaller g c =
@@ -28,7 +29,7 @@ reads-preserved g c =
     let r = c.in_ok-decode.ensures.gives in
     let less = leaves_less text_reads (λ t. box_shows (bytes t)) _ _ _ r.value in
     let all : map string_bytes c.push.new.self.items ≡ map string_bytes c.reads.texts.items ++ string_bytes c.in_ok-decode.field-0 ∷ [] = ap (λ (xs : _). map string_bytes xs) c.in_ok-push.ensures.items ∙ map-append string_bytes _ _ in
-    (Some (string_bytes c.in_ok-decode.field-0), rw all (collects_more (λ _. text_at) string_bytes _ _ _ _ _ _ c.reads.invariant.1 r less))
+    ((Some (string_bytes c.in_ok-decode.field-0), rw all (collects_more (λ _. text_at) string_bytes _ _ _ _ _ _ c.reads.invariant.0.1 r less)), later_then _ _ _ c.reads.invariant.1 c.in_ok-decode.ensures.later)
 
-pub returns : goal.returns
-returns g c = collects_end (λ _. text_at) texts_of _ _ _ _ c.reads.invariant.1 (c.is_finished.ensures.0 c.reads-test.false)
+pub returns-clause-gives : goal.returns-clause-gives
+returns-clause-gives g c = collects_end (λ _. text_at) texts_of _ _ _ _ c.reads.invariant.0.1 (c.is_finished.ensures.0 c.reads-test.false)

@@ -1,15 +1,12 @@
 use Rattle.std.proofs.lemmas.Result.{err_from_is_err_and}
-use Rattle.sshkey_base.proofs.Judging.{judged}
-use Rattle.sshkey_base.proofs.ShortStrings.{bounded_refused, bounded_gives}
 use Rattle.sshkey_base.specs.Causes.{cause, same_cause}
-use Rattle.sshkey_kinds.specs.PointSizes.{point_within}
-use Rattle.sshkey_kinds.specs.PointWords.{point_of}
+use Rattle.sshkey_base.proofs.Steps.{behind_length, length_refused}
 use Rattle.sshkey_kinds.proofs.sk.decode_point.Goals as goal
 
-pub returns-in_err-bytes : goal.returns-in_err-bytes
-returns-in_err-bytes g c =
-    let p = err_from_is_err_and c.from_residual.result c.from_residual.ensures.1 in
-    rw (p.1, p.2, same_cause c.in_err-bytes.field-0.0) (bounded_refused 65 (point_within 65) (g.R.Reader.source c.args.reader.now) _ c.in_err-bytes.ensures.gives)
+pub returns-clause-gives : goal.returns-clause-gives
+returns-clause-gives g c = behind_length _ cause _ c.in_ok-len.len _ _ _ _ c.in_ok-len.ensures.gives c.point_from.ensures.gives
 
-pub returns : goal.returns
-returns g c = bounded_gives 65 (point_within 65) _ point_of cause _ _ (judged _ _ _ _ _ _ _ _ _ c.in_ok-bytes.ensures.gives (rw c.as_slice.ensures at c.from_bytes.ensures))
+pub returns-in_err-len-clause-gives : goal.returns-in_err-len-clause-gives
+returns-in_err-len-clause-gives g c =
+    let p = err_from_is_err_and c.from_residual.result c.from_residual.ensures.1 in
+    rw (p.1, p.2, same_cause c.in_err-len.field-0.0) (length_refused _ _ _ _ c.in_err-len.ensures.gives)

@@ -1,8 +1,11 @@
-use Rattle.sshkey_base.proofs.Labels.{text_refused}
-use Rattle.sshkey_base.specs.NameBytes.{name_bytes_of}
+use Rattle.sshkey_base.specs.Causes.{encoding_cause}
+use Rattle.sshkey_base.specs.Labels.{label_at}
+use Rattle.sshkey_base.proofs.Steps.{behind_length, not_refused}
 use Rattle.sshkey_base.proofs.label.AnyDecode.decode.Goals as goal
 
 pub returns-clause-gives : goal.returns-clause-gives
-returns-clause-gives g c =
-    let name = c.in_ok-name.ensures.gives in
-    text_refused g.met.T.Label.checks g.met.T.Label.ascii g.met.T.Label.refusals (g.R.Reader.source c.args.reader.now) (g.R.Reader.source c.decode.new.reader) (name_bytes_of c.in_ok-name.name) record { value = name.value; missing = name.missing; outer = name.outer } (λ text. c.in-Err.ensures.cases.0 (rw c.as_slice.ensures text))
+unfolding label_at
+returns-clause-gives g c = behind_length g.T.Label.stands_for encoding_cause g.T.Label.named c.in_ok-len.len _ _ _ _ c.in_ok-len.ensures.gives c.name_from.ensures.gives
+
+pub returns-in_err-len-clause-past : goal.returns-in_err-len-clause-past
+returns-in_err-len-clause-past g c = λ n rest e lt. absurd (not_refused _ _ _ _ c.in_err-len.ensures.gives e)

@@ -17,12 +17,12 @@ pub returns-in_err-read-clause-gives : goal.returns-in_err-read-clause-gives
 returns-in_err-read-clause-gives g c =
     let p = err_from_is_err_and c.from_residual.result c.from_residual.ensures.1 in
     let len : length c.read.new.buffer ≡ c.args.len = search rules in
-    rw (p.1, p.2) (refuses_first _ _ _ _ (few_refused c.args.len (g.R.Reader.source c.args.reader.now) c.in_err-read.field-0.0 (rw (← len) c.in_err-read.ensures)))
+    rw (p.1, p.2) (refuses_first _ _ _ _ (few_refused c.args.len (g.R.Reader.source c.args.reader.now) c.in_err-read.field-0.0 (rw (← len) c.in_err-read.ensures.takes)))
 
 pub returns-clause-gives : goal.returns-clause-gives
 returns-clause-gives g c =
     let len : length c.read.new.buffer ≡ c.args.len = search rules in
-    let r = short_reads g.row.MAX c.args.len (g.R.Reader.source c.args.reader.now) (g.R.Reader.source c.read.new.self) c.read.new.buffer (omega arith) len (front_reads c.args.len (g.R.Reader.source c.args.reader.now) (g.R.Reader.source c.read.new.self) c.read.new.buffer len c.in_ok-read.ensures) in
+    let r = short_reads g.row.MAX c.args.len (g.R.Reader.source c.args.reader.now) (g.R.Reader.source c.read.new.self) c.read.new.buffer (omega arith) len (front_reads c.args.len (g.R.Reader.source c.args.reader.now) (g.R.Reader.source c.read.new.self) c.read.new.buffer len c.in_ok-read.ensures.takes) in
     record { value = rw (take_at c.read.new.buffer _ c.args.len len) r.value; missing = r.missing; outer = r.outer }
 
 pub returns-then-len-clause-plain : goal.returns-then-len-clause-plain
@@ -35,10 +35,10 @@ pub returns-in_err-read-clause-plain : goal.returns-in_err-read-clause-plain
 returns-in_err-read-clause-plain g c = λ within.
     let p = err_from_is_err_and c.from_residual.result c.from_residual.ensures.1 in
     let len : length c.read.new.buffer ≡ c.args.len = search rules in
-    rw (p.1, p.2) (few_refused c.args.len (g.R.Reader.source c.args.reader.now) c.in_err-read.field-0.0 (rw (← len) c.in_err-read.ensures))
+    rw (p.1, p.2) (few_refused c.args.len (g.R.Reader.source c.args.reader.now) c.in_err-read.field-0.0 (rw (← len) c.in_err-read.ensures.takes))
 
 pub returns-clause-plain : goal.returns-clause-plain
 returns-clause-plain g c = λ within.
     let len : length c.read.new.buffer ≡ c.args.len = search rules in
-    let r = front_reads c.args.len (g.R.Reader.source c.args.reader.now) (g.R.Reader.source c.read.new.self) c.read.new.buffer len c.in_ok-read.ensures in
+    let r = front_reads c.args.len (g.R.Reader.source c.args.reader.now) (g.R.Reader.source c.read.new.self) c.read.new.buffer len c.in_ok-read.ensures.takes in
     record { value = rw (take_at c.read.new.buffer _ c.args.len len) r.value; missing = r.missing; outer = r.outer }

@@ -3,20 +3,20 @@ use Rattle.sshkey_base.proofs.Steps.{refused_first, refused_later}
 use Rattle.sshkey_kinds.specs.Bodies.{dsa_at}
 use Rattle.sshkey_kinds.proofs.dsa.DsaPublicKeyDecode.decode.Goals as goal
 
-pub returns-in_err-q : goal.returns-in_err-q
+pub returns-in_err-q-clause-gives : goal.returns-in_err-q-clause-gives
 unfolding dsa_at
-returns-in_err-q g c =
+returns-in_err-q-clause-gives g c =
     let p = err_from_is_err_and c.from_residual-in_err-q.result c.from_residual-in_err-q.ensures.1 in
     rw (p.1, p.2) (refused_later _ _ _ _ _ _ _ c.in_ok-p.ensures.gives (refused_first _ _ _ _ c.in_err-q.ensures.gives))
 
-pub returns-in_err-g : goal.returns-in_err-g
+pub returns-in_err-g-clause-gives : goal.returns-in_err-g-clause-gives
 unfolding dsa_at
-returns-in_err-g g c =
+returns-in_err-g-clause-gives g c =
     let p = err_from_is_err_and c.from_residual-in_err-g.result c.from_residual-in_err-g.ensures.1 in
     rw (p.1, p.2) (refused_later _ _ _ _ _ _ _ c.in_ok-p.ensures.gives (refused_later _ _ _ _ _ _ _ c.in_ok-q.ensures.gives (refused_first _ _ _ _ c.in_err-g.ensures.gives)))
 
-pub returns-in_err-y : goal.returns-in_err-y
+pub returns-in_err-y-clause-gives : goal.returns-in_err-y-clause-gives
 unfolding dsa_at
-returns-in_err-y g c =
+returns-in_err-y-clause-gives g c =
     let p = err_from_is_err_and c.from_residual-in_err-y.result c.from_residual-in_err-y.ensures.1 in
     rw (p.1, p.2) (refused_later _ _ _ _ _ _ _ c.in_ok-p.ensures.gives (refused_later _ _ _ _ _ _ _ c.in_ok-q.ensures.gives (refused_later _ _ _ _ _ _ _ c.in_ok-g.ensures.gives (refused_first _ _ _ _ c.in_err-y.ensures.gives))))

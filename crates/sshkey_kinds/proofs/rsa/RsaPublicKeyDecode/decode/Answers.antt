@@ -3,8 +3,8 @@ use Rattle.sshkey_base.proofs.Steps.{refused_first, refused_later}
 use Rattle.sshkey_kinds.specs.Bodies.{rsa_at}
 use Rattle.sshkey_kinds.proofs.rsa.RsaPublicKeyDecode.decode.Goals as goal
 
-pub returns-in_err-n : goal.returns-in_err-n
+pub returns-in_err-n-clause-gives : goal.returns-in_err-n-clause-gives
 unfolding rsa_at
-returns-in_err-n g c =
+returns-in_err-n-clause-gives g c =
     let p = err_from_is_err_and c.from_residual-in_err-n.result c.from_residual-in_err-n.ensures.1 in
     rw (p.1, p.2) (refused_later _ _ _ _ _ _ _ c.in_ok-e.ensures.gives (refused_first _ _ _ _ c.in_err-n.ensures.gives))

@@ -4,9 +4,9 @@ use Rattle.sshkey_keys.specs.SignatureReaders.{signature_at, algorithm_at, label
 use Rattle.sshkey_keys.proofs.SignatureForms.{tested}
 use Rattle.sshkey_keys.proofs.signature.wire.SignatureDecode.decode.Goals as goal
 
-pub returns-in_err-blob : goal.returns-in_err-blob
+pub returns-in_err-blob-clause-gives : goal.returns-in_err-blob-clause-gives
 unfolding signature_at algorithm_at label_at
-returns-in_err-blob g c =
+returns-in_err-blob-clause-gives g c =
     let p = err_from_is_err_and c.from_residual-in_err-blob.result c.from_residual-in_err-blob.ensures.1 in
     rw (p.1, p.2) (refused_later _ _ _ _ _ _ _ c.in_ok-algorithm.ensures.gives (refused_first _ _ _ _ c.in_err-blob.ensures.gives))
 
