@@ -1,19 +1,19 @@
 -- Key pairs are read as they are spelled.
-use Rattle.std.proofs.Common.{◌≡◌, ℕ, suc, ◌-◌, eqb, ltb, inl, inr, Option, Bool, true, false, cond, List, [], ◌∷◌, ◌++◌, length, take, drop, Ok, Err, bytes_eq, refl, sym, ap, subst, ◌∙◌, arith}
+use Rattle.std.proofs.Common.{◌≡◌, ◌⊎◌, ℕ, zero, suc, ◌-◌, ◌<◌, ◌≤◌, ◌&&◌, not, eqb, ltb, inl, inr, Option, Bool, true, false, cond, List, [], ◌∷◌, ◌++◌, length, take, drop, replicate, Ok, Err, bytes_eq, refl, sym, ap, subst, ◌∙◌, arith}
 use Rattle.std.specs.Int.{w8}
-use Rattle.std.proofs.lemmas.Bool.{eqb-true, eq-eqb, ne_eqb}
-use Rattle.std.proofs.lemmas.List.{take_at, drop_at, take-append-drop, length-append, length-take}
+use Rattle.std.proofs.lemmas.Bool.{eqb-true, eq-eqb, ne_eqb, ltb-true, lt-ltb, le-ltb}
+use Rattle.std.proofs.lemmas.List.{take_at, drop_at, take-append-drop, length-append, length-take, length-replicate}
 use Rattle.std.proofs.lemmas.Slice.Eq.{bytes_eq-Decides}
-use Rattle.sshkey_model.specs.Parts.{bytes, ◌&◌}
-use Rattle.sshkey_model.specs.Reading.{Length, FormatEncoding, UnknownAlgorithm, Cryptographic, TrailingData, string_at, checked_at}
+use Rattle.sshkey_model.specs.Parts.{bytes, ◌&◌, flat}
+use Rattle.sshkey_model.specs.Reading.{FormatEncoding, UnknownAlgorithm, Cryptographic, TrailingData, string_at, all_from, checked_at, checked_whole}
 use Rattle.sshkey_model.specs.Grammar.{IsSpelled, spelled}
 use Rattle.sshkey_model.specs.Texts.{string, IsText}
 use Rattle.sshkey_model.specs.Names.{Curve, Nistp256, Hash, Algorithm, IsAlgorithm, algorithm, curve}
-use Rattle.sshkey_model.specs.Mpints.{IsMpint}
+use Rattle.sshkey_model.specs.Mpints.{is_mpint, IsMpint, of_positive}
 use Rattle.sshkey_model.specs.Points.{field_size, IsPoint, curve_eq, point_from}
 use Rattle.sshkey_model.specs.Keys.{Head, headed, head_of}
-use Rattle.sshkey_model.specs.KeyPairs.{Sign, Usual, Without, With, is_high, signed_if, scalar_bytes, scalar, IsScalar, HasScalarPlaces, RsaPrivate, SecurityPrivate, KeyPair, DsaPair, EcdsaPair, Ed25519Pair, RsaPair, SkEcdsaPair, SkEd25519Pair, OpaquePair, public_half, pair_algorithm, rsa_private, security_private, pair, IsRsaPrivate, IsEcdsaPair, HasPairPlaces, IsPairUnder, KeyPairChoices, plain_pair, IsKeyPair, HasKeyPairPlaces, keypair, unsigned_scalar, signed_scalar, behind_sign, scalar_from, scalar_at, dsa_pair_at, any_ecdsa_pair_at, wanted_curve, ecdsa_pair_at, private_before, ed25519_pair_at, rsa_private_at, rsa_pair_at, security_private_at, sk_ecdsa_pair_at, sk_ed25519_pair_at, opaque_pair_at, pair_at, keypair_at}
-use Rattle.sshkey_model.proofs.CombinedReaders.{bind_assoc, done, ok_is, chosen, met, ReadsFront, Checks, Any, HasLength, wide8, number_reads, string_reads, whole_reads, bytes_reads, box_reads, then_reads, checked_reads, checked_string_reads, to_form, kept, same_front}
+use Rattle.sshkey_model.specs.KeyPairs.{Sign, Usual, Without, With, Short, is_high, is_natural, at_width, short_scalar, scalar_whole, signed_if, scalar_bytes, scalar, IsScalar, HasScalarPlaces, RsaPrivate, SecurityPrivate, KeyPair, DsaPair, EcdsaPair, Ed25519Pair, RsaPair, SkEcdsaPair, SkEd25519Pair, OpaquePair, public_half, pair_algorithm, rsa_private, security_private, pair, IsRsaPrivate, IsEcdsaPair, HasPairPlaces, IsPairUnder, KeyPairChoices, plain_pair, IsKeyPair, HasKeyPairPlaces, keypair, unsigned_scalar, signed_scalar, behind_sign, scalar_from, scalar_at, dsa_pair_at, any_ecdsa_pair_at, wanted_curve, ecdsa_pair_at, private_before, ed25519_pair_at, rsa_private_at, rsa_pair_at, security_private_at, sk_ecdsa_pair_at, sk_ed25519_pair_at, opaque_pair_at, pair_at, keypair_at}
+use Rattle.sshkey_model.proofs.CombinedReaders.{bind_assoc, done, ok_is, chosen, met, passed, ReadsFront, ReadsWhole, Checks, all_reads, checked_whole_reads, Any, HasLength, wide8, number_reads, string_reads, whole_reads, bytes_reads, box_reads, then_reads, checked_reads, checked_string_reads, to_form, kept, same_front}
 use Rattle.sshkey_model.proofs.NameReaders.{curve_reads, algorithm_reads}
 use Rattle.sshkey_model.proofs.TextReaders.{text_reads}
 use Rattle.sshkey_model.proofs.MpintReaders.{mpint_reads}
@@ -47,14 +47,90 @@ behind_takes size (c ∷ s) x len e =
     let is = shown size (0 ∷ s) s (signed_scalar s) (omega arith) (with_sign s (is_high s) refl) in
     subst (λ (z : List ℕ × Sign). IsSpelledScalar size z × (c ∷ s ≡ scalar_bytes z.0 z.1)) (ok_is (signed_scalar s) x h.1) (is.0, ap (λ (k : ℕ). k ∷ s) (eqb-true _ _ h.0) ∙ is.1)
 
+-- ---- short scalars
+
+of_zeros : (n : ℕ) (b : List ℕ) → of_positive (replicate n 0 ++ b) ≡ of_positive b
+of_zeros zero b = refl
+of_zeros (suc n) b = of_zeros n b
+
+-- an mpint that is not negative is the shortest of its number
+of_natural : (b : List ℕ) → is_natural b ≡ true → of_positive b ≡ b
+of_natural [] e = refl
+of_natural (zero ∷ []) e = absurd cc
+of_natural (zero ∷ zero ∷ rest) e = absurd cc
+of_natural (zero ∷ suc c ∷ rest) e = go (ltb (suc c) 0x80) refl
+  where
+    go : (h : Bool) → ltb (suc c) 0x80 ≡ h → of_positive (suc c ∷ rest) ≡ zero ∷ suc c ∷ rest
+    go true h = absurd (cc (sym (rw h at e)))
+    go false h = rw h refl
+of_natural (suc a ∷ rest) e = go (ltb (suc a) 0x80) refl
+  where
+    go : (h : Bool) → ltb (suc a) 0x80 ≡ h → of_positive (suc a ∷ rest) ≡ suc a ∷ rest
+    go true h = rw h refl
+    go false h = absurd (cc (sym (rw h at e)))
+
+shortest_is : (s : List ℕ) → is_natural (of_positive s) ≡ true
+shortest_is [] = refl
+shortest_is (zero ∷ rest) = shortest_is rest
+shortest_is (suc a ∷ rest) = go (ltb (suc a) 0x80) refl
+  where
+    go : (h : Bool) → ltb (suc a) 0x80 ≡ h → is_natural (of_positive (suc a ∷ rest)) ≡ true
+    go true h = rw h (rw h refl)
+    go false h = rw h (rw h refl)
+
+-- it is no longer than the scalar, or it is the scalar behind one 00
+room_or_sign : (s : List ℕ) → (length (of_positive s) ≤ length s) ⊎ (of_positive s ≡ zero ∷ s)
+room_or_sign [] = inl (omega arith)
+room_or_sign (zero ∷ rest) = elim (room_or_sign rest) [
+    | inl le ↦ inl (omega arith)
+    | inr e ↦ inl (omega (arith, ap length e))
+  ]
+room_or_sign (suc a ∷ rest) = go (ltb (suc a) 0x80) refl
+  where
+    go : (h : Bool) → ltb (suc a) 0x80 ≡ h → (length (of_positive (suc a ∷ rest)) ≤ length (suc a ∷ rest)) ⊎ (of_positive (suc a ∷ rest) ≡ zero ∷ suc a ∷ rest)
+    go true h = inl (rw h (omega arith))
+    go false h = inr (rw h refl)
+
+width_of : (s : List ℕ) → length (of_positive s) ≤ length s → at_width (length s) (of_positive s) ≡ s
+width_of [] le = refl
+width_of (zero ∷ rest) le = elim (room_or_sign rest) [
+    | inl room ↦
+        let more : suc (length rest) - length (of_positive rest) ≡ suc (length rest - length (of_positive rest)) = omega arith in
+        rw more (ap (λ (z : List ℕ). zero ∷ z) (width_of rest room))
+    | inr e ↦
+        let none : suc (length rest) - length (of_positive rest) ≡ 0 = omega (arith, ap length e) in
+        rw none e
+  ]
+width_of (suc a ∷ rest) le = go (ltb (suc a) 0x80) refl
+  where
+    go : (h : Bool) → ltb (suc a) 0x80 ≡ h → at_width (suc (length rest)) (of_positive (suc a ∷ rest)) ≡ suc a ∷ rest
+    go true h = let none : suc (length rest) - suc (length rest) ≡ 0 = omega arith in rw h (rw none refl)
+    go false h = let more : length (of_positive (suc a ∷ rest)) ≡ suc (suc (length rest)) = rw h refl in absurd (omega arith)
+
+width_length : (size : ℕ) (b : List ℕ) → length b ≤ size → length (at_width size b) ≡ size
+width_length size b le = omega (arith, length-append (replicate (size - length b) 0) b, length-replicate {A = ℕ} (size - length b) 0)
+
+short_takes : (size : ℕ) (b : List ℕ) (x : List ℕ × Sign) → length b < size → short_scalar size b ≡ Ok x → IsSpelledScalar size x × (b ≡ scalar_bytes x.0 x.1)
+short_takes size b x short e =
+    let h = met (is_natural b) FormatEncoding (Ok (at_width size b, Short)) x e in
+    let same : of_positive (at_width size b) ≡ b = of_zeros (size - length b) b ∙ of_natural b h.0 in
+    let len : length (at_width size b) ≡ size = width_length size b (omega arith) in
+    let less : length (of_positive (at_width size b)) < length (at_width size b) = omega (arith, ap length same) in
+    subst (λ (z : List ℕ × Sign). IsSpelledScalar size z × (b ≡ scalar_bytes z.0 z.1)) (ok_is (at_width size b, Short) x h.1) (record { is = len; place = less }, sym same)
+
+short_again : (size : ℕ) (s : List ℕ) → length s ≡ size → length (of_positive s) < length s → short_scalar size (of_positive s) ≡ Ok (s, Short)
+short_again size s len less =
+    let back : at_width size (of_positive s) ≡ s = ap (λ (n : ℕ). at_width n (of_positive s)) (sym len) ∙ width_of s (omega arith) in
+    rw (shortest_is s, back) refl
+
 scalar_takes : (size : ℕ) (b : List ℕ) (x : List ℕ × Sign) → scalar_from size b ≡ Ok x → IsSpelledScalar size x × (b ≡ scalar_bytes x.0 x.1)
 scalar_takes size b x e =
-    elim (chosen (eqb (length b) size) (Ok (unsigned_scalar b)) (cond (eqb (length b) (suc size)) (behind_sign b) (cond (ltb (length b) size) (Err Length) (Err (TrailingData (length b - size))))) (done x) e) [
+    elim (chosen (eqb (length b) size) (Ok (unsigned_scalar b)) (cond (eqb (length b) (suc size)) (behind_sign b) (cond (ltb (length b) size) (short_scalar size b) (Err (TrailingData (length b - size))))) (done x) e) [
       | inl same ↦ subst (λ (z : List ℕ × Sign). IsSpelledScalar size z × (b ≡ scalar_bytes z.0 z.1)) (ok_is (unsigned_scalar b) x same.1) (shown size b b (unsigned_scalar b) (eqb-true _ _ same.0) (without_sign b (is_high b) refl))
-      | inr other ↦ elim (chosen (eqb (length b) (suc size)) (behind_sign b) (cond (ltb (length b) size) (Err Length) (Err (TrailingData (length b - size)))) (done x) other.1) [
+      | inr other ↦ elim (chosen (eqb (length b) (suc size)) (behind_sign b) (cond (ltb (length b) size) (short_scalar size b) (Err (TrailingData (length b - size)))) (done x) other.1) [
         | inl more ↦ behind_takes size b x (eqb-true _ _ more.0) more.1
-        | inr none ↦ elim (chosen (ltb (length b) size) (Err Length) (Err (TrailingData (length b - size))) (done x) none.1) [
-          | inl short ↦ absurd (cc short.1)
+        | inr none ↦ elim (chosen (ltb (length b) size) (short_scalar size b) (Err (TrailingData (length b - size))) (done x) none.1) [
+          | inl short ↦ short_takes size b x (ltb-true _ _ short.0) short.1
           | inr long ↦ absurd (cc long.1)
         ]
       ]
@@ -66,18 +142,45 @@ longer size s len = ne_eqb _ _ (λ e. omega arith)
 scalar_again : (size : ℕ) (s : List ℕ) (n : Sign) → length s ≡ size → HasScalarPlaces s n → scalar_from size (scalar_bytes s n) ≡ Ok (s, n)
 scalar_again size s Without len is = rw (eq-eqb _ _ len, is) refl
 scalar_again size s With len is = rw (longer size s len, eq-eqb (suc (length s)) (suc size) (ap suc len), is) refl
+scalar_again size s Short len is =
+    let not_same : eqb (length (of_positive s)) size ≡ false = ne_eqb _ _ (λ e. omega arith) in
+    let not_more : eqb (length (of_positive s)) (suc size) ≡ false = ne_eqb _ _ (λ e. omega arith) in
+    let less : ltb (length (of_positive s)) size ≡ true = lt-ltb _ _ (omega arith) in
+    rw (not_same, not_more, less) (short_again size s len is)
 scalar_again size s Usual len is = go (is_high s) refl
   where
     go : (h : Bool) → is_high s ≡ h → scalar_from size (signed_if (is_high s) s) ≡ Ok (s, Usual)
     go true e = ap (λ (h : Bool). scalar_from size (signed_if h s)) e ∙ rw (longer size s len, eq-eqb (suc (length s)) (suc size) (ap suc len), e) refl
     go false e = ap (λ (h : Bool). scalar_from size (signed_if h s)) e ∙ rw (eq-eqb _ _ len, e) refl
 
+scalar_length : (s : List ℕ) (n : Sign) → HasScalarPlaces s n → length (scalar_bytes s n) ≤ suc (length s)
+scalar_length s Without is = omega arith
+scalar_length s With is = omega arith
+scalar_length s Short is = omega arith
+scalar_length s Usual is = go (is_high s)
+  where
+    go : (h : Bool) → length (signed_if h s) ≤ suc (length s)
+    go true = omega arith
+    go false = omega arith
+
+scalar_whole_reads : (size : ℕ) → ReadsWhole (IsSpelled (IsScalar size) HasScalarPlaces) (λ x. bytes (scalar_bytes x.0 x.1)) (scalar_whole size)
+unfolding flat
+scalar_whole_reads size = record {
+  takes = λ b x e. judged.takes b x (passed (ltb (suc size) (length b)) (TrailingData (length b - size)) (checked_whole (scalar_from size) all_from b) x e).1;
+  again = λ x is fits.
+      let few : ltb (suc size) (length (scalar_bytes x.0 x.1)) ≡ false = le-ltb _ _ (let len = is.is in omega (arith, scalar_length x.0 x.1 is.place)) in
+      rw few (judged.again x is fits);
+}
+  where
+    judged : ReadsWhole (IsSpelled (IsScalar size) HasScalarPlaces) (λ x. bytes (scalar_bytes x.0 x.1)) (checked_whole (scalar_from size) all_from)
+    judged = checked_whole_reads (record {
+      takes = λ b x was e. let t = scalar_takes size b x e in (t.0, ap bytes t.1);
+      again = λ x is. (scalar_bytes x.0 x.1, tt, scalar_again size x.0 x.1 is.is is.place, refl);
+    }) all_reads
+
 pub scalar_reads : (size : ℕ) → ReadsFront (IsSpelled (IsScalar size) HasScalarPlaces) (spelled scalar) (scalar_at size)
 unfolding scalar_at
-scalar_reads size = checked_string_reads (record {
-  takes = λ b x was e. let t = scalar_takes size b x e in (t.0, ap bytes t.1);
-  again = λ x is. (scalar_bytes x.0 x.1, tt, scalar_again size x.0 x.1 is.is is.place, refl);
-})
+scalar_reads size = box_reads (scalar_whole_reads size)
 
 -- ---- pairs
 
@@ -198,7 +301,7 @@ rsa_pair_reads hash = same_front (checked_reads (to_form
 
 -- ---- keys that a security key holds
 
-security_private_reads : ReadsFront Any security_private security_private_at
+pub security_private_reads : ReadsFront Any security_private security_private_at
 unfolding security_private_at
 security_private_reads = same_front (checked_reads (to_form
     (λ a. record { flags = a.0; handle = a.1.0; reserved = a.1.1 })

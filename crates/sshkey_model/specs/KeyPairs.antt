@@ -1,20 +1,20 @@
 -- Key pairs (PROTOCOL.key; PROTOCOL.u2f; RFC 8709, section 4).
-use Rattle.std.specs.Prelude.{◌≡◌, ℕ, suc, ◌-◌, List, [], ◌∷◌, ◌++◌, length, take, drop, Bool, true, false, not, Option, Some, None, Result, Ok, Err, nat_lt, ◌==◌, if◌then◌else◌, bytes_eq, bit_xor}
+use Rattle.std.specs.Prelude.{◌≡◌, ◌<◌, ℕ, suc, ◌-◌, List, [], ◌∷◌, ◌++◌, length, take, drop, replicate, Bool, true, false, ◌&&◌, not, Option, Some, None, Result, Ok, Err, nat_lt, ◌==◌, if◌then◌else◌, bytes_eq, bit_xor}
 use Rattle.std.specs.Int.{w8, w32, from_be_bytes}
 use Rattle.sshkey_model.specs.Parts.{Parts, number, ◌&◌}
-use Rattle.sshkey_model.specs.Reading.{Fault, Length, FormatEncoding, UnknownAlgorithm, Cryptographic, TrailingData, ◌>>=◌, Front, string_at, box_at, whole, number_at, bytes_at, checked_at}
+use Rattle.sshkey_model.specs.Reading.{Fault, Length, FormatEncoding, UnknownAlgorithm, Cryptographic, TrailingData, ◌>>=◌, Front, Whole, string_at, box_at, whole, all_from, number_at, bytes_at, checked_at, checked_whole}
 use Rattle.sshkey_model.specs.Texts.{string, text_at}
 use Rattle.sshkey_model.specs.Names.{Curve, Nistp256, Algorithm, IsAlgorithm, algorithm, algorithm_at, curve, curve_at}
-use Rattle.sshkey_model.specs.Mpints.{IsMpint, mpint_at}
+use Rattle.sshkey_model.specs.Mpints.{is_mpint, IsMpint, of_positive, mpint_at}
 use Rattle.sshkey_model.specs.Points.{field_size, curve_eq, point_from, p256_point_from, of_curve}
 use Rattle.sshkey_model.specs.Keys.{Key, Dsa, Ecdsa, Ed25519, Rsa, SkEcdsa, SkEd25519, Opaque, DsaKey, RsaKey, SecurityKey, key_algorithm, IsBody, Head, Plain, headed, HasHead, head_of, unhashed, ed25519_at, p256_only}
 
 -- ---- private scalars of ECDSA
 
 -- A private scalar has the size of the field. It is written with a 00 before it exactly if its first bit is set.
--- Third spelling: that 00 may be missing, or stand where none is wanted.
+-- Third spelling: that 00 may be missing, or stand where none is wanted; or the scalar stands as the shortest mpint of its number, where that has fewer bytes than the field.
 pub data Sign : Type 0 where
-  Usual Without With : Sign
+  Usual Without With Short : Sign
 
 -- the first bit is set
 abbrev pub is_high : List ℕ → Bool
@@ -29,6 +29,7 @@ abbrev pub scalar_bytes : List ℕ → Sign → List ℕ
 scalar_bytes s Usual = signed_if (is_high s) s
 scalar_bytes s Without = s
 scalar_bytes s With = 0 ∷ s
+scalar_bytes s Short = of_positive s
 
 abbrev pub scalar : List ℕ → Sign → Parts
 scalar s sign = string (scalar_bytes s sign)
@@ -40,6 +41,7 @@ abbrev pub HasScalarPlaces : List ℕ → Sign → Type 0
 HasScalarPlaces s Usual = Unit {0}
 HasScalarPlaces s Without = is_high s ≡ true
 HasScalarPlaces s With = is_high s ≡ false
+HasScalarPlaces s Short = length (of_positive s) < length s
 
 -- ---- pairs
 
@@ -181,16 +183,33 @@ abbrev pub behind_sign : List ℕ → Result (List ℕ × Sign) Fault
 behind_sign [] = Err Length
 behind_sign (b ∷ s) = if b == 0 then Ok (signed_scalar s) else Err FormatEncoding
 
--- so many bytes, or one more
+-- an mpint that is not negative: it is empty, or its first bit is not set
+abbrev pub is_natural : List ℕ → Bool
+is_natural b = is_mpint b && not (is_high b)
+
+-- with zeros in front, as many as there is room for
+abbrev pub at_width : ℕ → List ℕ → List ℕ
+at_width size b = replicate (size - length b) 0 ++ b
+
+abbrev pub short_scalar : ℕ → List ℕ → Result (List ℕ × Sign) Fault
+short_scalar size b = if is_natural b then Ok (at_width size b, Short) else Err FormatEncoding
+
+-- so many bytes, or one more, or fewer
 abbrev pub scalar_from : ℕ → List ℕ → Result (List ℕ × Sign) Fault
 scalar_from size b =
     if length b == size then Ok (unsigned_scalar b)
     else if length b == suc size then behind_sign b
-    else if nat_lt (length b) size then Err Length
+    else if nat_lt (length b) size then short_scalar size b
     else Err (TrailingData (length b - size))
 
+-- where there are two more, none is looked at
+abbrev pub scalar_whole : ℕ → Whole (List ℕ × Sign)
+scalar_whole size b =
+    if nat_lt (suc size) (length b) then Err (TrailingData (length b - size))
+    else checked_whole (scalar_from size) all_from b
+
 unfoldable pub scalar_at : ℕ → Front (List ℕ × Sign)
-scalar_at size = checked_at (scalar_from size) string_at
+scalar_at size = box_at (scalar_whole size)
 
 unfoldable pub dsa_pair_at : Front (KeyPair × Sign)
 dsa_pair_at b = do

@@ -5,7 +5,7 @@ use Rattle.sshkey_model.specs.Reading.{Length, Label, FormatEncoding, UnknownAlg
 use Rattle.sshkey_model.specs.Names.{Nistp256, Nistp384, Algorithm}
 use Rattle.sshkey_model.specs.Keys.{Ed25519, SecurityKey, Head512}
 use Rattle.sshkey_model.specs.KeyDerivation.{Cipher, Aes256Ctr, cipher_name, ciphers, block_size, tag_size, padding_length, cipher_at, Kdf, NoKdf, Bcrypt, kdf, kdf_at}
-use Rattle.sshkey_model.specs.KeyPairs.{SecurityPrivate, pair, Usual, Without, With, is_high, scalar, scalar_at, KeyPair, DsaPair, EcdsaPair, Ed25519Pair, RsaPair, SkEcdsaPair, SkEd25519Pair, OpaquePair, pair_at, keypair_at, normal_keypair, derived_checkint, written_checkint}
+use Rattle.sshkey_model.specs.KeyPairs.{SecurityPrivate, pair, Usual, Without, With, Short, is_high, scalar, scalar_at, KeyPair, DsaPair, EcdsaPair, Ed25519Pair, RsaPair, SkEcdsaPair, SkEd25519Pair, OpaquePair, pair_at, keypair_at, normal_keypair, derived_checkint, written_checkint}
 use Rattle.sshkey_model.specs.PrivateKeys.{PrivateKey, Encrypted, new_private_key, plain_private_key, normal_private_key, padding, end_padding, padded_from, private_part_at, decoded_private_key_at}
 
 -- ---- ciphers and key derivation
@@ -75,10 +75,16 @@ ReadScalars = (scalar_at 32 (short_string 32 low_scalar) ≡ Ok ((low_scalar, Us
     × (scalar_at 32 (short_string 32 high_scalar) ≡ Ok ((high_scalar, Without), [])) × (scalar_at 32 (short_string 33 (0 ∷ high_scalar)) ≡ Ok ((high_scalar, Usual), []))
     × (scalar_at 32 (short_string 32 (replicate 32 0xff)) ≡ Ok ((replicate 32 0xff, Without), [])) × (scalar_at 32 (short_string 33 (0 ∷ replicate 32 1)) ≡ Ok ((replicate 32 1, With), []))
 
--- 31, 33 and 34 bytes
+-- the shortest mpint, zero included, is read at full width
+abbrev pub ReadShortScalars : Type 0
+ReadShortScalars = (scalar_at 32 (short_string 31 (replicate 31 1)) ≡ Ok ((0 ∷ replicate 31 1, Short), [])) × (scalar_at 32 (short_string 0 []) ≡ Ok ((replicate 32 0, Short), []))
+    × (scalar_at 32 (short_string 2 (0 ∷ 0x80 ∷ [])) ≡ Ok ((replicate 31 0 ++ 0x80 ∷ [], Short), [])) × (scalar_at 32 (short_string 32 (0 ∷ replicate 31 0x80)) ≡ Ok ((0 ∷ replicate 31 0x80, Usual), []))
+    × (flat (scalar (replicate 31 0 ++ 0x80 ∷ []) Short) ≡ short_string 2 (0 ∷ 0x80 ∷ [])) × (flat (scalar (replicate 32 0) Short) ≡ short_string 0 [])
+
+-- negative mpints and no mpints, 33 and 34 bytes
 abbrev pub RefusedScalars : Type 0
-RefusedScalars = (scalar_at 32 (short_string 31 (replicate 31 1)) ≡ Err Length) × (scalar_at 32 (short_string 33 (replicate 33 1)) ≡ Err FormatEncoding)
-    × (scalar_at 32 (short_string 34 (replicate 34 0)) ≡ Err (TrailingData 2))
+RefusedScalars = (scalar_at 32 (short_string 31 (replicate 31 0xff)) ≡ Err FormatEncoding) × (scalar_at 32 (short_string 1 (0 ∷ [])) ≡ Err FormatEncoding) × (scalar_at 32 (short_string 2 (0 ∷ 0x7f ∷ [])) ≡ Err FormatEncoding)
+    × (scalar_at 32 (short_string 33 (replicate 33 1)) ≡ Err FormatEncoding) × (scalar_at 32 (short_string 34 (replicate 34 0)) ≡ Err (TrailingData 2))
 
 -- ---- key pairs
 

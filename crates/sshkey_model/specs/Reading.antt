@@ -44,6 +44,10 @@ bytes_at n b =
     else if are_bytes (take n b) then Ok (take n b, drop n b)
     else Err Length
 
+-- all the bytes
+abbrev pub all_from : Whole (List ℕ)
+all_from b = if are_bytes b then Ok b else Err Length
+
 -- a number, most significant byte first
 unfoldable pub number_at : Width → Front ℕ
 number_at w b = do

@@ -88,7 +88,8 @@ pub fn exact_kdf()
     ensures { IsGrammar (Spells Any kdf) kdf_at }
 {}
 
-/// Private scalars of a size are read exactly where they are spelled, with a leading 00 and without.
+/// Private scalars of a size are read exactly where they are spelled, with a leading 00 and without,
+/// and as the shortest mpint.
 pub fn exact_scalar()
     ensures { (size : ℕ) → IsGrammar (SpellsWith (IsScalar size) HasScalarPlaces scalar) (value_at (scalar_at size)) }
 {}
