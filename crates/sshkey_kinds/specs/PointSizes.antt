@@ -1,6 +1,6 @@
 -- Point strings by the size of the longest (SEC 1, section 2.3.3).
 use Rattle.std.specs.Prelude.{ℕ, ◌==◌, List, Bool, false, Option, Some, None, Result, Ok, Err, if◌then◌else◌}
-use Rattle.sshkey_model.specs.Reading.{Fault, Whole, EcdsaEncoding, ◌>>=◌}
+use Rattle.sshkey_model.specs.Reading.{Fault, Whole, Ecdsa, ◌>>=◌}
 use Rattle.sshkey_model.specs.Names.{Curve, Nistp256, Nistp384, Nistp521}
 use Rattle.sshkey_model.specs.Points.{field_size, is_point, curve_of_size, point_curve}
 
@@ -17,7 +17,7 @@ abbrev pub is_point_within : ℕ → List ℕ → Bool
 is_point_within n b = is_point_on (curve_of_longest n) b
 
 abbrev pub point_within : ℕ → List ℕ → Result (List ℕ) Fault
-point_within n b = if is_point_within n b then Ok b else Err EcdsaEncoding
+point_within n b = if is_point_within n b then Ok b else Err Ecdsa
 
 -- the size of a coordinate that a point string tells
 abbrev pub size_from : Whole ℕ

@@ -11,7 +11,7 @@ use Rattle.base64.proofs.RoundTrip.{length-encode_symbols}
 use Rattle.base64.specs.declared.decode.DecodeError.{DecodeError}
 use Rattle.base64.proofs.EngineFacts.{decode_of-encode_of}
 use Rattle.sshkey_model.specs.Lines.{space}
-use Rattle.sshkey_model.specs.LineCuts.{IsWithout}
+use Rattle.sshkey_model.proofs.LineCuts.{IsWithout}
 
 abbrev NotSpace : ℕ → Type 0
 NotSpace c = c ≢ space

@@ -7,10 +7,15 @@ use Rattle.sshkey_model.specs.Reading.{Front}
 use Rattle.sshkey_model.specs.Grammar.{SpellsWith, IsSpelled, spelled}
 use Rattle.sshkey_model.specs.Names.{algorithm_name}
 use Rattle.sshkey_model.specs.Keys.{Key, Head, key_algorithm, headed, body, key, IsKey, HasKeyPlaces}
-use Rattle.sshkey_model.specs.LineCuts.{IsBlob}
 use Rattle.sshkey_model.proofs.CombinedReaders.{ReadsFront, are_bytes-append, number_bytes}
 use Rattle.sshkey_model.proofs.Grammars.{grammar_with, one_front}
 use Rattle.sshkey_model.proofs.KeyReaders.{key_reads}
+
+-- A blob is some bytes, and spells one value.
+pub record IsBlob {V : Type 0} (Spelling : V → List ℕ → Type 0) : Type 0 where
+  pub bytes : (value : V) (blob : List ℕ) → Spelling value blob → are_bytes blob ≡ true
+  pub some : (value : V) (blob : List ℕ) → Spelling value blob → 0 < length blob
+  pub one : (v w : V) (blob : List ℕ) → Spelling v blob → Spelling w blob → v ≡ w
 
 pub flat_bytes : (p : Parts) → InRange p → are_bytes (flat p) ≡ true
 unfolding flat InRange

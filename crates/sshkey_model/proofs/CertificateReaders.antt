@@ -3,12 +3,12 @@ use Rattle.std.proofs.Common.{◌≡◌, ℕ, eqb, Some, None, true, cond, Ok, E
 use Rattle.std.specs.Int.{w32, w64}
 use Rattle.std.proofs.lemmas.Bool.{eqb-true}
 use Rattle.sshkey_model.specs.Parts.{number}
-use Rattle.sshkey_model.specs.Reading.{FormatEncoding, InvalidTime}
+use Rattle.sshkey_model.specs.Reading.{FormatEncoding, Time}
 use Rattle.sshkey_model.specs.Grammar.{IsSpelled, spelled}
 use Rattle.sshkey_model.specs.Names.{Algorithm, Rsa}
 use Rattle.sshkey_model.specs.CertificateNames.{IsCertified}
 use Rattle.sshkey_model.specs.Keys.{key_algorithm, unhashed}
-use Rattle.sshkey_model.specs.Certificates.{CertificateType, User, Host, type_number, is_time, type_from, type_at, time_at, unsigned_at, certificate_at, IsUnsigned, HasUnsignedPlaces, to_be_signed, IsCertificate, HasCertificatePlaces, certificate}
+use Rattle.sshkey_model.specs.Certificates.{CertificateType, User, Host, type_number, is_time, type_from, type_at, time_at, signed_fields_at, certificate_at, AreSignedFields, HaveSignedPlaces, to_be_signed, IsCertificate, HasCertificatePlaces, certificate}
 use Rattle.sshkey_model.proofs.CombinedReaders.{bind_assoc, done, ok_is, chosen, ReadsFront, Any, wide32, wide64, number_reads, string_reads, whole_reads, box_reads, then_reads, checked_reads, to_form, kept, same_front}
 use Rattle.sshkey_model.proofs.CertificateNameReaders.{certificate_algorithm_reads}
 use Rattle.sshkey_model.proofs.TextReaders.{text_reads, texts_reads}
@@ -36,7 +36,7 @@ type_reads = checked_reads (record { takes = λ n k was e. (tt, ap (number w32) 
 
 pub time_reads : ReadsFront (λ t. Any t × (is_time t ≡ true)) (number w64) time_at
 unfolding time_at
-time_reads = checked_reads (kept is_time InvalidTime) (number_reads w64 wide64)
+time_reads = checked_reads (kept is_time Time) (number_reads w64 wide64)
 
 -- in a certificate no name has a hash
 certified_plain : (a : Algorithm) → IsCertified a → a ≡ unhashed a
@@ -44,9 +44,9 @@ certified_plain (Rsa None) is = refl
 certified_plain (Rsa (Some h)) is = absurd is
 certified_plain _ is = refl
 
-pub unsigned_reads : ReadsFront (IsSpelled IsUnsigned HasUnsignedPlaces) (spelled to_be_signed) unsigned_at
-unfolding unsigned_at
-unsigned_reads = same_front (checked_reads (to_form
+pub signed_fields_reads : ReadsFront (IsSpelled AreSignedFields HaveSignedPlaces) (spelled to_be_signed) signed_fields_at
+unfolding signed_fields_at
+signed_fields_reads = same_front (checked_reads (to_form
     (λ (name, (nonce, (key, (serial, (kind, (key_id, (principals, (after, (before, (critical, (extensions, (reserved, signer)))))))))))). (
       record { nonce = nonce; key = key; serial = serial; certificate_type = kind; key_id = key_id; valid_principals = principals; valid_after = after; valid_before = before; critical_options = critical.0; extensions = extensions.0; reserved = reserved; signature_key = signer.0 },
       record { critical_options = critical.1; extensions = extensions.1; signature_key = signer.1 },
@@ -69,5 +69,5 @@ unsigned_reads = same_front (checked_reads (to_form
 pub certificate_reads : ReadsFront (IsSpelled IsCertificate HasCertificatePlaces) (spelled certificate) certificate_at
 unfolding certificate_at
 certificate_reads = same_front (checked_reads (to_form
-    (λ (c, g). (record { unsigned = c.0; signature = g }, c.1)) (λ a h. (record { is = (h.0.is, h.1); place = h.0.place }, refl)) (λ x h. (((x.0.unsigned, x.1), x.0.signature), (record { is = h.is.0; place = h.place }, h.is.1), refl, refl)))
-    (then_reads unsigned_reads (λ _. box_reads (whole_reads signature_reads)))) (λ b. simp bind_assoc)
+    (λ (c, g). (record { signed = c.0; signature = g }, c.1)) (λ a h. (record { is = (h.0.is, h.1); place = h.0.place }, refl)) (λ x h. (((x.0.signed, x.1), x.0.signature), (record { is = h.is.0; place = h.place }, h.is.1), refl, refl)))
+    (then_reads signed_fields_reads (λ _. box_reads (whole_reads signature_reads)))) (λ b. simp bind_assoc)

@@ -3,7 +3,7 @@ use Rattle.std.proofs.Common.{◌≡◌, ℕ, eqb, Some, Ok, refl, sym, ap, subs
 use Rattle.std.specs.Int.{w32}
 use Rattle.std.proofs.lemmas.Bool.{eqb-true}
 use Rattle.sshkey_model.specs.Parts.{bytes, number, box, ◌&◌}
-use Rattle.sshkey_model.specs.Reading.{UnknownAlgorithm}
+use Rattle.sshkey_model.specs.Reading.{AlgorithmUnknown}
 use Rattle.sshkey_model.specs.Names.{named, or_label}
 use Rattle.sshkey_model.specs.KeyDerivation.{Cipher, NoCipher, cipher_name, ciphers, cipher, cipher_at, KdfAlgorithm, NoDerivation, BcryptDerivation, kdf_name, kdf_algorithms, kdf_algorithm, BcryptOptions, bcrypt_options, bcrypt_options_at, Kdf, NoKdf, Bcrypt, derivation, kdf_options, kdf, kdf_algorithm_at, no_options, kdf_options_at, kdf_at}
 use Rattle.sshkey_model.proofs.CombinedReaders.{bind_assoc, ok_is, met, ReadsFront, Checks, Any, wide32, number_reads, string_reads, box_reads, whole_reads, then_reads, checked_reads, checked_string_reads, to_form, same_front}
@@ -45,7 +45,7 @@ no_options_checks = record { takes = there; again = back }
   where
     there : (n : ℕ) (k : Kdf) → Any n → no_options n ≡ Ok k → IsKdfUnder NoDerivation k × (number w32 n ≡ kdf_options k)
     there n k was e =
-        let h = met (eqb n 0) UnknownAlgorithm (Ok NoKdf) k e in
+        let h = met (eqb n 0) AlgorithmUnknown (Ok NoKdf) k e in
         subst (λ (z : Kdf). IsKdfUnder NoDerivation z × (number w32 n ≡ kdf_options z)) (ok_is NoKdf k h.1) (refl, ap (number w32) (eqb-true _ _ h.0))
 
     back : (k : Kdf) → IsKdfUnder NoDerivation k → (n : ℕ) × Any n × (no_options n ≡ Ok k) × (number w32 n ≡ kdf_options k)

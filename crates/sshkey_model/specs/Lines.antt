@@ -54,3 +54,7 @@ IsKeyLine = IsLineOf key_name (SpellsWith IsKey HasKeyPlaces key)
 -- A text is a line of one value at most, and with one comment.
 abbrev pub LinesDetermineValues : {V : Type 0} → (V → List ℕ) → (V → List ℕ → Type 0) → Type 0
 LinesDetermineValues {V} first Spelling = (text m n : List ℕ) (v w : V) → IsLineOf first Spelling text v m → IsLineOf first Spelling text w n → (v ≡ w) × (m ≡ n)
+
+-- The text is a line of no value.
+abbrev pub IsNoLine : {V : Type 0} → (V → List ℕ) → (V → List ℕ → Type 0) → List ℕ → Type 0
+IsNoLine {V} first Spelling text = (value : V) (comment : List ℕ) → IsLineOf first Spelling text value comment → ⊥

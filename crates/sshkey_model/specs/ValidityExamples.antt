@@ -13,7 +13,7 @@ use Rattle.sshkey_model.specs.KeyExamples.{ed25519_key, rsa_key, rsa_bytes, rsa_
 use Rattle.sshkey_model.specs.CertificateExamples.{small_certificate, small_bytes, rsa_certificate}
 
 abbrev pub zero_signed : Certificate
-zero_signed = record { unsigned = small_certificate ed25519_key; signature = record { algorithm = Algorithm.Ed25519; blob = replicate 64 0 } }
+zero_signed = record { signed = small_certificate ed25519_key; signature = record { algorithm = Algorithm.Ed25519; blob = replicate 64 0 } }
 
 -- the SHA-256 fingerprint of its signature key
 abbrev pub right_fingerprint : List ℕ

@@ -145,7 +145,7 @@ pub fn read_back_options()
 
 /// The normal form of a certificate is read as that certificate with plain choices.
 pub fn read_back_certificate()
-    ensures { ReadBackPlain IsCertificate certificate (λ c. plain_certificate c.unsigned) certificate_at }
+    ensures { ReadBackPlain IsCertificate certificate (λ c. plain_certificate c.signed) certificate_at }
 {}
 
 /// The normal form of an SSH signature is read as that signature with the plain name.

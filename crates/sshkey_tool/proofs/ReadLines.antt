@@ -12,7 +12,7 @@ use Rattle.sshkey_keys.specs.declared.key_data.KeyData.{KeyData}
 use Rattle.sshkey_model.proofs.Blobs.{key_blobs}
 use Rattle.sshkey_model.specs.Keys.{Key}
 use Rattle.sshkey_model.specs.Lines.{key_name}
-use Rattle.sshkey_model.specs.LineCuts.{IsCut}
+use Rattle.sshkey_model.proofs.LineCuts.{IsCut}
 use Rattle.sshkey_model.proofs.Lines.{no_cut, no_blob, no_value, other_first, is_line}
 use Rattle.sshkey_model.specs.Lines.{IsKeyLine}
 use Rattle.sshkey_tool.specs.KeyLines.{IsNoKeyLine, ReadsBlob}

@@ -1,5 +1,5 @@
 use Rattle.std.proofs.Common.{◌≡◌, ◌≢◌, ℕ, List, Bool, true, false, Result, Ok, Err, IsErrAnd, cond, refl, sym, ap, ◌∙◌, arith}
-use Rattle.sshkey_model.specs.Reading.{Fault, EcdsaEncoding, ◌>>=◌}
+use Rattle.sshkey_model.specs.Reading.{Fault, Ecdsa, ◌>>=◌}
 use Rattle.sshkey_model.specs.Names.{Curve, Nistp256, Nistp384, Nistp521}
 use Rattle.sshkey_model.specs.Points.{field_size, point_curve}
 use Rattle.sshkey_base.specs.declared.error.Error.{Error}
@@ -44,7 +44,7 @@ last_size (Ok Nistp384) n h a b = absurd (b h)
 last_size (Ok Nistp521) n h a b = h
 last_size (Err f) n h a b = absurd h
 
-its_bytes : {n : ℕ} (t : Bool) (b : List ℕ) (p : EcPoint n) → AnswersAlways (point_of {n = n}) cause (cond t (Ok b) (Err EcdsaEncoding)) (Ok p) → point_of p ≡ b
+its_bytes : {n : ℕ} (t : Bool) (b : List ℕ) (p : EcPoint n) → AnswersAlways (point_of {n = n}) cause (cond t (Ok b) (Err Ecdsa)) (Ok p) → point_of p ≡ b
 its_bytes true b p h = h
 its_bytes false b p h = absurd h
 
