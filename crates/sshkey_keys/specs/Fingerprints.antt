@@ -31,7 +31,7 @@ shown f = digest_text (algorithm_of f) (digest_of f)
 -- It is the key's, by that hash.
 pub record IsFingerprint (h : Hash) (k : Key) (f : Fingerprint) : Type 0 where
   pub by : algorithm_of f ≡ h
-  pub digest : digest_of f ≡ fingerprint h k
+  pub digest : digest_of f ≡ (fingerprint h k).digest
 
 -- It is that fingerprint. Exactly where a part of the key is too long, it is `Length`, and else refused for want of memory alone.
 abbrev pub GivesFingerprint : Hash → Key → Result Fingerprint Error → Type 0

@@ -8,8 +8,8 @@ use Rattle.sshkey_model.specs.Grammar.{IsSpelled, spelled}
 use Rattle.sshkey_model.specs.Names.{Algorithm, Rsa}
 use Rattle.sshkey_model.specs.CertificateNames.{IsCertified}
 use Rattle.sshkey_model.specs.Keys.{key_algorithm, unhashed}
-use Rattle.sshkey_model.specs.Certificates.{CertificateType, User, Host, type_number, is_time, type_from, type_at, time_at, signed_fields_at, certificate_at, AreSignedFields, HaveSignedPlaces, to_be_signed, IsCertificate, HasCertificatePlaces, certificate}
-use Rattle.sshkey_model.proofs.CombinedReaders.{bind_assoc, done, ok_is, chosen, ReadsFront, Any, wide32, wide64, number_reads, string_reads, whole_reads, box_reads, then_reads, checked_reads, to_form, kept, same_front}
+use Rattle.sshkey_model.specs.Certificates.{CertificateType, User, Host, type_number, is_time, type_from, type_at, time_at, signed_fields_at, certificate_at, AreSignedFields, HaveSignedPlaces, to_be_signed, IsCertificate, HasCertificatePlaces, certificate, certificate_type, IsTime, is_end, IsEnd, end_at}
+use Rattle.sshkey_model.proofs.CombinedReaders.{bind_assoc, done, ok_is, chosen, ReadsFront, Any, wide32, wide64, number_reads, string_reads, whole_reads, box_reads, then_reads, checked_reads, to_form, kept, same_front, as_front_form}
 use Rattle.sshkey_model.proofs.CertificateNameReaders.{certificate_algorithm_reads}
 use Rattle.sshkey_model.proofs.TextReaders.{text_reads, texts_reads}
 use Rattle.sshkey_model.proofs.KeyReaders.{body_reads, key_reads}
@@ -30,13 +30,17 @@ type_again : (k : CertificateType) → type_from (type_number k) ≡ Ok k
 type_again User = refl
 type_again Host = refl
 
-pub type_reads : ReadsFront Any (λ k. number w32 (type_number k)) type_at
+pub type_reads : ReadsFront Any certificate_type type_at
 unfolding type_at
 type_reads = checked_reads (record { takes = λ n k was e. (tt, ap (number w32) (type_takes n k e)); again = λ k is. (type_number k, tt, type_again k, refl) }) (number_reads w32 wide32)
 
-pub time_reads : ReadsFront (λ t. Any t × (is_time t ≡ true)) (number w64) time_at
+pub time_reads : ReadsFront IsTime (number w64) time_at
 unfolding time_at
-time_reads = checked_reads (kept is_time Time) (number_reads w64 wide64)
+time_reads = as_front_form (λ t h. h.1) (λ t h. (tt, h)) (checked_reads (kept is_time Time) (number_reads w64 wide64))
+
+pub end_reads : ReadsFront IsEnd (number w64) end_at
+unfolding end_at
+end_reads = as_front_form (λ t h. h.1) (λ t h. (tt, h)) (checked_reads (kept is_end Time) (number_reads w64 wide64))
 
 -- in a certificate no name has a hash
 certified_plain : (a : Algorithm) → IsCertified a → a ≡ unhashed a
@@ -53,18 +57,18 @@ signed_fields_reads = same_front (checked_reads (to_form
     ))
     (λ a h. (let name : a.0 ≡ key_algorithm a.1.1.0 = certified_plain a.0 h.0 ∙ sym h.1.1.0.0 in (
       record {
-        is = record { name = subst IsCertified name h.0; key = h.1.1.0.1; key_id = h.1.1.1.1.1.0; valid_principals = h.1.1.1.1.1.1.0; valid_after = h.1.1.1.1.1.1.1.0.1; valid_before = h.1.1.1.1.1.1.1.1.0.1; critical_options = h.1.1.1.1.1.1.1.1.1.0.is; extensions = h.1.1.1.1.1.1.1.1.1.1.0.is; signature_key = h.1.1.1.1.1.1.1.1.1.1.1.1.is };
+        is = record { name = subst IsCertified name h.0; key = h.1.1.0.1; key_id = h.1.1.1.1.1.0; valid_principals = h.1.1.1.1.1.1.0; valid_after = h.1.1.1.1.1.1.1.0; valid_before = h.1.1.1.1.1.1.1.1.0; critical_options = h.1.1.1.1.1.1.1.1.1.0.is; extensions = h.1.1.1.1.1.1.1.1.1.1.0.is; signature_key = h.1.1.1.1.1.1.1.1.1.1.1.1.is };
         place = record { critical_options = h.1.1.1.1.1.1.1.1.1.0.place; extensions = h.1.1.1.1.1.1.1.1.1.1.0.place; signature_key = h.1.1.1.1.1.1.1.1.1.1.1.1.place };
       },
       rw name refl,
     )))
     (λ x h. (
       (key_algorithm x.0.key, (x.0.nonce, (x.0.key, (x.0.serial, (x.0.certificate_type, (x.0.key_id, (x.0.valid_principals, (x.0.valid_after, (x.0.valid_before, ((x.0.critical_options, x.1.critical_options), ((x.0.extensions, x.1.extensions), (x.0.reserved, (x.0.signature_key, x.1.signature_key))))))))))))),
-      (h.is.name, (tt, ((certified_plain (key_algorithm x.0.key) h.is.name, h.is.key), (tt, (tt, (h.is.key_id, (h.is.valid_principals, ((tt, h.is.valid_after), ((tt, h.is.valid_before), (record { is = h.is.critical_options; place = h.place.critical_options }, (record { is = h.is.extensions; place = h.place.extensions }, (tt, record { is = h.is.signature_key; place = h.place.signature_key })))))))))))),
+      (h.is.name, (tt, ((certified_plain (key_algorithm x.0.key) h.is.name, h.is.key), (tt, (tt, (h.is.key_id, (h.is.valid_principals, (h.is.valid_after, (h.is.valid_before, (record { is = h.is.critical_options; place = h.place.critical_options }, (record { is = h.is.extensions; place = h.place.extensions }, (tt, record { is = h.is.signature_key; place = h.place.signature_key })))))))))))),
       refl,
       refl,
     )))
-    (then_reads certificate_algorithm_reads (λ a. then_reads string_reads (λ _. then_reads (body_reads a) (λ _. then_reads (number_reads w64 wide64) (λ _. then_reads type_reads (λ _. then_reads text_reads (λ _. then_reads texts_reads (λ _. then_reads time_reads (λ _. then_reads time_reads (λ _. then_reads options_reads (λ _. then_reads options_reads (λ _. then_reads string_reads (λ _. box_reads (whole_reads key_reads))))))))))))))) (λ b. simp bind_assoc)
+    (then_reads certificate_algorithm_reads (λ a. then_reads string_reads (λ _. then_reads (body_reads a) (λ _. then_reads (number_reads w64 wide64) (λ _. then_reads type_reads (λ _. then_reads text_reads (λ _. then_reads texts_reads (λ _. then_reads time_reads (λ _. then_reads end_reads (λ _. then_reads options_reads (λ _. then_reads options_reads (λ _. then_reads string_reads (λ _. box_reads (whole_reads key_reads))))))))))))))) (λ b. simp bind_assoc)
 
 pub certificate_reads : ReadsFront (IsSpelled IsCertificate HasCertificatePlaces) (spelled certificate) certificate_at
 unfolding certificate_at

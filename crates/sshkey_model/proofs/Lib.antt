@@ -15,6 +15,7 @@ pub mod Padding
 pub mod PrivateKeyReaders
 pub mod SshSignatureReaders
 pub mod NormalForms
+pub mod NormalFits
 pub mod SignedBytes
 pub mod Base64Words
 pub mod LineCuts

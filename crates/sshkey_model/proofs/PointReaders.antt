@@ -5,7 +5,7 @@ use Rattle.sshkey_model.specs.Parts.{bytes}
 use Rattle.sshkey_model.specs.Reading.{Length, AlgorithmUnknown, Ecdsa, ◌>>=◌, string_at, checked_at}
 use Rattle.sshkey_model.specs.Texts.{string}
 use Rattle.sshkey_model.specs.Names.{Curve, Nistp256, Nistp384, Nistp521}
-use Rattle.sshkey_model.specs.Points.{field_size, is_point, IsPoint, curve_eq, of_curve, curve_of_size, point_curve, point_from, p256_point_from}
+use Rattle.sshkey_model.specs.Points.{field_size, is_point, IsPoint, curve_eq, of_curve, curve_of_size, point_curve, point_from, p256_point_from, IsPointOf, point_at}
 use Rattle.sshkey_model.proofs.CombinedReaders.{bind_ok, ok_is, done, passed, chosen, ReadsFront, Checks, Any, kept, kept_bytes, checked_reads, checked_string_reads}
 
 sized : (n : ℕ) (c : Curve) → curve_of_size n ≡ Ok c → n ≡ field_size c
@@ -25,9 +25,6 @@ whole_size : (c : Curve) → curve_of_size (field_size c) ≡ Ok c
 whole_size Nistp256 = refl
 whole_size Nistp384 = refl
 whole_size Nistp521 = refl
-
-abbrev pub IsPointOf : Curve × List ℕ → Type 0
-IsPointOf x = is_point (field_size x.0) x.1 ≡ true
 
 point_takes : (b : List ℕ) (c : Curve) → point_curve b ≡ Ok c → is_point (field_size c) b ≡ true
 point_takes [] c e = absurd cc
@@ -114,6 +111,9 @@ p256_point_checks = record { takes = there; again = back }
         let small : ltb 65 (length x) ≡ false = le-ltb _ _ (omega arith) in
         (x, tt, rw (small, is) refl, refl)
 
+pub point_reads : ReadsFront IsPointOf (λ x. string x.1) point_at
+point_reads = checked_string_reads point_checks
+
 -- a point string of the stated curve
-pub of_curve_reads : (stated : Curve) → ReadsFront (λ x. IsPointOf x × (curve_eq x.0 stated ≡ true)) (λ x. string x.1) (checked_at (of_curve stated) (checked_at point_from string_at))
-of_curve_reads stated = checked_reads (kept (λ x. curve_eq x.0 stated) AlgorithmUnknown) (checked_string_reads point_checks)
+pub of_curve_reads : (stated : Curve) → ReadsFront (λ x. IsPointOf x × (curve_eq x.0 stated ≡ true)) (λ x. string x.1) (checked_at (of_curve stated) point_at)
+of_curve_reads stated = checked_reads (kept (λ x. curve_eq x.0 stated) AlgorithmUnknown) point_reads

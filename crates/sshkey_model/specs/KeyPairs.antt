@@ -6,7 +6,7 @@ use Rattle.sshkey_model.specs.Reading.{Fault, Length, FormatEncoding, Crypto, Tr
 use Rattle.sshkey_model.specs.Texts.{string, text_at}
 use Rattle.sshkey_model.specs.Names.{Curve, Algorithm, IsAlgorithm, algorithm, algorithm_at, curve_at}
 use Rattle.sshkey_model.specs.Mpints.{is_mpint, IsMpint, of_positive, mpint_at}
-use Rattle.sshkey_model.specs.Points.{field_size, point_from, p256_point_from, of_curve}
+use Rattle.sshkey_model.specs.Points.{field_size, p256_point_from, of_curve, point_at}
 use Rattle.sshkey_model.specs.Keys.{Key, Dsa, Ecdsa, Ed25519, Rsa, SkEcdsa, SkEd25519, Opaque, DsaKey, RsaKey, SecurityKey, key_algorithm, body, IsBody, Head, headed, HasHead, head_of, unhashed, ed25519_at, p256_only, wanted_curve}
 
 -- ---- private scalars of ECDSA
@@ -229,7 +229,7 @@ dsa_pair_at b = do
 unfoldable pub any_ecdsa_pair_at : Front (KeyPair × LeadingZeros)
 any_ecdsa_pair_at b = do
   stated ← curve_at b
-  point ← checked_at point_from string_at stated.1
+  point ← point_at stated.1
   on ← of_curve stated.0 point.0
   s ← scalar_at (field_size on.0) point.1
   Ok ((EcdsaPair on.0 on.1 s.0.0, s.0.1), s.1)

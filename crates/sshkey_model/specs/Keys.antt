@@ -5,7 +5,7 @@ use Rattle.sshkey_model.specs.Reading.{Fault, AlgorithmUnknown, Crypto, ◌>>=�
 use Rattle.sshkey_model.specs.Texts.{string, IsText, text_at}
 use Rattle.sshkey_model.specs.Names.{Curve, Nistp256, Sha256, Sha512, Algorithm, IsAlgorithm, algorithm, algorithm_at, curve, curve_at}
 use Rattle.sshkey_model.specs.Mpints.{IsMpint, mpint_at}
-use Rattle.sshkey_model.specs.Points.{IsPoint, curve_eq, of_curve, point_from, p256_point_from}
+use Rattle.sshkey_model.specs.Points.{IsPoint, curve_eq, of_curve, point_at, p256_point_from}
 
 pub record DsaKey : Type 0 where
   pub p : List ℕ
@@ -114,7 +114,7 @@ dsa_at b = do
 unfoldable pub any_ecdsa_at : Front Key
 any_ecdsa_at b = do
   stated ← curve_at b
-  point ← checked_at point_from string_at stated.1
+  point ← point_at stated.1
   on ← of_curve stated.0 point.0
   Ok (Ecdsa on.0 on.1, point.1)
 

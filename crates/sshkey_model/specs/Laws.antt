@@ -18,6 +18,10 @@ ReadBack {V} Is normal read = (v : V) → Is v → Fits (normal v) → read (fla
 abbrev pub ReadBackPlain : {V S : Type 0} → (V → Type 0) → (V → S → Parts) → (V → S) → Front (V × S) → Type 0
 ReadBackPlain {V} Is spell plain read = (v : V) → Is v → Fits (spell v (plain v)) → read (flat (spell v (plain v))) ≡ Ok ((v, plain v), [])
 
+-- Where a spelling fits, the normal form does.
+abbrev pub NormalFits : {V S : Type 0} → (V → Type 0) → (V → S → Type 0) → (V → S → Parts) → (V → Parts) → Type 0
+NormalFits {V} {S} Is HasPlace spell normal = (v : V) (s : S) → Is v → HasPlace v s → Fits (spell v s) → Fits (normal v)
+
 -- Equal signed bytes, in any spelling, are of certificates that are equal in all that is signed, and spelled alike.
 abbrev pub DetermineFields : Type 0
 DetermineFields = (c d : SignedFields) (s u : CertificateChoices) → AreSignedFields c → HaveSignedPlaces c s → Fits (to_be_signed c s) → AreSignedFields d → HaveSignedPlaces d u → Fits (to_be_signed d u) → flat (to_be_signed c s) ≡ flat (to_be_signed d u) → (c ≡ d) × (s ≡ u)

@@ -1,6 +1,6 @@
 -- Points of an elliptic curve (SEC 1, section 2.3.3; RFC 5656, section 3.1).
 use Rattle.std.specs.Prelude.{◌≡◌, ℕ, ◌*◌, ◌/◌, ◌%◌, List, [], ◌∷◌, length, Bool, true, false, ◌&&◌, ◌||◌, Result, Ok, Err, nat_lt, ◌==◌, if◌then◌else◌}
-use Rattle.sshkey_model.specs.Reading.{Fault, Length, AlgorithmUnknown, Ecdsa, ◌>>=◌, Whole}
+use Rattle.sshkey_model.specs.Reading.{Fault, Length, AlgorithmUnknown, Ecdsa, ◌>>=◌, Front, Whole, string_at, checked_at}
 use Rattle.sshkey_model.specs.Names.{Curve, Nistp256, Nistp384, Nistp521}
 
 -- bytes of a coordinate
@@ -16,6 +16,10 @@ is_point size (tag ∷ rest) = ((tag == 2 || tag == 3) && length rest == size) |
 
 abbrev pub IsPoint : Curve → List ℕ → Type 0
 IsPoint c p = is_point (field_size c) p ≡ true
+
+-- a curve and a point of it
+abbrev pub IsPointOf : Curve × List ℕ → Type 0
+IsPointOf x = IsPoint x.0 x.1
 
 -- ---- reading
 
@@ -39,6 +43,10 @@ point_curve (tag ∷ rest) =
 -- a point string of at most 133 bytes, and its curve
 abbrev pub point_from : Whole (Curve × List ℕ)
 point_from b = if nat_lt 133 (length b) then Err Length else (point_curve b >>= λ c. Ok (c, b))
+
+-- a point of whichever curve
+abbrev pub point_at : Front (Curve × List ℕ)
+point_at = checked_at point_from string_at
 
 -- a point string of P-256
 abbrev pub p256_point_from : Whole (List ℕ)
