@@ -21,5 +21,7 @@ pub mod Base64Words
 pub mod LineCuts
 pub mod Lines
 pub mod Blobs
+pub mod WrittenLines
+pub mod LinesApart
 pub mod PrivateExamples
 pub mod NormalKeysFit
