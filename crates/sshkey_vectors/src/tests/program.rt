@@ -1,4 +1,7 @@
-use super::run;
+//! The program over inputs and outputs that fail. What it answers on lines is in the table of
+//! `sshkey_cases`.
+
+use sshkey_tool::run;
 use std::alloc::Global;
 use std::io::{self, ErrorKind, Read, Write};
 
@@ -75,47 +78,6 @@ impl Write for Narrow {
 }
 
 const FINGERPRINT: [&str; 1] = ["fingerprint"];
-
-/// On that input it answers with that status, and writes that.
-fn answers(alloc: Global, input: &[u8], status: u8, text: &[u8]) -> bool {
-    let mut left = input;
-    let mut output = Vec::new(alloc);
-    run(alloc, &FINGERPRINT, &mut left, &mut output) == status && output.as_slice() == text
-}
-
-#[test]
-fn a_line_is_shown(rt: HostRuntime) {
-    assert!(rt; answers(rt.alloc(), LINE, 0, SHOWN));
-}
-
-/// Inputs, and what is written of each.
-const REFUSED: [(&[u8], &[u8]); 9] = [
-    (b"", b"refused: length invalid\n"),
-    (b"ssh-ed25519", b"refused: length invalid\n"),
-    (b"ssh-ed25519  AAAA", b"refused: length invalid\n"),
-    (
-        b"ssh_ed25519 AAAA",
-        b"refused: character encoding invalid\n",
-    ),
-    (b"\xff", b"refused: character encoding invalid\n"),
-    (b"ssh-ed25519 AP9=", b"refused: Base64 encoding error\n"),
-    (b"ssh-ed25519 AAAABG5vbmU=", b"refused: label invalid\n"),
-    (
-        b"ssh-rsa AAAAC3NzaC1lZDI1NTE5AAAAILM+rvN+ot98qgEN796jTiQfZfG1KaT0PtFDJ/XFSqti",
-        b"refused: unknown algorithm\n",
-    ),
-    (
-        b"ssh-ed25519 AAAAC3NzaC1lZDI1NTE5AAAAILM+rvN+ot98qgEN796jTiQfZfG1KaT0PtFDJ/XFSqtiAA==",
-        b"refused: unexpected trailing data at end of message (1 bytes)\n",
-    ),
-];
-
-#[test]
-fn refusals_say_why(rt: HostRuntime) {
-    for (input, text) in REFUSED {
-        assert!(rt; answers(rt.alloc(), input, 1, text), "{text:?}");
-    }
-}
 
 /// At these words it shows the usage, and leaves the input.
 fn shows_usage(alloc: Global, words: &[&str]) -> bool {

@@ -1,0 +1,133 @@
+//! The questions.
+
+use crate::bytes::{NO_LINE, part, parts, text};
+use crate::{keys, kinds, names, signatures, wire};
+use sshkey_base::{Algorithm, EcdsaCurve, Error, HashAlg, Mpint, Result};
+use sshkey_keys::{KeyData, Signature};
+use sshkey_kinds::{EcdsaPublicKey, Ed25519PublicKey};
+use sshkey_tool::run;
+use std::alloc::Global;
+
+/// The answer to a line: a question and the byte strings that it is about.
+pub(crate) fn answer_line(alloc: Global, line: &str) -> Result<String> {
+    let (question, words) = line.split_once(' ').unwrap_or((line, ""));
+    if question == "beginnings" {
+        let (question, words) = words.split_once(' ').unwrap_or((words, ""));
+        return beginnings(alloc, question, part(&parts(alloc, words)?, 0));
+    }
+    answer(alloc, question, &parts(alloc, words)?)
+}
+
+/// The answers to a question about each beginning of the bytes, from none of them to all.
+fn beginnings(alloc: Global, question: &str, bytes: &[u8]) -> Result<String> {
+    let mut answers = String::new(alloc);
+    let mut from = 0;
+    let mut last = said_of(alloc, question, &[])?;
+    for len in 1..=bytes.len() {
+        let next = said_of(alloc, question, bytes.get(..len).unwrap_or(bytes))?;
+        if next != last {
+            answers.push_str(&format!(in alloc; "{from} to {}: {last}; ", len - 1)?)?;
+            from = len;
+            last = next;
+        }
+    }
+    answers.push_str(&format!(in alloc; "{from} to {}: {last}", bytes.len())?)?;
+    Ok(answers)
+}
+
+/// What is answered about one byte string, or the text of the refusal. Refused for want of memory
+/// alone.
+fn said_of(alloc: Global, question: &str, bytes: &[u8]) -> Result<String> {
+    match answer(alloc, question, &vec![in alloc; bytes.to_vec(alloc)?]?) {
+        Err(error) if error != Error::Memory => Ok(error.to_string(alloc)?),
+        answer => answer,
+    }
+}
+
+/// The answer to a question about byte strings.
+fn answer(alloc: Global, question: &str, parts: &[Vec<u8>]) -> Result<String> {
+    let bytes = part(parts, 0);
+    match question {
+        "u8" => wire::front::<u8>(alloc, bytes),
+        "u32" => wire::front::<u32>(alloc, bytes),
+        "u64" => wire::front::<u64>(alloc, bytes),
+        "count" => wire::front::<usize>(alloc, bytes),
+        "string" => wire::string(alloc, bytes),
+        "seven" => wire::seven(alloc, bytes),
+        "short" => wire::short(alloc, bytes),
+        "text" => wire::front::<String>(alloc, bytes),
+        "list" => wire::list(alloc, bytes),
+        "boxed" => wire::boxed(alloc, bytes),
+        "mpint" => wire::front::<Mpint>(alloc, bytes),
+        "number" => wire::number(alloc, bytes),
+        "positive" => wire::positive(alloc, bytes),
+        "rising-mpints" => wire::rising::<Mpint>(alloc, parts),
+        "line" => shown_by_program(alloc, bytes),
+        _ => answer_of_names(alloc, question, parts),
+    }
+}
+
+fn answer_of_names(alloc: Global, question: &str, parts: &[Vec<u8>]) -> Result<String> {
+    let bytes = part(parts, 0);
+    match question {
+        "algorithm" => wire::front::<Algorithm>(alloc, bytes),
+        "algorithm-name" => names::algorithm(alloc, text(parts, 0)?),
+        "certified-algorithm" => names::certified_string(alloc, bytes),
+        "certified-name" => names::certified(alloc, text(parts, 0)?),
+        "private-name" => names::private(alloc, text(parts, 0)?),
+        "private-certified-name" => names::private_certified(alloc, text(parts, 0)?),
+        "curve" => wire::front::<EcdsaCurve>(alloc, bytes),
+        "curve-name" => names::curve(alloc, text(parts, 0)?),
+        "hash" => wire::front::<HashAlg>(alloc, bytes),
+        "hash-name" => names::hash(alloc, text(parts, 0)?),
+        "digest" => names::digest(alloc, parts),
+        "rising-algorithms" => wire::rising::<Algorithm>(alloc, parts),
+        _ => answer_of_kinds(alloc, question, parts),
+    }
+}
+
+fn answer_of_kinds(alloc: Global, question: &str, parts: &[Vec<u8>]) -> Result<String> {
+    let bytes = part(parts, 0);
+    match question {
+        "point-256" => kinds::point::<65>(alloc, bytes),
+        "point-384" => kinds::point::<97>(alloc, bytes),
+        "point-521" => kinds::point::<133>(alloc, bytes),
+        "point-of-no-curve" => kinds::point::<64>(alloc, bytes),
+        "point" => kinds::curve_of_point(alloc, bytes),
+        "ed25519-bytes" => kinds::ed25519(alloc, bytes),
+        "dsa-body" => kinds::dsa(alloc, bytes),
+        "ecdsa-body" => wire::front::<EcdsaPublicKey>(alloc, bytes),
+        "ed25519-body" => wire::front::<Ed25519PublicKey>(alloc, bytes),
+        "rsa-body" => kinds::rsa(alloc, bytes),
+        "sk-ecdsa-body" => kinds::sk_ecdsa(alloc, bytes),
+        "sk-ed25519-body" => kinds::sk_ed25519(alloc, bytes),
+        "opaque-body" => kinds::opaque(alloc, bytes),
+        _ => answer_of_keys(alloc, question, parts),
+    }
+}
+
+fn answer_of_keys(alloc: Global, question: &str, parts: &[Vec<u8>]) -> Result<String> {
+    let bytes = part(parts, 0);
+    match question {
+        "key" => keys::whole(alloc, bytes),
+        "key-in-front" => keys::front(alloc, bytes),
+        "fingerprints" => keys::fingerprints(alloc, bytes),
+        "body-under" => keys::named(alloc, parts),
+        "key-of-parts" => keys::made(alloc, parts),
+        "rising-keys" => wire::rising::<KeyData>(alloc, parts),
+        "signature" => signatures::whole(alloc, bytes),
+        "signature-in-front" => signatures::front(alloc, bytes),
+        "signature-of-bytes" => signatures::made(alloc, parts),
+        "rising-signatures" => wire::rising::<Signature>(alloc, parts),
+        _ => Err(NO_LINE),
+    }
+}
+
+/// The status and the output of `sshkey fingerprint` on that input.
+fn shown_by_program(alloc: Global, input: &[u8]) -> Result<String> {
+    let mut left = input;
+    let mut output = Vec::new(alloc);
+    let status = run(alloc, &["fingerprint"], &mut left, &mut output);
+    let text = std::str::from_utf8(&output)?;
+    Ok(format!(in alloc; "{status}, {}", text.trim_end_matches('\n'))?)
+}
