@@ -1,0 +1,4 @@
+pub mod GoodBytes
+pub mod WordSources
+pub mod Symbols
+pub mod Spreading
