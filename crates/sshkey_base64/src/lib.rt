@@ -3,7 +3,11 @@
 
 mod base64_reader;
 mod groups;
+mod history;
 mod in_place;
+mod window;
+mod word;
 
 pub use base64_reader::Base64Reader;
 pub use in_place::spread;
+pub use word::{write_base64, write_word};

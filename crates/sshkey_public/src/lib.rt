@@ -1,0 +1,15 @@
+//! Key lines: reading and writing them, and public keys with their comments.
+#![tactic(auto)]
+
+mod blob;
+mod line;
+mod line_parts;
+mod line_writer;
+mod public_key;
+mod words;
+
+pub use blob::Blob;
+pub use line::read_line;
+pub use line_parts::write_line;
+pub use public_key::PublicKey;
+pub use sshkey_base64::Base64Reader;
