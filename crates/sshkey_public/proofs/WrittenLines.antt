@@ -47,10 +47,10 @@ unfolding flat
 flat_line first word comment = refl
 
 -- the parts make the line
-pub line_written : (fault : Error → Type 0) (name blob comment : List ℕ) (p : Parts) (s t : Sink) (r : Result (Unit {0}) Error) → BoxesFit p → blob ≡ flat p → Encodes fault (line_parts name (encode_of standard blob) comment) s r t → WritesLineTo fault name p comment s r t
+pub line_written : (fault : Error → Type 0) (name comment : List ℕ) (p : Parts) (s t : Sink) (r : Result (Unit {0}) Error) → BoxesFit p → Encodes fault (line_parts name (encode_of standard (flat p)) comment) s r t → WritesLineTo fault name p comment s r t
 unfolding NotWritten flat BoxesFit
-line_written fault name blob comment p s t r boxes is h = shown r
-    (plain_parts fault (line_parts name (encode_of standard blob) comment) (written name (flat p) comment) s t r (tt, (tt, (tt, tt))) (flat_line name (encode_of standard blob) comment ∙ ap (λ (l : List ℕ). written name l comment) is) h)
+line_written fault name comment p s t r boxes h = shown r
+    (plain_parts fault (line_parts name (encode_of standard (flat p)) comment) (written name (flat p) comment) s t r (tt, (tt, (tt, tt))) (flat_line name (encode_of standard (flat p)) comment) h)
   where
     shown : (x : Result (Unit {0}) Error) → Encodes fault (bytes (written name (flat p) comment)) s x t → WritesLineTo fault name p comment s x t
     shown (Ok x) e = (boxes, e)

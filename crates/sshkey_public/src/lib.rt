@@ -3,13 +3,11 @@
 
 mod blob;
 mod line;
-mod line_parts;
 mod line_writer;
 mod public_key;
 mod words;
 
 pub use blob::Blob;
-pub use line::read_line;
-pub use line_parts::write_line;
+pub use line::{read_line, write_line};
 pub use public_key::PublicKey;
 pub use sshkey_base64::Base64Reader;
