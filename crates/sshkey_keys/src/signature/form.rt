@@ -43,11 +43,11 @@ pub(crate) fn check_string(algorithm: &Algorithm, bytes: &[u8]) -> Result<()>
 {
     match algorithm {
         Algorithm::Dsa => check_len(40, bytes),
-        Algorithm::Ecdsa { curve } => check_ecdsa(field_size(*curve), bytes),
+        Algorithm::Ecdsa { curve } => check_ecdsa(curve.field_size(), bytes),
         Algorithm::Ed25519 | Algorithm::SkEd25519 => check_len(64, bytes),
         Algorithm::Rsa { hash: Some(_) } => Ok(()),
         Algorithm::Rsa { hash: None } => Err(Error::Encoding(encoding::Error::Length)),
-        Algorithm::SkEcdsaSha2NistP256 => check_ecdsa(32, bytes),
+        Algorithm::SkEcdsaSha2NistP256 => { check_ecdsa(EcdsaCurve::NistP256.field_size(), bytes) }
         Algorithm::Other(_) => {
             if bytes.is_empty() {
                 return Err(Error::Encoding(encoding::Error::Length));
@@ -73,17 +73,6 @@ fn check_len(len: usize, bytes: &[u8]) -> Result<()>
         return Err(Error::Encoding(encoding::Error::Length));
     }
     Ok(())
-}
-
-/// How many bytes a coordinate on the curve has.
-fn field_size(curve: EcdsaCurve) -> usize
-    ensures { result ≡ size_of_field (curve_of curve) }
-{
-    match curve {
-        EcdsaCurve::NistP256 => 32,
-        EcdsaCurve::NistP384 => 48,
-        EcdsaCurve::NistP521 => 66,
-    }
 }
 
 /// Whether the bytes are two positive numbers of at most `size` bytes each, and nothing more.
