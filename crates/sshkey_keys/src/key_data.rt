@@ -10,7 +10,7 @@ ghost use Rattle.sshkey_model.specs.Names.{algorithm_name, Dsa, Ecdsa, Ed25519, 
 ghost use Rattle.sshkey_base.specs.Reading.{Gives};
 ghost use Rattle.sshkey_base.specs.Source.{Later};
 ghost use Rattle.sshkey_base.specs.Sink.{Encodes, Measures};
-ghost use Rattle.sshkey_keys.specs.Fingerprints.{GivesFingerprint};
+ghost use Rattle.sshkey_keys.specs.Fingerprints.{GivesFingerprint, IsShort};
 ghost use Rattle.sshkey_keys.specs.Keys.{key_of, algorithm_beside, SpellsKey, key_data_at};
 ghost use Rattle.sshkey_keys.specs.KeyKinds.{is_ecdsa, is_ed25519};
 ghost use Rattle.sshkey_keys.specs.KeyReaders.{key_grammar, key_normal};
@@ -113,9 +113,10 @@ impl KeyData {
     /// The fingerprint by that hash: the digest of the key's normal form.
     ///
     /// Exactly where a part of the key is longer than 2^32 - 1 bytes, the answer is `Length`;
-    /// otherwise it is refused only with `Memory`.
+    /// otherwise it is refused only with `Memory`. A key of at most 256 bytes is never refused.
     pub fn fingerprint(&self, alloc: Global, hash_alg: HashAlg) -> Result<Fingerprint>
-        ensures { GivesFingerprint (hash_of hash_alg) (key_of self.now) result }
+        ensures gives { GivesFingerprint (hash_of hash_alg) (key_of self.now) result }
+        ensures short { IsShort (key_of self.now) → IsOk result }
     {
         Fingerprint::new(alloc, hash_alg, self)
     }

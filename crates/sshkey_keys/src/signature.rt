@@ -42,6 +42,7 @@ impl Signature {
     /// Of an ECDSA signature the first fault from the left is answered: `FormatEncoding` for a
     /// number with a needless leading 00, `Crypto` for one that is not positive. All else that is
     /// not well-formed is `Length`. Takes no memory.
+    #[inline(always)]
     pub fn new(algorithm: Algorithm, bytes: Vec<u8>) -> Result<Signature>
         ensures exactly { IsOk result ↔ IsSignatureBlob (algorithm_of algorithm) bytes.items }
         ensures answer { AnswersAlways signature_of cause (signature_from (algorithm_of algorithm) bytes.items) result }
