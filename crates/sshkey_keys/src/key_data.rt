@@ -10,7 +10,7 @@ ghost use Rattle.sshkey_model.specs.Names.{algorithm_name, Dsa, Ecdsa, Ed25519, 
 ghost use Rattle.sshkey_base.specs.Reading.{Gives};
 ghost use Rattle.sshkey_base.specs.Source.{Later};
 ghost use Rattle.sshkey_base.specs.Sink.{Encodes, Measures};
-ghost use Rattle.sshkey_keys.specs.Fingerprints.{GivesFingerprint};
+ghost use Rattle.sshkey_keys.specs.Fingerprints.{GivesFingerprint, IsShort};
 ghost use Rattle.sshkey_keys.specs.Keys.{key_of, algorithm_beside, SpellsKey, key_data_at};
 ghost use Rattle.sshkey_keys.specs.KeyKinds.{is_ecdsa, is_ed25519};
 ghost use Rattle.sshkey_keys.specs.KeyReaders.{key_grammar, key_normal};
@@ -47,7 +47,7 @@ pub enum KeyData {
     SkEcdsaSha2NistP256(SkEcdsaSha2NistP256),
     /// `sk-ssh-ed25519@openssh.com` (OpenSSH, PROTOCOL.u2f).
     SkEd25519(SkEd25519),
-    /// A key under a name of somebody's own.
+    /// A key under a private-use name.
     Other(OpaquePublicKey),
 }
 
@@ -70,7 +70,7 @@ impl KeyData {
     /// The key's algorithm. That of an opaque key is the one that stands beside its bytes, and for
     /// a well-formed key the one that its name tells.
     ///
-    /// Only want of memory refuses it, and only under a name of somebody's own.
+    /// Refused only with `Memory`, and only under a private-use name.
     #[tactic(auto, using(crate::proofs::OwnAlgorithms::well_formed_algorithm))]
     pub fn algorithm(&self, alloc: Global) -> Result<Algorithm>
         ensures ok { IfOk result (λ a. algorithm_of a ≡ algorithm_beside self.now) }
@@ -113,16 +113,17 @@ impl KeyData {
     /// The fingerprint by that hash: the digest of the key's normal form.
     ///
     /// Exactly where a part of the key is longer than 2^32 - 1 bytes, the answer is `Length`;
-    /// otherwise it is refused for want of memory alone.
+    /// otherwise it is refused only with `Memory`. A key of at most 256 bytes is never refused.
     pub fn fingerprint(&self, alloc: Global, hash_alg: HashAlg) -> Result<Fingerprint>
-        ensures { GivesFingerprint (hash_of hash_alg) (key_of self.now) result }
+        ensures gives { GivesFingerprint (hash_of hash_alg) (key_of self.now) result }
+        ensures short { IsShort (key_of self.now) → IsOk result }
     {
         Fingerprint::new(alloc, hash_alg, self)
     }
 
     /// Reads what stands behind the name of that algorithm, an RSA key's with or without a hash.
     ///
-    /// Want of memory aside, it is refused only where no front is the body of such a key, by a
+    /// Out of memory aside, it is refused only where no front is the body of such a key, by a
     /// sound source with the first fault from the left.
     pub fn decode_as<R: Reader>(
         alloc: Global,
@@ -254,7 +255,7 @@ fn sk_ed25519_from<R: Reader>(alloc: Global, reader: &mut R) -> Result<KeyData>
     Ok(KeyData::SkEd25519(key))
 }
 
-/// The body of a key under a name of somebody's own.
+/// The body of a key under a private-use name.
 #[tactic(auto, using(sshkey_base::proofs::Steps::steps))]
 fn opaque_from<R: Reader>(alloc: Global, reader: &mut R, algorithm: Algorithm) -> Result<KeyData>
     ensures gives { Gives key_of cause (body_at (Other (algorithm_name (algorithm_of algorithm)))) (R.source reader.old) result (R.source reader.new) }

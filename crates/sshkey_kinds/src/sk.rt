@@ -4,7 +4,6 @@ ghost use Rattle.std.specs.Prelude.{◌≡◌, ℕ, ◌+◌, ◌*◌, ◌^◌, c
 ghost use Rattle.sshkey_base.specs.Causes.{cause};
 ghost use Rattle.sshkey_base.specs.Reading.{Gives};
 ghost use Rattle.sshkey_base.specs.Source.{Later};
-ghost use Rattle.sshkey_base.specs.declared.error.Error.TheVariants as wide;
 ghost use Rattle.sshkey_model.specs.Keys.{Key, SkEcdsa, SkEd25519 as SkEd25519Key, body, p256_only};
 ghost use Rattle.sshkey_model.specs.Points.{p256_point_from};
 ghost use Rattle.sshkey_model.specs.Reading.{bytes_at, checked_at, string_at};
@@ -31,7 +30,7 @@ pub struct SkEcdsaSha2NistP256 {
 }
 
 impl SkEcdsaSha2NistP256 {
-    ghost use Rattle.sshkey_kinds.specs.Kinds.{sk_ecdsa_of};
+    ghost use Rattle.sshkey_kinds.specs.Kinds.{sk_ecdsa_application, sk_ecdsa_of, sk_ecdsa_point};
 
     /// The key for that application. Takes no memory.
     pub fn new(ec_point: EcdsaNistP256PublicKey, application: String) -> SkEcdsaSha2NistP256
@@ -49,7 +48,7 @@ impl SkEcdsaSha2NistP256 {
         ec_point: EcdsaNistP256PublicKey,
     ) -> Result<SkEcdsaSha2NistP256>
         ensures value { IfOk result (λ k. sk_ecdsa_of k ≡ SkEcdsa (record { key = point_of ec_point; application = codes "ssh:" })) }
-        ensures refused { IfErr result (λ e. e ≡ wide.Memory) }
+        ensures refused { IfErr result (λ e. e ≡ Error.Memory) }
     {
         let application = String::from_str(alloc, DEFAULT_APPLICATION)?;
         Ok(SkEcdsaSha2NistP256::new(ec_point, application))
@@ -58,7 +57,7 @@ impl SkEcdsaSha2NistP256 {
     /// The same key in memory of its own. Refuses only with `Memory`.
     pub fn try_clone(&self, alloc: Global) -> Result<SkEcdsaSha2NistP256>
         ensures value { IfOk result (λ k. sk_ecdsa_of k ≡ sk_ecdsa_of self.now) }
-        ensures refused { IfErr result (λ e. e ≡ wide.Memory) }
+        ensures refused { IfErr result (λ e. e ≡ Error.Memory) }
     {
         Ok(SkEcdsaSha2NistP256 {
             ec_point: self.ec_point,
@@ -68,14 +67,14 @@ impl SkEcdsaSha2NistP256 {
 
     /// The point.
     pub fn ec_point(&self) -> &EcdsaNistP256PublicKey
-        ensures { SkEcdsa (record { key = point_of result.now; application = self.now.application }) ≡ sk_ecdsa_of self.now }
+        ensures { result.now ≡ sk_ecdsa_point self.now }
     {
         &self.ec_point
     }
 
     /// The application.
     pub fn application(&self) -> &str
-        ensures { SkEcdsa (record { key = point_of self.now.ec_point; application = result.now }) ≡ sk_ecdsa_of self.now }
+        ensures { result.now ≡ sk_ecdsa_application self.now }
     {
         self.application.as_str()
     }
@@ -83,7 +82,9 @@ impl SkEcdsaSha2NistP256 {
 
 /// The point, without the application.
 impl From<SkEcdsaSha2NistP256> for EcdsaNistP256PublicKey {
-    ghost from_gives = { λ k point. point ≡ k.ec_point };
+    ghost use Rattle.sshkey_kinds.specs.Kinds.{sk_ecdsa_point};
+
+    ghost from_gives = { λ k point. point ≡ sk_ecdsa_point k };
 
     fn from(key: SkEcdsaSha2NistP256) -> EcdsaNistP256PublicKey {
         key.ec_point
@@ -182,7 +183,7 @@ pub struct SkEd25519 {
 }
 
 impl SkEd25519 {
-    ghost use Rattle.sshkey_kinds.specs.Kinds.{sk_ed25519_of};
+    ghost use Rattle.sshkey_kinds.specs.Kinds.{sk_ed25519_application, sk_ed25519_key, sk_ed25519_of};
 
     /// The key for that application. Takes no memory.
     pub fn new(public_key: Ed25519PublicKey, application: String) -> SkEd25519
@@ -200,7 +201,7 @@ impl SkEd25519 {
         public_key: Ed25519PublicKey,
     ) -> Result<SkEd25519>
         ensures value { IfOk result (λ k. sk_ed25519_of k ≡ SkEd25519Key (record { key = public_key.0; application = codes "ssh:" })) }
-        ensures refused { IfErr result (λ e. e ≡ wide.Memory) }
+        ensures refused { IfErr result (λ e. e ≡ Error.Memory) }
     {
         let application = String::from_str(alloc, DEFAULT_APPLICATION)?;
         Ok(SkEd25519::new(public_key, application))
@@ -209,7 +210,7 @@ impl SkEd25519 {
     /// The same key in memory of its own. Refuses only with `Memory`.
     pub fn try_clone(&self, alloc: Global) -> Result<SkEd25519>
         ensures value { IfOk result (λ k. sk_ed25519_of k ≡ sk_ed25519_of self.now) }
-        ensures refused { IfErr result (λ e. e ≡ wide.Memory) }
+        ensures refused { IfErr result (λ e. e ≡ Error.Memory) }
     {
         Ok(SkEd25519 {
             public_key: self.public_key,
@@ -219,14 +220,14 @@ impl SkEd25519 {
 
     /// The key without its application.
     pub fn public_key(&self) -> &Ed25519PublicKey
-        ensures { SkEd25519Key (record { key = result.now.0; application = self.now.application }) ≡ sk_ed25519_of self.now }
+        ensures { result.now ≡ sk_ed25519_key self.now }
     {
         &self.public_key
     }
 
     /// The application.
     pub fn application(&self) -> &str
-        ensures { SkEd25519Key (record { key = self.now.public_key.0; application = result.now }) ≡ sk_ed25519_of self.now }
+        ensures { result.now ≡ sk_ed25519_application self.now }
     {
         self.application.as_str()
     }
@@ -234,7 +235,9 @@ impl SkEd25519 {
 
 /// The key, without the application.
 impl From<SkEd25519> for Ed25519PublicKey {
-    ghost from_gives = { λ k plain. plain ≡ k.public_key };
+    ghost use Rattle.sshkey_kinds.specs.Kinds.{sk_ed25519_key};
+
+    ghost from_gives = { λ k plain. plain ≡ sk_ed25519_key k };
 
     fn from(key: SkEd25519) -> Ed25519PublicKey {
         key.public_key

@@ -8,7 +8,6 @@ ghost use Rattle.sshkey_base.specs.Names.{algorithm_of};
 ghost use Rattle.sshkey_base.specs.Reading.{Gives, GivesWhole};
 ghost use Rattle.sshkey_base.specs.Source.{Later};
 ghost use Rattle.sshkey_base.specs.Sink.{Encodes, Measures};
-ghost use Rattle.sshkey_base.specs.declared.error.Error.TheVariants as wide;
 ghost use Rattle.sshkey_model.specs.Reading.{checked_at, string_at, whole};
 ghost use Rattle.sshkey_model.specs.Signatures.{Signature as TheSignature, IsSignature, IsSignatureBlob, signature, signature_blob, signature_blob_at, signature_at, trailed_at};
 ghost use Rattle.sshkey_keys.specs.Blobs.{all_of, ReadsFrontOf, MakesBlob};
@@ -27,7 +26,7 @@ use std::alloc::Global;
 impl Signature {
     /// Reads a signature from the front of the bytes, whatever follows it.
     ///
-    /// Want of memory aside, it is refused only where no front spells a signature. The refusals
+    /// Out of memory aside, it is refused only where no front spells a signature. The refusals
     /// are those of `decode`.
     pub fn from_front(alloc: Global, bytes: &[u8]) -> Result<Signature>
         ensures { ReadsFrontOf signature_of signature_at SpellsSignature cause bytes.now result }
@@ -38,7 +37,7 @@ impl Signature {
 
     /// Reads a signature that all the bytes spell.
     ///
-    /// Want of memory aside, they are refused only where they spell no signature: `TrailingData`
+    /// Out of memory aside, they are refused only where they spell no signature: `TrailingData`
     /// with the number of bytes behind one, else the refusals of `decode`.
     pub fn from_bytes(alloc: Global, bytes: &[u8]) -> Result<Signature>
         ensures gives { GivesWhole signature_of cause (whole signature_at) (all_of bytes.now) result }
@@ -50,7 +49,7 @@ impl Signature {
     /// The bytes that spell the signature, in memory of their own.
     ///
     /// Exactly where the bytes of the signature are more than 2^32 - 1 (those behind the string
-    /// aside), the answer is `Length`; otherwise it is refused for want of memory alone.
+    /// aside), the answer is `Length`; otherwise it is refused only with `Memory`.
     pub fn to_bytes(&self, alloc: Global) -> Result<Vec<u8>>
         ensures { MakesBlob (signature (signature_of self.now)) result }
     {
@@ -127,10 +126,10 @@ fn decode_trailed<R: Reader>(alloc: Global, reader: &mut R, algorithm: &Algorith
     with_trailer(bytes, &trailer)
 }
 
-/// The bytes, and then the trailer. Refused only for want of memory.
+/// The bytes, and then the trailer. Refused only with `Memory`.
 fn with_trailer(bytes: Bytes, trailer: &[u8]) -> Result<Bytes>
     ensures joined { IfOk result (λ blob. blob ≡ bytes ++ trailer.now) }
-    ensures refused { IfErr result (λ e. e ≡ wide.Memory) }
+    ensures refused { IfErr result (λ e. e ≡ Error.Memory) }
 {
     let mut blob = bytes.into_vec();
     blob.extend_from_slice(trailer)?;

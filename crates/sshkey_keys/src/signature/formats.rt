@@ -3,20 +3,19 @@
 ghost use Rattle.std.specs.Fmt.{WritesOnOk};
 ghost use Rattle.std.specs.Prelude.{◌≡◌, IfOk, IfErr};
 ghost use Rattle.hex.specs.Hex.{encode_lower, encode_upper};
-ghost use Rattle.sshkey_base.specs.declared.error.Error.TheVariants as wide;
 ghost use Rattle.sshkey_keys.specs.Signatures.{signature_of};
 
 use super::Signature;
-use sshkey_base::{Result, write_lower_hex, write_upper_hex};
+use sshkey_base::{Error, Result, write_lower_hex, write_upper_hex};
 use std::alloc::Global;
 use std::convert::AsSlice;
 use std::fmt;
 
 impl Signature {
-    /// The same signature in memory of its own. Refused only for want of memory.
+    /// The same signature in memory of its own. Refused only with `Memory`.
     pub fn try_clone(&self, alloc: Global) -> Result<Signature>
         ensures same { IfOk result (λ g. signature_of g ≡ signature_of self.now) }
-        ensures refused { IfErr result (λ e. e ≡ wide.Memory) }
+        ensures refused { IfErr result (λ e. e ≡ Error.Memory) }
     {
         let algorithm = self.algorithm.try_clone(alloc)?;
         let blob = self.blob.try_clone(alloc)?;
