@@ -13,7 +13,8 @@ use Rattle.sshkey_base.specs.declared.error.Error as wide
 use Rattle.sshkey_model.proofs.CombinedReaders.{bytes_fit}
 use Rattle.sshkey_model.specs.Parts.{bytes, flat, BoxesFit}
 use Rattle.sshkey_model.specs.Lines.{IsLineOf}
-use Rattle.sshkey_model.specs.LineCuts.{IsCut, IsNoLine}
+use Rattle.sshkey_model.proofs.LineCuts.{IsCut}
+use Rattle.sshkey_model.specs.Lines.{IsNoLine}
 use Rattle.sshkey_model.proofs.LineCuts.{one_cut}
 use Rattle.sshkey_model.proofs.Lines.{line_cut, no_cut, other_first, is_line}
 use Rattle.sshkey_public.specs.Blobs.{StandsInLines}
