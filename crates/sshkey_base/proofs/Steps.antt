@@ -1,13 +1,14 @@
 -- The steps of a reading function, as the plain reader takes them.
-use Rattle.std.proofs.Common.{◌≡◌, ℕ, false, true, ltb, List, ◌++◌, length, Result, Ok, Err, refl, ap, ◌∙◌, arith, lt-ltb}
+use Rattle.std.proofs.Common.{inl, inr, ◌≤◌, ◌≡◌, ℕ, false, true, ltb, List, ◌++◌, length, Result, Ok, Err, refl, ap, ◌∙◌, arith, lt-ltb}
 use Rattle.std.specs.Int.{w32}
 use Rattle.std.proofs.lemmas.Bool.{le-ltb}
 use Rattle.std.proofs.lemmas.List.{length-append, take_at, drop_at}
 use Rattle.sshkey_model.specs.Parts.{are_bytes}
 use Rattle.sshkey_model.specs.Reading.{Fault, Length, ◌>>=◌, Front, number_at, bytes_at, string_at, checked_at}
 use Rattle.sshkey_base.specs.declared.encoding.Error.{Error}
-use Rattle.sshkey_base.specs.Causes.{Cause, encoding_cause}
-use Rattle.sshkey_base.specs.Source.{Source, Advances, TooFew}
+use Rattle.sshkey_base.specs.Causes.{Cause, NoMemory, encoding_cause}
+use Rattle.sshkey_base.specs.Source.{Source, IsSound, Advances, TooFew}
+use Rattle.sshkey_base.specs.Needs.{NeedsString, NeedsBoth}
 use Rattle.sshkey_base.specs.Reading.{Reads, Refuses, IsRefused, Gives}
 use Rattle.sshkey_base.proofs.Places.{later_none, later_then}
 
@@ -25,7 +26,23 @@ refuses_later means read s t x c k a h = rw (a.value, ← a.missing) h
 pub refused_later : {A B C : Type 0} (means : C → A) (read : Front A) (s t : Source) (x : C) (c : Cause) (k : A × List ℕ → Result B Fault) → Reads means read s x t → IsRefused t.missing c (k (means x, t.left)) → IsRefused s.missing c (read s.left >>= k)
 refused_later means read s t x c k a h = rw (a.value, ← a.missing) h
 
-pub ruleset steps = (refused_first, refused_later, refuses_first, refuses_later, later_none, later_then)
+-- A fault is no want of memory.
+pub never_asks : {A : Type 0} {X : Type 0} (m : ℕ) (c : Cause) (r : Result A Fault) → Refuses m c r → c ≡ NoMemory → m ≡ 0 → X
+never_asks m c r h memory sound = let f = h.same sound in absurd cc
+
+pub asks_number : (s t : Source) (n : ℕ) → Reads (λ k. k) (number_at w32) s n t → n ≤ length t.left → NeedsString s.left
+asks_number s t n h le = rw h.value le
+
+pub asks_string : (s t : Source) (n : ℕ) (c : Cause) → Reads (λ k. k) (number_at w32) s n t → (c ≡ NoMemory → IsSound t → n ≤ length t.left) → c ≡ NoMemory → IsSound s → NeedsString s.left
+asks_string s t n c h asks memory sound = asks_number s t n h (asks memory (h.missing ∙ sound))
+
+pub asks_first : {A : Type 0} (first second : List ℕ → Type 0) (read : Front A) (s : Source) (c : Cause) → (c ≡ NoMemory → IsSound s → first s.left) → c ≡ NoMemory → IsSound s → NeedsBoth first read second s.left
+asks_first first second read s c h memory sound = inl (h memory sound)
+
+pub asks_later : {A C : Type 0} (means : C → A) (first second : List ℕ → Type 0) (read : Front A) (s t : Source) (x : C) (c : Cause) → Reads means read s x t → (c ≡ NoMemory → IsSound t → second t.left) → c ≡ NoMemory → IsSound s → NeedsBoth first read second s.left
+asks_later means first second read s t x c a h memory sound = inr (rw a.value (h memory (a.missing ∙ sound)))
+
+pub ruleset steps = (never_asks, asks_string, asks_first, asks_later, refused_first, refused_later, refuses_first, refuses_later, later_none, later_then)
 
 -- the bytes of a string, judged behind its length
 pub behind_length : {B X E : Type 0} (means : X → B) (cause : E → Cause) (judge : List ℕ → Result B Fault) (n : ℕ) (s t u : Source) (r : Result X E) → Reads (λ k. k) (number_at w32) s n t → Gives means cause (checked_at judge (bytes_at n)) t r u → Gives means cause (checked_at judge string_at) s r u

@@ -8,6 +8,7 @@ ghost use Rattle.sshkey_base.specs.Accepting.{AcceptsFront, AcceptsWhole};
 ghost use Rattle.sshkey_base.specs.Causes.{encoding_cause};
 ghost use Rattle.sshkey_base.specs.Leaves.{SpellsByte, SpellsNumber32, SpellsNumber64, SpellsArray, byte_grammar, number32_grammar, number64_grammar, array_grammar};
 ghost use Rattle.sshkey_base.specs.Nested.{nested_source};
+ghost use Rattle.sshkey_base.specs.Needs.{Asks, NoNeed};
 ghost use Rattle.sshkey_base.specs.Reading.{Gives, GivesAlways, GivesWhole, LengthPast};
 ghost use Rattle.sshkey_base.specs.Source.{Later};
 
@@ -33,6 +34,9 @@ pub trait Decode: Sized {
     /// The bytes are a spelling of the value.
     ghost Spells: { Meaning → List ℕ → Type 0 };
 
+    /// What memory may be asked for.
+    ghost needs: { List ℕ → Type 0 };
+
     /// Reads a value from the front, and leaves what follows it.
     ///
     /// It is what the plain reader gives of the bytes that are left. Want of memory aside, it is
@@ -40,7 +44,8 @@ pub trait Decode: Sized {
     /// After a refusal some of the bytes that were left may be passed, and nothing else changed.
     fn decode<R: Reader>(alloc: Global, reader: &mut R) -> Result<Self, Self::Error>
         ensures gives { Gives means Self.Error.cause parse (R.source reader.old) result (R.source reader.new) }
-        ensures later { Later (R.source reader.old) (R.source reader.new) };
+        ensures later { Later (R.source reader.old) (R.source reader.new) }
+        ensures asks { Asks Self.Error.cause needs (R.source reader.old) result };
 
     /// The plain reader takes exactly the spellings.
     ghost grammar: { IsGrammar Spells parse };
@@ -59,11 +64,14 @@ impl Decode for u8 {
 
     ghost Spells = { SpellsByte };
 
+    ghost needs = { NoNeed };
+
     ghost grammar = { byte_grammar };
 
     fn decode<R: Reader>(_alloc: Global, reader: &mut R) -> Result<u8, encoding::Error>
         ensures gives { Gives (λ x. x) encoding_cause (number_at w8) (R.source reader.old) result (R.source reader.new) }
         ensures later { Later (R.source reader.old) (R.source reader.new) }
+        ensures asks { Asks encoding_cause NoNeed (R.source reader.old) result }
         ensures always { GivesAlways (λ x. x) encoding_cause (number_at w8) (R.source reader.old) result (R.source reader.new) }
     {
         let bytes = array_from::<1, R>(reader)?;
@@ -84,11 +92,14 @@ impl Decode for u32 {
 
     ghost Spells = { SpellsNumber32 };
 
+    ghost needs = { NoNeed };
+
     ghost grammar = { number32_grammar };
 
     fn decode<R: Reader>(_alloc: Global, reader: &mut R) -> Result<u32, encoding::Error>
         ensures gives { Gives (λ x. x) encoding_cause (number_at w32) (R.source reader.old) result (R.source reader.new) }
         ensures later { Later (R.source reader.old) (R.source reader.new) }
+        ensures asks { Asks encoding_cause NoNeed (R.source reader.old) result }
         ensures always { GivesAlways (λ x. x) encoding_cause (number_at w32) (R.source reader.old) result (R.source reader.new) }
     {
         let bytes = array_from::<4, R>(reader)?;
@@ -109,11 +120,14 @@ impl Decode for u64 {
 
     ghost Spells = { SpellsNumber64 };
 
+    ghost needs = { NoNeed };
+
     ghost grammar = { number64_grammar };
 
     fn decode<R: Reader>(_alloc: Global, reader: &mut R) -> Result<u64, encoding::Error>
         ensures gives { Gives (λ x. x) encoding_cause (number_at w64) (R.source reader.old) result (R.source reader.new) }
         ensures later { Later (R.source reader.old) (R.source reader.new) }
+        ensures asks { Asks encoding_cause NoNeed (R.source reader.old) result }
         ensures always { GivesAlways (λ x. x) encoding_cause (number_at w64) (R.source reader.old) result (R.source reader.new) }
     {
         let bytes = array_from::<8, R>(reader)?;
@@ -135,11 +149,14 @@ impl<const N: usize> Decode for [u8; N] {
 
     ghost Spells = { SpellsArray N };
 
+    ghost needs = { NoNeed };
+
     ghost grammar = { array_grammar N };
 
     fn decode<R: Reader>(_alloc: Global, reader: &mut R) -> Result<[u8; N], encoding::Error>
         ensures gives { Gives (λ b. b) encoding_cause (box_at (whole (bytes_at N))) (R.source reader.old) result (R.source reader.new) }
         ensures later { Later (R.source reader.old) (R.source reader.new) }
+        ensures asks { Asks encoding_cause NoNeed (R.source reader.old) result }
         ensures always { GivesAlways (λ b. b) encoding_cause (box_at (whole (bytes_at N))) (R.source reader.old) result (R.source reader.new) }
     {
         reader.read_prefixed(
@@ -174,6 +191,7 @@ pub fn decode_boxed<T: Decode + Drop, R: Reader>(
 pub fn decode_front<T: Decode, R: Reader>(alloc: Global, reader: &mut R) -> Result<T, T::Error>
     ensures gives { Gives T.means T.Error.cause T.parse (R.source reader.old) result (R.source reader.new) }
     ensures later { Later (R.source reader.old) (R.source reader.new) }
+    ensures asks { Asks T.Error.cause T.needs (R.source reader.old) result }
     ensures accepts { AcceptsFront T.means T.Spells T.Error.cause (R.source reader.old) result (R.source reader.new) }
 {
     T::decode(alloc, reader)

@@ -5,6 +5,7 @@ ghost use Rattle.sshkey_model.specs.Parts.{box, each};
 ghost use Rattle.sshkey_model.specs.Texts.{texts, texts_at};
 ghost use Rattle.sshkey_base.specs.Causes.{encoding_cause};
 ghost use Rattle.sshkey_base.specs.Nested.{nested_source};
+ghost use Rattle.sshkey_base.specs.Needs.{Asks, NeedsString};
 ghost use Rattle.sshkey_base.specs.Reading.{Gives, GivesToEnd, LengthPast};
 ghost use Rattle.sshkey_base.specs.Source.{Later};
 ghost use Rattle.sshkey_base.specs.Sink.{Encodes, Measures, MeasuresBoxed};
@@ -93,11 +94,14 @@ impl Decode for Vec<String> {
 
     ghost Spells = { SpellsTexts };
 
+    ghost needs = { NeedsString };
+
     ghost grammar = { texts_grammar };
 
     fn decode<R: Reader>(alloc: Global, reader: &mut R) -> Result<Vec<String>>
         ensures gives { Gives texts_of encoding_cause texts_at (R.source reader.old) result (R.source reader.new) }
         ensures later { Later (R.source reader.old) (R.source reader.new) }
+        ensures asks { Asks encoding_cause NeedsString (R.source reader.old) result }
         ensures past { LengthPast encoding_cause (R.source reader.old) result }
     {
         reader.read_prefixed(

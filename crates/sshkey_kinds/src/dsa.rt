@@ -43,6 +43,8 @@ impl DsaPublicKey {
 /// The four numbers p, q, g and y, each as a string.
 #[tactic(auto, using(sshkey_base::proofs::Steps::steps), unfolding(crate::specs::Bodies::dsa_at))]
 impl Decode for DsaPublicKey {
+    ghost use Rattle.sshkey_base.specs.MpintSpelling.{mpint_at};
+    ghost use Rattle.sshkey_base.specs.Needs.{NeedsBoth, NeedsString};
     ghost use Rattle.sshkey_kinds.specs.Kinds.{dsa_of};
 
     type Error = Error;
@@ -54,6 +56,8 @@ impl Decode for DsaPublicKey {
     ghost parse = { dsa_at };
 
     ghost Spells = { SpellsDsa };
+
+    ghost needs = { NeedsBoth NeedsString mpint_at (NeedsBoth NeedsString mpint_at (NeedsBoth NeedsString mpint_at NeedsString)) };
 
     ghost grammar = { dsa_grammar };
 
