@@ -8,7 +8,7 @@ ghost use Rattle.sshkey_base.specs.Accepting.{AcceptsFront, AcceptsWhole};
 ghost use Rattle.sshkey_base.specs.Causes.{encoding_cause};
 ghost use Rattle.sshkey_base.specs.Leaves.{SpellsByte, SpellsNumber32, SpellsNumber64, SpellsArray, byte_grammar, number32_grammar, number64_grammar, array_grammar};
 ghost use Rattle.sshkey_base.specs.Nested.{nested_source};
-ghost use Rattle.sshkey_base.specs.Needs.{Asks, NoNeed};
+ghost use Rattle.sshkey_base.specs.Needs.{Asks, NeedsBoxed, NoNeed};
 ghost use Rattle.sshkey_base.specs.Reading.{Gives, GivesAlways, GivesWhole, LengthPast};
 ghost use Rattle.sshkey_base.specs.Source.{Later};
 
@@ -34,14 +34,15 @@ pub trait Decode: Sized {
     /// The bytes are a spelling of the value.
     ghost Spells: { Meaning → List ℕ → Type 0 };
 
-    /// What memory may be asked for.
+    /// Where a sound source may be refused for memory that ran out.
     ghost needs: { List ℕ → Type 0 };
 
     /// Reads a value from the front, and leaves what follows it.
     ///
-    /// It is what the plain reader gives of the bytes that are left. Want of memory aside, it is
-    /// refused only where the plain reader refuses too, and by a sound source with the same fault.
-    /// After a refusal some of the bytes that were left may be passed, and nothing else changed.
+    /// It is what the plain reader gives of the bytes that are left. A sound source is refused with
+    /// the fault of the plain reader, and for memory that ran out only where `needs` says so. How a
+    /// source with a fault is refused is open. After a refusal some of the bytes that were left may
+    /// be passed, and nothing else changed.
     fn decode<R: Reader>(alloc: Global, reader: &mut R) -> Result<Self, Self::Error>
         ensures gives { Gives means Self.Error.cause parse (R.source reader.old) result (R.source reader.new) }
         ensures later { Later (R.source reader.old) (R.source reader.new) }
@@ -171,7 +172,7 @@ impl<const N: usize> Decode for [u8; N] {
 /// Reads a length of four bytes, and a value that takes exactly so many bytes.
 ///
 /// `Length` where the length passes what is left, `TrailingData` with the number of bytes that
-/// the value leaves.
+/// the value leaves. Memory is asked for only by the value, in a part that stands whole.
 #[tactic(auto, using(crate::proofs::Boxes::boxes))]
 pub fn decode_boxed<T: Decode + Drop, R: Reader>(
     alloc: Global,
@@ -180,14 +181,16 @@ pub fn decode_boxed<T: Decode + Drop, R: Reader>(
     ensures past { LengthPast T.Error.cause (R.source reader.old) result }
     ensures gives { Gives T.means T.Error.cause (box_at (whole T.parse)) (R.source reader.old) result (R.source reader.new) }
     ensures later { Later (R.source reader.old) (R.source reader.new) }
+    ensures asks { Asks T.Error.cause (NeedsBoxed T.needs) (R.source reader.old) result }
 {
     reader.read_prefixed(|part| T::decode(alloc, part))
 }
 
 /// Reads a value from the front, in the words of the grammar.
 ///
-/// The bytes taken spell the value, and the rest is left. Want of memory aside, a sound source is
-/// refused only where no front of it spells any value.
+/// The bytes taken spell the value, and the rest is left. Out of memory aside, a sound source is
+/// refused only where no front of it spells any value, and out of memory is answered only where
+/// the value needs some: a stated length that passes what is left is `Length`.
 pub fn decode_front<T: Decode, R: Reader>(alloc: Global, reader: &mut R) -> Result<T, T::Error>
     ensures gives { Gives T.means T.Error.cause T.parse (R.source reader.old) result (R.source reader.new) }
     ensures later { Later (R.source reader.old) (R.source reader.new) }
@@ -199,14 +202,16 @@ pub fn decode_front<T: Decode, R: Reader>(alloc: Global, reader: &mut R) -> Resu
 
 /// Reads a value that is all there is.
 ///
-/// Want of memory aside, a sound source is accepted exactly if all its bytes together spell a
-/// value, which then is the answer. `TrailingData` with the number of bytes behind a value. A
-/// source with a fault is never accepted.
+/// Out of memory aside, a sound source is accepted exactly if all its bytes together spell a
+/// value, which then is the answer. `TrailingData` with the number of bytes behind a value, and
+/// `Length` for a stated length that passes what is left, before any memory is asked for. A source
+/// with a fault is never accepted.
 pub fn decode_whole<T: Decode + Drop, R: Reader + Drop>(
     alloc: Global,
     mut reader: R,
 ) -> Result<T, T::Error>
     ensures gives { GivesWhole T.means T.Error.cause (whole T.parse) (R.source reader) result }
+    ensures asks { Asks T.Error.cause T.needs (R.source reader) result }
     ensures accepts { AcceptsWhole T.means T.Spells T.Error.cause (R.source reader) result }
 {
     let value = T::decode(alloc, &mut reader)?;

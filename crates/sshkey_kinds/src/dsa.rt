@@ -43,8 +43,7 @@ impl DsaPublicKey {
 /// The four numbers p, q, g and y, each as a string.
 #[tactic(auto, using(sshkey_base::proofs::Steps::steps), unfolding(crate::specs::Bodies::dsa_at))]
 impl Decode for DsaPublicKey {
-    ghost use Rattle.sshkey_base.specs.MpintSpelling.{mpint_at};
-    ghost use Rattle.sshkey_base.specs.Needs.{NeedsBoth, NeedsString};
+    ghost use Rattle.sshkey_kinds.specs.BodyNeeds.{NeedsDsa};
     ghost use Rattle.sshkey_kinds.specs.Kinds.{dsa_of};
 
     type Error = Error;
@@ -57,7 +56,7 @@ impl Decode for DsaPublicKey {
 
     ghost Spells = { SpellsDsa };
 
-    ghost needs = { NeedsBoth NeedsString mpint_at (NeedsBoth NeedsString mpint_at (NeedsBoth NeedsString mpint_at NeedsString)) };
+    ghost needs = { NeedsDsa };
 
     ghost grammar = { dsa_grammar };
 

@@ -114,9 +114,9 @@ impl EcdsaPublicKey {
 /// `AlgorithmUnknown` for a point of another curve than the stated one.
 #[tactic(auto, using(sshkey_base::proofs::Steps::steps), unfolding(crate::specs::Bodies::any_ecdsa_at, crate::specs::Bodies::curve_at, crate::specs::Bodies::label_at))]
 impl Decode for EcdsaPublicKey {
-    ghost use Rattle.sshkey_base.specs.Needs.{NeedsString};
     ghost use Rattle.sshkey_model.specs.Keys.{Key};
     ghost use Rattle.sshkey_kinds.specs.Bodies.{SpellsEcdsa, any_ecdsa_at, any_ecdsa_grammar};
+    ghost use Rattle.sshkey_kinds.specs.BodyNeeds.{NeedsEcdsa};
     ghost use Rattle.sshkey_kinds.specs.EcdsaWords.{ecdsa_key_of};
 
     type Error = Error;
@@ -129,7 +129,7 @@ impl Decode for EcdsaPublicKey {
 
     ghost Spells = { SpellsEcdsa };
 
-    ghost needs = { NeedsString };
+    ghost needs = { NeedsEcdsa };
 
     ghost grammar = { any_ecdsa_grammar };
 

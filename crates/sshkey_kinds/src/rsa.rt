@@ -37,8 +37,7 @@ impl RsaPublicKey {
 /// The two numbers, e and then n, each as a string.
 #[tactic(auto, using(sshkey_base::proofs::Steps::steps), unfolding(crate::specs::Bodies::rsa_at))]
 impl Decode for RsaPublicKey {
-    ghost use Rattle.sshkey_base.specs.MpintSpelling.{mpint_at};
-    ghost use Rattle.sshkey_base.specs.Needs.{NeedsBoth, NeedsString};
+    ghost use Rattle.sshkey_kinds.specs.BodyNeeds.{NeedsRsa};
     ghost use Rattle.sshkey_kinds.specs.Kinds.{rsa_of};
 
     type Error = Error;
@@ -51,7 +50,7 @@ impl Decode for RsaPublicKey {
 
     ghost Spells = { SpellsRsa };
 
-    ghost needs = { NeedsBoth NeedsString mpint_at NeedsString };
+    ghost needs = { NeedsRsa };
 
     ghost grammar = { rsa_grammar };
 

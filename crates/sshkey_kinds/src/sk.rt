@@ -97,8 +97,7 @@ impl From<SkEcdsaSha2NistP256> for EcdsaNistP256PublicKey {
 /// one that is no point of P-256.
 #[tactic(auto, using(sshkey_base::proofs::Steps::steps), unfolding(crate::specs::Bodies::sk_ecdsa_at, crate::specs::Bodies::curve_at, crate::specs::Bodies::label_at))]
 impl Decode for SkEcdsaSha2NistP256 {
-    ghost use Rattle.sshkey_base.specs.Needs.{NeedsBoth, NeedsString};
-    ghost use Rattle.sshkey_kinds.specs.Bodies.{curve_at};
+    ghost use Rattle.sshkey_kinds.specs.BodyNeeds.{NeedsSkEcdsa};
     ghost use Rattle.sshkey_kinds.specs.Kinds.{sk_ecdsa_of};
 
     type Error = Error;
@@ -111,7 +110,7 @@ impl Decode for SkEcdsaSha2NistP256 {
 
     ghost Spells = { SpellsSkEcdsa };
 
-    ghost needs = { NeedsBoth NeedsString curve_at (NeedsBoth NoNeed (checked_at p256_point_from string_at) NeedsString) };
+    ghost needs = { NeedsSkEcdsa };
 
     ghost grammar = { sk_ecdsa_grammar };
 
@@ -251,8 +250,7 @@ impl From<SkEd25519> for Ed25519PublicKey {
 /// A string of 32 bytes, and the application as a text.
 #[tactic(auto, using(sshkey_base::proofs::Steps::steps), unfolding(crate::specs::Bodies::sk_ed25519_at, crate::specs::Bodies::ed25519_body_at, crate::specs::Bodies::ed25519_at))]
 impl Decode for SkEd25519 {
-    ghost use Rattle.sshkey_base.specs.Needs.{NeedsBoth, NeedsString};
-    ghost use Rattle.sshkey_model.specs.Reading.{box_at, whole};
+    ghost use Rattle.sshkey_kinds.specs.BodyNeeds.{NeedsSkEd25519};
     ghost use Rattle.sshkey_kinds.specs.Kinds.{sk_ed25519_of};
 
     type Error = Error;
@@ -265,7 +263,7 @@ impl Decode for SkEd25519 {
 
     ghost Spells = { SpellsSkEd25519 };
 
-    ghost needs = { NeedsBoth NoNeed (box_at (whole (bytes_at 32))) NeedsString };
+    ghost needs = { NeedsSkEd25519 };
 
     ghost grammar = { sk_ed25519_grammar };
 
