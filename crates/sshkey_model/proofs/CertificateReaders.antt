@@ -1,5 +1,5 @@
 -- Certificates are read as they are spelled.
-use Rattle.std.proofs.Common.{◌≡◌, ℕ, eqb, Some, None, true, cond, Ok, Err, refl, sym, ap, subst, ◌∙◌, inl, inr}
+use Rattle.std.proofs.Common.{◌≡◌, ℕ, eqb, Some, None, cond, Ok, Err, refl, sym, ap, subst, ◌∙◌, inl, inr}
 use Rattle.std.specs.Int.{w32, w64}
 use Rattle.std.proofs.lemmas.Bool.{eqb-true}
 use Rattle.sshkey_model.specs.Parts.{number}

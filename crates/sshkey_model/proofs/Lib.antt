@@ -23,5 +23,6 @@ pub mod Lines
 pub mod Blobs
 pub mod WrittenLines
 pub mod LinesApart
+pub mod LineExamples
 pub mod PrivateExamples
 pub mod NormalKeysFit

@@ -31,7 +31,7 @@ later : (c b : ℕ) (bs : List ℕ) → IsWithout c (b ∷ bs) → IsWithout c b
 later c b bs h = λ i lt. h (suc i) (omega arith)
 
 -- what stands before the first space, and behind it
-one_front : (a b x y : List ℕ) → IsWithout space a → IsWithout space b → a ++ (space ∷ x) ≡ b ++ (space ∷ y) → (a ≡ b) × (x ≡ y)
+pub one_front : (a b x y : List ℕ) → IsWithout space a → IsWithout space b → a ++ (space ∷ x) ≡ b ++ (space ∷ y) → (a ≡ b) × (x ≡ y)
 one_front [] [] x y _ _ e = (refl, cc e)
 one_front [] (b ∷ bs) x y _ without e = let here : b ≡ space = cc e in absurd (without 0 (omega arith) here)
 one_front (a ∷ as') [] x y without _ e = let here : a ≡ space = cc e in absurd (without 0 (omega arith) here)

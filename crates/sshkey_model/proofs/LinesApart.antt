@@ -1,18 +1,18 @@
 -- No text is a line of a key and one of a certificate.
-use Rattle.std.proofs.Common.{◌≡◌, ℕ, List, [], ◌++◌, length, Result, Ok, Err, refl, sym, ap, ◌∙◌, subst, arith, append_assoc, append-nil}
+use Rattle.std.proofs.Common.{◌≡◌, ℕ, List, [], ◌++◌, length, Result, Ok, sym, ap, ◌∙◌, arith, append_assoc, append-nil}
 use Rattle.std.proofs.lemmas.List.{length-append}
 use Rattle.base64.specs.Engines.{standard}
 use Rattle.base64.specs.GeneralPurpose.{encode_of}
-use Rattle.sshkey_model.specs.Parts.{Parts, bytes, box, ◌&◌, flat, Fits}
+use Rattle.sshkey_model.specs.Parts.{Parts, box, ◌&◌, flat, Fits}
 use Rattle.sshkey_model.specs.Reading.{Fault}
 use Rattle.sshkey_model.specs.Texts.{string}
-use Rattle.sshkey_model.specs.Names.{Curve, Nistp256, Nistp384, Nistp521, Algorithm, algorithm, named, cut}
-use Rattle.sshkey_model.specs.CertificateNames.{certificate_name, certified_from}
+use Rattle.sshkey_model.specs.Names.{Nistp256, Nistp384, Nistp521, Algorithm, named, cut}
+use Rattle.sshkey_model.specs.CertificateNames.{certified_from}
 use Rattle.sshkey_model.specs.Keys.{Key, Dsa, Ecdsa, Ed25519, Rsa, SkEcdsa, SkEd25519, Opaque, Head, Plain, Head256, Head512, HasKeyPlaces, key, key_algorithm}
 use Rattle.sshkey_model.specs.Signatures.{signature}
-use Rattle.sshkey_model.specs.Certificates.{Certificate, CertificateChoices, IsCertificate, certificate}
+use Rattle.sshkey_model.specs.Certificates.{Certificate, CertificateChoices, certificate}
 use Rattle.sshkey_model.specs.Lines.{key_name, name_of_certificate, LinesAreApart}
-use Rattle.sshkey_model.proofs.CombinedReaders.{done, prefix, string_reads, bytes_fit, fits_first, fits_second}
+use Rattle.sshkey_model.proofs.CombinedReaders.{prefix, string_reads, bytes_fit, fits_first, fits_second}
 use Rattle.sshkey_model.proofs.TextReaders.{box_shows}
 use Rattle.sshkey_model.proofs.CertificateNameReaders.{certified_again}
 use Rattle.sshkey_model.proofs.Base64Words.{one_blob}

@@ -1,7 +1,7 @@
 -- Where one spelling fits, the normal form does, and is no longer.
 use Rattle.std.proofs.Common.{◌≡◌, ℕ, ◌≤◌, List, [], ◌∷◌, length, None, Some, refl, sym, subst, arith}
 use Rattle.std.proofs.lemmas.List.{length-append}
-use Rattle.sshkey_model.specs.Parts.{Parts, nothing, bytes, box, ◌&◌, flat, Fits, InRange, BoxesFit}
+use Rattle.sshkey_model.specs.Parts.{Parts, nothing, box, ◌&◌, flat, Fits, InRange, BoxesFit}
 use Rattle.sshkey_model.specs.Texts.{string}
 use Rattle.sshkey_model.specs.Names.{Sha256, Sha512, Algorithm, algorithm, hash}
 use Rattle.sshkey_model.specs.Keys.{Key, Head, Plain, Head256, Head512, IsKey, HasKeyPlaces, key_algorithm, body, key, normal_key}
@@ -87,9 +87,9 @@ behind p q s others = both p q p s (same p) others
 
 signed_fields_shrink : (c : SignedFields) (s : CertificateChoices) → HaveSignedPlaces c s → Shrinks (to_be_signed c s) (normal_to_be_signed c)
 signed_fields_shrink c s has = behind _ _ _ (behind _ _ _ (behind _ _ _ (behind _ _ _ (behind _ _ _ (behind _ _ _ (behind _ _ _ (behind _ _ _ (behind _ _ _ (
-  both _ _ _ _ (options_shrink c.critical_options s.critical_options has.critical_options) (
-  both _ _ _ _ (options_shrink c.extensions s.extensions has.extensions) (
-  behind _ _ _ (boxed _ _ (key_shrinks c.signature_key s.signature_key has.signature_key)))))))))))))
+    both _ _ _ _ (options_shrink c.critical_options s.critical_options has.critical_options) (
+    both _ _ _ _ (options_shrink c.extensions s.extensions has.extensions) (
+    behind _ _ _ (boxed _ _ (key_shrinks c.signature_key s.signature_key has.signature_key)))))))))))))
 
 pub signed_fields_fit : NormalFits AreSignedFields HaveSignedPlaces to_be_signed normal_to_be_signed
 signed_fields_fit c s is has f = (signed_fields_shrink c s has f).0

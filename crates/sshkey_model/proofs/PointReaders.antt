@@ -2,7 +2,7 @@
 use Rattle.std.proofs.Common.{◌≡◌, ℕ, ◌+◌, ◌*◌, ◌/◌, ◌%◌, ◌≤◌, true, false, cond, eqb, ltb, List, [], ◌∷◌, length, Ok, Err, refl, subst, arith, inl, inr, ◌&&◌, ◌||◌}
 use Rattle.std.proofs.lemmas.Bool.{and_parts, and_from, or_cases, or_left, or_right, eqb-true, eq-eqb, le-ltb}
 use Rattle.sshkey_model.specs.Parts.{bytes}
-use Rattle.sshkey_model.specs.Reading.{Length, AlgorithmUnknown, Ecdsa, ◌>>=◌, string_at, checked_at}
+use Rattle.sshkey_model.specs.Reading.{Length, AlgorithmUnknown, Ecdsa, ◌>>=◌, checked_at}
 use Rattle.sshkey_model.specs.Texts.{string}
 use Rattle.sshkey_model.specs.Names.{Curve, Nistp256, Nistp384, Nistp521}
 use Rattle.sshkey_model.specs.Points.{field_size, is_point, IsPoint, curve_eq, of_curve, curve_of_size, point_curve, point_from, p256_point_from, IsPointOf, point_at}

@@ -2,24 +2,22 @@
 use Rattle.std.proofs.Common.{◌≡◌, ℕ, ◌<◌, ◌+◌, zero, suc, Bool, nat_lt, true, false, ◌&&◌, not, cond, eqb, List, [], ◌∷◌, ◌++◌, length, get_or, take, drop, refl, sym, ap, ◌∙◌, subst, arith, append_assoc, append-nil, inl, inr}
 use Rattle.std.specs.Str.{IsUtf8, IsAscii, chars, trim_end, drop_trailing_whitespace, encode_utf8_all, all_scalars}
 use Rattle.std.specs.Char.{is_whitespace}
-use Rattle.std.specs.List.{All}
 use Rattle.std.proofs.lemmas.Bool.{and_parts, and_from, ltb-true, ne_eqb}
 use Rattle.std.proofs.lemmas.List.{length-append, take_at, drop_at}
 use Rattle.std.proofs.lemmas.List.Elements.{All-get_or}
-use Rattle.std.proofs.lemmas.Str.{IsUtf8-from_is_utf8, is_utf8-from_IsUtf8, IsUtf8-append, IsUtf8-take, IsUtf8-drop, IsUtf8-from_ascii, IsUtf8-nil, IsCharBoundary-after_ascii, chars-append, chars_from_encodes, encodes-chars, scalars-chars, chars-IsAscii}
+use Rattle.std.proofs.lemmas.Str.{IsUtf8-from_is_utf8, is_utf8-from_IsUtf8, IsUtf8-append, IsUtf8-take, IsUtf8-drop, IsUtf8-from_ascii, IsCharBoundary-after_ascii, chars-append, chars_from_encodes, encodes-chars, scalars-chars, chars-IsAscii}
 use Rattle.std.proofs.Math.Seq.{get_or-append_seam}
 use Rattle.base64.specs.Engines.{standard}
 use Rattle.base64.specs.GeneralPurpose.{encode_of}
 use Rattle.sshkey_model.specs.Parts.{Parts, flat}
-use Rattle.sshkey_model.specs.Texts.{IsText}
-use Rattle.sshkey_model.specs.Lines.{space, after_space, joined, written, IsLine, IsLineOf, LinesReadBack}
+use Rattle.sshkey_model.specs.Lines.{space, after_space, joined, written, IsLine, LinesReadBack}
 use Rattle.sshkey_model.specs.Grammar.{SpellsWith}
 use Rattle.sshkey_model.specs.Keys.{Key, Plain, IsKey, HasKeyPlaces, key, normal_key}
 use Rattle.sshkey_model.specs.Certificates.{Certificate, IsCertificate, HasCertificatePlaces, certificate, plain_certificate, normal_certificate}
 use Rattle.sshkey_model.proofs.CombinedReaders.{chosen}
 use Rattle.sshkey_model.proofs.NormalForms.{plain_certificate_has}
 use Rattle.sshkey_model.proofs.NormalFits.{key_fits, certificate_fits}
-use Rattle.sshkey_model.proofs.Base64Words.{is_dark, IsDark, word_dark, some_word}
+use Rattle.sshkey_model.proofs.Base64Words.{IsDark, word_dark, some_word}
 use Rattle.sshkey_model.proofs.Blobs.{IsBlob}
 
 -- ---- characters with no white space at their end
@@ -97,8 +95,7 @@ cut_behind a r u =
     let here : get_or (a ++ (space ∷ r)) (length a) 0 ≡ space = get_or-append_seam a space r 0 in
     let edge = IsCharBoundary-after_ascii (a ++ (space ∷ r)) (length a) u (omega (arith, length-append a (space ∷ r))) (omega (arith, here)) in
     let parts : a ++ (space ∷ r) ≡ (a ++ (space ∷ [])) ++ r = sym (append_assoc a (space ∷ []) r) in
-    let size : length (a ++ (space ∷ [])) ≡ length a + 1 = length-append a (space ∷ []) in
-    (
+    let size : length (a ++ (space ∷ [])) ≡ length a + 1 = length-append a (space ∷ []) in (
       subst IsUtf8 (ap (take (length a + 1)) parts ∙ take_at (a ++ (space ∷ [])) r (length a + 1) size) (IsUtf8-take (a ++ (space ∷ r)) (length a + 1) u edge),
       subst IsUtf8 (ap (drop (length a + 1)) parts ∙ drop_at (a ++ (space ∷ [])) r (length a + 1) size) (IsUtf8-drop (a ++ (space ∷ r)) (length a + 1) u edge),
     )
@@ -153,7 +150,7 @@ other_word first w [] b some h =
     let codes_ : chars (word b) ≡ word b = chars-IsAscii (word b) (word_ascii b) in
     let front = (cut_behind first (w ++ []) h.0).0 in
     subst IsDone (sym shape) (done_behind (first ++ (space ∷ [])) (word b) front (IsUtf8-from_ascii (word b) (word_ascii b))
-        (omega (arith, ap length codes_, some_word b some)) (subst Settled (sym codes_) (dark_settled (word b) (word_symbols b))))
+    (omega (arith, ap length codes_, some_word b some)) (subst Settled (sym codes_) (dark_settled (word b) (word_symbols b))))
 other_word first w (c ∷ m) b some h =
     let comment = c ∷ m in
     let was = cut_behind (fronted first w) comment (subst IsUtf8 (from_left first w comment) h.0) in

@@ -32,4 +32,5 @@ pub mod CertificateExamples
 pub mod ValidityExamples
 pub mod SshSignatureExamples
 pub mod TextExamples
+pub mod LineExamples
 pub mod PrivateExamples

@@ -4,6 +4,7 @@
 pub mod certificates;
 pub mod dispatch;
 pub mod keys;
+pub mod lines;
 pub mod names;
 pub mod numbers;
 pub mod private;

@@ -1,9 +1,9 @@
-use Rattle.std.proofs.Common.{◌≡◌, ◌<◌, zero, suc, List, [], ◌∷◌, length, refl, sym, ap, ◌∙◌, arith}
+use Rattle.std.proofs.Common.{◌≡◌, zero, suc, [], ◌∷◌, length, refl, ap, ◌∙◌, arith}
 use Rattle.std.specs.Prelude.{Contains}
 use Rattle.sha2.specs.Sha256.{sha256, digest_bytes, hash_after, compress, rounds, schedule, first_words}
 use Rattle.sha2.specs.Sha512 as longer
 use Rattle.sshkey_model.specs.Parts.{flat}
-use Rattle.sshkey_model.specs.Names.{Sha256, Sha512, Hash}
+use Rattle.sshkey_model.specs.Names.{Sha256, Sha512}
 use Rattle.sshkey_model.specs.Fingerprints.{Fingerprint, fingerprint}
 use Rattle.sshkey_model.specs.KeyExamples.{ed25519_key}
 use Rattle.sshkey_model.specs.ValidityExamples.{right_fingerprint, longer_digest}
