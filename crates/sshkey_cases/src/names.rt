@@ -20,12 +20,18 @@ pub(crate) fn certified_string(alloc: Global, bytes: &[u8]) -> Result<String> {
 }
 
 fn shown(alloc: Global, algorithm: &Algorithm) -> Result<String> {
+    let kind = kind_of(algorithm);
+    let certified = algorithm.to_certificate_type(alloc)?;
     let mut written = Vec::new(alloc);
     algorithm.encode_certificate_name(&mut written)?;
-    let certified = algorithm.to_certificate_type(alloc)?;
-    let digits = hex::encode(alloc, written.get(..4).unwrap_or(&[]))?;
-    let kind = kind_of(algorithm);
-    Ok(format!(in alloc; "{algorithm}, {kind}, {certified} behind {digits}")?)
+    let (len, name) = written.split_at(written.len().min(4));
+    let len = hex::encode(alloc, len)?;
+    let other = if name == certified.as_bytes() {
+        ""
+    } else {
+        ", written otherwise"
+    };
+    Ok(format!(in alloc; "{algorithm}, {kind}, {certified} behind {len}{other}")?)
 }
 
 /// The kinds that the algorithm is said to be of.

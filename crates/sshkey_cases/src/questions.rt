@@ -38,9 +38,11 @@ fn beginnings(alloc: Global, question: &str, bytes: &[u8]) -> Result<String> {
 /// What is answered about one byte string, or the text of the refusal. Refused for want of memory
 /// alone.
 fn said_of(alloc: Global, question: &str, bytes: &[u8]) -> Result<String> {
-    match answer(alloc, question, &vec![in alloc; bytes.to_vec(alloc)?]?) {
-        Err(error) if error != Error::Memory => Ok(error.to_string(alloc)?),
-        answer => answer,
+    let parts = vec![in alloc; bytes.to_vec(alloc)?]?;
+    match answer(alloc, question, &parts) {
+        Ok(text) => Ok(text),
+        Err(Error::Memory) => Err(Error::Memory),
+        Err(error) => Ok(error.to_string(alloc)?),
     }
 }
 
@@ -123,10 +125,11 @@ fn answer_of_keys(alloc: Global, question: &str, parts: &[Vec<u8>]) -> Result<St
     }
 }
 
-/// The status and the output of `sshkey fingerprint` on that input.
+/// The status and the output of `sshkey fingerprint` on that input. The output has room for each of
+/// its lines.
 fn shown_by_program(alloc: Global, input: &[u8]) -> Result<String> {
     let mut left = input;
-    let mut output = Vec::new(alloc);
+    let mut output = Vec::with_capacity(alloc, 128)?;
     let status = run(alloc, &["fingerprint"], &mut left, &mut output);
     let text = std::str::from_utf8(&output)?;
     Ok(format!(in alloc; "{status}, {}", text.trim_end_matches('\n'))?)
