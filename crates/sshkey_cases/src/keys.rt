@@ -1,8 +1,7 @@
 //! Whole public keys, and their fingerprints.
 
 use crate::bytes::{NO_LINE, part, text};
-use crate::wire::rest;
-use sshkey_base::{Algorithm, Decode, HashAlg, Mpint, Result, decode_whole};
+use sshkey_base::{Algorithm, HashAlg, Mpint, Result, decode_whole};
 use sshkey_keys::{Fingerprint, KeyData};
 use sshkey_kinds::{
     DsaPublicKey, EcPoint, EcdsaPublicKey, Ed25519PublicKey, OpaquePublicKey, RsaPublicKey,
@@ -10,59 +9,32 @@ use sshkey_kinds::{
 };
 use std::alloc::Global;
 
-/// The key that all the bytes spell.
-pub(crate) fn whole(alloc: Global, bytes: &[u8]) -> Result<String> {
+/// The name and the kind of the key that all the bytes spell.
+pub(crate) fn name_and_kind(alloc: Global, bytes: &[u8]) -> Result<String> {
     let key: KeyData = decode_whole(alloc, bytes)?;
-    shown(alloc, &key, bytes, 0)
-}
-
-/// The key at the front of the bytes.
-pub(crate) fn front(alloc: Global, bytes: &[u8]) -> Result<String> {
-    let mut left = bytes;
-    let key = KeyData::decode(alloc, &mut left)?;
-    shown(alloc, &key, bytes, left.len())
-}
-
-/// The name of the key's algorithm, its kind, and how many bytes stand behind the name.
-fn shown(alloc: Global, key: &KeyData, bytes: &[u8], left: usize) -> Result<String> {
-    let copy = key.try_clone(alloc)?;
-    let rest = rest(alloc, &copy, bytes, left)?;
-    let (name, kind) = (copy.algorithm_name(), kind_of(&copy));
-    let len = copy.encoded_key_data_len()?;
-    let is_same = copy == *key && key.algorithm(alloc)?.as_str() == name;
-    let other = if is_same { "" } else { ", another copy" };
-    Ok(format!(in alloc; "{name}, {kind}, {len} bytes{rest}{other}")?)
+    let name = key.algorithm_name();
+    Ok(format!(in alloc; "{name}, {}", kind_of(&key))?)
 }
 
 /// The kind of which the key is said to be, and as which it is seen.
 fn kind_of(key: &KeyData) -> &'static str {
-    let kinds = [
-        (key.is_dsa(), key.dsa().is_some(), "DSA"),
-        (key.is_ecdsa(), key.ecdsa().is_some(), "ECDSA"),
-        (key.is_ed25519(), key.ed25519().is_some(), "Ed25519"),
-        (key.is_rsa(), key.rsa().is_some(), "RSA"),
-        (
-            key.is_sk_ecdsa_p256(),
-            key.sk_ecdsa_p256().is_some(),
-            "ECDSA by a security key",
-        ),
-        (
-            key.is_sk_ed25519(),
-            key.sk_ed25519().is_some(),
-            "Ed25519 by a security key",
-        ),
-        (key.is_other(), key.other().is_some(), "opaque"),
-    ];
-    let mut found = "no kind";
-    for (said, seen, kind) in kinds {
-        if said != seen || said && found != "no kind" {
-            return "two answers";
-        }
-        if said {
-            found = kind;
-        }
+    if key.is_dsa() && key.dsa().is_some() {
+        "DSA"
+    } else if key.is_ecdsa() && key.ecdsa().is_some() {
+        "ECDSA"
+    } else if key.is_ed25519() && key.ed25519().is_some() {
+        "Ed25519"
+    } else if key.is_rsa() && key.rsa().is_some() {
+        "RSA"
+    } else if key.is_sk_ecdsa_p256() && key.sk_ecdsa_p256().is_some() {
+        "ECDSA by a security key"
+    } else if key.is_sk_ed25519() && key.sk_ed25519().is_some() {
+        "Ed25519 by a security key"
+    } else if key.is_other() && key.other().is_some() {
+        "opaque"
+    } else {
+        "no kind"
     }
-    found
 }
 
 /// The fingerprints of the key that all the bytes spell.
@@ -73,16 +45,16 @@ pub(crate) fn fingerprints(alloc: Global, bytes: &[u8]) -> Result<String> {
     Ok(format!(in alloc; "{short} {long}")?)
 }
 
-/// The key whose algorithm the first byte string names, and whose body the second one spells.
+/// The fingerprint of the key whose algorithm the first byte string names, and whose body the second
+/// one begins with.
 pub(crate) fn named(alloc: Global, parts: &[Vec<u8>]) -> Result<String> {
     let algorithm = Algorithm::new(alloc, text(parts, 0)?)?;
-    let mut left = part(parts, 1);
-    let key = KeyData::decode_as(alloc, &mut left, algorithm)?;
-    Ok(format!(in alloc;
-        "{}, {} left",
-        key.fingerprint(alloc, HashAlg::Sha256)?,
-        left.len()
-    )?)
+    let key = KeyData::decode_as(alloc, &mut part(parts, 1), algorithm)?;
+    fingerprint(alloc, &key)
+}
+
+fn fingerprint(alloc: Global, key: &KeyData) -> Result<String> {
+    Ok(key.fingerprint(alloc, HashAlg::Sha256)?.to_string(alloc)?)
 }
 
 /// The fingerprint of the key that is made of its parts: the first byte string says of which kind.
@@ -101,7 +73,7 @@ pub(crate) fn made(alloc: Global, parts: &[Vec<u8>]) -> Result<String> {
         }),
         _ => made_of_bytes(alloc, parts)?,
     };
-    Ok(format!(in alloc; "{}", key.fingerprint(alloc, HashAlg::Sha256)?)?)
+    fingerprint(alloc, &key)
 }
 
 /// The key that is made of a point or of bytes.

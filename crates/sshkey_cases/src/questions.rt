@@ -1,10 +1,14 @@
 //! The questions.
 
 use crate::bytes::{NO_LINE, part, parts, text};
+use crate::wire::shown;
 use crate::{keys, kinds, names, signatures, wire};
-use sshkey_base::{Algorithm, EcdsaCurve, Error, HashAlg, Mpint, Result};
+use sshkey_base::{Algorithm, AlgorithmName, EcdsaCurve, Error, HashAlg, Mpint, Result};
 use sshkey_keys::{KeyData, Signature};
-use sshkey_kinds::{EcdsaPublicKey, Ed25519PublicKey};
+use sshkey_kinds::{
+    DsaPublicKey, EcdsaPublicKey, Ed25519PublicKey, OpaquePublicKeyBytes, RsaPublicKey,
+    SkEcdsaSha2NistP256, SkEd25519,
+};
 use sshkey_tool::run;
 use std::alloc::Global;
 
@@ -38,9 +42,11 @@ fn beginnings(alloc: Global, question: &str, bytes: &[u8]) -> Result<String> {
 /// What is answered about one byte string, or the text of the refusal. Refused for want of memory
 /// alone.
 fn said_of(alloc: Global, question: &str, bytes: &[u8]) -> Result<String> {
-    match answer(alloc, question, &vec![in alloc; bytes.to_vec(alloc)?]?) {
-        Err(error) if error != Error::Memory => Ok(error.to_string(alloc)?),
-        answer => answer,
+    let parts = vec![in alloc; bytes.to_vec(alloc)?]?;
+    match answer(alloc, question, &parts) {
+        Ok(text) => Ok(text),
+        Err(Error::Memory) => Err(Error::Memory),
+        Err(error) => Ok(error.to_string(alloc)?),
     }
 }
 
@@ -52,8 +58,8 @@ fn answer(alloc: Global, question: &str, parts: &[Vec<u8>]) -> Result<String> {
         "u32" => wire::front::<u32>(alloc, bytes),
         "u64" => wire::front::<u64>(alloc, bytes),
         "count" => wire::front::<usize>(alloc, bytes),
-        "string" => wire::string(alloc, bytes),
-        "seven" => wire::seven(alloc, bytes),
+        "string" => wire::kept::<Vec<u8>>(alloc, bytes),
+        "seven" => wire::kept::<[u8; 7]>(alloc, bytes),
         "short" => wire::short(alloc, bytes),
         "text" => wire::front::<String>(alloc, bytes),
         "list" => wire::list(alloc, bytes),
@@ -72,14 +78,19 @@ fn answer_of_names(alloc: Global, question: &str, parts: &[Vec<u8>]) -> Result<S
     match question {
         "algorithm" => wire::front::<Algorithm>(alloc, bytes),
         "algorithm-name" => names::algorithm(alloc, text(parts, 0)?),
-        "certified-algorithm" => names::certified_string(alloc, bytes),
-        "certified-name" => names::certified(alloc, text(parts, 0)?),
-        "private-name" => names::private(alloc, text(parts, 0)?),
-        "private-certified-name" => names::private_certified(alloc, text(parts, 0)?),
+        "certified-algorithm" => names::certified(alloc, bytes),
+        "certified-name" => shown(alloc, Algorithm::new_certificate(alloc, text(parts, 0)?)),
+        "private-name" => AlgorithmName::new(alloc, text(parts, 0)?)?.certificate_type(alloc),
+        "private-certified-name" => {
+            shown(
+                alloc,
+                AlgorithmName::from_certificate_type(alloc, text(parts, 0)?),
+            )
+        }
         "curve" => wire::front::<EcdsaCurve>(alloc, bytes),
-        "curve-name" => names::curve(alloc, text(parts, 0)?),
+        "curve-name" => shown(alloc, EcdsaCurve::new(text(parts, 0)?)),
         "hash" => wire::front::<HashAlg>(alloc, bytes),
-        "hash-name" => names::hash(alloc, text(parts, 0)?),
+        "hash-name" => shown(alloc, HashAlg::new(text(parts, 0)?)),
         "digest" => names::digest(alloc, parts),
         "rising-algorithms" => wire::rising::<Algorithm>(alloc, parts),
         _ => answer_of_kinds(alloc, question, parts),
@@ -94,14 +105,14 @@ fn answer_of_kinds(alloc: Global, question: &str, parts: &[Vec<u8>]) -> Result<S
         "point-521" => kinds::point::<133>(alloc, bytes),
         "point-of-no-curve" => kinds::point::<64>(alloc, bytes),
         "point" => kinds::curve_of_point(alloc, bytes),
-        "ed25519-bytes" => kinds::ed25519(alloc, bytes),
-        "dsa-body" => kinds::dsa(alloc, bytes),
-        "ecdsa-body" => wire::front::<EcdsaPublicKey>(alloc, bytes),
-        "ed25519-body" => wire::front::<Ed25519PublicKey>(alloc, bytes),
-        "rsa-body" => kinds::rsa(alloc, bytes),
-        "sk-ecdsa-body" => kinds::sk_ecdsa(alloc, bytes),
-        "sk-ed25519-body" => kinds::sk_ed25519(alloc, bytes),
-        "opaque-body" => kinds::opaque(alloc, bytes),
+        "ed25519-bytes" => shown(alloc, Ed25519PublicKey::try_from(bytes)),
+        "dsa-body" => wire::whole::<DsaPublicKey>(alloc, bytes),
+        "ecdsa-body" => wire::whole::<EcdsaPublicKey>(alloc, bytes),
+        "ed25519-body" => wire::whole::<Ed25519PublicKey>(alloc, bytes),
+        "rsa-body" => wire::whole::<RsaPublicKey>(alloc, bytes),
+        "sk-ecdsa-body" => wire::whole::<SkEcdsaSha2NistP256>(alloc, bytes),
+        "sk-ed25519-body" => wire::whole::<SkEd25519>(alloc, bytes),
+        "opaque-body" => wire::whole::<OpaquePublicKeyBytes>(alloc, bytes),
         _ => answer_of_keys(alloc, question, parts),
     }
 }
@@ -109,8 +120,9 @@ fn answer_of_kinds(alloc: Global, question: &str, parts: &[Vec<u8>]) -> Result<S
 fn answer_of_keys(alloc: Global, question: &str, parts: &[Vec<u8>]) -> Result<String> {
     let bytes = part(parts, 0);
     match question {
-        "key" => keys::whole(alloc, bytes),
-        "key-in-front" => keys::front(alloc, bytes),
+        "key" => wire::whole::<KeyData>(alloc, bytes),
+        "key-in-front" => wire::kept::<KeyData>(alloc, bytes),
+        "kind" => keys::name_and_kind(alloc, bytes),
         "fingerprints" => keys::fingerprints(alloc, bytes),
         "body-under" => keys::named(alloc, parts),
         "key-of-parts" => keys::made(alloc, parts),
@@ -123,10 +135,11 @@ fn answer_of_keys(alloc: Global, question: &str, parts: &[Vec<u8>]) -> Result<St
     }
 }
 
-/// The status and the output of `sshkey fingerprint` on that input.
+/// The status and the output of `sshkey fingerprint` on that input. The output has room for each of
+/// its lines.
 fn shown_by_program(alloc: Global, input: &[u8]) -> Result<String> {
     let mut left = input;
-    let mut output = Vec::new(alloc);
+    let mut output = Vec::with_capacity(alloc, 128)?;
     let status = run(alloc, &["fingerprint"], &mut left, &mut output);
     let text = std::str::from_utf8(&output)?;
     Ok(format!(in alloc; "{status}, {}", text.trim_end_matches('\n'))?)

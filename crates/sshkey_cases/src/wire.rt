@@ -43,22 +43,32 @@ where
     Ok(format!(in alloc; "{value}{rest}")?)
 }
 
-/// The bytes of a string, as digits.
-pub(crate) fn string(alloc: Global, bytes: &[u8]) -> Result<String> {
+/// Whether a value is at the front of the bytes.
+pub(crate) fn kept<T>(alloc: Global, bytes: &[u8]) -> Result<String>
+where
+    T: Decode + Encode + Drop,
+    Error: From<T::Error>,
+{
     let mut left = bytes;
-    let string = Vec::<u8>::decode(alloc, &mut left)?;
-    let rest = rest(alloc, &string, bytes, left.len())?;
-    let digits = hex::encode(alloc, &string)?;
-    Ok(format!(in alloc; "{digits}{rest}")?)
+    let value = T::decode(alloc, &mut left)?;
+    let rest = rest(alloc, &value, bytes, left.len())?;
+    Ok(format!(in alloc; "read{rest}")?)
 }
 
-/// The bytes of a string of seven bytes, as digits.
-pub(crate) fn seven(alloc: Global, bytes: &[u8]) -> Result<String> {
-    let mut left = bytes;
-    let seven = <[u8; 7]>::decode(alloc, &mut left)?;
-    let rest = rest(alloc, &seven, bytes, left.len())?;
-    let digits = hex::encode(alloc, &seven)?;
-    Ok(format!(in alloc; "{digits}{rest}")?)
+/// Whether all the bytes are a value.
+pub(crate) fn whole<T>(alloc: Global, bytes: &[u8]) -> Result<String>
+where
+    T: Decode + Encode + Drop,
+    Error: From<T::Error>,
+{
+    let value = decode_whole::<T, &[u8]>(alloc, bytes)?;
+    let rest = rest(alloc, &value, bytes, 0)?;
+    Ok(format!(in alloc; "read{rest}")?)
+}
+
+/// The text of what was answered.
+pub(crate) fn shown<T: Display + Drop>(alloc: Global, answer: Result<T>) -> Result<String> {
+    Ok(answer?.to_string(alloc)?)
 }
 
 /// The bytes of a string of at most seven bytes, as digits.
