@@ -21,7 +21,7 @@ mod kinds;
 use crate::fingerprint::Fingerprint;
 use sshkey_base::{
     Algorithm, Decode, EcdsaCurve, Encode, Error, HashAlg, NormalForm, Reader, Result, Writer,
-    encode_string, encoding, string_len,
+    encode_string, encoding, names, string_len,
 };
 use sshkey_kinds::{
     DsaPublicKey, EcdsaPublicKey, Ed25519PublicKey, OpaquePublicKey, OpaquePublicKeyBytes,
@@ -57,12 +57,14 @@ impl KeyData {
         ensures { result.now ≡ key_name (key_of self.now) }
     {
         match self {
-            KeyData::Dsa(_) => "ssh-dss",
-            KeyData::Ecdsa(key) => ecdsa_name(key.curve()),
-            KeyData::Ed25519(_) => "ssh-ed25519",
-            KeyData::Rsa(_) => "ssh-rsa",
-            KeyData::SkEcdsaSha2NistP256(_) => "sk-ecdsa-sha2-nistp256@openssh.com",
-            KeyData::SkEd25519(_) => "sk-ssh-ed25519@openssh.com",
+            KeyData::Dsa(_) => names::SSH_DSS,
+            KeyData::Ecdsa(EcdsaPublicKey::NistP256(_)) => names::ECDSA_SHA2_NISTP256,
+            KeyData::Ecdsa(EcdsaPublicKey::NistP384(_)) => names::ECDSA_SHA2_NISTP384,
+            KeyData::Ecdsa(EcdsaPublicKey::NistP521(_)) => names::ECDSA_SHA2_NISTP521,
+            KeyData::Ed25519(_) => names::SSH_ED25519,
+            KeyData::Rsa(_) => names::SSH_RSA,
+            KeyData::SkEcdsaSha2NistP256(_) => names::SK_ECDSA_SHA2_NISTP256,
+            KeyData::SkEd25519(_) => names::SK_SSH_ED25519,
             KeyData::Other(key) => key.algorithm.as_str(),
         }
     }
@@ -178,17 +180,6 @@ impl KeyData {
             KeyData::SkEd25519(key) => key.encode(writer),
             KeyData::Other(key) => key.encode(writer),
         }
-    }
-}
-
-/// The name of the ECDSA algorithm on that curve.
-fn ecdsa_name(curve: EcdsaCurve) -> &'static str
-    ensures { result.now ≡ algorithm_name (Ecdsa (curve_of curve)) }
-{
-    match curve {
-        EcdsaCurve::NistP256 => "ecdsa-sha2-nistp256",
-        EcdsaCurve::NistP384 => "ecdsa-sha2-nistp384",
-        EcdsaCurve::NistP521 => "ecdsa-sha2-nistp521",
     }
 }
 
