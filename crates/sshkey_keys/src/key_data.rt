@@ -3,6 +3,7 @@
 ghost use Rattle.std.specs.Prelude.{◌≡◌, ◌≤◌, ◌+◌, ◌*◌, ◌^◌, ◌||◌, ℕ, List, IfOk, IfErr, IsOk, IsTrue, None};
 ghost use Rattle.sshkey_model.specs.Keys.{Key, key_algorithm, normal_key, body, body_at, IsKey};
 ghost use Rattle.sshkey_model.specs.Lines.{key_name};
+ghost use Rattle.sshkey_base.specs.Accepting.{AcceptsFront};
 ghost use Rattle.sshkey_base.specs.Causes.{cause};
 ghost use Rattle.sshkey_base.specs.Kinds.{IsFixed};
 ghost use Rattle.sshkey_base.specs.Names.{algorithm_of, curve_of, hash_of};
@@ -10,6 +11,7 @@ ghost use Rattle.sshkey_model.specs.Names.{algorithm_name, Dsa, Ecdsa, Ed25519, 
 ghost use Rattle.sshkey_base.specs.Reading.{Gives};
 ghost use Rattle.sshkey_base.specs.Source.{Later};
 ghost use Rattle.sshkey_base.specs.Sink.{Encodes, Measures};
+ghost use Rattle.sshkey_kinds.specs.Bodies.{SpellsBody};
 ghost use Rattle.sshkey_keys.specs.Fingerprints.{GivesFingerprint, IsShort};
 ghost use Rattle.sshkey_keys.specs.Keys.{key_of, algorithm_beside, SpellsKey, key_data_at};
 ghost use Rattle.sshkey_keys.specs.KeyKinds.{is_ecdsa, is_ed25519};
@@ -125,8 +127,9 @@ impl KeyData {
 
     /// Reads what stands behind the name of that algorithm, an RSA key's with or without a hash.
     ///
-    /// Out of memory aside, it is refused only where no front is the body of such a key, by a
-    /// sound source with the first fault from the left.
+    /// The bytes taken spell the body. Out of memory aside, it is refused only where no front is
+    /// the body of such a key, by a sound source with the first fault from the left.
+    #[tactic(auto, using(crate::proofs::Bodies::body_accepted))]
     pub fn decode_as<R: Reader>(
         alloc: Global,
         reader: &mut R,
@@ -134,6 +137,7 @@ impl KeyData {
     ) -> Result<KeyData>
         ensures gives { Gives key_of cause (body_at (algorithm_of algorithm)) (R.source reader.old) result (R.source reader.new) }
         ensures later { Later (R.source reader.old) (R.source reader.new) }
+        ensures accepts { AcceptsFront key_of (SpellsBody (algorithm_of algorithm)) cause (R.source reader.old) result (R.source reader.new) }
     {
         match algorithm {
             Algorithm::Dsa => dsa_from(alloc, reader),
