@@ -3,3 +3,4 @@ pub mod SignatureForms
 pub mod SplitStrings
 pub mod SignatureParts
 pub mod ShortKeys
+pub mod Bodies
