@@ -48,11 +48,11 @@ read_scalars = (refl, refl, refl, refl, refl, refl)
 
 pub read_short_scalars : ReadShortScalars
 unfolding scalar_at box_at number_at bytes_at flat
-read_short_scalars = (refl, refl, refl, refl, refl, refl)
+read_short_scalars = (refl, refl, refl, refl, refl, refl, refl)
 
 pub refused_scalars : RefusedScalars
 unfolding scalar_at box_at number_at bytes_at
-refused_scalars = (refl, refl, refl, refl, refl)
+refused_scalars = (refl, refl, refl, refl, refl, refl)
 
 pub ed25519_pairs : Ed25519Pairs
 unfolding ed25519_pair_at ed25519_at box_at number_at bytes_at

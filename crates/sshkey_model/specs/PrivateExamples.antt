@@ -79,11 +79,13 @@ ReadScalars = (scalar_at 32 (short_string 32 low_scalar) ≡ Ok ((low_scalar, Pl
 abbrev pub ReadShortScalars : Type 0
 ReadShortScalars = (scalar_at 32 (short_string 31 (replicate 31 1)) ≡ Ok ((0 ∷ replicate 31 1, Short), [])) × (scalar_at 32 (short_string 0 []) ≡ Ok ((replicate 32 0, Short), []))
     × (scalar_at 32 (short_string 2 (0 ∷ 0x80 ∷ [])) ≡ Ok ((replicate 31 0 ++ 0x80 ∷ [], Short), [])) × (scalar_at 32 (short_string 32 (0 ∷ replicate 31 0x80)) ≡ Ok ((0 ∷ replicate 31 0x80, Plain), []))
+    × (scalar_at 32 (short_string 31 (0x7f ∷ replicate 30 1)) ≡ Ok ((0 ∷ 0x7f ∷ replicate 30 1, Short), []))
     × (flat (scalar (replicate 31 0 ++ 0x80 ∷ []) Short) ≡ short_string 2 (0 ∷ 0x80 ∷ [])) × (flat (scalar (replicate 32 0) Short) ≡ short_string 0 [])
 
 -- negative mpints and no mpints, 33 and 34 bytes
 abbrev pub RefusedScalars : Type 0
 RefusedScalars = (scalar_at 32 (short_string 31 (replicate 31 0xff)) ≡ Err FormatEncoding) × (scalar_at 32 (short_string 1 (0 ∷ [])) ≡ Err FormatEncoding) × (scalar_at 32 (short_string 2 (0 ∷ 0x7f ∷ [])) ≡ Err FormatEncoding)
+    × (scalar_at 32 (short_string 31 (0x80 ∷ replicate 30 1)) ≡ Err FormatEncoding)
     × (scalar_at 32 (short_string 33 (replicate 33 1)) ≡ Err FormatEncoding) × (scalar_at 32 (short_string 34 (replicate 34 0)) ≡ Err (TrailingData 2))
 
 -- ---- key pairs
