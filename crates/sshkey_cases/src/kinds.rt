@@ -1,11 +1,15 @@
 //! Points.
 
+ghost use Rattle.std.specs.Prelude.{◌≤◌};
+
 use sshkey_base::Result;
 use sshkey_kinds::{EcPoint, EcdsaPublicKey};
 use std::alloc::Global;
 
 /// Whether the bytes are a point string of the curve whose longest one has `LEN` bytes.
-pub(crate) fn point<const LEN: usize>(alloc: Global, bytes: &[u8]) -> Result<String> {
+pub(crate) fn point<const LEN: usize>(alloc: Global, bytes: &[u8]) -> Result<String>
+    requires { LEN ≤ 133 }
+{
     let point = EcPoint::<LEN>::from_bytes(bytes)?;
     said(alloc, point.as_bytes() == bytes)
 }
