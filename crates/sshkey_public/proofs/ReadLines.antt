@@ -1,6 +1,7 @@
 -- What reading a line gives.
 use Rattle.std.proofs.Common.{◌≡◌, ◌≢◌, ℕ, ◌≤◌, ◌<◌, ◌+◌, ◌%◌, List, [], length, Result, Ok, Err, Some, inl, inr, sym, ap, ◌∙◌, subst, arith}
-use Rattle.std.specs.Prelude.{IfSome}
+use Rattle.std.specs.Prelude.{IfSome, true}
+use Rattle.std.specs.Str.{is_utf8}
 use Rattle.base64.specs.Engines.{standard}
 use Rattle.base64.specs.GeneralPurpose.{encode_of, IsBytes}
 use Rattle.sshkey_base.specs.Accepting.{AcceptsWhole}
@@ -46,8 +47,8 @@ module _ {X Y V : Type 0} {means : X → Y} {Spells : Y → List ℕ → Type 0}
   first_refused text f w m v cut word = other_first name Spelling k.blobs text f w m word.blob v cut word.is (fits v word.blob word.spelled) word.spelled
 
   -- accepted
-  pub line_read : (text f w m : List ℕ) (v : V) → IsCut text f w m → IsWordOf Spelling w v → f ≡ name v → IsLineOf name Spelling text v m
-  line_read text f w m v cut word = is_line name Spelling k.blobs text f w m word.blob v cut word.is word.spelled
+  pub line_read : (text f w m : List ℕ) (v : V) → is_utf8 text ≡ true → IsCut text f w m → IsWordOf Spelling w v → f ≡ name v → IsLineOf name Spelling text v m
+  line_read text f w m v utf8 cut word = is_line name Spelling k.blobs text f w m word.blob v utf8 cut word.is word.spelled
 
   -- What a call gives that reads all of a source of the word's bytes.
   pub word_read : (w : List ℕ) (s : Source) (r : Result X wide.Error) → IsSourceOf w s → AcceptsWhole means Spells cause s r → ReadsWord value Spelling w r
