@@ -33,8 +33,7 @@ longer_digest = hex "f079b878d4e2624f65e9647ce48a98f942b80176a345fe5ab8b0ff408c4
 
 -- The right SHA-512 digest is no SHA-256 fingerprint, whatever hash it is given with; nor is the right SHA-256 digest given with the other hash.
 abbrev pub OtherHash : Type 0
-OtherHash = (fingerprint Sha512 ed25519_key ≡ record { hash = Sha512; digest = longer_digest })
-    × (IsValid (λ q. true) (record { hash = Sha512; digest = longer_digest } ∷ []) 10 zero_signed → ⊥)
+OtherHash = (IsValid (λ q. true) (record { hash = Sha512; digest = longer_digest } ∷ []) 10 zero_signed → ⊥)
     × (IsValid (λ q. true) (record { hash = Sha256; digest = longer_digest } ∷ []) 10 zero_signed → ⊥)
     × (IsValid (λ q. true) (record { hash = Sha512; digest = right_fingerprint.digest } ∷ []) 10 zero_signed → ⊥)
 

@@ -1,12 +1,11 @@
 use Rattle.std.proofs.Common.{◌≡◌, zero, suc, [], ◌∷◌, length, refl, ap, ◌∙◌, arith}
 use Rattle.std.specs.Prelude.{Contains}
 use Rattle.sha2.specs.Sha256.{sha256, digest_bytes, hash_after, compress, rounds, schedule, first_words}
-use Rattle.sha2.specs.Sha512 as longer
 use Rattle.sshkey_model.specs.Parts.{flat}
 use Rattle.sshkey_model.specs.Names.{Sha256, Sha512}
 use Rattle.sshkey_model.specs.Fingerprints.{Fingerprint, fingerprint}
 use Rattle.sshkey_model.specs.KeyExamples.{ed25519_key}
-use Rattle.sshkey_model.specs.ValidityExamples.{right_fingerprint, longer_digest}
+use Rattle.sshkey_model.specs.ValidityExamples.{right_fingerprint}
 use Rattle.sshkey_model.proofs.examples.certificates.other_hash.Goals as goal
 
 only_one : (f g : Fingerprint) → Contains (f ∷ []) g → f ≡ g
@@ -17,13 +16,8 @@ shorter : fingerprint Sha256 ed25519_key ≡ right_fingerprint
 unfolding flat sha256 digest_bytes hash_after compress rounds schedule first_words
 shorter = refl
 
-longer_is : fingerprint Sha512 ed25519_key ≡ record { hash = Sha512; digest = longer_digest }
-unfolding flat longer.sha512 longer.digest_bytes longer.hash_after longer.compress longer.rounds longer.schedule longer.first_words
-longer_is = refl
-
 pub returns : goal.returns
 returns c = (
-  longer_is,
   (λ v. let e : Sha512 ≡ Sha256 = ap (λ (f : Fingerprint). f.hash) (only_one _ _ v.authority) in cc e),
   (λ v. let e = ap (λ (f : Fingerprint). length f.digest) (only_one _ _ v.authority ∙ shorter) in absurd (omega (arith, e))),
   (λ v. let e : Sha512 ≡ Sha256 = ap (λ (f : Fingerprint). f.hash) (only_one _ _ v.authority) in cc e),
