@@ -1,5 +1,5 @@
 -- What each kind of key means.
-use Rattle.sshkey_model.specs.Keys.{Key, Dsa, Ed25519, Rsa, SkEcdsa, SkEd25519, Opaque}
+use Rattle.sshkey_model.specs.Keys.{Key, SecurityKey, Dsa, Ed25519, Rsa, SkEcdsa, SkEd25519, Opaque}
 use Rattle.sshkey_model.specs.Names.{algorithm_name}
 use Rattle.sshkey_base.specs.Names.{algorithm_of}
 use Rattle.sshkey_base.specs.Numbers.{mpint_of}
@@ -20,11 +20,19 @@ rsa_of k = Rsa (record { e = mpint_of k.e; n = mpint_of k.n })
 abbrev pub ed25519_of : Ed25519PublicKey → Key
 ed25519_of k = Ed25519 k.0
 
+-- the point and the application
+abbrev pub sk_ecdsa_fields : SkEcdsaSha2NistP256 → SecurityKey
+sk_ecdsa_fields k = record { key = point_of k.ec_point; application = k.application }
+
 abbrev pub sk_ecdsa_of : SkEcdsaSha2NistP256 → Key
-sk_ecdsa_of k = SkEcdsa (record { key = point_of k.ec_point; application = k.application })
+sk_ecdsa_of k = SkEcdsa (sk_ecdsa_fields k)
+
+-- the 32 bytes and the application
+abbrev pub sk_ed25519_fields : sk.SkEd25519 → SecurityKey
+sk_ed25519_fields k = record { key = k.public_key.0; application = k.application }
 
 abbrev pub sk_ed25519_of : sk.SkEd25519 → Key
-sk_ed25519_of k = SkEd25519 (record { key = k.public_key.0; application = k.application })
+sk_ed25519_of k = SkEd25519 (sk_ed25519_fields k)
 
 abbrev pub opaque_of : OpaquePublicKey → Key
 opaque_of k = Opaque (algorithm_name (algorithm_of k.algorithm)) k.key

@@ -32,7 +32,7 @@ pub struct SkEcdsaSha2NistP256 {
 }
 
 impl SkEcdsaSha2NistP256 {
-    ghost use Rattle.sshkey_kinds.specs.Kinds.{sk_ecdsa_of};
+    ghost use Rattle.sshkey_kinds.specs.Kinds.{sk_ecdsa_fields, sk_ecdsa_of};
 
     /// The key for that application. Takes no memory.
     pub fn new(ec_point: EcdsaNistP256PublicKey, application: String) -> SkEcdsaSha2NistP256
@@ -69,14 +69,14 @@ impl SkEcdsaSha2NistP256 {
 
     /// The point.
     pub fn ec_point(&self) -> &EcdsaNistP256PublicKey
-        ensures { SkEcdsa (record { key = point_of result.now; application = self.now.application }) ≡ sk_ecdsa_of self.now }
+        ensures { point_of result.now ≡ (sk_ecdsa_fields self.now).key }
     {
         &self.ec_point
     }
 
     /// The application.
     pub fn application(&self) -> &str
-        ensures { SkEcdsa (record { key = point_of self.now.ec_point; application = result.now }) ≡ sk_ecdsa_of self.now }
+        ensures { result.now ≡ (sk_ecdsa_fields self.now).application }
     {
         self.application.as_str()
     }
@@ -188,7 +188,7 @@ pub struct SkEd25519 {
 }
 
 impl SkEd25519 {
-    ghost use Rattle.sshkey_kinds.specs.Kinds.{sk_ed25519_of};
+    ghost use Rattle.sshkey_kinds.specs.Kinds.{sk_ed25519_fields, sk_ed25519_of};
 
     /// The key for that application. Takes no memory.
     pub fn new(public_key: Ed25519PublicKey, application: String) -> SkEd25519
@@ -225,14 +225,14 @@ impl SkEd25519 {
 
     /// The key without its application.
     pub fn public_key(&self) -> &Ed25519PublicKey
-        ensures { SkEd25519Key (record { key = result.now.0; application = self.now.application }) ≡ sk_ed25519_of self.now }
+        ensures { result.now.0 ≡ (sk_ed25519_fields self.now).key }
     {
         &self.public_key
     }
 
     /// The application.
     pub fn application(&self) -> &str
-        ensures { SkEd25519Key (record { key = self.now.public_key.0; application = result.now }) ≡ sk_ed25519_of self.now }
+        ensures { result.now ≡ (sk_ed25519_fields self.now).application }
     {
         self.application.as_str()
     }

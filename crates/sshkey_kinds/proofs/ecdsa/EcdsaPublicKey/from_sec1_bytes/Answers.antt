@@ -10,6 +10,7 @@ use Rattle.sshkey_kinds.specs.declared.ec_point.EcPoint.{EcPoint}
 use Rattle.sshkey_kinds.specs.EcdsaWords.{ecdsa_of}
 use Rattle.sshkey_kinds.specs.PointSizes.{is_point_within}
 use Rattle.sshkey_kinds.specs.PointWords.{point_of}
+use Rattle.sshkey_kinds.proofs.Points.{taken_points}
 use Rattle.sshkey_kinds.proofs.ecdsa.EcdsaPublicKey.from_sec1_bytes.Goals as goal
 use Rattle.sshkey_kinds.proofs.ecdsa.EcdsaPublicKey.from_sec1_bytes.Goals.{in-32+in_ok-from_bytes-in-32, in-48+in_ok-from_bytes-in-48, in_default+in_ok-from_bytes-in_default}
 
@@ -19,8 +20,8 @@ no_curve (Ok c) b e r h same = absurd h
 no_curve (Err f) b e (Ok k) h same = absurd same
 no_curve (Err f) b e (Err x) h same = ap cause same ∙ h
 
-pub returns-in_err-sec1_field_size : goal.returns-in_err-sec1_field_size
-returns-in_err-sec1_field_size c = no_curve (point_curve c.args.bytes.now) c.args.bytes.now _ _ c.in_err-sec1_field_size.ensures c.from_residual.ensures.1
+pub returns-in_err-sec1_field_size-clause-answer : goal.returns-in_err-sec1_field_size-clause-answer
+returns-in_err-sec1_field_size-clause-answer c = no_curve (point_curve c.args.bytes.now) c.args.bytes.now _ _ c.in_err-sec1_field_size.ensures c.from_residual.ensures.1
 
 -- the curve of a size
 same_size : (c d : Curve) → field_size c ≡ field_size d → c ≡ d
@@ -48,11 +49,17 @@ its_bytes : {n : ℕ} (t : Bool) (b : List ℕ) (p : EcPoint n) → AnswersAlway
 its_bytes true b p h = h
 its_bytes false b p h = absurd h
 
-pub returns : goal.returns
-returns c =
+pub returns-clause-answer : goal.returns-clause-answer
+returns-clause-answer c =
     let b = c.args.bytes.now in
     elim c.match-branch-2.branch [
       | in-32+in_ok-from_bytes-in-32 w ↦ rw w.key-is (on_curve (point_curve b) b _ Nistp256 _ c.in_ok-sec1_field_size.ensures w.in-32.is (ap (λ (p : List ℕ). (Nistp256, p)) (its_bytes (is_point_within 65 b) b _ w.in_ok-from_bytes-in-32.ensures)))
       | in-48+in_ok-from_bytes-in-48 w ↦ rw w.key-is (on_curve (point_curve b) b _ Nistp384 _ c.in_ok-sec1_field_size.ensures w.in-48.is (ap (λ (p : List ℕ). (Nistp384, p)) (its_bytes (is_point_within 97 b) b _ w.in_ok-from_bytes-in-48.ensures)))
       | in_default+in_ok-from_bytes-in_default w ↦ rw w.key-is (on_curve (point_curve b) b _ Nistp521 _ c.in_ok-sec1_field_size.ensures (last_size (point_curve b) _ c.in_ok-sec1_field_size.ensures (λ e. omega (arith, e)) (λ e. omega (arith, e))) (ap (λ (p : List ℕ). (Nistp521, p)) (its_bytes (is_point_within 133 b) b _ w.in_ok-from_bytes-in_default.ensures)))
     ]
+
+pub returns-in_err-sec1_field_size-clause-exactly : goal.returns-in_err-sec1_field_size-clause-exactly
+returns-in_err-sec1_field_size-clause-exactly c = taken_points c.args.bytes.now _ (returns-in_err-sec1_field_size-clause-answer c)
+
+pub returns-clause-exactly : goal.returns-clause-exactly
+returns-clause-exactly c = taken_points c.args.bytes.now _ (returns-clause-answer c)
