@@ -19,6 +19,20 @@ ended : {Y : Type 0} (y : Y) (rest : List ℕ) (z : Y) → end_of y rest ≡ Ok 
 ended y [] z e = (refl, ok_is y z e)
 ended y (b ∷ rest) z e = absurd cc
 
+module _ {Y : Type 0} {Spells : Y → List ℕ → Type 0} {read : Front Y} (g : IsGrammar Spells read) where
+  -- what the plain reader takes whole is a spelling
+  pub whole_spelled : (b : List ℕ) (y : Y) → whole read b ≡ Ok y → Spells y b
+  whole_spelled b y e =
+      let x = bind_ok (read b) (λ x. end_of x.0 x.1) y e in
+      let end = ended x.0.0 x.0.1 y x.2 in
+      let a = g.takes b x.0.0 x.0.1 x.1 in
+      let all : b ≡ a.0 = a.2 ∙ ap (λ (rest : List ℕ). a.0 ++ rest) end.0 ∙ append-nil a.0 in
+      subst (λ (bytes : List ℕ). Spells y bytes) (sym all) (subst (λ (v : Y). Spells v a.0) end.1 a.1)
+
+  -- and a spelling is taken whole
+  pub spelled_whole : (b : List ℕ) (y : Y) → Spells y b → whole read b ≡ Ok y
+  spelled_whole b y spelled = ap (whole read) (sym (append-nil b)) ∙ rw (g.again y b [] spelled) refl
+
 module _ {X Y E : Type 0} {Spells : Y → List ℕ → Type 0} {read : Front Y} (g : IsGrammar Spells read) (means : X → Y) (cause : E → Cause) where
   pub accepts_front : (s t : Source) (r : Result X E) → Gives means cause read s r t → AcceptsFront means Spells cause s r t
   accepts_front s t (Ok x) h =
@@ -29,15 +43,10 @@ module _ {X Y E : Type 0} {Spells : Y → List ℕ → Type 0} {read : Front Y} 
       none_spelled g s.left refused.0 refused.1 y front rest spelled is
 
   pub accepts_whole : (s : Source) (r : Result X E) → GivesWhole means cause (whole read) s r → AcceptsWhole means Spells cause s r
-  accepts_whole s (Ok x) h =
-      let y = bind_ok (read s.left) (λ y. end_of y.0 y.1) (means x) h.value in
-      let end = ended y.0.0 y.0.1 (means x) y.2 in
-      let a = g.takes s.left y.0.0 y.0.1 y.1 in
-      let all : s.left ≡ a.0 = a.2 ∙ ap (λ (rest : List ℕ). a.0 ++ rest) end.0 ∙ append-nil a.0 in
-      record { spelled = subst (λ (bytes : List ℕ). Spells (means x) bytes) (sym all) (subst (λ (v : Y). Spells v a.0) end.1 a.1); sound = h.sound }
+  accepts_whole s (Ok x) h = record { spelled = whole_spelled g s.left (means x) h.value; sound = h.sound }
   accepts_whole s (Err e) h = λ other sound y spelled.
       let refused = err_from_is_err_and (whole read s.left) (h.fault other sound) in
-      let taken : whole read s.left ≡ Ok y = ap (whole read) (sym (append-nil s.left)) ∙ rw (g.again y s.left [] spelled) refl in
+      let taken = spelled_whole g s.left y spelled in
       let is = refused.1 in cc
 
 -- What is read from the front and then finished is what the plain reader takes whole.

@@ -1,13 +1,13 @@
 -- Names of somebody's own in certificates.
-use Rattle.std.proofs.Common.{◌≡◌, ◌≢◌, ℕ, Option, Some, None, Result, Ok, Err, IfOk, IfErr, IsSome, List, [], ◌∷◌, ◌++◌, length, nat_le, ◌&&◌, true, false, refl, sym, ap, subst, ◌∙◌, rules, append_assoc, arith, ◌+◌, ◌≤◌}
-use Rattle.std.proofs.lemmas.Bool.{and_parts, both_ways, leb-true}
+use Rattle.std.proofs.Common.{◌≡◌, ◌≢◌, ℕ, Option, Some, None, Result, Ok, Err, IfOk, IfErr, IsSome, List, [], ◌∷◌, ◌++◌, length, nat_le, nat_lt, Bool, ◌&&◌, true, false, refl, sym, ap, subst, ◌∙◌, rules, append_assoc, arith, ◌+◌, ◌<◌, ◌≤◌, inl, inr}
+use Rattle.std.proofs.lemmas.Bool.{and_parts, and_right, both_ways, leb-true, le-leb, lt-leb, lt-ltb, le-ltb, cases_lt}
 use Rattle.std.proofs.lemmas.List.{append_cancel_right, length-append}
 use denote.Ref.{Bor}
 use Rattle.sshkey_model.specs.Parts.{bytes, ◌&◌, flat}
 use Rattle.sshkey_model.specs.Names.{Other, at_sign, cut, are_ascii, is_split, is_own_name}
 use Rattle.sshkey_model.specs.CertificateNames.{suffix, with_suffix, certificate_name}
 use Rattle.sshkey_model.proofs.CertificateNameReaders.{cut_parts}
-use Rattle.sshkey_base.specs.OwnNames.{IsCutOf, AreParts, IsNoCertificateName, NamesCertified}
+use Rattle.sshkey_base.specs.OwnNames.{IsCutOf, AreParts, IsNoCertificateType, IsNoCertificateName, HasCertificateName, are_own_parts}
 use Rattle.sshkey_base.specs.Causes.{cause}
 use Rattle.sshkey_base.specs.declared.error.Error.{Error}
 use Rattle.sshkey_base.specs.declared.error.Error.TheVariants as wide
@@ -18,6 +18,11 @@ use Rattle.sshkey_base.proofs.AtSigns.{cut-at, cut-suffixed}
 split_some : (o : Option (List ℕ × List ℕ)) → is_split o ≡ true → (p : List ℕ × List ℕ) × (o ≡ Some p)
 split_some None e = absurd cc
 split_some (Some p) e = (p, refl)
+
+-- a text without an at sign is no name
+pub not_split : (t : List ℕ) → cut t ≡ None → is_own_name t ≡ false
+unfolding is_own_name
+not_split t none = rw none (and_right (are_ascii t && nat_le (length t) 64) false refl)
 
 pub own_cut : (n : List ℕ) → is_own_name n ≡ true → (p : List ℕ × List ℕ) × (cut n ≡ Some p)
 unfolding is_own_name
@@ -61,26 +66,44 @@ are_parts t name domain l e ends =
     let parts = cut_parts t (name, domain) e in
     record { first = cut_left l suffix (subst (λ (z : List ℕ). cut z ≡ None) ends parts.1); whole = parts.0 ∙ ap (λ (z : List ℕ). z ++ at_sign ∷ domain) ends }
 
--- a text without those parts is the certificate type of no name
-pub refused : (t : List ℕ) (e : Error) → ((l r : List ℕ) → AreParts t l r → ⊥) → e ≡ wide.Encoding encoding.Label → IsNoCertificateName t (cause e)
-refused t e without is = record {
-  none = λ n own spelt. let p = parts_of n t own spelt in without p.0 p.1 p.3;
-  label = ap cause is;
-}
+pub are_ascii-append : (a b : List ℕ) → are_ascii (a ++ b) ≡ (are_ascii a && are_ascii b)
+are_ascii-append [] b = refl
+are_ascii-append (c ∷ a) b = ap (λ (z : Bool). nat_lt c 0x80 && z) (are_ascii-append a b) ∙ and-assoc (nat_lt c 0x80) (are_ascii a) (are_ascii b)
+  where
+    and-assoc : (x y z : Bool) → (x && (y && z)) ≡ ((x && y) && z)
+    and-assoc true y z = refl
+    and-assoc false y z = refl
 
--- a text with those parts is that of the name without the suffix, if this is one
-pub named_of : (t l r bare : List ℕ) (result : Result (List ℕ) Error) → AreParts t l r → bare ≡ l ++ at_sign ∷ r → IfOk result (λ n. n ≡ bare) → IfOk result (λ n. is_own_name n ≡ true) → IfErr result (λ e. (is_own_name bare ≡ false) × (e ≡ wide.Encoding encoding.Label)) → NamesCertified cause t result
-named_of t l r bare (Ok n) parts is ok own err = record {
-  own = own;
-  spelled = certificate_name-cut n (l, r) (ap cut (ok ∙ is) ∙ cut-at l r parts.first) ∙ sym parts.whole;
-}
-named_of t l r bare (Err e) parts is ok own_ err = λ _. record {
-  none = λ n own spelt.
-      let p = parts_of n t own spelt in
-      let same = same_parts t p.0 p.1 l r p.3 parts in
-      let form : bare ≡ n = is ∙ cc (p.2, same.0, same.1) in
-      both_ways (is_own_name bare) err.0 (rw form own);
-  label = ap cause err.1;
+-- the two parts of a name tell that it is one
+pub own_parts : (l r : List ℕ) → cut l ≡ None → is_own_name (l ++ at_sign ∷ r) ≡ are_own_parts l r
+unfolding is_own_name
+own_parts l r none =
+    let size : nat_le (length (l ++ at_sign ∷ r)) 64 ≡ nat_lt (length l + length r) 64 = elim (cases_lt (length l + length r) 64) [
+      | inl lt ↦ le-leb _ _ (omega (arith, length-append l (at_sign ∷ r))) ∙ sym (lt-ltb _ _ lt)
+      | inr ge ↦ lt-leb _ _ (omega (arith, length-append l (at_sign ∷ r))) ∙ sym (le-ltb _ _ ge)
+    ] in
+    rw (are_ascii-append, size, cut-at l r none) refl
+
+-- a text without those parts is the certificate type of no name
+pub no_type : (t : List ℕ) → ((l r : List ℕ) → AreParts t l r → ⊥) → IsNoCertificateType t
+no_type t without n own spelt = let p = parts_of n t own spelt in without p.0 p.1 p.3
+
+-- nor is one whose parts are those of no name
+pub no_parts : (t l r : List ℕ) → AreParts t l r → are_own_parts l r ≡ false → IsNoCertificateType t
+no_parts t l r parts not n own spelt =
+    let p = parts_of n t own spelt in
+    let same = same_parts t p.0 p.1 l r p.3 parts in
+    let form : l ++ at_sign ∷ r ≡ n = cc (p.2, same.0, same.1) in
+    both_ways (are_own_parts l r) not (rw (← own_parts l r parts.first, form) own)
+
+pub refused : (t : List ℕ) (e : Error) → IsNoCertificateType t → e ≡ wide.Encoding encoding.Label → IsNoCertificateName t (cause e)
+refused t e none is = record { none = none; label = ap cause is }
+
+-- a text whose parts are those of a name is that of the name without the suffix
+pub has_name : (t l r n : List ℕ) → AreParts t l r → are_own_parts l r ≡ true → n ≡ l ++ at_sign ∷ r → HasCertificateName t n
+has_name t l r n parts own is = record {
+  own = rw (is, own_parts l r parts.first) own;
+  spelled = certificate_name-cut n (l, r) (ap cut is ∙ cut-at l r parts.first) ∙ sym parts.whole;
 }
 
 pub flat-name : (n : List ℕ) (p : List ℕ × List ℕ) → cut n ≡ Some p → flat (bytes p.0 & bytes suffix & bytes (at_sign ∷ []) & bytes p.1) ≡ certificate_name (Other n)

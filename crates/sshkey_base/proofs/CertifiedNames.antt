@@ -18,7 +18,7 @@ use Rattle.sshkey_base.specs.Source.{Source}
 use Rattle.sshkey_base.proofs.Labels.{text_refused}
 use Rattle.sshkey_base.specs.OwnNames.{HasCertificateName}
 use Rattle.sshkey_base.proofs.AtSigns.{cut-at, cut-suffixed}
-use Rattle.sshkey_base.proofs.CertificateTypes.{parts_of, are_parts, certificate_name-cut}
+use Rattle.sshkey_base.proofs.CertificateTypes.{parts_of, are_parts, are_ascii-append, certificate_name-cut}
 
 -- A fixed name with an at sign has a fixed name in a certificate.
 abbrev pub HasFixed : Algorithm → Type 0
@@ -118,14 +118,6 @@ certified_checks = record {
   takes = λ t a was e. let is = certified_takes (named certificate_name certified t) t a refl e in (is.0, ap bytes (sym is.1));
   again = λ a is. (certificate_name a, tt, certified_again a is, refl);
 }
-
-are_ascii-append : (a b : List ℕ) → are_ascii (a ++ b) ≡ (are_ascii a && are_ascii b)
-are_ascii-append [] b = refl
-are_ascii-append (c ∷ a) b = ap (λ (z : Bool). nat_lt c 0x80 && z) (are_ascii-append a b) ∙ and-assoc (nat_lt c 0x80) (are_ascii a) (are_ascii b)
-  where
-    and-assoc : (x y z : Bool) → (x && (y && z)) ≡ ((x && y) && z)
-    and-assoc true y z = refl
-    and-assoc false y z = refl
 
 other_ascii : (n : List ℕ) → is_other_name n ≡ true → are_ascii (certificate_name (Other n)) ≡ true
 unfolding is_other_name is_own_name

@@ -6,6 +6,7 @@ pub mod Needs
 pub mod Nested
 pub mod Accepting
 pub mod Sink
+pub mod SliceWriter
 pub mod Leaves
 pub mod Counts
 pub mod Labels

@@ -1,8 +1,8 @@
 -- Names of somebody's own, as calls find them.
-use Rattle.std.specs.Prelude.{◌≡◌, ◌≢◌, ℕ, List, ◌∷◌, ◌++◌, true, Option, Some, None, Result, Ok, Err, if◌then◌else◌}
+use Rattle.std.specs.Prelude.{◌≡◌, ◌≢◌, ℕ, ◌+◌, nat_lt, List, ◌∷◌, ◌++◌, length, Bool, true, ◌&&◌, Option, Some, None, Result, Ok, Err, if◌then◌else◌}
 use denote.Ref.{Bor}
 use Rattle.sshkey_model.specs.Reading.{Fault, Label}
-use Rattle.sshkey_model.specs.Names.{Other, at_sign, cut, is_own_name}
+use Rattle.sshkey_model.specs.Names.{Other, are_ascii, at_sign, cut, is_own_name, is_split}
 use Rattle.sshkey_model.specs.CertificateNames.{certificate_name, suffix}
 use Rattle.sshkey_base.specs.Causes.{Cause, NoMemory, Faulty}
 
@@ -15,9 +15,13 @@ pub record HasCertificateName (t n : List ℕ) : Type 0 where
   pub own : is_own_name n ≡ true
   pub spelled : certificate_name (Other n) ≡ t
 
--- It is the name of none in a certificate, and the error says so.
+-- It is the name of no such name in a certificate.
+abbrev pub IsNoCertificateType : List ℕ → Type 0
+IsNoCertificateType t = (n : List ℕ) → is_own_name n ≡ true → certificate_name (Other n) ≢ t
+
+-- So it is, and the error says so.
 pub record IsNoCertificateName (t : List ℕ) (cause : Cause) : Type 0 where
-  pub none : (n : List ℕ) → is_own_name n ≡ true → certificate_name (Other n) ≢ t
+  pub none : IsNoCertificateType t
   pub label : cause ≡ Faulty Label
 
 -- The answer is the name that has this name in a certificate, and `Label` where none has it, want of memory aside.
@@ -34,6 +38,10 @@ IsCutOf t (Some p) = cut t ≡ Some (p.0.now, p.1.now)
 pub record AreParts (t l r : List ℕ) : Type 0 where
   pub first : cut l ≡ None
   pub whole : t ≡ l ++ suffix ++ at_sign ∷ r
+
+-- What stands before the first at sign of a name, and behind it.
+abbrev pub are_own_parts : List ℕ → List ℕ → Bool
+are_own_parts l r = are_ascii l && are_ascii r && nat_lt (length l + length r) 64 && is_split (Some (l, r))
 
 abbrev pub IsWithoutSuffix : List ℕ → Option (Bor (List ℕ) × Bor (List ℕ)) → Type 0
 IsWithoutSuffix t None = (l r : List ℕ) → AreParts t l r → ⊥

@@ -4,7 +4,7 @@ ghost use Rattle.std.specs.Prelude.{ℕ, List};
 ghost use Rattle.std.specs.Int.{w8, w32, w64};
 ghost use Rattle.sshkey_model.specs.Grammar.{IsGrammar};
 ghost use Rattle.sshkey_model.specs.Reading.{Front, whole, bytes_at, number_at, box_at};
-ghost use Rattle.sshkey_base.specs.Accepting.{AcceptsFront, AcceptsWhole};
+ghost use Rattle.sshkey_base.specs.Accepting.{AcceptsFront, AcceptsWhole, SpellsBoxed};
 ghost use Rattle.sshkey_base.specs.Causes.{encoding_cause};
 ghost use Rattle.sshkey_base.specs.Leaves.{SpellsByte, SpellsNumber32, SpellsNumber64, SpellsArray, byte_grammar, number32_grammar, number64_grammar, array_grammar};
 ghost use Rattle.sshkey_base.specs.Nested.{nested_source};
@@ -171,6 +171,8 @@ impl<const N: usize> Decode for [u8; N] {
 
 /// Reads a length of four bytes, and a value that takes exactly so many bytes.
 ///
+/// Out of memory aside, a sound source is refused only where no front of it is a length and so many
+/// bytes that spell a value.
 /// `Length` where the length passes what is left, `TrailingData` with the number of bytes that
 /// the value leaves. Memory is asked for only by the value, in a part that stands whole.
 #[tactic(auto, using(crate::proofs::Boxes::boxes))]
@@ -182,6 +184,7 @@ pub fn decode_boxed<T: Decode + Drop, R: Reader>(
     ensures gives { Gives T.means T.Error.cause (box_at (whole T.parse)) (R.source reader.old) result (R.source reader.new) }
     ensures later { Later (R.source reader.old) (R.source reader.new) }
     ensures asks { Asks T.Error.cause (NeedsBoxed T.needs) (R.source reader.old) result }
+    ensures accepts { AcceptsFront T.means (SpellsBoxed T.Spells) T.Error.cause (R.source reader.old) result (R.source reader.new) }
 {
     reader.read_prefixed(|part| T::decode(alloc, part))
 }

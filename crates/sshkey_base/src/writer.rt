@@ -1,6 +1,6 @@
 //! Writers of the wire encoding.
 
-ghost use Rattle.std.specs.Prelude.{◌≡◌, ◌≤◌, [], None, Some, take, length};
+ghost use Rattle.std.specs.Prelude.{◌≡◌, ◌≤◌, [], None, Some, IfErr, length};
 ghost use Rattle.sshkey_base.specs.declared.encoding.Error as narrow;
 ghost use Rattle.sshkey_base.specs.declared.encoding.Error.TheVariants.{Memory, Length};
 ghost use Rattle.sshkey_base.specs.Sink.{Sink, Writes};
@@ -45,16 +45,18 @@ pub struct SliceWriter<'s> {
 }
 
 impl<'s> SliceWriter<'s> {
+    ghost use Rattle.sshkey_base.specs.SliceWriter.{slice_sink};
+
     /// A writer into the slice. Nothing is written yet, and all of the slice is room.
     pub fn new(slice: &'s mut [u8]) -> SliceWriter<'s>
-        ensures { ⟦<SliceWriter<'static> as Writer>⟧.sink result ≡ record { written = []; limit = Some (length slice.old) } }
+        ensures { slice_sink result ≡ record { written = []; limit = Some (length slice.old) } }
     {
         SliceWriter { slice, len: 0 }
     }
 
     /// What was written.
     pub fn written(&self) -> &[u8]
-        ensures { result.now ≡ (⟦<SliceWriter<'static> as Writer>⟧.sink self.now).written }
+        ensures { result.now ≡ (slice_sink self.now).written }
     {
         &self.slice[..self.len]
     }
@@ -63,11 +65,16 @@ impl<'s> SliceWriter<'s> {
 /// `Length` where the bytes pass the rest of the slice; then none of them is written.
 #[tactic(auto, using(crate::proofs::Writing::none_began))]
 impl Writer for SliceWriter<'_> {
-    ghost sink = { λ w. record { written = take w.len w.slice.now; limit = Some (length w.slice.now) } };
+    ghost use Rattle.sshkey_base.specs.SliceWriter.{slice_sink};
+
+    ghost sink = { slice_sink };
 
     ghost fault = { λ e. e ≡ Length };
 
-    fn write(&mut self, bytes: &[u8]) -> Result<()> {
+    fn write(&mut self, bytes: &[u8]) -> Result<()>
+        ensures writes { Writes (λ e. e ≡ Length) (slice_sink self.old) bytes.now result (slice_sink self.new) }
+        ensures unwritten { IfErr result (λ _. slice_sink self.new ≡ slice_sink self.old) }
+    {
         let slice = &mut *self.slice;
         let len = self.len;
         if slice.len() - len < bytes.len() {

@@ -38,16 +38,19 @@ pub enum EcdsaPublicKey {
 }
 
 impl EcdsaPublicKey {
-    ghost use Rattle.sshkey_kinds.specs.EcdsaWords.{ecdsa_of, sec1_from};
+    ghost use Rattle.std.specs.Prelude.{◌↔◌, IsOk};
+    ghost use Rattle.sshkey_kinds.specs.EcdsaWords.{ecdsa_of, sec1_from, IsAnyPoint};
 
-    /// The key of a point string (SEC 1, section 2.3.3), whose curve its tag and its size tell.
+    /// The key of a point string (SEC 1, section 2.3.3), whose curve its tag and its size tell. The
+    /// answer is `Ok` exactly where the bytes are a point string of one of the curves.
     ///
     /// `Length` for no bytes and where the size is that of no curve's coordinates,
     /// `AlgorithmUnknown` for the tags 00 and 05, and `Ecdsa` for any other tag but 02, 03 and 04,
     /// and for 04 before an odd number of bytes whose half is the size of a coordinate. Takes no
     /// memory.
     pub fn from_sec1_bytes(bytes: &[u8]) -> Result<EcdsaPublicKey>
-        ensures { AnswersAlways ecdsa_of cause (sec1_from bytes.now) result }
+        ensures exactly { IsOk result ↔ IsAnyPoint bytes.now }
+        ensures answer { AnswersAlways ecdsa_of cause (sec1_from bytes.now) result }
     {
         let key = match sec1_curve(bytes)? {
             EcdsaCurve::NistP256 => EcdsaPublicKey::NistP256(EcPoint::from_bytes(bytes)?),

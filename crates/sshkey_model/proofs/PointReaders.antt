@@ -26,7 +26,7 @@ whole_size Nistp256 = refl
 whole_size Nistp384 = refl
 whole_size Nistp521 = refl
 
-point_takes : (b : List ℕ) (c : Curve) → point_curve b ≡ Ok c → is_point (field_size c) b ≡ true
+pub point_takes : (b : List ℕ) (c : Curve) → point_curve b ≡ Ok c → is_point (field_size c) b ≡ true
 point_takes [] c e = absurd cc
 point_takes (tag ∷ rest) c e =
     elim (chosen (eqb tag 2 || eqb tag 3) _ _ _ e) [
@@ -48,7 +48,7 @@ point_takes (tag ∷ rest) c e =
           | inr odd ↦ absurd (cc odd.1)
         ]
 
-point_again : (b : List ℕ) (c : Curve) → is_point (field_size c) b ≡ true → (point_curve b ≡ Ok c) × (length b ≤ 1 + 2 * field_size c)
+pub point_again : (b : List ℕ) (c : Curve) → is_point (field_size c) b ≡ true → (point_curve b ≡ Ok c) × (length b ≤ 1 + 2 * field_size c)
 point_again [] c is = absurd cc
 point_again (tag ∷ rest) c is =
     elim (or_cases ((eqb tag 2 || eqb tag 3) && eqb (length rest) (field_size c)) (eqb tag 4 && eqb (length rest) (2 * field_size c)) is) [

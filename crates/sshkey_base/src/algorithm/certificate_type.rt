@@ -1,19 +1,22 @@
 //! Names of algorithms in certificates (PROTOCOL.certkeys).
 
-ghost use Rattle.std.specs.Prelude.{◌≡◌, ◌≤◌, length, IsOk, IfOk, IfErr, Some, option_map, string_bytes};
+ghost use Rattle.std.specs.Prelude.{◌≡◌, ◌≤◌, length, IsOk, IfOk, IfErr, Err, Some, option_map, string_bytes};
 ghost use Rattle.sshkey_model.specs.CertificateNames.{IsCertified, certificate_algorithm, certificate_algorithm_at, certificate_name, certified, certified_from};
 ghost use Rattle.sshkey_model.specs.Grammar.{Spells};
 ghost use Rattle.sshkey_model.specs.Names.{named};
 ghost use Rattle.sshkey_model.specs.Names as model;
 ghost use Rattle.sshkey_model.specs.Parts.{bytes};
+ghost use Rattle.sshkey_model.specs.Reading as fault;
 ghost use Rattle.sshkey_base.specs.Accepting.{AcceptsFront};
 ghost use Rattle.sshkey_base.specs.Causes.{cause};
 ghost use Rattle.sshkey_base.specs.Kinds.{IsFixed};
 ghost use Rattle.sshkey_base.specs.Names.{algorithm_of};
 ghost use Rattle.sshkey_base.specs.Naming.{Names};
+ghost use Rattle.sshkey_base.specs.Needs.{Asks, NeedsString};
 ghost use Rattle.sshkey_base.specs.Reading.{Gives, LengthPast};
 ghost use Rattle.sshkey_base.specs.Source.{Later};
 ghost use Rattle.sshkey_base.specs.Sink.{Encodes};
+ghost use Rattle.sshkey_base.specs.declared.encoding.Error.TheVariants as encoding;
 
 use super::{Algorithm, AlgorithmName, EcdsaCurve, ecdsa};
 use crate::encode::Encode;
@@ -28,10 +31,12 @@ use std::str;
 
 impl Algorithm {
     /// The algorithm with that name in a certificate (PROTOCOL.certkeys), and `Label` where it is
-    /// no such name. An RSA algorithm has no hash then. No memory is asked for at a fixed name.
+    /// no such name. An RSA algorithm has no hash then. Memory is asked for only for a name that is
+    /// none of the fixed ones.
     pub fn new_certificate(alloc: Global, name: &str) -> Result<Algorithm>
         ensures gives { Names algorithm_of cause (certified_from name.now) result }
         ensures fixed { (a : model.Algorithm) → named certificate_name certified name.now ≡ Some a → IsOk result }
+        ensures refused { certified_from name.now ≡ Err fault.Label → result ≡ Err (Error.Encoding encoding.Label) }
     {
         match fixed_in_certificate(name) {
             Some(algorithm) => Ok(algorithm),
@@ -83,6 +88,7 @@ impl Algorithm {
         ensures past { LengthPast cause (R.source reader.old) result }
         ensures gives { Gives algorithm_of cause certificate_algorithm_at (R.source reader.old) result (R.source reader.new) }
         ensures later { Later (R.source reader.old) (R.source reader.new) }
+        ensures asks { Asks cause NeedsString (R.source reader.old) result }
         ensures accepts { AcceptsFront algorithm_of (Spells IsCertified certificate_algorithm) cause (R.source reader.old) result (R.source reader.new) }
     {
         read_certificate_type(alloc, reader)
@@ -130,6 +136,7 @@ fn read_certificate_type<R: Reader>(alloc: Global, reader: &mut R) -> Result<Alg
     ensures past { LengthPast cause (R.source reader.old) result }
     ensures gives { Gives algorithm_of cause certificate_algorithm_at (R.source reader.old) result (R.source reader.new) }
     ensures later { Later (R.source reader.old) (R.source reader.new) }
+    ensures asks { Asks cause NeedsString (R.source reader.old) result }
 {
     let name = NameBytes::decode(alloc, reader)?;
     match str::from_utf8(name.as_slice()) {

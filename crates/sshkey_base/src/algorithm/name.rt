@@ -8,12 +8,12 @@ ghost use Rattle.std.specs.Hash as fed;
 ghost use Rattle.std.specs.Ordering.{nat_cmp};
 ghost use Rattle.std.proofs.Common.{rules};
 ghost use Rattle.sshkey_model.specs.CertificateNames.{certificate_name, suffix};
-ghost use Rattle.sshkey_model.specs.Names.{Other, are_ascii, at_sign, cut, is_own_name, is_split};
+ghost use Rattle.sshkey_model.specs.Names.{Other, are_ascii, at_sign, is_own_name};
 ghost use Rattle.sshkey_model.specs.Parts.{bytes, ◌&◌};
 ghost use Rattle.sshkey_base.specs.Causes.{cause};
 ghost use Rattle.sshkey_base.specs.Labels.{LooksUp};
 ghost use Rattle.sshkey_base.specs.Naming.{Names};
-ghost use Rattle.sshkey_base.specs.OwnNames.{own_name_from, NamesCertified, IsCutOf, IsWithoutSuffix};
+ghost use Rattle.sshkey_base.specs.OwnNames.{own_name_from, NamesCertified, IsNoCertificateType, IsCutOf, IsWithoutSuffix, are_own_parts};
 ghost use Rattle.sshkey_base.specs.Sink.{Encodes};
 ghost use Rattle.sshkey_base.specs.declared.encoding.Error.TheVariants as encoding;
 
@@ -111,26 +111,21 @@ impl AlgorithmName {
         write_parts(name, domain, writer)
     }
 
-    /// The name whose certificate type is that text, and `Label` where it is that of none.
+    /// The name whose certificate type is that text, and `Label` where it is that of none. Memory
+    /// is asked for only for a name.
     pub fn from_certificate_type(alloc: Global, text: &str) -> Result<AlgorithmName>
-        ensures { NamesCertified cause text.now result }
+        ensures gives { NamesCertified cause text.now result }
+        ensures refused { IsNoCertificateType text.now → result ≡ Err (Error.Encoding encoding.Label) }
     {
         let Some((name, domain)) = without_suffix(text) else {
             return Err(Error::from(LabelError));
         };
-        AlgorithmName::from_text(format!(in alloc; "{name}@{domain}")?)
-    }
-
-    // The same as `new`, of a text that is handed over. Takes no memory.
-    fn from_text(text: String) -> Result<AlgorithmName>
-        ensures ok { IfOk result (λ name. name ≡ string_bytes text) }
-        ensures own { IfOk result (λ name. is_own_name name ≡ true) }
-        ensures err { IfErr result (λ e. (is_own_name (string_bytes text) ≡ false) × (e ≡ Error.Encoding encoding.Label)) }
-    {
-        if !is_own_name(text.as_str()) {
+        if !are_own_parts(name, domain) {
             return Err(Error::from(LabelError));
         }
-        Ok(AlgorithmName { text })
+        Ok(AlgorithmName {
+            text: format!(in alloc; "{name}@{domain}")?,
+        })
     }
 
     /// A name with the same bytes. Only want of memory refuses it.
@@ -152,29 +147,31 @@ fn split_at_sign(text: &str) -> Option<(&str, &str)>
 }
 
 // Whether it is a name of somebody's own.
-#[tactic(auto, unfolding(crate::specs::NameReaders::is_own_name))]
 fn is_own_name(text: &str) -> bool
     ensures { result ≡ is_own_name text.now }
 {
-    is_ascii(text) && text.len() <= MAX_LEN && is_split(text)
+    match split_at_sign(text) {
+        Some((name, domain)) => are_own_parts(name, domain),
+        None => false,
+    }
+}
+
+// Whether they are what stands before the first at sign of a name, and behind it.
+fn are_own_parts(name: &str, domain: &str) -> bool
+    ensures { result ≡ are_own_parts name.now domain.now }
+{
+    is_ascii(name)
+        && is_ascii(domain)
+        && name.len() + domain.len() < MAX_LEN
+        && !name.is_empty()
+        && !domain.is_empty()
+        && split_at_sign(domain).is_none()
 }
 
 fn is_ascii(text: &str) -> bool
     ensures { result ≡ are_ascii text.now }
 {
     text.is_ascii()
-}
-
-// Whether there is one at sign, neither first nor last.
-fn is_split(text: &str) -> bool
-    ensures { result ≡ is_split (cut text.now) }
-{
-    match split_at_sign(text) {
-        Some((name, domain)) => {
-            !name.is_empty() && !domain.is_empty() && split_at_sign(domain).is_none()
-        }
-        None => false,
-    }
 }
 
 // The two parts of a certificate type, without the suffix of the first.

@@ -1,4 +1,6 @@
 use Rattle.std.proofs.Common.{rules}
+use Rattle.sshkey_base.proofs.Accepted.{accepts_front}
+use Rattle.sshkey_base.proofs.BoxGrammars.{box_grammar}
 use Rattle.sshkey_base.proofs.Boxes.{prefixed_asks, prefixed_gives, past_keeps}
 use Rattle.sshkey_base.proofs.decode.decode_boxed.Goals as goal
 
@@ -10,3 +12,6 @@ returns-clause-past g c = past_keeps _ _ g.met.T.Error.Refusal.keeps_causes (g.R
 
 pub returns-clause-asks : goal.returns-clause-asks
 returns-clause-asks g c = prefixed_asks _ _ _ _ _ g.T.Decode.means g.T.Decode.parse g.met.T.Error.Refusal.keeps_causes g.T.Decode.needs (search rules) _ _ _ c.read_prefixed.ensures.calls
+
+pub returns-clause-accepts : goal.returns-clause-accepts
+returns-clause-accepts g c = accepts_front (box_grammar g.met.T.Decode.grammar) g.T.Decode.means _ _ _ _ (returns-clause-gives g c)

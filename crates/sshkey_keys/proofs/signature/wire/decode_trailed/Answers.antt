@@ -1,7 +1,6 @@
 use Rattle.sshkey_base.specs.Causes.{cause}
 use Rattle.sshkey_base.specs.Needs.{NeedsString}
-use Rattle.sshkey_base.proofs.Steps.{string_stood}
-use Rattle.sshkey_keys.proofs.SignatureParts.{asks_needed}
+use Rattle.sshkey_base.proofs.Steps.{asks_needed, string_stood}
 use Rattle.sshkey_keys.proofs.signature.wire.decode_trailed.Goals as goal
 
 pub returns-clause-asks : goal.returns-clause-asks
