@@ -204,7 +204,7 @@ pub after_nothing : (p : Parts) (s t : Sink) → s.written ≡ [] → t ≡ afte
 unfolding after
 after_nothing p s t none is = rw (is, none) refl
 
--- a vector is refused for want of memory alone, where all boxes fit
+-- a vector is refused only when out of memory, where all boxes fit
 pub vector_refused : (p : Parts) (s t : Sink) (e : Error) → BoxesFit p → NotWritten (λ e. e ≡ Memory) p s e t → BoxesFit p × (e ≡ Memory)
 unfolding NotWritten
 vector_refused p s t e b h =

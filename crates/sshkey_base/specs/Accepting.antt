@@ -16,7 +16,7 @@ pub record Accepted {X Y : Type 0} (means : X → Y) (Spells : Y → List ℕ �
 abbrev pub NoFront : {Y : Type 0} → (Y → List ℕ → Type 0) → List ℕ → Type 0
 NoFront {Y} Spells bytes = (y : Y) (front rest : List ℕ) → Spells y front → bytes ≢ front ++ rest
 
--- A front is accepted if it is a spelling. A sound source is refused for want of memory, or because no front is one.
+-- A front is accepted if it is a spelling. A sound source is refused when out of memory, or because no front is one.
 abbrev pub AcceptsFront : {X Y E : Type 0} → (X → Y) → (Y → List ℕ → Type 0) → (E → Cause) → Source → Result X E → Source → Type 0
 AcceptsFront means Spells cause s (Ok x) t = Accepted means Spells s x t
 AcceptsFront means Spells cause s (Err e) t = cause e ≢ NoMemory → IsSound s → NoFront Spells s.left
@@ -37,7 +37,7 @@ pub record SpelledWhole {X Y : Type 0} (means : X → Y) (Spells : Y → List �
 abbrev pub NoSpelling : {Y : Type 0} → (Y → List ℕ → Type 0) → List ℕ → Type 0
 NoSpelling {Y} Spells bytes = (y : Y) → Spells y bytes → ⊥
 
--- All the bytes are accepted exactly if they are a spelling and none is missing, want of memory aside.
+-- All the bytes are accepted exactly if they are a spelling and none is missing, out of memory aside.
 abbrev pub AcceptsWhole : {X Y E : Type 0} → (X → Y) → (Y → List ℕ → Type 0) → (E → Cause) → Source → Result X E → Type 0
 AcceptsWhole means Spells cause s (Ok x) = SpelledWhole means Spells s x
 AcceptsWhole means Spells cause s (Err e) = cause e ≢ NoMemory → IsSound s → NoSpelling Spells s.left

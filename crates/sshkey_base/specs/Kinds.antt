@@ -10,7 +10,7 @@ abbrev pub is_rsa : Algorithm → Bool
 is_rsa (Rsa hash) = true
 is_rsa _ = false
 
--- none of somebody's own
+-- no private-use one
 abbrev pub IsFixed : Algorithm → Type 0
 IsFixed (Other n) = ⊥
 IsFixed _ = Unit {0}

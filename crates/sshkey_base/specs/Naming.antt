@@ -8,7 +8,7 @@ pub record IsUnknown {X : Type 0} (named : Result X Fault) (cause : Cause) : Typ
   pub none : named ≡ Err Label
   pub label : cause ≡ Faulty Label
 
--- The answer is what the text names, and `Label` where it names nothing, want of memory aside.
+-- The answer is what the text names, and `Label` where it names nothing, out of memory aside.
 abbrev pub Names : {X Y E : Type 0} → (X → Y) → (E → Cause) → Result Y Fault → Result X E → Type 0
 Names means cause named (Ok x) = named ≡ Ok (means x)
 Names means cause named (Err e) = cause e ≢ NoMemory → IsUnknown named (cause e)

@@ -52,13 +52,13 @@ pub enum Algorithm {
     SkEcdsaSha2NistP256,
     /// Ed25519 by a security key (PROTOCOL.u2f).
     SkEd25519,
-    /// An algorithm of somebody's own (RFC 4251, section 6).
+    /// A private-use algorithm (RFC 4251, section 6).
     Other(AlgorithmName),
 }
 
 impl Algorithm {
-    /// The algorithm of that name: one of the fixed ones, or else one of somebody's own, and
-    /// `Label` where it is no name. Memory is asked for only for a name of somebody's own.
+    /// The algorithm of that name: one of the fixed ones, or else a private-use one, and
+    /// `Label` where it is no name. Memory is asked for only for a private-use name.
     pub fn new(alloc: Global, name: &str) -> Result<Algorithm>
         ensures gives { Names algorithm_of cause (algorithm_from name.now) result }
         ensures fixed { (a : model.Algorithm) → named algorithm_name algorithms name.now ≡ Some a → IsOk result }
@@ -118,7 +118,7 @@ impl Algorithm {
         matches!(self, Algorithm::Rsa { .. })
     }
 
-    /// The same algorithm. Only want of memory refuses it, and only for a name of somebody's own.
+    /// The same algorithm. It is refused only when out of memory, and only for a private-use name.
     pub fn try_clone(&self, alloc: Global) -> Result<Algorithm>
         ensures ok { IfOk result (λ clone. clone ≡ self.now) }
         ensures fixed { IsFixed (algorithm_of self.now) → IsOk result }

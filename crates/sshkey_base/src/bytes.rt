@@ -36,7 +36,7 @@ impl Bytes {
         Bytes { bytes }
     }
 
-    /// A copy of the bytes. Refused only for want of memory.
+    /// A copy of the bytes. Refused only when out of memory.
     pub fn from_slice(alloc: Global, bytes: &[u8]) -> Result<Bytes, Error>
         ensures copy { IfOk result (λ b. b ≡ bytes.now) }
         ensures memory { IfErr result (λ e. e ≡ Error.Memory) }
@@ -46,7 +46,7 @@ impl Bytes {
         })
     }
 
-    /// A copy. Refused only for want of memory.
+    /// A copy. Refused only when out of memory.
     pub fn try_clone(&self, alloc: Global) -> Result<Bytes, Error>
         ensures copy { IfOk result (λ b. b ≡ self.now) }
         ensures memory { IfErr result (λ e. e ≡ Error.Memory) }

@@ -106,7 +106,7 @@ pub fn encode_both<A: Encode, B: Encode, W: Writer>(
 /// The bytes of the normal form, in memory of their own.
 ///
 /// Exactly where a box in it would pass 2^32 - 1 bytes, the answer is `Length`; otherwise it is
-/// refused for want of memory alone.
+/// refused only when out of memory.
 pub fn encode_vec<T: Encode>(alloc: Global, value: &T) -> Result<Vec<u8>>
     ensures { MakesBytes (T.normal value.now) result }
 {

@@ -44,7 +44,7 @@ pub trait Label: Sized {
     fn label(&self) -> &str
         ensures { result.now ≡ name (stands_for self.now) };
 
-    /// The value of that name. `Label` exactly where there is none, want of memory aside.
+    /// The value of that name. `Label` exactly where there is none, out of memory aside.
     fn from_label(alloc: Global, text: &str) -> Result<Self>
         ensures { LooksUp stands_for named text.now result };
 
@@ -106,7 +106,7 @@ fn name_from<T: Label, R: Reader>(alloc: Global, len: usize, reader: &mut R) -> 
     named(alloc, name.as_slice())
 }
 
-/// The value of the name that the bytes spell. `Label` exactly where there is none, want of memory
+/// The value of the name that the bytes spell. `Label` exactly where there is none, out of memory
 /// aside.
 #[inline(always)]
 fn named<T: Label>(alloc: Global, name: &[u8]) -> Result<T>

@@ -40,7 +40,7 @@ impl Text {
         Text { text }
     }
 
-    /// A copy. Refused only for want of memory.
+    /// A copy. Refused only when out of memory.
     pub fn try_clone(&self, alloc: Global) -> Result<Text>
         ensures copy { IfOk result (λ t. t ≡ self.now) }
         ensures memory { IfErr result (λ e. e ≡ Error.Memory) }

@@ -39,7 +39,7 @@ fn beginnings(alloc: Global, question: &str, bytes: &[u8]) -> Result<String> {
     Ok(answers)
 }
 
-/// What is answered about one byte string, or the text of the refusal. Refused for want of memory
+/// What is answered about one byte string, or the text of the refusal. Refused when out of memory
 /// alone.
 fn said_of(alloc: Global, question: &str, bytes: &[u8]) -> Result<String> {
     let parts = vec![in alloc; bytes.to_vec(alloc)?]?;

@@ -48,8 +48,8 @@ impl Algorithm {
     }
 
     /// The name of the algorithm in a certificate (PROTOCOL.certkeys), as
-    /// `ssh-ed25519-cert-v01@openssh.com`. RSA has one name there, with and without a hash. Only
-    /// want of memory refuses it.
+    /// `ssh-ed25519-cert-v01@openssh.com`. RSA has one name there, with and without a hash. It
+    /// is refused only when out of memory.
     pub fn to_certificate_type(&self, alloc: Global) -> Result<String>
         ensures ok { IfOk result (λ text. string_bytes text ≡ certificate_name (algorithm_of self.now)) }
         ensures err { IfErr result (λ e. e ≡ Error.Memory) }
@@ -60,7 +60,7 @@ impl Algorithm {
         }
     }
 
-    // The name in a certificate of an algorithm that is none of somebody's own.
+    // The name in a certificate of an algorithm that is no private-use one.
     fn fixed_certificate_type(&self) -> &'static str
         requires { IsFixed (algorithm_of self.now) }
         ensures { result.now ≡ certificate_name (algorithm_of self.now) }
