@@ -1,16 +1,12 @@
 -- What is written of a line, piece by piece.
-use Rattle.std.proofs.Common.{◌≡◌, ◌⊎◌, ℕ, ◌<◌, ◌≤◌, ◌+◌, ◌-◌, ◌%◌, List, [], ◌∷◌, ◌++◌, length, take, drop, refl, sym, ap, ◌∙◌, subst, arith, Result, Ok, Err, inl, inr, take_all, take-append-drop, IsErrAnd, true, false, ◌==◌, eqb-true}
-use Rattle.std.proofs.lemmas.List.{append-nil, length-take-le}
-use Rattle.std.proofs.Math.Seq.{take-add, take-append-add}
+use Rattle.std.proofs.Common.{◌≡◌, ℕ, ◌<◌, List, [], ◌∷◌, ◌++◌, length, refl, sym, subst, arith, Result, Ok, Err, inl, inr, IsErrAnd, true, false, ◌==◌, eqb-true}
 use Rattle.base64.specs.Engines.{standard}
-use Rattle.base64.specs.GeneralPurpose.{encode_of, encoded_size_of}
-use Rattle.base64.proofs.EngineFacts.{encode_of-append, encode_of-nil}
+use Rattle.base64.specs.GeneralPurpose.{encode_of}
 use Rattle.sshkey_model.specs.Lines.{space, after_space, written}
 use Rattle.sshkey_model.specs.Parts.{Parts, bytes, ◌&◌, flat, BoxesFit}
-use Rattle.sshkey_model.proofs.CombinedReaders.{fits_bytes}
 use Rattle.sshkey_base.specs.declared.encoding.Error.{Error}
-use Rattle.sshkey_base.specs.Sink.{Sink, Writes, Written, NotWritten, Encodes, after}
-use Rattle.sshkey_base.proofs.Writing.{plain_bytes, not_first}
+use Rattle.sshkey_base.specs.Sink.{Sink, Writes, Written, NotWritten, Encodes}
+use Rattle.sshkey_base.proofs.Writing.{plain_bytes}
 use Rattle.sshkey_base.proofs.PlainParts.{plain_parts, encodes_later, encodes_first}
 use Rattle.sshkey_base64.proofs.Pieces.{both_bytes, nothing_written}
 use Rattle.sshkey_public.specs.WritingLines.{line_parts, WritesLineTo}

@@ -1,4 +1,4 @@
-use Rattle.std.proofs.Common.{◌≡◌, ℕ, ◌-◌, length, List, arith, ap}
+use Rattle.std.proofs.Common.{ℕ, ◌-◌, length, List, arith, ap}
 use Rattle.base64.specs.Engines.{standard}
 use Rattle.base64.specs.GeneralPurpose.{encode_of}
 use Rattle.sshkey_model.specs.Parts.{flat}

@@ -1,4 +1,3 @@
-use Rattle.std.proofs.Common.{inl}
 use Rattle.sshkey_public.proofs.WrittenLines.{line_written}
 use Rattle.sshkey_public.proofs.line.write_line.Goals as goal
 

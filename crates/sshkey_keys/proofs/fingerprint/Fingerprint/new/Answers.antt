@@ -1,4 +1,4 @@
-use Rattle.std.proofs.Common.{◌≡◌, ◌∙◌, ap, arith}
+use Rattle.std.proofs.Common.{◌∙◌, ap, arith}
 use Rattle.sshkey_model.specs.Fingerprints.{digest}
 use Rattle.sshkey_base.specs.Names.{hash_of}
 use Rattle.sshkey_base.specs.Sink.{Sink}
