@@ -16,7 +16,7 @@ use Rattle.sshkey_base.specs.Labels.{label_at}
 use Rattle.sshkey_base.specs.Reading.{Reads, IsRefused}
 use Rattle.sshkey_base.specs.Source.{Source}
 use Rattle.sshkey_base.proofs.Labels.{text_refused}
-use Rattle.sshkey_base.specs.OwnNames.{HasCertificateName}
+use Rattle.sshkey_base.specs.AlgorithmName.{HasCertificateName}
 use Rattle.sshkey_base.proofs.AtSigns.{cut-at, cut-suffixed}
 use Rattle.sshkey_base.proofs.CertificateTypes.{parts_of, are_parts, are_ascii-append, certificate_name-cut}
 

@@ -1,4 +1,4 @@
--- Tests of names of somebody's own.
+-- Tests of private-use names.
 use Rattle.std.proofs.Common.{◌≡◌, ℕ, zero, suc, ◌+◌, ◌≤◌, List, [], ◌∷◌, get_or, Bool, true, false, nat_lt, refl, sym, arith, add-one}
 use Rattle.std.proofs.lemmas.Bool.{lt-ltb, le-ltb, and_right}
 use Rattle.std.specs.Bool.{MatchBool}

@@ -5,11 +5,10 @@ ghost use Rattle.sshkey_model.specs.Names.{Dsa, Ed25519, algorithm_name, IsAlgor
 ghost use Rattle.sshkey_model.specs.Names as model;
 ghost use Rattle.sshkey_model.specs.Reading as fault;
 ghost use Rattle.sshkey_base.specs.Causes.{cause};
-ghost use Rattle.sshkey_base.specs.Kinds.{IsFixed, is_ecdsa, is_rsa};
+ghost use Rattle.sshkey_base.specs.Names.{IsFixed, is_ecdsa, is_rsa, algorithm_of};
 ghost use Rattle.sshkey_base.specs.LabelLaws.{algorithm_checks, algorithm_ascii, algorithm_refusals};
 ghost use Rattle.sshkey_base.specs.Labels.{LooksUp};
-ghost use Rattle.sshkey_base.specs.Names.{algorithm_of};
-ghost use Rattle.sshkey_base.specs.Naming.{Names};
+ghost use Rattle.sshkey_base.specs.Answers.{Names};
 ghost use Rattle.sshkey_base.specs.declared.encoding.Error.TheVariants as encoding;
 
 mod certificate_type;
@@ -51,19 +50,22 @@ pub enum Algorithm {
     SkEcdsaSha2NistP256,
     /// Ed25519 by a security key (PROTOCOL.u2f).
     SkEd25519,
-    /// An algorithm of somebody's own (RFC 4251, section 6).
+    /// A private-use algorithm (RFC 4251, section 6).
     Other(AlgorithmName),
 }
 
 impl Algorithm {
-    /// The algorithm of that name: one of the fixed ones, or else one of somebody's own, and
-    /// `Label` where it is no name. Memory is asked for only for a name of somebody's own.
+    /// The algorithm of that name: one of the fixed ones, or else a private-use one, and
+    /// `Label` where it is no name. Memory is asked for only for a private-use name.
     pub fn new(alloc: Global, name: &str) -> Result<Algorithm>
         ensures gives { Names algorithm_of cause (algorithm_from name.now) result }
         ensures fixed { (a : model.Algorithm) → named algorithm_name algorithms name.now ≡ Some a → IsOk result }
         ensures refused { algorithm_from name.now ≡ Err fault.Label → result ≡ Err (Error.Encoding encoding.Label) }
     {
-        Ok(Algorithm::from_label(alloc, name)?)
+        match fixed(name) {
+            Some(algorithm) => Ok(algorithm),
+            None => Ok(Algorithm::Other(AlgorithmName::new(alloc, name)?)),
+        }
     }
 
     /// The name of the algorithm, as `ssh-ed25519`.
@@ -117,7 +119,7 @@ impl Algorithm {
         matches!(self, Algorithm::Rsa { .. })
     }
 
-    /// The same algorithm. Only want of memory refuses it, and only for a name of somebody's own.
+    /// The same algorithm. It is refused only when out of memory, and only for a private-use name.
     pub fn try_clone(&self, alloc: Global) -> Result<Algorithm>
         ensures ok { IfOk result (λ clone. clone ≡ self.now) }
         ensures fixed { IsFixed (algorithm_of self.now) → IsOk result }
@@ -136,7 +138,7 @@ impl Algorithm {
 }
 
 // The algorithm with that fixed name.
-#[tactic(auto, unfolding(crate::specs::NameReaders::named))]
+#[tactic(auto, unfolding(crate::specs::Readers::named))]
 #[inline(always)]
 fn fixed(name: &str) -> Option<Algorithm>
     ensures { option_map algorithm_of result ≡ named algorithm_name algorithms name.now }

@@ -6,7 +6,7 @@ ghost use Rattle.sshkey_base.specs.Causes.{encoding_cause};
 ghost use Rattle.sshkey_base.specs.Leaves.{SpellsString, string_grammar};
 ghost use Rattle.sshkey_base.specs.Needs.{Asks, NeedsString};
 ghost use Rattle.sshkey_base.specs.Reading.{Gives, LengthPast};
-ghost use Rattle.sshkey_base.specs.Source.{told, Later};
+ghost use Rattle.sshkey_base.specs.Source.{announced_len, Later};
 
 mod compare;
 
@@ -36,7 +36,7 @@ impl Bytes {
         Bytes { bytes }
     }
 
-    /// A copy of the bytes. Refused only for want of memory.
+    /// A copy of the bytes. Refused only when out of memory.
     pub fn from_slice(alloc: Global, bytes: &[u8]) -> Result<Bytes, Error>
         ensures copy { IfOk result (λ b. b ≡ bytes.now) }
         ensures memory { IfErr result (λ e. e ≡ Error.Memory) }
@@ -46,7 +46,7 @@ impl Bytes {
         })
     }
 
-    /// A copy. Refused only for want of memory.
+    /// A copy. Refused only when out of memory.
     pub fn try_clone(&self, alloc: Global) -> Result<Bytes, Error>
         ensures copy { IfOk result (λ b. b ≡ self.now) }
         ensures memory { IfErr result (λ e. e ≡ Error.Memory) }
@@ -110,7 +110,7 @@ pub(crate) fn bytes_from<R: Reader>(
     ensures gives { Gives (λ x. x) encoding_cause (bytes_at len) (R.source reader.old) result (R.source reader.new) }
     ensures later { Later (R.source reader.old) (R.source reader.new) }
     ensures asks { Asks encoding_cause (λ b. len ≤ length b) (R.source reader.old) result }
-    ensures past { told (R.source reader.old) < len → result ≡ Err Error.Length }
+    ensures past { announced_len (R.source reader.old) < len → result ≡ Err Error.Length }
 {
     if reader.remaining_len() < len {
         return Err(Error::Length);

@@ -4,12 +4,11 @@ ghost use Rattle.std.specs.Prelude.{ℕ, List};
 ghost use Rattle.std.specs.Int.{w8, w32, w64};
 ghost use Rattle.sshkey_model.specs.Grammar.{IsGrammar};
 ghost use Rattle.sshkey_model.specs.Reading.{Front, whole, bytes_at, number_at, box_at};
-ghost use Rattle.sshkey_base.specs.Accepting.{AcceptsFront, AcceptsWhole, SpellsBoxed};
+ghost use Rattle.sshkey_base.specs.Reading.{AcceptsFront, AcceptsWhole, SpellsBoxed, Gives, GivesAlways, GivesWhole, LengthPast};
 ghost use Rattle.sshkey_base.specs.Causes.{encoding_cause};
 ghost use Rattle.sshkey_base.specs.Leaves.{SpellsByte, SpellsNumber32, SpellsNumber64, SpellsArray, byte_grammar, number32_grammar, number64_grammar, array_grammar};
 ghost use Rattle.sshkey_base.specs.Nested.{nested_source};
 ghost use Rattle.sshkey_base.specs.Needs.{Asks, NeedsBoxed, NoNeed};
-ghost use Rattle.sshkey_base.specs.Reading.{Gives, GivesAlways, GivesWhole, LengthPast};
 ghost use Rattle.sshkey_base.specs.Source.{Later};
 
 use crate::encoding;

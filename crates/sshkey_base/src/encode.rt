@@ -18,13 +18,13 @@ pub trait Encode {
     ghost normal: { Self → Parts };
 
     /// No value that fits has more bytes.
-    ghost most: { ℕ };
+    ghost max_len: { ℕ };
 
     /// How many bytes the normal form has. Exactly where a box in it would pass 2^32 - 1 bytes,
     /// the answer is `Length`. Takes no memory.
     fn encoded_len(&self) -> Result<usize>
         ensures measures { Measures (normal self.now) result }
-        ensures short { IfOk result (λ n. n ≤ most) };
+        ensures short { IfOk result (λ n. n ≤ max_len) };
 
     /// Writes the bytes of the normal form.
     ///
@@ -106,7 +106,7 @@ pub fn encode_both<A: Encode, B: Encode, W: Writer>(
 /// The bytes of the normal form, in memory of their own.
 ///
 /// Exactly where a box in it would pass 2^32 - 1 bytes, the answer is `Length`; otherwise it is
-/// refused for want of memory alone.
+/// refused only when out of memory.
 pub fn encode_vec<T: Encode>(alloc: Global, value: &T) -> Result<Vec<u8>>
     ensures { MakesBytes (T.normal value.now) result }
 {
@@ -121,7 +121,7 @@ pub fn encode_vec<T: Encode>(alloc: Global, value: &T) -> Result<Vec<u8>>
 impl Encode for u8 {
     ghost normal = { number w8 };
 
-    ghost most = { 1 };
+    ghost max_len = { 1 };
 
     fn encoded_len(&self) -> Result<usize> {
         Ok(1)
@@ -137,7 +137,7 @@ impl Encode for u8 {
 impl Encode for u32 {
     ghost normal = { number w32 };
 
-    ghost most = { 4 };
+    ghost max_len = { 4 };
 
     fn encoded_len(&self) -> Result<usize> {
         Ok(4)
@@ -153,7 +153,7 @@ impl Encode for u32 {
 impl Encode for u64 {
     ghost normal = { number w64 };
 
-    ghost most = { 8 };
+    ghost max_len = { 8 };
 
     fn encoded_len(&self) -> Result<usize> {
         Ok(8)
@@ -168,7 +168,7 @@ impl Encode for u64 {
 impl<const N: usize> Encode for [u8; N] {
     ghost normal = { string };
 
-    ghost most = { 2 ^ 32 + 3 };
+    ghost max_len = { 2 ^ 32 + 3 };
 
     fn encoded_len(&self) -> Result<usize> {
         string_len(self)
@@ -183,7 +183,7 @@ impl<const N: usize> Encode for [u8; N] {
 impl Encode for &[u8] {
     ghost normal = { λ s. string s.now };
 
-    ghost most = { 2 ^ 32 + 3 };
+    ghost max_len = { 2 ^ 32 + 3 };
 
     fn encoded_len(&self) -> Result<usize> {
         string_len(*self)
@@ -198,7 +198,7 @@ impl Encode for &[u8] {
 impl Encode for Bytes {
     ghost normal = { string };
 
-    ghost most = { 2 ^ 32 + 3 };
+    ghost max_len = { 2 ^ 32 + 3 };
 
     fn encoded_len(&self) -> Result<usize> {
         string_len(self.as_slice())
@@ -213,7 +213,7 @@ impl Encode for Bytes {
 impl Encode for Vec<u8> {
     ghost normal = { λ v. string v.items };
 
-    ghost most = { 2 ^ 32 + 3 };
+    ghost max_len = { 2 ^ 32 + 3 };
 
     fn encoded_len(&self) -> Result<usize> {
         string_len(self)

@@ -10,6 +10,7 @@ use crate::algorithm::Algorithm;
 use crate::certificate::Field;
 use crate::encoding;
 use std::alloc::{AllocError, AllocFailed};
+use std::array::TryFromSliceError;
 use std::io;
 use std::str::Utf8Error;
 
@@ -75,6 +76,15 @@ impl<T: Drop> From<AllocFailed<T>> for Error {
 
     fn from(_error: AllocFailed<T>) -> Error {
         Error::Memory
+    }
+}
+
+/// A slice of another length.
+impl From<TryFromSliceError> for Error {
+    ghost from_gives = { λ _ e. e ≡ wide.Encoding encoding.Length };
+
+    fn from(_error: TryFromSliceError) -> Error {
+        Error::Encoding(encoding::Error::Length)
     }
 }
 

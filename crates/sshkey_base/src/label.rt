@@ -11,7 +11,7 @@ ghost use Rattle.sshkey_model.proofs.Grammars.{grammar};
 ghost use Rattle.sshkey_base.specs.Causes.{encoding_cause};
 ghost use Rattle.sshkey_base.specs.Needs.{Asks, NeedsString};
 ghost use Rattle.sshkey_base.specs.Reading.{Gives, LengthPast};
-ghost use Rattle.sshkey_base.specs.Source.{Later, told};
+ghost use Rattle.sshkey_base.specs.Source.{Later, announced_len};
 ghost use Rattle.sshkey_base.specs.Labels.{LooksUp, label_at, label_grammar};
 
 use crate::decode::Decode;
@@ -44,7 +44,7 @@ pub trait Label: Sized {
     fn label(&self) -> &str
         ensures { result.now ≡ name (stands_for self.now) };
 
-    /// The value of that name. `Label` exactly where there is none, want of memory aside.
+    /// The value of that name. `Label` exactly where there is none, out of memory aside.
     fn from_label(alloc: Global, text: &str) -> Result<Self>
         ensures { LooksUp stands_for named text.now result };
 
@@ -95,7 +95,7 @@ fn name_from<T: Label, R: Reader>(alloc: Global, len: usize, reader: &mut R) -> 
     ensures gives { Gives T.stands_for encoding_cause (checked_at T.named (bytes_at len)) (R.source reader.old) result (R.source reader.new) }
     ensures later { Later (R.source reader.old) (R.source reader.new) }
     ensures asks { Asks encoding_cause (λ b. len ≤ length b) (R.source reader.old) result }
-    ensures past { told (R.source reader.old) < len → result ≡ Err Error.Length }
+    ensures past { announced_len (R.source reader.old) < len → result ≡ Err Error.Length }
 {
     if let Some(name) = reader.ahead(len) {
         let value = named(alloc, name)?;
@@ -106,7 +106,7 @@ fn name_from<T: Label, R: Reader>(alloc: Global, len: usize, reader: &mut R) -> 
     named(alloc, name.as_slice())
 }
 
-/// The value of the name that the bytes spell. `Label` exactly where there is none, want of memory
+/// The value of the name that the bytes spell. `Label` exactly where there is none, out of memory
 /// aside.
 #[inline(always)]
 fn named<T: Label>(alloc: Global, name: &[u8]) -> Result<T>
@@ -122,7 +122,7 @@ fn named<T: Label>(alloc: Global, name: &[u8]) -> Result<T>
 impl<T: Label> Encode for T {
     ghost normal = { λ x. string (T.name (T.stands_for x)) };
 
-    ghost most = { 2 ^ 32 + 3 };
+    ghost max_len = { 2 ^ 32 + 3 };
 
     fn encoded_len(&self) -> Result<usize> {
         string_len(self.label().as_bytes())

@@ -117,7 +117,7 @@ impl Decode for Vec<String> {
 impl Encode for Vec<String> {
     ghost normal = { λ v. texts (texts_of v) };
 
-    ghost most = { 2 ^ 32 + 3 };
+    ghost max_len = { 2 ^ 32 + 3 };
 
     fn encoded_len(&self) -> Result<usize> {
         list_len(self)

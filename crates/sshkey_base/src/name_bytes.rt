@@ -6,7 +6,7 @@ ghost use Rattle.sshkey_base.specs.Causes.{encoding_cause};
 ghost use Rattle.sshkey_base.specs.NameBytes.{name_bytes_of};
 ghost use Rattle.sshkey_base.specs.Needs.{Asks, NeedsString};
 ghost use Rattle.sshkey_base.specs.Reading.{Gives, LengthPast};
-ghost use Rattle.sshkey_base.specs.Source.{Later, told};
+ghost use Rattle.sshkey_base.specs.Source.{Later, announced_len};
 
 use crate::bytes::{Bytes, bytes_from};
 use crate::encoding::{Error, Result};
@@ -43,7 +43,7 @@ impl NameBytes {
         ensures gives { Gives name_bytes_of encoding_cause (bytes_at len) (R.source reader.old) result (R.source reader.new) }
         ensures later { Later (R.source reader.old) (R.source reader.new) }
         ensures asks { Asks encoding_cause (λ b. len ≤ length b) (R.source reader.old) result }
-        ensures past { told (R.source reader.old) < len → result ≡ Err Error.Length }
+        ensures past { announced_len (R.source reader.old) < len → result ≡ Err Error.Length }
     {
         if len <= 73 {
             Ok(NameBytes::Short(ShortBytes::take_from(len, reader)?))

@@ -6,7 +6,7 @@ ghost use Rattle.sshkey_model.specs.Reading.{bytes_at, number_at};
 ghost use Rattle.sshkey_base.specs.Causes.{encoding_cause};
 ghost use Rattle.sshkey_base.specs.Nested.{PassesBy, Prefixed, PastIs, nested_source};
 ghost use Rattle.sshkey_base.specs.Reading.{GivesAlways, Reads};
-ghost use Rattle.sshkey_base.specs.Source.{Source, Later, Takes, all_of, behind, told};
+ghost use Rattle.sshkey_base.specs.Source.{Source, Later, Takes, all_of, behind, announced_len};
 
 use crate::encoding::{Error, Result};
 
@@ -55,11 +55,11 @@ pub trait Reader: Sized {
     /// How many bytes are left. A source with a fault announces more than it has, and the number
     /// falls by what is read.
     fn remaining_len(&self) -> usize
-        ensures { result ≡ told (source self.now) };
+        ensures { result ≡ announced_len (source self.now) };
 
     /// Whether no byte is left.
     final fn is_finished(&self) -> bool
-        ensures { IsTrue result ↔ (told (source self.now) ≡ 0) }
+        ensures { IsTrue result ↔ (announced_len (source self.now) ≡ 0) }
     {
         self.remaining_len() == 0
     }
@@ -69,7 +69,7 @@ pub trait Reader: Sized {
     final fn finish<T: Drop>(self, value: T) -> Result<T>
     where
         Self: Drop,
-        ensures { result ≡ cond (eqb (told (source self)) 0) (Ok value) (Err (Error.TrailingData (told (source self)))) }
+        ensures { result ≡ cond (eqb (announced_len (source self)) 0) (Ok value) (Err (Error.TrailingData (announced_len (source self)))) }
     {
         let remaining = self.remaining_len();
         if remaining == 0 {

@@ -6,7 +6,7 @@ ghost use Rattle.sshkey_base.specs.Causes.{encoding_cause};
 ghost use Rattle.sshkey_base.specs.Needs.{Asks, NoNeed};
 ghost use Rattle.sshkey_base.specs.Reading.{Gives, GivesAlways, LengthPast, Reads};
 ghost use Rattle.sshkey_base.specs.ShortStrings.{SpellsShort, at_most, short_at, short_grammar};
-ghost use Rattle.sshkey_base.specs.Source.{Later, behind, told};
+ghost use Rattle.sshkey_base.specs.Source.{Later, behind, announced_len};
 
 use crate::decode::Decode;
 use crate::encoding::{Error, Result};
@@ -48,7 +48,7 @@ impl<const MAX: usize> ShortBytes<MAX> {
         ensures gives { GivesAlways short_of encoding_cause (checked_at (at_most MAX) (bytes_at len)) (R.source reader.old) result (R.source reader.new) }
         ensures later { Later (R.source reader.old) (R.source reader.new) }
         ensures plain { len ≤ MAX → GivesAlways short_of encoding_cause (bytes_at len) (R.source reader.old) result (R.source reader.new) }
-        ensures past { told (R.source reader.old) < len → result ≡ Err Error.Length }
+        ensures past { announced_len (R.source reader.old) < len → result ≡ Err Error.Length }
     {
         if len > MAX || reader.remaining_len() < len {
             return Err(Error::Length);

@@ -52,7 +52,7 @@ impl Decode for usize {
 impl Encode for usize {
     ghost normal = { count };
 
-    ghost most = { 4 };
+    ghost max_len = { 4 };
 
     fn encoded_len(&self) -> Result<usize> {
         u32_of(*self)?.encoded_len()

@@ -51,7 +51,7 @@ impl Decode for String {
 impl Encode for String {
     ghost normal = { λ s. string (string_bytes s) };
 
-    ghost most = { 2 ^ 32 + 3 };
+    ghost max_len = { 2 ^ 32 + 3 };
 
     fn encoded_len(&self) -> Result<usize> {
         self.as_str().encoded_len()
@@ -66,7 +66,7 @@ impl Encode for String {
 impl Encode for &str {
     ghost normal = { λ s. string s.now };
 
-    ghost most = { 2 ^ 32 + 3 };
+    ghost max_len = { 2 ^ 32 + 3 };
 
     fn encoded_len(&self) -> Result<usize> {
         string_len(self.as_bytes())

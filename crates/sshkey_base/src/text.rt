@@ -2,7 +2,7 @@
 
 ghost use Rattle.std.specs.Prelude.{◌≡◌, ℕ, ◌+◌, ◌^◌, List, IfOk, IfErr, string_bytes};
 ghost use Rattle.sshkey_model.specs.Texts.{string, text_from};
-ghost use Rattle.sshkey_base.specs.Answering.{AnswersAlways};
+ghost use Rattle.sshkey_base.specs.Answers.{AnswersAlways};
 ghost use Rattle.sshkey_base.specs.Causes.{encoding_cause};
 ghost use Rattle.sshkey_base.specs.Needs.{Asks, NeedsString};
 ghost use Rattle.sshkey_base.specs.Reading.{Gives, LengthPast};
@@ -40,7 +40,7 @@ impl Text {
         Text { text }
     }
 
-    /// A copy. Refused only for want of memory.
+    /// A copy. Refused only when out of memory.
     pub fn try_clone(&self, alloc: Global) -> Result<Text>
         ensures copy { IfOk result (λ t. t ≡ self.now) }
         ensures memory { IfErr result (λ e. e ≡ Error.Memory) }
@@ -109,7 +109,7 @@ fn text_of(bytes: Bytes) -> Result<Text>
 impl Encode for Text {
     ghost normal = { string };
 
-    ghost most = { 2 ^ 32 + 3 };
+    ghost max_len = { 2 ^ 32 + 3 };
 
     fn encoded_len(&self) -> Result<usize> {
         string_len(self.as_str().as_bytes())

@@ -24,7 +24,7 @@ pub trait Writer: Sized {
 }
 
 /// A vector that grows. `Memory` where it can't.
-#[tactic(auto, using(crate::proofs::Writing::none_began))]
+#[tactic(auto, using(crate::proofs::Writing::wrote_none))]
 impl Writer for Vec<u8> {
     ghost sink = { λ v. record { written = v.items; limit = None } };
 
@@ -63,7 +63,7 @@ impl<'s> SliceWriter<'s> {
 }
 
 /// `Length` where the bytes pass the rest of the slice; then none of them is written.
-#[tactic(auto, using(crate::proofs::Writing::none_began))]
+#[tactic(auto, using(crate::proofs::Writing::wrote_none))]
 impl Writer for SliceWriter<'_> {
     ghost use Rattle.sshkey_base.specs.SliceWriter.{slice_sink};
 

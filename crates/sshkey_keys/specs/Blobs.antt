@@ -7,8 +7,7 @@ use Rattle.sshkey_base.specs.declared.error.Error.{Error}
 use Rattle.sshkey_base.specs.declared.error.Error.TheVariants.{Encoding, Memory}
 use Rattle.sshkey_base.specs.Causes.{Cause}
 use Rattle.sshkey_base.specs.Source.{Source}
-use Rattle.sshkey_base.specs.Reading.{Gives}
-use Rattle.sshkey_base.specs.Accepting.{AcceptsFront}
+use Rattle.sshkey_base.specs.Reading.{Gives, AcceptsFront}
 
 -- all the bytes of a list, and no fault
 abbrev pub all_of : List ℕ → Source
@@ -20,7 +19,7 @@ pub record ReadsFrontOf {X Y E : Type 0} (means : X → Y) (read : Front Y) (Spe
   pub gives : Gives means cause read (all_of b) r rest
   pub accepts : AcceptsFront means Spells cause (all_of b) r rest
 
--- The vector holds the bytes of the parts. `Length` exactly where a box of them is too long, else only want of memory.
+-- The vector holds the bytes of the parts. `Length` exactly where a box of them is too long, else only out of memory.
 abbrev pub MakesBlob : {Z : Type 0} → Parts → Result (Vec ℕ Z) Error → Type 0
 MakesBlob p (Ok v) = Fits p × (v.items ≡ flat p)
 MakesBlob p (Err e) = ((BoxesFit p → ⊥) × (e ≡ Encoding Length)) ⊎ (BoxesFit p × (e ≡ Memory))

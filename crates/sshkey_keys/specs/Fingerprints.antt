@@ -33,7 +33,7 @@ pub record IsFingerprint (h : Hash) (k : Key) (f : Fingerprint) : Type 0 where
   pub by : algorithm_of f ≡ h
   pub digest : digest_of f ≡ fingerprint h k
 
--- It is that fingerprint. Exactly where a part of the key is too long, it is `Length`, and else refused for want of memory alone.
+-- It is that fingerprint. Exactly where a part of the key is too long, it is `Length`, and else refused only when out of memory.
 abbrev pub GivesFingerprint : Hash → Key → Result Fingerprint Error → Type 0
 GivesFingerprint h k (Ok f) = IsFingerprint h k f
 GivesFingerprint h k (Err e) = ((BoxesFit (normal_key k) → ⊥) × (e ≡ Encoding Length)) ⊎ (BoxesFit (normal_key k) × (e ≡ Memory))

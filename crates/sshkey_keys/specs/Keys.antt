@@ -7,7 +7,7 @@ use Rattle.sshkey_model.specs.Keys.{Key, IsKey, HasKeyPlaces, key, key_algorithm
 use Rattle.sshkey_base.specs.Labels.{label_at}
 use Rattle.sshkey_base.specs.Names.{algorithm_of}
 use Rattle.sshkey_kinds.specs.Kinds.{dsa_of, ed25519_of, rsa_of, sk_ecdsa_of, sk_ed25519_of, opaque_of}
-use Rattle.sshkey_kinds.specs.EcdsaWords.{ecdsa_key_of}
+use Rattle.sshkey_kinds.specs.EcdsaPublicKey.{ecdsa_key_of}
 use Rattle.sshkey_keys.specs.declared.key_data.KeyData.{KeyData}
 use Rattle.sshkey_keys.specs.declared.key_data.KeyData.TheVariants as kinds
 

@@ -20,7 +20,7 @@ abbrev pub judged : (Question → Bool) → Algorithm → Option Question → Re
 judged accepts algorithm None = Err (Unsupported algorithm)
 judged accepts algorithm (Some q) = if accepts q then Ok tt else Err NotAccepted
 
--- A key of somebody's own verifies nothing, and its algorithm is named. Else that of the signature is.
+-- A key of a private-use algorithm verifies nothing, and its algorithm is named. Else that of the signature is.
 abbrev pub unsupported_of : KeyData → Signature → Algorithm
 unsupported_of (kinds.Other key) g = key.algorithm
 unsupported_of key g = g.algorithm

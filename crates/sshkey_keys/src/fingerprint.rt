@@ -32,7 +32,7 @@ impl Fingerprint {
     /// The digest by that hash of the key's normal form.
     ///
     /// Exactly where a part of the key is longer than 2^32 - 1 bytes, the answer is `Length`;
-    /// otherwise it is refused for want of memory alone.
+    /// otherwise it is refused only when out of memory.
     pub fn new(alloc: Global, hash_alg: HashAlg, key: &KeyData) -> Result<Fingerprint>
         ensures { GivesFingerprint (hash_of hash_alg) (key_of key.now) result }
     {

@@ -4,8 +4,7 @@ ghost use Rattle.std.specs.Prelude.{◌≡◌, ◌≤◌, ◌+◌, ◌*◌, ◌^
 ghost use Rattle.sshkey_model.specs.Keys.{Key, key_algorithm, normal_key, body, body_at, IsKey};
 ghost use Rattle.sshkey_model.specs.Lines.{key_name};
 ghost use Rattle.sshkey_base.specs.Causes.{cause};
-ghost use Rattle.sshkey_base.specs.Kinds.{IsFixed};
-ghost use Rattle.sshkey_base.specs.Names.{algorithm_of, curve_of, hash_of};
+ghost use Rattle.sshkey_base.specs.Names.{IsFixed, algorithm_of, curve_of, hash_of};
 ghost use Rattle.sshkey_model.specs.Names.{algorithm_name, Dsa, Ecdsa, Ed25519, Rsa, SkEcdsa, SkEd25519 as AlgorithmSkEd25519, Other};
 ghost use Rattle.sshkey_base.specs.Needs.{Asks};
 ghost use Rattle.sshkey_base.specs.Reading.{Gives};
@@ -49,7 +48,7 @@ pub enum KeyData {
     SkEcdsaSha2NistP256(SkEcdsaSha2NistP256),
     /// `sk-ssh-ed25519@openssh.com` (OpenSSH, PROTOCOL.u2f).
     SkEd25519(SkEd25519),
-    /// A key under a name of somebody's own.
+    /// A key under a private-use name.
     Other(OpaquePublicKey),
 }
 
@@ -72,7 +71,7 @@ impl KeyData {
     /// The key's algorithm. That of an opaque key is the one that stands beside its bytes, and for
     /// a well-formed key the one that its name tells.
     ///
-    /// Only want of memory refuses it, and only under a name of somebody's own.
+    /// It is refused only when out of memory, and only under a private-use name.
     #[tactic(auto, using(crate::proofs::OwnAlgorithms::well_formed_algorithm))]
     pub fn algorithm(&self, alloc: Global) -> Result<Algorithm>
         ensures ok { IfOk result (λ a. algorithm_of a ≡ algorithm_beside self.now) }
@@ -115,7 +114,7 @@ impl KeyData {
     /// The fingerprint by that hash: the digest of the key's normal form.
     ///
     /// Exactly where a part of the key is longer than 2^32 - 1 bytes, the answer is `Length`;
-    /// otherwise it is refused for want of memory alone.
+    /// otherwise it is refused only when out of memory.
     pub fn fingerprint(&self, alloc: Global, hash_alg: HashAlg) -> Result<Fingerprint>
         ensures { GivesFingerprint (hash_of hash_alg) (key_of self.now) result }
     {
@@ -263,7 +262,7 @@ fn sk_ed25519_from<R: Reader>(alloc: Global, reader: &mut R) -> Result<KeyData>
     Ok(KeyData::SkEd25519(key))
 }
 
-/// The body of a key under a name of somebody's own.
+/// The body of a key under a private-use name.
 #[tactic(auto, using(sshkey_base::proofs::Steps::steps))]
 fn opaque_from<R: Reader>(alloc: Global, reader: &mut R, algorithm: Algorithm) -> Result<KeyData>
     ensures gives { Gives key_of cause (body_at (Other (algorithm_name (algorithm_of algorithm)))) (R.source reader.old) result (R.source reader.new) }
@@ -305,7 +304,7 @@ impl Decode for KeyData {
 impl Encode for KeyData {
     ghost normal = { λ k. normal_key (key_of k) };
 
-    ghost most = { 5 * (2 ^ 32 + 4) };
+    ghost max_len = { 5 * (2 ^ 32 + 4) };
 
     fn encoded_len(&self) -> encoding::Result<usize> {
         let name = string_len(self.algorithm_name().as_bytes())?;

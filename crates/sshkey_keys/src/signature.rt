@@ -23,7 +23,7 @@ use sshkey_base::{Algorithm, Bytes, Result};
 /// | RSA with a hash (RFC 8332, section 3) | any |
 /// | RSA without a hash | none are well-formed |
 /// | security keys (PROTOCOL.u2f) | those of ECDSA over P-256, or of Ed25519, then one byte of flags and four of a counter |
-/// | of somebody's own | at least 1 |
+/// | private use | at least 1 |
 #[derive(Debug, Drop, PartialEq, Eq, PartialOrd, Ord)]
 pub struct Signature {
     algorithm: Algorithm,
@@ -32,7 +32,7 @@ pub struct Signature {
 }
 
 impl Signature {
-    ghost use Rattle.sshkey_base.specs.Answering.{AnswersAlways};
+    ghost use Rattle.sshkey_base.specs.Answers.{AnswersAlways};
     ghost use Rattle.sshkey_base.specs.Causes.{cause};
     ghost use Rattle.sshkey_keys.specs.SignatureForms.{signature_from};
     ghost use Rattle.sshkey_keys.specs.Signatures.{signature_of};

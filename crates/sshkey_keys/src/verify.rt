@@ -25,8 +25,8 @@ impl KeyData {
     /// the SHA-256 digest of the application, the flags and the counter, and the digest of the
     /// message (PROTOCOL.u2f), and the bytes before flags and counter. It is asked nothing else.
     ///
-    /// Want of memory aside, the verifier's included: Ok exactly where it is asked and says yes;
-    /// `AlgorithmUnsupported` with the key's algorithm for a key under a name of somebody's own,
+    /// Out of memory aside, the verifier's included: Ok exactly where it is asked and says yes;
+    /// `AlgorithmUnsupported` with the key's algorithm for a key under a private-use name,
     /// and with the signature's where nothing is asked; `Crypto` where the verifier says no.
     pub fn verify<V: RawVerifier>(
         &self,
@@ -96,8 +96,8 @@ impl KeyData {
     }
 }
 
-/// What a security key signs in place of the message (PROTOCOL.u2f). Refused only for want of
-/// memory.
+/// What a security key signs in place of the message (PROTOCOL.u2f). Refused only when
+/// out of memory.
 fn security_key_message(
     alloc: Global,
     application: &str,

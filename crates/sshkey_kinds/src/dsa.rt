@@ -76,7 +76,7 @@ impl Encode for DsaPublicKey {
 
     ghost normal = { λ k. body (dsa_of k) };
 
-    ghost most = { 4 * (2 ^ 32 + 4) };
+    ghost max_len = { 4 * (2 ^ 32 + 4) };
 
     fn encoded_len(&self) -> encoding::Result<usize> {
         Ok(

@@ -1,4 +1,4 @@
-//! Public keys under names of somebody's own.
+//! Public keys under private-use names.
 
 ghost use Rattle.std.specs.Prelude.{◌≡◌, ℕ, List, IfOk, IfErr, ◌+◌, ◌^◌};
 ghost use Rattle.sshkey_base.specs.Leaves.{SpellsString, string_grammar};
@@ -83,7 +83,7 @@ impl Decode for OpaquePublicKeyBytes {
 impl Encode for OpaquePublicKeyBytes {
     ghost normal = { string };
 
-    ghost most = { 2 ^ 32 + 3 };
+    ghost max_len = { 2 ^ 32 + 3 };
 
     fn encoded_len(&self) -> encoding::Result<usize> {
         self.bytes.encoded_len()
@@ -94,7 +94,7 @@ impl Encode for OpaquePublicKeyBytes {
     }
 }
 
-/// A key under a name of somebody's own (RFC 4251, section 6).
+/// A key under a private-use name (RFC 4251, section 6).
 #[derive(Debug, Drop, PartialEq, Eq, PartialOrd, Ord, Hash)]
 pub struct OpaquePublicKey {
     /// The algorithm, whose name stands before the key.
@@ -158,7 +158,7 @@ impl Encode for OpaquePublicKey {
 
     ghost normal = { λ k. body (opaque_of k) };
 
-    ghost most = { 2 ^ 32 + 3 };
+    ghost max_len = { 2 ^ 32 + 3 };
 
     fn encoded_len(&self) -> encoding::Result<usize> {
         self.key.encoded_len()

@@ -68,7 +68,7 @@ impl Encode for RsaPublicKey {
 
     ghost normal = { λ k. body (rsa_of k) };
 
-    ghost most = { 2 * (2 ^ 32 + 4) };
+    ghost max_len = { 2 * (2 ^ 32 + 4) };
 
     fn encoded_len(&self) -> encoding::Result<usize> {
         Ok(self.e.encoded_len()? + self.n.encoded_len()?)

@@ -10,7 +10,7 @@ ghost use Rattle.sshkey_model.specs.Keys.{Key, SkEcdsa, SkEd25519 as SkEd25519Ke
 ghost use Rattle.sshkey_model.specs.Points.{p256_point_from};
 ghost use Rattle.sshkey_model.specs.Reading.{bytes_at, checked_at, string_at};
 ghost use Rattle.sshkey_kinds.specs.Bodies.{SpellsSkEcdsa, sk_ecdsa_at, sk_ecdsa_grammar, SpellsSkEd25519, sk_ed25519_at, sk_ed25519_grammar};
-ghost use Rattle.sshkey_kinds.specs.PointWords.{point_of};
+ghost use Rattle.sshkey_kinds.specs.EcPoint.{point_of};
 
 use crate::ec_point::{EcPoint, EcdsaNistP256PublicKey};
 use crate::ed25519::Ed25519PublicKey;
@@ -162,7 +162,7 @@ impl Encode for SkEcdsaSha2NistP256 {
 
     ghost normal = { λ k. body (sk_ecdsa_of k) };
 
-    ghost most = { 3 * (2 ^ 32 + 4) };
+    ghost max_len = { 3 * (2 ^ 32 + 4) };
 
     fn encoded_len(&self) -> encoding::Result<usize> {
         Ok(
@@ -284,7 +284,7 @@ impl Encode for SkEd25519 {
 
     ghost normal = { λ k. body (sk_ed25519_of k) };
 
-    ghost most = { 2 * (2 ^ 32 + 4) };
+    ghost max_len = { 2 * (2 ^ 32 + 4) };
 
     fn encoded_len(&self) -> encoding::Result<usize> {
         Ok(self.public_key.encoded_len()? + self.application.encoded_len()?)

@@ -24,7 +24,7 @@ refusal text (wide.Io kind) h = inl tt
 refusal text wide.Memory h = inl tt
 refusal text _ h = inr (h (λ e. cc e))
 
--- a key that was read is refused for want of memory alone, since its normal form fits
+-- a key that was read is refused only when out of memory, since its normal form fits
 pub shows : (text : List ℕ) (k : Key) (comment : List ℕ) (r : Result Fingerprint Error) → IsKeyLine text k comment → GivesFingerprint Sha256 k r → ShowsText text r
 shows text k comment (Ok f) line h = record { key = k; comment = comment; line = line; is = h }
 shows text k comment (Err e) line h = elim h [

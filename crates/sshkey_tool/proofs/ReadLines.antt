@@ -2,19 +2,17 @@
 use Rattle.std.proofs.Common.{◌≡◌, ◌≢◌, ℕ, List, Result, Ok, Err}
 use Rattle.base64.specs.Engines.{standard}
 use Rattle.base64.specs.GeneralPurpose.{encode_of, IsBytes}
-use Rattle.sshkey_base.specs.Accepting.{AcceptsWhole}
+use Rattle.sshkey_base.specs.Reading.{AcceptsWhole}
 use Rattle.sshkey_base.specs.Causes.{cause, NoMemory}
 use Rattle.sshkey_base.specs.Source.{Source}
 use Rattle.sshkey_base.specs.declared.error.Error.{Error}
-use Rattle.sshkey_keys.specs.Keys.{key_of}
-use Rattle.sshkey_keys.specs.Keys.{SpellsKey}
+use Rattle.sshkey_keys.specs.Keys.{key_of, SpellsKey}
 use Rattle.sshkey_keys.specs.declared.key_data.KeyData.{KeyData}
 use Rattle.sshkey_model.proofs.Blobs.{key_blobs}
 use Rattle.sshkey_model.specs.Keys.{Key}
-use Rattle.sshkey_model.specs.Lines.{key_name}
+use Rattle.sshkey_model.specs.Lines.{key_name, IsKeyLine}
 use Rattle.sshkey_model.specs.LineCuts.{IsCut}
 use Rattle.sshkey_model.proofs.Lines.{no_cut, no_blob, no_value, other_first, is_line}
-use Rattle.sshkey_model.specs.Lines.{IsKeyLine}
 use Rattle.sshkey_tool.specs.KeyLines.{IsNoKeyLine, ReadsBlob}
 
 -- all the bytes of a slice

@@ -39,7 +39,7 @@ fn is_same(left: &str, right: &str) -> bool
 /// The key and the comment of a line: the name of the key's algorithm, its bytes in Base64 and the
 /// comment, with a space between, and white space at the end.
 ///
-/// Want of memory aside, it is refused exactly where the text is a line of no key.
+/// Out of memory aside, it is refused exactly where the text is a line of no key.
 /// `AlgorithmUnknown` where the first word is not the name in the key's bytes.
 pub(crate) fn read_key_line(alloc: Global, text: &str) -> Result<(KeyData, String), Error>
     ensures { ReadsLine text.now result }

@@ -130,7 +130,7 @@ impl SigningKey for Fixed {
         &self.key
     }
 
-    /// 64 bytes 00 under Ed25519, whatever the message. Refused only for want of memory.
+    /// 64 bytes 00 under Ed25519, whatever the message. Refused only when out of memory.
     fn try_sign(&self, alloc: Global, _: &[u8]) -> Result<Signature> {
         Signature::new(Algorithm::Ed25519, vec![in alloc; 0; 64]?)
     }

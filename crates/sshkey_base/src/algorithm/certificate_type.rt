@@ -7,13 +7,11 @@ ghost use Rattle.sshkey_model.specs.Names.{named};
 ghost use Rattle.sshkey_model.specs.Names as model;
 ghost use Rattle.sshkey_model.specs.Parts.{bytes};
 ghost use Rattle.sshkey_model.specs.Reading as fault;
-ghost use Rattle.sshkey_base.specs.Accepting.{AcceptsFront};
+ghost use Rattle.sshkey_base.specs.Reading.{AcceptsFront, Gives, LengthPast};
 ghost use Rattle.sshkey_base.specs.Causes.{cause};
-ghost use Rattle.sshkey_base.specs.Kinds.{IsFixed};
-ghost use Rattle.sshkey_base.specs.Names.{algorithm_of};
-ghost use Rattle.sshkey_base.specs.Naming.{Names};
+ghost use Rattle.sshkey_base.specs.Names.{IsFixed, algorithm_of};
+ghost use Rattle.sshkey_base.specs.Answers.{Names};
 ghost use Rattle.sshkey_base.specs.Needs.{Asks, NeedsString};
-ghost use Rattle.sshkey_base.specs.Reading.{Gives, LengthPast};
 ghost use Rattle.sshkey_base.specs.Source.{Later};
 ghost use Rattle.sshkey_base.specs.Sink.{Encodes};
 ghost use Rattle.sshkey_base.specs.declared.encoding.Error.TheVariants as encoding;
@@ -49,7 +47,7 @@ impl Algorithm {
 
     /// The name of the algorithm in a certificate (PROTOCOL.certkeys), as
     /// `ssh-ed25519-cert-v01@openssh.com`. RSA has one name there, with and without a hash. Only
-    /// want of memory refuses it.
+    /// out of memory refuses it.
     pub fn to_certificate_type(&self, alloc: Global) -> Result<String>
         ensures ok { IfOk result (λ text. string_bytes text ≡ certificate_name (algorithm_of self.now)) }
         ensures err { IfErr result (λ e. e ≡ Error.Memory) }
@@ -60,7 +58,7 @@ impl Algorithm {
         }
     }
 
-    // The name in a certificate of an algorithm that is none of somebody's own.
+    // The name in a certificate of an algorithm that is no private-use one.
     fn fixed_certificate_type(&self) -> &'static str
         requires { IsFixed (algorithm_of self.now) }
         ensures { result.now ≡ certificate_name (algorithm_of self.now) }
@@ -131,7 +129,7 @@ impl Algorithm {
     }
 }
 
-#[tactic(auto, using(crate::proofs::Steps::steps), unfolding(crate::specs::NameReaders::certificate_algorithm_at))]
+#[tactic(auto, using(crate::proofs::Steps::steps), unfolding(crate::specs::Readers::certificate_algorithm_at))]
 fn read_certificate_type<R: Reader>(alloc: Global, reader: &mut R) -> Result<Algorithm>
     ensures past { LengthPast cause (R.source reader.old) result }
     ensures gives { Gives algorithm_of cause certificate_algorithm_at (R.source reader.old) result (R.source reader.new) }
@@ -146,7 +144,7 @@ fn read_certificate_type<R: Reader>(alloc: Global, reader: &mut R) -> Result<Alg
 }
 
 // The algorithm with that fixed name in a certificate.
-#[tactic(auto, unfolding(crate::specs::NameReaders::named))]
+#[tactic(auto, unfolding(crate::specs::Readers::named))]
 fn fixed_in_certificate(name: &str) -> Option<Algorithm>
     ensures { option_map algorithm_of result ≡ named certificate_name certified name.now }
 {

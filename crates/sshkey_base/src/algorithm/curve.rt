@@ -8,7 +8,7 @@ ghost use Rattle.sshkey_model.specs.Parts.{Any};
 ghost use Rattle.sshkey_base.specs.Labels.{LooksUp, LooksUpAlways};
 ghost use Rattle.sshkey_base.specs.LabelLaws.{curve_checks, curve_ascii, curve_refusals};
 ghost use Rattle.sshkey_base.specs.Names.{curve_of};
-ghost use Rattle.sshkey_base.specs.Naming.{NamesAlways};
+ghost use Rattle.sshkey_base.specs.Answers.{NamesAlways};
 
 use crate::encoding;
 use crate::error::Result;
@@ -50,7 +50,7 @@ impl EcdsaCurve {
     }
 }
 
-#[tactic(auto, unfolding(crate::specs::NameReaders::named))]
+#[tactic(auto, unfolding(crate::specs::Readers::named))]
 impl FromStr for EcdsaCurve {
     type Err = LabelError;
 

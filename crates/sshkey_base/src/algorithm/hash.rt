@@ -9,7 +9,7 @@ ghost use Rattle.sshkey_model.specs.Parts.{Any};
 ghost use Rattle.sshkey_base.specs.Labels.{LooksUp, LooksUpAlways};
 ghost use Rattle.sshkey_base.specs.LabelLaws.{hash_checks, hash_ascii, hash_refusals};
 ghost use Rattle.sshkey_base.specs.Names.{hash_of};
-ghost use Rattle.sshkey_base.specs.Naming.{NamesAlways};
+ghost use Rattle.sshkey_base.specs.Answers.{NamesAlways};
 ghost use Rattle.sshkey_base.specs.Digests.{digest_len};
 
 use crate::encoding;
@@ -74,7 +74,7 @@ impl HashAlg {
     }
 }
 
-#[tactic(auto, unfolding(crate::specs::NameReaders::named))]
+#[tactic(auto, unfolding(crate::specs::Readers::named))]
 impl FromStr for HashAlg {
     type Err = LabelError;
 

@@ -1,4 +1,4 @@
-//! Names of algorithms of somebody's own.
+//! Names of private-use algorithms.
 
 ghost use Rattle.std.specs.Prelude.{◌≡◌, ◌≤◌, ◌∷◌, [], length, true, false, IfOk, IfErr, Err, Some, nat_eq, refl, string_bytes};
 ghost use Rattle.std.specs.Cmp.{partial_equiv_from_equiv};
@@ -12,8 +12,8 @@ ghost use Rattle.sshkey_model.specs.Names.{Other, are_ascii, at_sign, is_own_nam
 ghost use Rattle.sshkey_model.specs.Parts.{bytes, ◌&◌};
 ghost use Rattle.sshkey_base.specs.Causes.{cause};
 ghost use Rattle.sshkey_base.specs.Labels.{LooksUp};
-ghost use Rattle.sshkey_base.specs.Naming.{Names};
-ghost use Rattle.sshkey_base.specs.OwnNames.{own_name_from, NamesCertified, IsNoCertificateType, IsCutOf, IsWithoutSuffix, are_own_parts};
+ghost use Rattle.sshkey_base.specs.Answers.{Names};
+ghost use Rattle.sshkey_base.specs.AlgorithmName.{own_name_from, NamesCertified, IsNoCertificateType, IsCutOf, IsWithoutSuffix, are_own_parts};
 ghost use Rattle.sshkey_base.specs.Sink.{Encodes};
 ghost use Rattle.sshkey_base.specs.declared.encoding.Error.TheVariants as encoding;
 
@@ -34,7 +34,7 @@ const MAX_LEN: usize = 64;
 /// The end of what stands before the at sign, in a certificate.
 const CERTIFICATE_SUFFIX: &str = "-cert-v01";
 
-/// The name of an algorithm of somebody's own, as `name@example.com` (RFC 4251, section 6).
+/// The name of a private-use algorithm, as `name@example.com` (RFC 4251, section 6).
 ///
 /// It is ASCII, has at most 64 bytes and one at sign, which is neither its first nor its last
 /// byte. Contracts see it as its bytes. Names are ordered by their bytes.
@@ -86,7 +86,7 @@ impl AlgorithmName {
     }
 
     /// The name in a certificate: with `-cert-v01` before its at sign (PROTOCOL.certkeys). It has
-    /// at most 73 bytes. Only want of memory refuses it.
+    /// at most 73 bytes. It is refused only when out of memory.
     pub fn certificate_type(&self, alloc: Global) -> Result<String>
         ensures ok { IfOk result (λ text. string_bytes text ≡ certificate_name (Other self.now)) }
         ensures err { IfErr result (λ e. e ≡ Error.Memory) }
@@ -128,7 +128,7 @@ impl AlgorithmName {
         })
     }
 
-    /// A name with the same bytes. Only want of memory refuses it.
+    /// A name with the same bytes. It is refused only when out of memory.
     pub fn try_clone(&self, alloc: Global) -> Result<AlgorithmName>
         ensures ok { IfOk result (λ name. name ≡ self.now) }
         ensures err { IfErr result (λ e. e ≡ Error.Memory) }
@@ -146,7 +146,7 @@ fn split_at_sign(text: &str) -> Option<(&str, &str)>
     text.split_once('@')
 }
 
-// Whether it is a name of somebody's own.
+// Whether it is a private-use name.
 fn is_own_name(text: &str) -> bool
     ensures { result ≡ is_own_name text.now }
 {

@@ -18,7 +18,7 @@ pub fn compared_hashes()
     ensures ordered { IsOrderOf hash_key ⟦<HashAlg as Ord>⟧.cmp }
 {}
 
-/// Two names of somebody's own are equal exactly if their bytes are, and they are ordered by these.
+/// Two private-use names are equal exactly if their bytes are, and they are ordered by these.
 pub fn compared_algorithm_names()
     ensures equal { IsEqualityOf (λ name. name) ⟦<AlgorithmName as PartialEq>⟧.eq }
     ensures ordered { IsOrderOf (λ name. name) ⟦<AlgorithmName as Ord>⟧.cmp }

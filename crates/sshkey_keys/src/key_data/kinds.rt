@@ -53,7 +53,7 @@ impl KeyData {
         matches!(self, KeyData::SkEd25519(_))
     }
 
-    /// Whether it is a key under a name of somebody's own.
+    /// Whether it is a key under a private-use name.
     pub fn is_other(&self) -> bool
         ensures { result ≡ is_opaque (key_of self.now) }
     {
@@ -120,7 +120,7 @@ impl KeyData {
         }
     }
 
-    /// What a key under a name of somebody's own is made of; `None` for a key of another kind.
+    /// What a key under a private-use name is made of; `None` for a key of another kind.
     pub fn other(&self) -> Option<&OpaquePublicKey>
         ensures { MatchOption result (is_opaque (key_of self.now) ≡ false) (λ k. self.now ≡ KeyData.Other k.now) }
     {

@@ -1,7 +1,7 @@
 //! Which bytes are those of a signature.
 
 ghost use Rattle.std.specs.Prelude.{◌≡◌};
-ghost use Rattle.sshkey_base.specs.Answering.{AnswersAlways};
+ghost use Rattle.sshkey_base.specs.Answers.{AnswersAlways};
 ghost use Rattle.sshkey_base.specs.Causes.{cause, encoding_cause};
 ghost use Rattle.sshkey_base.specs.Names.{algorithm_of, curve_of};
 ghost use Rattle.sshkey_model.specs.Points.{field_size as size_of_field};

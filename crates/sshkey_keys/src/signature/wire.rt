@@ -1,12 +1,11 @@
 //! How signatures are read and written.
 
 ghost use Rattle.std.specs.Prelude.{◌≡◌, ◌++◌, ◌+◌, ◌*◌, ◌^◌, ◌≤◌, IfOk, IfErr};
-ghost use Rattle.sshkey_base.specs.Accepting.{AcceptsWhole};
-ghost use Rattle.sshkey_base.specs.Answering.{AnswersAlways};
+ghost use Rattle.sshkey_base.specs.Reading.{AcceptsWhole, Gives, GivesWhole};
+ghost use Rattle.sshkey_base.specs.Answers.{AnswersAlways};
 ghost use Rattle.sshkey_base.specs.Causes.{cause};
 ghost use Rattle.sshkey_base.specs.Names.{algorithm_of};
 ghost use Rattle.sshkey_base.specs.Needs.{Asks, NeedsString};
-ghost use Rattle.sshkey_base.specs.Reading.{Gives, GivesWhole};
 ghost use Rattle.sshkey_base.specs.Source.{Later};
 ghost use Rattle.sshkey_base.specs.Sink.{Encodes, Measures};
 ghost use Rattle.sshkey_base.specs.declared.error.Error.TheVariants as wide;
@@ -55,7 +54,7 @@ impl Signature {
     /// The bytes that spell the signature, in memory of their own.
     ///
     /// Exactly where the bytes of the signature are more than 2^32 - 1 (those behind the string
-    /// aside), the answer is `Length`; otherwise it is refused for want of memory alone.
+    /// aside), the answer is `Length`; otherwise it is refused only when out of memory.
     pub fn to_bytes(&self, alloc: Global) -> Result<Vec<u8>>
         ensures { MakesBlob (signature (signature_of self.now)) result }
     {
@@ -137,7 +136,7 @@ fn decode_trailed<R: Reader>(alloc: Global, reader: &mut R, algorithm: &Algorith
     with_trailer(bytes, &trailer)
 }
 
-/// The bytes, and then the trailer. Refused only for want of memory.
+/// The bytes, and then the trailer. Refused only when out of memory.
 fn with_trailer(bytes: Bytes, trailer: &[u8]) -> Result<Bytes>
     ensures joined { IfOk result (λ blob. blob ≡ bytes ++ trailer.now) }
     ensures refused { IfErr result (λ e. e ≡ wide.Memory) }
@@ -152,7 +151,7 @@ fn with_trailer(bytes: Bytes, trailer: &[u8]) -> Result<Bytes>
 impl Encode for Signature {
     ghost normal = { λ g. signature (signature_of g) };
 
-    ghost most = { 2 * (2 ^ 32 + 8) };
+    ghost max_len = { 2 * (2 ^ 32 + 8) };
 
     fn encoded_len(&self) -> encoding::Result<usize> {
         Ok(self.algorithm.encoded_len()? + blob_len(&self.algorithm, self.blob.as_slice())?)

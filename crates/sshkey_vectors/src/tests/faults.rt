@@ -95,7 +95,7 @@ fn numbers_with_a_needless_zero(rt: HostRuntime) {
     );
 }
 
-/// A name that is in the table is never one of somebody's own, so its body is no opaque string.
+/// A name that is in the table is never a private-use one, so its body is no opaque string.
 #[test]
 fn kinds_that_look_like_opaque_keys(rt: HostRuntime) {
     assert!(rt;

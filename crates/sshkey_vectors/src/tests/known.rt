@@ -86,7 +86,7 @@ pub(crate) const SK_ED25519: Known = Known {
     sha512: "SHA512:AHZBbtPJhIoY4guSvWuxGHgEj6uW1l2x0PAS6uXVLmUGHmKUaB0MweX78UoEvdkOAagfNEKcY5R0TAtzvYYWQg",
 };
 
-/// A key under a name of somebody's own, which ssh-keygen does not read: a script boxed the name and
+/// A key under a private-use name, which ssh-keygen does not read: a script boxed the name and
 /// the bytes 00 ff 10, and `openssl dgst -sha256` and `-sha512` made the digests.
 pub(crate) const OPAQUE: Known = Known {
     name: "name@example.com",

@@ -62,7 +62,7 @@ fn another_algorithm_is_unsupported(rt: HostRuntime) {
     assert!(rt; is_unsupported(rt.alloc(), &KeyData::Ed25519(KEY), Algorithm::SkEd25519));
 }
 
-/// A key under a name of somebody's own verifies nothing, and its name is answered.
+/// A key under a private-use name verifies nothing, and its name is answered.
 fn an_opaque_key_is_unsupported(alloc: Global, name: &str) -> Result<bool, Error> {
     let own = Algorithm::new(alloc, name)?;
     let key = KeyData::Other(OpaquePublicKey::new(Vec::new(alloc), own));

@@ -256,7 +256,7 @@ fn other_algorithms(rt: HostRuntime) {
     }
 }
 
-// Whether the name of an algorithm of somebody's own is written whole into that room.
+// Whether the name of a private-use algorithm is written whole into that room.
 fn is_written_into(alloc: Global, room: &mut [u8]) -> Result<bool, Error> {
     let other = Algorithm::new(alloc, "name@example.com")?;
     let mut writer = SliceWriter::new(room);

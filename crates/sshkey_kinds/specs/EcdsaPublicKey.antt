@@ -7,7 +7,7 @@ use Rattle.sshkey_model.specs.Points.{IsPoint, point_curve}
 use Rattle.sshkey_model.specs.Keys.{Key, Ecdsa}
 use Rattle.sshkey_kinds.specs.declared.ecdsa.EcdsaPublicKey.{EcdsaPublicKey}
 use Rattle.sshkey_kinds.specs.declared.ecdsa.EcdsaPublicKey.TheVariants.{NistP256, NistP384, NistP521}
-use Rattle.sshkey_kinds.specs.PointWords.{point_of}
+use Rattle.sshkey_kinds.specs.EcPoint.{point_of}
 
 -- its curve and its point
 abbrev pub ecdsa_of : EcdsaPublicKey → Curve × List ℕ

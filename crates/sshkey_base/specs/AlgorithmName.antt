@@ -1,4 +1,4 @@
--- Names of somebody's own, as calls find them.
+-- Private-use names, as calls find them.
 use Rattle.std.specs.Prelude.{◌≡◌, ◌≢◌, ℕ, ◌+◌, nat_lt, List, ◌∷◌, ◌++◌, length, Bool, true, ◌&&◌, Option, Some, None, Result, Ok, Err, if◌then◌else◌}
 use denote.Ref.{Bor}
 use Rattle.sshkey_model.specs.Reading.{Fault, Label}
@@ -6,7 +6,7 @@ use Rattle.sshkey_model.specs.Names.{Other, are_ascii, at_sign, cut, is_own_name
 use Rattle.sshkey_model.specs.CertificateNames.{certificate_name, suffix}
 use Rattle.sshkey_base.specs.Causes.{Cause, NoMemory, Faulty}
 
--- the name, where it is one of somebody's own
+-- the name, where it is a private-use one
 abbrev pub own_name_from : List ℕ → Result (List ℕ) Fault
 own_name_from t = if is_own_name t then Ok t else Err Label
 
@@ -24,7 +24,7 @@ pub record IsNoCertificateName (t : List ℕ) (cause : Cause) : Type 0 where
   pub none : IsNoCertificateType t
   pub label : cause ≡ Faulty Label
 
--- The answer is the name that has this name in a certificate, and `Label` where none has it, want of memory aside.
+-- The answer is the name that has this name in a certificate, and `Label` where none has it, out of memory aside.
 abbrev pub NamesCertified : {E : Type 0} → (E → Cause) → List ℕ → Result (List ℕ) E → Type 0
 NamesCertified cause t (Ok n) = HasCertificateName t n
 NamesCertified cause t (Err e) = cause e ≢ NoMemory → IsNoCertificateName t (cause e)
