@@ -2,7 +2,7 @@
 use Rattle.std.proofs.Common.{◌≡◌, ℕ, List, [], ◌∷◌, ◌++◌, append-nil, Result, Ok, Err, refl, subst, sym, cond, eqb, Bool, true, false, ◌<◌, length, arith, ap, ◌∙◌}
 use Rattle.std.proofs.lemmas.Bool.{eqb-false}
 use Rattle.std.proofs.lemmas.Result.{err_from_is_err_and}
-use Rattle.sshkey_model.specs.Reading.{Front, TrailingData, whole, end_of}
+use Rattle.sshkey_model.specs.Reading.{Front, whole, end_of}
 use Rattle.sshkey_model.specs.Grammar.{IsGrammar}
 use Rattle.sshkey_model.proofs.CombinedReaders.{bind_ok, ok_is}
 use Rattle.sshkey_model.proofs.Grammars.{none_spelled}

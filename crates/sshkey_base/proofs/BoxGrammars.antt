@@ -1,9 +1,9 @@
 -- A value in a box is read exactly where a length and a spelling of it stand.
-use Rattle.std.proofs.Common.{◌≡◌, ◌≤◌, ◌<◌, ◌^◌, ℕ, List, [], ◌++◌, length, take, drop, Result, Ok, Err, refl, sym, ap, subst, ◌∙◌, arith, inl, inr}
+use Rattle.std.proofs.Common.{◌≡◌, ◌≤◌, ◌<◌, ◌^◌, ℕ, List, ◌++◌, length, take, drop, Result, Ok, refl, sym, ap, ◌∙◌, arith, inl, inr}
 use Rattle.std.specs.Int.{w32, to_be_bytes}
 use Rattle.std.proofs.lemmas.Bool.{cases_lt, lt-ltb, le-ltb}
 use Rattle.std.proofs.lemmas.List.{length-append, length-take-le, take_at, drop_at, take-append-drop}
-use Rattle.sshkey_model.specs.Parts.{InRange, number, flat}
+use Rattle.sshkey_model.specs.Parts.{InRange, flat}
 use Rattle.sshkey_model.specs.Reading.{Fault, ◌>>=◌, Front, whole, number_at, box_at}
 use Rattle.sshkey_model.specs.Grammar.{IsGrammar}
 use Rattle.sshkey_model.proofs.CombinedReaders.{bind_ok, ok_is, fits_number}
@@ -28,8 +28,7 @@ module _ {Y : Type 0} {Spells : Y → List ℕ → Type 0} {read : Front Y} (g :
       let behind : drop n.0 n.1 ≡ rest = ap (λ (p : Y × List ℕ). p.1) same in
       let len : length (take n.0 n.1) ≡ n.0 = length-take-le n.0 n.1 le in
       let lt : n.0 < 2 ^ 32 = num.1.fits.range in
-      let parts : n.1 ≡ take n.0 n.1 ++ rest = sym (take-append-drop n.0 n.1) ∙ ap (λ (l : List ℕ). take n.0 n.1 ++ l) behind in
-      (
+      let parts : n.1 ≡ take n.0 n.1 ++ rest = sym (take-append-drop n.0 n.1) ∙ ap (λ (l : List ℕ). take n.0 n.1 ++ l) behind in (
         to_be_bytes w32 (length (take n.0 n.1)) ++ take n.0 n.1,
         record { inside = take n.0 n.1; spelled = rw (← value) (whole_spelled g _ x.0 x.1); short = rw len lt; whole = refl },
         num.2 ∙ ap (λ (f : List ℕ). f ++ n.1) num.1.shape ∙ ap (λ (l : List ℕ). to_be_bytes w32 n.0 ++ l) parts ∙ ap (λ (k : ℕ). to_be_bytes w32 k ++ take n.0 n.1 ++ rest) (sym len),

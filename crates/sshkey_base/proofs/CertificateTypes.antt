@@ -1,5 +1,5 @@
 -- Private-use names in certificates.
-use Rattle.std.proofs.Common.{◌≡◌, ◌≢◌, ℕ, Option, Some, None, Result, Ok, Err, IfOk, IfErr, IsSome, List, [], ◌∷◌, ◌++◌, length, nat_le, nat_lt, Bool, ◌&&◌, true, false, refl, sym, ap, subst, ◌∙◌, rules, append_assoc, arith, ◌+◌, ◌<◌, ◌≤◌, inl, inr}
+use Rattle.std.proofs.Common.{◌≡◌, ◌≢◌, ℕ, Option, Some, None, IsSome, List, [], ◌∷◌, ◌++◌, length, nat_le, nat_lt, Bool, ◌&&◌, true, false, refl, sym, ap, subst, ◌∙◌, rules, append_assoc, arith, ◌+◌, ◌≤◌, inl, inr}
 use Rattle.std.proofs.lemmas.Bool.{and_parts, and_right, both_ways, leb-true, le-leb, lt-leb, lt-ltb, le-ltb, cases_lt}
 use Rattle.std.proofs.lemmas.List.{append_cancel_right, length-append}
 use denote.Ref.{Bor}

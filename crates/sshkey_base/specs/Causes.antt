@@ -24,10 +24,10 @@ encoding_cause (encoding.TrailingData n) = Faulty (fault.TrailingData n)
 encoding_cause encoding.Memory = NoMemory
 
 abbrev pub cause : wide-error.Error → Cause
-cause wide.AlgorithmUnknown = Faulty fault.UnknownAlgorithm
+cause wide.AlgorithmUnknown = Faulty fault.AlgorithmUnknown
 cause (wide.AlgorithmUnsupported algorithm) = Other
-cause wide.Crypto = Faulty fault.Cryptographic
-cause wide.Ecdsa = Faulty fault.EcdsaEncoding
+cause wide.Crypto = Faulty fault.Crypto
+cause wide.Ecdsa = Faulty fault.Ecdsa
 cause (wide.CertificateFieldInvalid field) = Other
 cause (wide.Encoding e) = encoding_cause e
 cause wide.FormatEncoding = Faulty fault.FormatEncoding

@@ -15,6 +15,7 @@ mod certificate_type;
 mod curve;
 mod hash;
 mod name;
+pub mod names;
 
 use crate::encoding;
 use crate::error::{Error, Result};
@@ -73,20 +74,20 @@ impl Algorithm {
         ensures { result.now ≡ algorithm_name (algorithm_of self.now) }
     {
         match self {
-            Algorithm::Dsa => "ssh-dss",
+            Algorithm::Dsa => names::SSH_DSS,
             Algorithm::Ecdsa { curve } => match curve {
-                EcdsaCurve::NistP256 => "ecdsa-sha2-nistp256",
-                EcdsaCurve::NistP384 => "ecdsa-sha2-nistp384",
-                EcdsaCurve::NistP521 => "ecdsa-sha2-nistp521",
+                EcdsaCurve::NistP256 => names::ECDSA_SHA2_NISTP256,
+                EcdsaCurve::NistP384 => names::ECDSA_SHA2_NISTP384,
+                EcdsaCurve::NistP521 => names::ECDSA_SHA2_NISTP521,
             },
-            Algorithm::Ed25519 => "ssh-ed25519",
+            Algorithm::Ed25519 => names::SSH_ED25519,
             Algorithm::Rsa { hash } => match hash {
-                None => "ssh-rsa",
-                Some(HashAlg::Sha256) => "rsa-sha2-256",
-                Some(HashAlg::Sha512) => "rsa-sha2-512",
+                None => names::SSH_RSA,
+                Some(HashAlg::Sha256) => names::RSA_SHA2_256,
+                Some(HashAlg::Sha512) => names::RSA_SHA2_512,
             },
-            Algorithm::SkEcdsaSha2NistP256 => "sk-ecdsa-sha2-nistp256@openssh.com",
-            Algorithm::SkEd25519 => "sk-ssh-ed25519@openssh.com",
+            Algorithm::SkEcdsaSha2NistP256 => names::SK_ECDSA_SHA2_NISTP256,
+            Algorithm::SkEd25519 => names::SK_SSH_ED25519,
             Algorithm::Other(name) => name.as_str(),
         }
     }
@@ -144,16 +145,16 @@ fn fixed(name: &str) -> Option<Algorithm>
     ensures { option_map algorithm_of result ≡ named algorithm_name algorithms name.now }
 {
     let algorithm = match name {
-        "ssh-dss" => Algorithm::Dsa,
-        "ecdsa-sha2-nistp256" => ecdsa(EcdsaCurve::NistP256),
-        "ecdsa-sha2-nistp384" => ecdsa(EcdsaCurve::NistP384),
-        "ecdsa-sha2-nistp521" => ecdsa(EcdsaCurve::NistP521),
-        "ssh-ed25519" => Algorithm::Ed25519,
-        "ssh-rsa" => Algorithm::Rsa { hash: None },
-        "rsa-sha2-256" => rsa(HashAlg::Sha256),
-        "rsa-sha2-512" => rsa(HashAlg::Sha512),
-        "sk-ecdsa-sha2-nistp256@openssh.com" => Algorithm::SkEcdsaSha2NistP256,
-        "sk-ssh-ed25519@openssh.com" => Algorithm::SkEd25519,
+        names::SSH_DSS => Algorithm::Dsa,
+        names::ECDSA_SHA2_NISTP256 => ecdsa(EcdsaCurve::NistP256),
+        names::ECDSA_SHA2_NISTP384 => ecdsa(EcdsaCurve::NistP384),
+        names::ECDSA_SHA2_NISTP521 => ecdsa(EcdsaCurve::NistP521),
+        names::SSH_ED25519 => Algorithm::Ed25519,
+        names::SSH_RSA => Algorithm::Rsa { hash: None },
+        names::RSA_SHA2_256 => rsa(HashAlg::Sha256),
+        names::RSA_SHA2_512 => rsa(HashAlg::Sha512),
+        names::SK_ECDSA_SHA2_NISTP256 => Algorithm::SkEcdsaSha2NistP256,
+        names::SK_SSH_ED25519 => Algorithm::SkEd25519,
         _ => return None,
     };
     Some(algorithm)

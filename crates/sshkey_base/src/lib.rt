@@ -24,7 +24,7 @@ mod string;
 mod text;
 mod writer;
 
-pub use algorithm::{Algorithm, AlgorithmName, EcdsaCurve, HashAlg};
+pub use algorithm::{Algorithm, AlgorithmName, EcdsaCurve, HashAlg, names};
 pub use bytes::Bytes;
 pub use decode::{Decode, decode_boxed, decode_front, decode_whole};
 pub use encode::{Encode, encode_both, encode_string, encode_vec, string_len};

@@ -2,3 +2,5 @@ pub mod OwnAlgorithms
 pub mod SignatureForms
 pub mod SplitStrings
 pub mod SignatureParts
+pub mod ShortKeys
+pub mod Bodies

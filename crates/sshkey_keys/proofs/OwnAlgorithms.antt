@@ -1,4 +1,4 @@
--- An opaque key whose name is a private-use one stands under a private-use algorithm.
+-- An opaque key whose name is a private-use one stands under an algorithm with a private-use name.
 use Rattle.std.proofs.Common.{◌≡◌, ◌∙◌, ℕ, List, Some, None, refl, sym, ap}
 use Rattle.sshkey_model.specs.Keys.{IsKey, key_algorithm}
 use Rattle.sshkey_model.specs.Names.{Algorithm, Dsa, Ecdsa, Ed25519, Rsa, SkEcdsa, SkEd25519, Other, Nistp256, Nistp384, Nistp521, Sha256, Sha512, algorithm_name, named, cut, is_own_name, is_other_name, IsAlgorithm}

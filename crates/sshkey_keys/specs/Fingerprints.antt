@@ -1,5 +1,5 @@
 -- What a fingerprint's value means.
-use Rattle.std.specs.Prelude.{◌≡◌, ◌⊎◌, ◌∷◌, ℕ, List, Result, Ok, Err}
+use Rattle.std.specs.Prelude.{◌≡◌, ◌≤◌, ◌⊎◌, ◌∷◌, ℕ, List, length, Result, Ok, Err}
 use Rattle.sshkey_model.specs.Fingerprints.{digest_text, fingerprint}
 use Rattle.sshkey_base.specs.declared.encoding.Error.TheVariants.{Length}
 use Rattle.sshkey_base.specs.declared.error.Error.{Error}
@@ -7,7 +7,7 @@ use Rattle.sshkey_base.specs.declared.error.Error.TheVariants.{Encoding, Memory}
 use Rattle.sshkey_model.specs.Keys.{Key, normal_key}
 use Rattle.sshkey_model.specs.Names.{Hash}
 use Rattle.sshkey_model.specs.Names as model
-use Rattle.sshkey_model.specs.Parts.{BoxesFit}
+use Rattle.sshkey_model.specs.Parts.{BoxesFit, flat}
 use Rattle.sshkey_keys.specs.declared.fingerprint.Fingerprint.{Fingerprint}
 use Rattle.sshkey_keys.specs.declared.fingerprint.Fingerprint.TheVariants as kinds
 
@@ -31,9 +31,13 @@ shown f = digest_text (algorithm_of f) (digest_of f)
 -- It is the key's, by that hash.
 pub record IsFingerprint (h : Hash) (k : Key) (f : Fingerprint) : Type 0 where
   pub by : algorithm_of f ≡ h
-  pub digest : digest_of f ≡ fingerprint h k
+  pub digest : digest_of f ≡ (fingerprint h k).digest
 
--- It is that fingerprint. Exactly where a part of the key is too long, it is `Length`, and else refused only when out of memory.
+-- Its normal form has at most 256 bytes.
+abbrev pub IsShort : Key → Type 0
+IsShort k = length (flat (normal_key k)) ≤ 256
+
+-- It is that fingerprint. Exactly where a part of the key is too long, it is `Length`, and else it is refused only with `Memory`.
 abbrev pub GivesFingerprint : Hash → Key → Result Fingerprint Error → Type 0
 GivesFingerprint h k (Ok f) = IsFingerprint h k f
 GivesFingerprint h k (Err e) = ((BoxesFit (normal_key k) → ⊥) × (e ≡ Encoding Length)) ⊎ (BoxesFit (normal_key k) × (e ≡ Memory))

@@ -1,6 +1,6 @@
 -- Which bytes are those of a signature, and why others are not.
 use Rattle.std.specs.Prelude.{ℕ, suc, List, length, Bool, true, false, Option, Some, None, Result, Ok, Err, nat_lt, ◌==◌, if◌then◌else◌}
-use Rattle.sshkey_model.specs.Reading.{Fault, Length, Cryptographic, ◌>>=◌, Whole, string_at}
+use Rattle.sshkey_model.specs.Reading.{Fault, Length, Crypto, ◌>>=◌, Whole, string_at}
 use Rattle.sshkey_model.specs.Names.{Nistp256, Algorithm}
 use Rattle.sshkey_model.specs.Mpints.{mpint_from, positive_part}
 use Rattle.sshkey_model.specs.Points.{field_size}
@@ -45,7 +45,7 @@ signature_from a b = blob_from a b >>= λ blob. Ok (record { algorithm = a; blob
 -- ---- the numbers of an ECDSA signature, step by step
 
 abbrev pub or_none : Option (List ℕ) → Result (List ℕ) Fault
-or_none None = Err Cryptographic
+or_none None = Err Crypto
 or_none (Some p) = Ok p
 
 -- the positive number of these bytes

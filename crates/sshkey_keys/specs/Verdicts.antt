@@ -2,6 +2,7 @@
 use Rattle.std.specs.Prelude.{◌≡◌, List, ℕ, Bool, Option, Some, None, Result, Ok, Err, if◌then◌else◌}
 use Rattle.sshkey_model.specs.Verification.{Question, question}
 use Rattle.sshkey_base.specs.declared.algorithm.Algorithm.{Algorithm}
+use Rattle.sshkey_base.specs.Names.{IsFixed, algorithm_of}
 use Rattle.sshkey_base.specs.declared.error.Error.{Error}
 use Rattle.sshkey_base.specs.declared.error.Error.TheVariants.{AlgorithmUnsupported, Crypto, Memory}
 use Rattle.sshkey_keys.specs.declared.key_data.KeyData.{KeyData}
@@ -20,7 +21,7 @@ abbrev pub judged : (Question → Bool) → Algorithm → Option Question → Re
 judged accepts algorithm None = Err (Unsupported algorithm)
 judged accepts algorithm (Some q) = if accepts q then Ok tt else Err NotAccepted
 
--- A key of a private-use algorithm verifies nothing, and its algorithm is named. Else that of the signature is.
+-- A key under a private-use name verifies nothing, and its algorithm is named. Else that of the signature is.
 abbrev pub unsupported_of : KeyData → Signature → Algorithm
 unsupported_of (kinds.Other key) g = key.algorithm
 unsupported_of key g = g.algorithm
@@ -39,6 +40,15 @@ Says answer _ = ⊥
 abbrev pub Verifies : Result Unit Refusal → Result Unit Error → Type 0
 Verifies answer (Ok x) = answer ≡ Ok tt
 Verifies answer (Err e) = Says answer e
+
+-- Where nothing is asked, an algorithm with a fixed name is answered whatever memory there is.
+abbrev pub NamesFixed : KeyData → List ℕ → Signature → Result Unit Error → Type 0
+NamesFixed key message g result = question (key_of key) message (signature_of g) ≡ None → IsFixed (algorithm_of (unsupported_of key g)) → result ≡ Err (AlgorithmUnsupported (unsupported_of key g))
+
+-- what the verifier answers, if it is asked
+abbrev pub IsAnswer : (Question → Bool) → Option Question → Bool → Type 0
+IsAnswer accepts None answer = Unit {0}
+IsAnswer accepts (Some q) answer = answer ≡ accepts q
 
 -- The error names that algorithm, unless memory was refused.
 abbrev pub IsUnsupported : Algorithm → Error → Type 0

@@ -1,17 +1,17 @@
 //! Fingerprints of public keys.
 
-ghost use Rattle.std.specs.Prelude.{◌≡◌, ◌↔◌, ◌++◌, IsTrue, MatchOption, Some, codes};
+ghost use Rattle.std.specs.Prelude.{◌≡◌, ◌↔◌, ◌++◌, IfErr, IfOk, IsOk, IsTrue, MatchOption, Some, codes, string_bytes};
 ghost use Rattle.sshkey_base.specs.Names.{hash_of};
-ghost use Rattle.sshkey_model.specs.Fingerprints.{fingerprint_prefix};
+ghost use Rattle.sshkey_model.specs.Fingerprints.{digest, fingerprint_prefix};
 ghost use Rattle.sshkey_model.specs.Names as model;
-ghost use Rattle.sshkey_keys.specs.Fingerprints.{algorithm_of, digest_of, shown, GivesFingerprint};
+ghost use Rattle.sshkey_keys.specs.Fingerprints.{algorithm_of, digest_of, shown, GivesFingerprint, IsShort};
 ghost use Rattle.sshkey_keys.specs.Keys.{key_of};
 
 use crate::key_data::KeyData;
 use base64::display::Base64Display;
 use base64::engine::general_purpose::STANDARD_NO_PAD;
 use sha2::{Digest, Sha256, Sha512};
-use sshkey_base::{HashAlg, Result, encode_vec};
+use sshkey_base::{Encode, Error, HashAlg, Result, SliceWriter, encode_vec};
 use std::alloc::Global;
 use std::convert::AsSlice;
 use std::fmt;
@@ -28,19 +28,36 @@ pub enum Fingerprint {
     Sha512([u8; 64]),
 }
 
+/// Keys of at most so many bytes, all but RSA and DSA keys in use today, are digested in place.
+const SHORT_KEY_LEN: usize = 256;
+
 impl Fingerprint {
     /// The digest by that hash of the key's normal form.
     ///
     /// Exactly where a part of the key is longer than 2^32 - 1 bytes, the answer is `Length`;
-    /// otherwise it is refused only when out of memory.
+    /// otherwise it is refused only with `Memory`. A key of at most 256 bytes is never refused.
     pub fn new(alloc: Global, hash_alg: HashAlg, key: &KeyData) -> Result<Fingerprint>
-        ensures { GivesFingerprint (hash_of hash_alg) (key_of key.now) result }
+        ensures gives { GivesFingerprint (hash_of hash_alg) (key_of key.now) result }
+        ensures short { IsShort (key_of key.now) → IsOk result }
     {
+        let mut room = [0u8; SHORT_KEY_LEN];
+        let mut writer = SliceWriter::new(&mut room);
+        if let Ok(()) = key.encode(&mut writer) {
+            return Ok(Fingerprint::of(hash_alg, writer.written()));
+        }
         let bytes = encode_vec(alloc, key)?;
-        Ok(match hash_alg {
-            HashAlg::Sha256 => Fingerprint::Sha256(Sha256::digest(bytes.as_slice())),
-            HashAlg::Sha512 => Fingerprint::Sha512(Sha512::digest(bytes.as_slice())),
-        })
+        Ok(Fingerprint::of(hash_alg, bytes.as_slice()))
+    }
+
+    /// The digest of the bytes.
+    fn of(hash_alg: HashAlg, bytes: &[u8]) -> Fingerprint
+        ensures by { algorithm_of result ≡ hash_of hash_alg }
+        ensures digest { digest_of result ≡ digest (hash_of hash_alg) bytes.now }
+    {
+        match hash_alg {
+            HashAlg::Sha256 => Fingerprint::Sha256(Sha256::digest(bytes)),
+            HashAlg::Sha512 => Fingerprint::Sha512(Sha512::digest(bytes)),
+        }
     }
 
     /// The hash.
@@ -91,6 +108,22 @@ impl Fingerprint {
             Fingerprint::Sha256(_) => None,
             Fingerprint::Sha512(digest) => Some(digest),
         }
+    }
+
+    /// The text that is shown, in a string of its size. Refused only with `Memory`.
+    pub fn to_string(&self, alloc: Global) -> Result<String>
+        ensures text { IfOk result (λ text. string_bytes text ≡ shown self.now) }
+        ensures refused { IfErr result (λ e. e ≡ Error.Memory) }
+    {
+        let len = match self {
+            Fingerprint::Sha256(_) => 50,
+            Fingerprint::Sha512(_) => 93,
+        };
+        let mut text = String::with_capacity(alloc, len)?;
+        text.push_str(self.prefix())?;
+        text.push_str(":")?;
+        STANDARD_NO_PAD.encode_string(self.as_bytes(), &mut text)?;
+        Ok(text)
     }
 
     /// Whether the hash is SHA-256.

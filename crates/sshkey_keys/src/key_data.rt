@@ -3,14 +3,15 @@
 ghost use Rattle.std.specs.Prelude.{◌≡◌, ◌≤◌, ◌+◌, ◌*◌, ◌^◌, ◌||◌, ℕ, List, IfOk, IfErr, IsOk, IsTrue, None};
 ghost use Rattle.sshkey_model.specs.Keys.{Key, key_algorithm, normal_key, body, body_at, IsKey};
 ghost use Rattle.sshkey_model.specs.Lines.{key_name};
+ghost use Rattle.sshkey_base.specs.Reading.{AcceptsFront, Gives};
 ghost use Rattle.sshkey_base.specs.Causes.{cause};
 ghost use Rattle.sshkey_base.specs.Names.{IsFixed, algorithm_of, curve_of, hash_of};
 ghost use Rattle.sshkey_model.specs.Names.{algorithm_name, Dsa, Ecdsa, Ed25519, Rsa, SkEcdsa, SkEd25519 as AlgorithmSkEd25519, Other};
 ghost use Rattle.sshkey_base.specs.Needs.{Asks};
-ghost use Rattle.sshkey_base.specs.Reading.{Gives};
 ghost use Rattle.sshkey_base.specs.Source.{Later};
 ghost use Rattle.sshkey_base.specs.Sink.{Encodes, Measures};
-ghost use Rattle.sshkey_keys.specs.Fingerprints.{GivesFingerprint};
+ghost use Rattle.sshkey_kinds.specs.Bodies.{SpellsBody};
+ghost use Rattle.sshkey_keys.specs.Fingerprints.{GivesFingerprint, IsShort};
 ghost use Rattle.sshkey_keys.specs.Keys.{key_of, algorithm_beside, SpellsKey, key_data_at};
 ghost use Rattle.sshkey_keys.specs.KeyKinds.{is_ecdsa, is_ed25519};
 ghost use Rattle.sshkey_keys.specs.KeyReaders.{key_grammar, key_normal};
@@ -22,7 +23,7 @@ mod kinds;
 use crate::fingerprint::Fingerprint;
 use sshkey_base::{
     Algorithm, Decode, EcdsaCurve, Encode, Error, HashAlg, NormalForm, Reader, Result, Writer,
-    encode_string, encoding, string_len,
+    encode_string, encoding, names, string_len,
 };
 use sshkey_kinds::{
     DsaPublicKey, EcdsaPublicKey, Ed25519PublicKey, OpaquePublicKey, OpaquePublicKeyBytes,
@@ -58,12 +59,14 @@ impl KeyData {
         ensures { result.now ≡ key_name (key_of self.now) }
     {
         match self {
-            KeyData::Dsa(_) => "ssh-dss",
-            KeyData::Ecdsa(key) => ecdsa_name(key.curve()),
-            KeyData::Ed25519(_) => "ssh-ed25519",
-            KeyData::Rsa(_) => "ssh-rsa",
-            KeyData::SkEcdsaSha2NistP256(_) => "sk-ecdsa-sha2-nistp256@openssh.com",
-            KeyData::SkEd25519(_) => "sk-ssh-ed25519@openssh.com",
+            KeyData::Dsa(_) => names::SSH_DSS,
+            KeyData::Ecdsa(EcdsaPublicKey::NistP256(_)) => names::ECDSA_SHA2_NISTP256,
+            KeyData::Ecdsa(EcdsaPublicKey::NistP384(_)) => names::ECDSA_SHA2_NISTP384,
+            KeyData::Ecdsa(EcdsaPublicKey::NistP521(_)) => names::ECDSA_SHA2_NISTP521,
+            KeyData::Ed25519(_) => names::SSH_ED25519,
+            KeyData::Rsa(_) => names::SSH_RSA,
+            KeyData::SkEcdsaSha2NistP256(_) => names::SK_ECDSA_SHA2_NISTP256,
+            KeyData::SkEd25519(_) => names::SK_SSH_ED25519,
             KeyData::Other(key) => key.algorithm.as_str(),
         }
     }
@@ -71,7 +74,7 @@ impl KeyData {
     /// The key's algorithm. That of an opaque key is the one that stands beside its bytes, and for
     /// a well-formed key the one that its name tells.
     ///
-    /// It is refused only when out of memory, and only under a private-use name.
+    /// Refused only with `Memory`, and only under a private-use name.
     #[tactic(auto, using(crate::proofs::OwnAlgorithms::well_formed_algorithm))]
     pub fn algorithm(&self, alloc: Global) -> Result<Algorithm>
         ensures ok { IfOk result (λ a. algorithm_of a ≡ algorithm_beside self.now) }
@@ -114,17 +117,20 @@ impl KeyData {
     /// The fingerprint by that hash: the digest of the key's normal form.
     ///
     /// Exactly where a part of the key is longer than 2^32 - 1 bytes, the answer is `Length`;
-    /// otherwise it is refused only when out of memory.
+    /// otherwise it is refused only with `Memory`. A key of at most 256 bytes is never refused.
     pub fn fingerprint(&self, alloc: Global, hash_alg: HashAlg) -> Result<Fingerprint>
-        ensures { GivesFingerprint (hash_of hash_alg) (key_of self.now) result }
+        ensures gives { GivesFingerprint (hash_of hash_alg) (key_of self.now) result }
+        ensures short { IsShort (key_of self.now) → IsOk result }
     {
         Fingerprint::new(alloc, hash_alg, self)
     }
 
     /// Reads what stands behind the name of that algorithm, an RSA key's with or without a hash.
     ///
-    /// A sound source is refused only where no front is the body of such a key, with the first
-    /// fault from the left, or for memory that ran out, where the body needs some.
+    /// The bytes taken spell the body. A sound source is refused only where no front is the body
+    /// of such a key, with the first fault from the left, or for memory that ran out, where the
+    /// body needs some.
+    #[tactic(auto, using(crate::proofs::Bodies::body_accepted))]
     pub fn decode_as<R: Reader>(
         alloc: Global,
         reader: &mut R,
@@ -132,6 +138,7 @@ impl KeyData {
     ) -> Result<KeyData>
         ensures gives { Gives key_of cause (body_at (algorithm_of algorithm)) (R.source reader.old) result (R.source reader.new) }
         ensures later { Later (R.source reader.old) (R.source reader.new) }
+        ensures accepts { AcceptsFront key_of (SpellsBody (algorithm_of algorithm)) cause (R.source reader.old) result (R.source reader.new) }
         ensures asks { Asks cause (NeedsBody (algorithm_of algorithm)) (R.source reader.old) result }
     {
         match algorithm {
@@ -179,17 +186,6 @@ impl KeyData {
             KeyData::SkEd25519(key) => key.encode(writer),
             KeyData::Other(key) => key.encode(writer),
         }
-    }
-}
-
-/// The name of the ECDSA algorithm on that curve.
-fn ecdsa_name(curve: EcdsaCurve) -> &'static str
-    ensures { result.now ≡ algorithm_name (Ecdsa (curve_of curve)) }
-{
-    match curve {
-        EcdsaCurve::NistP256 => "ecdsa-sha2-nistp256",
-        EcdsaCurve::NistP384 => "ecdsa-sha2-nistp384",
-        EcdsaCurve::NistP521 => "ecdsa-sha2-nistp521",
     }
 }
 

@@ -6,7 +6,7 @@ ghost use Rattle.sshkey_model.specs.Signatures.{IsSignatureBlob};
 ghost use Rattle.sshkey_keys.specs.SignatureForms.{is_blob};
 
 mod form;
-mod views;
+mod formats;
 mod wire;
 
 use form::check_blob;
@@ -23,7 +23,7 @@ use sshkey_base::{Algorithm, Bytes, Result};
 /// | RSA with a hash (RFC 8332, section 3) | any |
 /// | RSA without a hash | none are well-formed |
 /// | security keys (PROTOCOL.u2f) | those of ECDSA over P-256, or of Ed25519, then one byte of flags and four of a counter |
-/// | private use | at least 1 |
+/// | private-use name | at least 1 |
 #[derive(Debug, Drop, PartialEq, Eq, PartialOrd, Ord)]
 pub struct Signature {
     algorithm: Algorithm,
@@ -42,6 +42,7 @@ impl Signature {
     /// Of an ECDSA signature the first fault from the left is answered: `FormatEncoding` for a
     /// number with a needless leading 00, `Crypto` for one that is not positive. All else that is
     /// not well-formed is `Length`. Takes no memory.
+    #[inline(always)]
     pub fn new(algorithm: Algorithm, bytes: Vec<u8>) -> Result<Signature>
         ensures exactly { IsOk result ↔ IsSignatureBlob (algorithm_of algorithm) bytes.items }
         ensures answer { AnswersAlways signature_of cause (signature_from (algorithm_of algorithm) bytes.items) result }

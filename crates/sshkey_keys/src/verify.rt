@@ -1,19 +1,23 @@
 //! Which question the caller's verifier is asked about a signature.
 
-ghost use Rattle.std.specs.Prelude.{◌≡◌, ◌≢◌, ◌++◌, OnOk, IfOk, IfErr, option_map};
+//! Which question the caller's verifier is asked about a signature.
+
+ghost use Rattle.std.specs.Prelude.{◌≡◌, ◌≢◌, ◌++◌, ℕ, List, OnOk, IfOk, IfErr, is_some};
 ghost use Rattle.sha2.specs.Sha256.{sha256};
-ghost use Rattle.sshkey_model.specs.Verification.{IsAccepted, question, is_yes};
-ghost use Rattle.sshkey_base.specs.declared.error.Error.TheVariants as wide;
+ghost use Rattle.sshkey_model.specs.Names.{SkEcdsa, SkEd25519 as AlgorithmSkEd25519};
+ghost use Rattle.sshkey_model.specs.Verification.{IsAccepted, question, question_under};
+ghost use Rattle.sshkey_base.specs.Names.{IsFixed, algorithm_of};
+ghost use Rattle.sshkey_kinds.specs.Kinds.{sk_ecdsa_of, sk_ed25519_of};
 ghost use Rattle.sshkey_keys.specs.Keys.{key_of};
 ghost use Rattle.sshkey_keys.specs.Signatures.{signature_of};
-ghost use Rattle.sshkey_keys.specs.Verdicts.{IsUnsupported, Verifies, unsupported_of, verdict};
+ghost use Rattle.sshkey_keys.specs.Verdicts.{IsAnswer, IsUnsupported, NamesFixed, Verifies, unsupported_of, verdict};
 
 use crate::key_data::KeyData;
 use crate::raw_verifier::RawVerifier;
 use crate::signature::{Signature, split_trailer};
 use sha2::{Digest, Sha256};
 use sshkey_base::{Algorithm, EcdsaCurve, Error, Result};
-use sshkey_kinds::EcdsaPublicKey;
+use sshkey_kinds::{EcdsaPublicKey, SkEcdsaSha2NistP256, SkEd25519};
 use std::alloc::{AllocError, Global};
 
 impl KeyData {
@@ -26,8 +30,10 @@ impl KeyData {
     /// message (PROTOCOL.u2f), and the bytes before flags and counter. It is asked nothing else.
     ///
     /// Out of memory aside, the verifier's included: Ok exactly where it is asked and says yes;
-    /// `AlgorithmUnsupported` with the key's algorithm for a key under a private-use name,
-    /// and with the signature's where nothing is asked; `Crypto` where the verifier says no.
+    /// `AlgorithmUnsupported` with the key's algorithm for a key under a private-use name, and
+    /// with the signature's where nothing is asked; `Crypto` where the verifier says no. Memory is
+    /// taken for a security key's message and for a private-use name that is answered, and else
+    /// only by the verifier.
     pub fn verify<V: RawVerifier>(
         &self,
         alloc: Global,
@@ -37,52 +43,53 @@ impl KeyData {
     ) -> Result<()>
         ensures answer { Verifies (verdict (V.accepts verifier.now) self.now message.now signature.now) result }
         ensures accepted { OnOk result (IsAccepted (V.accepts verifier.now) (key_of self.now) message.now (signature_of signature.now)) }
-        ensures refused { IfErr result (λ e. e ≢ wide.Memory → IsAccepted (V.accepts verifier.now) (key_of self.now) message.now (signature_of signature.now) → ⊥) }
+        ensures refused { IfErr result (λ e. e ≢ Error.Memory → IsAccepted (V.accepts verifier.now) (key_of self.now) message.now (signature_of signature.now) → ⊥) }
+        ensures unasked { NamesFixed self.now message.now signature.now result }
     {
-        match self.ask(alloc, message, signature, verifier)? {
-            Some(true) => Ok(()),
-            Some(false) => Err(Error::Crypto),
-            None => Err(unsupported(alloc, self.unsupported_algorithm(signature))),
+        if !self.is_asked_about(signature) {
+            return Err(unsupported(alloc, self.unsupported_algorithm(signature)));
+        }
+        if !self.ask(alloc, message, signature, verifier)? {
+            return Err(Error::Crypto);
+        }
+        Ok(())
+    }
+
+    /// Whether the verifier is asked about the signature, whatever the message.
+    fn is_asked_about(&self, signature: &Signature) -> bool
+        ensures { (message : List ℕ) → result ≡ is_some (question (key_of self.now) message (signature_of signature.now)) }
+    {
+        let algorithm = signature.algorithm();
+        match self {
+            KeyData::Dsa(_) => matches!(algorithm, Algorithm::Dsa),
+            KeyData::Ecdsa(key) => {
+                matches!(algorithm, Algorithm::Ecdsa { curve } if key.is_on(*curve))
+            },
+            KeyData::Ed25519(_) => matches!(algorithm, Algorithm::Ed25519),
+            KeyData::Rsa(_) => matches!(algorithm, Algorithm::Rsa { hash: Some(_) }),
+            KeyData::SkEcdsaSha2NistP256(_) => matches!(algorithm, Algorithm::SkEcdsaSha2NistP256),
+            KeyData::SkEd25519(_) => matches!(algorithm, Algorithm::SkEd25519),
+            KeyData::Other(_) => false,
         }
     }
 
-    /// What the verifier answers, where the key and the signature's algorithm are listed.
+    /// The verifier's answer about a signature that it is asked about.
     fn ask<V: RawVerifier>(
         &self,
         alloc: Global,
         message: &[u8],
         signature: &Signature,
         verifier: &V,
-    ) -> std::result::Result<Option<bool>, AllocError>
-        ensures { IfOk result (λ answer. answer ≡ option_map (V.accepts verifier.now) (question (key_of self.now) message.now (signature_of signature.now))) }
+    ) -> std::result::Result<bool, AllocError>
+        ensures { IfOk result (IsAnswer (V.accepts verifier.now) (question (key_of self.now) message.now (signature_of signature.now))) }
     {
-        let algorithm = signature.algorithm();
-        let blob = signature.as_bytes();
-        let accepted = match (self, algorithm) {
-            (KeyData::Dsa(_), Algorithm::Dsa)
-            | (KeyData::Ed25519(_), Algorithm::Ed25519)
-            | (KeyData::Rsa(_), Algorithm::Rsa { hash: Some(_) }) => {
-                verifier.verify(algorithm, self, message, blob)?
+        match self {
+            KeyData::SkEcdsaSha2NistP256(key) => {
+                ask_sk_ecdsa(alloc, key, message, signature, verifier)
             }
-            (KeyData::Ecdsa(key), Algorithm::Ecdsa { curve }) if key.is_on(*curve) => {
-                verifier.verify(algorithm, self, message, blob)?
-            }
-            (KeyData::SkEcdsaSha2NistP256(key), Algorithm::SkEcdsaSha2NistP256) => {
-                let curve = EcdsaCurve::NistP256;
-                let plain = KeyData::Ecdsa(EcdsaPublicKey::NistP256(*key.ec_point()));
-                let (within, trailer) = split_trailer(blob);
-                let signed = security_key_message(alloc, key.application(), trailer, message)?;
-                verifier.verify(&Algorithm::Ecdsa { curve }, &plain, &signed, within)?
-            }
-            (KeyData::SkEd25519(key), Algorithm::SkEd25519) => {
-                let plain = KeyData::Ed25519(*key.public_key());
-                let (within, trailer) = split_trailer(blob);
-                let signed = security_key_message(alloc, key.application(), trailer, message)?;
-                verifier.verify(&Algorithm::Ed25519, &plain, &signed, within)?
-            }
-            _ => return Ok(None),
-        };
-        Ok(Some(accepted))
+            KeyData::SkEd25519(key) => ask_sk_ed25519(alloc, key, message, signature, verifier),
+            _ => verifier.verify(signature.algorithm(), self, message, signature.as_bytes()),
+        }
     }
 
     /// The algorithm that is named where nothing is asked.
@@ -96,8 +103,41 @@ impl KeyData {
     }
 }
 
-/// What a security key signs in place of the message (PROTOCOL.u2f). Refused only when
-/// out of memory.
+/// The verifier's answer about the P-256 key that a security key holds.
+fn ask_sk_ecdsa<V: RawVerifier>(
+    alloc: Global,
+    key: &SkEcdsaSha2NistP256,
+    message: &[u8],
+    signature: &Signature,
+    verifier: &V,
+) -> std::result::Result<bool, AllocError>
+    ensures { IfOk result (IsAnswer (V.accepts verifier.now) (question_under SkEcdsa (sk_ecdsa_of key.now) message.now (signature_of signature.now))) }
+{
+    let curve = EcdsaCurve::NistP256;
+    let plain = KeyData::Ecdsa(EcdsaPublicKey::NistP256(*key.ec_point()));
+    let (blob, trailer) = split_trailer(signature.as_bytes());
+    let signed = security_key_message(alloc, key.application(), trailer, message)?;
+    verifier.verify(&Algorithm::Ecdsa { curve }, &plain, &signed, blob)
+}
+
+/// The verifier's answer about the Ed25519 key that a security key holds.
+fn ask_sk_ed25519<V: RawVerifier>(
+    alloc: Global,
+    key: &SkEd25519,
+    message: &[u8],
+    signature: &Signature,
+    verifier: &V,
+) -> std::result::Result<bool, AllocError>
+    ensures { IfOk result (IsAnswer (V.accepts verifier.now) (question_under AlgorithmSkEd25519 (sk_ed25519_of key.now) message.now (signature_of signature.now))) }
+{
+    let plain = KeyData::Ed25519(*key.public_key());
+    let (blob, trailer) = split_trailer(signature.as_bytes());
+    let signed = security_key_message(alloc, key.application(), trailer, message)?;
+    verifier.verify(&Algorithm::Ed25519, &plain, &signed, blob)
+}
+
+/// What a security key signs in place of the message (PROTOCOL.u2f). Refused only for want of
+/// memory.
 fn security_key_message(
     alloc: Global,
     application: &str,
@@ -117,7 +157,8 @@ fn security_key_message(
 
 /// The refusal of this algorithm, or of memory for its name.
 fn unsupported(alloc: Global, algorithm: &Algorithm) -> Error
-    ensures { IsUnsupported algorithm.now result }
+    ensures named { IsUnsupported algorithm.now result }
+    ensures fixed { IsFixed (algorithm_of algorithm.now) → result ≡ Error.AlgorithmUnsupported algorithm.now }
 {
     match algorithm.try_clone(alloc) {
         Ok(algorithm) => Error::AlgorithmUnsupported { algorithm },

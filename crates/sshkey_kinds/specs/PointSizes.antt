@@ -1,8 +1,8 @@
 -- Point strings by the size of the longest (SEC 1, section 2.3.3).
 use Rattle.std.specs.Prelude.{ℕ, ◌==◌, List, Bool, false, Option, Some, None, Result, Ok, Err, if◌then◌else◌}
-use Rattle.sshkey_model.specs.Reading.{Fault, Whole, EcdsaEncoding, ◌>>=◌}
+use Rattle.sshkey_model.specs.Reading.{Fault, Ecdsa}
 use Rattle.sshkey_model.specs.Names.{Curve, Nistp256, Nistp384, Nistp521}
-use Rattle.sshkey_model.specs.Points.{field_size, is_point, curve_of_size, point_curve}
+use Rattle.sshkey_model.specs.Points.{field_size, is_point}
 
 -- the curve whose longest point string, 04 and two coordinates, has n bytes
 abbrev pub curve_of_longest : ℕ → Option Curve
@@ -17,12 +17,4 @@ abbrev pub is_point_within : ℕ → List ℕ → Bool
 is_point_within n b = is_point_on (curve_of_longest n) b
 
 abbrev pub point_within : ℕ → List ℕ → Result (List ℕ) Fault
-point_within n b = if is_point_within n b then Ok b else Err EcdsaEncoding
-
--- the size of a coordinate that a point string tells
-abbrev pub size_from : Whole ℕ
-size_from b = point_curve b >>= λ c. Ok (field_size c)
-
--- the size, if it is that of a curve's coordinates
-abbrev pub known_size : ℕ → Result ℕ Fault
-known_size n = curve_of_size n >>= λ c. Ok (field_size c)
+point_within n b = if is_point_within n b then Ok b else Err Ecdsa

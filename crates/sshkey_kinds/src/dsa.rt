@@ -1,7 +1,6 @@
 //! DSA public keys.
 
 ghost use Rattle.std.specs.Prelude.{◌≡◌, ℕ, IfOk, IfErr, ◌+◌, ◌*◌, ◌^◌};
-ghost use Rattle.sshkey_base.specs.declared.error.Error.TheVariants as wide;
 ghost use Rattle.sshkey_model.specs.Keys.{Key, body};
 ghost use Rattle.sshkey_kinds.specs.Bodies.{SpellsDsa, dsa_at, dsa_grammar};
 
@@ -29,7 +28,7 @@ impl DsaPublicKey {
     /// The same key in memory of its own. Refuses only with `Memory`.
     pub fn try_clone(&self, alloc: Global) -> Result<DsaPublicKey>
         ensures value { IfOk result (λ k. dsa_of k ≡ dsa_of self.now) }
-        ensures refused { IfErr result (λ e. e ≡ wide.Memory) }
+        ensures refused { IfErr result (λ e. e ≡ Error.Memory) }
     {
         Ok(DsaPublicKey {
             p: self.p.try_clone(alloc)?,

@@ -1,10 +1,11 @@
 //! Points of elliptic curves.
 
 ghost use Rattle.std.specs.Prelude.{◌≡◌, ◌≤◌, true, take, option_map};
-ghost use Rattle.sshkey_model.specs.Points.{is_point, field_size};
+ghost use Rattle.sshkey_model.specs.Points.{is_point};
+ghost use Rattle.sshkey_base.specs.Names.{curve_of};
 ghost use Rattle.sshkey_kinds.specs.PointSizes.{curve_of_longest, is_point_within};
 
-use sshkey_base::{Encode, Error, Result, Writer, encode_string, encoding, string_len};
+use sshkey_base::{EcdsaCurve, Encode, Error, Result, Writer, encode_string, encoding, string_len};
 use std::cmp::Ordering;
 use std::convert::AsSlice;
 use std::hash::{Hash, Hasher};
@@ -61,14 +62,14 @@ impl<const LEN: usize> EcPoint<LEN> {
     }
 }
 
-/// The bytes of a coordinate on the curve whose longest point string has so many bytes.
-fn field_size(longest: usize) -> Option<usize>
-    ensures { result ≡ option_map field_size (curve_of_longest longest) }
+/// The curve whose longest point string has so many bytes.
+fn curve_of_longest(longest: usize) -> Option<EcdsaCurve>
+    ensures { option_map curve_of result ≡ curve_of_longest longest }
 {
     match longest {
-        65 => Some(32),
-        97 => Some(48),
-        133 => Some(66),
+        65 => Some(EcdsaCurve::NistP256),
+        97 => Some(EcdsaCurve::NistP384),
+        133 => Some(EcdsaCurve::NistP521),
         _ => None,
     }
 }
@@ -77,9 +78,10 @@ fn field_size(longest: usize) -> Option<usize>
 fn is_point_within(longest: usize, bytes: &[u8]) -> bool
     ensures { result ≡ is_point_within longest bytes.now }
 {
-    let Some(size) = field_size(longest) else {
+    let Some(curve) = curve_of_longest(longest) else {
         return false;
     };
+    let size = curve.field_size();
     match bytes {
         [2 | 3, x @ ..] => x.len() == size,
         [4, coordinates @ ..] => coordinates.len() % 2 == 0 && coordinates.len() / 2 == size,

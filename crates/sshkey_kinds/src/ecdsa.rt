@@ -8,10 +8,10 @@ ghost use Rattle.sshkey_base.specs.Causes.{cause};
 ghost use Rattle.sshkey_base.specs.Needs.{Asks, NoNeed};
 ghost use Rattle.sshkey_base.specs.Reading.{Gives};
 ghost use Rattle.sshkey_base.specs.Source.{Later};
-ghost use Rattle.sshkey_model.specs.Points.{point_from};
+ghost use Rattle.sshkey_model.specs.Points.{curve_of_size, point_curve, point_from};
+ghost use Rattle.sshkey_base.specs.Names.{curve_of};
 ghost use Rattle.sshkey_model.specs.Reading.{bytes_at, checked_at, string_at};
 ghost use Rattle.sshkey_kinds.specs.EcdsaPublicKey.{ecdsa_of};
-ghost use Rattle.sshkey_kinds.specs.PointSizes.{known_size, size_from};
 
 use crate::ec_point::{
     EcPoint, EcdsaNistP256PublicKey, EcdsaNistP384PublicKey, EcdsaNistP521PublicKey,
@@ -52,10 +52,10 @@ impl EcdsaPublicKey {
         ensures exactly { IsOk result ↔ IsAnyPoint bytes.now }
         ensures answer { AnswersAlways ecdsa_of cause (sec1_from bytes.now) result }
     {
-        let key = match sec1_field_size(bytes)? {
-            32 => EcdsaPublicKey::NistP256(EcPoint::from_bytes(bytes)?),
-            48 => EcdsaPublicKey::NistP384(EcPoint::from_bytes(bytes)?),
-            _ => EcdsaPublicKey::NistP521(EcPoint::from_bytes(bytes)?),
+        let key = match sec1_curve(bytes)? {
+            EcdsaCurve::NistP256 => EcdsaPublicKey::NistP256(EcPoint::from_bytes(bytes)?),
+            EcdsaCurve::NistP384 => EcdsaPublicKey::NistP384(EcPoint::from_bytes(bytes)?),
+            EcdsaCurve::NistP521 => EcdsaPublicKey::NistP521(EcPoint::from_bytes(bytes)?),
         };
         Ok(key)
     }
@@ -194,32 +194,37 @@ impl Encode for EcdsaPublicKey {
     }
 }
 
-/// The bytes of a coordinate on the curve that the tag and the size of a point string tell.
-fn sec1_field_size(bytes: &[u8]) -> Result<usize>
-    ensures { AnswersAlways (λ size. size) cause (size_from bytes.now) result }
+/// The curve that the tag and the size of a point string tell.
+fn sec1_curve(bytes: &[u8]) -> Result<EcdsaCurve>
+    ensures { AnswersAlways curve_of cause (point_curve bytes.now) result }
 {
     match bytes {
         [] => Err(Error::Encoding(encoding::Error::Length)),
-        [2 | 3, x @ ..] => field_size_of(x.len()),
+        [2 | 3, x @ ..] => curve_of_size(x.len()),
         [4, coordinates @ ..] => {
-            let size = field_size_of(coordinates.len() / 2)?;
+            let curve = curve_of_size(coordinates.len() / 2)?;
             if coordinates.len() % 2 != 0 {
                 return Err(Error::Ecdsa);
             }
-            Ok(size)
+            Ok(curve)
         }
         [0 | 5, ..] => Err(Error::AlgorithmUnknown),
         _ => Err(Error::Ecdsa),
     }
 }
 
-/// The size, if it is that of a curve's coordinates, and `Length` if not.
-fn field_size_of(size: usize) -> Result<usize>
-    ensures { AnswersAlways (λ size. size) cause (known_size size) result }
+/// The curve whose coordinates have that size, and `Length` where none has.
+fn curve_of_size(size: usize) -> Result<EcdsaCurve>
+    ensures { AnswersAlways curve_of cause (curve_of_size size) result }
 {
-    match size {
-        32 | 48 | 66 => Ok(size),
-        _ => Err(Error::Encoding(encoding::Error::Length)),
+    if size == EcdsaCurve::NistP256.field_size() {
+        Ok(EcdsaCurve::NistP256)
+    } else if size == EcdsaCurve::NistP384.field_size() {
+        Ok(EcdsaCurve::NistP384)
+    } else if size == EcdsaCurve::NistP521.field_size() {
+        Ok(EcdsaCurve::NistP521)
+    } else {
+        Err(Error::Encoding(encoding::Error::Length))
     }
 }
 

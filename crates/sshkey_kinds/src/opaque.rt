@@ -2,20 +2,19 @@
 
 ghost use Rattle.std.specs.Prelude.{◌≡◌, ℕ, List, IfOk, IfErr, ◌+◌, ◌^◌};
 ghost use Rattle.sshkey_base.specs.Leaves.{SpellsString, string_grammar};
-ghost use Rattle.sshkey_base.specs.declared.error.Error.TheVariants as wide;
 ghost use Rattle.sshkey_base.specs.Readers.{string_at};
 ghost use Rattle.sshkey_model.specs.Keys.{body};
 ghost use Rattle.sshkey_model.specs.Texts.{string};
 
-mod compare;
-
-use sshkey_base::{Algorithm, Bytes, Decode, Encode, Reader, Result, Writer, encoding};
+use sshkey_base::{Algorithm, Bytes, Decode, Encode, Error, Reader, Result, Writer, encoding};
 use std::alloc::Global;
 use std::convert::AsSlice;
 use std::marker::Model;
 
 /// The bytes of a key whose format is not known, which contracts see as a list.
-#[derive(Debug, Drop)]
+///
+/// They are compared byte by byte.
+#[derive(Debug, Drop, PartialEq, Eq, PartialOrd, Ord, Hash)]
 pub struct OpaquePublicKeyBytes {
     bytes: Bytes,
 }
@@ -24,6 +23,8 @@ impl Model for OpaquePublicKeyBytes {
     ghost Value = { List ℕ };
 
     ghost view = { λ k. k.bytes };
+
+    ghost inverse = { λ b. record { bytes = b } };
 }
 
 impl OpaquePublicKeyBytes {
@@ -37,7 +38,7 @@ impl OpaquePublicKeyBytes {
     /// The same bytes in memory of their own. Refuses only with `Memory`.
     pub fn try_clone(&self, alloc: Global) -> Result<OpaquePublicKeyBytes>
         ensures value { IfOk result (λ k. k ≡ self.now) }
-        ensures refused { IfErr result (λ e. e ≡ wide.Memory) }
+        ensures refused { IfErr result (λ e. e ≡ Error.Memory) }
     {
         Ok(OpaquePublicKeyBytes {
             bytes: self.bytes.try_clone(alloc)?,
@@ -127,7 +128,7 @@ impl OpaquePublicKey {
     pub fn try_clone(&self, alloc: Global) -> Result<OpaquePublicKey>
         ensures value { IfOk result (λ k. opaque_of k ≡ opaque_of self.now) }
         ensures fields { IfOk result (λ k. opaque_fields k ≡ opaque_fields self.now) }
-        ensures refused { IfErr result (λ e. e ≡ wide.Memory) }
+        ensures refused { IfErr result (λ e. e ≡ Error.Memory) }
     {
         Ok(OpaquePublicKey {
             algorithm: self.algorithm.try_clone(alloc)?,

@@ -1,7 +1,6 @@
 //! RSA public keys.
 
 ghost use Rattle.std.specs.Prelude.{◌≡◌, ℕ, IfOk, IfErr, ◌+◌, ◌*◌, ◌^◌};
-ghost use Rattle.sshkey_base.specs.declared.error.Error.TheVariants as wide;
 ghost use Rattle.sshkey_model.specs.Keys.{Key, body};
 ghost use Rattle.sshkey_kinds.specs.Bodies.{SpellsRsa, rsa_at, rsa_grammar};
 
@@ -25,7 +24,7 @@ impl RsaPublicKey {
     /// The same key in memory of its own. Refuses only with `Memory`.
     pub fn try_clone(&self, alloc: Global) -> Result<RsaPublicKey>
         ensures value { IfOk result (λ k. rsa_of k ≡ rsa_of self.now) }
-        ensures refused { IfErr result (λ e. e ≡ wide.Memory) }
+        ensures refused { IfErr result (λ e. e ≡ Error.Memory) }
     {
         Ok(RsaPublicKey {
             e: self.e.try_clone(alloc)?,

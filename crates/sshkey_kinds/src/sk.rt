@@ -5,7 +5,6 @@ ghost use Rattle.sshkey_base.specs.Causes.{cause};
 ghost use Rattle.sshkey_base.specs.Needs.{Asks, NoNeed};
 ghost use Rattle.sshkey_base.specs.Reading.{Gives};
 ghost use Rattle.sshkey_base.specs.Source.{Later};
-ghost use Rattle.sshkey_base.specs.declared.error.Error.TheVariants as wide;
 ghost use Rattle.sshkey_model.specs.Keys.{Key, SkEcdsa, SkEd25519 as SkEd25519Key, body, p256_only};
 ghost use Rattle.sshkey_model.specs.Points.{p256_point_from};
 ghost use Rattle.sshkey_model.specs.Reading.{bytes_at, checked_at, string_at};
@@ -32,7 +31,7 @@ pub struct SkEcdsaSha2NistP256 {
 }
 
 impl SkEcdsaSha2NistP256 {
-    ghost use Rattle.sshkey_kinds.specs.Kinds.{sk_ecdsa_fields, sk_ecdsa_of};
+    ghost use Rattle.sshkey_kinds.specs.Kinds.{sk_ecdsa_application, sk_ecdsa_of, sk_ecdsa_point};
 
     /// The key for that application. Takes no memory.
     pub fn new(ec_point: EcdsaNistP256PublicKey, application: String) -> SkEcdsaSha2NistP256
@@ -50,7 +49,7 @@ impl SkEcdsaSha2NistP256 {
         ec_point: EcdsaNistP256PublicKey,
     ) -> Result<SkEcdsaSha2NistP256>
         ensures value { IfOk result (λ k. sk_ecdsa_of k ≡ SkEcdsa (record { key = point_of ec_point; application = codes "ssh:" })) }
-        ensures refused { IfErr result (λ e. e ≡ wide.Memory) }
+        ensures refused { IfErr result (λ e. e ≡ Error.Memory) }
     {
         let application = String::from_str(alloc, DEFAULT_APPLICATION)?;
         Ok(SkEcdsaSha2NistP256::new(ec_point, application))
@@ -59,7 +58,7 @@ impl SkEcdsaSha2NistP256 {
     /// The same key in memory of its own. Refuses only with `Memory`.
     pub fn try_clone(&self, alloc: Global) -> Result<SkEcdsaSha2NistP256>
         ensures value { IfOk result (λ k. sk_ecdsa_of k ≡ sk_ecdsa_of self.now) }
-        ensures refused { IfErr result (λ e. e ≡ wide.Memory) }
+        ensures refused { IfErr result (λ e. e ≡ Error.Memory) }
     {
         Ok(SkEcdsaSha2NistP256 {
             ec_point: self.ec_point,
@@ -69,14 +68,14 @@ impl SkEcdsaSha2NistP256 {
 
     /// The point.
     pub fn ec_point(&self) -> &EcdsaNistP256PublicKey
-        ensures { point_of result.now ≡ (sk_ecdsa_fields self.now).key }
+        ensures { result.now ≡ sk_ecdsa_point self.now }
     {
         &self.ec_point
     }
 
     /// The application.
     pub fn application(&self) -> &str
-        ensures { result.now ≡ (sk_ecdsa_fields self.now).application }
+        ensures { result.now ≡ sk_ecdsa_application self.now }
     {
         self.application.as_str()
     }
@@ -84,7 +83,9 @@ impl SkEcdsaSha2NistP256 {
 
 /// The point, without the application.
 impl From<SkEcdsaSha2NistP256> for EcdsaNistP256PublicKey {
-    ghost from_gives = { λ k point. point ≡ k.ec_point };
+    ghost use Rattle.sshkey_kinds.specs.Kinds.{sk_ecdsa_point};
+
+    ghost from_gives = { λ k point. point ≡ sk_ecdsa_point k };
 
     fn from(key: SkEcdsaSha2NistP256) -> EcdsaNistP256PublicKey {
         key.ec_point
@@ -188,7 +189,7 @@ pub struct SkEd25519 {
 }
 
 impl SkEd25519 {
-    ghost use Rattle.sshkey_kinds.specs.Kinds.{sk_ed25519_fields, sk_ed25519_of};
+    ghost use Rattle.sshkey_kinds.specs.Kinds.{sk_ed25519_application, sk_ed25519_key, sk_ed25519_of};
 
     /// The key for that application. Takes no memory.
     pub fn new(public_key: Ed25519PublicKey, application: String) -> SkEd25519
@@ -206,7 +207,7 @@ impl SkEd25519 {
         public_key: Ed25519PublicKey,
     ) -> Result<SkEd25519>
         ensures value { IfOk result (λ k. sk_ed25519_of k ≡ SkEd25519Key (record { key = public_key.0; application = codes "ssh:" })) }
-        ensures refused { IfErr result (λ e. e ≡ wide.Memory) }
+        ensures refused { IfErr result (λ e. e ≡ Error.Memory) }
     {
         let application = String::from_str(alloc, DEFAULT_APPLICATION)?;
         Ok(SkEd25519::new(public_key, application))
@@ -215,7 +216,7 @@ impl SkEd25519 {
     /// The same key in memory of its own. Refuses only with `Memory`.
     pub fn try_clone(&self, alloc: Global) -> Result<SkEd25519>
         ensures value { IfOk result (λ k. sk_ed25519_of k ≡ sk_ed25519_of self.now) }
-        ensures refused { IfErr result (λ e. e ≡ wide.Memory) }
+        ensures refused { IfErr result (λ e. e ≡ Error.Memory) }
     {
         Ok(SkEd25519 {
             public_key: self.public_key,
@@ -225,14 +226,14 @@ impl SkEd25519 {
 
     /// The key without its application.
     pub fn public_key(&self) -> &Ed25519PublicKey
-        ensures { result.now.0 ≡ (sk_ed25519_fields self.now).key }
+        ensures { result.now ≡ sk_ed25519_key self.now }
     {
         &self.public_key
     }
 
     /// The application.
     pub fn application(&self) -> &str
-        ensures { result.now ≡ (sk_ed25519_fields self.now).application }
+        ensures { result.now ≡ sk_ed25519_application self.now }
     {
         self.application.as_str()
     }
@@ -240,7 +241,9 @@ impl SkEd25519 {
 
 /// The key, without the application.
 impl From<SkEd25519> for Ed25519PublicKey {
-    ghost from_gives = { λ k plain. plain ≡ k.public_key };
+    ghost use Rattle.sshkey_kinds.specs.Kinds.{sk_ed25519_key};
+
+    ghost from_gives = { λ k plain. plain ≡ sk_ed25519_key k };
 
     fn from(key: SkEd25519) -> Ed25519PublicKey {
         key.public_key

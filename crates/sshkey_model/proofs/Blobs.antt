@@ -7,10 +7,19 @@ use Rattle.sshkey_model.specs.Reading.{Front}
 use Rattle.sshkey_model.specs.Grammar.{SpellsWith, IsSpelled, spelled}
 use Rattle.sshkey_model.specs.Names.{algorithm_name}
 use Rattle.sshkey_model.specs.Keys.{Key, Head, key_algorithm, headed, body, key, IsKey, HasKeyPlaces}
-use Rattle.sshkey_model.specs.LineCuts.{IsBlob}
 use Rattle.sshkey_model.proofs.CombinedReaders.{ReadsFront, are_bytes-append, number_bytes}
 use Rattle.sshkey_model.proofs.Grammars.{grammar_with, one_front}
+use Rattle.sshkey_model.specs.Signatures.{signature}
+use Rattle.sshkey_model.specs.Certificates.{Certificate, IsCertificate, HasCertificatePlaces, certificate, to_be_signed, CertificateChoices}
+use Rattle.sshkey_model.proofs.TextReaders.{box_shows}
 use Rattle.sshkey_model.proofs.KeyReaders.{key_reads}
+use Rattle.sshkey_model.proofs.CertificateReaders.{certificate_reads}
+
+-- A blob is some bytes, and spells one value.
+pub record IsBlob {V : Type 0} (Spelling : V → List ℕ → Type 0) : Type 0 where
+  pub bytes : (value : V) (blob : List ℕ) → Spelling value blob → are_bytes blob ≡ true
+  pub some : (value : V) (blob : List ℕ) → Spelling value blob → 0 < length blob
+  pub one : (v w : V) (blob : List ℕ) → Spelling v blob → Spelling w blob → v ≡ w
 
 pub flat_bytes : (p : Parts) → InRange p → are_bytes (flat p) ≡ true
 unfolding flat InRange
@@ -39,3 +48,13 @@ some_key k h = omega (
 
 pub key_blobs : IsBlob (SpellsWith IsKey HasKeyPlaces key)
 key_blobs = blobs key_reads some_key
+
+some_behind : (p q : Parts) → 0 < length (flat q) → 0 < length (flat (p & q))
+unfolding flat
+some_behind p q some = omega (arith, some, length-append (flat p) (flat q))
+
+some_certificate : (c : Certificate) (s : CertificateChoices) → 0 < length (flat (certificate c s))
+some_certificate c s = some_behind (to_be_signed c.signed s) (box (signature c.signature)) (box_shows (signature c.signature))
+
+pub certificate_blobs : IsBlob (SpellsWith IsCertificate HasCertificatePlaces certificate)
+certificate_blobs = blobs certificate_reads some_certificate

@@ -76,7 +76,7 @@ stripped_again l r n e is =
     let whole_ : is_other_name (l ++ at_sign ∷ r) ≡ true = subst (λ (z : List ℕ). is_other_name z ≡ true) e is in
     rw (front, end_, whole_, e) refl
 
-certified_again : (a : Algorithm) → IsCertified a → certified_or (named certificate_name certified (certificate_name a)) (certificate_name a) ≡ Ok a
+pub certified_again : (a : Algorithm) → IsCertified a → certified_or (named certificate_name certified (certificate_name a)) (certificate_name a) ≡ Ok a
 unfolding named
 certified_again Dsa is = refl
 certified_again (Ecdsa Nistp256) is = refl

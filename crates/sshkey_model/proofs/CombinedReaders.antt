@@ -8,7 +8,7 @@ use Rattle.std.proofs.lemmas.Slice.Eq.{bytes_eq-Decides}
 use Rattle.std.proofs.lemmas.Nat.{be_bytes_4, be_bytes_8, from_be_bytes-to_be_bytes_4, from_be_bytes-to_be_bytes_8}
 pub use Rattle.sshkey_model.specs.Parts.{Any}
 use Rattle.sshkey_model.specs.Parts.{Parts, bytes, number, box, ◌&◌, flat, Fits, InRange, BoxesFit, are_bytes, each, IsPrefixFree}
-use Rattle.sshkey_model.specs.Reading.{Fault, Length, FormatEncoding, ◌>>=◌, Front, Whole, end_of, whole, then_at, checked_at, checked_whole, list_within, IsChain, number_at, bytes_at, string_at, literal_from, literal_at, box_at}
+use Rattle.sshkey_model.specs.Reading.{Fault, Length, FormatEncoding, ◌>>=◌, Front, Whole, end_of, whole, then_at, checked_at, checked_whole, list_within, IsChain, all_from, number_at, bytes_at, string_at, literal_from, literal_at, box_at}
 
 -- ---- steps that did not fail
 
@@ -146,9 +146,6 @@ bytes_reads n = record {
 }
 
 -- all the bytes
-abbrev pub all_from : Whole (List ℕ)
-all_from b = cond (are_bytes b) (Ok b) (Err Length)
-
 pub all_reads : ReadsWhole Any bytes all_from
 unfolding flat InRange BoxesFit
 all_reads = record {

@@ -2,9 +2,9 @@
 use Rattle.std.proofs.Common.{◌≡◌, ℕ, eqb, Some, Ok, refl, sym, ap, subst}
 use Rattle.std.specs.Int.{w32}
 use Rattle.std.proofs.lemmas.Bool.{eqb-true}
-use Rattle.sshkey_model.specs.Parts.{number, box, ◌&◌}
-use Rattle.sshkey_model.specs.Reading.{UnknownAlgorithm}
-use Rattle.sshkey_model.specs.Names.{named}
+use Rattle.sshkey_model.specs.Parts.{bytes, number, box, ◌&◌}
+use Rattle.sshkey_model.specs.Reading.{AlgorithmUnknown}
+use Rattle.sshkey_model.specs.Names.{named, or_label}
 use Rattle.sshkey_model.specs.KeyDerivation.{Cipher, NoCipher, cipher_name, ciphers, cipher, cipher_at, KdfAlgorithm, NoDerivation, BcryptDerivation, kdf_name, kdf_algorithms, kdf_algorithm, BcryptOptions, bcrypt_options, bcrypt_options_at, Kdf, NoKdf, Bcrypt, derivation, kdf_options, kdf, kdf_algorithm_at, no_options, kdf_options_at, kdf_at}
 use Rattle.sshkey_model.proofs.CombinedReaders.{bind_assoc, ok_is, met, ReadsFront, Checks, Any, wide32, number_reads, string_reads, box_reads, whole_reads, then_reads, checked_reads, checked_string_reads, to_form, same_front}
 use Rattle.sshkey_model.proofs.NameReaders.{table_checks}
@@ -16,9 +16,12 @@ unfolding named
 each_cipher NoCipher = refl
 each_cipher _ = refl
 
+pub cipher_checks : Checks Any bytes Any (λ c. bytes (cipher_name c)) (λ n. or_label (named cipher_name ciphers n))
+cipher_checks = table_checks cipher_name ciphers (assumption) each_cipher
+
 pub cipher_reads : ReadsFront Any cipher cipher_at
 unfolding cipher_at
-cipher_reads = checked_string_reads (table_checks cipher_name ciphers (assumption) each_cipher)
+cipher_reads = checked_string_reads cipher_checks
 
 -- ---- key derivation
 
@@ -27,9 +30,12 @@ unfolding named
 each_kdf NoDerivation = refl
 each_kdf BcryptDerivation = refl
 
+pub kdf_algorithm_checks : Checks Any bytes Any (λ a. bytes (kdf_name a)) (λ n. or_label (named kdf_name kdf_algorithms n))
+kdf_algorithm_checks = table_checks kdf_name kdf_algorithms (assumption) each_kdf
+
 pub kdf_algorithm_reads : ReadsFront Any kdf_algorithm kdf_algorithm_at
 unfolding kdf_algorithm_at
-kdf_algorithm_reads = checked_string_reads (table_checks kdf_name kdf_algorithms (assumption) each_kdf)
+kdf_algorithm_reads = checked_string_reads kdf_algorithm_checks
 
 abbrev IsKdfUnder : KdfAlgorithm → Kdf → Type 0
 IsKdfUnder a k = derivation k ≡ a
@@ -39,7 +45,7 @@ no_options_checks = record { takes = there; again = back }
   where
     there : (n : ℕ) (k : Kdf) → Any n → no_options n ≡ Ok k → IsKdfUnder NoDerivation k × (number w32 n ≡ kdf_options k)
     there n k was e =
-        let h = met (eqb n 0) UnknownAlgorithm (Ok NoKdf) k e in
+        let h = met (eqb n 0) AlgorithmUnknown (Ok NoKdf) k e in
         subst (λ (z : Kdf). IsKdfUnder NoDerivation z × (number w32 n ≡ kdf_options z)) (ok_is NoKdf k h.1) (refl, ap (number w32) (eqb-true _ _ h.0))
 
     back : (k : Kdf) → IsKdfUnder NoDerivation k → (n : ℕ) × Any n × (no_options n ≡ Ok k) × (number w32 n ≡ kdf_options k)

@@ -1,19 +1,18 @@
 -- Public keys are read as they are spelled.
-use Rattle.std.proofs.Common.{◌≡◌, ℕ, Option, None, Some, true, List, length, Ok, Err, refl, sym, ap, subst, ◌∙◌, inl, inr, ◌&&◌}
-use Rattle.std.proofs.lemmas.Bool.{and_parts}
+use Rattle.std.proofs.Common.{◌≡◌, ℕ, Option, None, Some, true, List, Ok, refl, sym, ap, ◌∙◌}
 use Rattle.sshkey_model.specs.Parts.{◌&◌}
-use Rattle.sshkey_model.specs.Reading.{UnknownAlgorithm, ◌>>=◌, Front, string_at}
+use Rattle.sshkey_model.specs.Reading.{AlgorithmUnknown, ◌>>=◌, string_at}
 use Rattle.sshkey_model.specs.Grammar.{IsSpelled, spelled}
 use Rattle.sshkey_model.specs.Texts.{string, IsText}
 use Rattle.sshkey_model.specs.Names.{Curve, Nistp256, Hash, Sha256, Sha512, Algorithm, IsAlgorithm, algorithm, curve}
 use Rattle.sshkey_model.specs.Mpints.{IsMpint}
-use Rattle.sshkey_model.specs.Points.{IsPoint, curve_eq, of_curve}
-use Rattle.sshkey_model.specs.Keys.{Key, Dsa, Ecdsa, Ed25519, Rsa, SkEcdsa, SkEd25519, Opaque, key_algorithm, body, IsBody, IsKey, key, HasKeyPlaces, dsa_at, any_ecdsa_at, ecdsa_at, ed25519_at, rsa_at, sk_ecdsa_at, sk_ed25519_at, body_at, p256_only, wanted_curve, IsEcdsa, Head, Plain, Head256, Head512, headed, HasHead, head_of, key_at, unhashed, IsBodyUnder}
-use Rattle.sshkey_model.proofs.CombinedReaders.{bind_assoc, done, met, ok_is, ReadsFront, Checks, Any, whole_reads, HasLength, bytes_reads, string_reads, box_reads, then_reads, checked_reads, checked_string_reads, to_form, same_front}
+use Rattle.sshkey_model.specs.Points.{IsPoint, curve_eq, IsPointOf}
+use Rattle.sshkey_model.specs.Keys.{Key, Dsa, Ecdsa, Ed25519, Rsa, SkEcdsa, SkEd25519, Opaque, key_algorithm, body, IsKey, key, HasKeyPlaces, dsa_at, any_ecdsa_at, ecdsa_at, ed25519_at, rsa_at, sk_ecdsa_at, sk_ed25519_at, body_at, p256_only, has_curve, IsEcdsa, Head, Plain, Head256, Head512, headed, HasHead, head_of, key_at, unhashed, IsBodyUnder}
+use Rattle.sshkey_model.proofs.CombinedReaders.{bind_assoc, done, ok_is, ReadsFront, Checks, Any, whole_reads, HasLength, bytes_reads, string_reads, box_reads, then_reads, checked_reads, checked_string_reads, to_form, kept, same_front, as_front_form}
 use Rattle.sshkey_model.proofs.NameReaders.{curve_reads, algorithm_reads}
 use Rattle.sshkey_model.proofs.TextReaders.{text_reads}
 use Rattle.sshkey_model.proofs.MpintReaders.{mpint_reads}
-use Rattle.sshkey_model.proofs.PointReaders.{IsPointOf, same_curve, curve_itself, of_curve_reads, p256_point_checks}
+use Rattle.sshkey_model.proofs.PointReaders.{same_curve, curve_itself, of_curve_reads, p256_point_checks}
 
 pub rsa_reads : (hash : Option Hash) → ReadsFront (IsBodyUnder (Algorithm.Rsa hash)) body rsa_at
 unfolding rsa_at
@@ -67,19 +66,14 @@ any_ecdsa_reads = same_front (checked_reads (to_form (λ (stated, on). Ecdsa on.
 
 pub ecdsa_reads : (c : Curve) → ReadsFront (IsBodyUnder (Algorithm.Ecdsa c)) body (ecdsa_at c)
 unfolding ecdsa_at
-ecdsa_reads c = checked_reads (record { takes = there; again = back }) any_ecdsa_reads
+ecdsa_reads c = as_front_form there back (checked_reads (kept (has_curve c) AlgorithmUnknown) any_ecdsa_reads)
   where
-    there : (k l : Key) → IsEcdsa k → wanted_curve c k ≡ Ok l → IsBodyUnder (Algorithm.Ecdsa c) l × (body k ≡ body l)
-    there (Ecdsa d p) l is e =
-        let h = met (curve_eq d c) UnknownAlgorithm (Ok (Ecdsa d p)) l e in
-        let same : d ≡ c = same_curve d c h.0 in
-        subst (λ (z : Key). IsBodyUnder (Algorithm.Ecdsa c) z × (body (Ecdsa d p) ≡ body z)) (ok_is (Ecdsa d p) l h.1) ((ap Algorithm.Ecdsa same, is), refl)
-    there _ l is e = absurd is
+    there : (k : Key) → IsEcdsa k × (has_curve c k ≡ true) → IsBodyUnder (Algorithm.Ecdsa c) k
+    there (Ecdsa d p) h = (ap Algorithm.Ecdsa (same_curve d c h.1), h.0)
+    there _ h = absurd h.0
 
-    back : (l : Key) → IsBodyUnder (Algorithm.Ecdsa c) l → (k : Key) × IsEcdsa k × (wanted_curve c k ≡ Ok l) × (body k ≡ body l)
-    back (Ecdsa d p) h =
-        let same : d ≡ c = cc h.0 in
-        (Ecdsa d p, h.1, (let equal : curve_eq d c ≡ true = ap (λ (x : Curve). curve_eq x c) same ∙ curve_itself c in rw equal refl), refl)
+    back : (k : Key) → IsBodyUnder (Algorithm.Ecdsa c) k → IsEcdsa k × (has_curve c k ≡ true)
+    back (Ecdsa d p) h = (h.1, (let same : d ≡ c = cc h.0 in ap (λ (x : Curve). curve_eq x c) same ∙ curve_itself c))
     back _ h = absurd (cc h.0)
 
 pub p256_checks : Checks Any curve (λ c. c ≡ Nistp256) (λ c. curve Nistp256) p256_only

@@ -15,10 +15,14 @@ pub mod Padding
 pub mod PrivateKeyReaders
 pub mod SshSignatureReaders
 pub mod NormalForms
+pub mod NormalFits
 pub mod SignedBytes
 pub mod Base64Words
 pub mod LineCuts
 pub mod Lines
 pub mod Blobs
+pub mod WrittenLines
+pub mod LinesApart
+pub mod LineExamples
 pub mod PrivateExamples
 pub mod NormalKeysFit

@@ -1,9 +1,21 @@
--- A line is cut in one way.
-use Rattle.std.proofs.Common.{◌≡◌, ℕ, suc, List, [], ◌∷◌, ◌++◌, length, get_or, sym, ap, ◌∙◌, refl, arith}
+-- A line is cut into its words in one way.
+use Rattle.std.proofs.Common.{◌≡◌, ◌≢◌, ℕ, ◌<◌, suc, List, [], ◌∷◌, ◌++◌, length, get_or, sym, ap, ◌∙◌, refl, arith}
 use Rattle.std.proofs.lemmas.List.{length-append, append-nil}
 use Rattle.std.proofs.Math.Seq.{get_or-append_seam}
-use Rattle.sshkey_model.specs.Lines.{space, after_space, is_word_character, HasWordCharacters}
-use Rattle.sshkey_model.specs.LineCuts.{IsWithout, IsCut}
+use Rattle.std.specs.Prelude.{EachIndex, slice_index}
+use Rattle.std.specs.Str.{trim_end}
+use Rattle.sshkey_model.specs.Lines.{space, after_space, joined, is_word_character, HasWordCharacters}
+
+abbrev pub IsWithout : ℕ → List ℕ → Type 0
+IsWithout c text = EachIndex text (λ i. slice_index text i ≢ c)
+
+-- The text, without the white space at its end, is two words and a comment; neither word is empty or holds a space.
+pub record IsCut (text first word comment : List ℕ) : Type 0 where
+  pub is : trim_end text ≡ joined first word comment
+  pub some_first : 0 < length first
+  pub some_word : 0 < length word
+  pub characters : HasWordCharacters first
+  pub one_word : IsWithout space word
 
 -- a first word holds no space
 pub without_space : (first : List ℕ) → HasWordCharacters first → IsWithout space first
@@ -19,7 +31,7 @@ later : (c b : ℕ) (bs : List ℕ) → IsWithout c (b ∷ bs) → IsWithout c b
 later c b bs h = λ i lt. h (suc i) (omega arith)
 
 -- what stands before the first space, and behind it
-one_front : (a b x y : List ℕ) → IsWithout space a → IsWithout space b → a ++ (space ∷ x) ≡ b ++ (space ∷ y) → (a ≡ b) × (x ≡ y)
+pub one_front : (a b x y : List ℕ) → IsWithout space a → IsWithout space b → a ++ (space ∷ x) ≡ b ++ (space ∷ y) → (a ≡ b) × (x ≡ y)
 one_front [] [] x y _ _ e = (refl, cc e)
 one_front [] (b ∷ bs) x y _ without e = let here : b ≡ space = cc e in absurd (without 0 (omega arith) here)
 one_front (a ∷ as') [] x y without _ e = let here : a ≡ space = cc e in absurd (without 0 (omega arith) here)

@@ -2,11 +2,12 @@
 use Rattle.std.proofs.Common.{◌≡◌, ℕ, List, length, sym, ap, ◌∙◌, subst, refl, arith}
 use Rattle.base64.specs.Engines.{standard}
 use Rattle.base64.specs.GeneralPurpose.{encode_of, IsBytes}
-use Rattle.sshkey_model.specs.Lines.{IsLine, IsLineOf, HasWordCharacters, joined}
-use Rattle.sshkey_model.specs.LineCuts.{IsCut, IsBlob, IsNoLine}
+use Rattle.sshkey_model.specs.Lines.{IsLine, IsLineOf, IsNoLine, HasWordCharacters, joined}
 use Rattle.sshkey_model.proofs.CombinedReaders.{bytes_fit}
 use Rattle.sshkey_model.proofs.Base64Words.{word_not, some_word, one_blob}
-use Rattle.sshkey_model.proofs.LineCuts.{one_cut}
+use Rattle.sshkey_model.proofs.LineCuts.{IsCut, one_cut}
+use Rattle.sshkey_model.proofs.Blobs.{IsBlob}
+use Rattle.sshkey_model.specs.Texts.{IsText}
 
 pub line_cut : (text first blob comment : List ℕ) → IsLine text first blob comment → IsCut text first (encode_of standard blob) comment
 line_cut text first blob comment h = record { is = h.is; some_first = h.some_first; some_word = some_word blob h.some_blob; characters = h.characters; one_word = word_not blob }
@@ -47,11 +48,12 @@ module _ {V : Type 0} (first : V → List ℕ) (Spelling : V → List ℕ → Ty
         other (same.0 ∙ ap first value)
 
     -- A text that is so cut, with the value's first word and a blob that spells it, is its line.
-    pub is_line : (text f w m blob : List ℕ) (v : V) → IsCut text f w m → w ≡ encode_of standard blob → Spelling v blob → f ≡ first v → IsLineOf first Spelling text v m
-    is_line text f w m blob v cut word spelled same = record {
+    pub is_line : (text f w m blob : List ℕ) (v : V) → IsText text → IsCut text f w m → w ≡ encode_of standard blob → Spelling v blob → f ≡ first v → IsLineOf first Spelling text v m
+    is_line text f w m blob v utf8 cut word spelled same = record {
       blob = blob;
       spelled = spelled;
       line = record {
+        utf8 = utf8;
         is = cut.is ∙ ap (λ (x : List ℕ). joined f x m) word ∙ ap (λ (x : List ℕ). joined x (encode_of standard blob) m) same;
         some_first = omega (arith, ap length same, cut.some_first);
         some_blob = blobs.some v blob spelled;

@@ -4,10 +4,10 @@ use Rattle.sshkey_model.specs.Parts.{Parts, flat}
 use Rattle.sshkey_model.specs.Reading.{Front}
 use Rattle.sshkey_model.specs.Grammar.{IsSpelled, spelled}
 use Rattle.sshkey_model.specs.Options.{CertificateOption, HasOptionPlaces, plain_nestings}
-use Rattle.sshkey_model.specs.Certificates.{Unsigned, CertificateChoices, HasUnsignedPlaces, plain_certificate}
+use Rattle.sshkey_model.specs.Certificates.{SignedFields, CertificateChoices, HaveSignedPlaces, plain_certificate}
 use Rattle.sshkey_model.specs.Laws.{DetermineValues, ReadBack, ReadBackPlain, DetermineFields}
 use Rattle.sshkey_model.proofs.CombinedReaders.{ReadsFront, injective}
-use Rattle.sshkey_model.proofs.CertificateReaders.{unsigned_reads}
+use Rattle.sshkey_model.proofs.CertificateReaders.{signed_fields_reads}
 
 module _ {V : Type 0} {Is : V → Type 0} {spell : V → Parts} {read : Front V} (reads : ReadsFront Is spell read) where
   pub determined : DetermineValues Is spell
@@ -31,10 +31,10 @@ unfolding HasOptionPlaces
 plain_options_have [] = tt
 plain_options_have (o ∷ os) = (tt, plain_options_have os)
 
-pub plain_certificate_has : (c : Unsigned) → HasUnsignedPlaces c (plain_certificate c)
+pub plain_certificate_has : (c : SignedFields) → HaveSignedPlaces c (plain_certificate c)
 plain_certificate_has c = record { critical_options = plain_options_have c.critical_options; extensions = plain_options_have c.extensions; signature_key = tt }
 
 pub determine_fields : DetermineFields
 determine_fields c d s u c-is s-has c-fits d-is u-has d-fits e =
-    let both : (c, s) ≡ (d, u) = injective unsigned_reads (c, s) (d, u) (record { is = c-is; place = s-has }) c-fits (record { is = d-is; place = u-has }) d-fits e in
-    (ap (λ (x : Unsigned × CertificateChoices). x.0) both, ap (λ (x : Unsigned × CertificateChoices). x.1) both)
+    let both : (c, s) ≡ (d, u) = injective signed_fields_reads (c, s) (d, u) (record { is = c-is; place = s-has }) c-fits (record { is = d-is; place = u-has }) d-fits e in
+    (ap (λ (x : SignedFields × CertificateChoices). x.0) both, ap (λ (x : SignedFields × CertificateChoices). x.1) both)

@@ -1,5 +1,5 @@
 -- Where one spelling of a key fits its boxes, its normal form does.
-use Rattle.std.proofs.Common.{◌≡◌, ℕ, ◌<◌, ◌≤◌, ◌^◌, List, length, Bool, true, ◌&&◌, nat_le, None, Some, arith, is_none}
+use Rattle.std.proofs.Common.{◌≡◌, ℕ, ◌<◌, ◌≤◌, ◌^◌, List, length, true, ◌&&◌, nat_le, None, Some, arith, is_none}
 use Rattle.std.proofs.lemmas.Bool.{and_parts, leb-true}
 use Rattle.sshkey_model.specs.Parts.{BoxesFit, flat}
 use Rattle.sshkey_model.specs.Names.{Algorithm, Nistp256, Nistp384, Nistp521, Sha256, Sha512, algorithm_name, algorithms, named, are_ascii, cut, is_split, is_own_name, is_other_name, IsAlgorithm}

@@ -5,7 +5,7 @@ use Rattle.sshkey_model.specs.Parts.{Parts, box, ◌&◌, each, flat, Fits, InRa
 use Rattle.sshkey_model.specs.Reading.{Fault, FormatEncoding, ◌>>=◌, whole, IsChain}
 use Rattle.sshkey_model.specs.Grammar.{IsSpelled, spelled}
 use Rattle.sshkey_model.specs.Texts.{string, IsText, text_at}
-use Rattle.sshkey_model.specs.Options.{CertificateOption, Nesting, Bare, Nested, option_value, option, each_option, options, is_after, Rises, AreOptions, HasNesting, HasOptionPlaces, nesting_of, option_value_from, option_before, option_at, firsts, seconds, options_at}
+use Rattle.sshkey_model.specs.Options.{CertificateOption, Nesting, Plain, Nested, option_value, option, each_option, options, is_after, Rises, AreOptions, HasNesting, HasOptionPlaces, nesting_of, option_value_from, option_before, option_at, firsts, seconds, options_at}
 use Rattle.sshkey_model.proofs.CombinedReaders.{bind_assoc, bind_ok, ok_is, ReadsFront, ReadsWhole, whole_reads, box_reads, then_reads, checked_reads, to_form, kept, list_reads, same_front}
 use Rattle.sshkey_model.proofs.TextReaders.{text_reads}
 
@@ -22,7 +22,7 @@ nested_value (c ∷ d) is = ((is, tt), refl)
 
 value_takes : (b : List ℕ) (x : List ℕ × Nesting) → option_value_from b ≡ Ok x → IsOptionValue x × Fits (option_value x.0 x.1) × (b ≡ flat (option_value x.0 x.1))
 unfolding option_value_from flat InRange BoxesFit IsOptionValue
-value_takes [] x e = subst (λ (z : List ℕ × Nesting). IsOptionValue z × Fits (option_value z.0 z.1) × ([] ≡ flat (option_value z.0 z.1))) (ok_is ([], Bare) x e) ((no_text, tt), record { range = tt; boxes = tt }, refl)
+value_takes [] x e = subst (λ (z : List ℕ × Nesting). IsOptionValue z × Fits (option_value z.0 z.1) × ([] ≡ flat (option_value z.0 z.1))) (ok_is ([], Plain) x e) ((no_text, tt), record { range = tt; boxes = tt }, refl)
 value_takes (c ∷ rest) x e =
     let d = bind_ok (whole text_at (c ∷ rest)) (λ d. Ok (d, nesting_of d)) x e in
     let t = (whole_reads text_reads).takes (c ∷ rest) d.0 d.1 in
@@ -35,7 +35,7 @@ from_some : (d : List ℕ) → IsText d → Fits (string d) → option_value_fro
 unfolding option_value_from flat
 from_some d is fits = ap (λ (r : Result (List ℕ) Fault). r >>= λ d. Ok (d, nesting_of d)) ((whole_reads text_reads).again d is fits)
 
-empty_again : option_value_from (flat (option_value [] Bare)) ≡ Ok ([], Bare)
+empty_again : option_value_from (flat (option_value [] Plain)) ≡ Ok ([], Plain)
 unfolding option_value_from flat
 empty_again = refl
 
@@ -44,9 +44,9 @@ unfolding IsOptionValue
 value_again x is fits = go x.0 x.1 is.0 is.1 fits
   where
     go : (d : List ℕ) (n : Nesting) → IsText d → HasNesting d n → Fits (option_value d n) → option_value_from (flat (option_value d n)) ≡ Ok (d, n)
-    go [] Bare text has fits = empty_again
+    go [] Plain text has fits = empty_again
     go [] Nested text has fits = from_some [] text fits
-    go (c ∷ d) Bare text has fits = from_some (c ∷ d) text fits
+    go (c ∷ d) Plain text has fits = from_some (c ∷ d) text fits
     go (c ∷ d) Nested text has fits = absurd (cc has)
 
 option_value_reads : ReadsWhole IsOptionValue (λ x. option_value x.0 x.1) option_value_from

@@ -1,11 +1,11 @@
 -- Points are read as they are spelled.
-use Rattle.std.proofs.Common.{◌≡◌, ℕ, ◌+◌, ◌*◌, ◌/◌, ◌%◌, ◌≤◌, true, false, cond, eqb, ltb, List, [], ◌∷◌, length, Ok, Err, refl, subst, ◌∙◌, arith, inl, inr, ◌&&◌, ◌||◌}
+use Rattle.std.proofs.Common.{◌≡◌, ℕ, ◌+◌, ◌*◌, ◌/◌, ◌%◌, ◌≤◌, true, false, cond, eqb, ltb, List, [], ◌∷◌, length, Ok, Err, refl, subst, arith, inl, inr, ◌&&◌, ◌||◌}
 use Rattle.std.proofs.lemmas.Bool.{and_parts, and_from, or_cases, or_left, or_right, eqb-true, eq-eqb, le-ltb}
 use Rattle.sshkey_model.specs.Parts.{bytes}
-use Rattle.sshkey_model.specs.Reading.{Length, UnknownAlgorithm, EcdsaEncoding, ◌>>=◌, string_at, checked_at}
+use Rattle.sshkey_model.specs.Reading.{Length, AlgorithmUnknown, Ecdsa, ◌>>=◌, checked_at}
 use Rattle.sshkey_model.specs.Texts.{string}
 use Rattle.sshkey_model.specs.Names.{Curve, Nistp256, Nistp384, Nistp521}
-use Rattle.sshkey_model.specs.Points.{field_size, is_point, IsPoint, curve_eq, of_curve, curve_of_size, point_curve, point_from, p256_point_from}
+use Rattle.sshkey_model.specs.Points.{field_size, is_point, IsPoint, curve_eq, of_curve, curve_of_size, point_curve, point_from, p256_point_from, IsPointOf, point_at}
 use Rattle.sshkey_model.proofs.CombinedReaders.{bind_ok, ok_is, done, passed, chosen, ReadsFront, Checks, Any, kept, kept_bytes, checked_reads, checked_string_reads}
 
 sized : (n : ℕ) (c : Curve) → curve_of_size n ≡ Ok c → n ≡ field_size c
@@ -26,9 +26,6 @@ whole_size Nistp256 = refl
 whole_size Nistp384 = refl
 whole_size Nistp521 = refl
 
-abbrev pub IsPointOf : Curve × List ℕ → Type 0
-IsPointOf x = is_point (field_size x.0) x.1 ≡ true
-
 pub point_takes : (b : List ℕ) (c : Curve) → point_curve b ≡ Ok c → is_point (field_size c) b ≡ true
 point_takes [] c e = absurd cc
 point_takes (tag ∷ rest) c e =
@@ -43,9 +40,9 @@ point_takes (tag ∷ rest) c e =
       ]
     ]
   where
-    both : (n : ℕ) (c : Curve) → (curve_of_size (n / 2) >>= λ c. cond (eqb (n % 2) 0) (Ok c) (Err EcdsaEncoding)) ≡ Ok c → n ≡ 2 * field_size c
+    both : (n : ℕ) (c : Curve) → (curve_of_size (n / 2) >>= λ c. cond (eqb (n % 2) 0) (Ok c) (Err Ecdsa)) ≡ Ok c → n ≡ 2 * field_size c
     both n c e =
-        let x = bind_ok (curve_of_size (n / 2)) (λ c. cond (eqb (n % 2) 0) (Ok c) (Err EcdsaEncoding)) c e in
+        let x = bind_ok (curve_of_size (n / 2)) (λ c. cond (eqb (n % 2) 0) (Ok c) (Err Ecdsa)) c e in
         elim (chosen (eqb (n % 2) 0) _ _ _ x.2) [
           | inl even ↦ let half = sized (n / 2) x.0 x.1 in let zero_ = eqb-true _ _ even.0 in subst (λ (z : Curve). n ≡ 2 * field_size z) (ok_is x.0 c even.1) (omega arith)
           | inr odd ↦ absurd (cc odd.1)
@@ -66,7 +63,7 @@ point_again (tag ∷ rest) c is =
           (rw (is4, len) (double c), omega arith)
     ]
   where
-    double : (c : Curve) → (curve_of_size (2 * field_size c / 2) >>= λ d. cond (eqb (2 * field_size c % 2) 0) (Ok d) (Err EcdsaEncoding)) ≡ Ok c
+    double : (c : Curve) → (curve_of_size (2 * field_size c / 2) >>= λ d. cond (eqb (2 * field_size c % 2) 0) (Ok d) (Err Ecdsa)) ≡ Ok c
     double Nistp256 = refl
     double Nistp384 = refl
     double Nistp521 = refl
@@ -106,7 +103,7 @@ pub p256_point_checks : Checks Any bytes (IsPoint Nistp256) bytes p256_point_fro
 p256_point_checks = record { takes = there; again = back }
   where
     there : (b x : List ℕ) → Any b → p256_point_from b ≡ Ok x → (is_point 32 x ≡ true) × (bytes b ≡ bytes x)
-    there b x was e = (kept_bytes (is_point 32) EcdsaEncoding).takes b x tt (passed (ltb 65 (length b)) Length (cond (is_point 32 b) (done b) (Err EcdsaEncoding)) x e).1
+    there b x was e = (kept_bytes (is_point 32) Ecdsa).takes b x tt (passed (ltb 65 (length b)) Length (cond (is_point 32 b) (done b) (Err Ecdsa)) x e).1
 
     back : (x : List ℕ) → is_point 32 x ≡ true → (b : List ℕ) × Any b × (p256_point_from b ≡ Ok x) × (bytes b ≡ bytes x)
     back x is =
@@ -114,6 +111,9 @@ p256_point_checks = record { takes = there; again = back }
         let small : ltb 65 (length x) ≡ false = le-ltb _ _ (omega arith) in
         (x, tt, rw (small, is) refl, refl)
 
+pub point_reads : ReadsFront IsPointOf (λ x. string x.1) point_at
+point_reads = checked_string_reads point_checks
+
 -- a point string of the stated curve
-pub of_curve_reads : (stated : Curve) → ReadsFront (λ x. IsPointOf x × (curve_eq x.0 stated ≡ true)) (λ x. string x.1) (checked_at (of_curve stated) (checked_at point_from string_at))
-of_curve_reads stated = checked_reads (kept (λ x. curve_eq x.0 stated) UnknownAlgorithm) (checked_string_reads point_checks)
+pub of_curve_reads : (stated : Curve) → ReadsFront (λ x. IsPointOf x × (curve_eq x.0 stated ≡ true)) (λ x. string x.1) (checked_at (of_curve stated) point_at)
+of_curve_reads stated = checked_reads (kept (λ x. curve_eq x.0 stated) AlgorithmUnknown) point_reads

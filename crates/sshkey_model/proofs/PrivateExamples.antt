@@ -12,7 +12,7 @@ use Rattle.sshkey_model.specs.Keys.{ed25519_at, key_at}
 use Rattle.sshkey_model.specs.KeyDerivation.{cipher_at, kdf_algorithm_at, bcrypt_options_at, kdf_at}
 use Rattle.sshkey_model.specs.KeyPairs.{KeyPairChoices, plain_pair, scalar_at, any_ecdsa_pair_at, ecdsa_pair_at, ed25519_pair_at, rsa_private_at, rsa_pair_at, keypair_at}
 use Rattle.sshkey_model.specs.PrivateKeys.{UnencryptedKey, end_padding, IsPrivateKey, HasPrivateKeyPlaces, plain_private_key, normal_private_key, private_part_at, padded_from, encrypted_at, private_key_at, decoded_private_key_at}
-use Rattle.sshkey_model.specs.PrivateExamples.{CipherTable, UnknownCipher, PaddingLengths, KdfHeaders, KdfOptions, FirstBits, WrittenScalars, ReadScalars, RefusedScalars, Ed25519Pairs, RsaPairs, EcdsaPairs, WrittenPairs, RefusedFronts, Checkints, example_pair, example_key, example_bytes, WrittenKey, ReadKey, RefusedParts, RefusedPaddings, PaddingEdges, EncryptedKeys, RefusedEncryptedKeys, Tags}
+use Rattle.sshkey_model.specs.PrivateExamples.{CipherTable, UnknownCipher, PaddingLengths, KdfHeaders, KdfOptions, FirstBits, WrittenScalars, ReadScalars, ReadShortScalars, RefusedScalars, Ed25519Pairs, RsaPairs, EcdsaPairs, WrittenPairs, RefusedFronts, Checkints, example_pair, example_key, example_bytes, WrittenKey, ReadKey, RefusedParts, RefusedPaddings, PaddingEdges, EncryptedKeys, RefusedEncryptedKeys, Tags}
 use Rattle.sshkey_model.proofs.OptionReaders.{no_text}
 use Rattle.sshkey_model.proofs.TextReaders.{text_reads}
 use Rattle.sshkey_model.proofs.PrivateKeyReaders.{decoder, whole_private_key_reads}
@@ -43,12 +43,16 @@ unfolding flat
 written_scalars = (refl, refl, refl, refl)
 
 pub read_scalars : ReadScalars
-unfolding scalar_at string_at number_at bytes_at
+unfolding scalar_at box_at number_at bytes_at
 read_scalars = (refl, refl, refl, refl, refl, refl)
 
+pub read_short_scalars : ReadShortScalars
+unfolding scalar_at box_at number_at bytes_at flat
+read_short_scalars = (refl, refl, refl, refl, refl, refl, refl)
+
 pub refused_scalars : RefusedScalars
-unfolding scalar_at string_at number_at bytes_at
-refused_scalars = (refl, refl, refl)
+unfolding scalar_at box_at number_at bytes_at
+refused_scalars = (refl, refl, refl, refl, refl, refl)
 
 pub ed25519_pairs : Ed25519Pairs
 unfolding ed25519_pair_at ed25519_at box_at number_at bytes_at
@@ -59,7 +63,7 @@ unfolding flat keypair_at algorithm_at rsa_pair_at rsa_private_at mpint_at strin
 rsa_pairs = (refl, refl)
 
 pub ecdsa_pairs : EcdsaPairs
-unfolding any_ecdsa_pair_at ecdsa_pair_at curve_at scalar_at string_at number_at bytes_at named
+unfolding any_ecdsa_pair_at ecdsa_pair_at curve_at scalar_at box_at string_at number_at bytes_at named
 ecdsa_pairs = (refl, refl, refl, refl)
 
 pub written_pairs : WrittenPairs

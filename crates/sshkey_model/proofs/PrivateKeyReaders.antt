@@ -4,7 +4,7 @@ use Rattle.std.specs.Int.{w32}
 use Rattle.std.proofs.lemmas.Bool.{eqb-true, eq-eqb, and_parts, and_from}
 use Rattle.std.proofs.lemmas.Slice.Eq.{bytes_eq-Decides}
 use Rattle.sshkey_model.specs.Parts.{Parts, bytes, number, box, ◌&◌, flat, Fits}
-use Rattle.sshkey_model.specs.Reading.{Fault, Length, Cryptographic, OtherPublicKey, TrailingKeyData, end_of, whole}
+use Rattle.sshkey_model.specs.Reading.{Fault, Length, Crypto, PublicKey, TrailingKeyData, end_of, whole}
 use Rattle.sshkey_model.specs.Grammar.{IsSpelled, spelled}
 use Rattle.sshkey_model.specs.Texts.{string}
 use Rattle.sshkey_model.specs.Points.{curve_eq}
@@ -81,7 +81,7 @@ private_part_reads public = same_front (checked_reads (to_form
     (λ a. (record { checkint = a.0; pair = a.1.1.0.0; comment = a.1.1.1 }, a.1.1.0.1))
     (λ a h. ((record { pair = h.1.1.0.0.is; comment = h.1.1.1 }, h.1.1.0.0.place, same_key _ public h.1.1.0.1), refl))
     (λ x h. ((x.0.checkint, (x.0.checkint, ((x.0.pair, x.1), x.0.comment))), (tt, (refl, ((record { is = h.0.pair; place = h.1 }, mine x.0.pair h.2), h.0.comment))), refl, refl)))
-    (then_reads (number_reads w32 wide32) (λ n. then_reads (checked_reads (equal_checks n Cryptographic) (number_reads w32 wide32)) (λ _. then_reads (checked_reads (kept (λ x. key_eq (public_half x.0) public) OtherPublicKey) keypair_reads) (λ _. text_reads))))) (λ b. simp bind_assoc)
+    (then_reads (number_reads w32 wide32) (λ n. then_reads (checked_reads (equal_checks n Crypto) (number_reads w32 wide32)) (λ _. then_reads (checked_reads (kept (λ x. key_eq (public_half x.0) public) PublicKey) keypair_reads) (λ _. text_reads))))) (λ b. simp bind_assoc)
   where
     mine : (k : KeyPair) → public_half k ≡ public → key_eq (public_half k) public ≡ true
     mine k e = subst (λ (z : Key). key_eq (public_half k) z ≡ true) e (key_itself (public_half k))
@@ -110,7 +110,7 @@ unencrypted_reads public = checked_reads (to_form (λ a. (Unencrypted a.0, a.1))
 blocks_checks : (c : Cipher) → Checks Any bytes (λ b. length b % block_size c ≡ 0) bytes (blocks_from c)
 blocks_checks c = record {
   takes = λ a b was e.
-      let h = met (eqb (length a % block_size c) 0) Cryptographic (Ok a) b e in
+      let h = met (eqb (length a % block_size c) 0) Crypto (Ok a) b e in
       let same : a ≡ b = ok_is a b h.1 in
       (subst (λ (z : List ℕ). length z % block_size c ≡ 0) same (eqb-true _ _ h.0), ap bytes same);
   again = λ b is. (b, tt, (let k = eq-eqb (length b % block_size c) 0 is in rw k refl), refl);

@@ -2,7 +2,7 @@
 use Rattle.std.proofs.Common.{◌≡◌, ℕ, ltb, Bool, true, false, cond, List, length, Ok, Err, refl, subst, ap}
 use Rattle.std.specs.Int.{w32}
 use Rattle.sshkey_model.specs.Parts.{bytes, number, box, ◌&◌}
-use Rattle.sshkey_model.specs.Reading.{InvalidNamespace, UnsupportedVersion}
+use Rattle.sshkey_model.specs.Reading.{Namespace, Version}
 use Rattle.sshkey_model.specs.Grammar.{IsSpelled, spelled}
 use Rattle.sshkey_model.specs.Texts.{string}
 use Rattle.sshkey_model.specs.Names.{hash}
@@ -19,13 +19,13 @@ version_reads : ReadsFront (λ n. Any n × (ltb n 2 ≡ true)) (number w32) vers
 unfolding version_at
 version_reads = checked_reads (record { takes = λ a b was e. split a (ltb a 2) b refl e; again = λ b is. (b, tt, rw is.1 refl, refl) }) (number_reads w32 wide32)
   where
-    split : (a : ℕ) (t : Bool) (b : ℕ) → ltb a 2 ≡ t → cond t (Ok a) (Err (UnsupportedVersion a)) ≡ done b → (Any b × (ltb b 2 ≡ true)) × (number w32 a ≡ number w32 b)
+    split : (a : ℕ) (t : Bool) (b : ℕ) → ltb a 2 ≡ t → cond t (Ok a) (Err (Version a)) ≡ done b → (Any b × (ltb b 2 ≡ true)) × (number w32 a ≡ number w32 b)
     split a true b is e = subst (λ (z : ℕ). (Any z × (ltb z 2 ≡ true)) × (number w32 a ≡ number w32 z)) (ok_is a b e) ((tt, is), refl)
     split a false b is e = absurd cc
 
 namespace_reads : ReadsFront IsNamespace string namespace_at
 unfolding namespace_at
-namespace_reads = checked_reads (kept (λ t. ltb 0 (length t)) InvalidNamespace) text_reads
+namespace_reads = checked_reads (kept (λ t. ltb 0 (length t)) Namespace) text_reads
 
 pub ssh_signature_reads : ReadsFront (IsSpelled IsSshSignature HasSshSignaturePlaces) (spelled ssh_signature) ssh_signature_at
 unfolding ssh_signature_at

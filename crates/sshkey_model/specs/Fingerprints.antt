@@ -12,9 +12,14 @@ abbrev pub digest : Hash → List ℕ → List ℕ
 digest Sha256 bytes = sha256 bytes
 digest Sha512 bytes = sha512 bytes
 
+-- A digest, and the hash that it is by.
+pub record Fingerprint : Type 0 where
+  pub hash : Hash
+  pub digest : List ℕ
+
 -- The digest of the key's normal form, whatever bytes it was read from.
-abbrev pub fingerprint : Hash → Key → List ℕ
-fingerprint h k = digest h (flat (normal_key k))
+abbrev pub fingerprint : Hash → Key → Fingerprint
+fingerprint h k = record { hash = h; digest = digest h (flat (normal_key k)) }
 
 abbrev pub fingerprint_prefix : Hash → List ℕ
 fingerprint_prefix Sha256 = codes "SHA256:"
@@ -25,4 +30,4 @@ abbrev pub digest_text : Hash → List ℕ → List ℕ
 digest_text h d = fingerprint_prefix h ++ encode_of standard_no_pad d
 
 abbrev pub fingerprint_text : Hash → Key → List ℕ
-fingerprint_text h k = digest_text h (fingerprint h k)
+fingerprint_text h k = digest_text h (fingerprint h k).digest

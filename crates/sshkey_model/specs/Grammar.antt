@@ -25,6 +25,10 @@ pub record IsSpelled {V S : Type 0} (Is : V → Type 0) (HasPlace : V → S → 
 abbrev pub spelled : {V S : Type 0} → (V → S → Parts) → V × S → Parts
 spelled spell x = spell x.0 x.1
 
+-- The bytes spell the value as the choices say.
+abbrev pub SpellsAs : {V S : Type 0} → (V → Type 0) → (V → S → Type 0) → (V → S → Parts) → V × S → List ℕ → Type 0
+SpellsAs Is HasPlace spell = Spells (IsSpelled Is HasPlace) (spelled spell)
+
 -- the value without its choices
 abbrev pub value_at : {V S : Type 0} → Front (V × S) → Front V
 value_at read b = do

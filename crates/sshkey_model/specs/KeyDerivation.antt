@@ -2,7 +2,7 @@
 use Rattle.std.specs.Prelude.{ℕ, ◌-◌, ◌%◌, List, [], ◌∷◌, Result, Ok, Err, ◌==◌, if◌then◌else◌, codes}
 use Rattle.std.specs.Int.{w32}
 use Rattle.sshkey_model.specs.Parts.{Parts, number, box, ◌&◌}
-use Rattle.sshkey_model.specs.Reading.{Fault, UnknownAlgorithm, ◌>>=◌, Front, whole, box_at, string_at, number_at, checked_at}
+use Rattle.sshkey_model.specs.Reading.{Fault, AlgorithmUnknown, ◌>>=◌, Front, whole, box_at, string_at, number_at, checked_at}
 use Rattle.sshkey_model.specs.Texts.{string}
 use Rattle.sshkey_model.specs.Names.{named, or_label}
 
@@ -95,7 +95,7 @@ unfoldable pub kdf_algorithm_at : Front KdfAlgorithm
 kdf_algorithm_at = checked_at (λ n. or_label (named kdf_name kdf_algorithms n)) string_at
 
 abbrev pub no_options : ℕ → Result Kdf Fault
-no_options n = if n == 0 then Ok NoKdf else Err UnknownAlgorithm
+no_options n = if n == 0 then Ok NoKdf else Err AlgorithmUnknown
 
 unfoldable pub bcrypt_options_at : Front BcryptOptions
 bcrypt_options_at b = do

@@ -2,7 +2,7 @@
 use Rattle.std.specs.Prelude.{◌≡◌, ℕ, List, [], ◌∷◌, ◌++◌, length, take, replicate, None, Ok, Err, codes}
 use Rattle.sshkey_model.specs.HexText.{hex}
 use Rattle.sshkey_model.specs.Parts.{flat}
-use Rattle.sshkey_model.specs.Reading.{Length, CharacterEncoding, Label, TrailingData, FormatEncoding, UnknownAlgorithm, Cryptographic, EcdsaEncoding, whole}
+use Rattle.sshkey_model.specs.Reading.{Fault, Length, CharacterEncoding, Label, TrailingData, FormatEncoding, AlgorithmUnknown, Crypto, whole}
 use Rattle.sshkey_model.specs.Names.{Nistp256, Algorithm}
 use Rattle.sshkey_model.specs.Keys.{Key, Dsa, Ecdsa, Ed25519, Rsa, SkEcdsa, SkEd25519, Opaque, Plain, Head256, Head512, key, normal_key, body, body_at, key_at}
 
@@ -93,13 +93,13 @@ p384_string = hex "00000031 03" ++ replicate 48 9
 abbrev pub EcdsaKeys : Type 0
 EcdsaKeys = (key_at (hex "00000013 65636473612d736861322d6e69737470323536" ++ nistp256_string ++ p256_string) ≡ Ok ((Ecdsa Nistp256 p256_point, Plain), []))
     × (body_at (Algorithm.Ecdsa Nistp256) (nistp256_string ++ p256_string) ≡ Ok (Ecdsa Nistp256 p256_point, []))
-    × (body_at (Algorithm.Ecdsa Nistp256) (nistp256_string ++ p384_string) ≡ Err UnknownAlgorithm)
-    × (body_at (Algorithm.Ecdsa Nistp256) (nistp384_string ++ p256_string) ≡ Err UnknownAlgorithm)
-    × (body_at (Algorithm.Ecdsa Nistp256) (nistp384_string ++ p384_string) ≡ Err UnknownAlgorithm)
+    × (body_at (Algorithm.Ecdsa Nistp256) (nistp256_string ++ p384_string) ≡ Err AlgorithmUnknown)
+    × (body_at (Algorithm.Ecdsa Nistp256) (nistp384_string ++ p256_string) ≡ Err AlgorithmUnknown)
+    × (body_at (Algorithm.Ecdsa Nistp256) (nistp384_string ++ p384_string) ≡ Err AlgorithmUnknown)
     × (body_at (Algorithm.Ecdsa Nistp256) (nistp224_string ++ p256_string) ≡ Err Label)
     × (body_at (Algorithm.Ecdsa Nistp256) (nistp256_string ++ hex "00000000") ≡ Err Length)
-    × (body_at (Algorithm.Ecdsa Nistp256) (nistp256_string ++ hex "00000001 00") ≡ Err UnknownAlgorithm)
-    × (body_at (Algorithm.Ecdsa Nistp256) (nistp384_string ++ hex "00000001 07") ≡ Err EcdsaEncoding)
+    × (body_at (Algorithm.Ecdsa Nistp256) (nistp256_string ++ hex "00000001 00") ≡ Err AlgorithmUnknown)
+    × (body_at (Algorithm.Ecdsa Nistp256) (nistp384_string ++ hex "00000001 07") ≡ Err Fault.Ecdsa)
 
 -- ---- security keys
 
@@ -119,9 +119,9 @@ sk_ed25519_key = SkEd25519 (record { key = ed25519_point; application = [] })
 -- The curve is P-256, then a point of at most 65 bytes, then a text.
 abbrev pub SecurityKeysEcdsa : Type 0
 SecurityKeysEcdsa = (key_at (hex "00000022 736b2d65636473612d736861322d6e69737470323536406f70656e7373682e636f6d" ++ nistp256_string ++ p256_string ++ ssh_string) ≡ Ok ((sk_ecdsa_key, Plain), []))
-    × (body_at Algorithm.SkEcdsa (nistp384_string ++ p256_string ++ ssh_string) ≡ Err Cryptographic)
+    × (body_at Algorithm.SkEcdsa (nistp384_string ++ p256_string ++ ssh_string) ≡ Err Crypto)
     × (body_at Algorithm.SkEcdsa (nistp224_string ++ p256_string ++ ssh_string) ≡ Err Label)
-    × (body_at Algorithm.SkEcdsa (nistp256_string ++ p384_string ++ ssh_string) ≡ Err EcdsaEncoding)
+    × (body_at Algorithm.SkEcdsa (nistp256_string ++ p384_string ++ ssh_string) ≡ Err Fault.Ecdsa)
     × (body_at Algorithm.SkEcdsa (nistp256_string ++ hex "00000042 04" ++ replicate 65 9 ++ ssh_string) ≡ Err Length)
     × (body_at Algorithm.SkEcdsa (nistp256_string ++ p256_string ++ no_text) ≡ Err CharacterEncoding)
     × (body_at Algorithm.SkEcdsa (nistp256_string ++ p256_string) ≡ Err Length)
@@ -133,7 +133,7 @@ SecurityKeysEd25519 = (key_at (hex "0000001a 736b2d7373682d65643235353139406f706
     × (body_at Algorithm.SkEd25519 (hex "00000021" ++ replicate 33 1 ++ ssh_string) ≡ Err (TrailingData 1))
     × (body_at Algorithm.SkEd25519 (hex "00000020" ++ replicate 32 1 ++ no_text) ≡ Err CharacterEncoding)
 
--- ---- keys of somebody's own algorithm
+-- ---- keys of a private-use algorithm
 
 abbrev pub opaque_key : Key
 opaque_key = Opaque (codes "name@example.com") (hex "0102")

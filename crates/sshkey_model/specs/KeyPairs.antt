@@ -1,45 +1,47 @@
--- Key pairs (PROTOCOL.key; PROTOCOL.u2f; RFC 8709, section 4).
-use Rattle.std.specs.Prelude.{◌≡◌, ℕ, suc, ◌-◌, List, [], ◌∷◌, ◌++◌, length, take, drop, Bool, true, false, not, Option, Some, None, Result, Ok, Err, nat_lt, ◌==◌, if◌then◌else◌, bytes_eq, bit_xor}
+-- Key pairs (PROTOCOL.key; the SSH agent protocol, draft-miller-ssh-agent-04, section 4.2; PROTOCOL.u2f).
+use Rattle.std.specs.Prelude.{◌≡◌, ◌<◌, ℕ, suc, ◌-◌, List, [], ◌∷◌, ◌++◌, length, take, drop, replicate, Bool, true, false, ◌&&◌, not, Option, Some, None, Result, Ok, Err, nat_lt, ◌==◌, if◌then◌else◌, bytes_eq, bit_xor}
 use Rattle.std.specs.Int.{w8, w32, from_be_bytes}
 use Rattle.sshkey_model.specs.Parts.{Parts, number, ◌&◌}
-use Rattle.sshkey_model.specs.Reading.{Fault, Length, FormatEncoding, UnknownAlgorithm, Cryptographic, TrailingData, ◌>>=◌, Front, string_at, box_at, whole, number_at, bytes_at, checked_at}
+use Rattle.sshkey_model.specs.Reading.{Fault, Length, FormatEncoding, Crypto, TrailingData, ◌>>=◌, Front, Whole, string_at, box_at, whole, all_from, number_at, bytes_at, checked_at, checked_whole}
 use Rattle.sshkey_model.specs.Texts.{string, text_at}
-use Rattle.sshkey_model.specs.Names.{Curve, Nistp256, Algorithm, IsAlgorithm, algorithm, algorithm_at, curve, curve_at}
-use Rattle.sshkey_model.specs.Mpints.{IsMpint, mpint_at}
-use Rattle.sshkey_model.specs.Points.{field_size, curve_eq, point_from, p256_point_from, of_curve}
-use Rattle.sshkey_model.specs.Keys.{Key, Dsa, Ecdsa, Ed25519, Rsa, SkEcdsa, SkEd25519, Opaque, DsaKey, RsaKey, SecurityKey, key_algorithm, IsBody, Head, Plain, headed, HasHead, head_of, unhashed, ed25519_at, p256_only}
+use Rattle.sshkey_model.specs.Names.{Curve, Algorithm, IsAlgorithm, algorithm, algorithm_at, curve_at}
+use Rattle.sshkey_model.specs.Mpints.{is_mpint, IsMpint, of_positive, mpint_at}
+use Rattle.sshkey_model.specs.Points.{field_size, p256_point_from, of_curve, point_at}
+use Rattle.sshkey_model.specs.Keys.{Key, Dsa, Ecdsa, Ed25519, Rsa, SkEcdsa, SkEd25519, Opaque, DsaKey, RsaKey, SecurityKey, key_algorithm, body, IsBody, Head, headed, HasHead, head_of, unhashed, ed25519_at, p256_only, wanted_curve}
 
 -- ---- private scalars of ECDSA
 
 -- A private scalar has the size of the field. It is written with a 00 before it exactly if its first bit is set.
--- Third spelling: that 00 may be missing, or stand where none is wanted.
-pub data Sign : Type 0 where
-  Usual Without With : Sign
+-- Third spelling, by the zero bytes in front: that 00 may be missing, or stand where none is wanted; or the scalar stands as the shortest mpint of its number, where that has fewer bytes than the field.
+pub data LeadingZeros : Type 0 where
+  Plain WithoutZero WithZero Short : LeadingZeros
 
 -- the first bit is set
 abbrev pub is_high : List ℕ → Bool
 is_high [] = false
 is_high (b ∷ rest) = not (nat_lt b 0x80)
 
-abbrev pub signed_if : Bool → List ℕ → List ℕ
-signed_if true s = 0 ∷ s
-signed_if false s = s
+abbrev pub zero_if : Bool → List ℕ → List ℕ
+zero_if true s = 0 ∷ s
+zero_if false s = s
 
-abbrev pub scalar_bytes : List ℕ → Sign → List ℕ
-scalar_bytes s Usual = signed_if (is_high s) s
-scalar_bytes s Without = s
-scalar_bytes s With = 0 ∷ s
+abbrev pub scalar_bytes : List ℕ → LeadingZeros → List ℕ
+scalar_bytes s Plain = zero_if (is_high s) s
+scalar_bytes s WithoutZero = s
+scalar_bytes s WithZero = 0 ∷ s
+scalar_bytes s Short = of_positive s
 
-abbrev pub scalar : List ℕ → Sign → Parts
-scalar s sign = string (scalar_bytes s sign)
+abbrev pub scalar : List ℕ → LeadingZeros → Parts
+scalar s zeros = string (scalar_bytes s zeros)
 
 abbrev pub IsScalar : ℕ → List ℕ → Type 0
 IsScalar size s = length s ≡ size
 
-abbrev pub HasScalarPlaces : List ℕ → Sign → Type 0
-HasScalarPlaces s Usual = Unit {0}
-HasScalarPlaces s Without = is_high s ≡ true
-HasScalarPlaces s With = is_high s ≡ false
+abbrev pub HasScalarPlaces : List ℕ → LeadingZeros → Type 0
+HasScalarPlaces s Plain = Unit {0}
+HasScalarPlaces s WithoutZero = is_high s ≡ true
+HasScalarPlaces s WithZero = is_high s ≡ false
+HasScalarPlaces s Short = length (of_positive s) < length s
 
 -- ---- pairs
 
@@ -82,15 +84,19 @@ rsa_private r = string r.d & string r.iqmp & string r.p & string r.q
 abbrev pub security_private : SecurityPrivate → Parts
 security_private r = number w8 r.flags & string r.handle & string r.reserved
 
--- what stands behind the name
-abbrev pub pair : KeyPair → Sign → Parts
-pair (DsaPair k x) sign = string k.p & string k.q & string k.g & string k.y & string x
-pair (EcdsaPair c point s) sign = curve c & string point & scalar s sign
-pair (Ed25519Pair public private) sign = string public & string (private ++ public)
-pair (RsaPair k r) sign = string k.n & string k.e & rsa_private r
-pair (SkEcdsaPair k r) sign = curve Nistp256 & string k.key & string k.application & security_private r
-pair (SkEd25519Pair k r) sign = string k.key & string k.application & security_private r
-pair (OpaquePair name public private) sign = string public & string private
+abbrev pub private_half : KeyPair → LeadingZeros → Parts
+private_half (DsaPair k x) zeros = string x
+private_half (EcdsaPair c point s) zeros = scalar s zeros
+private_half (Ed25519Pair public private) zeros = string (private ++ public)
+private_half (RsaPair k r) zeros = rsa_private r
+private_half (SkEcdsaPair k r) zeros = security_private r
+private_half (SkEd25519Pair k r) zeros = security_private r
+private_half (OpaquePair name public private) zeros = string private
+
+-- What stands behind the name: the body of the public key, and then the private half. Of RSA, n stands before e here.
+abbrev pub pair : KeyPair → LeadingZeros → Parts
+pair (RsaPair k r) zeros = string k.n & string k.e & private_half (RsaPair k r) zeros
+pair k zeros = body (public_half k) & private_half k zeros
 
 abbrev pub IsRsaPrivate : RsaPrivate → Type 0
 IsRsaPrivate r = IsMpint r.d × IsMpint r.iqmp × IsMpint r.p × IsMpint r.q
@@ -105,9 +111,9 @@ IsPrivateHalf _ = Unit {0}
 abbrev pub IsPairBody : KeyPair → Type 0
 IsPairBody k = IsBody (public_half k) × IsPrivateHalf k
 
-abbrev pub HasPairPlaces : KeyPair → Sign → Type 0
-HasPairPlaces (EcdsaPair c point s) sign = HasScalarPlaces s sign
-HasPairPlaces _ sign = sign ≡ Usual
+abbrev pub HasPairPlaces : KeyPair → LeadingZeros → Type 0
+HasPairPlaces (EcdsaPair c point s) zeros = HasScalarPlaces s zeros
+HasPairPlaces _ zeros = zeros ≡ Plain
 
 -- a pair of ECDSA, of whichever curve
 abbrev pub IsEcdsaPair : KeyPair → Type 0
@@ -123,19 +129,19 @@ IsPairUnder a k = (pair_algorithm k ≡ unhashed a) × IsPairBody k
 -- The name of an RSA pair may be one with a hash, as that of a key.
 pub record KeyPairChoices : Type 0 where
   pub head : Head
-  pub sign : Sign
+  pub zeros : LeadingZeros
 
 abbrev pub plain_pair : KeyPairChoices
-plain_pair = record { head = Plain; sign = Usual }
+plain_pair = record { head = Head.Plain; zeros = Plain }
 
 abbrev pub IsKeyPair : KeyPair → Type 0
 IsKeyPair k = IsAlgorithm (pair_algorithm k) × IsPairBody k
 
 abbrev pub HasKeyPairPlaces : KeyPair → KeyPairChoices → Type 0
-HasKeyPairPlaces k s = HasHead (pair_algorithm k) s.head × HasPairPlaces k s.sign
+HasKeyPairPlaces k s = HasHead (pair_algorithm k) s.head × HasPairPlaces k s.zeros
 
 abbrev pub keypair : KeyPair → KeyPairChoices → Parts
-keypair k s = algorithm (headed s.head (pair_algorithm k)) & pair k s.sign
+keypair k s = algorithm (headed s.head (pair_algorithm k)) & pair k s.zeros
 
 abbrev pub normal_keypair : KeyPair → Parts
 normal_keypair k = keypair k plain_pair
@@ -171,62 +177,76 @@ written_checkint None k = derived_checkint k
 
 -- ---- reading
 
-abbrev pub unsigned_scalar : List ℕ → List ℕ × Sign
-unsigned_scalar s = if is_high s then (s, Without) else (s, Usual)
+-- a scalar with no byte before it
+abbrev pub scalar_alone : List ℕ → List ℕ × LeadingZeros
+scalar_alone s = if is_high s then (s, WithoutZero) else (s, Plain)
 
-abbrev pub signed_scalar : List ℕ → List ℕ × Sign
-signed_scalar s = if is_high s then (s, Usual) else (s, With)
+abbrev pub scalar_behind_zero : List ℕ → List ℕ × LeadingZeros
+scalar_behind_zero s = if is_high s then (s, Plain) else (s, WithZero)
 
-abbrev pub behind_sign : List ℕ → Result (List ℕ × Sign) Fault
-behind_sign [] = Err Length
-behind_sign (b ∷ s) = if b == 0 then Ok (signed_scalar s) else Err FormatEncoding
+abbrev pub after_zero : List ℕ → Result (List ℕ × LeadingZeros) Fault
+after_zero [] = Err Length
+after_zero (b ∷ s) = if b == 0 then Ok (scalar_behind_zero s) else Err FormatEncoding
 
--- so many bytes, or one more
-abbrev pub scalar_from : ℕ → List ℕ → Result (List ℕ × Sign) Fault
+-- an mpint that is not negative: it is empty, or its first bit is not set
+abbrev pub is_natural : List ℕ → Bool
+is_natural b = is_mpint b && not (is_high b)
+
+-- with zeros in front, as many as there is room for
+abbrev pub at_width : ℕ → List ℕ → List ℕ
+at_width size b = replicate (size - length b) 0 ++ b
+
+abbrev pub short_scalar : ℕ → List ℕ → Result (List ℕ × LeadingZeros) Fault
+short_scalar size b = if is_natural b then Ok (at_width size b, Short) else Err FormatEncoding
+
+-- so many bytes, or one more, or fewer
+abbrev pub scalar_from : ℕ → List ℕ → Result (List ℕ × LeadingZeros) Fault
 scalar_from size b =
-    if length b == size then Ok (unsigned_scalar b)
-    else if length b == suc size then behind_sign b
-    else if nat_lt (length b) size then Err Length
+    if length b == size then Ok (scalar_alone b)
+    else if length b == suc size then after_zero b
+    else if nat_lt (length b) size then short_scalar size b
     else Err (TrailingData (length b - size))
 
-unfoldable pub scalar_at : ℕ → Front (List ℕ × Sign)
-scalar_at size = checked_at (scalar_from size) string_at
+-- where there are two more, none is looked at
+abbrev pub scalar_whole : ℕ → Whole (List ℕ × LeadingZeros)
+scalar_whole size b =
+    if nat_lt (suc size) (length b) then Err (TrailingData (length b - size))
+    else checked_whole (scalar_from size) all_from b
 
-unfoldable pub dsa_pair_at : Front (KeyPair × Sign)
+unfoldable pub scalar_at : ℕ → Front (List ℕ × LeadingZeros)
+scalar_at size = box_at (scalar_whole size)
+
+unfoldable pub dsa_pair_at : Front (KeyPair × LeadingZeros)
 dsa_pair_at b = do
   p ← mpint_at b
   q ← mpint_at p.1
   g ← mpint_at q.1
   y ← mpint_at g.1
   x ← mpint_at y.1
-  Ok ((DsaPair (record { p = p.0; q = q.0; g = g.0; y = y.0 }) x.0, Usual), x.1)
+  Ok ((DsaPair (record { p = p.0; q = q.0; g = g.0; y = y.0 }) x.0, Plain), x.1)
 
 -- of whichever curve it states
-unfoldable pub any_ecdsa_pair_at : Front (KeyPair × Sign)
+unfoldable pub any_ecdsa_pair_at : Front (KeyPair × LeadingZeros)
 any_ecdsa_pair_at b = do
   stated ← curve_at b
-  point ← checked_at point_from string_at stated.1
+  point ← point_at stated.1
   on ← of_curve stated.0 point.0
   s ← scalar_at (field_size on.0) point.1
   Ok ((EcdsaPair on.0 on.1 s.0.0, s.0.1), s.1)
 
-abbrev pub wanted_curve : Curve → KeyPair × Sign → Result (KeyPair × Sign) Fault
-wanted_curve wanted (EcdsaPair c point s, sign) = if curve_eq c wanted then Ok (EcdsaPair c point s, sign) else Err UnknownAlgorithm
-wanted_curve wanted _ = Err UnknownAlgorithm
-
-unfoldable pub ecdsa_pair_at : Curve → Front (KeyPair × Sign)
-ecdsa_pair_at wanted = checked_at (wanted_curve wanted) any_ecdsa_pair_at
+unfoldable pub ecdsa_pair_at : Curve → Front (KeyPair × LeadingZeros)
+ecdsa_pair_at wanted = checked_at (wanted_curve (λ x. public_half x.0) wanted) any_ecdsa_pair_at
 
 -- the private bytes before the public ones
 abbrev pub private_before : List ℕ → List ℕ → Result (List ℕ) Fault
-private_before public b = if bytes_eq (drop 32 b) public then Ok (take 32 b) else Err Cryptographic
+private_before public b = if bytes_eq (drop 32 b) public then Ok (take 32 b) else Err Crypto
 
-unfoldable pub ed25519_pair_at : Front (KeyPair × Sign)
+unfoldable pub ed25519_pair_at : Front (KeyPair × LeadingZeros)
 ed25519_pair_at b = do
   public ← ed25519_at b
   both ← box_at (whole (bytes_at 64)) public.1
   private ← private_before public.0 both.0
-  Ok ((Ed25519Pair public.0 private, Usual), both.1)
+  Ok ((Ed25519Pair public.0 private, Plain), both.1)
 
 unfoldable pub rsa_private_at : Front RsaPrivate
 rsa_private_at b = do
@@ -236,12 +256,12 @@ rsa_private_at b = do
   q ← mpint_at p.1
   Ok (record { d = d.0; iqmp = iqmp.0; p = p.0; q = q.0 }, q.1)
 
-unfoldable pub rsa_pair_at : Front (KeyPair × Sign)
+unfoldable pub rsa_pair_at : Front (KeyPair × LeadingZeros)
 rsa_pair_at b = do
   n ← mpint_at b
   e ← mpint_at n.1
   r ← rsa_private_at e.1
-  Ok ((RsaPair (record { e = e.0; n = n.0 }) r.0, Usual), r.1)
+  Ok ((RsaPair (record { e = e.0; n = n.0 }) r.0, Plain), r.1)
 
 unfoldable pub security_private_at : Front SecurityPrivate
 security_private_at b = do
@@ -250,29 +270,29 @@ security_private_at b = do
   reserved ← string_at handle.1
   Ok (record { flags = flags.0; handle = handle.0; reserved = reserved.0 }, reserved.1)
 
-unfoldable pub sk_ecdsa_pair_at : Front (KeyPair × Sign)
+unfoldable pub sk_ecdsa_pair_at : Front (KeyPair × LeadingZeros)
 sk_ecdsa_pair_at b = do
   stated ← curve_at b
   c ← p256_only stated.0
   point ← checked_at p256_point_from string_at stated.1
   application ← text_at point.1
   r ← security_private_at application.1
-  Ok ((SkEcdsaPair (record { key = point.0; application = application.0 }) r.0, Usual), r.1)
+  Ok ((SkEcdsaPair (record { key = point.0; application = application.0 }) r.0, Plain), r.1)
 
-unfoldable pub sk_ed25519_pair_at : Front (KeyPair × Sign)
+unfoldable pub sk_ed25519_pair_at : Front (KeyPair × LeadingZeros)
 sk_ed25519_pair_at b = do
   key ← ed25519_at b
   application ← text_at key.1
   r ← security_private_at application.1
-  Ok ((SkEd25519Pair (record { key = key.0; application = application.0 }) r.0, Usual), r.1)
+  Ok ((SkEd25519Pair (record { key = key.0; application = application.0 }) r.0, Plain), r.1)
 
-unfoldable pub opaque_pair_at : List ℕ → Front (KeyPair × Sign)
+unfoldable pub opaque_pair_at : List ℕ → Front (KeyPair × LeadingZeros)
 opaque_pair_at name b = do
   public ← string_at b
   private ← string_at public.1
-  Ok ((OpaquePair name public.0 private.0, Usual), private.1)
+  Ok ((OpaquePair name public.0 private.0, Plain), private.1)
 
-abbrev pub pair_at : Algorithm → Front (KeyPair × Sign)
+abbrev pub pair_at : Algorithm → Front (KeyPair × LeadingZeros)
 pair_at Algorithm.Dsa b = dsa_pair_at b
 pair_at (Algorithm.Ecdsa c) b = ecdsa_pair_at c b
 pair_at Algorithm.Ed25519 b = ed25519_pair_at b
@@ -285,4 +305,4 @@ unfoldable pub keypair_at : Front (KeyPair × KeyPairChoices)
 keypair_at b = do
   name ← algorithm_at b
   k ← pair_at name.0 name.1
-  Ok ((k.0.0, record { head = head_of name.0; sign = k.0.1 }), k.1)
+  Ok ((k.0.0, record { head = head_of name.0; zeros = k.0.1 }), k.1)

@@ -1,11 +1,11 @@
 -- Public keys (RFC 4253, section 6.6; RFC 5656, section 3.1; RFC 8709, section 4; PROTOCOL.u2f).
-use Rattle.std.specs.Prelude.{◌≡◌, ℕ, List, length, ◌&&◌, Some, None, Result, Ok, Err, if◌then◌else◌}
+use Rattle.std.specs.Prelude.{◌≡◌, ℕ, List, length, Bool, false, Some, None, Result, Ok, Err, if◌then◌else◌}
 use Rattle.sshkey_model.specs.Parts.{Parts, ◌&◌}
-use Rattle.sshkey_model.specs.Reading.{Fault, UnknownAlgorithm, Cryptographic, ◌>>=◌, Front, string_at, box_at, whole, bytes_at, checked_at}
+use Rattle.sshkey_model.specs.Reading.{Fault, AlgorithmUnknown, Crypto, ◌>>=◌, Front, string_at, box_at, whole, bytes_at, checked_at}
 use Rattle.sshkey_model.specs.Texts.{string, IsText, text_at}
 use Rattle.sshkey_model.specs.Names.{Curve, Nistp256, Sha256, Sha512, Algorithm, IsAlgorithm, algorithm, algorithm_at, curve, curve_at}
 use Rattle.sshkey_model.specs.Mpints.{IsMpint, mpint_at}
-use Rattle.sshkey_model.specs.Points.{IsPoint, curve_eq, of_curve, point_from, p256_point_from}
+use Rattle.sshkey_model.specs.Points.{IsPoint, curve_eq, of_curve, point_at, p256_point_from}
 
 pub record DsaKey : Type 0 where
   pub p : List ℕ
@@ -114,17 +114,21 @@ dsa_at b = do
 unfoldable pub any_ecdsa_at : Front Key
 any_ecdsa_at b = do
   stated ← curve_at b
-  point ← checked_at point_from string_at stated.1
+  point ← point_at stated.1
   on ← of_curve stated.0 point.0
   Ok (Ecdsa on.0 on.1, point.1)
 
-abbrev pub wanted_curve : Curve → Key → Result Key Fault
-wanted_curve wanted (Ecdsa c point) = if curve_eq c wanted then Ok (Ecdsa c point) else Err UnknownAlgorithm
-wanted_curve wanted _ = Err UnknownAlgorithm
+abbrev pub has_curve : Curve → Key → Bool
+has_curve wanted (Ecdsa c point) = curve_eq c wanted
+has_curve wanted _ = false
+
+-- what was read, if its key has that curve
+abbrev pub wanted_curve : {A : Type 0} → (A → Key) → Curve → A → Result A Fault
+wanted_curve key_of wanted x = if has_curve wanted (key_of x) then Ok x else Err AlgorithmUnknown
 
 -- of the curve that the algorithm names
 unfoldable pub ecdsa_at : Curve → Front Key
-ecdsa_at wanted = checked_at (wanted_curve wanted) any_ecdsa_at
+ecdsa_at wanted = checked_at (wanted_curve (λ k. k) wanted) any_ecdsa_at
 
 unfoldable pub ed25519_at : Front (List ℕ)
 ed25519_at = box_at (whole (bytes_at 32))
@@ -137,7 +141,7 @@ rsa_at b = do
 
 abbrev pub p256_only : Curve → Result Curve Fault
 p256_only Nistp256 = Ok Nistp256
-p256_only _ = Err Cryptographic
+p256_only _ = Err Crypto
 
 unfoldable pub sk_ecdsa_at : Front Key
 sk_ecdsa_at b = do

@@ -3,7 +3,7 @@ use Rattle.std.specs.Prelude.{◌≡◌, ◌↔◌, ℕ, List, [], Ok}
 use Rattle.sshkey_model.specs.Parts.{Parts, flat, Fits}
 use Rattle.sshkey_model.specs.Reading.{Front}
 use Rattle.sshkey_model.specs.Names.{Hash}
-use Rattle.sshkey_model.specs.Certificates.{Unsigned, IsUnsigned, HasUnsignedPlaces, CertificateChoices, to_be_signed}
+use Rattle.sshkey_model.specs.Certificates.{SignedFields, AreSignedFields, HaveSignedPlaces, CertificateChoices, to_be_signed}
 use Rattle.sshkey_model.specs.SshSignatures.{signed_data}
 
 -- Two values have equal normal forms exactly if they are equal.
@@ -18,13 +18,17 @@ ReadBack {V} Is normal read = (v : V) → Is v → Fits (normal v) → read (fla
 abbrev pub ReadBackPlain : {V S : Type 0} → (V → Type 0) → (V → S → Parts) → (V → S) → Front (V × S) → Type 0
 ReadBackPlain {V} Is spell plain read = (v : V) → Is v → Fits (spell v (plain v)) → read (flat (spell v (plain v))) ≡ Ok ((v, plain v), [])
 
+-- Where a spelling fits, the normal form does.
+abbrev pub NormalFits : {V S : Type 0} → (V → Type 0) → (V → S → Type 0) → (V → S → Parts) → (V → Parts) → Type 0
+NormalFits {V} {S} Is HasPlace spell normal = (v : V) (s : S) → Is v → HasPlace v s → Fits (spell v s) → Fits (normal v)
+
 -- Equal signed bytes, in any spelling, are of certificates that are equal in all that is signed, and spelled alike.
 abbrev pub DetermineFields : Type 0
-DetermineFields = (c d : Unsigned) (s u : CertificateChoices) → IsUnsigned c → HasUnsignedPlaces c s → Fits (to_be_signed c s) → IsUnsigned d → HasUnsignedPlaces d u → Fits (to_be_signed d u) → flat (to_be_signed c s) ≡ flat (to_be_signed d u) → (c ≡ d) × (s ≡ u)
+DetermineFields = (c d : SignedFields) (s u : CertificateChoices) → AreSignedFields c → HaveSignedPlaces c s → Fits (to_be_signed c s) → AreSignedFields d → HaveSignedPlaces d u → Fits (to_be_signed d u) → flat (to_be_signed c s) ≡ flat (to_be_signed d u) → (c ≡ d) × (s ≡ u)
 
 -- No certificate's signed bytes, in any spelling, are what an SSH signature is over.
 abbrev pub AreApart : Type 0
-AreApart = (c : Unsigned) (s : CertificateChoices) (namespace reserved : List ℕ) (h : Hash) (digest : List ℕ) → IsUnsigned c → flat (to_be_signed c s) ≡ flat (signed_data namespace reserved h digest) → ⊥
+AreApart = (c : SignedFields) (s : CertificateChoices) (namespace reserved : List ℕ) (h : Hash) (digest : List ℕ) → AreSignedFields c → flat (to_be_signed c s) ≡ flat (signed_data namespace reserved h digest) → ⊥
 
 -- What an SSH signature is over determines its parts.
 abbrev pub DetermineSignedData : Type 0

@@ -10,15 +10,14 @@ pub mod Keys
 pub mod Signatures
 pub mod Options
 pub mod Certificates
-pub mod KeyDerivation
-pub mod KeyPairs
-pub mod PrivateKeys
 pub mod SshSignatures
 pub mod Fingerprints
 pub mod Verification
 pub mod Validity
 pub mod Lines
-pub mod LineCuts
+pub mod KeyDerivation
+pub mod KeyPairs
+pub mod PrivateKeys
 pub mod Laws
 pub mod HexText
 pub mod Computed
@@ -32,5 +31,6 @@ pub mod OptionExamples
 pub mod CertificateExamples
 pub mod ValidityExamples
 pub mod SshSignatureExamples
-pub mod PrivateExamples
 pub mod TextExamples
+pub mod LineExamples
+pub mod PrivateExamples

@@ -4,9 +4,13 @@ use Rattle.std.specs.Char.{is_ascii_alphanumeric}
 use Rattle.std.specs.Str.{trim_end}
 use Rattle.base64.specs.Engines.{standard}
 use Rattle.base64.specs.GeneralPurpose.{encode_of}
+use Rattle.sshkey_model.specs.Parts.{Parts, flat}
 use Rattle.sshkey_model.specs.Grammar.{SpellsWith}
+use Rattle.sshkey_model.specs.Texts.{IsText}
 use Rattle.sshkey_model.specs.Names.{algorithm_name}
-use Rattle.sshkey_model.specs.Keys.{Key, key_algorithm, IsKey, HasKeyPlaces, key}
+use Rattle.sshkey_model.specs.CertificateNames.{certificate_name}
+use Rattle.sshkey_model.specs.Keys.{Key, key_algorithm, IsKey, HasKeyPlaces, key, normal_key}
+use Rattle.sshkey_model.specs.Certificates.{Certificate, IsCertificate, HasCertificatePlaces, certificate, normal_certificate}
 
 abbrev pub space : ℕ
 space = 0x20
@@ -31,8 +35,9 @@ is_word_character c = is_ascii_alphanumeric c || c == 0x2b || c == 0x2d || c == 
 abbrev pub HasWordCharacters : List ℕ → Type 0
 HasWordCharacters word = EachIndex word (λ i. is_word_character (slice_index word i) ≡ true)
 
--- The text, without the white space at its end, is the line of that first word, blob and comment.
+-- A text that, without the white space at its end, is the line of that first word, blob and comment.
 pub record IsLine (text first blob comment : List ℕ) : Type 0 where
+  pub utf8 : IsText text
   pub is : trim_end text ≡ written first blob comment
   pub some_first : 0 < length first
   pub some_blob : 0 < length blob
@@ -44,6 +49,12 @@ pub record IsLineOf {V : Type 0} (first : V → List ℕ) (Spelling : V → List
   pub spelled : Spelling value blob
   pub line : IsLine text (first value) blob comment
 
+-- The text is a line of no value.
+abbrev pub IsNoLine : {V : Type 0} → (V → List ℕ) → (V → List ℕ → Type 0) → List ℕ → Type 0
+IsNoLine {V} first Spelling text = (value : V) (comment : List ℕ) → IsLineOf first Spelling text value comment → ⊥
+
+-- ---- keys and certificates
+
 -- A key's first word is the name of its algorithm.
 abbrev pub key_name : Key → List ℕ
 key_name k = algorithm_name (key_algorithm k)
@@ -51,6 +62,31 @@ key_name k = algorithm_name (key_algorithm k)
 abbrev pub IsKeyLine : List ℕ → Key → List ℕ → Type 0
 IsKeyLine = IsLineOf key_name (SpellsWith IsKey HasKeyPlaces key)
 
+-- the line of a key and a comment
+abbrev pub key_line : Key → List ℕ → List ℕ
+key_line k comment = written (key_name k) (flat (normal_key k)) comment
+
+-- That of a certificate is its name there.
+abbrev pub name_of_certificate : Certificate → List ℕ
+name_of_certificate c = certificate_name (key_algorithm c.signed.key)
+
+abbrev pub IsCertificateLine : List ℕ → Certificate → List ℕ → Type 0
+IsCertificateLine = IsLineOf name_of_certificate (SpellsWith IsCertificate HasCertificatePlaces certificate)
+
+-- the line of a certificate and a comment
+abbrev pub certificate_line : Certificate → List ℕ → List ℕ
+certificate_line c comment = written (name_of_certificate c) (flat (normal_certificate c)) comment
+
+-- ---- what the laws say
+
 -- A text is a line of one value at most, and with one comment.
 abbrev pub LinesDetermineValues : {V : Type 0} → (V → List ℕ) → (V → List ℕ → Type 0) → Type 0
 LinesDetermineValues {V} first Spelling = (text m n : List ℕ) (v w : V) → IsLineOf first Spelling text v m → IsLineOf first Spelling text w n → (v ≡ w) × (m ≡ n)
+
+-- What is read of a line is written as a line that is read back.
+abbrev pub LinesReadBack : {V : Type 0} → (V → List ℕ) → (V → List ℕ → Type 0) → (V → Parts) → Type 0
+LinesReadBack {V} first Spelling normal = (text comment : List ℕ) (v : V) → IsLineOf first Spelling text v comment → IsLineOf first Spelling (written (first v) (flat (normal v)) comment) v comment
+
+-- No text is a line of a key and one of a certificate.
+abbrev pub LinesAreApart : Type 0
+LinesAreApart = (text m n : List ℕ) (k : Key) (c : Certificate) → IsKeyLine text k m → IsCertificateLine text c n → ⊥

@@ -70,7 +70,7 @@ CertificateNames = IsCertificateName Dsa (codes "ssh-dss-cert-v01@openssh.com")
     × IsCertificateName SkEd25519 (codes "sk-ssh-ed25519-cert-v01@openssh.com")
     × (certified_from (codes "ssh-ed25519") ≡ Err Label)
 
--- ---- names of somebody's own
+-- ---- private-use names
 
 -- 64 bytes
 abbrev pub longest_name : List ℕ
@@ -131,7 +131,7 @@ OwnCertificateNames = IsCertificateName (Other (codes "name@example.com")) (code
     × (certified_from (codes "name" ++ hex "80" ++ codes "-cert-v01@example.com") ≡ Err Label)
     × (certificate_algorithm_at (hex "00000002 ffff") ≡ Err Label)
 
--- A name of somebody's own whose certificate name is a fixed one is none of a certificate's own key.
+-- A private-use name whose certificate name is a fixed one is none of a certificate's own key.
 abbrev pub TakenCertificateName : Type 0
 TakenCertificateName = (is_other_name (codes "ssh-ed25519@openssh.com") ≡ true)
     × (certificate_name (Other (codes "ssh-ed25519@openssh.com")) ≡ codes "ssh-ed25519-cert-v01@openssh.com")

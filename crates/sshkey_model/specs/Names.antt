@@ -39,7 +39,7 @@ pub data Algorithm : Type 0 where
   SkEcdsa SkEd25519 : Algorithm
   Other : List ℕ → Algorithm
 
--- RFC 4253, section 6.6; RFC 5656, section 3; RFC 8332, section 3; RFC 8709, section 4; PROTOCOL.u2f
+-- RFC 4253, section 6.6; RFC 5656, section 6.2; RFC 8332, section 3; RFC 8709, section 3; PROTOCOL.u2f
 abbrev pub algorithm_name : Algorithm → List ℕ
 algorithm_name Dsa = codes "ssh-dss"
 algorithm_name (Ecdsa Nistp256) = codes "ecdsa-sha2-nistp256"
@@ -71,7 +71,7 @@ unfoldable pub named : {A : Type 0} → (A → List ℕ) → List A → List ℕ
 named name [] t = None
 named name (a ∷ rest) t = if bytes_eq (name a) t then Some a else named name rest t
 
--- ---- names of somebody's own (RFC 4251, section 6)
+-- ---- private-use names (RFC 4251, section 6)
 
 abbrev pub at_sign : ℕ
 at_sign = 0x40

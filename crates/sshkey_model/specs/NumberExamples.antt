@@ -1,7 +1,7 @@
 -- Worked examples: mpints and points.
 use Rattle.std.specs.Prelude.{◌≡◌, ℕ, ◌+◌, ◌-◌, ◌*◌, List, [], ◌∷◌, replicate, true, false, Some, None, Ok, Err}
 use Rattle.sshkey_model.specs.HexText.{hex}
-use Rattle.sshkey_model.specs.Reading.{Length, FormatEncoding, UnknownAlgorithm, EcdsaEncoding}
+use Rattle.sshkey_model.specs.Reading.{Length, FormatEncoding, AlgorithmUnknown, Ecdsa}
 use Rattle.sshkey_model.specs.Names.{Curve, Nistp256, Nistp384, Nistp521}
 use Rattle.sshkey_model.specs.Mpints.{is_mpint, positive_part, of_positive, mpint_at}
 use Rattle.sshkey_model.specs.Points.{field_size, is_point, point_from, p256_point_from}
@@ -96,14 +96,14 @@ PointReading = (point_from (tagged 2 32) ≡ Ok (Nistp256, tagged 2 32))
     × (point_from (tagged 4 96) ≡ Ok (Nistp384, tagged 4 96))
     × (point_from (tagged 4 132) ≡ Ok (Nistp521, tagged 4 132))
     × (point_from [] ≡ Err Length)
-    × (point_from (hex "00") ≡ Err UnknownAlgorithm)
-    × (point_from (tagged 5 32) ≡ Err UnknownAlgorithm)
-    × (point_from (tagged 1 32) ≡ Err EcdsaEncoding)
-    × (point_from (tagged 6 64) ≡ Err EcdsaEncoding)
-    × (point_from (tagged 7 32) ≡ Err EcdsaEncoding)
+    × (point_from (hex "00") ≡ Err AlgorithmUnknown)
+    × (point_from (tagged 5 32) ≡ Err AlgorithmUnknown)
+    × (point_from (tagged 1 32) ≡ Err Ecdsa)
+    × (point_from (tagged 6 64) ≡ Err Ecdsa)
+    × (point_from (tagged 7 32) ≡ Err Ecdsa)
     × (point_from (tagged 2 31) ≡ Err Length)
     × (point_from (tagged 2 33) ≡ Err Length)
-    × (point_from (tagged 4 65) ≡ Err EcdsaEncoding)
+    × (point_from (tagged 4 65) ≡ Err Ecdsa)
     × (point_from (tagged 4 63) ≡ Err Length)
     × (point_from (tagged 4 66) ≡ Err Length)
     × (point_from (tagged 4 10) ≡ Err Length)
@@ -111,12 +111,12 @@ PointReading = (point_from (tagged 2 32) ≡ Ok (Nistp256, tagged 2 32))
 -- A point string has at most 133 bytes, and that of a security key 65: more is too long, whatever its tag.
 abbrev pub LongPoints : Type 0
 LongPoints = (point_from (tagged 4 133) ≡ Err Length)
-    × (point_from (tagged 7 132) ≡ Err EcdsaEncoding)
+    × (point_from (tagged 7 132) ≡ Err Ecdsa)
     × (point_from (tagged 7 133) ≡ Err Length)
     × (p256_point_from (tagged 2 32) ≡ Ok (tagged 2 32))
     × (p256_point_from (tagged 4 64) ≡ Ok (tagged 4 64))
-    × (p256_point_from (tagged 7 64) ≡ Err EcdsaEncoding)
+    × (p256_point_from (tagged 7 64) ≡ Err Ecdsa)
     × (p256_point_from (tagged 7 65) ≡ Err Length)
-    × (p256_point_from (tagged 0 32) ≡ Err EcdsaEncoding)
-    × (p256_point_from (tagged 5 32) ≡ Err EcdsaEncoding)
-    × (p256_point_from [] ≡ Err EcdsaEncoding)
+    × (p256_point_from (tagged 0 32) ≡ Err Ecdsa)
+    × (p256_point_from (tagged 5 32) ≡ Err Ecdsa)
+    × (p256_point_from [] ≡ Err Ecdsa)

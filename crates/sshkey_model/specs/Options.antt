@@ -10,10 +10,10 @@ pub record CertificateOption : Type 0 where
 
 -- Second spelling: an empty value may also be a box in the box.
 pub data Nesting : Type 0 where
-  Bare Nested : Nesting
+  Plain Nested : Nesting
 
 abbrev pub option_value : List ℕ → Nesting → Parts
-option_value [] Bare = nothing
+option_value [] Plain = nothing
 option_value v n = string v
 
 abbrev pub option : CertificateOption → Nesting → Parts
@@ -48,7 +48,7 @@ AreOptions os = IsChain Rises None os
 -- ---- a choice for each option
 
 abbrev pub HasNesting : List ℕ → Nesting → Type 0
-HasNesting value Bare = Unit {0}
+HasNesting value Plain = Unit {0}
 HasNesting value Nested = value ≡ []
 
 unfoldable pub HasOptionPlaces : List CertificateOption → List Nesting → Type 0
@@ -56,10 +56,10 @@ HasOptionPlaces [] [] = Unit {0}
 HasOptionPlaces (o ∷ os) (n ∷ ns) = HasNesting o.value n × HasOptionPlaces os ns
 HasOptionPlaces _ _ = ⊥
 
--- all bare
+-- all plain
 abbrev pub plain_nestings : List CertificateOption → List Nesting
 plain_nestings [] = []
-plain_nestings (o ∷ os) = Bare ∷ plain_nestings os
+plain_nestings (o ∷ os) = Plain ∷ plain_nestings os
 
 abbrev pub normal_options : List CertificateOption → Parts
 normal_options os = options os (plain_nestings os)
@@ -68,10 +68,10 @@ normal_options os = options os (plain_nestings os)
 
 abbrev pub nesting_of : List ℕ → Nesting
 nesting_of [] = Nested
-nesting_of (c ∷ rest) = Bare
+nesting_of (c ∷ rest) = Plain
 
 unfoldable pub option_value_from : Whole (List ℕ × Nesting)
-option_value_from [] = Ok ([], Bare)
+option_value_from [] = Ok ([], Plain)
 option_value_from (b ∷ rest) = whole text_at (b ∷ rest) >>= λ v. Ok (v, nesting_of v)
 
 abbrev pub option_before : Option (CertificateOption × Nesting) → Option CertificateOption

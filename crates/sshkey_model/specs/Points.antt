@@ -1,6 +1,6 @@
 -- Points of an elliptic curve (SEC 1, section 2.3.3; RFC 5656, section 3.1).
 use Rattle.std.specs.Prelude.{◌≡◌, ℕ, ◌*◌, ◌/◌, ◌%◌, List, [], ◌∷◌, length, Bool, true, false, ◌&&◌, ◌||◌, Result, Ok, Err, nat_lt, ◌==◌, if◌then◌else◌}
-use Rattle.sshkey_model.specs.Reading.{Fault, Length, UnknownAlgorithm, EcdsaEncoding, ◌>>=◌, Whole}
+use Rattle.sshkey_model.specs.Reading.{Fault, Length, AlgorithmUnknown, Ecdsa, ◌>>=◌, Front, Whole, string_at, checked_at}
 use Rattle.sshkey_model.specs.Names.{Curve, Nistp256, Nistp384, Nistp521}
 
 -- bytes of a coordinate
@@ -16,6 +16,10 @@ is_point size (tag ∷ rest) = ((tag == 2 || tag == 3) && length rest == size) |
 
 abbrev pub IsPoint : Curve → List ℕ → Type 0
 IsPoint c p = is_point (field_size c) p ≡ true
+
+-- a curve and a point of it
+abbrev pub IsPointOf : Curve × List ℕ → Type 0
+IsPointOf x = IsPoint x.0 x.1
 
 -- ---- reading
 
@@ -33,17 +37,21 @@ abbrev pub point_curve : List ℕ → Result Curve Fault
 point_curve [] = Err Length
 point_curve (tag ∷ rest) =
     if tag == 2 || tag == 3 then curve_of_size (length rest)
-    else if tag == 4 then (curve_of_size (length rest / 2) >>= λ c. if length rest % 2 == 0 then Ok c else Err EcdsaEncoding)
-    else if tag == 0 || tag == 5 then Err UnknownAlgorithm else Err EcdsaEncoding
+    else if tag == 4 then (curve_of_size (length rest / 2) >>= λ c. if length rest % 2 == 0 then Ok c else Err Ecdsa)
+    else if tag == 0 || tag == 5 then Err AlgorithmUnknown else Err Ecdsa
 
 -- a point string of at most 133 bytes, and its curve
 abbrev pub point_from : Whole (Curve × List ℕ)
 point_from b = if nat_lt 133 (length b) then Err Length else (point_curve b >>= λ c. Ok (c, b))
 
+-- a point of whichever curve
+abbrev pub point_at : Front (Curve × List ℕ)
+point_at = checked_at point_from string_at
+
 -- a point string of P-256
 abbrev pub p256_point_from : Whole (List ℕ)
-p256_point_from b = if nat_lt 65 (length b) then Err Length else if is_point 32 b then Ok b else Err EcdsaEncoding
+p256_point_from b = if nat_lt 65 (length b) then Err Length else if is_point 32 b then Ok b else Err Ecdsa
 
 -- the point, if it is of the stated curve
 abbrev pub of_curve : Curve → Curve × List ℕ → Result (Curve × List ℕ) Fault
-of_curve stated point = if curve_eq point.0 stated then Ok point else Err UnknownAlgorithm
+of_curve stated point = if curve_eq point.0 stated then Ok point else Err AlgorithmUnknown

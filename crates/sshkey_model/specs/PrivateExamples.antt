@@ -1,11 +1,11 @@
 -- Worked examples of key derivations, key pairs and private keys.
 use Rattle.std.specs.Prelude.{◌≡◌, ℕ, List, [], ◌∷◌, ◌++◌, length, map, replicate, true, false, Some, None, Ok, Err, codes}
 use Rattle.sshkey_model.specs.Parts.{flat}
-use Rattle.sshkey_model.specs.Reading.{Length, Label, FormatEncoding, UnknownAlgorithm, Cryptographic, OtherPublicKey, TrailingData, TrailingKeyData, whole}
+use Rattle.sshkey_model.specs.Reading.{Length, Label, FormatEncoding, AlgorithmUnknown, Crypto, PublicKey, TrailingData, TrailingKeyData, whole}
 use Rattle.sshkey_model.specs.Names.{Nistp256, Nistp384, Algorithm}
 use Rattle.sshkey_model.specs.Keys.{Ed25519, SecurityKey, Head512}
 use Rattle.sshkey_model.specs.KeyDerivation.{Cipher, Aes256Ctr, cipher_name, ciphers, block_size, tag_size, padding_length, cipher_at, Kdf, NoKdf, Bcrypt, kdf, kdf_at}
-use Rattle.sshkey_model.specs.KeyPairs.{SecurityPrivate, pair, Usual, Without, With, is_high, scalar, scalar_at, KeyPair, DsaPair, EcdsaPair, Ed25519Pair, RsaPair, SkEcdsaPair, SkEd25519Pair, OpaquePair, pair_at, keypair_at, normal_keypair, derived_checkint, written_checkint}
+use Rattle.sshkey_model.specs.KeyPairs.{SecurityPrivate, pair, Plain, WithoutZero, WithZero, Short, is_high, scalar, scalar_at, KeyPair, DsaPair, EcdsaPair, Ed25519Pair, RsaPair, SkEcdsaPair, SkEd25519Pair, OpaquePair, pair_at, keypair_at, normal_keypair, derived_checkint, written_checkint}
 use Rattle.sshkey_model.specs.PrivateKeys.{PrivateKey, Encrypted, new_private_key, plain_private_key, normal_private_key, padding, end_padding, padded_from, private_part_at, decoded_private_key_at}
 
 -- ---- ciphers and key derivation
@@ -40,7 +40,7 @@ no_kdf_bytes last = 0 ∷ 0 ∷ 0 ∷ 4 ∷ 110 ∷ 111 ∷ 110 ∷ 101 ∷ 0 �
 
 abbrev pub KdfHeaders : Type 0
 KdfHeaders = (flat (kdf example_kdf) ≡ example_kdf_bytes) × (length example_kdf_bytes ≡ 38) × (kdf_at example_kdf_bytes ≡ Ok (example_kdf, []))
-    × (flat (kdf NoKdf) ≡ no_kdf_bytes 0) × (kdf_at (no_kdf_bytes 0) ≡ Ok (NoKdf, [])) × (kdf_at (no_kdf_bytes 1) ≡ Err UnknownAlgorithm)
+    × (flat (kdf NoKdf) ≡ no_kdf_bytes 0) × (kdf_at (no_kdf_bytes 0) ≡ Ok (NoKdf, [])) × (kdf_at (no_kdf_bytes 1) ≡ Err AlgorithmUnknown)
     × (kdf_at (0 ∷ 0 ∷ 0 ∷ 6 ∷ codes "scrypt" ++ 0 ∷ 0 ∷ 0 ∷ 0 ∷ []) ≡ Err Label)
 
 -- a byte too much among the options of bcrypt, and one too few
@@ -64,21 +64,29 @@ high_scalar = 0x80 ∷ replicate 31 1
 abbrev pub short_string : ℕ → List ℕ → List ℕ
 short_string n b = 0 ∷ 0 ∷ 0 ∷ n ∷ b
 
--- written with the sign byte exactly if the first bit is set
+-- written with 00 before them exactly if the first bit is set
 abbrev pub WrittenScalars : Type 0
-WrittenScalars = (flat (scalar low_scalar Usual) ≡ short_string 32 low_scalar) × (flat (scalar high_scalar Usual) ≡ short_string 33 (0 ∷ high_scalar))
-    × (flat (scalar (replicate 32 0xff) Usual) ≡ short_string 33 (0 ∷ replicate 32 0xff)) × (flat (scalar (replicate 32 1) Usual) ≡ short_string 32 (replicate 32 1))
+WrittenScalars = (flat (scalar low_scalar Plain) ≡ short_string 32 low_scalar) × (flat (scalar high_scalar Plain) ≡ short_string 33 (0 ∷ high_scalar))
+    × (flat (scalar (replicate 32 0xff) Plain) ≡ short_string 33 (0 ∷ replicate 32 0xff)) × (flat (scalar (replicate 32 1) Plain) ≡ short_string 32 (replicate 32 1))
 
--- read with the sign byte and without it
+-- read with that 00 and without it
 abbrev pub ReadScalars : Type 0
-ReadScalars = (scalar_at 32 (short_string 32 low_scalar) ≡ Ok ((low_scalar, Usual), [])) × (scalar_at 32 (short_string 33 (0 ∷ low_scalar)) ≡ Ok ((low_scalar, With), []))
-    × (scalar_at 32 (short_string 32 high_scalar) ≡ Ok ((high_scalar, Without), [])) × (scalar_at 32 (short_string 33 (0 ∷ high_scalar)) ≡ Ok ((high_scalar, Usual), []))
-    × (scalar_at 32 (short_string 32 (replicate 32 0xff)) ≡ Ok ((replicate 32 0xff, Without), [])) × (scalar_at 32 (short_string 33 (0 ∷ replicate 32 1)) ≡ Ok ((replicate 32 1, With), []))
+ReadScalars = (scalar_at 32 (short_string 32 low_scalar) ≡ Ok ((low_scalar, Plain), [])) × (scalar_at 32 (short_string 33 (0 ∷ low_scalar)) ≡ Ok ((low_scalar, WithZero), []))
+    × (scalar_at 32 (short_string 32 high_scalar) ≡ Ok ((high_scalar, WithoutZero), [])) × (scalar_at 32 (short_string 33 (0 ∷ high_scalar)) ≡ Ok ((high_scalar, Plain), []))
+    × (scalar_at 32 (short_string 32 (replicate 32 0xff)) ≡ Ok ((replicate 32 0xff, WithoutZero), [])) × (scalar_at 32 (short_string 33 (0 ∷ replicate 32 1)) ≡ Ok ((replicate 32 1, WithZero), []))
 
--- 31, 33 and 34 bytes
+-- the shortest mpint, zero included, is read at full width
+abbrev pub ReadShortScalars : Type 0
+ReadShortScalars = (scalar_at 32 (short_string 31 (replicate 31 1)) ≡ Ok ((0 ∷ replicate 31 1, Short), [])) × (scalar_at 32 (short_string 0 []) ≡ Ok ((replicate 32 0, Short), []))
+    × (scalar_at 32 (short_string 2 (0 ∷ 0x80 ∷ [])) ≡ Ok ((replicate 31 0 ++ 0x80 ∷ [], Short), [])) × (scalar_at 32 (short_string 32 (0 ∷ replicate 31 0x80)) ≡ Ok ((0 ∷ replicate 31 0x80, Plain), []))
+    × (scalar_at 32 (short_string 31 (0x7f ∷ replicate 30 1)) ≡ Ok ((0 ∷ 0x7f ∷ replicate 30 1, Short), []))
+    × (flat (scalar (replicate 31 0 ++ 0x80 ∷ []) Short) ≡ short_string 2 (0 ∷ 0x80 ∷ [])) × (flat (scalar (replicate 32 0) Short) ≡ short_string 0 [])
+
+-- negative mpints and no mpints, 33 and 34 bytes
 abbrev pub RefusedScalars : Type 0
-RefusedScalars = (scalar_at 32 (short_string 31 (replicate 31 1)) ≡ Err Length) × (scalar_at 32 (short_string 33 (replicate 33 1)) ≡ Err FormatEncoding)
-    × (scalar_at 32 (short_string 34 (replicate 34 0)) ≡ Err (TrailingData 2))
+RefusedScalars = (scalar_at 32 (short_string 31 (replicate 31 0xff)) ≡ Err FormatEncoding) × (scalar_at 32 (short_string 1 (0 ∷ [])) ≡ Err FormatEncoding) × (scalar_at 32 (short_string 2 (0 ∷ 0x7f ∷ [])) ≡ Err FormatEncoding)
+    × (scalar_at 32 (short_string 31 (0x80 ∷ replicate 30 1)) ≡ Err FormatEncoding)
+    × (scalar_at 32 (short_string 33 (replicate 33 1)) ≡ Err FormatEncoding) × (scalar_at 32 (short_string 34 (replicate 34 0)) ≡ Err (TrailingData 2))
 
 -- ---- key pairs
 
@@ -99,7 +107,7 @@ pair_bytes again = short_string 32 example_public ++ short_string 64 example_pri
 
 -- the public bytes again, or others
 abbrev pub Ed25519Pairs : Type 0
-Ed25519Pairs = (pair_at Algorithm.Ed25519 (pair_bytes example_public) ≡ Ok ((example_pair, Usual), [])) × (pair_at Algorithm.Ed25519 (pair_bytes (replicate 32 0)) ≡ Err Cryptographic)
+Ed25519Pairs = (pair_at Algorithm.Ed25519 (pair_bytes example_public) ≡ Ok ((example_pair, Plain), [])) × (pair_at Algorithm.Ed25519 (pair_bytes (replicate 32 0)) ≡ Err Crypto)
 
 abbrev pub small_rsa_pair : KeyPair
 small_rsa_pair = RsaPair (record { e = 3 ∷ []; n = 33 ∷ [] }) (record { d = 7 ∷ []; iqmp = 2 ∷ []; p = 11 ∷ []; q = 5 ∷ [] })
@@ -109,7 +117,7 @@ small_rsa_bytes = short_string 1 (33 ∷ []) ++ short_string 1 (3 ∷ []) ++ sho
 
 -- a pair of RSA under a name with a hash, and how it is written
 abbrev pub RsaPairs : Type 0
-RsaPairs = (keypair_at (short_string 12 (codes "rsa-sha2-512") ++ small_rsa_bytes) ≡ Ok ((small_rsa_pair, record { head = Head512; sign = Usual }), []))
+RsaPairs = (keypair_at (short_string 12 (codes "rsa-sha2-512") ++ small_rsa_bytes) ≡ Ok ((small_rsa_pair, record { head = Head512; zeros = Plain }), []))
     × (flat (normal_keypair small_rsa_pair) ≡ short_string 7 (codes "ssh-rsa") ++ small_rsa_bytes)
 
 abbrev pub p384_bytes : List ℕ → List ℕ
@@ -117,10 +125,10 @@ p384_bytes s = short_string 8 (codes "nistp384") ++ short_string 49 (2 ∷ repli
 
 -- The stated curve and the point's are compared before the scalar is read, the algorithm's curve after it.
 abbrev pub EcdsaPairs : Type 0
-EcdsaPairs = (pair_at (Algorithm.Ecdsa Nistp384) (p384_bytes (replicate 48 1)) ≡ Ok ((EcdsaPair Nistp384 (2 ∷ replicate 48 1) (replicate 48 1), Usual), []))
-    × (pair_at (Algorithm.Ecdsa Nistp256) (p384_bytes (replicate 48 1)) ≡ Err UnknownAlgorithm)
+EcdsaPairs = (pair_at (Algorithm.Ecdsa Nistp384) (p384_bytes (replicate 48 1)) ≡ Ok ((EcdsaPair Nistp384 (2 ∷ replicate 48 1) (replicate 48 1), Plain), []))
+    × (pair_at (Algorithm.Ecdsa Nistp256) (p384_bytes (replicate 48 1)) ≡ Err AlgorithmUnknown)
     × (pair_at (Algorithm.Ecdsa Nistp256) (p384_bytes (replicate 47 1)) ≡ Err Length)
-    × (pair_at (Algorithm.Ecdsa Nistp256) (short_string 8 (codes "nistp256") ++ short_string 49 (2 ∷ replicate 48 1)) ≡ Err UnknownAlgorithm)
+    × (pair_at (Algorithm.Ecdsa Nistp256) (short_string 8 (codes "nistp256") ++ short_string 49 (2 ∷ replicate 48 1)) ≡ Err AlgorithmUnknown)
 
 abbrev pub small_dsa_pair : KeyPair
 small_dsa_pair = DsaPair (record { p = 1 ∷ []; q = 2 ∷ []; g = 3 ∷ []; y = 4 ∷ [] }) (5 ∷ [])
@@ -136,10 +144,10 @@ small_security_bytes = short_string 4 (codes "ssh:") ++ 1 ∷ [] ++ short_string
 
 -- the order of the parts of each kind
 abbrev pub WrittenPairs : Type 0
-WrittenPairs = (flat (pair small_dsa_pair Usual) ≡ short_string 1 (1 ∷ []) ++ short_string 1 (2 ∷ []) ++ short_string 1 (3 ∷ []) ++ short_string 1 (4 ∷ []) ++ short_string 1 (5 ∷ []))
-    × (flat (pair (SkEcdsaPair (small_security_key (2 ∷ replicate 32 6)) small_security_private) Usual) ≡ short_string 8 (codes "nistp256") ++ short_string 33 (2 ∷ replicate 32 6) ++ small_security_bytes)
-    × (flat (pair (SkEd25519Pair (small_security_key example_public) small_security_private) Usual) ≡ short_string 32 example_public ++ small_security_bytes)
-    × (flat (pair (OpaquePair (codes "name@example.com") (1 ∷ []) (2 ∷ 3 ∷ [])) Usual) ≡ short_string 1 (1 ∷ []) ++ short_string 2 (2 ∷ 3 ∷ []))
+WrittenPairs = (flat (pair small_dsa_pair Plain) ≡ short_string 1 (1 ∷ []) ++ short_string 1 (2 ∷ []) ++ short_string 1 (3 ∷ []) ++ short_string 1 (4 ∷ []) ++ short_string 1 (5 ∷ []))
+    × (flat (pair (SkEcdsaPair (small_security_key (2 ∷ replicate 32 6)) small_security_private) Plain) ≡ short_string 8 (codes "nistp256") ++ short_string 33 (2 ∷ replicate 32 6) ++ small_security_bytes)
+    × (flat (pair (SkEd25519Pair (small_security_key example_public) small_security_private) Plain) ≡ short_string 32 example_public ++ small_security_bytes)
+    × (flat (pair (OpaquePair (codes "name@example.com") (1 ∷ []) (2 ∷ 3 ∷ [])) Plain) ≡ short_string 1 (1 ∷ []) ++ short_string 2 (2 ∷ 3 ∷ []))
 
 -- ---- checkints
 
@@ -183,8 +191,8 @@ ReadKey = (whole decoded_private_key_at example_bytes ≡ Ok (example_key, plain
 
 -- a checkint that is not repeated, a pair of another public key, a part that is no multiple of 8
 abbrev pub RefusedParts : Type 0
-RefusedParts = (padded_from (private_part_at (Ed25519 example_public)) (part_bytes one (2 ∷ 0 ∷ 0 ∷ 0 ∷ []) (1 ∷ 2 ∷ 3 ∷ 4 ∷ 5 ∷ [])) ≡ Err Cryptographic)
-    × (padded_from (private_part_at (Ed25519 (replicate 32 0))) (part_bytes one one (1 ∷ 2 ∷ 3 ∷ 4 ∷ 5 ∷ [])) ≡ Err OtherPublicKey)
+RefusedParts = (padded_from (private_part_at (Ed25519 example_public)) (part_bytes one (2 ∷ 0 ∷ 0 ∷ 0 ∷ []) (1 ∷ 2 ∷ 3 ∷ 4 ∷ 5 ∷ [])) ≡ Err Crypto)
+    × (padded_from (private_part_at (Ed25519 (replicate 32 0))) (part_bytes one one (1 ∷ 2 ∷ 3 ∷ 4 ∷ 5 ∷ [])) ≡ Err PublicKey)
     × (padded_from (private_part_at (Ed25519 example_public)) (part_bytes one one (1 ∷ 2 ∷ 3 ∷ 4 ∷ [])) ≡ Err Length)
 
 -- another magic, two keys, no key, and too few bytes
@@ -231,9 +239,9 @@ EncryptedKeys = (flat (normal_private_key (sealed_key (replicate 16 0))) ≡ sea
 
 -- 15 bytes of ciphertext, a byte behind the key, and the cipher `none` with a key derivation
 abbrev pub RefusedEncryptedKeys : Type 0
-RefusedEncryptedKeys = (decoded_private_key_at (sealed_bytes aes256_ctr (short_string 15 (replicate 15 0))) ≡ Err Cryptographic)
+RefusedEncryptedKeys = (decoded_private_key_at (sealed_bytes aes256_ctr (short_string 15 (replicate 15 0))) ≡ Err Crypto)
     × (decoded_private_key_at (sealed_bytes aes256_ctr (block ++ 0 ∷ [])) ≡ Err (TrailingKeyData 1))
-    × (decoded_private_key_at (sealed_bytes (short_string 4 (codes "none")) block) ≡ Err Cryptographic)
+    × (decoded_private_key_at (sealed_bytes (short_string 4 (codes "none")) block) ≡ Err Crypto)
 
 -- behind the ciphertext of an authenticating cipher stand 16 bytes, no fewer
 abbrev pub Tags : Type 0

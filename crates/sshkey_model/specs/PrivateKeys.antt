@@ -2,7 +2,7 @@
 use Rattle.std.specs.Prelude.{◌≡◌, ℕ, zero, suc, ◌%◌, List, [], ◌∷◌, ◌++◌, length, Bool, true, false, ◌&&◌, Result, Ok, Err, nat_lt, ◌==◌, if◌then◌else◌, codes, bytes_eq}
 use Rattle.std.specs.Int.{w32}
 use Rattle.sshkey_model.specs.Parts.{Parts, bytes, number, box, ◌&◌, flat, Fits}
-use Rattle.sshkey_model.specs.Reading.{Fault, Length, FormatEncoding, Cryptographic, OtherPublicKey, TrailingKeyData, ◌>>=◌, Front, Whole, whole, box_at, string_at, number_at, bytes_at, checked_at, literal_at}
+use Rattle.sshkey_model.specs.Reading.{Fault, Length, FormatEncoding, Crypto, PublicKey, TrailingKeyData, ◌>>=◌, Front, Whole, whole, box_at, string_at, number_at, bytes_at, checked_at, literal_at}
 use Rattle.sshkey_model.specs.Grammar.{IsSpelled, spelled}
 use Rattle.sshkey_model.specs.Texts.{string, IsText, text_at}
 use Rattle.sshkey_model.specs.Points.{curve_eq}
@@ -127,11 +127,11 @@ key_eq _ _ = false
 
 -- the checkint again
 abbrev pub same_checkint : ℕ → ℕ → Result ℕ Fault
-same_checkint checkint again = if again == checkint then Ok again else Err Cryptographic
+same_checkint checkint again = if again == checkint then Ok again else Err Crypto
 
 -- a pair whose public half is the public key
 abbrev pub of_key : Key → KeyPair × KeyPairChoices → Result (KeyPair × KeyPairChoices) Fault
-of_key public x = if key_eq (public_half x.0) public then Ok x else Err OtherPublicKey
+of_key public x = if key_eq (public_half x.0) public then Ok x else Err PublicKey
 
 unfoldable pub private_part_at : Key → Front (UnencryptedKey × KeyPairChoices)
 private_part_at public b = do
@@ -156,7 +156,7 @@ unencrypted_at public b = do
   Ok ((Unencrypted part.0.0, part.0.1), part.1)
 
 abbrev pub blocks_from : Cipher → List ℕ → Result (List ℕ) Fault
-blocks_from c b = if length b % block_size c == 0 then Ok b else Err Cryptographic
+blocks_from c b = if length b % block_size c == 0 then Ok b else Err Crypto
 
 unfoldable pub encrypted_at : Cipher → Kdf → Key → Front (PrivateKey × KeyPairChoices)
 encrypted_at c k public b = do
@@ -166,7 +166,7 @@ encrypted_at c k public b = do
 
 abbrev pub content_at : Cipher → Kdf → Key → Front (PrivateKey × KeyPairChoices)
 content_at NoCipher NoKdf public b = unencrypted_at public b
-content_at NoCipher (Bcrypt o) public b = Err Cryptographic
+content_at NoCipher (Bcrypt o) public b = Err Crypto
 content_at c k public b = encrypted_at c k public b
 
 abbrev pub one_key : ℕ → Result ℕ Fault

@@ -3,14 +3,14 @@ use Rattle.std.specs.Prelude.{ℕ, zero, suc, List, [], ◌∷◌, length, take,
 use Rattle.std.specs.Int.{Width, w32, byte_len, from_be_bytes}
 use Rattle.sshkey_model.specs.Parts.{are_bytes}
 
--- Why bytes are refused.
+-- Why bytes are refused, by the names of the errors.
 pub data Fault : Type 0 where
   -- of the encoding: a length, a text that is not UTF-8, a name, a rest of so many bytes in a box or behind a value
   Length CharacterEncoding Label : Fault
   TrailingData : ℕ → Fault
-  -- of what it carries
-  FormatEncoding UnknownAlgorithm Cryptographic EcdsaEncoding InvalidTime InvalidNamespace OtherPublicKey : Fault
-  UnsupportedVersion : ℕ → Fault
+  -- of what it carries; `PublicKey` is of a private key that has another one
+  FormatEncoding AlgorithmUnknown Crypto Ecdsa Time Namespace PublicKey : Fault
+  Version : ℕ → Fault
   -- so many bytes behind an encrypted key
   TrailingKeyData : ℕ → Fault
 
@@ -43,6 +43,10 @@ bytes_at n b =
     if nat_lt (length b) n then Err Length
     else if are_bytes (take n b) then Ok (take n b, drop n b)
     else Err Length
+
+-- all the bytes
+abbrev pub all_from : Whole (List ℕ)
+all_from b = if are_bytes b then Ok b else Err Length
 
 -- a number, most significant byte first
 unfoldable pub number_at : Width → Front ℕ

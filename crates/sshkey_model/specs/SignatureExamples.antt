@@ -2,7 +2,7 @@
 use Rattle.std.specs.Prelude.{◌≡◌, ℕ, List, [], ◌∷◌, ◌++◌, length, replicate, Some, None, Result, Ok, Err, codes}
 use Rattle.sshkey_model.specs.HexText.{hex}
 use Rattle.sshkey_model.specs.Parts.{flat, ◌&◌}
-use Rattle.sshkey_model.specs.Reading.{Fault, Length, Label, FormatEncoding, Cryptographic}
+use Rattle.sshkey_model.specs.Reading.{Fault, Length, Label, FormatEncoding, Crypto}
 use Rattle.sshkey_model.specs.Texts.{string}
 use Rattle.sshkey_model.specs.Names.{Nistp256, Nistp384, Nistp521, Sha256, Sha512, Algorithm, Dsa, Ecdsa, Ed25519, Rsa, SkEcdsa, SkEd25519, Other}
 use Rattle.sshkey_model.specs.Points.{field_size}
@@ -103,19 +103,19 @@ ComponentSizes = ComponentsOf (field_size Nistp256) 32 × ComponentsOf (field_si
 -- Two positive numbers and nothing after them; the first is judged before the second.
 abbrev pub Components : Type 0
 Components = (ecdsa_blob_from 32 (components (hex "7f") (hex "0080")) ≡ Ok (components (hex "7f") (hex "0080")))
-    × (ecdsa_blob_from 32 (components [] (hex "01")) ≡ Err Cryptographic)
-    × (ecdsa_blob_from 32 (components (hex "80") (hex "01")) ≡ Err Cryptographic)
-    × (ecdsa_blob_from 32 (components (hex "01") []) ≡ Err Cryptographic)
+    × (ecdsa_blob_from 32 (components [] (hex "01")) ≡ Err Crypto)
+    × (ecdsa_blob_from 32 (components (hex "80") (hex "01")) ≡ Err Crypto)
+    × (ecdsa_blob_from 32 (components (hex "01") []) ≡ Err Crypto)
     × (ecdsa_blob_from 32 (components (hex "00") (hex "01")) ≡ Err FormatEncoding)
     × (ecdsa_blob_from 32 (components (hex "01") (hex "0001")) ≡ Err FormatEncoding)
-    × (ecdsa_blob_from 32 (components [] (hex "00")) ≡ Err Cryptographic)
+    × (ecdsa_blob_from 32 (components [] (hex "00")) ≡ Err Crypto)
     × (ecdsa_blob_from 32 (components (hex "01") (hex "01") ++ hex "00") ≡ Err Length)
     × (ecdsa_blob_from 32 (hex "00000001 01") ≡ Err Length)
     × (ecdsa_blob_from 32 [] ≡ Err Length)
 
 -- The string and the trailer of a security key's signature are read before the string is judged.
 abbrev pub JudgedLast : Type 0
-JudgedLast = (signature_blob_at SkEcdsa (flat (string (components [] (hex "01"))) ++ hex "01 00000001") ≡ Err Cryptographic)
+JudgedLast = (signature_blob_at SkEcdsa (flat (string (components [] (hex "01"))) ++ hex "01 00000001") ≡ Err Crypto)
     × (signature_blob_at SkEcdsa (flat (string (components [] (hex "01"))) ++ hex "01 000000") ≡ Err Length)
     × (signature_blob_at SkEcdsa (flat (string (components (hex "01") (hex "01"))) ++ hex "01 00000001") ≡ Ok (components (hex "01") (hex "01") ++ hex "01 00000001", []))
     × (signature_blob_at (Ecdsa Nistp256) (flat (string (components (hex "01") (hex "01")))) ≡ Ok (components (hex "01") (hex "01"), []))

@@ -1,7 +1,7 @@
 -- Signatures (RFC 4253, section 6.6; RFC 5656, section 3.1.2; RFC 8332, section 3; RFC 8709, section 6; PROTOCOL.u2f).
 use Rattle.std.specs.Prelude.{◌≡◌, ℕ, suc, ◌-◌, ◌<◌, ◌≤◌, List, ◌++◌, length, take, drop, Bool, true, false, Option, Some, None, Result, Ok, Err, nat_lt, ◌==◌, if◌then◌else◌}
 use Rattle.sshkey_model.specs.Parts.{Parts, bytes, ◌&◌, flat, Fits}
-use Rattle.sshkey_model.specs.Reading.{Fault, Length, Cryptographic, ◌>>=◌, Front, Whole, string_at, bytes_at, checked_at}
+use Rattle.sshkey_model.specs.Reading.{Fault, Length, Crypto, ◌>>=◌, Front, Whole, string_at, bytes_at, checked_at}
 use Rattle.sshkey_model.specs.Texts.{string}
 use Rattle.sshkey_model.specs.Names.{Nistp256, Algorithm, IsAlgorithm, algorithm, algorithm_at}
 use Rattle.sshkey_model.specs.Mpints.{IsMpint, mpint_from, positive_part}
@@ -63,7 +63,7 @@ IsSignature g = IsAlgorithm g.algorithm × IsSignatureBlob g.algorithm g.blob
 -- ---- reading
 
 abbrev pub small_part : ℕ → Option (List ℕ) → List ℕ → Result (List ℕ) Fault
-small_part size None r = Err Cryptographic
+small_part size None r = Err Crypto
 small_part size (Some p) r = if nat_lt (length p) (suc size) then Ok r else Err Length
 
 abbrev pub component_from : ℕ → Whole (List ℕ)

@@ -2,7 +2,7 @@
 use Rattle.std.specs.Prelude.{◌≡◌, ℕ, List, [], ◌++◌, length, take, drop, replicate, Ok, Err, codes}
 use Rattle.sshkey_model.specs.HexText.{hex}
 use Rattle.sshkey_model.specs.Parts.{flat}
-use Rattle.sshkey_model.specs.Reading.{Length, CharacterEncoding, Label, TrailingData, FormatEncoding, InvalidNamespace, UnsupportedVersion, whole}
+use Rattle.sshkey_model.specs.Reading.{Length, CharacterEncoding, Label, TrailingData, FormatEncoding, Namespace, Version, whole}
 use Rattle.sshkey_model.specs.Names.{Sha256, Sha512, Algorithm}
 use Rattle.sshkey_model.specs.Keys.{Plain, Head256}
 use Rattle.sshkey_model.specs.SshSignatures.{SshSignature, signed_data, ssh_signature, normal_ssh_signature, ssh_signature_at}
@@ -37,8 +37,8 @@ Versions = (length (file_bytes (hex "00000001") file_middle) ≡ 174)
     × (flat (normal_ssh_signature (file_signature 1 [])) ≡ file_bytes (hex "00000001") file_middle)
     × (ssh_signature_at (file_bytes (hex "00000000") file_middle) ≡ Ok ((file_signature 0 [], Plain), []))
     × (flat (normal_ssh_signature (file_signature 0 [])) ≡ file_bytes (hex "00000000") file_middle)
-    × (ssh_signature_at (file_bytes (hex "00000002") file_middle) ≡ Err (UnsupportedVersion 2))
-    × (ssh_signature_at (file_bytes (hex "ffffffff") file_middle) ≡ Err (UnsupportedVersion 0xffffffff))
+    × (ssh_signature_at (file_bytes (hex "00000002") file_middle) ≡ Err (Version 2))
+    × (ssh_signature_at (file_bytes (hex "ffffffff") file_middle) ≡ Err (Version 0xffffffff))
     × (ssh_signature_at (file_bytes (hex "00000001") (hex "00000004 66696c65 00000002 aabb 00000006 736861323536")) ≡ Ok ((file_signature 1 (hex "aabb"), Plain), []))
 
 -- Each field with a fault, one after the other.
@@ -46,7 +46,7 @@ abbrev pub SshSignatureFaults : Type 0
 SshSignatureFaults = (ssh_signature_at (hex "535348534948" ++ drop 6 (file_bytes (hex "00000001") file_middle)) ≡ Err FormatEncoding)
     × (ssh_signature_at (hex "535348") ≡ Err Length)
     × (ssh_signature_at (hex "535348534947 00000001 00000034" ++ ed25519_bytes ++ hex "00" ++ file_middle ++ signature_box) ≡ Err (TrailingData 1))
-    × (ssh_signature_at (file_bytes (hex "00000001") (hex "00000000 00000000 00000006 736861323536")) ≡ Err InvalidNamespace)
+    × (ssh_signature_at (file_bytes (hex "00000001") (hex "00000000 00000000 00000006 736861323536")) ≡ Err Namespace)
     × (ssh_signature_at (file_bytes (hex "00000001") (hex "00000001 ff 00000000 00000006 736861323536")) ≡ Err CharacterEncoding)
     × (ssh_signature_at (file_bytes (hex "00000001") (hex "00000001 61 00000000 00000006 736861323537")) ≡ Err Label)
     × (ssh_signature_at (hex "535348534947 00000001 00000033" ++ ed25519_bytes ++ file_middle ++ hex "00000056" ++ drop 4 signature_box ++ hex "000000") ≡ Err (TrailingData 3))

@@ -4,19 +4,20 @@ pub mod lines;
 pub mod private;
 pub mod readers;
 
-ghost use Rattle.sshkey_model.specs.Parts.{IsPrefixFree};
+ghost use Rattle.sshkey_model.specs.Parts.{IsPrefixFree, Any};
 ghost use Rattle.sshkey_model.specs.Grammar.{IsSpelled, spelled};
-ghost use Rattle.sshkey_model.specs.Texts.{string, IsText};
-ghost use Rattle.sshkey_model.specs.Names.{Curve, IsAlgorithm, algorithm, Algorithm};
+ghost use Rattle.sshkey_model.specs.Texts.{string, IsText, texts};
+ghost use Rattle.sshkey_model.specs.Names.{Curve, IsAlgorithm, algorithm, Algorithm, curve, hash};
 ghost use Rattle.sshkey_model.specs.CertificateNames.{IsCertified, certificate_algorithm};
 ghost use Rattle.sshkey_model.specs.Mpints.{IsMpint};
 ghost use Rattle.sshkey_model.specs.Points.{IsPoint};
 ghost use Rattle.sshkey_model.specs.Keys.{IsBodyUnder, body, IsKey, HasKeyPlaces, key, normal_key, Plain, key_at};
 ghost use Rattle.sshkey_model.specs.Signatures.{IsSignature, signature, signature_at};
 ghost use Rattle.sshkey_model.specs.Options.{AreOptions, HasOptionPlaces, options, normal_options, plain_nestings, options_at};
-ghost use Rattle.sshkey_model.specs.Certificates.{IsCertificate, HasCertificatePlaces, certificate, normal_certificate, plain_certificate, certificate_at};
+ghost use Rattle.sshkey_model.specs.Certificates.{IsCertificate, HasCertificatePlaces, certificate, normal_certificate, plain_certificate, certificate_at, AreSignedFields, HaveSignedPlaces, to_be_signed, normal_to_be_signed};
 ghost use Rattle.sshkey_model.specs.SshSignatures.{IsSshSignature, HasSshSignaturePlaces, ssh_signature, normal_ssh_signature, ssh_signature_at};
-ghost use Rattle.sshkey_model.specs.Laws.{DetermineValues, ReadBackPlain, ReadBack, DetermineFields, AreApart, DetermineSignedData};
+ghost use Rattle.sshkey_model.specs.Laws.{DetermineValues, ReadBackPlain, ReadBack, DetermineFields, AreApart, DetermineSignedData, NormalFits};
+ghost use Rattle.std.specs.List.{AllByRecursion};
 
 /// No mpint string begins another.
 pub fn prefix_mpint()
@@ -26,6 +27,21 @@ pub fn prefix_mpint()
 /// No text string begins another.
 pub fn prefix_text()
     ensures { IsPrefixFree IsText string }
+{}
+
+/// No list of texts begins another.
+pub fn prefix_texts()
+    ensures { IsPrefixFree (AllByRecursion IsText) texts }
+{}
+
+/// No name of a curve begins another.
+pub fn prefix_curve()
+    ensures { IsPrefixFree Any curve }
+{}
+
+/// No name of a hash begins another.
+pub fn prefix_hash()
+    ensures { IsPrefixFree Any hash }
 {}
 
 /// No point string in a box begins another of its curve.
@@ -145,12 +161,37 @@ pub fn read_back_options()
 
 /// The normal form of a certificate is read as that certificate with plain choices.
 pub fn read_back_certificate()
-    ensures { ReadBackPlain IsCertificate certificate (λ c. plain_certificate c.unsigned) certificate_at }
+    ensures { ReadBackPlain IsCertificate certificate (λ c. plain_certificate c.signed) certificate_at }
 {}
 
 /// The normal form of an SSH signature is read as that signature with the plain name.
 pub fn read_back_ssh_signature()
     ensures { ReadBackPlain IsSshSignature ssh_signature (λ _. Plain) ssh_signature_at }
+{}
+
+/// Where a public key fits in one of its spellings, its normal form fits.
+pub fn key_fits()
+    ensures { NormalFits IsKey HasKeyPlaces key normal_key }
+{}
+
+/// Where options fit in one of their spellings, their normal form fits.
+pub fn options_fit()
+    ensures { NormalFits AreOptions HasOptionPlaces options normal_options }
+{}
+
+/// Where a certificate fits in one of its spellings, its normal form fits.
+pub fn certificate_fits()
+    ensures { NormalFits IsCertificate HasCertificatePlaces certificate normal_certificate }
+{}
+
+/// Where what a certificate's signature is over fits in one of its spellings, its normal form fits.
+pub fn signed_fields_fit()
+    ensures { NormalFits AreSignedFields HaveSignedPlaces to_be_signed normal_to_be_signed }
+{}
+
+/// Where an SSH signature fits in one of its spellings, its normal form fits.
+pub fn ssh_signature_fits()
+    ensures { NormalFits IsSshSignature HasSshSignaturePlaces ssh_signature normal_ssh_signature }
 {}
 
 /// The signed bytes of a certificate, in any spelling, determine every field but the signature.

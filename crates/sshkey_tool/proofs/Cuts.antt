@@ -7,7 +7,7 @@ use Rattle.std.proofs.lemmas.Str.Pattern.{IsSplitOnceResult, split_after, split_
 use Rattle.std.specs.Str.{IsTrimEnd, trim_end}
 use Rattle.std.specs.Char.{encode_utf8, is_not_whitespace}
 use Rattle.sshkey_model.specs.Lines.{space, after_space, HasWordCharacters}
-use Rattle.sshkey_model.specs.LineCuts.{IsWithout, IsCut}
+use Rattle.sshkey_model.proofs.LineCuts.{IsWithout, IsCut}
 use Rattle.sshkey_model.proofs.LineCuts.{seam_space}
 use Rattle.sshkey_tool.specs.Words.{CutsWord, IsOnlyCut}
 

@@ -11,8 +11,9 @@ use Rattle.sshkey_keys.specs.declared.key_data.KeyData.{KeyData}
 use Rattle.sshkey_model.proofs.Blobs.{key_blobs}
 use Rattle.sshkey_model.specs.Keys.{Key}
 use Rattle.sshkey_model.specs.Lines.{key_name, IsKeyLine}
-use Rattle.sshkey_model.specs.LineCuts.{IsCut}
+use Rattle.sshkey_model.proofs.LineCuts.{IsCut}
 use Rattle.sshkey_model.proofs.Lines.{no_cut, no_blob, no_value, other_first, is_line}
+use Rattle.sshkey_model.specs.Texts.{IsText}
 use Rattle.sshkey_tool.specs.KeyLines.{IsNoKeyLine, ReadsBlob}
 
 -- all the bytes of a slice
@@ -37,5 +38,5 @@ pub first_refused : (text f w m blob : List ℕ) (k : Key) → IsCut text f w m 
 first_refused text f w m blob k = other_first key_name SpellsKey key_blobs text f w m blob k
 
 -- accepted
-pub line_read : (text f w m blob : List ℕ) (k : Key) → IsCut text f w m → w ≡ encode_of standard blob → SpellsKey k blob → f ≡ key_name k → IsKeyLine text k m
+pub line_read : (text f w m blob : List ℕ) (k : Key) → IsText text → IsCut text f w m → w ≡ encode_of standard blob → SpellsKey k blob → f ≡ key_name k → IsKeyLine text k m
 line_read text f w m blob k = is_line key_name SpellsKey key_blobs text f w m blob k

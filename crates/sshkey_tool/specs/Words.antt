@@ -2,7 +2,7 @@
 use Rattle.std.specs.Prelude.{◌≡◌, ℕ, ◌⊎◌, List, [], ◌∷◌, ◌++◌, Result, Ok, Err}
 use Rattle.sshkey_base.specs.declared.error.Error.{Error}
 use Rattle.sshkey_model.specs.Lines.{after_space, space}
-use Rattle.sshkey_model.specs.LineCuts.{IsWithout, IsCut}
+use Rattle.sshkey_model.proofs.LineCuts.{IsWithout, IsCut}
 use Rattle.sshkey_tool.specs.declared.words.Words.{Words}
 
 -- Accepted are the words of the line. Refused: it has none.

@@ -9,6 +9,3 @@ mod program;
 mod words;
 
 pub use program::run;
-
-#[cfg(test)]
-mod tests;

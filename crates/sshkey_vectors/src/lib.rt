@@ -1,5 +1,5 @@
-//! Verifiers and a signer for tests; and the tests of the crates below, over worked examples, and
-//! over keys and signatures from outside.
+//! Verifiers and a signer for tests; and the tests of the crates below that are no lines of the table in
+//! `sshkey_cases`.
 #![tactic(auto)]
 
 mod doubles;

@@ -1,19 +1,16 @@
-//! `wire` has the tests of the base, `bodies` those of the kinds of key; the others are of whole keys
-//! and signatures.
+//! What the table of `sshkey_cases` does not ask: calls that have no line there, with ample memory;
+//! readers, writers, inputs and outputs that fail; and verifiers. A test asserts answers of yes or
+//! no, since one with a `?` at every call takes longer to prove.
 
-mod bodies;
-mod edges;
-mod faults;
-mod fingerprints;
-mod key_kinds;
-mod known;
-mod one_key;
+mod errors;
+mod keys;
+mod kinds;
+mod laws;
+mod names;
 mod openssh;
-mod parts;
-mod rsa_names;
-mod signature_bytes;
-mod signatures;
+mod program;
+mod readers;
 mod support;
+mod values;
 mod verification;
-mod whole_keys;
-mod wire;
+mod writers;

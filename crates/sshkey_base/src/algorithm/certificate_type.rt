@@ -46,8 +46,8 @@ impl Algorithm {
     }
 
     /// The name of the algorithm in a certificate (PROTOCOL.certkeys), as
-    /// `ssh-ed25519-cert-v01@openssh.com`. RSA has one name there, with and without a hash. Only
-    /// out of memory refuses it.
+    /// `ssh-ed25519-cert-v01@openssh.com`. RSA has one name there, with and without a hash. It
+    /// is refused only when out of memory.
     pub fn to_certificate_type(&self, alloc: Global) -> Result<String>
         ensures ok { IfOk result (λ text. string_bytes text ≡ certificate_name (algorithm_of self.now)) }
         ensures err { IfErr result (λ e. e ≡ Error.Memory) }

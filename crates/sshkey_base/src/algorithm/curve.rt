@@ -5,6 +5,7 @@ ghost use Rattle.sshkey_model.specs.Names.{Curve, curve_name, curve_from};
 ghost use Rattle.sshkey_model.specs.Reading as fault;
 ghost use Rattle.sshkey_base.specs.Causes.{Faulty, cause};
 ghost use Rattle.sshkey_model.specs.Parts.{Any};
+ghost use Rattle.sshkey_model.specs.Points.{field_size};
 ghost use Rattle.sshkey_base.specs.Labels.{LooksUp, LooksUpAlways};
 ghost use Rattle.sshkey_base.specs.LabelLaws.{curve_checks, curve_ascii, curve_refusals};
 ghost use Rattle.sshkey_base.specs.Names.{curve_of};
@@ -46,6 +47,17 @@ impl EcdsaCurve {
             EcdsaCurve::NistP256 => "nistp256",
             EcdsaCurve::NistP384 => "nistp384",
             EcdsaCurve::NistP521 => "nistp521",
+        }
+    }
+
+    /// How many bytes a coordinate of a point has: 32, 48 or 66 (SEC 1, section 2.3.5).
+    pub fn field_size(self) -> usize
+        ensures { result ≡ field_size (curve_of self) }
+    {
+        match self {
+            EcdsaCurve::NistP256 => 32,
+            EcdsaCurve::NistP384 => 48,
+            EcdsaCurve::NistP521 => 66,
         }
     }
 }

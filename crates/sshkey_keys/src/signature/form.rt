@@ -3,8 +3,7 @@
 ghost use Rattle.std.specs.Prelude.{◌≡◌};
 ghost use Rattle.sshkey_base.specs.Answers.{AnswersAlways};
 ghost use Rattle.sshkey_base.specs.Causes.{cause, encoding_cause};
-ghost use Rattle.sshkey_base.specs.Names.{algorithm_of, curve_of};
-ghost use Rattle.sshkey_model.specs.Points.{field_size as size_of_field};
+ghost use Rattle.sshkey_base.specs.Names.{algorithm_of};
 ghost use Rattle.sshkey_model.specs.Reading.{string_at};
 ghost use Rattle.sshkey_model.specs.Signatures.{sized_from, without_trailer, trailer, ecdsa_blob_from};
 ghost use Rattle.sshkey_keys.specs.SignatureForms.{has_trailer, string_from, blob_from, positive_from, after_component};
@@ -15,6 +14,7 @@ use sshkey_base::{Algorithm, EcdsaCurve, Error, Result, encoding, length_from};
 const TRAILER_LEN: usize = 5;
 
 /// Whether the bytes are those of a signature by the algorithm.
+#[inline(always)]
 pub(crate) fn check_blob(algorithm: &Algorithm, bytes: &[u8]) -> Result<()>
     ensures { AnswersAlways (λ _. bytes.now) cause (blob_from (algorithm_of algorithm.now) bytes.now) result }
 {
@@ -28,6 +28,7 @@ pub(crate) fn check_blob(algorithm: &Algorithm, bytes: &[u8]) -> Result<()>
 }
 
 /// Whether flags and a counter stand behind the string, as in the signatures of security keys.
+#[inline(always)]
 pub(crate) fn has_trailer(algorithm: &Algorithm) -> bool
     ensures { result ≡ has_trailer (algorithm_of algorithm.now) }
 {
@@ -38,16 +39,17 @@ pub(crate) fn has_trailer(algorithm: &Algorithm) -> bool
 }
 
 /// Whether the bytes are those that stand in the string of a signature by the algorithm.
+#[inline(always)]
 pub(crate) fn check_string(algorithm: &Algorithm, bytes: &[u8]) -> Result<()>
     ensures { AnswersAlways (λ _. bytes.now) cause (string_from (algorithm_of algorithm.now) bytes.now) result }
 {
     match algorithm {
         Algorithm::Dsa => check_len(40, bytes),
-        Algorithm::Ecdsa { curve } => check_ecdsa(field_size(*curve), bytes),
+        Algorithm::Ecdsa { curve } => check_ecdsa(curve.field_size(), bytes),
         Algorithm::Ed25519 | Algorithm::SkEd25519 => check_len(64, bytes),
         Algorithm::Rsa { hash: Some(_) } => Ok(()),
         Algorithm::Rsa { hash: None } => Err(Error::Encoding(encoding::Error::Length)),
-        Algorithm::SkEcdsaSha2NistP256 => check_ecdsa(32, bytes),
+        Algorithm::SkEcdsaSha2NistP256 => { check_ecdsa(EcdsaCurve::NistP256.field_size(), bytes) }
         Algorithm::Other(_) => {
             if bytes.is_empty() {
                 return Err(Error::Encoding(encoding::Error::Length));
@@ -58,6 +60,7 @@ pub(crate) fn check_string(algorithm: &Algorithm, bytes: &[u8]) -> Result<()>
 }
 
 /// What stands in the string, and the flags and the counter behind it.
+#[inline(always)]
 pub(crate) fn split_trailer(blob: &[u8]) -> (&[u8], &[u8])
     ensures string { result.0.now ≡ without_trailer blob.now }
     ensures trailer { result.1.now ≡ trailer blob.now }
@@ -66,6 +69,7 @@ pub(crate) fn split_trailer(blob: &[u8]) -> (&[u8], &[u8])
 }
 
 /// `Length` where there are more or fewer bytes.
+#[inline(always)]
 fn check_len(len: usize, bytes: &[u8]) -> Result<()>
     ensures { AnswersAlways (λ _. bytes.now) cause (sized_from len bytes.now) result }
 {
@@ -73,17 +77,6 @@ fn check_len(len: usize, bytes: &[u8]) -> Result<()>
         return Err(Error::Encoding(encoding::Error::Length));
     }
     Ok(())
-}
-
-/// How many bytes a coordinate on the curve has.
-fn field_size(curve: EcdsaCurve) -> usize
-    ensures { result ≡ size_of_field (curve_of curve) }
-{
-    match curve {
-        EcdsaCurve::NistP256 => 32,
-        EcdsaCurve::NistP384 => 48,
-        EcdsaCurve::NistP521 => 66,
-    }
 }
 
 /// Whether the bytes are two positive numbers of at most `size` bytes each, and nothing more.

@@ -8,7 +8,6 @@ ghost use Rattle.sshkey_base.specs.Names.{algorithm_of};
 ghost use Rattle.sshkey_base.specs.Needs.{Asks, NeedsString};
 ghost use Rattle.sshkey_base.specs.Source.{Later};
 ghost use Rattle.sshkey_base.specs.Sink.{Encodes, Measures};
-ghost use Rattle.sshkey_base.specs.declared.error.Error.TheVariants as wide;
 ghost use Rattle.sshkey_model.specs.Reading.{checked_at, string_at, whole};
 ghost use Rattle.sshkey_model.specs.Signatures.{Signature as TheSignature, IsSignature, IsSignatureBlob, signature, signature_blob, signature_blob_at, signature_at, trailed_at};
 ghost use Rattle.sshkey_keys.specs.Blobs.{all_of, ReadsFrontOf, MakesBlob};
@@ -54,7 +53,7 @@ impl Signature {
     /// The bytes that spell the signature, in memory of their own.
     ///
     /// Exactly where the bytes of the signature are more than 2^32 - 1 (those behind the string
-    /// aside), the answer is `Length`; otherwise it is refused only when out of memory.
+    /// aside), the answer is `Length`; otherwise it is refused only with `Memory`.
     pub fn to_bytes(&self, alloc: Global) -> Result<Vec<u8>>
         ensures { MakesBlob (signature (signature_of self.now)) result }
     {
@@ -136,10 +135,10 @@ fn decode_trailed<R: Reader>(alloc: Global, reader: &mut R, algorithm: &Algorith
     with_trailer(bytes, &trailer)
 }
 
-/// The bytes, and then the trailer. Refused only when out of memory.
+/// The bytes, and then the trailer. Refused only with `Memory`.
 fn with_trailer(bytes: Bytes, trailer: &[u8]) -> Result<Bytes>
     ensures joined { IfOk result (λ blob. blob ≡ bytes ++ trailer.now) }
-    ensures refused { IfErr result (λ e. e ≡ wide.Memory) }
+    ensures refused { IfErr result (λ e. e ≡ Error.Memory) }
 {
     let mut blob = bytes.into_vec();
     blob.extend_from_slice(trailer)?;

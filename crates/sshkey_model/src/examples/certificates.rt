@@ -1,8 +1,8 @@
 //! Examples of options and certificates.
 
 ghost use Rattle.sshkey_model.specs.OptionExamples.{NameOrder, EmptyValues, TextValues, RisingNames};
-ghost use Rattle.sshkey_model.specs.CertificateExamples.{Times, CertificateTypes, OpensshCertificate, OtherFields, CertificateFaults, SignedBytes, SignatureKeyNames};
-ghost use Rattle.sshkey_model.specs.ValidityExamples.{Window, Refused, AuthoritySignature, AuthorityFingerprint};
+ghost use Rattle.sshkey_model.specs.CertificateExamples.{Times, CertificateTypes, OpensshCertificate, OtherFields, CertificateFaults, SignedBytes, SignatureKeyNames, EndlessCertificate};
+ghost use Rattle.sshkey_model.specs.ValidityExamples.{Window, Refused, AuthoritySignature, AuthorityFingerprint, Endless, OtherHash};
 
 /// The order of option names: by bytes, and a beginning first.
 pub fn name_order()
@@ -24,7 +24,7 @@ pub fn rising_names()
     ensures { RisingNames }
 {}
 
-/// 2^63 - 1 is the last time that is read.
+/// 2^63 - 1 is the last time that is read, and 2^64 - 1 stands for no end.
 pub fn times()
     ensures { Times }
 {}
@@ -37,6 +37,11 @@ pub fn certificate_types()
 /// A certificate of 336 bytes that OpenSSH made, read and written back.
 pub fn openssh_certificate()
     ensures { OpensshCertificate }
+{}
+
+/// A certificate without an end, as ssh-keygen writes it where none was given.
+pub fn endless_certificate()
+    ensures { EndlessCertificate }
 {}
 
 /// A host's certificate, principals and reserved bytes, read and written back.
@@ -62,6 +67,16 @@ pub fn signature_key_names()
 /// A certificate from 10 to 20 is valid at 10 and 19, and neither at 9 nor at 20.
 pub fn window()
     ensures { Window }
+{}
+
+/// A certificate without an end is valid up to 2^63 - 1.
+pub fn endless()
+    ensures { Endless }
+{}
+
+/// The fingerprint that is asked for is the SHA-256 one.
+pub fn other_hash()
+    ensures { OtherHash }
 {}
 
 /// A certificate is valid for none but its authority's fingerprint, and if the verifier says yes.

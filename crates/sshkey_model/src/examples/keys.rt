@@ -37,7 +37,7 @@ pub fn security_keys_ed25519()
     ensures { SecurityKeysEd25519 }
 {}
 
-/// Keys of somebody's own algorithm are opaque strings.
+/// Keys of a private-use algorithm are opaque strings.
 pub fn opaque_keys()
     ensures { OpaqueKeys }
 {}

@@ -22,7 +22,7 @@ pub fn certificate_names()
     ensures { CertificateNames }
 {}
 
-/// Names of somebody's own (RFC 4251, section 6): 64 bytes and 65, ASCII and not, no at sign, one and two.
+/// Private-use names (RFC 4251, section 6): 64 bytes and 65, ASCII and not, no at sign, one and two.
 pub fn own_names()
     ensures { OwnNames }
 {}
@@ -32,12 +32,12 @@ pub fn name_reading()
     ensures { NameReading }
 {}
 
-/// Names of somebody's own in certificates: 73 bytes and 74, with the suffix and without.
+/// Private-use names in certificates: 73 bytes and 74, with the suffix and without.
 pub fn own_certificate_names()
     ensures { OwnCertificateNames }
 {}
 
-/// The certificate name of a fixed algorithm is not that of somebody's own.
+/// The certificate name of a fixed algorithm is no private-use name.
 pub fn taken_certificate_name()
     ensures { TakenCertificateName }
 {}

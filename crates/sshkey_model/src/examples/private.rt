@@ -1,6 +1,6 @@
 //! Worked examples of key derivations, key pairs and private keys.
 
-ghost use Rattle.sshkey_model.specs.PrivateExamples.{CipherTable, UnknownCipher, PaddingLengths, KdfHeaders, KdfOptions, FirstBits, WrittenScalars, ReadScalars, RefusedScalars, Ed25519Pairs, RsaPairs, EcdsaPairs, Checkints, RefusedFronts, WrittenPairs, WrittenKey, ReadKey, RefusedParts, RefusedPaddings, PaddingEdges, EncryptedKeys, RefusedEncryptedKeys, Tags};
+ghost use Rattle.sshkey_model.specs.PrivateExamples.{CipherTable, UnknownCipher, PaddingLengths, KdfHeaders, KdfOptions, FirstBits, WrittenScalars, ReadScalars, ReadShortScalars, RefusedScalars, Ed25519Pairs, RsaPairs, EcdsaPairs, Checkints, RefusedFronts, WrittenPairs, WrittenKey, ReadKey, RefusedParts, RefusedPaddings, PaddingEdges, EncryptedKeys, RefusedEncryptedKeys, Tags};
 
 /// The name, block and tag of each cipher.
 pub fn cipher_table()
@@ -42,7 +42,12 @@ pub fn read_scalars()
     ensures { ReadScalars }
 {}
 
-/// Scalars of 31, 33 and 34 bytes where 32 are wanted.
+/// The shortest mpint of a scalar that begins with zeros is read at full width.
+pub fn read_short_scalars()
+    ensures { ReadShortScalars }
+{}
+
+/// Where 32 bytes are wanted: fewer that are no mpint or a negative one, 33 that begin with 01, and 34.
 pub fn refused_scalars()
     ensures { RefusedScalars }
 {}

@@ -12,7 +12,7 @@ pub fn plain_signatures()
     ensures { PlainSignatures }
 {}
 
-/// The sizes of signatures: 40 bytes of DSA, 64 of Ed25519, any of RSA with a hash, at least 1 of somebody's own.
+/// The sizes of signatures: 40 bytes of DSA, 64 of Ed25519, any of RSA with a hash, at least 1 of a private-use algorithm.
 pub fn signature_sizes()
     ensures { SignatureSizes }
 {}

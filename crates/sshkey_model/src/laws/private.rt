@@ -4,7 +4,7 @@ ghost use Rattle.std.specs.Prelude.{ℕ};
 ghost use Rattle.sshkey_model.specs.Parts.{IsPrefixFree, Any};
 ghost use Rattle.sshkey_model.specs.Grammar.{IsSpelled, spelled};
 ghost use Rattle.sshkey_model.specs.Names.{Algorithm};
-ghost use Rattle.sshkey_model.specs.KeyDerivation.{cipher, cipher_at, kdf, kdf_at};
+ghost use Rattle.sshkey_model.specs.KeyDerivation.{cipher, cipher_at, kdf, kdf_at, kdf_algorithm};
 ghost use Rattle.sshkey_model.specs.KeyPairs.{IsScalar, HasScalarPlaces, scalar, IsRsaPrivate, rsa_private, IsEcdsaPair, IsPairUnder, HasPairPlaces, pair, IsKeyPair, HasKeyPairPlaces, keypair, normal_keypair, plain_pair, keypair_at};
 ghost use Rattle.sshkey_model.specs.PrivateKeys.{IsPrivateKey, HasPrivateKeyPlaces, private_key, normal_private_key, plain_private_key, private_key_at, decoded_private_key_at, IsDecoder};
 ghost use Rattle.sshkey_model.specs.Laws.{DetermineValues, ReadBack, ReadBackPlain};
@@ -12,6 +12,11 @@ ghost use Rattle.sshkey_model.specs.Laws.{DetermineValues, ReadBack, ReadBackPla
 /// No name of a cipher begins another.
 pub fn prefix_cipher()
     ensures { IsPrefixFree Any cipher }
+{}
+
+/// No name of a key derivation begins another.
+pub fn prefix_kdf_name()
+    ensures { IsPrefixFree Any kdf_algorithm }
 {}
 
 /// No key derivation begins another.

@@ -1,25 +1,47 @@
-//! Laws of the plain readers: each takes exactly the spellings of its kind from the front of any list of bytes.
+//! Laws of the plain readers: each takes exactly the spellings of its kind from the front of any list of bytes, and where
+//! a value may be spelled in several ways, it also gives the choices that were made.
 
 ghost use Rattle.std.specs.Prelude.{ℕ};
-ghost use Rattle.sshkey_model.specs.Parts.{Any};
-ghost use Rattle.sshkey_model.specs.Grammar.{Spells, SpellsWith, value_at, IsGrammar};
-ghost use Rattle.sshkey_model.specs.Texts.{string, IsText, text_at};
-ghost use Rattle.sshkey_model.specs.Names.{IsAlgorithm, algorithm, algorithm_at, Algorithm};
+ghost use Rattle.sshkey_model.specs.Parts.{Any, number};
+ghost use Rattle.sshkey_model.specs.Grammar.{Spells, SpellsAs, IsGrammar};
+ghost use Rattle.sshkey_model.specs.Texts.{string, IsText, text_at, texts, texts_at};
+ghost use Rattle.sshkey_model.specs.Names.{IsAlgorithm, algorithm, algorithm_at, Algorithm, curve, curve_at, hash, hash_at};
 ghost use Rattle.sshkey_model.specs.CertificateNames.{IsCertified, certificate_algorithm, certificate_algorithm_at};
 ghost use Rattle.sshkey_model.specs.Mpints.{IsMpint, mpint_at};
-ghost use Rattle.sshkey_model.specs.Keys.{IsBodyUnder, body, body_at, IsKey, HasKeyPlaces, key, key_at};
+ghost use Rattle.sshkey_model.specs.Keys.{IsBodyUnder, body, body_at, IsKey, HasKeyPlaces, key, key_at, IsEcdsa, any_ecdsa_at};
 ghost use Rattle.sshkey_model.specs.Signatures.{IsSignature, signature, signature_at};
 ghost use Rattle.sshkey_model.specs.Options.{AreOptions, HasOptionPlaces, options, options_at};
-ghost use Rattle.sshkey_model.specs.Certificates.{IsCertificate, HasCertificatePlaces, certificate, certificate_at};
+ghost use Rattle.sshkey_model.specs.Certificates.{IsCertificate, HasCertificatePlaces, certificate, certificate_at, certificate_type, type_at, IsTime, time_at, IsEnd, end_at, AreSignedFields, HaveSignedPlaces, to_be_signed, signed_fields_at};
 ghost use Rattle.sshkey_model.specs.SshSignatures.{IsSshSignature, HasSshSignaturePlaces, ssh_signature, ssh_signature_at};
-ghost use Rattle.sshkey_model.specs.KeyDerivation.{cipher, cipher_at, kdf, kdf_at};
-ghost use Rattle.sshkey_model.specs.KeyPairs.{IsScalar, HasScalarPlaces, scalar, scalar_at, IsPairUnder, HasPairPlaces, pair, pair_at, IsKeyPair, HasKeyPairPlaces, keypair, keypair_at};
+ghost use Rattle.sshkey_model.specs.KeyDerivation.{cipher, cipher_at, kdf, kdf_at, kdf_algorithm, kdf_algorithm_at};
+ghost use Rattle.sshkey_model.specs.KeyPairs.{IsScalar, HasScalarPlaces, scalar, scalar_at, IsPairUnder, HasPairPlaces, pair, pair_at, IsKeyPair, HasKeyPairPlaces, keypair, keypair_at, IsRsaPrivate, rsa_private, rsa_private_at, IsEcdsaPair, any_ecdsa_pair_at};
 ghost use Rattle.sshkey_model.specs.PrivateKeys.{IsPrivateKey, HasPrivateKeyPlaces, private_key, private_key_at};
+ghost use Rattle.std.specs.List.{AllByRecursion};
+ghost use Rattle.std.specs.Int.{w64};
+ghost use Rattle.sshkey_model.specs.Points.{IsPointOf, point_at};
 
 /// Texts are read exactly where they are spelled.
 #[tactic(auto, using(crate::proofs::Grammars::grammar, crate::proofs::TextReaders::text_reads))]
 pub fn exact_text()
     ensures { IsGrammar (Spells IsText string) text_at }
+{}
+
+/// Lists of texts are read exactly where they are spelled.
+#[tactic(auto, using(crate::proofs::Grammars::grammar, crate::proofs::TextReaders::texts_reads))]
+pub fn exact_texts()
+    ensures { IsGrammar (Spells (AllByRecursion IsText) texts) texts_at }
+{}
+
+/// Names of curves are read exactly where they are spelled.
+#[tactic(auto, using(crate::proofs::Grammars::grammar, crate::proofs::NameReaders::curve_reads))]
+pub fn exact_curve()
+    ensures { IsGrammar (Spells Any curve) curve_at }
+{}
+
+/// Names of hashes are read exactly where they are spelled.
+#[tactic(auto, using(crate::proofs::Grammars::grammar, crate::proofs::NameReaders::hash_reads))]
+pub fn exact_hash()
+    ensures { IsGrammar (Spells Any hash) hash_at }
 {}
 
 /// Mpints are read exactly where they are spelled.
@@ -40,16 +62,28 @@ pub fn exact_certificate_name()
     ensures { IsGrammar (Spells IsCertified certificate_algorithm) certificate_algorithm_at }
 {}
 
+/// Points are read exactly where they are spelled, each with its curve.
+#[tactic(auto, using(crate::proofs::Grammars::grammar, crate::proofs::PointReaders::point_reads))]
+pub fn exact_point()
+    ensures { IsGrammar (Spells IsPointOf (λ x. string x.1)) point_at }
+{}
+
 /// Under each algorithm key bodies are read exactly where they are spelled.
 #[tactic(auto, using(crate::proofs::Grammars::grammar, crate::proofs::KeyReaders::body_reads))]
 pub fn exact_body()
     ensures { (a : Algorithm) → IsGrammar (Spells (IsBodyUnder a) body) (body_at a) }
 {}
 
+/// ECDSA keys are read exactly where they are spelled, of whichever curve.
+#[tactic(auto, using(crate::proofs::Grammars::grammar, crate::proofs::KeyReaders::any_ecdsa_reads))]
+pub fn exact_ecdsa()
+    ensures { IsGrammar (Spells IsEcdsa body) any_ecdsa_at }
+{}
+
 /// Public keys are read exactly where they are spelled, under one of their names.
-#[tactic(auto, using(crate::proofs::Grammars::grammar_with, crate::proofs::KeyReaders::key_reads))]
+#[tactic(auto, using(crate::proofs::Grammars::grammar, crate::proofs::KeyReaders::key_reads))]
 pub fn exact_key()
-    ensures { IsGrammar (SpellsWith IsKey HasKeyPlaces key) (value_at key_at) }
+    ensures { IsGrammar (SpellsAs IsKey HasKeyPlaces key) key_at }
 {}
 
 /// Signatures are read exactly where they are spelled.
@@ -59,21 +93,45 @@ pub fn exact_signature()
 {}
 
 /// Options are read exactly where they are spelled, empty values in either way.
-#[tactic(auto, using(crate::proofs::Grammars::grammar_with, crate::proofs::OptionReaders::options_reads))]
+#[tactic(auto, using(crate::proofs::Grammars::grammar, crate::proofs::OptionReaders::options_reads))]
 pub fn exact_options()
-    ensures { IsGrammar (SpellsWith AreOptions HasOptionPlaces options) (value_at options_at) }
+    ensures { IsGrammar (SpellsAs AreOptions HasOptionPlaces options) options_at }
+{}
+
+/// Types of certificates are read exactly where they are spelled.
+#[tactic(auto, using(crate::proofs::Grammars::grammar, crate::proofs::CertificateReaders::type_reads))]
+pub fn exact_certificate_type()
+    ensures { IsGrammar (Spells Any certificate_type) type_at }
+{}
+
+/// Times are read exactly where they are spelled: up to 2^63 - 1.
+#[tactic(auto, using(crate::proofs::Grammars::grammar, crate::proofs::CertificateReaders::time_reads))]
+pub fn exact_time()
+    ensures { IsGrammar (Spells IsTime (number w64)) time_at }
+{}
+
+/// Ends of certificates are read exactly where they are spelled: a time, or 2^64 - 1.
+#[tactic(auto, using(crate::proofs::Grammars::grammar, crate::proofs::CertificateReaders::end_reads))]
+pub fn exact_end()
+    ensures { IsGrammar (Spells IsEnd (number w64)) end_at }
+{}
+
+/// What the signature of a certificate is over is read exactly where it is spelled.
+#[tactic(auto, using(crate::proofs::Grammars::grammar, crate::proofs::CertificateReaders::signed_fields_reads))]
+pub fn exact_signed_fields()
+    ensures { IsGrammar (SpellsAs AreSignedFields HaveSignedPlaces to_be_signed) signed_fields_at }
 {}
 
 /// Certificates are read exactly where they are spelled.
-#[tactic(auto, using(crate::proofs::Grammars::grammar_with, crate::proofs::CertificateReaders::certificate_reads))]
+#[tactic(auto, using(crate::proofs::Grammars::grammar, crate::proofs::CertificateReaders::certificate_reads))]
 pub fn exact_certificate()
-    ensures { IsGrammar (SpellsWith IsCertificate HasCertificatePlaces certificate) (value_at certificate_at) }
+    ensures { IsGrammar (SpellsAs IsCertificate HasCertificatePlaces certificate) certificate_at }
 {}
 
 /// SSH signatures are read exactly where they are spelled.
-#[tactic(auto, using(crate::proofs::Grammars::grammar_with, crate::proofs::SshSignatureReaders::ssh_signature_reads))]
+#[tactic(auto, using(crate::proofs::Grammars::grammar, crate::proofs::SshSignatureReaders::ssh_signature_reads))]
 pub fn exact_ssh_signature()
-    ensures { IsGrammar (SpellsWith IsSshSignature HasSshSignaturePlaces ssh_signature) (value_at ssh_signature_at) }
+    ensures { IsGrammar (SpellsAs IsSshSignature HasSshSignaturePlaces ssh_signature) ssh_signature_at }
 {}
 
 /// Names of ciphers are read exactly where they are spelled.
@@ -82,30 +140,49 @@ pub fn exact_cipher()
     ensures { IsGrammar (Spells Any cipher) cipher_at }
 {}
 
+/// Names of key derivations are read exactly where they are spelled.
+#[tactic(auto, using(crate::proofs::Grammars::grammar, crate::proofs::KeyDerivationReaders::kdf_algorithm_reads))]
+pub fn exact_kdf_name()
+    ensures { IsGrammar (Spells Any kdf_algorithm) kdf_algorithm_at }
+{}
+
 /// Key derivations are read exactly where they are spelled.
 #[tactic(auto, using(crate::proofs::Grammars::grammar, crate::proofs::KeyDerivationReaders::kdf_reads))]
 pub fn exact_kdf()
     ensures { IsGrammar (Spells Any kdf) kdf_at }
 {}
 
-/// Private scalars of a size are read exactly where they are spelled, with a leading 00 and without.
+/// Private scalars of a size are read exactly where they are spelled, with a leading 00 and without,
+/// and as the shortest mpint.
 pub fn exact_scalar()
-    ensures { (size : ℕ) → IsGrammar (SpellsWith (IsScalar size) HasScalarPlaces scalar) (value_at (scalar_at size)) }
+    ensures { (size : ℕ) → IsGrammar (SpellsAs (IsScalar size) HasScalarPlaces scalar) (scalar_at size) }
+{}
+
+/// Private halves of RSA pairs are read exactly where they are spelled.
+#[tactic(auto, using(crate::proofs::Grammars::grammar, crate::proofs::KeyPairReaders::rsa_private_reads))]
+pub fn exact_rsa_private()
+    ensures { IsGrammar (Spells IsRsaPrivate rsa_private) rsa_private_at }
+{}
+
+/// Pairs of ECDSA are read exactly where they are spelled, of whichever curve.
+#[tactic(auto, using(crate::proofs::Grammars::grammar, crate::proofs::KeyPairReaders::any_ecdsa_pair_reads))]
+pub fn exact_ecdsa_pair()
+    ensures { IsGrammar (SpellsAs IsEcdsaPair HasPairPlaces pair) any_ecdsa_pair_at }
 {}
 
 /// Under each algorithm key pairs are read exactly where they are spelled.
 pub fn exact_pair()
-    ensures { (a : Algorithm) → IsGrammar (SpellsWith (IsPairUnder a) HasPairPlaces pair) (value_at (pair_at a)) }
+    ensures { (a : Algorithm) → IsGrammar (SpellsAs (IsPairUnder a) HasPairPlaces pair) (pair_at a) }
 {}
 
 /// Key pairs with their names are read exactly where they are spelled.
-#[tactic(auto, using(crate::proofs::Grammars::grammar_with, crate::proofs::KeyPairReaders::keypair_reads))]
+#[tactic(auto, using(crate::proofs::Grammars::grammar, crate::proofs::KeyPairReaders::keypair_reads))]
 pub fn exact_keypair()
-    ensures { IsGrammar (SpellsWith IsKeyPair HasKeyPairPlaces keypair) (value_at keypair_at) }
+    ensures { IsGrammar (SpellsAs IsKeyPair HasKeyPairPlaces keypair) keypair_at }
 {}
 
 /// Private keys are read exactly where they are spelled.
-#[tactic(auto, using(crate::proofs::Grammars::grammar_with, crate::proofs::PrivateKeyReaders::private_key_reads))]
+#[tactic(auto, using(crate::proofs::Grammars::grammar, crate::proofs::PrivateKeyReaders::private_key_reads))]
 pub fn exact_private_key()
-    ensures { IsGrammar (SpellsWith IsPrivateKey HasPrivateKeyPlaces private_key) (value_at private_key_at) }
+    ensures { IsGrammar (SpellsAs IsPrivateKey HasPrivateKeyPlaces private_key) private_key_at }
 {}

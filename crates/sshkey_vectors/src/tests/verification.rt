@@ -1,7 +1,8 @@
 //! What a verifier is asked, and what is never asked.
 
+use super::openssh::{EACH, Made};
 use crate::{AcceptAll, Fixed, Only, RefuseAll};
-use sshkey_base::{Algorithm, Error};
+use sshkey_base::{Algorithm, Error, decode_whole};
 use sshkey_keys::{KeyData, Signature, SigningKey};
 use sshkey_kinds::{Ed25519PublicKey, OpaquePublicKey, SkEd25519};
 use std::alloc::Global;
@@ -46,6 +47,38 @@ fn a_security_key_is_asked_about_digests(rt: HostRuntime) {
     assert!(rt; security_key_answers(rt.alloc(), b"a", Err(Error::Crypto)));
 }
 
+/// The verifier that knows a signature of that algorithm, whose last `len` bytes are not wrapped.
+fn knower(alloc: Global, made: &Made) -> Result<Only, Error> {
+    let algorithm = Algorithm::new(alloc, made.name)?;
+    let start = made.signature.len().saturating_sub(made.len);
+    Ok(Only::new(
+        algorithm,
+        Vec::from_slice(alloc, made.signed)?,
+        Vec::from_slice(alloc, &made.signature[start..])?,
+    ))
+}
+
+/// Who knows the signature accepts it under its key, for what was signed alone.
+fn is_known(alloc: Global, made: &Made) -> Result<bool, Error> {
+    let only = knower(alloc, made)?;
+    let key: KeyData = decode_whole(alloc, made.key)?;
+    let signature = Signature::from_bytes(alloc, made.signature)?;
+    Ok(
+        key.verify(alloc, made.signed, &signature, &only) == Ok(())
+            && key.verify(alloc, b"message", &signature, &only) == Err(Error::Crypto),
+    )
+}
+
+/// Shows that the verifier is asked about the message as it was given, and about the algorithm and
+/// the bytes of the signature without their wrapping. Whether a signature is genuine is not asked
+/// here: `openssh` says who did.
+#[test]
+fn a_verifier_is_asked_what_was_signed(rt: HostRuntime) {
+    for made in EACH {
+        assert!(rt; is_known(rt.alloc(), made) == Ok(true), "{}", made.name);
+    }
+}
+
 /// Under the key, the signature of the security key is refused with that algorithm.
 fn is_unsupported(alloc: Global, key: &KeyData, algorithm: Algorithm) -> bool {
     match Signature::from_bytes(alloc, SK_ED25519) {
@@ -70,7 +103,7 @@ fn an_opaque_key_is_unsupported(alloc: Global, name: &str) -> Result<bool, Error
 }
 
 #[test]
-fn a_key_of_somebodys_own_is_unsupported(rt: HostRuntime) {
+fn a_private_use_key_is_unsupported(rt: HostRuntime) {
     let answer = an_opaque_key_is_unsupported(rt.alloc(), "name@example.com");
     assert!(rt; answer == Ok(true));
 }

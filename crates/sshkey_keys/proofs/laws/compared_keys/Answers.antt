@@ -1,6 +1,8 @@
-use Rattle.std.proofs.Common.{rules, refl, ap, ◌≡◌, List, ℕ}
+use Rattle.std.proofs.Common.{rules, refl, ap, sym, ◌≡◌, List, ℕ, false, true≢false, nat_eq}
+use Rattle.std.specs.Bool.{Decides}
+use Rattle.std.proofs.lemmas.Bool.{eqb-false}
 use Rattle.std.proofs.lemmas.Bool.Decides.{Decides-like}
-use Rattle.sshkey_model.specs.Keys.{Ecdsa, Opaque}
+use Rattle.sshkey_model.specs.Keys.{Key, Dsa, Ecdsa, Ed25519, Rsa, SkEcdsa, SkEd25519, Opaque}
 use Rattle.sshkey_model.specs.Names.{Algorithm, Curve, algorithm_name}
 use Rattle.sshkey_base.specs.Names.{algorithm_of}
 use Rattle.sshkey_keys.specs.Keys.{key_of}
@@ -17,6 +19,20 @@ same_point a b x y e = let s : a ≡ b = cc in let t : x ≡ y = cc in both a b 
 same_names : (n m x y : List ℕ) → Opaque n x ≡ Opaque m y → (n ≡ m) × (x ≡ y)
 same_names n m x y e = (cc, cc)
 
+-- the place of a kind in the list of kinds
+abbrev place : Key → ℕ
+place (Dsa k) = 0
+place (Ecdsa c point) = 1
+place (Ed25519 k) = 2
+place (Rsa k) = 3
+place (SkEcdsa k) = 4
+place (SkEd25519 k) = 5
+place (Opaque name k) = 6
+
+-- keys of two kinds are not the same
+apart : (k l : Key) → nat_eq (place k) (place l) ≡ false → Decides false (k ≡ l)
+apart k l e = (λ never. absurd (true≢false (sym never)), λ same. absurd (eqb-false (place k) (place l) e (ap place same)))
+
 pub returns-clause-equal : goal.returns-clause-equal
 returns-clause-equal c (kinds.Dsa x) (kinds.Dsa y) is_x is_y = c.compared_dsa_keys.ensures.equal x y
 returns-clause-equal c (kinds.Ecdsa x) (kinds.Ecdsa y) is_x is_y =
@@ -27,7 +43,7 @@ returns-clause-equal c (kinds.SkEcdsaSha2NistP256 x) (kinds.SkEcdsaSha2NistP256 
 returns-clause-equal c (kinds.SkEd25519 x) (kinds.SkEd25519 y) is_x is_y = c.compared_sk_ed25519_keys.ensures.equal x y
 returns-clause-equal c (kinds.Other x) (kinds.Other y) is_x is_y =
     Decides-like _ (ap (λ (p : Algorithm × List ℕ). Opaque (algorithm_name p.0) p.1)) (λ e. let s = same_names _ _ _ _ e in both _ _ _ _ (same_name (algorithm_of x.algorithm) (algorithm_of y.algorithm) is_x.0 is_y.0 s.0) s.1) (c.compared_opaque_keys.ensures.equal x y)
-returns-clause-equal c x y is_x is_y = (λ e. absurd cc, λ e. absurd cc)
+returns-clause-equal c x y is_x is_y = apart (key_of x) (key_of y) refl
 
 pub returns-clause-written : goal.returns-clause-written
 returns-clause-written c x y is_x is_y fits_x fits_y =

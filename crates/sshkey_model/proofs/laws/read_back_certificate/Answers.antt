@@ -4,4 +4,4 @@ use Rattle.sshkey_model.proofs.CertificateReaders.{certificate_reads}
 use Rattle.sshkey_model.proofs.laws.read_back_certificate.Goals as goal
 
 pub returns : goal.returns
-returns c = read_back_plain certificate certificate_reads (λ c. plain_certificate c.unsigned) (λ c _. plain_certificate_has c.unsigned)
+returns c = read_back_plain certificate certificate_reads (λ c. plain_certificate c.signed) (λ c _. plain_certificate_has c.signed)

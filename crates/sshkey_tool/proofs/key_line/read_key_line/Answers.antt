@@ -1,5 +1,6 @@
 use Rattle.std.proofs.Common.{sym, ◌∙◌}
 use Rattle.std.proofs.lemmas.Result.{err_from_is_err_and}
+use Rattle.std.proofs.lemmas.Str.{is_utf8-from_IsUtf8}
 use Rattle.sshkey_tool.proofs.ReadLines.{words_refused, word_refused, blob_refused, first_refused, line_read}
 use Rattle.sshkey_tool.proofs.key_line.read_key_line.Goals as goal
 
@@ -19,5 +20,5 @@ returns-then-not-is_same c = λ _. first_refused _ _ _ _ _ _ c.in_ok-words.ensur
     (λ same. cc (sym c.if-not-is_same.true ∙ c.is_same.ensures.1 (same ∙ sym c.algorithm_name.ensures)))
 
 pub returns : goal.returns
-returns c = rw c.in_ok-comment.ensures.text (line_read _ _ _ _ _ _ c.in_ok-words.ensures c.in_ok-blob.ensures.0 (rw c.deref.ensures.value at c.in_ok-key.ensures)
+returns c = rw c.in_ok-comment.ensures.text (line_read _ _ _ _ _ _ (is_utf8-from_IsUtf8 c.args.text.now c.utf8.text) c.in_ok-words.ensures c.in_ok-blob.ensures.0 (rw c.deref.ensures.value at c.in_ok-key.ensures)
     (c.is_same.ensures.0 c.if-not-is_same.false ∙ c.algorithm_name.ensures))

@@ -1,10 +1,12 @@
-use Rattle.std.proofs.Common.{◌≡◌, ◌≢◌, ℕ, List, Bool, true, false, Result, Ok, Err, IsErrAnd, cond, refl, sym, ap, ◌∙◌, arith}
-use Rattle.sshkey_model.specs.Reading.{Fault, EcdsaEncoding, ◌>>=◌}
-use Rattle.sshkey_model.specs.Names.{Curve, Nistp256, Nistp384, Nistp521}
-use Rattle.sshkey_model.specs.Points.{field_size, point_curve}
+use Rattle.std.proofs.Common.{◌≡◌, ℕ, List, Bool, true, false, Result, Ok, Err, IsErrAnd, cond, refl, sym, ap, ◌∙◌}
+use Rattle.sshkey_model.specs.Reading.{Fault, Ecdsa, ◌>>=◌}
+use Rattle.sshkey_model.specs.Names.{Curve}
+use Rattle.sshkey_model.specs.Points.{point_curve}
+use Rattle.sshkey_base.specs.declared.algorithm.curve.EcdsaCurve.{EcdsaCurve}
 use Rattle.sshkey_base.specs.declared.error.Error.{Error}
 use Rattle.sshkey_base.specs.Answers.{AnswersAlways}
 use Rattle.sshkey_base.specs.Causes.{cause}
+use Rattle.sshkey_base.specs.Names.{curve_of}
 use Rattle.sshkey_kinds.specs.declared.ecdsa.EcdsaPublicKey.{EcdsaPublicKey}
 use Rattle.sshkey_kinds.specs.declared.ec_point.EcPoint.{EcPoint}
 use Rattle.sshkey_kinds.specs.EcdsaPublicKey.{ecdsa_of}
@@ -12,54 +14,39 @@ use Rattle.sshkey_kinds.specs.PointSizes.{is_point_within}
 use Rattle.sshkey_kinds.specs.EcPoint.{point_of}
 use Rattle.sshkey_kinds.proofs.Points.{taken_points}
 use Rattle.sshkey_kinds.proofs.ecdsa.EcdsaPublicKey.from_sec1_bytes.Goals as goal
-use Rattle.sshkey_kinds.proofs.ecdsa.EcdsaPublicKey.from_sec1_bytes.Goals.{in-32+in_ok-from_bytes-in-32, in-48+in_ok-from_bytes-in-48, in_default+in_ok-from_bytes-in_default}
+use Rattle.sshkey_kinds.proofs.ecdsa.EcdsaPublicKey.from_sec1_bytes.Goals.{in-NistP256+in_ok-from_bytes-in-NistP256, in-NistP384+in_ok-from_bytes-in-NistP384, in-NistP521+in_ok-from_bytes-in-NistP521}
 
--- the size is not known, nor is the curve
-no_curve : (m : Result Curve Fault) (b : List ℕ) (e : Error) (r : Result EcdsaPublicKey Error) → AnswersAlways (λ (n : ℕ). n) cause (m >>= λ c. Ok (field_size c)) (Err e) → IsErrAnd r (λ x. x ≡ e) → AnswersAlways ecdsa_of cause (m >>= λ c. Ok (c, b)) r
+-- the curve is not known
+no_curve : (m : Result Curve Fault) (b : List ℕ) (e : Error) (r : Result EcdsaPublicKey Error) → AnswersAlways curve_of cause m (Err e) → IsErrAnd r (λ x. x ≡ e) → AnswersAlways ecdsa_of cause (m >>= λ c. Ok (c, b)) r
 no_curve (Ok c) b e r h same = absurd h
 no_curve (Err f) b e (Ok k) h same = absurd same
 no_curve (Err f) b e (Err x) h same = ap cause same ∙ h
 
-pub returns-in_err-sec1_field_size-clause-answer : goal.returns-in_err-sec1_field_size-clause-answer
-returns-in_err-sec1_field_size-clause-answer c = no_curve (point_curve c.args.bytes.now) c.args.bytes.now _ _ c.in_err-sec1_field_size.ensures c.from_residual.ensures.1
+pub returns-in_err-sec1_curve-clause-answer : goal.returns-in_err-sec1_curve-clause-answer
+returns-in_err-sec1_curve-clause-answer c = no_curve (point_curve c.args.bytes.now) c.args.bytes.now _ _ c.in_err-sec1_curve.ensures c.from_residual.ensures.1
 
--- the curve of a size
-same_size : (c d : Curve) → field_size c ≡ field_size d → c ≡ d
-same_size Nistp256 Nistp256 e = refl
-same_size Nistp384 Nistp384 e = refl
-same_size Nistp521 Nistp521 e = refl
-same_size Nistp256 Nistp384 e = absurd (omega (arith, e))
-same_size Nistp256 Nistp521 e = absurd (omega (arith, e))
-same_size Nistp384 Nistp256 e = absurd (omega (arith, e))
-same_size Nistp384 Nistp521 e = absurd (omega (arith, e))
-same_size Nistp521 Nistp256 e = absurd (omega (arith, e))
-same_size Nistp521 Nistp384 e = absurd (omega (arith, e))
+on_curve : (m : Result Curve Fault) (b : List ℕ) (d : EcdsaCurve) (k : EcdsaPublicKey) → AnswersAlways curve_of cause m (Ok d) → ecdsa_of k ≡ (curve_of d, b) → AnswersAlways ecdsa_of cause (m >>= λ c. Ok (c, b)) (Ok k)
+on_curve (Ok c) b d k h is = is ∙ ap (λ (x : Curve). (x, b)) h
+on_curve (Err f) b d k h is = absurd h
 
-on_curve : (m : Result Curve Fault) (b : List ℕ) (n : ℕ) (d : Curve) (k : EcdsaPublicKey) → AnswersAlways (λ (n : ℕ). n) cause (m >>= λ c. Ok (field_size c)) (Ok n) → n ≡ field_size d → ecdsa_of k ≡ (d, b) → AnswersAlways ecdsa_of cause (m >>= λ c. Ok (c, b)) (Ok k)
-on_curve (Ok c) b n d k h e is = is ∙ ap (λ (x : Curve). (x, b)) (sym (same_size c d (sym h ∙ e)))
-on_curve (Err f) b n d k h e is = absurd h
-
-last_size : (m : Result Curve Fault) (n : ℕ) → AnswersAlways (λ (n : ℕ). n) cause (m >>= λ c. Ok (field_size c)) (Ok n) → n ≢ 32 → n ≢ 48 → n ≡ 66
-last_size (Ok Nistp256) n h a b = absurd (a h)
-last_size (Ok Nistp384) n h a b = absurd (b h)
-last_size (Ok Nistp521) n h a b = h
-last_size (Err f) n h a b = absurd h
-
-its_bytes : {n : ℕ} (t : Bool) (b : List ℕ) (p : EcPoint n) → AnswersAlways (point_of {n = n}) cause (cond t (Ok b) (Err EcdsaEncoding)) (Ok p) → point_of p ≡ b
+its_bytes : {n : ℕ} (t : Bool) (b : List ℕ) (p : EcPoint n) → AnswersAlways (point_of {n = n}) cause (cond t (Ok b) (Err Ecdsa)) (Ok p) → point_of p ≡ b
 its_bytes true b p h = h
 its_bytes false b p h = absurd h
+
+both : (c d : Curve) (p b : List ℕ) → c ≡ d → p ≡ b → ◌≡◌ {A = Curve × List ℕ} (c, p) (d, b)
+both c d p b e f = rw (e, f) refl
 
 pub returns-clause-answer : goal.returns-clause-answer
 returns-clause-answer c =
     let b = c.args.bytes.now in
     elim c.match-branch-2.branch [
-      | in-32+in_ok-from_bytes-in-32 w ↦ rw w.key-is (on_curve (point_curve b) b _ Nistp256 _ c.in_ok-sec1_field_size.ensures w.in-32.is (ap (λ (p : List ℕ). (Nistp256, p)) (its_bytes (is_point_within 65 b) b _ w.in_ok-from_bytes-in-32.ensures)))
-      | in-48+in_ok-from_bytes-in-48 w ↦ rw w.key-is (on_curve (point_curve b) b _ Nistp384 _ c.in_ok-sec1_field_size.ensures w.in-48.is (ap (λ (p : List ℕ). (Nistp384, p)) (its_bytes (is_point_within 97 b) b _ w.in_ok-from_bytes-in-48.ensures)))
-      | in_default+in_ok-from_bytes-in_default w ↦ rw w.key-is (on_curve (point_curve b) b _ Nistp521 _ c.in_ok-sec1_field_size.ensures (last_size (point_curve b) _ c.in_ok-sec1_field_size.ensures (λ e. omega (arith, e)) (λ e. omega (arith, e))) (ap (λ (p : List ℕ). (Nistp521, p)) (its_bytes (is_point_within 133 b) b _ w.in_ok-from_bytes-in_default.ensures)))
+      | in-NistP256+in_ok-from_bytes-in-NistP256 w ↦ rw w.key-is (on_curve (point_curve b) b _ _ c.in_ok-sec1_curve.ensures (both _ _ _ _ (sym (ap curve_of w.in-NistP256.is)) (its_bytes (is_point_within 65 b) b _ w.in_ok-from_bytes-in-NistP256.ensures)))
+      | in-NistP384+in_ok-from_bytes-in-NistP384 w ↦ rw w.key-is (on_curve (point_curve b) b _ _ c.in_ok-sec1_curve.ensures (both _ _ _ _ (sym (ap curve_of w.in-NistP384.is)) (its_bytes (is_point_within 97 b) b _ w.in_ok-from_bytes-in-NistP384.ensures)))
+      | in-NistP521+in_ok-from_bytes-in-NistP521 w ↦ rw w.key-is (on_curve (point_curve b) b _ _ c.in_ok-sec1_curve.ensures (both _ _ _ _ (sym (ap curve_of w.in-NistP521.is)) (its_bytes (is_point_within 133 b) b _ w.in_ok-from_bytes-in-NistP521.ensures)))
     ]
 
-pub returns-in_err-sec1_field_size-clause-exactly : goal.returns-in_err-sec1_field_size-clause-exactly
-returns-in_err-sec1_field_size-clause-exactly c = taken_points c.args.bytes.now _ (returns-in_err-sec1_field_size-clause-answer c)
+pub returns-in_err-sec1_curve-clause-exactly : goal.returns-in_err-sec1_curve-clause-exactly
+returns-in_err-sec1_curve-clause-exactly c = taken_points c.args.bytes.now _ (returns-in_err-sec1_curve-clause-answer c)
 
 pub returns-clause-exactly : goal.returns-clause-exactly
 returns-clause-exactly c = taken_points c.args.bytes.now _ (returns-clause-answer c)

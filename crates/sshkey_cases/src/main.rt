@@ -1,0 +1,31 @@
+//! Answers the questions of a table, line by line. A line is a question and what it is about, in the
+//! words of `bytes`; it is written again with its answer behind it. Comments and empty lines are
+//! written as they are. The questions stand in the file `stdin`, and with their answers in `stdout`.
+#![tactic(auto)]
+
+mod bytes;
+mod keys;
+mod kinds;
+mod names;
+mod questions;
+mod signatures;
+mod wire;
+
+use std::io::{self, BufRead, BufReader, Write};
+
+fn main(rt: HostRuntime) -> io::Result<()> {
+    let alloc = rt.alloc();
+    let mut output = io::writer(&rt);
+    for line in BufReader::new(alloc, rt.reader())?.lines(alloc) {
+        let line = line?;
+        if line.is_empty() || line.starts_with('#') {
+            writeln!(output, "{line}")?;
+            continue;
+        }
+        match questions::answer_line(alloc, &line) {
+            Ok(answer) => writeln!(output, "{line} = {answer}")?,
+            Err(error) => writeln!(output, "{line} = {error}")?,
+        }
+    }
+    Ok(())
+}

@@ -1,0 +1,146 @@
+//! The questions.
+
+use crate::bytes::{NO_LINE, part, parts, text};
+use crate::wire::shown;
+use crate::{keys, kinds, names, signatures, wire};
+use sshkey_base::{Algorithm, AlgorithmName, EcdsaCurve, Error, HashAlg, Mpint, Result};
+use sshkey_keys::{KeyData, Signature};
+use sshkey_kinds::{
+    DsaPublicKey, EcdsaPublicKey, Ed25519PublicKey, OpaquePublicKeyBytes, RsaPublicKey,
+    SkEcdsaSha2NistP256, SkEd25519,
+};
+use sshkey_tool::run;
+use std::alloc::Global;
+
+/// The answer to a line: a question and the byte strings that it is about.
+pub(crate) fn answer_line(alloc: Global, line: &str) -> Result<String> {
+    let (question, words) = line.split_once(' ').unwrap_or((line, ""));
+    if question == "beginnings" {
+        let (question, words) = words.split_once(' ').unwrap_or((words, ""));
+        return beginnings(alloc, question, part(&parts(alloc, words)?, 0));
+    }
+    answer(alloc, question, &parts(alloc, words)?)
+}
+
+/// The answers to a question about each beginning of the bytes, from none of them to all.
+fn beginnings(alloc: Global, question: &str, bytes: &[u8]) -> Result<String> {
+    let mut answers = String::new(alloc);
+    let mut from = 0;
+    let mut last = said_of(alloc, question, &[])?;
+    for len in 1..=bytes.len() {
+        let next = said_of(alloc, question, bytes.get(..len).unwrap_or(bytes))?;
+        if next != last {
+            answers.push_str(&format!(in alloc; "{from} to {}: {last}; ", len - 1)?)?;
+            from = len;
+            last = next;
+        }
+    }
+    answers.push_str(&format!(in alloc; "{from} to {}: {last}", bytes.len())?)?;
+    Ok(answers)
+}
+
+/// What is answered about one byte string, or the text of the refusal. Refused when out of memory
+/// alone.
+fn said_of(alloc: Global, question: &str, bytes: &[u8]) -> Result<String> {
+    let parts = vec![in alloc; bytes.to_vec(alloc)?]?;
+    match answer(alloc, question, &parts) {
+        Ok(text) => Ok(text),
+        Err(Error::Memory) => Err(Error::Memory),
+        Err(error) => Ok(error.to_string(alloc)?),
+    }
+}
+
+/// The answer to a question about byte strings.
+fn answer(alloc: Global, question: &str, parts: &[Vec<u8>]) -> Result<String> {
+    let bytes = part(parts, 0);
+    match question {
+        "u8" => wire::front::<u8>(alloc, bytes),
+        "u32" => wire::front::<u32>(alloc, bytes),
+        "u64" => wire::front::<u64>(alloc, bytes),
+        "count" => wire::front::<usize>(alloc, bytes),
+        "string" => wire::kept::<Vec<u8>>(alloc, bytes),
+        "seven" => wire::kept::<[u8; 7]>(alloc, bytes),
+        "short" => wire::short(alloc, bytes),
+        "text" => wire::front::<String>(alloc, bytes),
+        "list" => wire::list(alloc, bytes),
+        "boxed" => wire::boxed(alloc, bytes),
+        "mpint" => wire::front::<Mpint>(alloc, bytes),
+        "number" => wire::number(alloc, bytes),
+        "positive" => wire::positive(alloc, bytes),
+        "rising-mpints" => wire::rising::<Mpint>(alloc, parts),
+        "line" => shown_by_program(alloc, bytes),
+        _ => answer_of_names(alloc, question, parts),
+    }
+}
+
+fn answer_of_names(alloc: Global, question: &str, parts: &[Vec<u8>]) -> Result<String> {
+    let bytes = part(parts, 0);
+    match question {
+        "algorithm" => wire::front::<Algorithm>(alloc, bytes),
+        "algorithm-name" => names::algorithm(alloc, text(parts, 0)?),
+        "certified-algorithm" => names::certified(alloc, bytes),
+        "certified-name" => shown(alloc, Algorithm::new_certificate(alloc, text(parts, 0)?)),
+        "private-name" => AlgorithmName::new(alloc, text(parts, 0)?)?.certificate_type(alloc),
+        "private-certified-name" => {
+            shown(
+                alloc,
+                AlgorithmName::from_certificate_type(alloc, text(parts, 0)?),
+            )
+        }
+        "curve" => wire::front::<EcdsaCurve>(alloc, bytes),
+        "curve-name" => shown(alloc, EcdsaCurve::new(text(parts, 0)?)),
+        "hash" => wire::front::<HashAlg>(alloc, bytes),
+        "hash-name" => shown(alloc, HashAlg::new(text(parts, 0)?)),
+        "digest" => names::digest(alloc, parts),
+        "rising-algorithms" => wire::rising::<Algorithm>(alloc, parts),
+        _ => answer_of_kinds(alloc, question, parts),
+    }
+}
+
+fn answer_of_kinds(alloc: Global, question: &str, parts: &[Vec<u8>]) -> Result<String> {
+    let bytes = part(parts, 0);
+    match question {
+        "point-256" => kinds::point::<65>(alloc, bytes),
+        "point-384" => kinds::point::<97>(alloc, bytes),
+        "point-521" => kinds::point::<133>(alloc, bytes),
+        "point-of-no-curve" => kinds::point::<64>(alloc, bytes),
+        "point" => kinds::curve_of_point(alloc, bytes),
+        "ed25519-bytes" => shown(alloc, Ed25519PublicKey::try_from(bytes)),
+        "dsa-body" => wire::whole::<DsaPublicKey>(alloc, bytes),
+        "ecdsa-body" => wire::whole::<EcdsaPublicKey>(alloc, bytes),
+        "ed25519-body" => wire::whole::<Ed25519PublicKey>(alloc, bytes),
+        "rsa-body" => wire::whole::<RsaPublicKey>(alloc, bytes),
+        "sk-ecdsa-body" => wire::whole::<SkEcdsaSha2NistP256>(alloc, bytes),
+        "sk-ed25519-body" => wire::whole::<SkEd25519>(alloc, bytes),
+        "opaque-body" => wire::whole::<OpaquePublicKeyBytes>(alloc, bytes),
+        _ => answer_of_keys(alloc, question, parts),
+    }
+}
+
+fn answer_of_keys(alloc: Global, question: &str, parts: &[Vec<u8>]) -> Result<String> {
+    let bytes = part(parts, 0);
+    match question {
+        "key" => wire::whole::<KeyData>(alloc, bytes),
+        "key-in-front" => wire::kept::<KeyData>(alloc, bytes),
+        "kind" => keys::name_and_kind(alloc, bytes),
+        "fingerprints" => keys::fingerprints(alloc, bytes),
+        "body-under" => keys::named(alloc, parts),
+        "key-of-parts" => keys::made(alloc, parts),
+        "rising-keys" => wire::rising::<KeyData>(alloc, parts),
+        "signature" => signatures::whole(alloc, bytes),
+        "signature-in-front" => signatures::front(alloc, bytes),
+        "signature-of-bytes" => signatures::made(alloc, parts),
+        "rising-signatures" => wire::rising::<Signature>(alloc, parts),
+        _ => Err(NO_LINE),
+    }
+}
+
+/// The status and the output of `sshkey fingerprint` on that input. The output has room for each of
+/// its lines.
+fn shown_by_program(alloc: Global, input: &[u8]) -> Result<String> {
+    let mut left = input;
+    let mut output = Vec::with_capacity(alloc, 128)?;
+    let status = run(alloc, &["fingerprint"], &mut left, &mut output);
+    let text = std::str::from_utf8(&output)?;
+    Ok(format!(in alloc; "{status}, {}", text.trim_end_matches('\n'))?)
+}

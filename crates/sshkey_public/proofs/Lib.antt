@@ -1,0 +1,4 @@
+pub mod Cuts
+pub mod ReadLines
+pub mod Filling
+pub mod WrittenLines

@@ -1,0 +1,2 @@
+pub mod HostKeys
+pub mod Signed

@@ -1,0 +1,49 @@
+//! A host key checker's question: is the key that a host shows the one that is known?
+
+ghost use Rattle.std.specs.Prelude.{◌≡◌, ◌↔◌, IsTrue, IfOk};
+ghost use Rattle.sshkey_model.specs.Keys.{IsKey};
+ghost use Rattle.sshkey_keys.specs.Keys.{SpellsKey, key_of};
+ghost use Rattle.sshkey_uses.specs.HostKeys.{IsKnownBy};
+
+use sshkey_base::{HashAlg, Result, decode_whole};
+use sshkey_keys::laws::{compared_keys, prefix_key};
+use sshkey_keys::{Fingerprint, KeyData};
+use std::alloc::Global;
+
+/// The SHA-256 fingerprint of the key that the blob spells, if it is the known key; `None` if it
+/// is another one.
+///
+/// A blob that spells no key is refused with its first fault.
+pub fn fingerprint_if_known(
+    alloc: Global,
+    blob: &[u8],
+    known: &KeyData,
+) -> Result<Option<Fingerprint>>
+    requires { IsKey (key_of known.now) }
+    ensures { IfOk result (IsKnownBy (key_of known.now) blob.now) }
+{
+    if !is_known(alloc, blob, known)? {
+        return Ok(None);
+    }
+    Ok(Some(known.fingerprint(alloc, HashAlg::Sha256)?))
+}
+
+/// Whether the blob spells the known key. One that spells no key is refused with its first fault.
+fn is_known(alloc: Global, blob: &[u8], known: &KeyData) -> Result<bool>
+    requires { IsKey (key_of known.now) }
+    ensures { IfOk result (λ yes. IsTrue yes ↔ SpellsKey (key_of known.now) blob.now) }
+{
+    prefix_key();
+    let shown = decode_whole(alloc, blob)?;
+    Ok(is_same(&shown, known))
+}
+
+/// Whether both are the same key.
+fn is_same(shown: &KeyData, known: &KeyData) -> bool
+    requires shown { IsKey (key_of shown.now) }
+    requires known { IsKey (key_of known.now) }
+    ensures { IsTrue result ↔ (key_of shown.now ≡ key_of known.now) }
+{
+    compared_keys();
+    shown == known
+}

@@ -1,0 +1,13 @@
+//! Callers of Rafendilo, proved from the public contracts of its crates alone.
+//!
+//! Each is what a program of yours would write, and its contract is what such a program may rely
+//! on. Copy them.
+#![tactic(auto)]
+
+mod host_key;
+mod normal_blob;
+mod signed;
+
+pub use host_key::fingerprint_if_known;
+pub use normal_blob::is_normal_blob;
+pub use signed::is_signed;

@@ -1,0 +1,39 @@
+//! A verifier's question: is this blob a signature of the message under the key?
+
+ghost use Rattle.std.specs.Prelude.{◌↔◌, IsTrue, IfOk};
+ghost use Rattle.sshkey_keys.specs.Keys.{key_of};
+ghost use Rattle.sshkey_uses.specs.Signed.{Answers, IsSigned};
+
+use sshkey_base::{Error, Result};
+use sshkey_keys::laws::prefix_signature;
+use sshkey_keys::{KeyData, RawVerifier, Signature};
+use std::alloc::Global;
+
+/// Whether the blob spells a signature of the message that the verifier accepts under the key.
+///
+/// A blob that spells no signature is refused with its first fault. A signature by an algorithm
+/// that does not go with the key is no signature of the message, and the verifier is not asked.
+pub fn is_signed<V: RawVerifier>(
+    alloc: Global,
+    key: &KeyData,
+    message: &[u8],
+    blob: &[u8],
+    verifier: &V,
+) -> Result<bool>
+    ensures { IfOk result (λ yes. IsTrue yes ↔ IsSigned (V.accepts verifier.now) (key_of key.now) message.now blob.now) }
+{
+    prefix_signature();
+    let signature = Signature::from_bytes(alloc, blob)?;
+    answer_of(key.verify(alloc, message, &signature, verifier))
+}
+
+/// Yes or no, unless memory was refused.
+fn answer_of(verdict: Result<()>) -> Result<bool>
+    ensures { Answers verdict result }
+{
+    match verdict {
+        Ok(()) => Ok(true),
+        Err(error) if error == Error::Memory => Err(error),
+        Err(_) => Ok(false),
+    }
+}

@@ -1,0 +1,180 @@
+//! The program over inputs and outputs that fail. What it answers on lines is in the table of
+//! `sshkey_cases`.
+
+use sshkey_tool::run;
+use std::alloc::Global;
+use std::io::{self, ErrorKind, Read, Write};
+
+const LINE: &[u8] =
+    b"ssh-ed25519 AAAAC3NzaC1lZDI1NTE5AAAAILM+rvN+ot98qgEN796jTiQfZfG1KaT0PtFDJ/XFSqti user@example.com\r\n";
+
+const SHOWN: &[u8] = b"SHA256:UCUiLr7Pjs9wFFJMDByLgc3NrtdU344OgUM45wZPcIQ\n";
+
+const USAGE: &[u8] = b"usage: sshkey fingerprint | art <header> | normal | cert | keys | hosts\n";
+
+/// Gives at most `most` bytes a call. Each other call is interrupted, and once it has given
+/// `before` bytes it fails with `kind`.
+#[derive(Drop)]
+struct Failing<'a> {
+    bytes: &'a [u8],
+    most: usize,
+    before: usize,
+    kind: ErrorKind,
+    interrupted: bool,
+}
+
+impl Read for Failing<'_> {
+    fn read(&mut self, buffer: &mut [u8]) -> io::Result<usize> {
+        self.interrupted = !self.interrupted;
+        if self.interrupted {
+            return Err(io::Error::from(ErrorKind::Interrupted));
+        }
+        if self.before == 0 {
+            return Err(io::Error::from(self.kind));
+        }
+        let bytes = self.bytes;
+        let count = bytes
+            .len()
+            .min(buffer.len())
+            .min(self.most)
+            .min(self.before);
+        let (front, rest) = bytes.split_at(count);
+        buffer[..count].copy_from_slice(front);
+        self.bytes = rest;
+        self.before -= count;
+        Ok(count)
+    }
+}
+
+/// Takes at most `most` bytes a call. Each other call is interrupted, and once it holds `room`
+/// bytes it fails, or takes none.
+#[derive(Drop)]
+struct Narrow {
+    taken: Vec<u8>,
+    most: usize,
+    room: usize,
+    is_full: bool,
+    interrupted: bool,
+}
+
+impl Write for Narrow {
+    fn write(&mut self, bytes: &[u8]) -> io::Result<usize> {
+        self.interrupted = !self.interrupted;
+        if self.interrupted {
+            return Err(io::Error::from(ErrorKind::Interrupted));
+        }
+        let left = self.room.saturating_sub(self.taken.len());
+        if left == 0 && !self.is_full {
+            return Err(io::Error::from(ErrorKind::BrokenPipe));
+        }
+        let count = bytes.len().min(self.most).min(left);
+        self.taken.extend_from_slice(&bytes[..count])?;
+        Ok(count)
+    }
+
+    fn flush(&mut self) -> io::Result<()> {
+        Ok(())
+    }
+}
+
+const FINGERPRINT: [&str; 1] = ["fingerprint"];
+
+/// At these words it shows the usage, and leaves the input.
+fn shows_usage(alloc: Global, words: &[&str]) -> bool {
+    let mut left = LINE;
+    let mut output = Vec::new(alloc);
+    let status = run(alloc, words, &mut left, &mut output);
+    status == 2 && output.as_slice() == USAGE && left.len() == LINE.len()
+}
+
+#[test]
+fn other_words_are_judged_before_the_input(rt: HostRuntime) {
+    assert!(rt; shows_usage(rt.alloc(), &[]));
+    assert!(rt; shows_usage(rt.alloc(), &["Fingerprint"]));
+    assert!(rt; shows_usage(rt.alloc(), &["fingerprint", "x"]));
+}
+
+/// An input that fails before that byte is refused in these words.
+fn fails_before(alloc: Global, before: usize, kind: ErrorKind, text: &[u8]) -> bool {
+    let mut input = Failing {
+        bytes: LINE,
+        most: 7,
+        before,
+        kind,
+        interrupted: false,
+    };
+    let mut output = Vec::new(alloc);
+    run(alloc, &FINGERPRINT, &mut input, &mut output) == 1 && output.as_slice() == text
+}
+
+#[test]
+fn an_input_that_fails_is_refused_at_each_byte(rt: HostRuntime) {
+    let failed = b"refused: I/O error\n";
+    let full = b"refused: out of memory\n";
+    for before in 0..LINE.len() {
+        assert!(rt;
+            fails_before(rt.alloc(), before, ErrorKind::BrokenPipe, failed),
+            "{before}"
+        );
+        assert!(rt;
+            fails_before(rt.alloc(), before, ErrorKind::OutOfMemory, full),
+            "{before}"
+        );
+    }
+}
+
+#[test]
+fn short_and_interrupted_calls_change_nothing(rt: HostRuntime) {
+    let mut input = Failing {
+        bytes: LINE,
+        most: 1,
+        before: usize::MAX,
+        kind: ErrorKind::Other,
+        interrupted: false,
+    };
+    let mut output = with_room(rt.alloc(), SHOWN.len(), false);
+    let status = run(rt.alloc(), &FINGERPRINT, &mut input, &mut output);
+    assert!(rt; status == 0 && output.taken.as_slice() == SHOWN);
+}
+
+fn with_room(alloc: Global, room: usize, is_full: bool) -> Narrow {
+    Narrow {
+        taken: Vec::new(alloc),
+        most: 3,
+        room,
+        is_full,
+        interrupted: false,
+    }
+}
+
+/// An output with room for less than the text holds its beginning, and the status is 1.
+fn holds_a_beginning(
+    alloc: Global,
+    words: &[&str],
+    text: &[u8],
+    room: usize,
+    is_full: bool,
+) -> bool {
+    let mut left = LINE;
+    let mut output = with_room(alloc, room, is_full);
+    let status = run(alloc, words, &mut left, &mut output);
+    let taken = output.taken.as_slice();
+    status == 1 && taken.len() == room && text.starts_with(taken)
+}
+
+#[test]
+fn an_output_that_fails_holds_a_beginning(rt: HostRuntime) {
+    let alloc = rt.alloc();
+    for (words, text) in [(FINGERPRINT, SHOWN), (["other"], USAGE)] {
+        for room in 0..text.len() {
+            assert!(rt;
+                holds_a_beginning(alloc, &words, text, room, false),
+                "{room}"
+            );
+            assert!(rt;
+                holds_a_beginning(alloc, &words, text, room, true),
+                "{room}"
+            );
+        }
+    }
+}

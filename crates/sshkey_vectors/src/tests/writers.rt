@@ -1,0 +1,91 @@
+//! Writers, and values that are written in parts.
+
+ghost use Rattle.std.specs.Prelude.{◌≤◌};
+
+use sshkey_base::encoding::{Error, Result};
+use sshkey_base::{
+    Encode, SliceWriter, Writer, encode_both, encode_list, encode_string, encode_vec, list_len,
+    string_len,
+};
+use std::alloc::Global;
+
+/// `testing` as a string (RFC 4251, section 5).
+const TESTING: [u8; 11] = *b"\0\0\0\x07testing";
+
+/// A string in each of the types that hold one, and two bytes more, in a vector.
+fn strings(alloc: Global) -> Result<bool> {
+    let mut written = encode_vec(alloc, &"testing")?;
+    let same = encode_vec(alloc, b"testing")?;
+    let slice = encode_vec(alloc, &b"testing".as_slice())?;
+    written.write(&[1, 2])?;
+    Ok(
+        written.starts_with(&TESTING)
+            && written.ends_with(&[1, 2])
+            && written.len() == 13
+            && same == slice
+            && same.as_slice() == TESTING.as_slice()
+            && string_len(b"testing") == Ok(11),
+    )
+}
+
+#[test]
+fn into_a_vector(rt: HostRuntime) {
+    assert!(rt; strings(rt.alloc()) == Ok(true));
+}
+
+/// Writes a number in a box, two numbers, a string, and a list of two numbers.
+fn write_parts<W: Writer>(writer: &mut W) -> Result<()> {
+    256u32.encode_prefixed(writer)?;
+    encode_both(&513u32, &9u8, writer)?;
+    encode_string(&[4, 5], writer)?;
+    encode_list(&[1u32, 258], writer)
+}
+
+/// What `write_parts` writes: lengths of four bytes, and numbers of four bytes or one (RFC 4251,
+/// section 5).
+const PARTS: [u8; 31] = [
+    0, 0, 0, 4, 0, 0, 1, 0, 0, 0, 2, 1, 9, 0, 0, 0, 2, 4, 5, 0, 0, 0, 8, 0, 0, 0, 1, 0, 0, 1, 2,
+];
+
+#[test]
+fn parts(rt: HostRuntime) {
+    let mut room = [0u8; 32];
+    let mut writer = SliceWriter::new(&mut room);
+    assert!(rt; write_parts(&mut writer).is_ok() && writer.written() == PARTS.as_slice());
+    assert!(rt; 256u32.encoded_len_prefixed() == Ok(8) && list_len(&[1u32, 258]) == Ok(12));
+}
+
+/// What stands in a slice of this length after the parts were written to it, and the answer.
+fn is_filled(len: usize) -> bool
+    requires { len ≤ 31 }
+{
+    let mut room = [0xeeu8; 31];
+    let mut writer = SliceWriter::new(&mut room[..len]);
+    let answer = write_parts(&mut writer);
+    let written = writer.written();
+    PARTS.starts_with(written)
+        && if len == 31 {
+            answer.is_ok() && written.len() == 31
+        } else {
+            answer == Err(Error::Length)
+        }
+}
+
+#[test]
+fn a_slice_of_each_length(rt: HostRuntime) {
+    for len in 0..32 {
+        assert!(rt; is_filled(len), "{len}");
+    }
+}
+
+#[test]
+fn a_count_past_four_bytes(rt: HostRuntime) {
+    let counts = [1usize, 4_294_967_296];
+    let mut room = [0u8; 16];
+    let mut writer = SliceWriter::new(&mut room);
+    assert!(rt; counts[1].encoded_len() == Err(Error::Length));
+    assert!(rt; counts[1].encode(&mut writer) == Err(Error::Length));
+    assert!(rt; list_len(&counts) == Err(Error::Length));
+    assert!(rt; encode_list(&counts, &mut writer) == Err(Error::Length));
+    assert!(rt; writer.written().is_empty());
+}
