@@ -8,7 +8,7 @@ use Rattle.sshkey_model.specs.Grammar.{IsSpelled, spelled}
 use Rattle.sshkey_model.specs.Names.{Algorithm, Rsa}
 use Rattle.sshkey_model.specs.CertificateNames.{IsCertified}
 use Rattle.sshkey_model.specs.Keys.{key_algorithm, unhashed}
-use Rattle.sshkey_model.specs.Certificates.{CertificateType, User, Host, type_number, is_time, type_from, type_at, time_at, unsigned_at, certificate_at, IsUnsigned, HasUnsignedPlaces, to_be_signed, IsCertificate, HasCertificatePlaces, certificate}
+use Rattle.sshkey_model.specs.Certificates.{CertificateType, User, Host, type_number, is_time, is_end, type_from, type_at, time_at, end_at, unsigned_at, certificate_at, IsUnsigned, HasUnsignedPlaces, to_be_signed, IsCertificate, HasCertificatePlaces, certificate}
 use Rattle.sshkey_model.proofs.CombinedReaders.{bind_assoc, done, ok_is, chosen, ReadsFront, Any, wide32, wide64, number_reads, string_reads, whole_reads, box_reads, then_reads, checked_reads, to_form, kept, same_front}
 use Rattle.sshkey_model.proofs.CertificateNameReaders.{certificate_algorithm_reads}
 use Rattle.sshkey_model.proofs.TextReaders.{text_reads, texts_reads}
@@ -38,6 +38,10 @@ pub time_reads : ReadsFront (λ t. Any t × (is_time t ≡ true)) (number w64) t
 unfolding time_at
 time_reads = checked_reads (kept is_time InvalidTime) (number_reads w64 wide64)
 
+pub end_reads : ReadsFront (λ t. Any t × (is_end t ≡ true)) (number w64) end_at
+unfolding end_at
+end_reads = checked_reads (kept is_end InvalidTime) (number_reads w64 wide64)
+
 -- in a certificate no name has a hash
 certified_plain : (a : Algorithm) → IsCertified a → a ≡ unhashed a
 certified_plain (Rsa None) is = refl
@@ -64,7 +68,7 @@ unsigned_reads = same_front (checked_reads (to_form
       refl,
       refl,
     )))
-    (then_reads certificate_algorithm_reads (λ a. then_reads string_reads (λ _. then_reads (body_reads a) (λ _. then_reads (number_reads w64 wide64) (λ _. then_reads type_reads (λ _. then_reads text_reads (λ _. then_reads texts_reads (λ _. then_reads time_reads (λ _. then_reads time_reads (λ _. then_reads options_reads (λ _. then_reads options_reads (λ _. then_reads string_reads (λ _. box_reads (whole_reads key_reads))))))))))))))) (λ b. simp bind_assoc)
+    (then_reads certificate_algorithm_reads (λ a. then_reads string_reads (λ _. then_reads (body_reads a) (λ _. then_reads (number_reads w64 wide64) (λ _. then_reads type_reads (λ _. then_reads text_reads (λ _. then_reads texts_reads (λ _. then_reads time_reads (λ _. then_reads end_reads (λ _. then_reads options_reads (λ _. then_reads options_reads (λ _. then_reads string_reads (λ _. box_reads (whole_reads key_reads))))))))))))))) (λ b. simp bind_assoc)
 
 pub certificate_reads : ReadsFront (IsSpelled IsCertificate HasCertificatePlaces) (spelled certificate) certificate_at
 unfolding certificate_at

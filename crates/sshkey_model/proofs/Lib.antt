@@ -22,3 +22,5 @@ pub mod Lines
 pub mod Blobs
 pub mod PrivateExamples
 pub mod NormalKeysFit
+pub mod Refusals
+pub mod InsertedOptions

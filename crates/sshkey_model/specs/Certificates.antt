@@ -1,5 +1,5 @@
 -- Certificates (PROTOCOL.certkeys).
-use Rattle.std.specs.Prelude.{◌≡◌, ℕ, ◌^◌, List, Bool, true, Result, Ok, Err, nat_lt, ◌==◌, if◌then◌else◌}
+use Rattle.std.specs.Prelude.{◌≡◌, ℕ, ◌^◌, ◌-◌, List, Bool, true, ◌||◌, Result, Ok, Err, nat_lt, ◌==◌, if◌then◌else◌}
 use Rattle.std.specs.Int.{w32, w64}
 use Rattle.std.specs.List.{AllByRecursion}
 use Rattle.sshkey_model.specs.Parts.{Parts, number, box, ◌&◌}
@@ -66,13 +66,21 @@ certificate c s = to_be_signed c.unsigned s & box (signature c.signature)
 abbrev pub is_time : ℕ → Bool
 is_time t = nat_lt t (2 ^ 63)
 
+-- the end of a certificate that has none
+abbrev pub forever : ℕ
+forever = 2 ^ 64 - 1
+
+-- an end of validity: a time, or that there is none
+abbrev pub is_end : ℕ → Bool
+is_end t = is_time t || t == forever
+
 pub record IsUnsigned (c : Unsigned) : Type 0 where
   pub name : IsCertified (key_algorithm c.key)
   pub key : IsBody c.key
   pub key_id : IsText c.key_id
   pub valid_principals : AllByRecursion IsText c.valid_principals
   pub valid_after : is_time c.valid_after ≡ true
-  pub valid_before : is_time c.valid_before ≡ true
+  pub valid_before : is_end c.valid_before ≡ true
   pub critical_options : AreOptions c.critical_options
   pub extensions : AreOptions c.extensions
   pub signature_key : IsKey c.signature_key
@@ -110,6 +118,9 @@ type_at = checked_at type_from (number_at w32)
 unfoldable pub time_at : Front ℕ
 time_at = checked_at (λ t. if is_time t then Ok t else Err InvalidTime) (number_at w64)
 
+unfoldable pub end_at : Front ℕ
+end_at = checked_at (λ t. if is_end t then Ok t else Err InvalidTime) (number_at w64)
+
 unfoldable pub unsigned_at : Front (Unsigned × CertificateChoices)
 unsigned_at b = do
   name ← certificate_algorithm_at b
@@ -120,7 +131,7 @@ unsigned_at b = do
   key_id ← text_at certificate_type.1
   valid_principals ← texts_at key_id.1
   valid_after ← time_at valid_principals.1
-  valid_before ← time_at valid_after.1
+  valid_before ← end_at valid_after.1
   critical_options ← options_at valid_before.1
   extensions ← options_at critical_options.1
   reserved ← string_at extensions.1

@@ -17,6 +17,10 @@ pub mod SshSignatures
 pub mod Fingerprints
 pub mod Verification
 pub mod Validity
+pub mod Refusals
+pub mod Principals
+pub mod OptionMaps
+pub mod Drafts
 pub mod Lines
 pub mod LineCuts
 pub mod Laws
@@ -31,6 +35,9 @@ pub mod DispatchExamples
 pub mod OptionExamples
 pub mod CertificateExamples
 pub mod ValidityExamples
+pub mod EndExamples
+pub mod RefusalExamples
+pub mod DraftExamples
 pub mod SshSignatureExamples
 pub mod PrivateExamples
 pub mod TextExamples

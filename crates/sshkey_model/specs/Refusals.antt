@@ -1,0 +1,53 @@
+-- What is wrong with a certificate that is not valid: the first of these, in this order.
+use Rattle.std.specs.Prelude.{◌≡◌, ◌↔◌, ℕ, List, [], ◌∷◌, Bool, true, false, ◌&&◌, ◌||◌, nat_le, nat_lt, Option, Some, None, bytes_eq}
+use Rattle.std.specs.List.{list_any}
+use Rattle.sshkey_model.specs.Parts.{flat}
+use Rattle.sshkey_model.specs.Names.{Sha256}
+use Rattle.sshkey_model.specs.Certificates.{Certificate, normal_to_be_signed, is_time}
+use Rattle.sshkey_model.specs.Fingerprints.{fingerprint}
+use Rattle.sshkey_model.specs.Verification.{Question, question, is_yes}
+use Rattle.sshkey_model.specs.Validity.{IsValid}
+use Rattle.sshkey_model.specs.Principals.{IsValidFor}
+
+pub data Refusal : Type 0 where
+  NotSigned OtherAuthority NoTime OutOfWindow OtherPrincipal : Refusal
+
+abbrev pub is_signed : (Question → Bool) → Certificate → Bool
+is_signed accepts c = is_yes accepts (question c.unsigned.signature_key (flat (normal_to_be_signed c.unsigned)) c.signature)
+
+abbrev pub is_given : List (List ℕ) → Certificate → Bool
+is_given fingerprints c = list_any (bytes_eq (fingerprint Sha256 c.unsigned.signature_key)) fingerprints
+
+abbrev pub is_within : ℕ → Certificate → Bool
+is_within t c = nat_le c.unsigned.valid_after t && nat_lt t c.unsigned.valid_before
+
+abbrev pub allows : List (List ℕ) → List ℕ → Bool
+allows [] wanted = true
+allows (p ∷ ps) wanted = list_any (bytes_eq wanted) (p ∷ ps)
+
+-- the refusal where the test fails, else what comes next
+abbrev pub unless : Bool → Refusal → Option Refusal → Option Refusal
+unless true refusal next = next
+unless false refusal next = Some refusal
+
+abbrev pub first_refusal : (Question → Bool) → List (List ℕ) → ℕ → Certificate → Option Refusal
+first_refusal accepts fingerprints t c =
+    unless (is_signed accepts c) NotSigned
+    (unless (is_given fingerprints c) OtherAuthority
+    (unless (is_time t) NoTime
+    (unless (is_within t c) OutOfWindow None)))
+
+-- the wanted principal comes last
+abbrev pub first_refusal_for : (Question → Bool) → List (List ℕ) → ℕ → List ℕ → Certificate → Option Refusal
+first_refusal_for accepts fingerprints t wanted c = last (first_refusal accepts fingerprints t c)
+  where
+    last : Option Refusal → Option Refusal
+    last (Some refusal) = Some refusal
+    last None = unless (allows c.unsigned.valid_principals wanted) OtherPrincipal None
+
+-- Nothing is wrong exactly with the valid ones.
+abbrev pub RefuseTheInvalid : Type 0
+RefuseTheInvalid = (accepts : Question → Bool) (fingerprints : List (List ℕ)) (t : ℕ) (c : Certificate) → (first_refusal accepts fingerprints t c ≡ None) ↔ IsValid accepts fingerprints t c
+
+abbrev pub RefuseTheUnwanted : Type 0
+RefuseTheUnwanted = (accepts : Question → Bool) (fingerprints : List (List ℕ)) (t : ℕ) (wanted : List ℕ) (c : Certificate) → (first_refusal_for accepts fingerprints t wanted c ≡ None) ↔ IsValidFor accepts fingerprints t wanted c
