@@ -6,6 +6,7 @@ pub mod Lending
 pub mod Boxes
 pub mod Accepted
 pub mod Writing
+pub mod Tails
 pub mod Labels
 pub mod Utf8
 pub mod AtSigns
@@ -17,4 +18,5 @@ pub mod PlainParts
 pub mod Judging
 pub mod WrittenLists
 pub mod ReadLists
+pub mod MappedBoxes
 pub mod ShortStrings

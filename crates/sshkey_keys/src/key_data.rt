@@ -15,6 +15,7 @@ ghost use Rattle.sshkey_keys.specs.Keys.{key_of, algorithm_beside, SpellsKey, ke
 ghost use Rattle.sshkey_keys.specs.KeyKinds.{is_ecdsa, is_ed25519};
 ghost use Rattle.sshkey_keys.specs.KeyReaders.{key_grammar, key_normal};
 
+mod certificate_name;
 mod from;
 mod kinds;
 

@@ -1,0 +1,109 @@
+//! The fields of a certificate.
+
+ghost use Rattle.std.specs.Prelude.{◌≡◌, map, string_bytes, true};
+ghost use Rattle.sshkey_keys.specs.Keys.{key_of};
+ghost use Rattle.sshkey_keys.specs.Signatures.{signature_of};
+ghost use Rattle.sshkey_model.specs.Certificates.{is_time};
+ghost use Rattle.sshkey_options.specs.CertTypes.{type_of};
+ghost use Rattle.sshkey_cert.specs.CertificateValues.{certificate_of};
+ghost use Rattle.sshkey_options.specs.OptionMaps.{options_of};
+
+use super::Certificate;
+use crate::cert_type::CertType;
+use crate::options_map::OptionsMap;
+use sshkey_keys::{KeyData, Signature};
+
+impl Certificate {
+    /// The nonce.
+    pub fn nonce(&self) -> &[u8]
+        ensures { result.now ≡ (certificate_of self.now).unsigned.nonce }
+    {
+        self.unsigned.nonce.as_slice()
+    }
+
+    /// The key that is certified.
+    pub fn public_key(&self) -> &KeyData
+        ensures { key_of result.now ≡ (certificate_of self.now).unsigned.key }
+    {
+        &self.unsigned.public_key
+    }
+
+    /// The serial number.
+    pub fn serial(&self) -> u64
+        ensures { result ≡ (certificate_of self.now).unsigned.serial }
+    {
+        self.unsigned.serial
+    }
+
+    /// The type.
+    pub fn cert_type(&self) -> CertType
+        ensures { type_of result ≡ (certificate_of self.now).unsigned.certificate_type }
+    {
+        self.unsigned.cert_type
+    }
+
+    /// The key id.
+    pub fn key_id(&self) -> &str
+        ensures { result.now ≡ (certificate_of self.now).unsigned.key_id }
+    {
+        self.unsigned.key_id.as_str()
+    }
+
+    /// The principals; where there are none, all are valid.
+    pub fn valid_principals(&self) -> &[String]
+        ensures { map string_bytes result.now ≡ (certificate_of self.now).unsigned.valid_principals }
+    {
+        &self.unsigned.valid_principals
+    }
+
+    /// The first second of the window.
+    pub fn valid_after(&self) -> u64
+        ensures value { result ≡ (certificate_of self.now).unsigned.valid_after }
+        ensures time { is_time result ≡ true }
+    {
+        self.unsigned.valid_after.secs()
+    }
+
+    /// The second behind the window.
+    pub fn valid_before(&self) -> u64
+        ensures value { result ≡ (certificate_of self.now).unsigned.valid_before }
+        ensures time { is_time result ≡ true }
+    {
+        self.unsigned.valid_before.secs()
+    }
+
+    /// The critical options.
+    pub fn critical_options(&self) -> &OptionsMap
+        ensures { options_of result.now ≡ (certificate_of self.now).unsigned.critical_options }
+    {
+        &self.unsigned.critical_options
+    }
+
+    /// The extensions.
+    pub fn extensions(&self) -> &OptionsMap
+        ensures { options_of result.now ≡ (certificate_of self.now).unsigned.extensions }
+    {
+        &self.unsigned.extensions
+    }
+
+    /// The key that signed.
+    pub fn signature_key(&self) -> &KeyData
+        ensures { key_of result.now ≡ (certificate_of self.now).unsigned.signature_key }
+    {
+        &self.unsigned.signature_key
+    }
+
+    /// The signature.
+    pub fn signature(&self) -> &Signature
+        ensures { signature_of result.now ≡ (certificate_of self.now).signature }
+    {
+        &self.signature
+    }
+
+    /// The comment, which is not in the bytes.
+    pub fn comment(&self) -> &str
+        ensures { result.now ≡ self.now.comment }
+    {
+        self.comment.as_str()
+    }
+}

@@ -1,0 +1,3 @@
+pub mod OptionNames
+pub mod OptionValues
+pub mod WrittenOptions
