@@ -9,7 +9,7 @@ use Rattle.sshkey_base.specs.Labels.{label_at}
 use Rattle.sshkey_keys.specs.Keys.{key_data_at}
 use Rattle.sshkey_options.specs.OptionReaders.{options_value_at}
 use Rattle.sshkey_cert.specs.CertificateReaders.{unsigned_value_at, certificate_value_at, subject_at, grant_at, window_at, limits_at, authority_at, fields_at, signed_at}
-use Rattle.sshkey_options.proofs.OptionValues.{made, on_value, box_map}
+use Rattle.sshkey_base.proofs.MappedBoxes.{made, on_value, box_map}
 
 -- ---- a key in a box
 

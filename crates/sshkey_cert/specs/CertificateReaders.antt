@@ -9,7 +9,7 @@ use Rattle.sshkey_model.specs.CertificateNames.{certificate_algorithm_at}
 use Rattle.sshkey_model.specs.Keys.{Key, body_at}
 use Rattle.sshkey_model.specs.Options.{CertificateOption}
 use Rattle.sshkey_model.specs.Signatures.{signature_at}
-use Rattle.sshkey_model.specs.Certificates.{CertificateType, Unsigned, Certificate, IsUnsigned, HasUnsignedPlaces, to_be_signed, unsigned_at, IsCertificate, HasCertificatePlaces, certificate, plain_certificate, normal_certificate, certificate_at, type_at, time_at}
+use Rattle.sshkey_model.specs.Certificates.{CertificateType, Unsigned, Certificate, IsUnsigned, HasUnsignedPlaces, to_be_signed, unsigned_at, IsCertificate, HasCertificatePlaces, certificate, plain_certificate, normal_certificate, certificate_at, type_at, time_at, end_at}
 use Rattle.sshkey_model.proofs.CertificateReaders.{unsigned_reads, certificate_reads}
 use Rattle.sshkey_model.proofs.NormalForms.{plain_certificate_has}
 use Rattle.sshkey_model.proofs.Grammars.{grammar_with}
@@ -62,7 +62,7 @@ grant_at b = do
 unfoldable pub window_at : Front (ℕ × ℕ)
 window_at b = do
   valid_after ← time_at b
-  valid_before ← time_at valid_after.1
+  valid_before ← end_at valid_after.1
   Ok ((valid_after.0, valid_before.0), valid_before.1)
 
 unfoldable pub limits_at : Front (List CertificateOption × List CertificateOption)

@@ -9,11 +9,12 @@ use Rattle.sshkey_keys.specs.declared.key_data.KeyData.{KeyData}
 use Rattle.sshkey_keys.specs.Keys.{key_of}
 use Rattle.sshkey_options.specs.declared.cert_type.CertType.{CertType}
 use Rattle.sshkey_options.specs.declared.options_map.OptionsMap.{OptionsMap}
+use Rattle.sshkey_options.specs.declared.end_time.EndTime.{EndTime}
 use Rattle.sshkey_options.specs.declared.unix_time.UnixTime.{UnixTime}
 use Rattle.sshkey_cert.specs.declared.unsigned.Unsigned.{Unsigned}
 use Rattle.sshkey_options.specs.CertTypes.{type_of}
 use Rattle.sshkey_options.specs.OptionMaps.{options_of}
-use Rattle.sshkey_options.specs.Times.{time_of}
+use Rattle.sshkey_options.specs.Times.{time_of, end_of}
 
 abbrev pub unsigned_of : Unsigned → model.Unsigned
 unsigned_of u = record {
@@ -24,7 +25,7 @@ unsigned_of u = record {
   key_id = u.key_id;
   valid_principals = texts_of u.valid_principals;
   valid_after = time_of u.valid_after;
-  valid_before = time_of u.valid_before;
+  valid_before = end_of u.valid_before;
   critical_options = options_of u.critical_options;
   extensions = options_of u.extensions;
   reserved = u.reserved;
@@ -39,8 +40,8 @@ subject_of p = (p.0, key_of p.1)
 abbrev pub grant_of : ℕ × CertType × List ℕ × Vec (String Global) Global → ℕ × model.CertificateType × List ℕ × List (List ℕ)
 grant_of p = (p.0, type_of p.1, p.2, texts_of p.3)
 
-abbrev pub window_of : UnixTime × UnixTime → ℕ × ℕ
-window_of p = (time_of p.0, time_of p.1)
+abbrev pub window_of : UnixTime × EndTime → ℕ × ℕ
+window_of p = (time_of p.0, end_of p.1)
 
 abbrev pub limits_of : OptionsMap × OptionsMap → List CertificateOption × List CertificateOption
 limits_of p = (options_of p.0, options_of p.1)

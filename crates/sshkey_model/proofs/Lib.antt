@@ -24,3 +24,4 @@ pub mod PrivateExamples
 pub mod NormalKeysFit
 pub mod Refusals
 pub mod InsertedOptions
+pub mod SignedDrafts

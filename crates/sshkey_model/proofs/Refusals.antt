@@ -7,7 +7,7 @@ use Rattle.sshkey_model.specs.Certificates.{Certificate, is_time}
 use Rattle.sshkey_model.specs.Verification.{Question}
 use Rattle.sshkey_model.specs.Validity.{IsValid}
 use Rattle.sshkey_model.specs.Principals.{Allows, IsValidFor}
-use Rattle.sshkey_model.specs.Refusals.{Refusal, NotSigned, OtherAuthority, NoTime, OutOfWindow, OtherPrincipal, is_signed, is_given, is_within, allows, unless, first_refusal, first_refusal_for}
+use Rattle.sshkey_model.specs.Refusals.{Refusal, NotSigned, OtherAuthority, NoTime, OutOfWindow, OtherPrincipal, is_signed, is_given, is_within, allows, unless, or_else, first_refusal, first_refusal_for}
 
 -- ---- a list holds these bytes
 

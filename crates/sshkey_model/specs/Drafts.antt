@@ -3,10 +3,9 @@ use Rattle.std.specs.Prelude.{◌≡◌, ℕ, ◌<◌, ◌≤◌, ◌^◌, List,
 use Rattle.sshkey_model.specs.Parts.{flat}
 use Rattle.sshkey_model.specs.Names.{Sha256}
 use Rattle.sshkey_model.specs.Keys.{Key}
-use Rattle.sshkey_model.specs.Signatures.{Signature}
 use Rattle.sshkey_model.specs.Options.{CertificateOption}
 use Rattle.sshkey_model.specs.OptionMaps.{value_of, with_option}
-use Rattle.sshkey_model.specs.Certificates.{CertificateType, User, Unsigned, normal_to_be_signed, is_time}
+use Rattle.sshkey_model.specs.Certificates.{CertificateType, User, Unsigned, Certificate, normal_to_be_signed, is_time}
 use Rattle.sshkey_model.specs.Fingerprints.{fingerprint}
 use Rattle.sshkey_model.specs.Verification.{Question, IsAccepted}
 use Rattle.sshkey_model.specs.Validity.{IsValid}
@@ -39,6 +38,10 @@ bad_window after before =
     if is_time after
     then (if is_time before then (if nat_lt before after then Some BeforeField else None) else Some BeforeField)
     else Some AfterField
+
+-- the same without an end
+abbrev pub bad_start : ℕ → Option DraftField
+bad_start after = if is_time after then None else Some AfterField
 
 -- ---- step by step
 
@@ -102,7 +105,15 @@ drafted d signature_key = record {
   signature_key = signature_key;
 }
 
--- With an accepted signature of those fields it is valid at each time of its window, for whoever has the signer's fingerprint.
+-- The certificate has the fields of the draft under the signer's key, and a signature of them that is accepted.
+pub record IsSignedDraft (accepts : Question → Bool) (k : Key) (d : Draft) (c : Certificate) : Type 0 where
+  pub fields : c.unsigned ≡ drafted d k
+  pub signature : IsAccepted accepts k (flat (normal_to_be_signed (drafted d k))) c.signature
+
+-- It is valid at each time of its window, for whoever has that fingerprint.
+abbrev pub IsValidThrough : (Question → Bool) → List ℕ → Certificate → Type 0
+IsValidThrough accepts print c = (fingerprints : List (List ℕ)) (t : ℕ) → Contains fingerprints print → t < 2 ^ 63 → c.unsigned.valid_after ≤ t → t < c.unsigned.valid_before → IsValid accepts fingerprints t c
+
+-- What is signed so is valid through its window, for whoever has the signer's fingerprint.
 abbrev pub SignedIsValid : Type 0
-SignedIsValid = (accepts : Question → Bool) (d : Draft) (k : Key) (g : Signature) (fingerprints : List (List ℕ)) (t : ℕ) →
-    IsAccepted accepts k (flat (normal_to_be_signed (drafted d k))) g → Contains fingerprints (fingerprint Sha256 k) → t < 2 ^ 63 → d.valid_after ≤ t → t < d.valid_before → IsValid accepts fingerprints t (record { unsigned = drafted d k; signature = g })
+SignedIsValid = (accepts : Question → Bool) (k : Key) (d : Draft) (c : Certificate) → IsSignedDraft accepts k d c → IsValidThrough accepts (fingerprint Sha256 k) c

@@ -37,13 +37,14 @@ first_refusal accepts fingerprints t c =
     (unless (is_time t) NoTime
     (unless (is_within t c) OutOfWindow None)))
 
+-- the first refusal, if there is one, else the next
+abbrev pub or_else : Option Refusal → Option Refusal → Option Refusal
+or_else None next = next
+or_else (Some refusal) next = Some refusal
+
 -- the wanted principal comes last
 abbrev pub first_refusal_for : (Question → Bool) → List (List ℕ) → ℕ → List ℕ → Certificate → Option Refusal
-first_refusal_for accepts fingerprints t wanted c = last (first_refusal accepts fingerprints t c)
-  where
-    last : Option Refusal → Option Refusal
-    last (Some refusal) = Some refusal
-    last None = unless (allows c.unsigned.valid_principals wanted) OtherPrincipal None
+first_refusal_for accepts fingerprints t wanted c = or_else (first_refusal accepts fingerprints t c) (unless (allows c.unsigned.valid_principals wanted) OtherPrincipal None)
 
 -- Nothing is wrong exactly with the valid ones.
 abbrev pub RefuseTheInvalid : Type 0

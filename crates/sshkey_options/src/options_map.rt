@@ -38,6 +38,14 @@ impl OptionsMap {
         OptionsMap(BTreeMap::new(alloc))
     }
 
+    /// The same options in memory of their own. Refused only for want of memory.
+    pub fn try_clone(&self, _alloc: Global) -> Result<OptionsMap>
+        ensures value { IfOk result (λ m. options_of m ≡ options_of self.now) }
+        ensures memory { IfErr result (λ e. e ≡ wide.Memory) }
+    {
+        Ok(OptionsMap(self.0.clone()?))
+    }
+
     /// The value of that name.
     pub fn get(&self, name: &str) -> Option<&str>
         ensures { option_map (λ v. v.now) result ≡ value_of name.now (options_of self.now) }
@@ -87,6 +95,22 @@ impl OptionsMap {
         ensures { result ≡ length (options_of self.now) }
     {
         self.0.len()
+    }
+}
+
+impl From<BTreeMap<String, String>> for OptionsMap {
+    ghost from_gives = { λ map options. options.0 ≡ map };
+
+    fn from(map: BTreeMap<String, String>) -> OptionsMap {
+        OptionsMap(map)
+    }
+}
+
+impl From<OptionsMap> for BTreeMap<String, String> {
+    ghost from_gives = { λ options map. map ≡ options.0 };
+
+    fn from(options: OptionsMap) -> BTreeMap<String, String> {
+        options.0
     }
 }
 

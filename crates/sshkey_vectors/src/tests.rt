@@ -2,10 +2,13 @@
 //! and signatures.
 
 mod bodies;
+mod certificates;
+mod certified;
 mod edges;
 mod faults;
 mod fingerprints;
 mod key_kinds;
+mod issued;
 mod known;
 mod one_key;
 mod openssh;

@@ -1,47 +1,41 @@
 //! How what a builder holds is signed.
 
-ghost use Rattle.std.specs.Prelude.{◌≡◌, ◌≢◌, ◌≤◌, ◌<◌, ◌↔◌, ℕ, List, [], true, false, Err, IfOk, IfErr, OnOk, IsSome, IsNone, IsErrOf, IsOkUnless, Contains};
-ghost use Rattle.sshkey_base.specs.declared.error.Error.TheVariants as wide;
+ghost use Rattle.std.specs.Prelude.{◌≡◌, [], Err, IfOk, IfErr, IsSome, IsNone, IsErrOf, IsOkUnless, ◌↔◌};
 ghost use Rattle.sshkey_base.specs.declared.certificate.field.Field.TheVariants as field;
-ghost use Rattle.sshkey_base.specs.declared.encoding.Error.TheVariants as narrow;
+ghost use Rattle.sshkey_base.specs.declared.error.Error.TheVariants as wide;
 ghost use Rattle.sshkey_keys.specs.Keys.{key_of};
-ghost use Rattle.sshkey_keys.specs.Signatures.{signature_of};
-ghost use Rattle.sshkey_model.specs.Certificates.{normal_to_be_signed};
+ghost use Rattle.sshkey_model.specs.Drafts.{IsSignedDraft, IsValidThrough, drafted, or_default};
 ghost use Rattle.sshkey_model.specs.Fingerprints.{fingerprint};
 ghost use Rattle.sshkey_model.specs.Names.{Sha256};
-ghost use Rattle.sshkey_model.specs.Parts.{flat};
-ghost use Rattle.sshkey_model.specs.Validity.{IsValid};
-ghost use Rattle.sshkey_model.specs.Verification.{IsAccepted};
 ghost use Rattle.sshkey_builder.specs.Builders.{draft_of};
 ghost use Rattle.sshkey_cert.specs.Certificates.{unsigned_of};
-ghost use Rattle.sshkey_cert.specs.CertificateValues.{certificate_of};
-ghost use Rattle.sshkey_model.specs.Drafts.{drafted, or_default};
-ghost use Rattle.sshkey_cert.specs.Fitting.{signed_fits};
+ghost use Rattle.sshkey_cert.specs.CertificateValues.{certificate_of, comment_of};
+ghost use Rattle.sshkey_cert.specs.Signing.{RefusesToSign};
 
 use super::Builder;
-use crate::cert_type::CertType;
-use crate::certificate::Certificate;
-use crate::unsigned::Unsigned;
 use sshkey_base::certificate::Field;
 use sshkey_base::{Bytes, Error, Result, Text};
-use sshkey_keys::{KeyData, Signature, SigningKey};
+use sshkey_cert::{Certificate, Unsigned};
+use sshkey_keys::{KeyData, SigningKey};
+use sshkey_options::CertType;
 use std::alloc::Global;
 
 impl Builder {
     /// Signs what was collected, with the defaults for what was not set: serial number 0, a user,
     /// an empty key id and an empty comment.
     ///
+    /// The certificate is valid, as `validate_at` has it, at each time of its window, by the
+    /// signer's `raw` and for whoever gives the fingerprint of the signer's key.
+    ///
     /// `CertificateFieldInvalid` where no principal was named and not all were made valid, whatever
     /// memory there is. Else, want of memory aside, `Length` where the bytes to be signed do not
     /// fit, and otherwise an error of the signer's own.
     pub fn sign<S: SigningKey>(self, alloc: Global, signing_key: &S) -> Result<Certificate>
         ensures unnamed { IsNone (draft_of self).valid_principals → result ≡ Err (wide.CertificateFieldInvalid field.ValidPrincipals) }
-        ensures fields { IfOk result (λ c. (certificate_of c).unsigned ≡ drafted (draft_of self) (key_of (S.public_of signing_key.now))) }
-        ensures comment { IfOk result (λ c. c.comment ≡ or_default [] (draft_of self).comment) }
-        ensures signature { IfOk result (λ c. IsAccepted (S.Raw.accepts (S.raw_of signing_key.now)) (key_of (S.public_of signing_key.now)) (flat (normal_to_be_signed (drafted (draft_of self) (key_of (S.public_of signing_key.now))))) (certificate_of c).signature) }
-        ensures valid { IfOk result (λ c. (given : List (List ℕ)) (t : ℕ) → Contains given (fingerprint Sha256 (key_of (S.public_of signing_key.now))) → (draft_of self).valid_after ≤ t → t < (draft_of self).valid_before → IsValid (S.Raw.accepts (S.raw_of signing_key.now)) given t (certificate_of c)) }
-        ensures too_long { IfErr result (λ e. e ≢ wide.Memory → IsSome (draft_of self).valid_principals → signed_fits (drafted (draft_of self) (key_of (S.public_of signing_key.now))) ≡ false → e ≡ wide.Encoding narrow.Length) }
-        ensures refused { IfErr result (λ e. e ≢ wide.Memory → IsSome (draft_of self).valid_principals → signed_fits (drafted (draft_of self) (key_of (S.public_of signing_key.now))) ≡ true → S.refuses signing_key.now (flat (normal_to_be_signed (drafted (draft_of self) (key_of (S.public_of signing_key.now))))) e) }
+        ensures signed { IfOk result (λ c. IsSignedDraft (S.Raw.accepts (S.raw_of signing_key.now)) (key_of (S.public_of signing_key.now)) (draft_of self) (certificate_of c)) }
+        ensures comment { IfOk result (λ c. comment_of c ≡ or_default [] (draft_of self).comment) }
+        ensures valid { IfOk result (λ c. IsValidThrough (S.Raw.accepts (S.raw_of signing_key.now)) (fingerprint Sha256 (key_of (S.public_of signing_key.now))) (certificate_of c)) }
+        ensures refused { IsSome (draft_of self).valid_principals → IfErr result (RefusesToSign (S.refuses signing_key.now) (drafted (draft_of self) (key_of (S.public_of signing_key.now)))) }
     {
         if self.valid_principals.is_none() {
             return Err(Error::CertificateFieldInvalid(Field::ValidPrincipals));
@@ -100,50 +94,5 @@ fn or_empty(alloc: Global, text: Option<Text>) -> Text
     match text {
         Some(text) => text,
         None => Text::new(String::new(alloc)),
-    }
-}
-
-impl Unsigned {
-    /// What the signer makes of the bytes that are signed.
-    fn signature_by<S: SigningKey>(&self, alloc: Global, signing_key: &S) -> Result<Signature>
-        ensures accepted { IfOk result (λ g. IsAccepted (S.Raw.accepts (S.raw_of signing_key.now)) (key_of (S.public_of signing_key.now)) (flat (normal_to_be_signed (unsigned_of self.now))) (signature_of g)) }
-        ensures fits { OnOk result (signed_fits (unsigned_of self.now) ≡ true) }
-        ensures too_long { IfErr result (λ e. e ≢ wide.Memory → signed_fits (unsigned_of self.now) ≡ false → e ≡ wide.Encoding narrow.Length) }
-        ensures refused { IfErr result (λ e. e ≢ wide.Memory → signed_fits (unsigned_of self.now) ≡ true → S.refuses signing_key.now (flat (normal_to_be_signed (unsigned_of self.now))) e) }
-    {
-        let signed = self.checked_bytes(alloc)?;
-        signing_key.try_sign(alloc, &signed)
-    }
-
-    /// The bytes that are signed, where they fit.
-    fn checked_bytes(&self, alloc: Global) -> Result<Vec<u8>>
-        ensures bytes { IfOk result (λ v. v.items ≡ flat (normal_to_be_signed (unsigned_of self.now))) }
-        ensures fits { OnOk result (signed_fits (unsigned_of self.now) ≡ true) }
-        ensures too_long { IfErr result (λ e. e ≢ wide.Memory → (e ≡ wide.Encoding narrow.Length) × (signed_fits (unsigned_of self.now) ≡ false)) }
-    {
-        self.signed_bytes(alloc)
-    }
-
-    /// The certificate with the signer's signature.
-    fn sign<S: SigningKey>(
-        self,
-        alloc: Global,
-        signing_key: &S,
-        comment: Text,
-    ) -> Result<Certificate>
-        ensures fields { IfOk result (λ c. unsigned_of c.unsigned ≡ unsigned_of self) }
-        ensures comment { IfOk result (λ c. c.comment ≡ comment) }
-        ensures signature { IfOk result (λ c. IsAccepted (S.Raw.accepts (S.raw_of signing_key.now)) (key_of (S.public_of signing_key.now)) (flat (normal_to_be_signed (unsigned_of self))) (signature_of c.signature)) }
-        ensures too_long { IfErr result (λ e. e ≢ wide.Memory → signed_fits (unsigned_of self) ≡ false → e ≡ wide.Encoding narrow.Length) }
-        ensures refused { IfErr result (λ e. e ≢ wide.Memory → signed_fits (unsigned_of self) ≡ true → S.refuses signing_key.now (flat (normal_to_be_signed (unsigned_of self))) e) }
-    {
-        match self.signature_by(alloc, signing_key) {
-            Ok(signature) => Ok(Certificate {
-                unsigned: self,
-                signature,
-                comment,
-            }),
-            Err(error) => Err(error),
-        }
     }
 }

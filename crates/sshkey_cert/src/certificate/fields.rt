@@ -1,19 +1,32 @@
 //! The fields of a certificate.
 
-ghost use Rattle.std.specs.Prelude.{◌≡◌, map, string_bytes, true};
+ghost use Rattle.std.specs.Prelude.{◌≡◌, ◌↔◌, IsTrue, IfOk, IfErr, map, string_bytes, true};
+ghost use Rattle.sshkey_base.specs.Names.{algorithm_of};
+ghost use Rattle.sshkey_base.specs.declared.error.Error.TheVariants as wide;
 ghost use Rattle.sshkey_keys.specs.Keys.{key_of};
 ghost use Rattle.sshkey_keys.specs.Signatures.{signature_of};
-ghost use Rattle.sshkey_model.specs.Certificates.{is_time};
+ghost use Rattle.sshkey_model.specs.Certificates.{is_time, is_end, forever};
+ghost use Rattle.sshkey_model.specs.Keys.{IsKey, key_algorithm};
 ghost use Rattle.sshkey_options.specs.CertTypes.{type_of};
-ghost use Rattle.sshkey_cert.specs.CertificateValues.{certificate_of};
+ghost use Rattle.sshkey_cert.specs.CertificateValues.{certificate_of, comment_of};
 ghost use Rattle.sshkey_options.specs.OptionMaps.{options_of};
 
 use super::Certificate;
-use crate::cert_type::CertType;
-use crate::options_map::OptionsMap;
+use sshkey_base::{Algorithm, Result};
 use sshkey_keys::{KeyData, Signature};
+use sshkey_options::{CertType, OptionsMap};
+use std::alloc::Global;
 
 impl Certificate {
+    /// The algorithm of the certified key, as `KeyData::algorithm` has it. Only want of memory
+    /// refuses it, and only under a name of somebody's own.
+    pub fn algorithm(&self, alloc: Global) -> Result<Algorithm>
+        ensures ok { IfOk result (λ a. IsKey (certificate_of self.now).unsigned.key → algorithm_of a ≡ key_algorithm (certificate_of self.now).unsigned.key) }
+        ensures memory { IfErr result (λ e. e ≡ wide.Memory) }
+    {
+        self.unsigned.public_key.algorithm(alloc)
+    }
+
     /// The nonce.
     pub fn nonce(&self) -> &[u8]
         ensures { result.now ≡ (certificate_of self.now).unsigned.nonce }
@@ -64,12 +77,19 @@ impl Certificate {
         self.unsigned.valid_after.secs()
     }
 
-    /// The second behind the window.
+    /// The second behind the window, and 2^64 - 1 where it has no end.
     pub fn valid_before(&self) -> u64
         ensures value { result ≡ (certificate_of self.now).unsigned.valid_before }
-        ensures time { is_time result ≡ true }
+        ensures end { is_end result ≡ true }
     {
         self.unsigned.valid_before.secs()
+    }
+
+    /// Whether the window has no end.
+    pub fn is_forever(&self) -> bool
+        ensures { IsTrue result ↔ ((certificate_of self.now).unsigned.valid_before ≡ forever) }
+    {
+        self.unsigned.valid_before.is_forever()
     }
 
     /// The critical options.
@@ -102,7 +122,7 @@ impl Certificate {
 
     /// The comment, which is not in the bytes.
     pub fn comment(&self) -> &str
-        ensures { result.now ≡ self.now.comment }
+        ensures { result.now ≡ comment_of self.now }
     {
         self.comment.as_str()
     }

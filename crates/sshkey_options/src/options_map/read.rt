@@ -30,7 +30,7 @@ pub(super) fn options_from<R: Reader>(alloc: Global, reader: &mut R) -> Result<O
     Ok(OptionsMap(options))
 }
 
-/// The options, and that one.
+/// The options, and that one instead of one of its name.
 fn add(options: &mut BTreeMap<String, String>, name: String, value: String) -> Result<()>
     ensures added { OnOk result (options.new.entries ≡ insert_entry string_cmp options.old.entries name value) }
     ensures memory { IfErr result (λ e. e ≡ wide.Memory) }

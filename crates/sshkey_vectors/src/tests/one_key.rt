@@ -6,9 +6,11 @@ use sshkey_keys::KeyData;
 use sshkey_kinds::Ed25519PublicKey;
 use std::alloc::Global;
 
-pub(crate) const KEY: KeyData = KeyData::Ed25519(Ed25519PublicKey(
-    *b"\xb3\x3e\xae\xf3\x7e\xa2\xdf\x7c\xaa\x01\x0d\xef\xde\xa3\x4e\x24\x1f\x65\xf1\xb5\x29\xa4\xf4\x3e\xd1\x43\x27\xf5\xc5\x4a\xab\x62",
-));
+/// The bytes of the key.
+pub(crate) const POINT: [u8; 32] =
+    *b"\xb3\x3e\xae\xf3\x7e\xa2\xdf\x7c\xaa\x01\x0d\xef\xde\xa3\x4e\x24\x1f\x65\xf1\xb5\x29\xa4\xf4\x3e\xd1\x43\x27\xf5\xc5\x4a\xab\x62";
+
+pub(crate) const KEY: KeyData = KeyData::Ed25519(Ed25519PublicKey(POINT));
 
 /// The name of the algorithm, and the 32 bytes.
 const SPELLING: &[u8] =

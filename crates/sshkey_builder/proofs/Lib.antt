@@ -1,0 +1,2 @@
+pub mod Principals
+pub mod Signed

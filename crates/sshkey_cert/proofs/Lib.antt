@@ -1,0 +1,4 @@
+pub mod CertificateFields
+pub mod NormalFits
+pub mod Given
+pub mod Signing

@@ -1,0 +1,7 @@
+pub mod Fitting
+pub mod CertificateReaders
+pub mod Certificates
+pub mod CertificateParts
+pub mod CertificateValues
+pub mod Validity
+pub mod Signing
