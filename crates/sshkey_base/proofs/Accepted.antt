@@ -1,17 +1,17 @@
 -- A call that gives what a lawful plain reader gives accepts exactly the spellings.
-use Rattle.std.proofs.Common.{◌≡◌, ◌≢◌, ℕ, List, [], ◌∷◌, ◌++◌, append-nil, Result, Ok, Err, refl, subst, sym, cond, eqb, Bool, true, false, ◌<◌, length, arith, ap, ◌∙◌}
+use Rattle.std.proofs.Common.{◌≡◌, ℕ, List, [], ◌∷◌, ◌++◌, append-nil, Result, Ok, Err, refl, subst, sym, cond, eqb, Bool, true, false, ◌<◌, length, arith, ap, ◌∙◌}
 use Rattle.std.proofs.lemmas.Bool.{eqb-false}
+use Rattle.std.proofs.lemmas.Result.{err_from_is_err_and}
 use Rattle.sshkey_model.specs.Reading.{Front, TrailingData, whole, end_of}
 use Rattle.sshkey_model.specs.Grammar.{IsGrammar}
 use Rattle.sshkey_model.proofs.CombinedReaders.{bind_ok, ok_is}
 use Rattle.sshkey_model.proofs.Grammars.{none_spelled}
-use Rattle.sshkey_base.proofs.Steps.{refuses_first}
 use Rattle.sshkey_base.proofs.Boxes.{some_behind}
 use Rattle.sshkey_base.specs.declared.encoding.Error.{Error}
 use Rattle.sshkey_base.specs.declared.encoding.Error.TheVariants as encoding
 use Rattle.sshkey_base.specs.Causes.{Cause, NoMemory, encoding_cause}
-use Rattle.sshkey_base.specs.Source.{Source, IsSound, told}
-use Rattle.sshkey_base.specs.Reading.{Gives, GivesWhole, Reads, Refuses, IsRefused}
+use Rattle.sshkey_base.specs.Source.{Source, told}
+use Rattle.sshkey_base.specs.Reading.{Gives, GivesWhole, Reads, IsRefused}
 use Rattle.sshkey_base.specs.Accepting.{AcceptsFront, AcceptsWhole}
 
 -- nothing stands behind what ended
@@ -25,8 +25,8 @@ module _ {X Y E : Type 0} {Spells : Y → List ℕ → Type 0} {read : Front Y} 
       let a = g.takes s.left (means x) t.left h.value in
       record { front = a.0; spelled = a.1; taken = a.2; missing = h.missing; outer = h.outer }
   accepts_front s t (Err e) h = λ other sound y front rest spelled is.
-      let refused = h other in
-      none_spelled g s.left refused.met refused.is y front rest spelled is
+      let refused = err_from_is_err_and (read s.left) (h.fault other sound) in
+      none_spelled g s.left refused.0 refused.1 y front rest spelled is
 
   pub accepts_whole : (s : Source) (r : Result X E) → GivesWhole means cause (whole read) s r → AcceptsWhole means Spells cause s r
   accepts_whole s (Ok x) h =
@@ -36,27 +36,29 @@ module _ {X Y E : Type 0} {Spells : Y → List ℕ → Type 0} {read : Front Y} 
       let all : s.left ≡ a.0 = a.2 ∙ ap (λ (rest : List ℕ). a.0 ++ rest) end.0 ∙ append-nil a.0 in
       record { spelled = subst (λ (bytes : List ℕ). Spells (means x) bytes) (sym all) (subst (λ (v : Y). Spells v a.0) end.1 a.1); sound = h.sound }
   accepts_whole s (Err e) h = λ other sound y spelled.
-      let refused = h other sound in
+      let refused = err_from_is_err_and (whole read s.left) (h.fault other sound) in
       let taken : whole read s.left ≡ Ok y = ap (whole read) (sym (append-nil s.left)) ∙ rw (g.again y s.left [] spelled) refl in
-      let is = refused.is in cc
+      let is = refused.1 in cc
 
 -- What is read from the front and then finished is what the plain reader takes whole.
 module _ {X Y E : Type 0} (means : X → Y) (cause : E → Cause) (read : Front Y) where
-  pub front_refused : (s : Source) (e : E) → IsRefused s.missing (cause e) (read s.left) → cause e ≢ NoMemory → IsSound s → Refuses s.missing (cause e) (whole read s.left)
-  front_refused s e h = λ other sound. refuses_first s.missing (cause e) (read s.left) (λ y. end_of y.0 y.1) (h other)
-
   unfinished : (b : Bool) (x : X) (e d : Error) → Err e ≡ cond b (Ok x) (Err d) → (b ≡ false) × (e ≡ d)
   unfinished true x e d is = absurd cc
   unfinished false x e d is = (refl, cc)
 
-  pub finish_refused : (s t : Source) (x : X) (narrow : Error) (e : E) → Reads means read s x t → Err narrow ≡ cond (eqb (told t) 0) (Ok x) (Err (encoding.TrailingData (told t))) → cause e ≡ encoding_cause narrow → cause e ≢ NoMemory → IsSound s → Refuses s.missing (cause e) (whole read s.left)
-  finish_refused s t x narrow e h finished says other sound =
-      let u = unfinished (eqb (told t) 0) x narrow (encoding.TrailingData (told t)) finished in
-      let some : 0 < told t = omega (arith, eqb-false (told t) 0 u.0) in
-      let none : t.missing ≡ 0 = h.missing ∙ sound in
-      let len : length t.left ≡ told t = omega arith in
-      record {
-        met = TrailingData (told t);
-        is = rw (h.value, some_behind (means x) t.left (told t) len some) refl;
-        same = λ _. says ∙ ap encoding_cause u.1;
-      }
+  pub finish_refused : (s t : Source) (x : X) (narrow : Error) (e : E) → Reads means read s x t → Err narrow ≡ cond (eqb (told t) 0) (Ok x) (Err (encoding.TrailingData (told t))) → cause e ≡ encoding_cause narrow → IsRefused s.missing (cause e) (whole read s.left)
+  finish_refused s t x narrow e h finished says = record {
+    fault = λ other sound.
+        let u = unfinished (eqb (told t) 0) x narrow (encoding.TrailingData (told t)) finished in
+        let some : 0 < told t = omega (arith, eqb-false (told t) 0 u.0) in
+        let none : t.missing ≡ 0 = h.missing ∙ sound in
+        let len : length t.left ≡ told t = omega arith in
+        rw (h.value, some_behind (means x) t.left (told t) len some) (says ∙ ap encoding_cause u.1);
+  }
+
+  -- what is not finished is not out of memory
+  pub finish_asks : {A : Type 0} (n : ℕ) (x : X) (narrow : Error) (e : E) → Err narrow ≡ cond (eqb n 0) (Ok x) (Err (encoding.TrailingData n)) → cause e ≡ encoding_cause narrow → cause e ≡ NoMemory → A
+  finish_asks n x narrow e finished says memory =
+      let u = unfinished (eqb n 0) x narrow (encoding.TrailingData n) finished in
+      let faulty : cause e ≡ encoding_cause (encoding.TrailingData n) = says ∙ ap encoding_cause u.1 in
+      absurd cc

@@ -1,7 +1,8 @@
 -- A length, and a part of that length that is read whole.
-use Rattle.std.proofs.Common.{◌≡◌, ◌≢◌, ℕ, ◌-◌, ◌<◌, ◌≤◌, List, [], ◌∷◌, length, take, drop, Result, Ok, Err, refl, sym, ap, ◌∙◌, arith, inl, inr}
+use Rattle.std.proofs.Common.{◌≡◌, ℕ, ◌-◌, ◌<◌, ◌≤◌, List, [], ◌∷◌, length, take, drop, Result, Ok, Err, refl, sym, ap, ◌∙◌, arith, inl, inr}
 use Rattle.std.proofs.lemmas.Bool.{le-ltb, lt-ltb, cases_lt}
 use Rattle.std.proofs.lemmas.List.{length-take}
+use Rattle.std.proofs.lemmas.Result.{err_from_is_err_and}
 use Rattle.std.specs.Int.{w32}
 use denote.Ref.{MutBor}
 use denote.Param.Members.{Once}
@@ -10,9 +11,10 @@ use Rattle.sshkey_base.specs.declared.encoding.Error.{Error}
 use Rattle.sshkey_base.specs.declared.encoding.Error.TheVariants as encoding
 use Rattle.sshkey_base.specs.Causes.{Cause, NoMemory, Faulty, encoding_cause}
 use Rattle.sshkey_base.specs.Source.{Outer, Source, IsSound, told, part}
-use Rattle.sshkey_base.specs.Reading.{Reads, Refuses, IsRefused, Gives, GivesSoundly, GivesAlways, LengthPast}
-use Rattle.sshkey_base.specs.Nested.{ReadsBy, Calls, Past, Trails, Finishes, NoLength, Prefixed, PastIs}
-use Rattle.sshkey_base.proofs.Steps.{refuses_first}
+use Rattle.sshkey_base.specs.Reading.{Reads, Refuses, IsRefused, Gives, GivesAlways, LengthPast}
+use Rattle.sshkey_base.specs.Needs.{Asks, NeedsBoxed}
+use Rattle.sshkey_base.specs.Nested.{ReadsBy, AsksBy, Calls, Past, Trails, Finishes, NoLength, Prefixed, PastIs}
+use Rattle.sshkey_base.proofs.Steps.{never_asks, refuses_first, refuses_sound, gives_sound}
 
 -- the head of the readers around, apart from where it lies
 same_outer : (a b : Outer) (xs ys : List Outer) → a ∷ xs ≡ b ∷ ys → (a ≡ b) × (xs ≡ ys)
@@ -40,14 +42,19 @@ module _ {X Y : Type 0} (means : X → Y) (read : Front Y) (s t : Source) (n : �
   box_too_long : Reads (λ k. k) (number_at w32) s n t → told t < n → Refuses s.missing (Faulty Length) (box_at (whole read) s.left)
   box_too_long a lt = record { met = Length; is = box_past a (omega arith); same = λ _. refl }
 
-  box_inner : (c : Cause) → Reads (λ k. k) (number_at w32) s n t → n ≤ told t → (n - length t.left ≡ 0 → Refuses (n - length t.left) c (read (take n t.left))) → Refuses s.missing c (box_at (whole read) s.left)
-  box_inner c a le r =
+  box_inner : (c : Cause) → Reads (λ k. k) (number_at w32) s n t → n ≤ told t → IsRefused (n - length t.left) c (read (take n t.left)) → IsRefused s.missing c (box_at (whole read) s.left)
+  box_inner c a le r = record {
+    fault = λ other sound.
+        let m = a.missing in
+        let h = err_from_is_err_and (read (take n t.left)) (r.fault other (omega arith)) in
+        rw (box_within a (omega arith), h.1) h.2;
+  }
+
+  box_inner_always : (c : Cause) → Reads (λ k. k) (number_at w32) s n t → n ≤ told t → Refuses (n - length t.left) c (read (take n t.left)) → Refuses s.missing c (box_at (whole read) s.left)
+  box_inner_always c a le h =
       elim (cases_lt (length t.left) n) [
         | inl lt ↦ record { met = Length; is = box_past a lt; same = λ sound. let m = a.missing in absurd (omega arith) }
-        | inr ge ↦
-            let none : n - length t.left ≡ 0 = omega arith in
-            let h = r none in
-            record { met = h.met; is = box_within a ge ∙ rw h.is refl; same = λ _. h.same none }
+        | inr ge ↦ record { met = h.met; is = box_within a ge ∙ rw h.is refl; same = λ _. h.same (omega arith) }
       ]
 
   box_trailing : (name other rest : ℕ) (u : Source) (x : X) → Reads (λ k. k) (number_at w32) s n t → n ≤ told t → Reads means read (part name n t) x (part other rest u) → 0 < rest → Refuses s.missing (Faulty (TrailingData rest)) (box_at (whole read) s.left)
@@ -74,15 +81,11 @@ module _ {X Y : Type 0} (means : X → Y) (read : Front Y) (s t : Source) (n : �
 
 -- A call of a closure over a part, seen as reading a box.
 module _ {F N T E Y : Type 0} (call : Once F (MutBor N × Unit {0}) (Result T E × (MutBor N × Unit {0}))) (source : N → Source) (from_gives : Error → E → Type 0) (cause : E → Cause) (f : F) (means : T → Y) (read : Front Y) (keeps : (x : Error) (e : E) → from_gives x e → cause e ≡ encoding_cause x) where
-  -- a closure of which nothing is said where it refuses a part with a fault
-  abbrev pub ReadsSoundlyBy : Type 0
-  ReadsSoundlyBy = (p q : MutBor N) (r : Result T E) → call.post f (p, tt) (r, (q, tt)) → GivesSoundly means cause read (source p.now) r (source q.now)
-
-  module _ (by : ReadsSoundlyBy) where
-    of_calls : (s : Source) (e : E) (h : Calls call source from_gives f s (Err e)) → cause e ≢ NoMemory → Refuses s.missing (cause e) (box_at (whole read) s.left)
-    of_calls s e h other =
-        let g : IsSound (part h.name h.len h.after) → IsRefused (part h.name h.len h.after).missing (cause e) (read (part h.name h.len h.after).left) = rw h.starts at (by h.given h.left (Err e) h.met) in
-        box_inner means read s h.after h.len (cause e) h.number h.within (λ sound. g sound other)
+  module _ (by : ReadsBy call source cause f means read) where
+    of_calls : (s : Source) (e : E) (h : Calls call source from_gives f s (Err e)) → IsRefused s.missing (cause e) (box_at (whole read) s.left)
+    of_calls s e h =
+        let g : IsRefused (part h.name h.len h.after).missing (cause e) (read (part h.name h.len h.after).left) = rw h.starts at (by h.given h.left (Err e) h.met) in
+        box_inner means read s h.after h.len (cause e) h.number h.within g
 
     of_trails : (s : Source) (e : E) (h : Trails call source from_gives f s e) → Refuses s.missing (cause e) (box_at (whole read) s.left)
     of_trails s e h =
@@ -104,35 +107,26 @@ module _ {F N T E Y : Type 0} (call : Once F (MutBor N × Unit {0}) (Result T E 
     of_past s e h = rw (keeps encoding.Length e h.is) (box_too_long means read s h.after h.len h.number h.past)
 
     -- What `read_prefixed` gives is what the plain reader of the box gives.
-    pub prefixed_gives_soundly : (s u : Source) (r : Result T E) → Prefixed call source from_gives f s r u → Gives means cause (box_at (whole read)) s r u
-    prefixed_gives_soundly s u (Ok x) h = of_finishes s u x h
-    prefixed_gives_soundly s u (Err e) (inl h) = λ _. of_length s e h
-    prefixed_gives_soundly s u (Err e) (inr (inl h)) = λ _. of_past s e h
-    prefixed_gives_soundly s u (Err e) (inr (inr (inl h))) = of_calls s e h
-    prefixed_gives_soundly s u (Err e) (inr (inr (inr h))) = λ _. of_trails s e h
-
-  -- The same of a closure of which more is said.
-  module _ (by : ReadsBy call source cause f means read) where
-    soundly : ReadsSoundlyBy
-    soundly p q (Ok x) met = by p q (Ok x) met
-    soundly p q (Err e) met = λ _. by p q (Err e) met
-
     pub prefixed_gives : (s u : Source) (r : Result T E) → Prefixed call source from_gives f s r u → Gives means cause (box_at (whole read)) s r u
-    prefixed_gives s u r h = prefixed_gives_soundly soundly s u r h
+    prefixed_gives s u (Ok x) h = of_finishes s u x h
+    prefixed_gives s u (Err e) (inl h) = refuses_sound _ _ _ (of_length s e h)
+    prefixed_gives s u (Err e) (inr (inl h)) = refuses_sound _ _ _ (of_past s e h)
+    prefixed_gives s u (Err e) (inr (inr (inl h))) = of_calls s e h
+    prefixed_gives s u (Err e) (inr (inr (inr h))) = refuses_sound _ _ _ (of_trails s e h)
 
   -- a closure that takes no memory
   abbrev pub AlwaysReadsBy : Type 0
   AlwaysReadsBy = (p q : MutBor N) (r : Result T E) → call.post f (p, tt) (r, (q, tt)) → GivesAlways means cause read (source p.now) r (source q.now)
 
   module _ (by : AlwaysReadsBy) where
-    also : ReadsSoundlyBy
+    also : ReadsBy call source cause f means read
     also p q (Ok x) met = by p q (Ok x) met
-    also p q (Err e) met = λ _ _. by p q (Err e) met
+    also p q (Err e) met = refuses_sound _ _ _ (by p q (Err e) met)
 
     always_calls : (s : Source) (e : E) (h : Calls call source from_gives f s (Err e)) → Refuses s.missing (cause e) (box_at (whole read) s.left)
     always_calls s e h =
         let g : Refuses (part h.name h.len h.after).missing (cause e) (read (part h.name h.len h.after).left) = rw h.starts at (by h.given h.left (Err e) h.met) in
-        box_inner means read s h.after h.len (cause e) h.number h.within (λ _. g)
+        box_inner_always means read s h.after h.len (cause e) h.number h.within g
 
     -- The same of a closure that takes no memory.
     pub prefixed_gives_always : (s u : Source) (r : Result T E) → Prefixed call source from_gives f s r u → GivesAlways means cause (box_at (whole read)) s r u
@@ -142,9 +136,24 @@ module _ {F N T E Y : Type 0} (call : Once F (MutBor N × Unit {0}) (Result T E 
     prefixed_gives_always s u (Err e) (inr (inr (inl h))) = always_calls s e h
     prefixed_gives_always s u (Err e) (inr (inr (inr h))) = of_trails also s e h
 
+  -- Memory is asked for behind a length that is there.
+  module _ (needs : List ℕ → Type 0) (by : AsksBy call source cause f needs) where
+    asks_inside : (s : Source) (e : E) (h : Calls call source from_gives f s (Err e)) → cause e ≡ NoMemory → IsSound s → NeedsBoxed needs s.left
+    asks_inside s e h memory sound =
+        let m = h.number.missing in
+        let a : cause e ≡ NoMemory → IsSound (part h.name h.len h.after) → needs (part h.name h.len h.after).left = rw h.starts at (by h.given h.left (Err e) h.met) in
+        rw h.number.value (omega (arith, h.within), a memory (omega (arith, h.within)))
+
+    pub prefixed_asks : (s u : Source) (r : Result T E) → Prefixed call source from_gives f s r u → Asks cause (NeedsBoxed needs) s r
+    prefixed_asks s u (Ok x) h = tt
+    prefixed_asks s u (Err e) (inl h) = rw (keeps h.met e h.is) (never_asks _ _ _ h.refused)
+    prefixed_asks s u (Err e) (inr (inl h)) = λ memory _. let is = keeps encoding.Length e h.is in absurd cc
+    prefixed_asks s u (Err e) (inr (inr (inl h))) = asks_inside s e h
+    prefixed_asks s u (Err e) (inr (inr (inr h))) = λ memory _. let is = keeps (encoding.TrailingData h.rest) e h.is in absurd cc
+
 -- A length that passes what was announced has the cause that it says.
 pub past_keeps : {X E : Type 0} (from_gives : Error → E → Type 0) (cause : E → Cause) (keeps : (x : Error) (e : E) → from_gives x e → cause e ≡ encoding_cause x) (s : Source) (r : Result X E) → PastIs from_gives s r → LengthPast cause s r
 past_keeps from_gives cause keeps s (Ok x) h = λ n rest is lt. h n rest is lt
 past_keeps from_gives cause keeps s (Err e) h = λ n rest is lt. keeps encoding.Length e (h n rest is lt)
 
-pub ruleset boxes = (prefixed_gives, prefixed_gives_always, past_keeps)
+pub ruleset boxes = (prefixed_asks, prefixed_gives, prefixed_gives_always, gives_sound, past_keeps)

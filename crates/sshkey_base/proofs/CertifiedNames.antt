@@ -11,9 +11,9 @@ use Rattle.sshkey_model.specs.CertificateNames.{IsCertified, suffix, certificate
 use Rattle.sshkey_model.proofs.CombinedReaders.{Checks, chosen}
 use Rattle.sshkey_model.proofs.NameReaders.{found}
 use Rattle.std.specs.Str.{IsUtf8}
-use Rattle.sshkey_base.specs.Causes.{Cause, NoMemory, Faulty}
+use Rattle.sshkey_base.specs.Causes.{Cause, Faulty}
 use Rattle.sshkey_base.specs.Labels.{label_at}
-use Rattle.sshkey_base.specs.Reading.{Reads, Refuses}
+use Rattle.sshkey_base.specs.Reading.{Reads, IsRefused}
 use Rattle.sshkey_base.specs.Source.{Source}
 use Rattle.sshkey_base.proofs.Labels.{text_refused}
 use Rattle.sshkey_base.specs.OwnNames.{HasCertificateName}
@@ -162,6 +162,6 @@ pub certified_refusals : (t : List ℕ) (fault : Fault) → certified_from t ≡
 certified_refusals t fault = certified_faults (named certificate_name certified t) t fault refl
 
 -- a string that is no text is no name
-pub certificate_refused : (s t : Source) (x : List ℕ) (c : Cause) → Reads (λ b. b) string_at s x t → (IsUtf8 x → ⊥) → c ≡ Faulty Label → c ≢ NoMemory → Refuses s.missing c (certificate_algorithm_at s.left)
+pub certificate_refused : (s t : Source) (x : List ℕ) (c : Cause) → Reads (λ b. b) string_at s x t → (IsUtf8 x → ⊥) → c ≡ Faulty Label → IsRefused s.missing c (certificate_algorithm_at s.left)
 unfolding label_at certificate_algorithm_at
-certificate_refused s t x c h no_text is some = rw is (text_refused certified_checks certified_ascii certified_refusals s t x h no_text (λ e. cc e))
+certificate_refused s t x c h no_text is = rw is (text_refused certified_checks certified_ascii certified_refusals s t x h no_text)

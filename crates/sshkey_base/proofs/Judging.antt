@@ -13,7 +13,7 @@ judged {A} {B} {C} {X} {E} first means cause read judge s t x r h answer = go (j
     go (Ok c) (Ok y) e a = record { value = rw (h.value, e, a) refl; missing = h.missing; outer = h.outer }
     go (Ok c) (Err d) e a = absurd a
     go (Err f) (Ok y) e a = absurd a
-    go (Err f) (Err d) e a = λ _. record { met = f; is = rw (h.value, e) refl; same = λ _. a }
+    go (Err f) (Err d) e a = record { fault = λ _ _. rw (h.value, e) a }
 
 -- ---- one judgement after another
 

@@ -34,12 +34,14 @@ module _ {N : Type 0} {IsNamed : N → Type 0} {name : N → List ℕ} {named : 
 
   pub text_refused : (s t : Source) (x : List ℕ) → Reads (λ b. b) string_at s x t → (IsUtf8 x → ⊥) → IsRefused s.missing (Faulty Label) (label_at named s.left)
   unfolding label_at
-  text_refused s t x h no_text = λ other. record { met = Label; is = rw (h.value, not_named x no_text) refl; same = λ sound. refl }
+  text_refused s t x h no_text = record { fault = λ _ _. rw (h.value, not_named x no_text) refl }
 
 -- Bytes that are read and looked up.
 module _ {X N : Type 0} (stands_for : X → N) (named : Whole N) (read : Front (List ℕ)) (s u : Source) (b : List ℕ) (h : Reads (λ x. x) read s b u) where
   pub looked_up_gives : (r : Result X Error) → LooksUp stands_for named b r → Gives stands_for encoding_cause (checked_at named read) s r u
   looked_up_gives (Ok x) l = record { value = rw (h.value, l) refl; missing = h.missing; outer = h.outer }
-  looked_up_gives (Err e) l = λ other.
-      let found = l (λ memory. other (ap encoding_cause memory)) in
-      record { met = Label; is = rw (h.value, found.0) refl; same = λ _. ap encoding_cause found.1 }
+  looked_up_gives (Err e) l = record {
+    fault = λ other _.
+        let found = l (λ memory. other (ap encoding_cause memory)) in
+        rw (h.value, found.0) (ap encoding_cause found.1);
+  }

@@ -1,12 +1,13 @@
 -- A loop that reads values up to the end of a source.
 use Rattle.std.proofs.Common.{◌≡◌, ◌≢◌, ◌≤◌, ◌<◌, ◌+◌, ℕ, zero, suc, Option, None, Some, List, [], ◌∷◌, ◌++◌, append-nil, append_assoc, length, Result, Ok, Err, refl, sym, ap, ◌∙◌, arith}
 use Rattle.std.proofs.lemmas.List.{nil_from_length, length-append}
+use Rattle.std.proofs.lemmas.Result.{err_from_is_err_and}
 use Rattle.sshkey_model.specs.Reading.{Fault, ◌>>=◌, Front, Whole, whole, box_at, list_within, list_whole}
 use Rattle.sshkey_model.specs.Parts.{Parts, flat}
 use Rattle.sshkey_model.proofs.CombinedReaders.{ReadsFront}
 use Rattle.sshkey_base.specs.Causes.{Cause}
-use Rattle.sshkey_base.specs.Source.{Source, IsSound, told}
-use Rattle.sshkey_base.specs.Reading.{Reads, Refuses, Gives, to_end}
+use Rattle.sshkey_base.specs.Source.{Source, told}
+use Rattle.sshkey_base.specs.Reading.{Reads, IsRefused, Gives, to_end}
 
 module _ {A : Type 0} (item : Option A → Front A) where
   first_step : (n : ℕ) (before : Option A) (b : List ℕ) → 0 < length b → list_within item (suc n) before b ≡ (item before b >>= λ x. list_within item n (Some x.0) x.1 >>= λ xs. Ok (x.0 ∷ xs))
@@ -56,15 +57,13 @@ module _ {A : Type 0} (item : Option A → Front A) where
   }
 
   -- the next value is refused
-  pub collects_refused : (s t : Source) (before : Option A) (done : List A) (cause : Cause) → Collects s before done t → (told t ≢ 0) → IsSound s → Refuses t.missing cause (item before t.left) → Refuses s.missing cause (to_end (list_whole item) s.left)
-  collects_refused s t before done cause c some sound h =
-      let m = c.missing in
-      let left : 0 < length t.left = omega arith in
-      record {
-        met = h.met;
-        is = rw (c.rest (Err h.met) (give_refused before t.left h.met h.is left) (length s.left) (omega arith)) refl;
-        same = λ none. h.same (m ∙ none);
-      }
+  pub collects_refused : (s t : Source) (before : Option A) (done : List A) (cause : Cause) → Collects s before done t → (told t ≢ 0) → IsRefused t.missing cause (item before t.left) → IsRefused s.missing cause (to_end (list_whole item) s.left)
+  collects_refused s t before done cause c some h = record {
+    fault = λ other sound.
+        let m = c.missing in
+        let f = err_from_is_err_and (item before t.left) (h.fault other (m ∙ sound)) in
+        rw (c.rest (Err f.0) (give_refused before t.left f.0 f.1 (omega arith)) (length s.left) (omega arith)) f.2;
+  }
 
   -- nothing is left
   pub collects_end : {V : Type 0} (means : V → List A) (s t : Source) (before : Option A) (v : V) → Collects s before (means v) t → told t ≡ 0 → Reads means (to_end (list_whole item)) s v t
@@ -101,4 +100,4 @@ module _ {A : Type 0} (read : Whole A) where
 -- readers that give the same
 pub same_gives : {X Y E : Type 0} (means : X → Y) (cause : E → Cause) (read other : Front Y) (s t : Source) (r : Result X E) → ((b : List ℕ) → read b ≡ other b) → Gives means cause read s r t → Gives means cause other s r t
 same_gives means cause read other s t (Ok x) same h = record { value = sym (same s.left) ∙ h.value; missing = h.missing; outer = h.outer }
-same_gives means cause read other s t (Err e) same h = λ memory. let g = h memory in record { met = g.met; is = sym (same s.left) ∙ g.is; same = g.same }
+same_gives means cause read other s t (Err e) same h = rw (← same) h

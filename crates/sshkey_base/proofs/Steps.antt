@@ -1,14 +1,16 @@
 -- The steps of a reading function, as the plain reader takes them.
-use Rattle.std.proofs.Common.{◌≡◌, ℕ, false, true, ltb, List, ◌++◌, length, Result, Ok, Err, refl, ap, ◌∙◌, arith, lt-ltb}
+use Rattle.std.proofs.Common.{inl, inr, ◌≤◌, ◌≡◌, ℕ, false, true, ltb, List, ◌++◌, length, Result, Ok, Err, refl, ap, ◌∙◌, arith, lt-ltb}
 use Rattle.std.specs.Int.{w32}
-use Rattle.std.proofs.lemmas.Bool.{le-ltb}
+use Rattle.std.specs.Prelude.{IsOkAnd}
+use Rattle.std.proofs.lemmas.Bool.{le-ltb, cases_lt}
 use Rattle.std.proofs.lemmas.List.{length-append, take_at, drop_at}
 use Rattle.sshkey_model.specs.Parts.{are_bytes}
 use Rattle.sshkey_model.specs.Reading.{Fault, Length, ◌>>=◌, Front, number_at, bytes_at, string_at, checked_at}
 use Rattle.sshkey_base.specs.declared.encoding.Error.{Error}
-use Rattle.sshkey_base.specs.Causes.{Cause, encoding_cause}
-use Rattle.sshkey_base.specs.Source.{Source, Advances, TooFew}
-use Rattle.sshkey_base.specs.Reading.{Reads, Refuses, IsRefused, Gives}
+use Rattle.sshkey_base.specs.Causes.{Cause, NoMemory, encoding_cause}
+use Rattle.sshkey_base.specs.Source.{Source, IsSound, Advances, TooFew}
+use Rattle.sshkey_base.specs.Needs.{NeedsString, NeedsThen}
+use Rattle.sshkey_base.specs.Reading.{Reads, Refuses, IsRefused, Gives, GivesAlways}
 use Rattle.sshkey_base.proofs.Places.{later_none, later_then}
 
 -- where the first step is refused, all is
@@ -16,7 +18,8 @@ pub refuses_first : {A B : Type 0} (m : ℕ) (c : Cause) (r : Result A Fault) (k
 refuses_first m c r k h = record { met = h.met; is = rw h.is refl; same = h.same }
 
 pub refused_first : {A B : Type 0} (m : ℕ) (c : Cause) (r : Result A Fault) (k : A → Result B Fault) → IsRefused m c r → IsRefused m c (r >>= k)
-refused_first m c r k h = λ other. refuses_first m c r k (h other)
+refused_first m c (Ok x) k h = record { fault = λ other sound. absurd (h.fault other sound) }
+refused_first m c (Err f) k h = record { fault = h.fault }
 
 -- where the first step is done, the rest decides
 pub refuses_later : {A B C : Type 0} (means : C → A) (read : Front A) (s t : Source) (x : C) (c : Cause) (k : A × List ℕ → Result B Fault) → Reads means read s x t → Refuses t.missing c (k (means x, t.left)) → Refuses s.missing c (read s.left >>= k)
@@ -25,7 +28,44 @@ refuses_later means read s t x c k a h = rw (a.value, ← a.missing) h
 pub refused_later : {A B C : Type 0} (means : C → A) (read : Front A) (s t : Source) (x : C) (c : Cause) (k : A × List ℕ → Result B Fault) → Reads means read s x t → IsRefused t.missing c (k (means x, t.left)) → IsRefused s.missing c (read s.left >>= k)
 refused_later means read s t x c k a h = rw (a.value, ← a.missing) h
 
-pub ruleset steps = (refused_first, refused_later, refuses_first, refuses_later, later_none, later_then)
+-- what is said of every source is said of the sound ones
+pub refuses_sound : {A : Type 0} (m : ℕ) (c : Cause) (r : Result A Fault) → Refuses m c r → IsRefused m c r
+refuses_sound m c r h = record { fault = λ other sound. rw h.is (h.same sound) }
+
+pub gives_sound : {X Y E : Type 0} (means : X → Y) (cause : E → Cause) (read : Front Y) (s t : Source) (r : Result X E) → GivesAlways means cause read s r t → Gives means cause read s r t
+gives_sound means cause read s t (Ok x) h = h
+gives_sound means cause read s t (Err e) h = refuses_sound _ _ _ h
+
+-- A fault is not out of memory.
+pub never_asks : {A : Type 0} {X : Type 0} (m : ℕ) (c : Cause) (r : Result A Fault) → Refuses m c r → c ≡ NoMemory → m ≡ 0 → X
+never_asks m c r h memory sound = let f = h.same sound in absurd cc
+
+pub asks_number : (s t : Source) (n : ℕ) → Reads (λ k. k) (number_at w32) s n t → n ≤ length t.left → NeedsString s.left
+asks_number s t n h le = rw h.value le
+
+pub asks_string : (s t : Source) (n : ℕ) (c : Cause) → Reads (λ k. k) (number_at w32) s n t → (c ≡ NoMemory → IsSound t → n ≤ length t.left) → c ≡ NoMemory → IsSound s → NeedsString s.left
+asks_string s t n c h asks memory sound = asks_number s t n h (asks memory (h.missing ∙ sound))
+
+pub asks_first : {A : Type 0} (first : List ℕ → Type 0) (second : A → List ℕ → Type 0) (read : Front A) (s : Source) (c : Cause) → (c ≡ NoMemory → IsSound s → first s.left) → c ≡ NoMemory → IsSound s → NeedsThen first read second s.left
+asks_first first second read s c h memory sound = inl (h memory sound)
+
+pub asks_later : {A C : Type 0} (means : C → A) (first : List ℕ → Type 0) (second : A → List ℕ → Type 0) (read : Front A) (s t : Source) (x : C) (c : Cause) → Reads means read s x t → (c ≡ NoMemory → IsSound t → second (means x) t.left) → c ≡ NoMemory → IsSound s → NeedsThen first read second s.left
+asks_later means first second read s t x c a h memory sound = inr (rw a.value (h memory (a.missing ∙ sound)))
+
+pub ruleset steps = (never_asks, asks_string, asks_first, asks_later, refused_first, refused_later, refuses_first, refuses_later, refuses_sound, gives_sound, later_none, later_then)
+
+-- a string that was read stood whole at the front
+pub string_stood : {X : Type 0} (means : X → List ℕ) (s t : Source) (x : X) → Reads means string_at s x t → NeedsString s.left
+unfolding string_at bytes_at
+string_stood {X} means s t x h = go (number_at w32 s.left) h.value
+  where
+    go : (n : Result (ℕ × List ℕ) Fault) → (n >>= λ n. bytes_at n.0 n.1) ≡ Ok (means x, t.left) → IsOkAnd n (λ n. n.0 ≤ length n.1)
+    go (Err f) e = absurd cc
+    go (Ok n) e =
+        elim (cases_lt (length n.1) n.0) [
+          | inl lt ↦ let few = rw (lt-ltb _ _ lt) at e in absurd cc
+          | inr le ↦ le
+        ]
 
 -- the bytes of a string, judged behind its length
 pub behind_length : {B X E : Type 0} (means : X → B) (cause : E → Cause) (judge : List ℕ → Result B Fault) (n : ℕ) (s t u : Source) (r : Result X E) → Reads (λ k. k) (number_at w32) s n t → Gives means cause (checked_at judge (bytes_at n)) t r u → Gives means cause (checked_at judge string_at) s r u
@@ -36,7 +76,7 @@ behind_length means cause judge n s t u (Err e) h k = rw (h.value, ← h.missing
 -- a string without its length
 pub length_refused : {B : Type 0} (judge : List ℕ → Result B Fault) (m : ℕ) (c : Cause) (b : List ℕ) → Refuses m c (number_at w32 b) → IsRefused m c (checked_at judge string_at b)
 unfolding string_at
-length_refused judge m c b h = λ _. refuses_first _ _ _ _ (refuses_first _ _ _ _ h)
+length_refused judge m c b h = refuses_sound _ _ _ (refuses_first _ _ _ _ (refuses_first _ _ _ _ h))
 
 -- too few bytes
 pub few_refused : (n : ℕ) (s : Source) (e : Error) → TooFew s n e → Refuses s.missing (encoding_cause e) (bytes_at n s.left)

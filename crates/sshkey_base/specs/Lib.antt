@@ -2,6 +2,7 @@ pub mod Causes
 pub mod Source
 pub mod Readers
 pub mod Reading
+pub mod Needs
 pub mod Nested
 pub mod Accepting
 pub mod Sink

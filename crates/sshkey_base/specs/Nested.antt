@@ -9,6 +9,7 @@ use Rattle.sshkey_base.specs.declared.encoding.Error.TheVariants.{Length, Traili
 use Rattle.sshkey_base.specs.declared.reader.NestedReader.{NestedReader}
 use Rattle.sshkey_base.specs.Causes.{Cause, encoding_cause}
 use Rattle.sshkey_base.specs.Source.{Source, Later, part, told}
+use Rattle.sshkey_base.specs.Needs.{Asks}
 use Rattle.sshkey_base.specs.Reading.{Gives, Reads, Refuses}
 
 -- what a nested reader has before it
@@ -19,6 +20,10 @@ module _ {F N T E : Type 0} (call : Once F (MutBor N × Unit {0}) (Result T E ×
   -- Each call of the closure gives what the plain reader gives.
   abbrev pub ReadsBy : {Y : Type 0} → (T → Y) → Front Y → Type 0
   ReadsBy means read = (p q : MutBor N) (r : Result T E) → call.post f (p, tt) (r, (q, tt)) → Gives means cause read (source p.now) r (source q.now)
+
+  -- Each call of the closure asks for memory only where it is needed.
+  abbrev pub AsksBy : (List ℕ → Type 0) → Type 0
+  AsksBy needs = (p q : MutBor N) (r : Result T E) → call.post f (p, tt) (r, (q, tt)) → Asks cause needs (source p.now) r
 
 module _ {F N T E : Type 0} (call : Once F (MutBor N × Unit {0}) (Result T E × (MutBor N × Unit {0}))) (source : N → Source) (f : F) where
   -- Each call of the closure passes some bytes of its part, and changes nothing else.

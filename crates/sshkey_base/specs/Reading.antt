@@ -11,22 +11,22 @@ pub record Reads {X Y : Type 0} (means : X → Y) (read : Front Y) (s : Source) 
   pub missing : t.missing ≡ s.missing
   pub outer : t.outer ≡ s.outer
 
--- The plain reader refuses too, and where no byte is missing with the fault that was answered.
+-- Out of memory aside, a sound source is refused with the fault of the plain reader.
+pub record IsRefused {Y : Type 0} (missing : ℕ) (cause : Cause) (found : Result Y Fault) : Type 0 where
+  pub fault : cause ≢ NoMemory → missing ≡ 0 → IsErrAnd found (λ fault. cause ≡ Faulty fault)
+
+-- What a reading call gives is what the plain reader gives. Nothing is said of how a source with a fault is refused.
+abbrev pub Gives : {X Y E : Type 0} → (X → Y) → (E → Cause) → Front Y → Source → Result X E → Source → Type 0
+Gives means cause read s (Ok x) t = Reads means read s x t
+Gives means cause read s (Err e) t = IsRefused s.missing (cause e) (read s.left)
+
+-- The plain reader refuses too, also the bytes of a source with a fault, and where there is none with the fault that was answered.
 pub record Refuses {Y : Type 0} (missing : ℕ) (cause : Cause) (found : Result Y Fault) : Type 0 where
   pub met : Fault
   pub is : found ≡ Err met
   pub same : missing ≡ 0 → cause ≡ Faulty met
 
--- the same of every refusal but for want of memory
-abbrev pub IsRefused : {Y : Type 0} → ℕ → Cause → Result Y Fault → Type 0
-IsRefused missing cause found = cause ≢ NoMemory → Refuses missing cause found
-
--- What a reading call gives is what the plain reader gives, want of memory aside.
-abbrev pub Gives : {X Y E : Type 0} → (X → Y) → (E → Cause) → Front Y → Source → Result X E → Source → Type 0
-Gives means cause read s (Ok x) t = Reads means read s x t
-Gives means cause read s (Err e) t = IsRefused s.missing (cause e) (read s.left)
-
--- The same of a call that takes no memory.
+-- What a call gives that takes no memory, and refuses no bytes that the plain reader takes.
 abbrev pub GivesAlways : {X Y E : Type 0} → (X → Y) → (E → Cause) → Front Y → Source → Result X E → Source → Type 0
 GivesAlways means cause read s (Ok x) t = Reads means read s x t
 GivesAlways means cause read s (Err e) t = Refuses s.missing (cause e) (read s.left)
@@ -43,21 +43,10 @@ pub record ReadsAll {X Y : Type 0} (means : X → Y) (read : Whole Y) (s : Sourc
 -- What a call gives that reads a source whole: a source with a fault is never accepted.
 abbrev pub GivesWhole : {X Y E : Type 0} → (X → Y) → (E → Cause) → Whole Y → Source → Result X E → Type 0
 GivesWhole means cause read s (Ok x) = ReadsAll means read s x
-GivesWhole means cause read s (Err e) = cause e ≢ NoMemory → IsSound s → Refuses s.missing (cause e) (read s.left)
-
--- ---- up to the end
-
--- The same, but of a source with a fault only what it gives, and not what it refuses.
-abbrev pub GivesSoundly : {X Y E : Type 0} → (X → Y) → (E → Cause) → Front Y → Source → Result X E → Source → Type 0
-GivesSoundly means cause read s (Ok x) t = Reads means read s x t
-GivesSoundly means cause read s (Err e) t = IsSound s → IsRefused s.missing (cause e) (read s.left)
+GivesWhole means cause read s (Err e) = IsRefused s.missing (cause e) (read s.left)
 
 -- A reader of all bytes, as one that leaves none.
 abbrev pub to_end : {A : Type 0} → Whole A → Front A
 to_end read b = do
   x ← read b
   Ok (x, [])
-
--- What a call gives that reads up to the end: a source with a fault has none, and is refused.
-abbrev pub GivesToEnd : {X Y E : Type 0} → (X → Y) → (E → Cause) → Whole Y → Source → Result X E → Source → Type 0
-GivesToEnd means cause read s r t = GivesSoundly means cause (to_end read) s r t

@@ -1,9 +1,10 @@
 //! Byte strings.
 
-ghost use Rattle.std.specs.Prelude.{◌≡◌, ◌<◌, ℕ, List, Err, IfOk, IfErr};
+ghost use Rattle.std.specs.Prelude.{◌≡◌, ◌<◌, ℕ, List, Err, IfOk, IfErr, ◌≤◌, length};
 ghost use Rattle.sshkey_model.specs.Reading.{bytes_at, string_at};
 ghost use Rattle.sshkey_base.specs.Causes.{encoding_cause};
 ghost use Rattle.sshkey_base.specs.Leaves.{SpellsString, string_grammar};
+ghost use Rattle.sshkey_base.specs.Needs.{Asks, NeedsString};
 ghost use Rattle.sshkey_base.specs.Reading.{Gives, LengthPast};
 ghost use Rattle.sshkey_base.specs.Source.{told, Later};
 
@@ -83,11 +84,14 @@ impl Decode for Bytes {
 
     ghost Spells = { SpellsString };
 
+    ghost needs = { NeedsString };
+
     ghost grammar = { string_grammar };
 
     fn decode<R: Reader>(alloc: Global, reader: &mut R) -> Result<Bytes, Error>
         ensures gives { Gives (λ x. x) encoding_cause string_at (R.source reader.old) result (R.source reader.new) }
         ensures later { Later (R.source reader.old) (R.source reader.new) }
+        ensures asks { Asks encoding_cause NeedsString (R.source reader.old) result }
         ensures past { LengthPast encoding_cause (R.source reader.old) result }
     {
         let len = length_from(reader)?;
@@ -105,6 +109,7 @@ pub(crate) fn bytes_from<R: Reader>(
 ) -> Result<Bytes, Error>
     ensures gives { Gives (λ x. x) encoding_cause (bytes_at len) (R.source reader.old) result (R.source reader.new) }
     ensures later { Later (R.source reader.old) (R.source reader.new) }
+    ensures asks { Asks encoding_cause (λ b. len ≤ length b) (R.source reader.old) result }
     ensures past { told (R.source reader.old) < len → result ≡ Err Error.Length }
 {
     if reader.remaining_len() < len {
@@ -133,11 +138,14 @@ impl Decode for Vec<u8> {
 
     ghost Spells = { SpellsString };
 
+    ghost needs = { NeedsString };
+
     ghost grammar = { string_grammar };
 
     fn decode<R: Reader>(alloc: Global, reader: &mut R) -> Result<Vec<u8>, Error>
         ensures gives { Gives (λ v. v.items) encoding_cause string_at (R.source reader.old) result (R.source reader.new) }
         ensures later { Later (R.source reader.old) (R.source reader.new) }
+        ensures asks { Asks encoding_cause NeedsString (R.source reader.old) result }
         ensures past { LengthPast encoding_cause (R.source reader.old) result }
     {
         let bytes = Bytes::decode(alloc, reader)?;

@@ -8,6 +8,7 @@ ghost use Rattle.sshkey_base.specs.Accepting.{AcceptsFront, AcceptsWhole};
 ghost use Rattle.sshkey_base.specs.Causes.{encoding_cause};
 ghost use Rattle.sshkey_base.specs.Leaves.{SpellsByte, SpellsNumber32, SpellsNumber64, SpellsArray, byte_grammar, number32_grammar, number64_grammar, array_grammar};
 ghost use Rattle.sshkey_base.specs.Nested.{nested_source};
+ghost use Rattle.sshkey_base.specs.Needs.{Asks, NeedsBoxed, NoNeed};
 ghost use Rattle.sshkey_base.specs.Reading.{Gives, GivesAlways, GivesWhole, LengthPast};
 ghost use Rattle.sshkey_base.specs.Source.{Later};
 
@@ -33,14 +34,19 @@ pub trait Decode: Sized {
     /// The bytes are a spelling of the value.
     ghost Spells: { Meaning → List ℕ → Type 0 };
 
+    /// Where a sound source may be refused for memory that ran out.
+    ghost needs: { List ℕ → Type 0 };
+
     /// Reads a value from the front, and leaves what follows it.
     ///
-    /// It is what the plain reader gives of the bytes that are left. Want of memory aside, it is
-    /// refused only where the plain reader refuses too, and by a sound source with the same fault.
-    /// After a refusal some of the bytes that were left may be passed, and nothing else changed.
+    /// It is what the plain reader gives of the bytes that are left. A sound source is refused with
+    /// the fault of the plain reader, and for memory that ran out only where `needs` says so. How a
+    /// source with a fault is refused is open. After a refusal some of the bytes that were left may
+    /// be passed, and nothing else changed.
     fn decode<R: Reader>(alloc: Global, reader: &mut R) -> Result<Self, Self::Error>
         ensures gives { Gives means Self.Error.cause parse (R.source reader.old) result (R.source reader.new) }
-        ensures later { Later (R.source reader.old) (R.source reader.new) };
+        ensures later { Later (R.source reader.old) (R.source reader.new) }
+        ensures asks { Asks Self.Error.cause needs (R.source reader.old) result };
 
     /// The plain reader takes exactly the spellings.
     ghost grammar: { IsGrammar Spells parse };
@@ -59,11 +65,14 @@ impl Decode for u8 {
 
     ghost Spells = { SpellsByte };
 
+    ghost needs = { NoNeed };
+
     ghost grammar = { byte_grammar };
 
     fn decode<R: Reader>(_alloc: Global, reader: &mut R) -> Result<u8, encoding::Error>
         ensures gives { Gives (λ x. x) encoding_cause (number_at w8) (R.source reader.old) result (R.source reader.new) }
         ensures later { Later (R.source reader.old) (R.source reader.new) }
+        ensures asks { Asks encoding_cause NoNeed (R.source reader.old) result }
         ensures always { GivesAlways (λ x. x) encoding_cause (number_at w8) (R.source reader.old) result (R.source reader.new) }
     {
         let bytes = array_from::<1, R>(reader)?;
@@ -84,11 +93,14 @@ impl Decode for u32 {
 
     ghost Spells = { SpellsNumber32 };
 
+    ghost needs = { NoNeed };
+
     ghost grammar = { number32_grammar };
 
     fn decode<R: Reader>(_alloc: Global, reader: &mut R) -> Result<u32, encoding::Error>
         ensures gives { Gives (λ x. x) encoding_cause (number_at w32) (R.source reader.old) result (R.source reader.new) }
         ensures later { Later (R.source reader.old) (R.source reader.new) }
+        ensures asks { Asks encoding_cause NoNeed (R.source reader.old) result }
         ensures always { GivesAlways (λ x. x) encoding_cause (number_at w32) (R.source reader.old) result (R.source reader.new) }
     {
         let bytes = array_from::<4, R>(reader)?;
@@ -109,11 +121,14 @@ impl Decode for u64 {
 
     ghost Spells = { SpellsNumber64 };
 
+    ghost needs = { NoNeed };
+
     ghost grammar = { number64_grammar };
 
     fn decode<R: Reader>(_alloc: Global, reader: &mut R) -> Result<u64, encoding::Error>
         ensures gives { Gives (λ x. x) encoding_cause (number_at w64) (R.source reader.old) result (R.source reader.new) }
         ensures later { Later (R.source reader.old) (R.source reader.new) }
+        ensures asks { Asks encoding_cause NoNeed (R.source reader.old) result }
         ensures always { GivesAlways (λ x. x) encoding_cause (number_at w64) (R.source reader.old) result (R.source reader.new) }
     {
         let bytes = array_from::<8, R>(reader)?;
@@ -135,11 +150,14 @@ impl<const N: usize> Decode for [u8; N] {
 
     ghost Spells = { SpellsArray N };
 
+    ghost needs = { NoNeed };
+
     ghost grammar = { array_grammar N };
 
     fn decode<R: Reader>(_alloc: Global, reader: &mut R) -> Result<[u8; N], encoding::Error>
         ensures gives { Gives (λ b. b) encoding_cause (box_at (whole (bytes_at N))) (R.source reader.old) result (R.source reader.new) }
         ensures later { Later (R.source reader.old) (R.source reader.new) }
+        ensures asks { Asks encoding_cause NoNeed (R.source reader.old) result }
         ensures always { GivesAlways (λ b. b) encoding_cause (box_at (whole (bytes_at N))) (R.source reader.old) result (R.source reader.new) }
     {
         reader.read_prefixed(
@@ -154,7 +172,7 @@ impl<const N: usize> Decode for [u8; N] {
 /// Reads a length of four bytes, and a value that takes exactly so many bytes.
 ///
 /// `Length` where the length passes what is left, `TrailingData` with the number of bytes that
-/// the value leaves.
+/// the value leaves. Memory is asked for only by the value, in a part that stands whole.
 #[tactic(auto, using(crate::proofs::Boxes::boxes))]
 pub fn decode_boxed<T: Decode + Drop, R: Reader>(
     alloc: Global,
@@ -163,17 +181,20 @@ pub fn decode_boxed<T: Decode + Drop, R: Reader>(
     ensures past { LengthPast T.Error.cause (R.source reader.old) result }
     ensures gives { Gives T.means T.Error.cause (box_at (whole T.parse)) (R.source reader.old) result (R.source reader.new) }
     ensures later { Later (R.source reader.old) (R.source reader.new) }
+    ensures asks { Asks T.Error.cause (NeedsBoxed T.needs) (R.source reader.old) result }
 {
     reader.read_prefixed(|part| T::decode(alloc, part))
 }
 
 /// Reads a value from the front, in the words of the grammar.
 ///
-/// The bytes taken spell the value, and the rest is left. Want of memory aside, a sound source is
-/// refused only where no front of it spells any value.
+/// The bytes taken spell the value, and the rest is left. Out of memory aside, a sound source is
+/// refused only where no front of it spells any value, and out of memory is answered only where
+/// the value needs some: a stated length that passes what is left is `Length`.
 pub fn decode_front<T: Decode, R: Reader>(alloc: Global, reader: &mut R) -> Result<T, T::Error>
     ensures gives { Gives T.means T.Error.cause T.parse (R.source reader.old) result (R.source reader.new) }
     ensures later { Later (R.source reader.old) (R.source reader.new) }
+    ensures asks { Asks T.Error.cause T.needs (R.source reader.old) result }
     ensures accepts { AcceptsFront T.means T.Spells T.Error.cause (R.source reader.old) result (R.source reader.new) }
 {
     T::decode(alloc, reader)
@@ -181,14 +202,16 @@ pub fn decode_front<T: Decode, R: Reader>(alloc: Global, reader: &mut R) -> Resu
 
 /// Reads a value that is all there is.
 ///
-/// Want of memory aside, a sound source is accepted exactly if all its bytes together spell a
-/// value, which then is the answer. `TrailingData` with the number of bytes behind a value. A
-/// source with a fault is never accepted.
+/// Out of memory aside, a sound source is accepted exactly if all its bytes together spell a
+/// value, which then is the answer. `TrailingData` with the number of bytes behind a value, and
+/// `Length` for a stated length that passes what is left, before any memory is asked for. A source
+/// with a fault is never accepted.
 pub fn decode_whole<T: Decode + Drop, R: Reader + Drop>(
     alloc: Global,
     mut reader: R,
 ) -> Result<T, T::Error>
     ensures gives { GivesWhole T.means T.Error.cause (whole T.parse) (R.source reader) result }
+    ensures asks { Asks T.Error.cause T.needs (R.source reader) result }
     ensures accepts { AcceptsWhole T.means T.Spells T.Error.cause (R.source reader) result }
 {
     let value = T::decode(alloc, &mut reader)?;

@@ -1,6 +1,6 @@
 //! Names that are read and written as strings.
 
-ghost use Rattle.std.specs.Prelude.{◌≡◌, ◌<◌, ◌+◌, ◌^◌, ℕ, List, true, Err};
+ghost use Rattle.std.specs.Prelude.{◌≡◌, ◌<◌, ◌+◌, ◌^◌, ℕ, List, true, Err, ◌≤◌, length};
 ghost use Rattle.sshkey_model.specs.Names.{are_ascii};
 ghost use Rattle.sshkey_model.specs.Parts.{Parts, Any, bytes};
 ghost use Rattle.sshkey_model.specs.Reading.{Fault, Whole, Label as label_fault, bytes_at, checked_at};
@@ -9,6 +9,7 @@ ghost use Rattle.sshkey_model.specs.Grammar.{Spells};
 ghost use Rattle.sshkey_model.proofs.CombinedReaders.{Checks, checked_string_reads};
 ghost use Rattle.sshkey_model.proofs.Grammars.{grammar};
 ghost use Rattle.sshkey_base.specs.Causes.{encoding_cause};
+ghost use Rattle.sshkey_base.specs.Needs.{Asks, NeedsString};
 ghost use Rattle.sshkey_base.specs.Reading.{Gives, LengthPast};
 ghost use Rattle.sshkey_base.specs.Source.{Later, told};
 ghost use Rattle.sshkey_base.specs.Labels.{LooksUp, label_at, label_grammar};
@@ -70,12 +71,15 @@ impl<T: Label> Decode for T {
 
     ghost Spells = { Spells T.IsNamed (λ n. string (T.name n)) };
 
+    ghost needs = { NeedsString };
+
     ghost grammar = { label_grammar T.checks };
 
     #[inline(always)]
     fn decode<R: Reader>(alloc: Global, reader: &mut R) -> Result<T>
         ensures gives { Gives T.stands_for encoding_cause (label_at T.named) (R.source reader.old) result (R.source reader.new) }
         ensures later { Later (R.source reader.old) (R.source reader.new) }
+        ensures asks { Asks encoding_cause NeedsString (R.source reader.old) result }
         ensures past { LengthPast encoding_cause (R.source reader.old) result }
     {
         let len = length_from(reader)?;
@@ -90,6 +94,7 @@ impl<T: Label> Decode for T {
 fn name_from<T: Label, R: Reader>(alloc: Global, len: usize, reader: &mut R) -> Result<T>
     ensures gives { Gives T.stands_for encoding_cause (checked_at T.named (bytes_at len)) (R.source reader.old) result (R.source reader.new) }
     ensures later { Later (R.source reader.old) (R.source reader.new) }
+    ensures asks { Asks encoding_cause (λ b. len ≤ length b) (R.source reader.old) result }
     ensures past { told (R.source reader.old) < len → result ≡ Err Error.Length }
 {
     if let Some(name) = reader.ahead(len) {

@@ -5,7 +5,8 @@ ghost use Rattle.sshkey_model.specs.Parts.{box, each};
 ghost use Rattle.sshkey_model.specs.Texts.{texts, texts_at};
 ghost use Rattle.sshkey_base.specs.Causes.{encoding_cause};
 ghost use Rattle.sshkey_base.specs.Nested.{nested_source};
-ghost use Rattle.sshkey_base.specs.Reading.{Gives, GivesToEnd, LengthPast};
+ghost use Rattle.sshkey_base.specs.Needs.{Asks, NeedsString};
+ghost use Rattle.sshkey_base.specs.Reading.{Gives, LengthPast, to_end};
 ghost use Rattle.sshkey_base.specs.Source.{Later};
 ghost use Rattle.sshkey_base.specs.Sink.{Encodes, Measures, MeasuresBoxed};
 ghost use Rattle.sshkey_base.specs.TextLists.{SpellsTexts, texts_of, text_list_at, texts_grammar, texts_normal};
@@ -66,7 +67,7 @@ pub fn encode_list<T: Encode, W: Writer>(values: &[T], writer: &mut W) -> Result
 /// The texts up to the end of the reader.
 #[tactic(auto, using(crate::proofs::Places::places))]
 fn texts_from<R: Reader>(alloc: Global, reader: &mut R) -> Result<Vec<String>>
-    ensures gives { GivesToEnd texts_of encoding_cause text_list_at (R.source reader.old) result (R.source reader.new) }
+    ensures gives { Gives texts_of encoding_cause (to_end text_list_at) (R.source reader.old) result (R.source reader.new) }
     ensures later { Later (R.source reader.old) (R.source reader.new) }
 {
     let mut texts = Vec::new(alloc);
@@ -93,16 +94,19 @@ impl Decode for Vec<String> {
 
     ghost Spells = { SpellsTexts };
 
+    ghost needs = { NeedsString };
+
     ghost grammar = { texts_grammar };
 
     fn decode<R: Reader>(alloc: Global, reader: &mut R) -> Result<Vec<String>>
         ensures gives { Gives texts_of encoding_cause texts_at (R.source reader.old) result (R.source reader.new) }
         ensures later { Later (R.source reader.old) (R.source reader.new) }
+        ensures asks { Asks encoding_cause NeedsString (R.source reader.old) result }
         ensures past { LengthPast encoding_cause (R.source reader.old) result }
     {
         reader.read_prefixed(
             |part: &mut NestedReader<'_, R>| -> Result<Vec<String>>
-                ensures gives { GivesToEnd texts_of encoding_cause text_list_at (nested_source R.source part.old) result (nested_source R.source part.new) }
+                ensures gives { Gives texts_of encoding_cause (to_end text_list_at) (nested_source R.source part.old) result (nested_source R.source part.new) }
                 ensures later { Later (nested_source R.source part.old) (nested_source R.source part.new) }
             { texts_from(alloc, part) },
         )

@@ -256,6 +256,7 @@ impl Decode for Mpint {
     ghost use Rattle.sshkey_base.specs.Causes.{cause};
     ghost use Rattle.sshkey_base.specs.MpintSpelling.{SpellsMpint, mpint_at, mpint_grammar};
     ghost use Rattle.sshkey_base.specs.Reading.{Gives, LengthPast};
+    ghost use Rattle.sshkey_base.specs.Needs.{Asks, NeedsString};
     ghost use Rattle.sshkey_base.specs.Source.{Later};
     ghost use Rattle.sshkey_base.specs.Numbers.{mpint_of};
 
@@ -269,11 +270,14 @@ impl Decode for Mpint {
 
     ghost Spells = { SpellsMpint };
 
+    ghost needs = { NeedsString };
+
     ghost grammar = { mpint_grammar };
 
     fn decode<R: Reader>(alloc: Global, reader: &mut R) -> Result<Mpint>
         ensures gives { Gives mpint_of cause mpint_at (R.source reader.old) result (R.source reader.new) }
         ensures later { Later (R.source reader.old) (R.source reader.new) }
+        ensures asks { Asks cause NeedsString (R.source reader.old) result }
         ensures past { LengthPast cause (R.source reader.old) result }
     {
         let bytes = Bytes::decode(alloc, reader)?;

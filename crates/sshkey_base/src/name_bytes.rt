@@ -1,9 +1,10 @@
 //! The bytes of names.
 
-ghost use Rattle.std.specs.Prelude.{◌≡◌, ◌<◌, ◌≤◌, Err};
+ghost use Rattle.std.specs.Prelude.{◌≡◌, ◌<◌, ◌≤◌, Err, length};
 ghost use Rattle.sshkey_model.specs.Reading.{bytes_at, string_at};
 ghost use Rattle.sshkey_base.specs.Causes.{encoding_cause};
 ghost use Rattle.sshkey_base.specs.NameBytes.{name_bytes_of};
+ghost use Rattle.sshkey_base.specs.Needs.{Asks, NeedsString};
 ghost use Rattle.sshkey_base.specs.Reading.{Gives, LengthPast};
 ghost use Rattle.sshkey_base.specs.Source.{Later, told};
 
@@ -26,6 +27,7 @@ impl NameBytes {
     pub(crate) fn decode<R: Reader>(alloc: Global, reader: &mut R) -> Result<NameBytes>
         ensures gives { Gives name_bytes_of encoding_cause string_at (R.source reader.old) result (R.source reader.new) }
         ensures later { Later (R.source reader.old) (R.source reader.new) }
+        ensures asks { Asks encoding_cause NeedsString (R.source reader.old) result }
         ensures past { LengthPast encoding_cause (R.source reader.old) result }
     {
         let len = length_from(reader)?;
@@ -40,6 +42,7 @@ impl NameBytes {
     ) -> Result<NameBytes>
         ensures gives { Gives name_bytes_of encoding_cause (bytes_at len) (R.source reader.old) result (R.source reader.new) }
         ensures later { Later (R.source reader.old) (R.source reader.new) }
+        ensures asks { Asks encoding_cause (λ b. len ≤ length b) (R.source reader.old) result }
         ensures past { told (R.source reader.old) < len → result ≡ Err Error.Length }
     {
         if len <= 73 {

@@ -3,6 +3,7 @@
 ghost use Rattle.std.specs.Prelude.{◌≡◌, ◌<◌, ◌≤◌, ℕ, List, Err, IfSome, length};
 ghost use Rattle.sshkey_model.specs.Reading.{bytes_at, checked_at};
 ghost use Rattle.sshkey_base.specs.Causes.{encoding_cause};
+ghost use Rattle.sshkey_base.specs.Needs.{Asks, NoNeed};
 ghost use Rattle.sshkey_base.specs.Reading.{Gives, GivesAlways, LengthPast, Reads};
 ghost use Rattle.sshkey_base.specs.ShortStrings.{SpellsShort, at_most, short_at, short_grammar};
 ghost use Rattle.sshkey_base.specs.Source.{Later, behind, told};
@@ -75,11 +76,14 @@ impl<const MAX: usize> Decode for ShortBytes<MAX> {
 
     ghost Spells = { SpellsShort MAX };
 
+    ghost needs = { NoNeed };
+
     ghost grammar = { short_grammar MAX };
 
     fn decode<R: Reader>(_alloc: Global, reader: &mut R) -> Result<ShortBytes<MAX>>
         ensures gives { Gives short_of encoding_cause (short_at MAX) (R.source reader.old) result (R.source reader.new) }
         ensures later { Later (R.source reader.old) (R.source reader.new) }
+        ensures asks { Asks encoding_cause NoNeed (R.source reader.old) result }
         ensures always { GivesAlways short_of encoding_cause (short_at MAX) (R.source reader.old) result (R.source reader.new) }
         ensures past { LengthPast encoding_cause (R.source reader.old) result }
     {

@@ -6,6 +6,7 @@ ghost use Rattle.sshkey_model.specs.Reading.{number_at};
 ghost use Rattle.sshkey_base.specs.Causes.{encoding_cause};
 ghost use Rattle.sshkey_base.specs.Counts.{count_normal};
 ghost use Rattle.sshkey_base.specs.Leaves.{SpellsNumber32, number32_grammar, count};
+ghost use Rattle.sshkey_base.specs.Needs.{Asks, NoNeed};
 ghost use Rattle.sshkey_base.specs.Reading.{Gives, GivesAlways};
 ghost use Rattle.sshkey_base.specs.Sink.{Encodes};
 ghost use Rattle.sshkey_base.specs.Source.{Later};
@@ -31,11 +32,14 @@ impl Decode for usize {
 
     ghost Spells = { SpellsNumber32 };
 
+    ghost needs = { NoNeed };
+
     ghost grammar = { number32_grammar };
 
     fn decode<R: Reader>(_alloc: Global, reader: &mut R) -> Result<usize>
         ensures gives { Gives (λ x. x) encoding_cause (number_at w32) (R.source reader.old) result (R.source reader.new) }
         ensures later { Later (R.source reader.old) (R.source reader.new) }
+        ensures asks { Asks encoding_cause NoNeed (R.source reader.old) result }
         ensures always { GivesAlways (λ x. x) encoding_cause (number_at w32) (R.source reader.old) result (R.source reader.new) }
     {
         length_from(reader)

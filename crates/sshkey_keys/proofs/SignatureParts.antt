@@ -9,7 +9,8 @@ use Rattle.sshkey_model.specs.Signatures.{IsSignatureBlob, signature_blob, signa
 use Rattle.sshkey_model.proofs.SignatureReaders.{signature_blob_reads}
 use Rattle.std.specs.Prelude.{IfOk}
 use Rattle.sshkey_base.specs.declared.error.Error.{Error}
-use Rattle.sshkey_base.specs.Causes.{cause}
+use Rattle.sshkey_base.specs.Causes.{Cause, cause}
+use Rattle.sshkey_base.specs.Needs.{Asks}
 use Rattle.sshkey_base.specs.Source.{Source}
 use Rattle.sshkey_base.specs.Reading.{Gives}
 use Rattle.sshkey_keys.specs.SignatureForms.{has_trailer, string_from}
@@ -40,6 +41,11 @@ trailed_is _ b e = absurd cc
 -- what is read is well-formed
 pub read_formed : (a : Algorithm) (b blob rest : List ℕ) → signature_blob_at a b ≡ Ok (blob, rest) → IsSignatureBlob a blob
 read_formed a b blob rest e = ((signature_blob_reads a).takes b blob rest e).0
+
+-- where memory is needed, it may be asked for
+pub asks_needed : {X E : Type 0} (cause : E → Cause) (needs : List ℕ → Type 0) (s : Source) (r : Result X E) → needs s.left → Asks cause needs s r
+asks_needed cause needs s (Ok x) h = tt
+asks_needed cause needs s (Err e) h = λ memory sound. h
 
 -- ---- writing
 

@@ -1,4 +1,5 @@
 pub mod Keys
+pub mod Needs
 pub mod KeyKinds
 pub mod Comparisons
 pub mod KeyReaders

@@ -7,6 +7,7 @@ ghost use Rattle.sshkey_base.specs.Causes.{cause};
 ghost use Rattle.sshkey_base.specs.Kinds.{IsFixed};
 ghost use Rattle.sshkey_base.specs.Names.{algorithm_of, curve_of, hash_of};
 ghost use Rattle.sshkey_model.specs.Names.{algorithm_name, Dsa, Ecdsa, Ed25519, Rsa, SkEcdsa, SkEd25519 as AlgorithmSkEd25519, Other};
+ghost use Rattle.sshkey_base.specs.Needs.{Asks};
 ghost use Rattle.sshkey_base.specs.Reading.{Gives};
 ghost use Rattle.sshkey_base.specs.Source.{Later};
 ghost use Rattle.sshkey_base.specs.Sink.{Encodes, Measures};
@@ -14,6 +15,7 @@ ghost use Rattle.sshkey_keys.specs.Fingerprints.{GivesFingerprint};
 ghost use Rattle.sshkey_keys.specs.Keys.{key_of, algorithm_beside, SpellsKey, key_data_at};
 ghost use Rattle.sshkey_keys.specs.KeyKinds.{is_ecdsa, is_ed25519};
 ghost use Rattle.sshkey_keys.specs.KeyReaders.{key_grammar, key_normal};
+ghost use Rattle.sshkey_keys.specs.Needs.{NeedsBody, NeedsKey};
 
 mod certificate_name;
 mod from;
@@ -123,8 +125,8 @@ impl KeyData {
 
     /// Reads what stands behind the name of that algorithm, an RSA key's with or without a hash.
     ///
-    /// Want of memory aside, it is refused only where no front is the body of such a key, by a
-    /// sound source with the first fault from the left.
+    /// A sound source is refused only where no front is the body of such a key, with the first
+    /// fault from the left, or for memory that ran out, where the body needs some.
     pub fn decode_as<R: Reader>(
         alloc: Global,
         reader: &mut R,
@@ -132,6 +134,7 @@ impl KeyData {
     ) -> Result<KeyData>
         ensures gives { Gives key_of cause (body_at (algorithm_of algorithm)) (R.source reader.old) result (R.source reader.new) }
         ensures later { Later (R.source reader.old) (R.source reader.new) }
+        ensures asks { Asks cause (NeedsBody (algorithm_of algorithm)) (R.source reader.old) result }
     {
         match algorithm {
             Algorithm::Dsa => dsa_from(alloc, reader),
@@ -197,6 +200,7 @@ fn ecdsa_name(curve: EcdsaCurve) -> &'static str
 fn dsa_from<R: Reader>(alloc: Global, reader: &mut R) -> Result<KeyData>
     ensures gives { Gives key_of cause (body_at Dsa) (R.source reader.old) result (R.source reader.new) }
     ensures later { Later (R.source reader.old) (R.source reader.new) }
+    ensures asks { Asks cause (NeedsBody Dsa) (R.source reader.old) result }
 {
     let key = DsaPublicKey::decode(alloc, reader)?;
     Ok(KeyData::Dsa(key))
@@ -207,6 +211,7 @@ fn dsa_from<R: Reader>(alloc: Global, reader: &mut R) -> Result<KeyData>
 fn ecdsa_from<R: Reader>(alloc: Global, reader: &mut R, curve: EcdsaCurve) -> Result<KeyData>
     ensures gives { Gives key_of cause (body_at (Ecdsa (curve_of curve))) (R.source reader.old) result (R.source reader.new) }
     ensures later { Later (R.source reader.old) (R.source reader.new) }
+    ensures asks { Asks cause (NeedsBody (Ecdsa (curve_of curve))) (R.source reader.old) result }
 {
     let key = EcdsaPublicKey::decode(alloc, reader)?;
     if !key.is_on(curve) {
@@ -220,6 +225,7 @@ fn ecdsa_from<R: Reader>(alloc: Global, reader: &mut R, curve: EcdsaCurve) -> Re
 fn ed25519_from<R: Reader>(alloc: Global, reader: &mut R) -> Result<KeyData>
     ensures gives { Gives key_of cause (body_at Ed25519) (R.source reader.old) result (R.source reader.new) }
     ensures later { Later (R.source reader.old) (R.source reader.new) }
+    ensures asks { Asks cause (NeedsBody Ed25519) (R.source reader.old) result }
 {
     let key = Ed25519PublicKey::decode(alloc, reader)?;
     Ok(KeyData::Ed25519(key))
@@ -230,6 +236,7 @@ fn ed25519_from<R: Reader>(alloc: Global, reader: &mut R) -> Result<KeyData>
 fn rsa_from<R: Reader>(alloc: Global, reader: &mut R) -> Result<KeyData>
     ensures gives { Gives key_of cause (body_at (Rsa None)) (R.source reader.old) result (R.source reader.new) }
     ensures later { Later (R.source reader.old) (R.source reader.new) }
+    ensures asks { Asks cause (NeedsBody (Rsa None)) (R.source reader.old) result }
 {
     let key = RsaPublicKey::decode(alloc, reader)?;
     Ok(KeyData::Rsa(key))
@@ -240,6 +247,7 @@ fn rsa_from<R: Reader>(alloc: Global, reader: &mut R) -> Result<KeyData>
 fn sk_ecdsa_from<R: Reader>(alloc: Global, reader: &mut R) -> Result<KeyData>
     ensures gives { Gives key_of cause (body_at SkEcdsa) (R.source reader.old) result (R.source reader.new) }
     ensures later { Later (R.source reader.old) (R.source reader.new) }
+    ensures asks { Asks cause (NeedsBody SkEcdsa) (R.source reader.old) result }
 {
     let key = SkEcdsaSha2NistP256::decode(alloc, reader)?;
     Ok(KeyData::SkEcdsaSha2NistP256(key))
@@ -250,6 +258,7 @@ fn sk_ecdsa_from<R: Reader>(alloc: Global, reader: &mut R) -> Result<KeyData>
 fn sk_ed25519_from<R: Reader>(alloc: Global, reader: &mut R) -> Result<KeyData>
     ensures gives { Gives key_of cause (body_at AlgorithmSkEd25519) (R.source reader.old) result (R.source reader.new) }
     ensures later { Later (R.source reader.old) (R.source reader.new) }
+    ensures asks { Asks cause (NeedsBody AlgorithmSkEd25519) (R.source reader.old) result }
 {
     let key = SkEd25519::decode(alloc, reader)?;
     Ok(KeyData::SkEd25519(key))
@@ -260,6 +269,7 @@ fn sk_ed25519_from<R: Reader>(alloc: Global, reader: &mut R) -> Result<KeyData>
 fn opaque_from<R: Reader>(alloc: Global, reader: &mut R, algorithm: Algorithm) -> Result<KeyData>
     ensures gives { Gives key_of cause (body_at (Other (algorithm_name (algorithm_of algorithm)))) (R.source reader.old) result (R.source reader.new) }
     ensures later { Later (R.source reader.old) (R.source reader.new) }
+    ensures asks { Asks cause (NeedsBody (Other (algorithm_name (algorithm_of algorithm)))) (R.source reader.old) result }
 {
     let key = OpaquePublicKeyBytes::decode(alloc, reader)?;
     Ok(KeyData::Other(OpaquePublicKey { algorithm, key }))
@@ -280,6 +290,8 @@ impl Decode for KeyData {
     ghost parse = { key_data_at };
 
     ghost Spells = { SpellsKey };
+
+    ghost needs = { NeedsKey };
 
     ghost grammar = { key_grammar };
 

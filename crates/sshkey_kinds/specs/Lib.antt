@@ -4,5 +4,6 @@ pub mod EcdsaWords
 pub mod EcdsaEquality
 pub mod Kinds
 pub mod Bodies
+pub mod BodyNeeds
 pub mod Comparisons
 pub mod Ed25519Bytes

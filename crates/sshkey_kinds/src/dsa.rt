@@ -43,6 +43,7 @@ impl DsaPublicKey {
 /// The four numbers p, q, g and y, each as a string.
 #[tactic(auto, using(sshkey_base::proofs::Steps::steps), unfolding(crate::specs::Bodies::dsa_at))]
 impl Decode for DsaPublicKey {
+    ghost use Rattle.sshkey_kinds.specs.BodyNeeds.{NeedsDsa};
     ghost use Rattle.sshkey_kinds.specs.Kinds.{dsa_of};
 
     type Error = Error;
@@ -54,6 +55,8 @@ impl Decode for DsaPublicKey {
     ghost parse = { dsa_at };
 
     ghost Spells = { SpellsDsa };
+
+    ghost needs = { NeedsDsa };
 
     ghost grammar = { dsa_grammar };
 

@@ -5,6 +5,7 @@ ghost use Rattle.std.specs.Prelude.{◌≡◌};
 ghost use Rattle.hex.specs.Hex.{encode_lower, encode_upper};
 ghost use Rattle.sshkey_base.specs.Answering.{AnswersAlways};
 ghost use Rattle.sshkey_base.specs.Causes.{cause};
+ghost use Rattle.sshkey_base.specs.Needs.{Asks, NoNeed};
 ghost use Rattle.sshkey_base.specs.Reading.{Gives};
 ghost use Rattle.sshkey_base.specs.Source.{Later};
 ghost use Rattle.sshkey_model.specs.Points.{point_from};
@@ -115,6 +116,7 @@ impl EcdsaPublicKey {
 impl Decode for EcdsaPublicKey {
     ghost use Rattle.sshkey_model.specs.Keys.{Key};
     ghost use Rattle.sshkey_kinds.specs.Bodies.{SpellsEcdsa, any_ecdsa_at, any_ecdsa_grammar};
+    ghost use Rattle.sshkey_kinds.specs.BodyNeeds.{NeedsEcdsa};
     ghost use Rattle.sshkey_kinds.specs.EcdsaWords.{ecdsa_key_of};
 
     type Error = Error;
@@ -126,6 +128,8 @@ impl Decode for EcdsaPublicKey {
     ghost parse = { any_ecdsa_at };
 
     ghost Spells = { SpellsEcdsa };
+
+    ghost needs = { NeedsEcdsa };
 
     ghost grammar = { any_ecdsa_grammar };
 
@@ -144,6 +148,7 @@ impl Decode for EcdsaPublicKey {
 fn decode_point<R: Reader>(reader: &mut R) -> Result<EcdsaPublicKey>
     ensures gives { Gives ecdsa_of cause (checked_at point_from string_at) (R.source reader.old) result (R.source reader.new) }
     ensures later { Later (R.source reader.old) (R.source reader.new) }
+    ensures asks { Asks cause NoNeed (R.source reader.old) result }
 {
     let len = length_from(reader)?;
     point_from(len, reader)
@@ -154,6 +159,7 @@ fn decode_point<R: Reader>(reader: &mut R) -> Result<EcdsaPublicKey>
 fn point_from<R: Reader>(len: usize, reader: &mut R) -> Result<EcdsaPublicKey>
     ensures gives { Gives ecdsa_of cause (checked_at point_from (bytes_at len)) (R.source reader.old) result (R.source reader.new) }
     ensures later { Later (R.source reader.old) (R.source reader.new) }
+    ensures asks { Asks cause NoNeed (R.source reader.old) result }
 {
     if let Some(bytes) = ShortBytes::<133>::ahead(len, reader) {
         let key = EcdsaPublicKey::from_sec1_bytes(bytes)?;

@@ -31,6 +31,7 @@ impl Ed25519PublicKey {
 /// memory.
 #[tactic(auto, using(sshkey_base::proofs::Steps::steps), unfolding(crate::specs::Bodies::ed25519_body_at, crate::specs::Bodies::ed25519_at))]
 impl Decode for Ed25519PublicKey {
+    ghost use Rattle.sshkey_base.specs.Needs.{Asks, NoNeed};
     ghost use Rattle.sshkey_kinds.specs.Kinds.{ed25519_of};
 
     type Error = encoding::Error;
@@ -43,11 +44,14 @@ impl Decode for Ed25519PublicKey {
 
     ghost Spells = { SpellsEd25519 };
 
+    ghost needs = { NoNeed };
+
     ghost grammar = { ed25519_body_grammar };
 
     fn decode<R: Reader>(alloc: Global, reader: &mut R) -> encoding::Result<Ed25519PublicKey>
         ensures gives { Gives ed25519_of encoding_cause ed25519_body_at (R.source reader.old) result (R.source reader.new) }
         ensures later { Later (R.source reader.old) (R.source reader.new) }
+        ensures asks { Asks encoding_cause NoNeed (R.source reader.old) result }
         ensures always { GivesAlways ed25519_of encoding_cause ed25519_body_at (R.source reader.old) result (R.source reader.new) }
     {
         Ok(Ed25519PublicKey(<[u8; 32]>::decode(alloc, reader)?))

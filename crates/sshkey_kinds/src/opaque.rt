@@ -57,6 +57,8 @@ impl AsSlice<u8> for OpaquePublicKeyBytes {
 /// A string of any bytes.
 #[tactic(auto, using(sshkey_base::proofs::Steps::steps))]
 impl Decode for OpaquePublicKeyBytes {
+    ghost use Rattle.sshkey_base.specs.Needs.{NeedsString};
+
     type Error = encoding::Error;
 
     ghost Meaning = { List ℕ };
@@ -66,6 +68,8 @@ impl Decode for OpaquePublicKeyBytes {
     ghost parse = { string_at };
 
     ghost Spells = { SpellsString };
+
+    ghost needs = { NeedsString };
 
     ghost grammar = { string_grammar };
 

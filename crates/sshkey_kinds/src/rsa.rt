@@ -37,6 +37,7 @@ impl RsaPublicKey {
 /// The two numbers, e and then n, each as a string.
 #[tactic(auto, using(sshkey_base::proofs::Steps::steps), unfolding(crate::specs::Bodies::rsa_at))]
 impl Decode for RsaPublicKey {
+    ghost use Rattle.sshkey_kinds.specs.BodyNeeds.{NeedsRsa};
     ghost use Rattle.sshkey_kinds.specs.Kinds.{rsa_of};
 
     type Error = Error;
@@ -48,6 +49,8 @@ impl Decode for RsaPublicKey {
     ghost parse = { rsa_at };
 
     ghost Spells = { SpellsRsa };
+
+    ghost needs = { NeedsRsa };
 
     ghost grammar = { rsa_grammar };
 

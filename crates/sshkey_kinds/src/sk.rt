@@ -2,6 +2,7 @@
 
 ghost use Rattle.std.specs.Prelude.{◌≡◌, ℕ, ◌+◌, ◌*◌, ◌^◌, codes, string_bytes, IfOk, IfErr};
 ghost use Rattle.sshkey_base.specs.Causes.{cause};
+ghost use Rattle.sshkey_base.specs.Needs.{Asks, NoNeed};
 ghost use Rattle.sshkey_base.specs.Reading.{Gives};
 ghost use Rattle.sshkey_base.specs.Source.{Later};
 ghost use Rattle.sshkey_base.specs.declared.error.Error.TheVariants as wide;
@@ -96,6 +97,7 @@ impl From<SkEcdsaSha2NistP256> for EcdsaNistP256PublicKey {
 /// one that is no point of P-256.
 #[tactic(auto, using(sshkey_base::proofs::Steps::steps), unfolding(crate::specs::Bodies::sk_ecdsa_at, crate::specs::Bodies::curve_at, crate::specs::Bodies::label_at))]
 impl Decode for SkEcdsaSha2NistP256 {
+    ghost use Rattle.sshkey_kinds.specs.BodyNeeds.{NeedsSkEcdsa};
     ghost use Rattle.sshkey_kinds.specs.Kinds.{sk_ecdsa_of};
 
     type Error = Error;
@@ -107,6 +109,8 @@ impl Decode for SkEcdsaSha2NistP256 {
     ghost parse = { sk_ecdsa_at };
 
     ghost Spells = { SpellsSkEcdsa };
+
+    ghost needs = { NeedsSkEcdsa };
 
     ghost grammar = { sk_ecdsa_grammar };
 
@@ -129,6 +133,7 @@ impl Decode for SkEcdsaSha2NistP256 {
 fn decode_point<R: Reader>(reader: &mut R) -> Result<EcdsaNistP256PublicKey>
     ensures gives { Gives point_of cause (checked_at p256_point_from string_at) (R.source reader.old) result (R.source reader.new) }
     ensures later { Later (R.source reader.old) (R.source reader.new) }
+    ensures asks { Asks cause NoNeed (R.source reader.old) result }
 {
     let len = length_from(reader)?;
     point_from(len, reader)
@@ -139,6 +144,7 @@ fn decode_point<R: Reader>(reader: &mut R) -> Result<EcdsaNistP256PublicKey>
 fn point_from<R: Reader>(len: usize, reader: &mut R) -> Result<EcdsaNistP256PublicKey>
     ensures gives { Gives point_of cause (checked_at p256_point_from (bytes_at len)) (R.source reader.old) result (R.source reader.new) }
     ensures later { Later (R.source reader.old) (R.source reader.new) }
+    ensures asks { Asks cause NoNeed (R.source reader.old) result }
 {
     if let Some(bytes) = ShortBytes::<65>::ahead(len, reader) {
         let point = EcPoint::from_bytes(bytes)?;
@@ -244,6 +250,7 @@ impl From<SkEd25519> for Ed25519PublicKey {
 /// A string of 32 bytes, and the application as a text.
 #[tactic(auto, using(sshkey_base::proofs::Steps::steps), unfolding(crate::specs::Bodies::sk_ed25519_at, crate::specs::Bodies::ed25519_body_at, crate::specs::Bodies::ed25519_at))]
 impl Decode for SkEd25519 {
+    ghost use Rattle.sshkey_kinds.specs.BodyNeeds.{NeedsSkEd25519};
     ghost use Rattle.sshkey_kinds.specs.Kinds.{sk_ed25519_of};
 
     type Error = Error;
@@ -255,6 +262,8 @@ impl Decode for SkEd25519 {
     ghost parse = { sk_ed25519_at };
 
     ghost Spells = { SpellsSkEd25519 };
+
+    ghost needs = { NeedsSkEd25519 };
 
     ghost grammar = { sk_ed25519_grammar };
 

@@ -5,6 +5,7 @@ ghost use Rattle.sshkey_base.specs.Accepting.{AcceptsWhole};
 ghost use Rattle.sshkey_base.specs.Answering.{AnswersAlways};
 ghost use Rattle.sshkey_base.specs.Causes.{cause};
 ghost use Rattle.sshkey_base.specs.Names.{algorithm_of};
+ghost use Rattle.sshkey_base.specs.Needs.{Asks, NeedsString};
 ghost use Rattle.sshkey_base.specs.Reading.{Gives, GivesWhole};
 ghost use Rattle.sshkey_base.specs.Source.{Later};
 ghost use Rattle.sshkey_base.specs.Sink.{Encodes, Measures};
@@ -12,6 +13,7 @@ ghost use Rattle.sshkey_base.specs.declared.error.Error.TheVariants as wide;
 ghost use Rattle.sshkey_model.specs.Reading.{checked_at, string_at, whole};
 ghost use Rattle.sshkey_model.specs.Signatures.{Signature as TheSignature, IsSignature, IsSignatureBlob, signature, signature_blob, signature_blob_at, signature_at, trailed_at};
 ghost use Rattle.sshkey_keys.specs.Blobs.{all_of, ReadsFrontOf, MakesBlob};
+ghost use Rattle.sshkey_keys.specs.Needs.{NeedsSignature};
 ghost use Rattle.sshkey_keys.specs.SignatureForms.{string_from};
 ghost use Rattle.sshkey_keys.specs.SignatureReaders.{SpellsSignature, signature_grammar, signature_normal};
 ghost use Rattle.sshkey_keys.specs.Signatures.{signature_of};
@@ -27,10 +29,11 @@ use std::alloc::Global;
 impl Signature {
     /// Reads a signature from the front of the bytes, whatever follows it.
     ///
-    /// Want of memory aside, it is refused only where no front spells a signature. The refusals
-    /// are those of `decode`.
+    /// It is refused only where no front spells a signature, with the refusals of `decode`, or for
+    /// memory that ran out, never where a stated length passes the bytes: that is `Length`.
     pub fn from_front(alloc: Global, bytes: &[u8]) -> Result<Signature>
-        ensures { ReadsFrontOf signature_of signature_at SpellsSignature cause bytes.now result }
+        ensures reads { ReadsFrontOf signature_of signature_at SpellsSignature cause bytes.now result }
+        ensures asks { Asks cause NeedsSignature (all_of bytes.now) result }
     {
         let mut left = bytes;
         decode_front(alloc, &mut left)
@@ -38,10 +41,12 @@ impl Signature {
 
     /// Reads a signature that all the bytes spell.
     ///
-    /// Want of memory aside, they are refused only where they spell no signature: `TrailingData`
-    /// with the number of bytes behind one, else the refusals of `decode`.
+    /// They are refused only where they spell no signature, `TrailingData` with the number of bytes
+    /// behind one, else the refusals of `decode`; or for memory that ran out, never where a stated
+    /// length passes the bytes: that is `Length`.
     pub fn from_bytes(alloc: Global, bytes: &[u8]) -> Result<Signature>
         ensures gives { GivesWhole signature_of cause (whole signature_at) (all_of bytes.now) result }
+        ensures asks { Asks cause NeedsSignature (all_of bytes.now) result }
         ensures accepts { AcceptsWhole signature_of SpellsSignature cause (all_of bytes.now) result }
     {
         decode_whole(alloc, bytes)
@@ -75,6 +80,8 @@ impl Decode for Signature {
 
     ghost Spells = { SpellsSignature };
 
+    ghost needs = { NeedsSignature };
+
     ghost grammar = { signature_grammar };
 
     fn decode<R: Reader>(alloc: Global, reader: &mut R) -> Result<Signature> {
@@ -88,6 +95,7 @@ impl Decode for Signature {
 fn decode_blob<R: Reader>(alloc: Global, reader: &mut R, algorithm: &Algorithm) -> Result<Bytes>
     ensures gives { Gives (λ b. b) cause (signature_blob_at (algorithm_of algorithm.now)) (R.source reader.old) result (R.source reader.new) }
     ensures later { Later (R.source reader.old) (R.source reader.new) }
+    ensures asks { Asks cause NeedsString (R.source reader.old) result }
     ensures form { IfOk result (IsSignatureBlob (algorithm_of algorithm.now)) }
 {
     if has_trailer(algorithm) {
@@ -102,6 +110,7 @@ fn decode_blob<R: Reader>(alloc: Global, reader: &mut R, algorithm: &Algorithm) 
 fn decode_string<R: Reader>(alloc: Global, reader: &mut R, algorithm: &Algorithm) -> Result<Bytes>
     ensures gives { Gives (λ b. b) cause (checked_at (string_from (algorithm_of algorithm.now)) string_at) (R.source reader.old) result (R.source reader.new) }
     ensures later { Later (R.source reader.old) (R.source reader.new) }
+    ensures asks { Asks cause NeedsString (R.source reader.old) result }
 {
     let bytes = Bytes::decode(alloc, reader)?;
     checked(algorithm, bytes)
@@ -120,6 +129,7 @@ fn checked(algorithm: &Algorithm, bytes: Bytes) -> Result<Bytes>
 fn decode_trailed<R: Reader>(alloc: Global, reader: &mut R, algorithm: &Algorithm) -> Result<Bytes>
     ensures gives { Gives (λ b. b) cause (trailed_at (string_from (algorithm_of algorithm.now))) (R.source reader.old) result (R.source reader.new) }
     ensures later { Later (R.source reader.old) (R.source reader.new) }
+    ensures asks { Asks cause NeedsString (R.source reader.old) result }
 {
     let bytes = Bytes::decode(alloc, reader)?;
     let trailer = array_from::<5, R>(reader)?;

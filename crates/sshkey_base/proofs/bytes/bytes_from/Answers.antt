@@ -2,17 +2,17 @@ use Rattle.std.proofs.Common.{rules, ◌≡◌, length, arith, refl, take, drop,
 use Rattle.std.proofs.lemmas.Result.{err_from_is_err_and}
 use Rattle.std.proofs.lemmas.List.{take_at}
 use Rattle.sshkey_base.specs.declared.encoding.Error.TheVariants.{Length}
-use Rattle.sshkey_base.proofs.Steps.{few_refused, front_reads}
+use Rattle.sshkey_base.proofs.Steps.{few_refused, front_reads, refuses_sound}
 use Rattle.sshkey_base.proofs.bytes.bytes_from.Goals as goal
 
 pub returns-then-remaining_len-len-clause-gives : goal.returns-then-remaining_len-len-clause-gives
-returns-then-remaining_len-len-clause-gives g c = λ _. few_refused c.args.len (g.R.Reader.source c.args.reader.now) Length (record { few = omega arith; sound = λ _. refl })
+returns-then-remaining_len-len-clause-gives g c = refuses_sound _ _ _ (few_refused c.args.len (g.R.Reader.source c.args.reader.now) Length (record { few = omega arith; sound = λ _. refl }))
 
 pub returns-in_err-read-clause-gives : goal.returns-in_err-read-clause-gives
 returns-in_err-read-clause-gives g c =
     let p = err_from_is_err_and c.from_residual-in_err-read.result c.from_residual-in_err-read.ensures.1 in
     let len : length c.read.new.buffer ≡ c.args.len = search rules in
-    rw (p.1, p.2) (λ _. few_refused c.args.len (g.R.Reader.source c.args.reader.now) c.in_err-read.field-0.0 (rw (← len) c.in_err-read.ensures.takes))
+    rw (p.1, p.2) (refuses_sound _ _ _ (few_refused c.args.len (g.R.Reader.source c.args.reader.now) c.in_err-read.field-0.0 (rw (← len) c.in_err-read.ensures.takes)))
 
 pub returns-clause-gives : goal.returns-clause-gives
 returns-clause-gives g c =

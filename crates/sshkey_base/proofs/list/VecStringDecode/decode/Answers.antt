@@ -4,10 +4,10 @@ use Rattle.sshkey_model.specs.Texts.{texts_at}
 use Rattle.sshkey_base.specs.Causes.{encoding_cause}
 use Rattle.sshkey_base.specs.Reading.{to_end}
 use Rattle.sshkey_base.specs.TextLists.{texts_of, text_list_at}
-use Rattle.sshkey_base.proofs.Boxes.{prefixed_gives_soundly}
+use Rattle.sshkey_base.proofs.Boxes.{prefixed_gives}
 use Rattle.sshkey_base.proofs.ReadLists.{box_to_end, same_gives}
 use Rattle.sshkey_base.proofs.list.VecStringDecode.decode.Goals as goal
 
 pub returns-clause-gives : goal.returns-clause-gives
 unfolding texts_at
-returns-clause-gives g c = same_gives texts_of encoding_cause (box_at (whole (to_end text_list_at))) (box_at text_list_at) _ _ _ (box_to_end text_list_at) (prefixed_gives_soundly _ _ _ _ _ texts_of (to_end text_list_at) (search rules) (search rules) _ _ _ c.read_prefixed.ensures.calls)
+returns-clause-gives g c = same_gives texts_of encoding_cause (box_at (whole (to_end text_list_at))) (box_at text_list_at) _ _ _ (box_to_end text_list_at) (prefixed_gives _ _ _ _ _ texts_of (to_end text_list_at) (search rules) (search rules) _ _ _ c.read_prefixed.ensures.calls)

@@ -1,0 +1,27 @@
+-- Where the reader of a kind's body needs memory.
+use Rattle.std.specs.Prelude.{ℕ, List}
+use Rattle.sshkey_model.specs.Reading.{whole, bytes_at, box_at, string_at, checked_at}
+use Rattle.sshkey_model.specs.Names.{curve_at}
+use Rattle.sshkey_model.specs.Mpints.{mpint_at}
+use Rattle.sshkey_model.specs.Points.{p256_point_from}
+use Rattle.sshkey_base.specs.Needs.{NoNeed, NeedsString, NeedsBoth}
+
+-- one of p, q, g and y
+abbrev pub NeedsDsa : List ℕ → Type 0
+NeedsDsa = NeedsBoth NeedsString mpint_at (NeedsBoth NeedsString mpint_at (NeedsBoth NeedsString mpint_at NeedsString))
+
+-- the name of the curve; the point needs none
+abbrev pub NeedsEcdsa : List ℕ → Type 0
+NeedsEcdsa = NeedsString
+
+-- e or n
+abbrev pub NeedsRsa : List ℕ → Type 0
+NeedsRsa = NeedsBoth NeedsString mpint_at NeedsString
+
+-- the name of the curve, or the application behind the point
+abbrev pub NeedsSkEcdsa : List ℕ → Type 0
+NeedsSkEcdsa = NeedsBoth NeedsString curve_at (NeedsBoth NoNeed (checked_at p256_point_from string_at) NeedsString)
+
+-- the application behind the 32 bytes
+abbrev pub NeedsSkEd25519 : List ℕ → Type 0
+NeedsSkEd25519 = NeedsBoth NoNeed (box_at (whole (bytes_at 32))) NeedsString
