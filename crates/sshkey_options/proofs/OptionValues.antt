@@ -10,7 +10,7 @@ use Rattle.sshkey_model.proofs.CombinedReaders.{bind_ok, ok_is, passed, number_r
 use Rattle.sshkey_model.proofs.TextReaders.{text_reads, box_shows}
 use Rattle.sshkey_base.specs.Causes.{Cause}
 use Rattle.sshkey_base.specs.Source.{Source, told}
-use Rattle.sshkey_base.specs.Reading.{Reads, Gives, GivesSoundly}
+use Rattle.sshkey_base.specs.Reading.{Reads, Gives}
 use Rattle.sshkey_base.proofs.ReadLists.{leaves_less}
 use Rattle.sshkey_base.proofs.MappedBoxes.{with_rest, on_value, made, first_same, box_map, box_leaves}
 use Rattle.sshkey_options.specs.OptionReaders.{value_front, option_box_at, may_follow, option_behind, name_before, item, option_list_at, options_value_at}
@@ -168,9 +168,9 @@ unfolding value_front
 of_some [] x e = absurd (no_text x e)
 of_some (c ∷ b) x e = e
 
-pub value_read : {X E : Type 0} (means : X → List ℕ) (cause : E → Cause) (s t : Source) (r : Result X E) → (told s ≢ 0) → Gives means cause text_at s r t → GivesSoundly means cause value_front s r t
+pub value_read : {X E : Type 0} (means : X → List ℕ) (cause : E → Cause) (s t : Source) (r : Result X E) → (told s ≢ 0) → Gives means cause text_at s r t → Gives means cause value_front s r t
 value_read means cause s t (Ok x) some h = record { value = of_some s.left _ h.value; missing = h.missing; outer = h.outer }
-value_read means cause s t (Err e) some h = λ sound other. let g = h other in record { met = g.met; is = value_of_text s.left (λ none. some (omega (arith, sound))) ∙ g.is; same = g.same }
+value_read means cause s t (Err e) some h = record { fault = λ other sound. rw (value_of_text s.left (λ none. some (omega (arith, sound)))) (h.fault other sound) }
 
 pub value_none : {X : Type 0} (means : X → List ℕ) (s : Source) (x : X) → told s ≡ 0 → means x ≡ [] → Reads means value_front s x s
 unfolding value_front

@@ -7,6 +7,7 @@ ghost use Rattle.sshkey_model.specs.Certificates.{CertificateType, type_number, 
 ghost use Rattle.sshkey_model.specs.Parts.{number};
 ghost use Rattle.sshkey_base.specs.Answering.{AnswersAlways};
 ghost use Rattle.sshkey_base.specs.Causes.{cause};
+ghost use Rattle.sshkey_base.specs.Needs.{NoNeed};
 ghost use Rattle.sshkey_options.specs.CertTypes.{type_of};
 ghost use Rattle.sshkey_options.specs.Leaves.{SpellsType, type_at, type_grammar};
 
@@ -86,6 +87,8 @@ impl Decode for CertType {
     ghost parse = { type_at };
 
     ghost Spells = { SpellsType };
+
+    ghost needs = { NoNeed };
 
     ghost grammar = { type_grammar };
 

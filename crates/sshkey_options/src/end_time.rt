@@ -6,6 +6,7 @@ ghost use Rattle.sshkey_model.specs.Certificates.{is_end, forever};
 ghost use Rattle.sshkey_model.specs.Parts.{number};
 ghost use Rattle.sshkey_base.specs.Answering.{AnswersAlways};
 ghost use Rattle.sshkey_base.specs.Causes.{cause};
+ghost use Rattle.sshkey_base.specs.Needs.{NoNeed};
 ghost use Rattle.sshkey_options.specs.Leaves.{SpellsEnd, end_from, end_at, end_grammar};
 
 use crate::unix_time::{MAX_SECS, UnixTime};
@@ -83,6 +84,8 @@ impl Decode for EndTime {
     ghost parse = { end_at };
 
     ghost Spells = { SpellsEnd };
+
+    ghost needs = { NoNeed };
 
     ghost grammar = { end_grammar };
 

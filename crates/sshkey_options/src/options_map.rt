@@ -8,7 +8,8 @@ ghost use Rattle.sshkey_model.specs.OptionMaps.{value_of, with_option};
 ghost use Rattle.sshkey_model.specs.Options.{CertificateOption, AreOptions, normal_options};
 ghost use Rattle.sshkey_base.specs.Causes.{cause};
 ghost use Rattle.sshkey_base.specs.Nested.{nested_source};
-ghost use Rattle.sshkey_base.specs.Reading.{Gives, GivesToEnd, LengthPast};
+ghost use Rattle.sshkey_base.specs.Needs.{Asks, NeedsString};
+ghost use Rattle.sshkey_base.specs.Reading.{Gives, LengthPast, to_end};
 ghost use Rattle.sshkey_base.specs.Source.{Later};
 ghost use Rattle.sshkey_base.specs.declared.error.Error.TheVariants as wide;
 ghost use Rattle.sshkey_options.specs.OptionReaders.{SpellsOptions, option_list_at, options_value_at, options_grammar, options_normal};
@@ -130,16 +131,19 @@ impl Decode for OptionsMap {
 
     ghost Spells = { SpellsOptions };
 
+    ghost needs = { NeedsString };
+
     ghost grammar = { options_grammar };
 
     fn decode<R: Reader>(alloc: Global, reader: &mut R) -> Result<OptionsMap>
         ensures gives { Gives options_of cause options_value_at (R.source reader.old) result (R.source reader.new) }
         ensures later { Later (R.source reader.old) (R.source reader.new) }
+        ensures asks { Asks cause NeedsString (R.source reader.old) result }
         ensures past { LengthPast cause (R.source reader.old) result }
     {
         reader.read_prefixed(
             |part: &mut NestedReader<'_, R>| -> Result<OptionsMap>
-                ensures gives { GivesToEnd options_of cause option_list_at (nested_source R.source part.old) result (nested_source R.source part.new) }
+                ensures gives { Gives options_of cause (to_end option_list_at) (nested_source R.source part.old) result (nested_source R.source part.new) }
                 ensures later { Later (nested_source R.source part.old) (nested_source R.source part.new) }
             { options_from(alloc, part) },
         )

@@ -6,6 +6,7 @@ ghost use Rattle.sshkey_model.specs.Parts.{number};
 ghost use Rattle.std.specs.Int.{w64};
 ghost use Rattle.sshkey_base.specs.Answering.{AnswersAlways};
 ghost use Rattle.sshkey_base.specs.Causes.{cause};
+ghost use Rattle.sshkey_base.specs.Needs.{NoNeed};
 ghost use Rattle.sshkey_options.specs.Leaves.{SpellsTime, time_from, time_at, time_grammar};
 
 use sshkey_base::{Decode, Encode, Error, Reader, Result, Writer, encoding};
@@ -67,6 +68,8 @@ impl Decode for UnixTime {
     ghost parse = { time_at };
 
     ghost Spells = { SpellsTime };
+
+    ghost needs = { NoNeed };
 
     ghost grammar = { time_grammar };
 

@@ -6,7 +6,7 @@ ghost use Rattle.std.specs.BTreeMap.{insert_entry};
 ghost use Rattle.std.specs.String.{string_cmp};
 ghost use Rattle.sshkey_base.specs.Causes.{cause, encoding_cause};
 ghost use Rattle.sshkey_base.specs.Nested.{nested_source};
-ghost use Rattle.sshkey_base.specs.Reading.{Gives, GivesToEnd, GivesSoundly};
+ghost use Rattle.sshkey_base.specs.Reading.{Gives, to_end};
 ghost use Rattle.sshkey_base.specs.Source.{Later};
 ghost use Rattle.sshkey_options.specs.OptionReaders.{may_follow, value_front, option_box_at, option_behind, option_list_at};
 ghost use Rattle.sshkey_options.specs.OptionMaps.{option_of, options_of, last_name, GoesLast};
@@ -19,7 +19,7 @@ use std::collections::BTreeMap;
 /// The options up to the end of the reader.
 #[tactic(auto, using(sshkey_base::proofs::Places::places))]
 pub(super) fn options_from<R: Reader>(alloc: Global, reader: &mut R) -> Result<OptionsMap>
-    ensures gives { GivesToEnd options_of cause option_list_at (R.source reader.old) result (R.source reader.new) }
+    ensures gives { Gives options_of cause (to_end option_list_at) (R.source reader.old) result (R.source reader.new) }
     ensures later { Later (R.source reader.old) (R.source reader.new) }
 {
     let mut options = BTreeMap::new(alloc);
@@ -85,7 +85,7 @@ fn boxed_value<R: Reader>(alloc: Global, reader: &mut R) -> encoding::Result<Str
 {
     reader.read_prefixed(
         |part: &mut NestedReader<'_, R>| -> encoding::Result<String>
-            ensures gives { GivesSoundly string_bytes encoding_cause value_front (nested_source R.source part.old) result (nested_source R.source part.new) }
+            ensures gives { Gives string_bytes encoding_cause value_front (nested_source R.source part.old) result (nested_source R.source part.new) }
             ensures later { Later (nested_source R.source part.old) (nested_source R.source part.new) }
         { value_from(alloc, part) },
     )
@@ -93,7 +93,7 @@ fn boxed_value<R: Reader>(alloc: Global, reader: &mut R) -> encoding::Result<Str
 
 /// One text, or nothing at the end of the reader.
 fn value_from<R: Reader>(alloc: Global, reader: &mut R) -> encoding::Result<String>
-    ensures gives { GivesSoundly string_bytes encoding_cause value_front (R.source reader.old) result (R.source reader.new) }
+    ensures gives { Gives string_bytes encoding_cause value_front (R.source reader.old) result (R.source reader.new) }
     ensures later { Later (R.source reader.old) (R.source reader.new) }
 {
     if reader.is_finished() {

@@ -14,7 +14,7 @@ pub returns-in_err-name-clause-gives : goal.returns-in_err-name-clause-gives
 returns-in_err-name-clause-gives g c =
     let p = err_from_is_err_and c.from_residual.result c.from_residual.ensures.1 in
     let some : told (g.R.Reader.source c.reads.reader) ≢ 0 = (λ none. let t = c.is_finished.ensures.1 none in cc) in
-    rw (p.1, p.2) (λ sound other. collects_refused item _ _ _ _ _ c.reads.invariant.0.2 some sound (rw (c.reads.invariant.0.1, ← c.greatest_name.ensures.name) (c.in_err-name.ensures.gives other)))
+    rw (p.1, p.2) (collects_refused item _ _ _ _ _ c.reads.invariant.0.2 some (rw (c.reads.invariant.0.1, ← c.greatest_name.ensures.name) c.in_err-name.ensures.gives))
 
 pub reads-smaller : goal.reads-smaller
 reads-smaller g c =
