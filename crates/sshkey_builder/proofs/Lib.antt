@@ -1,2 +1,3 @@
 pub mod Principals
 pub mod Signed
+pub mod Steps
