@@ -50,4 +50,4 @@ DraftSteps = (after_step (Serial 5) draft ≡ Ok (record draft { serial = Some 5
 abbrev pub DraftDefaults : Type 0
 DraftDefaults = (drafted (after_steps (AllPrincipals ∷ []) draft) ed25519_key ≡ small_certificate ed25519_key)
     × (drafted (after_steps (Kind Host ∷ Serial 7 ∷ KeyId (codes "id") ∷ Principal (codes "a") ∷ Critical (named (codes "c") []) ∷ Extension (named (codes "e") []) ∷ Comment (codes "x") ∷ []) draft) authority
-      ≡ record (small_certificate authority) { certificate_type = Host; serial = 7; key_id = codes "id"; valid_principals = codes "a" ∷ []; critical_options = named (codes "c") [] ∷ []; extensions = named (codes "e") [] ∷ [] })
+    ≡ record (small_certificate authority) { certificate_type = Host; serial = 7; key_id = codes "id"; valid_principals = codes "a" ∷ []; critical_options = named (codes "c") [] ∷ []; extensions = named (codes "e") [] ∷ [] })

@@ -56,7 +56,12 @@ fn has_lists(certificate: &Certificate, made: &Certified) -> bool {
 /// The certificate is of that key, and signed by that authority.
 fn has_keys(alloc: Global, certificate: &Certificate, made: &Certified) -> bool {
     is_shown(alloc, certificate.public_key(), HashAlg::Sha256, made.key)
-        && is_shown(alloc, certificate.signature_key(), HashAlg::Sha256, made.authority)
+        && is_shown(
+            alloc,
+            certificate.signature_key(),
+            HashAlg::Sha256,
+            made.authority,
+        )
         && certificate.signature().algorithm().as_str() == made.algorithm
 }
 

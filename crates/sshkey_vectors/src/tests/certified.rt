@@ -36,8 +36,15 @@ pub(crate) const ED25519_USER: Certified = Certified {
     principals: &["alice", "bob"],
     valid_after: 1577836800,
     valid_before: 1893456000,
-    critical: &[("force-command", "/bin/true"), ("source-address", "10.0.0.0/8")],
-    extensions: &[("permit-agent-forwarding", ""), ("permit-port-forwarding", ""), ("permit-user-rc", "")],
+    critical: &[
+        ("force-command", "/bin/true"),
+        ("source-address", "10.0.0.0/8"),
+    ],
+    extensions: &[
+        ("permit-agent-forwarding", ""),
+        ("permit-port-forwarding", ""),
+        ("permit-user-rc", ""),
+    ],
     key: "SHA256:TpiP7oILOlFcbrc0mnvMCSabNu7F3rwbmVjuBv0gUX8",
     authority: "SHA256:Pjty06Y2BWlpd/JC1ASu1fG+NTvDQMPKcAUhdqq0LtQ",
     algorithm: "ssh-ed25519",
@@ -73,7 +80,13 @@ pub(crate) const RSA_SHA256: Certified = Certified {
     valid_after: 1577836800,
     valid_before: 1893456000,
     critical: &[],
-    extensions: &[("permit-X11-forwarding", ""), ("permit-agent-forwarding", ""), ("permit-port-forwarding", ""), ("permit-pty", ""), ("permit-user-rc", "")],
+    extensions: &[
+        ("permit-X11-forwarding", ""),
+        ("permit-agent-forwarding", ""),
+        ("permit-port-forwarding", ""),
+        ("permit-pty", ""),
+        ("permit-user-rc", ""),
+    ],
     key: "SHA256:CTKolphcncKkQ0s3ubj1YKIyxO91j4wvuTEpLyWhXMI",
     authority: "SHA256:pAAO8N3gqsA9eIeP+iJyVLkzZeg2J2eR15Xp8r883Rw",
     algorithm: "rsa-sha2-256",
@@ -91,7 +104,13 @@ pub(crate) const RSA_SHA512: Certified = Certified {
     valid_after: 0,
     valid_before: u64::MAX,
     critical: &[],
-    extensions: &[("permit-X11-forwarding", ""), ("permit-agent-forwarding", ""), ("permit-port-forwarding", ""), ("permit-pty", ""), ("permit-user-rc", "")],
+    extensions: &[
+        ("permit-X11-forwarding", ""),
+        ("permit-agent-forwarding", ""),
+        ("permit-port-forwarding", ""),
+        ("permit-pty", ""),
+        ("permit-user-rc", ""),
+    ],
     key: "SHA256:CTKolphcncKkQ0s3ubj1YKIyxO91j4wvuTEpLyWhXMI",
     authority: "SHA256:pAAO8N3gqsA9eIeP+iJyVLkzZeg2J2eR15Xp8r883Rw",
     algorithm: "rsa-sha2-512",
@@ -189,5 +208,13 @@ pub(crate) const SK_ED25519_HOST: Certified = Certified {
 };
 
 pub(crate) const EACH: [Certified; 9] = [
-    ED25519_USER, P256_HOST, RSA_SHA256, RSA_SHA512, P384_USER, P521_USER, DSA_USER, SK_ECDSA_USER, SK_ED25519_HOST,
+    ED25519_USER,
+    P256_HOST,
+    RSA_SHA256,
+    RSA_SHA512,
+    P384_USER,
+    P521_USER,
+    DSA_USER,
+    SK_ECDSA_USER,
+    SK_ED25519_HOST,
 ];

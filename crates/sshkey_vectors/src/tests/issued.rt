@@ -13,7 +13,8 @@ use std::alloc::Global;
 
 /// The certificate of the nonce 01, `KEY` and the times 10 and 20, for all principals, signed by
 /// `Fixed`: 180 bytes that are signed, and the signature of 87.
-const ISSUED: &str = "000000207373682d656432353531392d636572742d763031406f70656e7373682e636f6d00000001\
+const ISSUED: &str =
+    "000000207373682d656432353531392d636572742d763031406f70656e7373682e636f6d00000001\
     0100000020b33eaef37ea2df7caa010defdea34e241f65f1b529a4f43ed14327f5c54aab62000000\
     0000000000000000010000000000000000000000000000000a000000000000001400000000000000\
     0000000000000000330000000b7373682d6564323535313900000020b33eaef37ea2df7caa010def\
@@ -51,7 +52,9 @@ fn is_spelled(alloc: Global, certificate: &Certificate, digits: &str) -> bool {
 #[test]
 fn one_is_issued_down_to_the_byte(rt: HostRuntime) {
     let certificate = issued(rt.alloc());
-    assert!(rt; matches!(&certificate, Ok(certificate) if is_spelled(rt.alloc(), certificate, ISSUED)));
+    assert!(rt;
+        matches!(&certificate, Ok(certificate) if is_spelled(rt.alloc(), certificate, ISSUED))
+    );
 }
 
 /// The fingerprint of `KEY` by that hash.

@@ -7,4 +7,4 @@ pub returns-then-is_some : goal.returns-then-is_some
 returns-then-is_some c = (refl, once_refused KeyIdField _ _ (sym c.is_some.ensures ∙ c.if-is_some.true))
 
 pub returns : goal.returns
-returns c = once_taken KeyIdField _ _ (sym c.is_some.ensures ∙ c.if-is_some.false)
+returns c = rw c.new.ensures (once_taken KeyIdField _ _ (sym c.is_some.ensures ∙ c.if-is_some.false))
