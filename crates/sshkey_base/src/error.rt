@@ -34,6 +34,9 @@ pub enum Error {
     /// A field of a certificate is invalid.
     #[error("certificate field invalid: {0}")]
     CertificateFieldInvalid(Field),
+    /// A certificate is not valid.
+    #[error("certificate validation failed")]
+    CertificateValidation,
     /// The bytes do not keep the wire encoding.
     #[error("{0}")]
     Encoding(encoding::Error),
@@ -46,6 +49,9 @@ pub enum Error {
     /// Memory ran out.
     #[error("out of memory")]
     Memory,
+    /// A time is past 2^63 - 1 seconds.
+    #[error("invalid time")]
+    Time,
 }
 
 /// What a call of the crates answers.
