@@ -43,7 +43,7 @@ field_error f = wide.CertificateFieldInvalid (field_of f)
 
 -- ---- steps
 
--- A step that is taken is refused for want of memory alone, and another one with the field that it names.
+-- A step that is taken is refused only when out of memory, and another one with the field that it names.
 abbrev pub Refuses : Result Draft DraftField → Error → Type 0
 Refuses (Ok d) e = e ≡ wide.Memory
 Refuses (Err f) e = e ≡ field_error f

@@ -174,7 +174,7 @@ impl Builder {
         Ok(self)
     }
 
-    /// Names one more principal, also after all were made valid. Refused only for want of memory,
+    /// Names one more principal, also after all were made valid. Refused only when out of memory,
     /// and then nothing is changed.
     pub fn valid_principal(&mut self, principal: String) -> Result<&mut Builder>
         ensures same_reference { IfOk result (λ b. b.ghost_name ≡ self.entry.ghost_name) }
@@ -196,7 +196,7 @@ impl Builder {
     }
 
     /// Adds one of the critical options. `CertificateFieldInvalid` if there is one of that name, and
-    /// else refused only for want of memory; then nothing is changed.
+    /// else refused only when out of memory; then nothing is changed.
     pub fn critical_option(&mut self, name: String, value: String) -> Result<&mut Builder>
         ensures same_reference { IfOk result (λ b. b.ghost_name ≡ self.entry.ghost_name) }
         ensures taken { IfOk result (λ b. after_step (Critical (record { name = string_bytes name; value = string_bytes value })) (draft_of self.old) ≡ Ok (draft_of b.now)) }
@@ -207,7 +207,7 @@ impl Builder {
     }
 
     /// Adds one of the extensions. `CertificateFieldInvalid` if there is one of that name, and else
-    /// refused only for want of memory; then nothing is changed.
+    /// refused only when out of memory; then nothing is changed.
     pub fn extension(&mut self, name: String, value: String) -> Result<&mut Builder>
         ensures same_reference { IfOk result (λ b. b.ghost_name ≡ self.entry.ghost_name) }
         ensures taken { IfOk result (λ b. after_step (Extension (record { name = string_bytes name; value = string_bytes value })) (draft_of self.old) ≡ Ok (draft_of b.now)) }

@@ -39,7 +39,7 @@ impl OptionsMap {
         OptionsMap(BTreeMap::new(alloc))
     }
 
-    /// The same options in memory of their own. Refused only for want of memory.
+    /// The same options in memory of their own. Refused only when out of memory.
     pub fn try_clone(&self, _alloc: Global) -> Result<OptionsMap>
         ensures value { IfOk result (λ m. options_of m ≡ options_of self.now) }
         ensures memory { IfErr result (λ e. e ≡ wide.Memory) }
@@ -57,7 +57,7 @@ impl OptionsMap {
         }
     }
 
-    /// Sets the value of that name, and gives the one before. Refused only for want of memory, and
+    /// Sets the value of that name, and gives the one before. Refused only when out of memory, and
     /// then nothing is changed.
     pub fn insert(&mut self, name: String, value: String) -> Result<Option<String>>
         ensures old { IfOk result (λ before. option_map string_bytes before ≡ value_of (string_bytes name) (options_of self.old)) }

@@ -28,7 +28,7 @@ impl Builder {
     /// signer's `raw` and for whoever gives the fingerprint of the signer's key.
     ///
     /// `CertificateFieldInvalid` where no principal was named and not all were made valid, whatever
-    /// memory there is. Else, want of memory aside, `Length` where the bytes to be signed do not
+    /// memory there is. Else, out of memory aside, `Length` where the bytes to be signed do not
     /// fit, and otherwise an error of the signer's own.
     pub fn sign<S: SigningKey>(self, alloc: Global, signing_key: &S) -> Result<Certificate>
         ensures unnamed { IsNone (draft_of self).valid_principals → result ≡ Err (wide.CertificateFieldInvalid field.ValidPrincipals) }

@@ -22,7 +22,7 @@ use std::alloc::Global;
 impl Unsigned {
     /// The certificate of these fields, with the signer's signature and that comment.
     ///
-    /// Want of memory aside, refused with `Length` exactly where a box in the bytes to be signed
+    /// Out of memory aside, refused with `Length` exactly where a box in the bytes to be signed
     /// would pass 2^32 - 1 bytes, and else with an error of the signer's own.
     pub fn sign<S: SigningKey>(
         self,
