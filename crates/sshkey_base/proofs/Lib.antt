@@ -17,4 +17,5 @@ pub mod PlainParts
 pub mod Judging
 pub mod WrittenLists
 pub mod ReadLists
+pub mod MappedBoxes
 pub mod ShortStrings

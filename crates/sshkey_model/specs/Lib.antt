@@ -18,6 +18,7 @@ pub mod Fingerprints
 pub mod Verification
 pub mod Validity
 pub mod Lines
+pub mod SignedMessages
 pub mod LineCuts
 pub mod Laws
 pub mod HexText
