@@ -1,6 +1,10 @@
 -- What an SSH signature means.
 use Rattle.std.specs.Prelude.{ℕ, List}
+use Rattle.sshkey_model.specs.Names.{hash}
+use Rattle.sshkey_model.specs.Parts.{Parts, box, ◌&◌}
+use Rattle.sshkey_model.specs.Signatures.{signature}
 use Rattle.sshkey_model.specs.SshSignatures as model
+use Rattle.sshkey_model.specs.Texts.{string}
 use Rattle.sshkey_base.specs.Names.{hash_of}
 use Rattle.sshkey_keys.specs.Keys.{key_of}
 use Rattle.sshkey_keys.specs.Signatures.{signature_of}
@@ -18,3 +22,7 @@ given_of f = f.signature
 
 abbrev pub ssh_signature_of : SshSig → model.SshSignature
 ssh_signature_of f = record { version = f.version; key = key_of f.public_key; namespace = f.namespace; reserved = f.reserved; hash = hash_of f.hash_alg; signature = signature_of f.signature }
+
+-- what stands behind the key
+abbrev pub statement : model.SshSignature → Parts
+statement f = string f.namespace & string f.reserved & hash f.hash & box (signature f.signature)

@@ -5,11 +5,12 @@ ghost use Rattle.sshkey_base.specs.Accepting.{AcceptsWhole};
 ghost use Rattle.sshkey_base.specs.Answering.{AnswersAlways};
 ghost use Rattle.sshkey_base.specs.Causes.{cause};
 ghost use Rattle.sshkey_base.specs.Reading.{Gives, GivesWhole};
+ghost use Rattle.sshkey_base.specs.Sink.{Encodes};
 ghost use Rattle.sshkey_base.specs.Source.{Later};
 ghost use Rattle.sshkey_keys.specs.Blobs.{all_of, MakesBlob};
 ghost use Rattle.sshkey_model.specs.Reading.{literal_at, literal_from, whole};
 ghost use Rattle.sshkey_model.specs.SshSignatures.{SshSignature, IsSshSignature, normal_ssh_signature, signature_magic, version_at, namespace_at};
-ghost use Rattle.sshkey_public.specs.SshSignatures.{ssh_signature_of};
+ghost use Rattle.sshkey_public.specs.SshSignatures.{ssh_signature_of, statement};
 ghost use Rattle.sshkey_public.specs.SshSignatureReaders.{version_from, namespace_from, ssh_signature_value_at, SpellsSshSignature, ssh_signature_grammar, ssh_signature_normal};
 
 use super::SshSig;
@@ -171,11 +172,19 @@ impl Encode for SshSig {
         writer.write(&MAGIC)?;
         self.version.encode(writer)?;
         self.public_key.encode_prefixed(writer)?;
-        self.namespace.encode(writer)?;
-        self.reserved.encode(writer)?;
-        self.hash_alg.encode(writer)?;
-        self.signature.encode_prefixed(writer)
+        encode_statement(self, writer)
     }
+}
+
+/// Writes the namespace, the reserved bytes, the hash's name and the signature.
+#[tactic(auto, using(sshkey_base::proofs::Writing::writing))]
+fn encode_statement<W: Writer>(signature: &SshSig, writer: &mut W) -> encoding::Result<()>
+    ensures { Encodes W.fault (statement (ssh_signature_of signature.now)) (W.sink writer.old) result (W.sink writer.new) }
+{
+    signature.namespace.encode(writer)?;
+    signature.reserved.encode(writer)?;
+    signature.hash_alg.encode(writer)?;
+    signature.signature.encode_prefixed(writer)
 }
 
 impl NormalForm for SshSig {
