@@ -5,3 +5,6 @@ pub mod Lines
 pub mod Filling
 pub mod WritingLines
 pub mod PublicKeys
+pub mod SshSignatures
+pub mod SshSignatureReaders
+pub mod Signing

@@ -1,0 +1,72 @@
+use Rattle.std.proofs.lemmas.Result.{err_from_is_err_and}
+use Rattle.std.proofs.Common.{refl, ◌∙◌}
+use Rattle.sshkey_base.specs.Causes.{same_cause}
+use Rattle.sshkey_base.proofs.Places.{later_then}
+use Rattle.sshkey_base.proofs.Steps.{refused_first, refused_later}
+use Rattle.sshkey_public.specs.SshSignatureReaders.{ssh_signature_value_at, hash_at, label_at}
+use Rattle.sshkey_public.proofs.sshsig.wire.SshSigDecode.decode.Goals as goal
+
+pub returns-in_err-version-clause-gives : goal.returns-in_err-version-clause-gives
+unfolding ssh_signature_value_at hash_at label_at
+returns-in_err-version-clause-gives g c =
+    let p = err_from_is_err_and c.from_residual-in_err-version.result c.from_residual-in_err-version.ensures.1 in
+    rw (p.1, p.2) (refused_later _ _ _ _ _ _ _ c.in_ok-decode_magic.ensures.gives (refused_first _ _ _ _ c.in_err-version.ensures.gives))
+
+pub returns-in_err-public_key-clause-gives : goal.returns-in_err-public_key-clause-gives
+unfolding ssh_signature_value_at hash_at label_at
+returns-in_err-public_key-clause-gives g c =
+    let p = err_from_is_err_and c.from_residual-in_err-public_key.result c.from_residual-in_err-public_key.ensures.1 in
+    rw (p.1, p.2) (refused_later _ _ _ _ _ _ _ c.in_ok-decode_magic.ensures.gives (refused_later _ _ _ _ _ _ _ c.in_ok-version.ensures.gives (refused_first _ _ _ _ c.in_err-public_key.ensures.gives)))
+
+pub returns-in_err-namespace-clause-gives : goal.returns-in_err-namespace-clause-gives
+unfolding ssh_signature_value_at hash_at label_at
+returns-in_err-namespace-clause-gives g c =
+    let p = err_from_is_err_and c.from_residual-in_err-namespace.result c.from_residual-in_err-namespace.ensures.1 in
+    rw (p.1, p.2) (refused_later _ _ _ _ _ _ _ c.in_ok-decode_magic.ensures.gives (refused_later _ _ _ _ _ _ _ c.in_ok-version.ensures.gives (refused_later _ _ _ _ _ _ _ c.in_ok-public_key.ensures.gives (refused_first _ _ _ _ c.in_err-namespace.ensures.gives))))
+
+pub returns-in_err-reserved-clause-gives : goal.returns-in_err-reserved-clause-gives
+unfolding ssh_signature_value_at hash_at label_at
+returns-in_err-reserved-clause-gives g c =
+    let p = err_from_is_err_and c.from_residual-in_err-reserved.result c.from_residual-in_err-reserved.ensures.1 in
+    rw (p.1, p.2, same_cause) (refused_later _ _ _ _ _ _ _ c.in_ok-decode_magic.ensures.gives (refused_later _ _ _ _ _ _ _ c.in_ok-version.ensures.gives (refused_later _ _ _ _ _ _ _ c.in_ok-public_key.ensures.gives (refused_later _ _ _ _ _ _ _ c.in_ok-namespace.ensures.gives (refused_first _ _ _ _ c.in_err-reserved.ensures.gives)))))
+
+pub returns-in_err-hash_alg-clause-gives : goal.returns-in_err-hash_alg-clause-gives
+unfolding ssh_signature_value_at hash_at label_at
+returns-in_err-hash_alg-clause-gives g c =
+    let p = err_from_is_err_and c.from_residual-in_err-hash_alg.result c.from_residual-in_err-hash_alg.ensures.1 in
+    rw (p.1, p.2, same_cause) (refused_later _ _ _ _ _ _ _ c.in_ok-decode_magic.ensures.gives (refused_later _ _ _ _ _ _ _ c.in_ok-version.ensures.gives (refused_later _ _ _ _ _ _ _ c.in_ok-public_key.ensures.gives (refused_later _ _ _ _ _ _ _ c.in_ok-namespace.ensures.gives (refused_later _ _ _ _ _ _ _ c.in_ok-reserved.ensures.gives (refused_first _ _ _ _ c.in_err-hash_alg.ensures.gives))))))
+
+pub returns-in_err-signature-clause-gives : goal.returns-in_err-signature-clause-gives
+unfolding ssh_signature_value_at hash_at label_at
+returns-in_err-signature-clause-gives g c =
+    let p = err_from_is_err_and c.from_residual-in_err-signature.result c.from_residual-in_err-signature.ensures.1 in
+    rw (p.1, p.2) (refused_later _ _ _ _ _ _ _ c.in_ok-decode_magic.ensures.gives (refused_later _ _ _ _ _ _ _ c.in_ok-version.ensures.gives (refused_later _ _ _ _ _ _ _ c.in_ok-public_key.ensures.gives (refused_later _ _ _ _ _ _ _ c.in_ok-namespace.ensures.gives (refused_later _ _ _ _ _ _ _ c.in_ok-reserved.ensures.gives (refused_later _ _ _ _ _ _ _ c.in_ok-hash_alg.ensures.gives (refused_first _ _ _ _ c.in_err-signature.ensures.gives)))))))
+
+pub returns-in_err-version-clause-later : goal.returns-in_err-version-clause-later
+returns-in_err-version-clause-later g c = (later_then _ _ _ c.in_ok-decode_magic.ensures.later c.in_err-version.ensures.later)
+
+pub returns-in_err-public_key-clause-later : goal.returns-in_err-public_key-clause-later
+returns-in_err-public_key-clause-later g c = (later_then _ _ _ c.in_ok-decode_magic.ensures.later (later_then _ _ _ c.in_ok-version.ensures.later c.in_err-public_key.ensures.later))
+
+pub returns-in_err-namespace-clause-later : goal.returns-in_err-namespace-clause-later
+returns-in_err-namespace-clause-later g c = (later_then _ _ _ c.in_ok-decode_magic.ensures.later (later_then _ _ _ c.in_ok-version.ensures.later (later_then _ _ _ c.in_ok-public_key.ensures.later c.in_err-namespace.ensures.later)))
+
+pub returns-in_err-reserved-clause-later : goal.returns-in_err-reserved-clause-later
+returns-in_err-reserved-clause-later g c = (later_then _ _ _ c.in_ok-decode_magic.ensures.later (later_then _ _ _ c.in_ok-version.ensures.later (later_then _ _ _ c.in_ok-public_key.ensures.later (later_then _ _ _ c.in_ok-namespace.ensures.later c.in_err-reserved.ensures.later))))
+
+pub returns-in_err-hash_alg-clause-later : goal.returns-in_err-hash_alg-clause-later
+returns-in_err-hash_alg-clause-later g c = (later_then _ _ _ c.in_ok-decode_magic.ensures.later (later_then _ _ _ c.in_ok-version.ensures.later (later_then _ _ _ c.in_ok-public_key.ensures.later (later_then _ _ _ c.in_ok-namespace.ensures.later (later_then _ _ _ c.in_ok-reserved.ensures.later c.in_err-hash_alg.ensures.later)))))
+
+pub returns-in_err-signature-clause-later : goal.returns-in_err-signature-clause-later
+returns-in_err-signature-clause-later g c = (later_then _ _ _ c.in_ok-decode_magic.ensures.later (later_then _ _ _ c.in_ok-version.ensures.later (later_then _ _ _ c.in_ok-public_key.ensures.later (later_then _ _ _ c.in_ok-namespace.ensures.later (later_then _ _ _ c.in_ok-reserved.ensures.later (later_then _ _ _ c.in_ok-hash_alg.ensures.later c.in_err-signature.ensures.later))))))
+
+pub returns-clause-later : goal.returns-clause-later
+returns-clause-later g c = (later_then _ _ _ c.in_ok-decode_magic.ensures.later (later_then _ _ _ c.in_ok-version.ensures.later (later_then _ _ _ c.in_ok-public_key.ensures.later (later_then _ _ _ c.in_ok-namespace.ensures.later (later_then _ _ _ c.in_ok-reserved.ensures.later (later_then _ _ _ c.in_ok-hash_alg.ensures.later c.in_ok-signature.ensures.later))))))
+
+pub returns-clause-gives : goal.returns-clause-gives
+unfolding ssh_signature_value_at hash_at label_at
+returns-clause-gives g c = record {
+  value = rw (c.in_ok-decode_magic.ensures.gives.value, c.in_ok-version.ensures.gives.value, c.in_ok-public_key.ensures.gives.value, c.in_ok-namespace.ensures.gives.value, c.in_ok-reserved.ensures.gives.value, c.in_ok-hash_alg.ensures.gives.value, c.in_ok-signature.ensures.gives.value) refl;
+  missing = c.in_ok-signature.ensures.gives.missing ∙ c.in_ok-hash_alg.ensures.gives.missing ∙ c.in_ok-reserved.ensures.gives.missing ∙ c.in_ok-namespace.ensures.gives.missing ∙ c.in_ok-public_key.ensures.gives.missing ∙ c.in_ok-version.ensures.gives.missing ∙ c.in_ok-decode_magic.ensures.gives.missing;
+  outer = c.in_ok-signature.ensures.gives.outer ∙ c.in_ok-hash_alg.ensures.gives.outer ∙ c.in_ok-reserved.ensures.gives.outer ∙ c.in_ok-namespace.ensures.gives.outer ∙ c.in_ok-public_key.ensures.gives.outer ∙ c.in_ok-version.ensures.gives.outer ∙ c.in_ok-decode_magic.ensures.gives.outer;
+}
