@@ -7,4 +7,5 @@ pub mod WritingLines
 pub mod PublicKeys
 pub mod SshSignatures
 pub mod SshSignatureReaders
+pub mod Needs
 pub mod Signing

@@ -27,7 +27,7 @@ refusal text (wide.Io kind) h = inl tt
 refusal text wide.Memory h = inl tt
 refusal text _ h = inr (h (λ e. cc e))
 
--- a key that was read is refused for want of memory alone, since its normal form fits
+-- a key that was read is refused only with `Memory`, since its normal form fits
 pub shows : {Z : Type 0} (c : Command) (text : List ℕ) (k : PublicKey) (r : Result (String Z) Error) → IsKeyLine text (public_of k) (comment_of k) → ShowsKey c k r → ShowsText c text r
 shows c text k (Ok s) line h = (public_of k, comment_of k, line, h)
 shows c text k (Err e) line h = elim h [

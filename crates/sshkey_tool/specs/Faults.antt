@@ -5,7 +5,7 @@ use Rattle.sshkey_base.specs.declared.encoding.Error.TheVariants as encoding
 use Rattle.sshkey_base.specs.declared.error.Error.{Error}
 use Rattle.sshkey_base.specs.declared.error.Error.TheVariants as wide
 
--- want of memory, or a fault of the input
+-- out of memory, or a fault of the input
 abbrev pub IsMachineFault : Error → Type 0
 IsMachineFault wide.Memory = Unit {0}
 IsMachineFault (wide.Encoding encoding.Memory) = Unit {0}

@@ -14,7 +14,7 @@ use Rattle.sshkey_tool.specs.Faults.{IsMachineFault, Writes}
 use Rattle.sshkey_tool.specs.Table.{Shown, Refused, answer_line, key_text, WritesFault, IsShown, IsRefused}
 use Rattle.sshkey_tool.specs.declared.command.Command.{Command}
 
--- It is what is shown of the key; exactly where a part of the key is too long, `Length`, and else refused for want of memory alone.
+-- It is what is shown of the key; exactly where a part of the key is too long, `Length`, and else refused only with `Memory`.
 abbrev pub ShowsKey : {Z : Type 0} → Command → PublicKey → Result (String Z) Error → Type 0
 ShowsKey c k (Ok s) = string_bytes s ≡ key_text c (public_of k) (comment_of k)
 ShowsKey c k (Err e) = ((BoxesFit (normal_key (public_of k)) → ⊥) × (e ≡ Encoding Length)) ⊎ (e ≡ Memory)

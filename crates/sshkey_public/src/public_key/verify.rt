@@ -11,8 +11,8 @@ ghost use Rattle.sshkey_public.specs.SshSignatures.{ssh_signature_of, signer_of}
 use super::PublicKey;
 use crate::sshsig::{SshSig, signed_bytes};
 use sshkey_base::{Error, Result};
+use sshkey_keys::laws::compared_keys;
 use sshkey_keys::{KeyData, RawVerifier};
-use sshkey_kinds::laws;
 use std::alloc::Global;
 
 impl PublicKey {
@@ -71,13 +71,7 @@ fn is_same_key(left: &KeyData, right: &KeyData) -> bool
     ensures is { result ≡ ⟦<KeyData as PartialEq>⟧.eq left.now right.now }
     ensures same { IsTrue result → key_of left.now ≡ key_of right.now }
 {
-    laws::compared_dsa_keys();
-    laws::compared_ecdsa_keys();
-    laws::compared_ed25519_keys();
-    laws::compared_rsa_keys();
-    laws::compared_sk_ecdsa_keys();
-    laws::compared_sk_ed25519_keys();
-    laws::compared_opaque_keys();
+    compared_keys();
     left == right
 }
 

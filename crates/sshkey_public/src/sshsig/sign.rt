@@ -19,8 +19,8 @@ impl SshSig {
     ///
     /// `Namespace` exactly where the namespace is empty. Else `AlgorithmUnsupported` with the
     /// key's algorithm exactly where a security key holds the signer's key, since such a key signs
-    /// in another way. Else `Length` where the namespace is longer than 2^32 - 1 bytes, want of
-    /// memory, and the signer's own refusals of the bytes that are signed.
+    /// in another way. Else `Length` where the namespace is longer than 2^32 - 1 bytes, `Memory`
+    /// where it ran out, and the signer's own refusals of the bytes that are signed.
     pub fn sign<S: SigningKey>(
         alloc: Global,
         signer: &S,

@@ -96,8 +96,8 @@ impl SshSig {
     /// `SSHSIG`, the namespace, an empty string, the hash's name and the digest of the message.
     ///
     /// `Namespace` exactly where the namespace is empty. Else exactly where the namespace is longer
-    /// than 2^32 - 1 bytes, the answer is `Length`; otherwise it is refused for want of memory
-    /// alone.
+    /// than 2^32 - 1 bytes, the answer is `Length`; otherwise it is refused only with
+    /// `Memory`.
     pub fn signed_data(
         alloc: Global,
         namespace: &str,

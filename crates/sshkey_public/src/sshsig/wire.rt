@@ -4,12 +4,14 @@ ghost use Rattle.std.specs.Prelude.{◌≡◌, ◌<◌, ◌+◌, ◌*◌, ◌^�
 ghost use Rattle.sshkey_base.specs.Accepting.{AcceptsWhole};
 ghost use Rattle.sshkey_base.specs.Answering.{AnswersAlways};
 ghost use Rattle.sshkey_base.specs.Causes.{cause};
+ghost use Rattle.sshkey_base.specs.Needs.{Asks, NoNeed, NeedsString};
 ghost use Rattle.sshkey_base.specs.Reading.{Gives, GivesWhole};
 ghost use Rattle.sshkey_base.specs.Sink.{Encodes};
 ghost use Rattle.sshkey_base.specs.Source.{Later};
 ghost use Rattle.sshkey_keys.specs.Blobs.{all_of, MakesBlob};
 ghost use Rattle.sshkey_model.specs.Reading.{literal_at, literal_from, whole};
 ghost use Rattle.sshkey_model.specs.SshSignatures.{SshSignature, IsSshSignature, normal_ssh_signature, signature_magic, version_at, namespace_at};
+ghost use Rattle.sshkey_public.specs.Needs.{NeedsSshSignature};
 ghost use Rattle.sshkey_public.specs.SshSignatures.{ssh_signature_of, statement};
 ghost use Rattle.sshkey_public.specs.SshSignatureReaders.{version_from, namespace_from, ssh_signature_value_at, SpellsSshSignature, ssh_signature_grammar, ssh_signature_normal};
 
@@ -27,10 +29,12 @@ pub(super) const MAGIC: [u8; 6] = *b"SSHSIG";
 impl SshSig {
     /// Reads an SSH signature that all the bytes spell.
     ///
-    /// Want of memory aside, they are refused only where they spell none: `TrailingData` with the
-    /// number of bytes behind one, else the refusals of `decode`.
+    /// They are refused only where they spell none, `TrailingData` with the number of bytes behind
+    /// one, else the refusals of `decode`; or for memory that ran out, never where a stated length
+    /// passes the bytes: that is `Length`.
     pub fn from_bytes(alloc: Global, bytes: &[u8]) -> Result<SshSig>
         ensures gives { GivesWhole ssh_signature_of cause (whole ssh_signature_value_at) (all_of bytes.now) result }
+        ensures asks { Asks cause NeedsSshSignature (all_of bytes.now) result }
         ensures accepts { AcceptsWhole ssh_signature_of SpellsSshSignature cause (all_of bytes.now) result }
     {
         decode_whole(alloc, bytes)
@@ -39,7 +43,7 @@ impl SshSig {
     /// The bytes that spell the signature, in memory of their own.
     ///
     /// Exactly where a part is longer than 2^32 - 1 bytes, the answer is `Length`; otherwise it is
-    /// refused for want of memory alone.
+    /// refused only with `Memory`.
     pub fn to_bytes(&self, alloc: Global) -> Result<Vec<u8>>
         ensures { MakesBlob (normal_ssh_signature (ssh_signature_of self.now)) result }
     {
@@ -62,6 +66,7 @@ fn check_magic(bytes: [u8; 6]) -> Result<[u8; 6]>
 fn decode_magic<R: Reader>(reader: &mut R) -> Result<[u8; 6]>
     ensures gives { Gives (λ b. b) cause (literal_at signature_magic) (R.source reader.old) result (R.source reader.new) }
     ensures later { Later (R.source reader.old) (R.source reader.new) }
+    ensures asks { Asks cause NoNeed (R.source reader.old) result }
 {
     let bytes = array_from::<6, R>(reader)?;
     check_magic(bytes)
@@ -82,6 +87,7 @@ fn check_version(number: u32) -> Result<u32>
 fn decode_version<R: Reader>(alloc: Global, reader: &mut R) -> Result<u32>
     ensures gives { Gives (λ n. n) cause version_at (R.source reader.old) result (R.source reader.new) }
     ensures later { Later (R.source reader.old) (R.source reader.new) }
+    ensures asks { Asks cause NoNeed (R.source reader.old) result }
     ensures low { IfOk result (λ n. n < 2) }
 {
     let number = u32::decode(alloc, reader)?;
@@ -103,6 +109,7 @@ fn check_namespace(namespace: Text) -> Result<Text>
 fn decode_namespace<R: Reader>(alloc: Global, reader: &mut R) -> Result<Text>
     ensures gives { Gives (λ t. t) cause namespace_at (R.source reader.old) result (R.source reader.new) }
     ensures later { Later (R.source reader.old) (R.source reader.new) }
+    ensures asks { Asks cause NeedsString (R.source reader.old) result }
     ensures some { IfOk result (λ t. 0 < length t) }
 {
     let namespace = Text::decode(alloc, reader)?;
@@ -126,6 +133,8 @@ impl Decode for SshSig {
     ghost parse = { ssh_signature_value_at };
 
     ghost Spells = { SpellsSshSignature };
+
+    ghost needs = { NeedsSshSignature };
 
     ghost grammar = { ssh_signature_grammar };
 

@@ -2,7 +2,7 @@ use Rattle.std.proofs.lemmas.Result.{err_from_is_err_and}
 use Rattle.std.proofs.Common.{refl, ◌∙◌}
 use Rattle.sshkey_base.specs.Causes.{same_cause}
 use Rattle.sshkey_base.proofs.Places.{later_then}
-use Rattle.sshkey_base.proofs.Steps.{refused_first, refused_later}
+use Rattle.sshkey_base.proofs.Steps.{asks_first, asks_later, refused_first, refused_later}
 use Rattle.sshkey_public.specs.SshSignatureReaders.{ssh_signature_value_at, hash_at, label_at}
 use Rattle.sshkey_public.proofs.sshsig.wire.SshSigDecode.decode.Goals as goal
 
@@ -70,3 +70,39 @@ returns-clause-gives g c = record {
   missing = c.in_ok-signature.ensures.gives.missing ∙ c.in_ok-hash_alg.ensures.gives.missing ∙ c.in_ok-reserved.ensures.gives.missing ∙ c.in_ok-namespace.ensures.gives.missing ∙ c.in_ok-public_key.ensures.gives.missing ∙ c.in_ok-version.ensures.gives.missing ∙ c.in_ok-decode_magic.ensures.gives.missing;
   outer = c.in_ok-signature.ensures.gives.outer ∙ c.in_ok-hash_alg.ensures.gives.outer ∙ c.in_ok-reserved.ensures.gives.outer ∙ c.in_ok-namespace.ensures.gives.outer ∙ c.in_ok-public_key.ensures.gives.outer ∙ c.in_ok-version.ensures.gives.outer ∙ c.in_ok-decode_magic.ensures.gives.outer;
 }
+
+pub returns-in_err-version-clause-asks : goal.returns-in_err-version-clause-asks
+unfolding hash_at label_at
+returns-in_err-version-clause-asks g c =
+    let p = err_from_is_err_and c.from_residual-in_err-version.result c.from_residual-in_err-version.ensures.1 in
+    rw (p.1, p.2) (asks_later _ _ _ _ _ _ _ _ c.in_ok-decode_magic.ensures.gives (asks_first _ _ _ _ _ c.in_err-version.ensures.asks))
+
+pub returns-in_err-public_key-clause-asks : goal.returns-in_err-public_key-clause-asks
+unfolding hash_at label_at
+returns-in_err-public_key-clause-asks g c =
+    let p = err_from_is_err_and c.from_residual-in_err-public_key.result c.from_residual-in_err-public_key.ensures.1 in
+    rw (p.1, p.2) (asks_later _ _ _ _ _ _ _ _ c.in_ok-decode_magic.ensures.gives (asks_later _ _ _ _ _ _ _ _ c.in_ok-version.ensures.gives (asks_first _ _ _ _ _ c.in_err-public_key.ensures.asks)))
+
+pub returns-in_err-namespace-clause-asks : goal.returns-in_err-namespace-clause-asks
+unfolding hash_at label_at
+returns-in_err-namespace-clause-asks g c =
+    let p = err_from_is_err_and c.from_residual-in_err-namespace.result c.from_residual-in_err-namespace.ensures.1 in
+    rw (p.1, p.2) (asks_later _ _ _ _ _ _ _ _ c.in_ok-decode_magic.ensures.gives (asks_later _ _ _ _ _ _ _ _ c.in_ok-version.ensures.gives (asks_later _ _ _ _ _ _ _ _ c.in_ok-public_key.ensures.gives (asks_first _ _ _ _ _ c.in_err-namespace.ensures.asks))))
+
+pub returns-in_err-reserved-clause-asks : goal.returns-in_err-reserved-clause-asks
+unfolding hash_at label_at
+returns-in_err-reserved-clause-asks g c =
+    let p = err_from_is_err_and c.from_residual-in_err-reserved.result c.from_residual-in_err-reserved.ensures.1 in
+    rw (p.1, p.2, same_cause) (asks_later _ _ _ _ _ _ _ _ c.in_ok-decode_magic.ensures.gives (asks_later _ _ _ _ _ _ _ _ c.in_ok-version.ensures.gives (asks_later _ _ _ _ _ _ _ _ c.in_ok-public_key.ensures.gives (asks_later _ _ _ _ _ _ _ _ c.in_ok-namespace.ensures.gives (asks_first _ _ _ _ _ c.in_err-reserved.ensures.asks)))))
+
+pub returns-in_err-hash_alg-clause-asks : goal.returns-in_err-hash_alg-clause-asks
+unfolding hash_at label_at
+returns-in_err-hash_alg-clause-asks g c =
+    let p = err_from_is_err_and c.from_residual-in_err-hash_alg.result c.from_residual-in_err-hash_alg.ensures.1 in
+    rw (p.1, p.2, same_cause) (asks_later _ _ _ _ _ _ _ _ c.in_ok-decode_magic.ensures.gives (asks_later _ _ _ _ _ _ _ _ c.in_ok-version.ensures.gives (asks_later _ _ _ _ _ _ _ _ c.in_ok-public_key.ensures.gives (asks_later _ _ _ _ _ _ _ _ c.in_ok-namespace.ensures.gives (asks_later _ _ _ _ _ _ _ _ c.in_ok-reserved.ensures.gives (asks_first _ _ _ _ _ c.in_err-hash_alg.ensures.asks))))))
+
+pub returns-in_err-signature-clause-asks : goal.returns-in_err-signature-clause-asks
+unfolding hash_at label_at
+returns-in_err-signature-clause-asks g c =
+    let p = err_from_is_err_and c.from_residual-in_err-signature.result c.from_residual-in_err-signature.ensures.1 in
+    rw (p.1, p.2) (asks_later _ _ _ _ _ _ _ _ c.in_ok-decode_magic.ensures.gives (asks_later _ _ _ _ _ _ _ _ c.in_ok-version.ensures.gives (asks_later _ _ _ _ _ _ _ _ c.in_ok-public_key.ensures.gives (asks_later _ _ _ _ _ _ _ _ c.in_ok-namespace.ensures.gives (asks_later _ _ _ _ _ _ _ _ c.in_ok-reserved.ensures.gives (asks_later _ _ _ _ _ _ _ _ c.in_ok-hash_alg.ensures.gives c.in_err-signature.ensures.asks))))))
