@@ -1,6 +1,5 @@
 //! Key lines, read and written.
 
-use super::known::ED25519;
 use ssh_key::encoding::{Reader, SliceWriter};
 use ssh_key::public::KeyData;
 use ssh_key::{Base64Reader, Error, HashAlg, PublicKey, encoding, read_line, write_line};
@@ -65,52 +64,6 @@ fn lines_are_written_from_what_was_read(rt: HostRuntime) -> Result<(), Fail> {
         assert!(rt; is_written(rt.alloc(), line, wanted)?, "{line}");
     }
     Ok(())
-}
-
-/// Texts, and why they are lines of no key.
-const REFUSED: [(&str, Error); 9] = [
-    ("", Error::Encoding(encoding::Error::Length)),
-    ("ssh-ed25519", Error::Encoding(encoding::Error::Length)),
-    ("ssh-ed25519  AAAA", Error::Encoding(encoding::Error::Length)),
-    (
-        "ssh_ed25519 AAAA",
-        Error::Encoding(encoding::Error::CharacterEncoding),
-    ),
-    (
-        "ssh-rsa AAAADHJzYS1zaGEyLTI1NgAAAAMBAAEAAAACAP9=",
-        Error::Encoding(encoding::Error::Base64),
-    ),
-    (
-        "ssh-rsa AAAADHJzYS1zaGEyLTI1NgAAAAMBAAEAAAACAP8",
-        Error::Encoding(encoding::Error::Base64),
-    ),
-    (
-        "ssh-ed25519 ====",
-        Error::Encoding(encoding::Error::Length),
-    ),
-    (
-        "rsa-sha2-256 AAAADHJzYS1zaGEyLTI1NgAAAAMBAAEAAAACAP8=",
-        Error::AlgorithmUnknown,
-    ),
-    (
-        "ssh-rsa AAAAC3NzaC1lZDI1NTE5AAAAILM+rvN+ot98qgEN796jTiQfZfG1KaT0PtFDJ/XFSqti",
-        Error::AlgorithmUnknown,
-    ),
-];
-
-/// Whether the text is refused so.
-fn is_refused(alloc: Global, text: &str, wanted: &Error) -> bool {
-    match PublicKey::from_openssh(alloc, text) {
-        Ok(_) => false,
-        Err(error) => error == *wanted,
-    }
-}
-
-#[test]
-fn texts_that_are_no_lines_are_refused(rt: HostRuntime) {
-    for (text, error) in &REFUSED {
-        assert!(rt; is_refused(rt.alloc(), text, error), "{text}");
-    }
 }
 
 #[test]
@@ -209,12 +162,5 @@ fn keys_have_their_parts(rt: HostRuntime) -> Result<(), Fail> {
     assert!(rt; read.comment().is_empty() && read.key_data() == key.key_data());
     let bare = PublicKey::from_key_data(alloc, KeyData::from(key));
     assert!(rt; bare == read);
-    Ok(())
-}
-
-#[test]
-fn known_lines_are_read(rt: HostRuntime) -> Result<(), Fail> {
-    let line = format!(in rt.alloc(); "{} {}", ED25519.name, ED25519.base64)?;
-    assert!(rt; is_written(rt.alloc(), line.as_str(), line.as_str())?);
     Ok(())
 }
