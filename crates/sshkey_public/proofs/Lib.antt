@@ -3,3 +3,5 @@ pub mod ReadLines
 pub mod Filling
 pub mod WrittenLines
 pub mod Measured
+pub mod Verified
+pub mod Files
