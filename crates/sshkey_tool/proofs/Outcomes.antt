@@ -1,5 +1,5 @@
 -- What is shown of the text, of the bytes and of the input.
-use Rattle.std.proofs.Common.{◌≡◌, ◌≢◌, ◌<◌, ◌≤◌, inl, inr, ◌⊎◌, ℕ, List, [], ◌∷◌, map, length, Bor, Option, None, Some, IfSome, Result, Ok, Err, String, subst, sym, ap, ◌∙◌, arith, refl}
+use Rattle.std.proofs.Common.{◌≡◌, ◌≢◌, ◌<◌, ◌≤◌, inl, inr, ◌⊎◌, ℕ, List, [], ◌∷◌, map, length, get_or, Bor, Option, None, Some, IfSome, Result, Ok, Err, String, subst, sym, ap, ◌∙◌, arith, refl}
 use Rattle.std.specs.Prelude.{string_bytes, MatchOption}
 use Rattle.std.specs.Str.{IsUtf8}
 use Rattle.sshkey_base.specs.Causes.{cause, NoMemory}
@@ -58,3 +58,9 @@ runs words c input old new status (Err e) asks h w = elim w [
 pub one_word : (ws : List (Bor (List ℕ))) (w : List ℕ) (r : Option Command) → map (λ w. w.now) ws ≡ w ∷ [] → MatchOption r ((c : Command) → command_words c ≡ w ∷ [] → ⊥) (λ c. command_words c ≡ w ∷ []) → MatchOption r (IsNoCommand ws) (Asks ws)
 one_word ws w (Some c) is h = is ∙ sym h
 one_word ws w None is h = λ c asks. h c (sym asks ∙ is)
+
+-- that word alone
+pub only_word : (ws : List (Bor (List ℕ))) (d : Bor (List ℕ)) → 1 ≤ length ws → length ws < 2 → map (λ w. w.now) ws ≡ (get_or ws 0 d).now ∷ []
+only_word [] d low high = absurd (omega arith)
+only_word (w ∷ []) d low high = refl
+only_word (w ∷ v ∷ rest) d low high = absurd (omega arith)
