@@ -6,14 +6,11 @@ use Rattle.sshkey_base.specs.Causes.{cause, NoMemory}
 use Rattle.sshkey_base.specs.declared.encoding.Error.TheVariants as encoding
 use Rattle.sshkey_base.specs.declared.error.Error.{Error}
 use Rattle.sshkey_base.specs.declared.error.Error.TheVariants as wide
-use Rattle.sshkey_keys.specs.Fingerprints.{shown, GivesFingerprint}
 use Rattle.sshkey_keys.specs.Keys.{SpellsKey}
-use Rattle.sshkey_model.specs.Fingerprints.{fingerprint_text}
 use Rattle.sshkey_model.specs.Keys.{Key}
 use Rattle.sshkey_model.specs.Lines.{IsKeyLine, key_name, IsNoLine}
-use Rattle.sshkey_model.specs.Names.{Sha256}
 use Rattle.sshkey_model.proofs.NormalKeysFit.{normal_boxes}
-use Rattle.sshkey_public.specs.PublicKeys.{public_of, comment_of, ReadsPublicKey}
+use Rattle.sshkey_public.specs.PublicKeys.{public_of, comment_of}
 use Rattle.sshkey_public.specs.declared.public_key.PublicKey.{PublicKey}
 use Rattle.sshkey_tool.specs.Faults.{IsMachineFault}
 use Rattle.sshkey_tool.specs.Outcomes.{IsOfText, ShowsKey, ShowsText, ShowsBytes, ShowsInput, WritesOutcome}
