@@ -18,4 +18,5 @@ pub mod PlainParts
 pub mod Judging
 pub mod WrittenLists
 pub mod ReadLists
+pub mod MappedBoxes
 pub mod ShortStrings

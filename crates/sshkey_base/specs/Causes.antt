@@ -33,6 +33,9 @@ cause (wide.Encoding e) = encoding_cause e
 cause wide.FormatEncoding = Faulty fault.FormatEncoding
 cause (wide.Io kind) = Other
 cause wide.Memory = NoMemory
+cause wide.Namespace = Faulty fault.Namespace
+cause wide.PublicKey = Faulty fault.PublicKey
+cause (wide.Version number) = Faulty (fault.Version number)
 
 -- what `From` makes of an error of the encoding
 abbrev pub widened : encoding-error.Error → wide-error.Error

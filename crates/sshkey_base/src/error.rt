@@ -47,6 +47,18 @@ pub enum Error {
     /// Memory ran out.
     #[error("out of memory")]
     Memory,
+    /// The namespace of an SSH signature is empty, or not the one that was asked for.
+    #[error("namespace invalid")]
+    Namespace,
+    /// The public key is not the one that was asked for.
+    #[error("public key is incorrect")]
+    PublicKey,
+    /// The version is none that is read.
+    #[error("version unsupported: {number}")]
+    Version {
+        /// The version.
+        number: u32,
+    },
 }
 
 /// What a call of the crates answers.

@@ -67,7 +67,7 @@ impl Mpint {
     /// The number that is not negative and has these bytes, most significant first.
     ///
     /// Leading bytes 00 are left out, and one 00 is put before a first byte of 80 hex or more.
-    /// Refuses only with `Memory`.
+    /// Refuses only when out of memory.
     pub fn from_positive_bytes(alloc: Global, bytes: &[u8]) -> Result<Mpint>
         ensures value { IfOk result (λ m. mpint_of m ≡ of_positive bytes.now) }
         ensures refused { IfErr result (λ e. e ≡ wide.Memory) }
@@ -104,7 +104,7 @@ impl Mpint {
         }
     }
 
-    /// The same number in memory of its own. Refuses only with `Memory`.
+    /// The same number in memory of its own. Refuses only when out of memory.
     pub fn try_clone(&self, alloc: Global) -> Result<Mpint>
         ensures value { IfOk result (λ m. mpint_of m ≡ mpint_of self.now) }
         ensures refused { IfErr result (λ e. e ≡ wide.Memory) }

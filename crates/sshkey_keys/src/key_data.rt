@@ -74,7 +74,7 @@ impl KeyData {
     /// The key's algorithm. That of an opaque key is the one that stands beside its bytes, and for
     /// a well-formed key the one that its name tells.
     ///
-    /// Refused only with `Memory`, and only under a private-use name.
+    /// Refused only when out of memory, and only under a private-use name.
     #[tactic(auto, using(crate::proofs::OwnAlgorithms::well_formed_algorithm))]
     pub fn algorithm(&self, alloc: Global) -> Result<Algorithm>
         ensures ok { IfOk result (λ a. algorithm_of a ≡ algorithm_beside self.now) }
@@ -93,7 +93,7 @@ impl KeyData {
         })
     }
 
-    /// The same key in memory of its own. Refuses only with `Memory`, and of an ECDSA or an Ed25519
+    /// The same key in memory of its own. Refuses only when out of memory, and of an ECDSA or an Ed25519
     /// key never.
     pub fn try_clone(&self, alloc: Global) -> Result<KeyData>
         ensures value { IfOk result (λ k. key_of k ≡ key_of self.now) }
@@ -117,7 +117,7 @@ impl KeyData {
     /// The fingerprint by that hash: the digest of the key's normal form.
     ///
     /// Exactly where a part of the key is longer than 2^32 - 1 bytes, the answer is `Length`;
-    /// otherwise it is refused only with `Memory`. A key of at most 256 bytes is never refused.
+    /// otherwise it is refused only when out of memory. A key of at most 256 bytes is never refused.
     pub fn fingerprint(&self, alloc: Global, hash_alg: HashAlg) -> Result<Fingerprint>
         ensures gives { GivesFingerprint (hash_of hash_alg) (key_of self.now) result }
         ensures short { IsShort (key_of self.now) → IsOk result }

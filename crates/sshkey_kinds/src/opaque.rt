@@ -35,7 +35,7 @@ impl OpaquePublicKeyBytes {
         self.bytes.as_slice()
     }
 
-    /// The same bytes in memory of their own. Refuses only with `Memory`.
+    /// The same bytes in memory of their own. Refuses only when out of memory.
     pub fn try_clone(&self, alloc: Global) -> Result<OpaquePublicKeyBytes>
         ensures value { IfOk result (λ k. k ≡ self.now) }
         ensures refused { IfErr result (λ e. e ≡ Error.Memory) }
@@ -124,7 +124,7 @@ impl OpaquePublicKey {
         }
     }
 
-    /// The same key in memory of its own. Refuses only with `Memory`.
+    /// The same key in memory of its own. Refuses only when out of memory.
     pub fn try_clone(&self, alloc: Global) -> Result<OpaquePublicKey>
         ensures value { IfOk result (λ k. opaque_of k ≡ opaque_of self.now) }
         ensures fields { IfOk result (λ k. opaque_fields k ≡ opaque_fields self.now) }

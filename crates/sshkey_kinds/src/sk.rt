@@ -43,7 +43,7 @@ impl SkEcdsaSha2NistP256 {
         }
     }
 
-    /// The key for the application `ssh:`. Refuses only with `Memory`.
+    /// The key for the application `ssh:`. Refuses only when out of memory.
     pub fn with_default_application(
         alloc: Global,
         ec_point: EcdsaNistP256PublicKey,
@@ -55,7 +55,7 @@ impl SkEcdsaSha2NistP256 {
         Ok(SkEcdsaSha2NistP256::new(ec_point, application))
     }
 
-    /// The same key in memory of its own. Refuses only with `Memory`.
+    /// The same key in memory of its own. Refuses only when out of memory.
     pub fn try_clone(&self, alloc: Global) -> Result<SkEcdsaSha2NistP256>
         ensures value { IfOk result (λ k. sk_ecdsa_of k ≡ sk_ecdsa_of self.now) }
         ensures refused { IfErr result (λ e. e ≡ Error.Memory) }
@@ -201,7 +201,7 @@ impl SkEd25519 {
         }
     }
 
-    /// The key for the application `ssh:`. Refuses only with `Memory`.
+    /// The key for the application `ssh:`. Refuses only when out of memory.
     pub fn with_default_application(
         alloc: Global,
         public_key: Ed25519PublicKey,
@@ -213,7 +213,7 @@ impl SkEd25519 {
         Ok(SkEd25519::new(public_key, application))
     }
 
-    /// The same key in memory of its own. Refuses only with `Memory`.
+    /// The same key in memory of its own. Refuses only when out of memory.
     pub fn try_clone(&self, alloc: Global) -> Result<SkEd25519>
         ensures value { IfOk result (λ k. sk_ed25519_of k ≡ sk_ed25519_of self.now) }
         ensures refused { IfErr result (λ e. e ≡ Error.Memory) }

@@ -15,6 +15,7 @@ pub mod Fingerprints
 pub mod Verification
 pub mod Validity
 pub mod Lines
+pub mod SignedMessages
 pub mod KeyDerivation
 pub mod KeyPairs
 pub mod PrivateKeys

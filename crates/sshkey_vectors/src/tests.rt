@@ -3,13 +3,17 @@
 //! no, since one with a `?` at every call takes longer to prove.
 
 mod errors;
+mod key_files;
 mod keys;
 mod kinds;
 mod laws;
+mod lines;
 mod names;
 mod openssh;
 mod program;
 mod readers;
+mod signed_files;
+mod ssh_signatures;
 mod support;
 mod values;
 mod verification;

@@ -12,7 +12,7 @@ use std::convert::AsSlice;
 use std::fmt;
 
 impl Signature {
-    /// The same signature in memory of its own. Refused only with `Memory`.
+    /// The same signature in memory of its own. Refused only when out of memory.
     pub fn try_clone(&self, alloc: Global) -> Result<Signature>
         ensures same { IfOk result (λ g. signature_of g ≡ signature_of self.now) }
         ensures refused { IfErr result (λ e. e ≡ Error.Memory) }

@@ -53,7 +53,7 @@ impl Signature {
     /// The bytes that spell the signature, in memory of their own.
     ///
     /// Exactly where the bytes of the signature are more than 2^32 - 1 (those behind the string
-    /// aside), the answer is `Length`; otherwise it is refused only with `Memory`.
+    /// aside), the answer is `Length`; otherwise it is refused only when out of memory.
     pub fn to_bytes(&self, alloc: Global) -> Result<Vec<u8>>
         ensures { MakesBlob (signature (signature_of self.now)) result }
     {
@@ -135,7 +135,7 @@ fn decode_trailed<R: Reader>(alloc: Global, reader: &mut R, algorithm: &Algorith
     with_trailer(bytes, &trailer)
 }
 
-/// The bytes, and then the trailer. Refused only with `Memory`.
+/// The bytes, and then the trailer. Refused only when out of memory.
 fn with_trailer(bytes: Bytes, trailer: &[u8]) -> Result<Bytes>
     ensures joined { IfOk result (λ blob. blob ≡ bytes ++ trailer.now) }
     ensures refused { IfErr result (λ e. e ≡ Error.Memory) }

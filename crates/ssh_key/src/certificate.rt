@@ -1,0 +1,3 @@
+//! Parts of certificates.
+
+pub use sshkey_base::certificate::Field;
