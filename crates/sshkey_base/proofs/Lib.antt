@@ -7,6 +7,7 @@ pub mod Boxes
 pub mod Accepted
 pub mod BoxGrammars
 pub mod Writing
+pub mod Tails
 pub mod Labels
 pub mod Utf8
 pub mod AtSigns

@@ -59,8 +59,8 @@ pub trait Encode {
     }
 }
 
-/// The number in four bytes. `Length` where it needs more.
-pub(crate) fn u32_of(len: usize) -> Result<u32>
+/// The number in four bytes. `Length` where it needs more. Takes no memory.
+pub fn u32_of(len: usize) -> Result<u32>
     ensures { IsLength len result }
 {
     if len > u32::MAX as usize {

@@ -35,6 +35,9 @@ pub enum Error {
     /// A field of a certificate is invalid.
     #[error("certificate field invalid: {0}")]
     CertificateFieldInvalid(Field),
+    /// A certificate is not valid.
+    #[error("certificate validation failed")]
+    CertificateValidation,
     /// The bytes do not keep the wire encoding.
     #[error("{0}")]
     Encoding(encoding::Error),
@@ -59,6 +62,9 @@ pub enum Error {
         /// The version.
         number: u32,
     },
+    /// A time is past 2^63 - 1 seconds.
+    #[error("invalid time")]
+    Time,
 }
 
 /// What a call of the crates answers.

@@ -17,6 +17,7 @@ ghost use Rattle.sshkey_keys.specs.KeyKinds.{is_ecdsa, is_ed25519};
 ghost use Rattle.sshkey_keys.specs.KeyReaders.{key_grammar, key_normal};
 ghost use Rattle.sshkey_keys.specs.Needs.{NeedsBody, NeedsKey};
 
+mod certificate_name;
 mod from;
 mod kinds;
 

@@ -2,8 +2,11 @@
 //! readers, writers, inputs and outputs that fail; and verifiers. A test asserts answers of yes or
 //! no, since one with a `?` at every call takes longer to prove.
 
+mod certificates;
+mod certified;
 mod errors;
 mod key_files;
+mod issued;
 mod keys;
 mod kinds;
 mod laws;

@@ -29,7 +29,7 @@ struct SignedData<'a> {
 impl Encode for SignedData<'_> {
     ghost normal = { λ d. signed_data d.namespace.now d.reserved.now (hash_of d.hash_alg) d.digest.now };
 
-    ghost most = { 6 + 4 * (2 ^ 32 + 4) };
+    ghost max_len = { 6 + 4 * (2 ^ 32 + 4) };
 
     fn encoded_len(&self) -> encoding::Result<usize> {
         Ok(

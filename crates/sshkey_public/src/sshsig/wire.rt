@@ -1,11 +1,10 @@
 //! How SSH signatures are read and written.
 
 ghost use Rattle.std.specs.Prelude.{◌≡◌, ◌<◌, ◌+◌, ◌*◌, ◌^◌, IfOk, length};
-ghost use Rattle.sshkey_base.specs.Accepting.{AcceptsWhole};
-ghost use Rattle.sshkey_base.specs.Answering.{AnswersAlways};
+ghost use Rattle.sshkey_base.specs.Reading.{AcceptsWhole, Gives, GivesWhole};
+ghost use Rattle.sshkey_base.specs.Answers.{AnswersAlways};
 ghost use Rattle.sshkey_base.specs.Causes.{cause};
 ghost use Rattle.sshkey_base.specs.Needs.{Asks, NoNeed, NeedsString};
-ghost use Rattle.sshkey_base.specs.Reading.{Gives, GivesWhole};
 ghost use Rattle.sshkey_base.specs.Sink.{Encodes};
 ghost use Rattle.sshkey_base.specs.Source.{Later};
 ghost use Rattle.sshkey_keys.specs.Blobs.{all_of, MakesBlob};
@@ -163,7 +162,7 @@ impl Decode for SshSig {
 impl Encode for SshSig {
     ghost normal = { λ f. normal_ssh_signature (ssh_signature_of f) };
 
-    ghost most = { 10 + 5 * (2 ^ 32 + 4) };
+    ghost max_len = { 10 + 5 * (2 ^ 32 + 4) };
 
     fn encoded_len(&self) -> encoding::Result<usize> {
         Ok(
