@@ -45,7 +45,7 @@ bytes_of_input c (Some xs) bytes (Err e) all h = elim h [ inl fault ↦ inl faul
 pub runs : {Z : Type 0} (words : List (Bor (List ℕ))) (c : Command) (input old new : Option (List ℕ)) (status : ℕ) (r : Result (String Z) Error) → Asks words c → ShowsInput c input r → WritesOutcome r old new status → Runs words input old new status
 runs words c input old new status (Ok s) asks h w = elim w [ inl it ↦ inl (Shown (string_bytes s), (c, asks, h), it) | inr fault ↦ inr ((c, asks), fault) ]
 runs words c input old new status (Err e) asks h w = elim w [
-  | inl it ↦ elim h [ inl fault ↦ absurd (it.0 fault) | inr none ↦ inl (Refused it.1.0, (c, asks, none), it.1.1) ]
+  | inl it ↦ elim h [ inl fault ↦ absurd (it.0 fault) | inr none ↦ inl (Refused it.1.0, (it.1.1, (c, asks, none)), it.1.2) ]
   | inr fault ↦ inr ((c, asks), fault)
 ]
 

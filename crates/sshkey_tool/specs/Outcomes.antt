@@ -11,7 +11,7 @@ use Rattle.sshkey_keys.specs.Keys.{SpellsKey}
 use Rattle.sshkey_public.specs.PublicKeys.{public_of, comment_of}
 use Rattle.sshkey_public.specs.declared.public_key.PublicKey.{PublicKey}
 use Rattle.sshkey_tool.specs.Faults.{IsMachineFault, Writes}
-use Rattle.sshkey_tool.specs.Table.{Shown, Refused, answer_line, key_text, WritesFault, IsShown, IsRefused}
+use Rattle.sshkey_tool.specs.Table.{Shown, Refused, IsOneLine, answer_line, key_text, WritesFault, IsShown, IsRefused}
 use Rattle.sshkey_tool.specs.declared.command.Command.{Command}
 
 -- It is what is shown of the key; exactly where a part of the key is too long, `Length`, and else refused only when out of memory.
@@ -38,7 +38,7 @@ abbrev pub ShowsInput : {Z : Type 0} → Command → Option (List ℕ) → Resul
 ShowsInput c known (Ok s) = IfSome known (IsShown c (string_bytes s))
 ShowsInput c known (Err e) = IsMachineFault e ⊎ IfSome known IsRefused
 
--- What is written for it: the text with status 0, a reason with status 1, or in place of both that the machine failed.
+-- What is written for it: the text with status 0, a reason of one line with status 1, or in place of both that the machine failed.
 abbrev pub WritesOutcome : {Z : Type 0} → Result (String Z) Error → Option (List ℕ) → Option (List ℕ) → ℕ → Type 0
 WritesOutcome (Ok s) old new status = Writes old new (answer_line (Shown (string_bytes s))) 0 status ⊎ WritesFault old new status
-WritesOutcome (Err e) old new status = ((IsMachineFault e → ⊥) × ((why : List ℕ) × Writes old new (answer_line (Refused why)) 1 status)) ⊎ WritesFault old new status
+WritesOutcome (Err e) old new status = ((IsMachineFault e → ⊥) × ((why : List ℕ) × IsOneLine why × Writes old new (answer_line (Refused why)) 1 status)) ⊎ WritesFault old new status

@@ -1,5 +1,5 @@
 -- What the program writes, and its status, for each words and each input.
-use Rattle.std.specs.Prelude.{◌≡◌, ◌⊎◌, ℕ, List, [], ◌∷◌, ◌++◌, map, codes, Option, IfSome}
+use Rattle.std.specs.Prelude.{◌≡◌, ◌≢◌, ◌⊎◌, ◌<◌, ℕ, List, [], ◌∷◌, ◌++◌, length, get_or, map, codes, Option, IfSome}
 use Rattle.std.specs.Str.{IsUtf8}
 use denote.Ref.{Bor}
 use Rattle.sshkey_model.specs.Fingerprints.{fingerprint_text}
@@ -41,6 +41,10 @@ pub data Answer : Type 0 where
 abbrev pub line_end : List ℕ
 line_end = 10 ∷ []
 
+-- a text of one line: no byte of it is a line end
+abbrev pub IsOneLine : List ℕ → Type 0
+IsOneLine text = (i : ℕ) → i < length text → get_or text i 0 ≢ 10
+
 abbrev pub answer_line : Answer → List ℕ
 answer_line Usage = codes "usage: sshkey fingerprint | art <header> | normal | cert | keys | hosts" ++ line_end
 answer_line (Shown text) = text ++ line_end
@@ -59,11 +63,11 @@ Asks words c = map (λ w. w.now) words ≡ command_words c
 abbrev pub IsNoCommand : List (Bor (List ℕ)) → Type 0
 IsNoCommand words = (c : Command) → Asks words c → ⊥
 
--- An input is known where the reader tells its bytes.
+-- An input is known where the reader tells its bytes. A reason is one line.
 abbrev pub IsAnswer : List (Bor (List ℕ)) → Option (List ℕ) → Answer → Type 0
 IsAnswer words input Usage = IsNoCommand words
 IsAnswer words input (Shown text) = (c : Command) × Asks words c × IfSome input (IsShown c text)
-IsAnswer words input (Refused why) = (c : Command) × Asks words c × IfSome input IsRefused
+IsAnswer words input (Refused why) = IsOneLine why × ((c : Command) × Asks words c × IfSome input IsRefused)
 
 -- in place of the table's line: there was no memory, or the input could not be read
 abbrev pub IsFaultLine : List ℕ → Type 0
@@ -79,6 +83,10 @@ Runs words input old new status =
     ((a : Answer) × IsAnswer words input a × Writes old new (answer_line a) (status_of a) status)
     ⊎ (((c : Command) × Asks words c) × WritesFault old new status)
 
--- an error's line
+-- an error's line, one line alone
 abbrev pub IsRefusalLine : List ℕ → Type 0
-IsRefusalLine line = (why : List ℕ) × (line ≡ answer_line (Refused why))
+IsRefusalLine line = (why : List ℕ) × IsOneLine why × (line ≡ answer_line (Refused why))
+
+-- what stands before the first line end, or all where there is none
+abbrev pub IsFirstLine : List ℕ → List ℕ → Type 0
+IsFirstLine text line = IsOneLine line × ((text ≡ line) ⊎ ((rest : List ℕ) × (text ≡ line ++ (10 ∷ rest))))

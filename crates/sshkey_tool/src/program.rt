@@ -2,7 +2,7 @@
 
 ghost use Rattle.std.specs.Prelude.{◌≡◌, IfOk, string_bytes};
 ghost use Rattle.sshkey_tool.specs.Outcomes.{WritesOutcome};
-ghost use Rattle.sshkey_tool.specs.Table.{Runs, IsNoCommand, Shown, answer_line, IsRefusalLine};
+ghost use Rattle.sshkey_tool.specs.Table.{Runs, IsNoCommand, Shown, answer_line, IsRefusalLine, IsFirstLine};
 
 use crate::command::Command;
 use crate::output::write_line;
@@ -28,12 +28,23 @@ fn shown_line(alloc: Global, text: &str) -> Result<String, AllocError>
     format!(in alloc; "{text}\n")
 }
 
-/// The line that says why an input is refused.
+/// The text up to its first line end.
+fn first_line(text: &str) -> &str
+    ensures { IsFirstLine text.now result.now }
+{
+    match text.split_once('\n') {
+        Some((line, _)) => line,
+        None => text,
+    }
+}
+
+/// The line that says why an input is refused: one line, whatever the error's text.
 fn refused_line(alloc: Global, error: &Error) -> Result<String, AllocError>
     ensures { IfOk result (λ line. IsRefusalLine (string_bytes line)) }
 {
     let reason = format!(in alloc; "{error}")?;
-    format!(in alloc; "refused: {reason}\n")
+    let line = first_line(reason.as_str());
+    format!(in alloc; "refused: {line}\n")
 }
 
 /// Writes what is shown of an input, or why nothing is.
@@ -62,7 +73,12 @@ fn answer<W: Write>(alloc: Global, outcome: &Result<String, Error>, output: &mut
 /// input is read then. 1 after `refused:` and the reason, where the input is not UTF-8 or is a line
 /// of no key; where memory or the input failed; and where the output failed, which then holds only a
 /// beginning of the line. Else 0, after the SHA-256 fingerprint of the key for `fingerprint`, and
-/// for `normal` after the line that is written of the key and its comment. Each line has a line end.
+/// for `normal` after the line that is written of the key and its comment. Each line has a line end,
+/// and a reason is one line.
+///
+/// What is shown or refused is the table's of all bytes of an input whose reader tells them
+/// (`remaining`); of another input no more is said than that the line is one of the command's. What
+/// was written is said of an output that tells what it holds (`contents`).
 pub fn run<R: Read, W: Write>(alloc: Global, words: &[&str], input: &mut R, output: &mut W) -> u8
     ensures runs { Runs words.now (R.remaining input.old) (W.contents output.old) (W.contents output.new) result }
     ensures untouched { IsNoCommand words.now → input.new ≡ input.old }
