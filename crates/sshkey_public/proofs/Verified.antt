@@ -4,7 +4,7 @@ use Rattle.std.specs.Prelude.{OnOk}
 use Rattle.sshkey_model.specs.Keys.{Key}
 use Rattle.sshkey_model.specs.Parts.{Parts, flat, BoxesFit}
 use Rattle.sshkey_model.specs.SignedMessages.{IsVerified, signed_by}
-use Rattle.sshkey_model.specs.Verification.{Question, question, is_yes, IsAccepted}
+use Rattle.sshkey_model.specs.Verification.{Question, is_yes, IsAccepted}
 use Rattle.sshkey_base.specs.declared.algorithm.Algorithm.{Algorithm}
 use Rattle.sshkey_base.specs.declared.encoding.Error.TheVariants.{Length}
 use Rattle.sshkey_base.specs.declared.error.Error.{Error}

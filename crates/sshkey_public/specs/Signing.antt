@@ -11,7 +11,6 @@ use Rattle.sshkey_base.specs.declared.error.Error.{Error}
 use Rattle.sshkey_base.specs.declared.error.Error.TheVariants.{AlgorithmUnsupported, Encoding, Memory}
 use Rattle.sshkey_keys.specs.KeyKinds.{is_sk_ecdsa, is_sk_ed25519}
 use Rattle.sshkey_keys.specs.Verdicts.{Says, verdict}
-use Rattle.sshkey_keys.specs.declared.key_data.KeyData.{KeyData}
 use Rattle.sshkey_public.specs.declared.sshsig.SshSig.{SshSig}
 use Rattle.sshkey_public.specs.SshSignatures.{ssh_signature_of, signer_of, given_of}
 

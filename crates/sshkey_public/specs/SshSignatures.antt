@@ -1,5 +1,4 @@
 -- What an SSH signature means.
-use Rattle.std.specs.Prelude.{ℕ, List}
 use Rattle.sshkey_model.specs.Names.{hash}
 use Rattle.sshkey_model.specs.Parts.{Parts, box, ◌&◌}
 use Rattle.sshkey_model.specs.Signatures.{signature}

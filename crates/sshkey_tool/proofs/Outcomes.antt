@@ -1,5 +1,5 @@
 -- What is shown of the text, of the bytes and of the input.
-use Rattle.std.proofs.Common.{◌≡◌, ◌≢◌, ◌<◌, ◌≤◌, inl, inr, ◌⊎◌, ℕ, List, [], ◌∷◌, map, length, get_or, Bor, Option, None, Some, IfSome, Result, Ok, Err, String, subst, sym, ap, ◌∙◌, arith, refl}
+use Rattle.std.proofs.Common.{◌≡◌, ◌≢◌, ◌<◌, ◌≤◌, inl, inr, ◌⊎◌, ℕ, List, [], ◌∷◌, map, length, get_or, Bor, Option, None, Some, IfSome, Result, Ok, Err, String, subst, sym, ◌∙◌, arith, refl}
 use Rattle.std.specs.Prelude.{string_bytes, MatchOption}
 use Rattle.std.specs.Str.{IsUtf8}
 use Rattle.sshkey_base.specs.Causes.{cause, NoMemory}
@@ -7,7 +7,6 @@ use Rattle.sshkey_base.specs.declared.encoding.Error.TheVariants as encoding
 use Rattle.sshkey_base.specs.declared.error.Error.{Error}
 use Rattle.sshkey_base.specs.declared.error.Error.TheVariants as wide
 use Rattle.sshkey_keys.specs.Keys.{SpellsKey}
-use Rattle.sshkey_model.specs.Keys.{Key}
 use Rattle.sshkey_model.specs.Lines.{IsKeyLine, key_name, IsNoLine}
 use Rattle.sshkey_model.proofs.NormalKeysFit.{normal_boxes}
 use Rattle.sshkey_public.specs.PublicKeys.{public_of, comment_of}

@@ -5,7 +5,7 @@ use Rattle.sshkey_base.proofs.Places.{later_then}
 use Rattle.sshkey_base.proofs.Steps.{asks_later, refused_first, refused_later}
 use Rattle.std.specs.Prelude.{ℕ, List}
 use Rattle.sshkey_model.specs.Reading.{whole, box_at, string_at}
-use Rattle.sshkey_model.specs.SshSignatures.{version_at, namespace_at}
+use Rattle.sshkey_model.specs.SshSignatures.{version_at}
 use Rattle.sshkey_base.specs.Needs.{NoNeed, NeedsString, NeedsBoth, NeedsBoxed}
 use Rattle.sshkey_keys.specs.Keys.{key_data_at}
 use Rattle.sshkey_keys.specs.Needs.{NeedsKey, NeedsSignature}
