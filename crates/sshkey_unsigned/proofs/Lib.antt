@@ -1,0 +1,2 @@
+pub mod UnsignedFields
+pub mod Names
