@@ -60,8 +60,8 @@ fn a_signature_has_its_parts(rt: HostRuntime) -> Result<(), Fail> {
     assert!(rt; signature.reserved().is_empty() && signature.hash_alg() == HashAlg::Sha256);
     assert!(rt; *signature.public_key() == KeyData::from(Ed25519PublicKey(K)));
     assert!(rt; signature.algorithm().as_str() == "ssh-ed25519");
-    assert!(rt; signature.signature_bytes() == [0; 64]);
-    assert!(rt; signature.signature().as_bytes() == [0; 64]);
+    assert!(rt; signature.signature_bytes() == [0; 64].as_slice());
+    assert!(rt; signature.signature().as_bytes() == [0; 64].as_slice());
     Ok(())
 }
 

@@ -11,4 +11,4 @@ returns-in_err-signed g c =
 pub returns : goal.returns
 returns g c =
     let made = rw (c.namespace.ensures, c.reserved.ensures, c.hash_alg.ensures) at c.in_ok-signed.ensures in
-    asked_about _ c.args.signature.now (signed_parts c.args.signature.now c.args.message.now) _ c.verify.result made.0.boxes made.1 (rw (c.public_key.ensures, c.signature.ensures, c.deref.ensures.value) at c.verify.ensures.answer)
+    asked_about _ c.args.signature.now (signed_parts c.args.signature.now c.args.message.now) _ c.verify.result made.0.boxes made.1 (rw (c.public_key-key.ensures, c.signature.ensures, c.deref.ensures.value) at c.verify.ensures.answer)

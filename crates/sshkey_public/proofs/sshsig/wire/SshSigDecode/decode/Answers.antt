@@ -1,8 +1,8 @@
 use Rattle.std.proofs.lemmas.Result.{err_from_is_err_and}
-use Rattle.std.proofs.Common.{refl, ◌∙◌}
+use Rattle.std.proofs.Common.{refl, ◌∙◌, inl}
 use Rattle.sshkey_base.specs.Causes.{same_cause}
 use Rattle.sshkey_base.proofs.Places.{later_then}
-use Rattle.sshkey_base.proofs.Steps.{asks_first, asks_later, refused_first, refused_later}
+use Rattle.sshkey_base.proofs.Steps.{asks_later, refused_first, refused_later}
 use Rattle.std.specs.Prelude.{ℕ, List}
 use Rattle.sshkey_model.specs.Reading.{whole, box_at, string_at}
 use Rattle.sshkey_model.specs.SshSignatures.{version_at, namespace_at}
@@ -96,31 +96,31 @@ pub returns-in_err-version-clause-asks : goal.returns-in_err-version-clause-asks
 unfolding hash_at label_at
 returns-in_err-version-clause-asks g c =
     let p = err_from_is_err_and c.from_residual-in_err-version.result c.from_residual-in_err-version.ensures.1 in
-    rw (p.1, p.2) (asks_later _ NoNeed (λ _. BehindMagic) _ _ _ _ _ c.in_ok-decode_magic.ensures.gives (asks_first NoNeed (λ _. BehindVersion) version_at _ _ c.in_err-version.ensures.asks))
+    rw (p.1, p.2) (asks_later _ NoNeed (λ _. BehindMagic) _ _ _ _ _ c.in_ok-decode_magic.ensures.gives (λ memory sound. inl (c.in_err-version.ensures.asks memory sound)))
 
 pub returns-in_err-public_key-clause-asks : goal.returns-in_err-public_key-clause-asks
 unfolding hash_at label_at
 returns-in_err-public_key-clause-asks g c =
     let p = err_from_is_err_and c.from_residual-in_err-public_key.result c.from_residual-in_err-public_key.ensures.1 in
-    rw (p.1, p.2) (asks_later _ NoNeed (λ _. BehindMagic) _ _ _ _ _ c.in_ok-decode_magic.ensures.gives (asks_later _ NoNeed (λ _. BehindVersion) _ _ _ _ _ c.in_ok-version.ensures.gives (asks_first (NeedsBoxed NeedsKey) (λ _. NeedsStatement) (box_at (whole key_data_at)) _ _ c.in_err-public_key.ensures.asks)))
+    rw (p.1, p.2) (asks_later _ NoNeed (λ _. BehindMagic) _ _ _ _ _ c.in_ok-decode_magic.ensures.gives (asks_later _ NoNeed (λ _. BehindVersion) _ _ _ _ _ c.in_ok-version.ensures.gives (λ memory sound. inl (c.in_err-public_key.ensures.asks memory sound))))
 
 pub returns-in_err-namespace-clause-asks : goal.returns-in_err-namespace-clause-asks
 unfolding hash_at label_at
 returns-in_err-namespace-clause-asks g c =
     let p = err_from_is_err_and c.from_residual-in_err-namespace.result c.from_residual-in_err-namespace.ensures.1 in
-    rw (p.1, p.2) (asks_later _ NoNeed (λ _. BehindMagic) _ _ _ _ _ c.in_ok-decode_magic.ensures.gives (asks_later _ NoNeed (λ _. BehindVersion) _ _ _ _ _ c.in_ok-version.ensures.gives (asks_later _ (NeedsBoxed NeedsKey) (λ _. NeedsStatement) _ _ _ _ _ c.in_ok-public_key.ensures.gives (asks_first NeedsString (λ _. BehindNamespace) namespace_at _ _ c.in_err-namespace.ensures.asks))))
+    rw (p.1, p.2) (asks_later _ NoNeed (λ _. BehindMagic) _ _ _ _ _ c.in_ok-decode_magic.ensures.gives (asks_later _ NoNeed (λ _. BehindVersion) _ _ _ _ _ c.in_ok-version.ensures.gives (asks_later _ (NeedsBoxed NeedsKey) (λ _. NeedsStatement) _ _ _ _ _ c.in_ok-public_key.ensures.gives (λ memory sound. inl (c.in_err-namespace.ensures.asks memory sound)))))
 
 pub returns-in_err-reserved-clause-asks : goal.returns-in_err-reserved-clause-asks
 unfolding hash_at label_at
 returns-in_err-reserved-clause-asks g c =
     let p = err_from_is_err_and c.from_residual-in_err-reserved.result c.from_residual-in_err-reserved.ensures.1 in
-    rw (p.1, p.2, same_cause) (asks_later _ NoNeed (λ _. BehindMagic) _ _ _ _ _ c.in_ok-decode_magic.ensures.gives (asks_later _ NoNeed (λ _. BehindVersion) _ _ _ _ _ c.in_ok-version.ensures.gives (asks_later _ (NeedsBoxed NeedsKey) (λ _. NeedsStatement) _ _ _ _ _ c.in_ok-public_key.ensures.gives (asks_later _ NeedsString (λ _. BehindNamespace) _ _ _ _ _ c.in_ok-namespace.ensures.gives (asks_first NeedsString (λ _. BehindReserved) string_at _ _ c.in_err-reserved.ensures.asks)))))
+    rw (p.1, p.2, same_cause) (asks_later _ NoNeed (λ _. BehindMagic) _ _ _ _ _ c.in_ok-decode_magic.ensures.gives (asks_later _ NoNeed (λ _. BehindVersion) _ _ _ _ _ c.in_ok-version.ensures.gives (asks_later _ (NeedsBoxed NeedsKey) (λ _. NeedsStatement) _ _ _ _ _ c.in_ok-public_key.ensures.gives (asks_later _ NeedsString (λ _. BehindNamespace) _ _ _ _ _ c.in_ok-namespace.ensures.gives (λ memory sound. inl (c.in_err-reserved.ensures.asks memory sound))))))
 
 pub returns-in_err-hash_alg-clause-asks : goal.returns-in_err-hash_alg-clause-asks
 unfolding hash_at label_at
 returns-in_err-hash_alg-clause-asks g c =
     let p = err_from_is_err_and c.from_residual-in_err-hash_alg.result c.from_residual-in_err-hash_alg.ensures.1 in
-    rw (p.1, p.2, same_cause) (asks_later _ NoNeed (λ _. BehindMagic) _ _ _ _ _ c.in_ok-decode_magic.ensures.gives (asks_later _ NoNeed (λ _. BehindVersion) _ _ _ _ _ c.in_ok-version.ensures.gives (asks_later _ (NeedsBoxed NeedsKey) (λ _. NeedsStatement) _ _ _ _ _ c.in_ok-public_key.ensures.gives (asks_later _ NeedsString (λ _. BehindNamespace) _ _ _ _ _ c.in_ok-namespace.ensures.gives (asks_later _ NeedsString (λ _. BehindReserved) _ _ _ _ _ c.in_ok-reserved.ensures.gives (asks_first NeedsString (λ _. (NeedsBoxed NeedsSignature)) hash_at _ _ c.in_err-hash_alg.ensures.asks))))))
+    rw (p.1, p.2, same_cause) (asks_later _ NoNeed (λ _. BehindMagic) _ _ _ _ _ c.in_ok-decode_magic.ensures.gives (asks_later _ NoNeed (λ _. BehindVersion) _ _ _ _ _ c.in_ok-version.ensures.gives (asks_later _ (NeedsBoxed NeedsKey) (λ _. NeedsStatement) _ _ _ _ _ c.in_ok-public_key.ensures.gives (asks_later _ NeedsString (λ _. BehindNamespace) _ _ _ _ _ c.in_ok-namespace.ensures.gives (asks_later _ NeedsString (λ _. BehindReserved) _ _ _ _ _ c.in_ok-reserved.ensures.gives (λ memory sound. inl (c.in_err-hash_alg.ensures.asks memory sound)))))))
 
 pub returns-in_err-signature-clause-asks : goal.returns-in_err-signature-clause-asks
 unfolding hash_at label_at
