@@ -8,6 +8,7 @@ ghost use Rattle.sshkey_keys.specs.Blobs.{MakesBlob};
 ghost use Rattle.sshkey_unsigned.specs.Needs.{NeedsUnsigned};
 ghost use Rattle.sshkey_unsigned.specs.UnsignedReaders.{SpellsUnsigned, unsigned_value_at, unsigned_grammar};
 
+mod copy;
 mod read;
 mod write;
 
