@@ -1,5 +1,4 @@
 pub mod CertificateFields
 pub mod NormalFits
 pub mod Given
-pub mod Names
 pub mod Signing

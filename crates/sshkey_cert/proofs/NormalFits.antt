@@ -12,7 +12,7 @@ use Rattle.sshkey_model.proofs.NormalKeysFit.{normal_boxes}
 use Rattle.sshkey_base.proofs.Writing.{boxes_both, boxes_first, boxes_box, boxes_inside, boxes_length, length_both, length_box}
 use Rattle.sshkey_options.proofs.WrittenOptions.{nothing_has}
 use Rattle.sshkey_cert.specs.Fitting.{boxes_fit, signed_fits}
-use Rattle.sshkey_cert.specs.CertificateReaders.{unsigned_value_at, unsigned_grammar}
+use Rattle.sshkey_unsigned.specs.UnsignedReaders.{unsigned_value_at, unsigned_grammar}
 
 -- ---- the test
 

@@ -1,8 +1,6 @@
 pub mod Fitting
 pub mod CertificateReaders
 pub mod Needs
-pub mod Certificates
-pub mod CertificateParts
 pub mod CertificateValues
 pub mod Validity
 pub mod Signing

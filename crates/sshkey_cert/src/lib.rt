@@ -3,7 +3,5 @@
 
 mod certificate;
 pub mod laws;
-mod unsigned;
 
 pub use certificate::Certificate;
-pub use unsigned::Unsigned;

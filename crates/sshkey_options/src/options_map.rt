@@ -1,10 +1,10 @@
 //! Critical options and extensions.
 
-ghost use Rattle.std.specs.Prelude.{◌≡◌, ◌+◌, ◌*◌, ◌^◌, ◌<◌, ◌≤◌, ℕ, List, [], length, IfOk, IfErr, OnErr, OnOk, option_map, is_some, IsTrue, ◌↔◌, String, string_bytes};
+ghost use Rattle.std.specs.Prelude.{◌≡◌, ◌+◌, ◌*◌, ◌^◌, ◌<◌, ◌≤◌, ℕ, List, [], length, IfOk, IfErr, OnErr, OnOk, map, option_map, is_some, IsTrue, ◌↔◌, String, string_bytes};
 ghost use Rattle.std.specs.Global.{Global};
 ghost use Rattle.std.specs.Map.Iter.{ShowsInOrder, deref_pair};
 ghost use Rattle.std.specs.BTreeMap.{get_by_text, IsUnchanged};
-ghost use Rattle.sshkey_model.specs.OptionMaps.{value_of, with_option};
+ghost use Rattle.sshkey_model.specs.OptionMaps.{value_of, with_option, with_options};
 ghost use Rattle.sshkey_model.specs.Options.{CertificateOption, AreOptions, normal_options};
 ghost use Rattle.sshkey_base.specs.Causes.{cause};
 ghost use Rattle.sshkey_base.specs.Nested.{nested_source};
@@ -13,7 +13,7 @@ ghost use Rattle.sshkey_base.specs.Reading.{Gives, LengthPast, to_end};
 ghost use Rattle.sshkey_base.specs.Source.{Later};
 ghost use Rattle.sshkey_base.specs.declared.error.Error.TheVariants as wide;
 ghost use Rattle.sshkey_options.specs.OptionReaders.{SpellsOptions, option_list_at, options_value_at, options_grammar, options_normal};
-ghost use Rattle.sshkey_options.specs.OptionMaps.{options_of};
+ghost use Rattle.sshkey_options.specs.OptionMaps.{option_of, options_of};
 
 mod read;
 mod write;
@@ -37,6 +37,19 @@ impl OptionsMap {
         ensures { options_of result ≡ [] }
     {
         OptionsMap(BTreeMap::new(alloc))
+    }
+
+    /// The options of these pairs of a name and a value; of two of one name the later one counts.
+    /// Refused only when out of memory.
+    pub fn from_pairs(alloc: Global, pairs: Vec<(String, String)>) -> Result<OptionsMap>
+        ensures value { IfOk result (λ m. options_of m ≡ with_options (map option_of pairs.items) []) }
+        ensures memory { IfErr result (λ e. e ≡ wide.Memory) }
+    {
+        let mut options = OptionsMap::new(alloc);
+        for (name, value) in pairs {
+            options.insert(name, value)?;
+        }
+        Ok(options)
     }
 
     /// The same options in memory of their own. Refused only when out of memory.

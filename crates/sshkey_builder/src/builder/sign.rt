@@ -8,16 +8,17 @@ ghost use Rattle.sshkey_model.specs.Drafts.{IsSignedDraft, IsValidThrough, draft
 ghost use Rattle.sshkey_model.specs.Fingerprints.{fingerprint};
 ghost use Rattle.sshkey_model.specs.Names.{Sha256};
 ghost use Rattle.sshkey_builder.specs.Builders.{draft_of};
-ghost use Rattle.sshkey_cert.specs.Certificates.{unsigned_of};
+ghost use Rattle.sshkey_unsigned.specs.UnsignedValues.{unsigned_of};
 ghost use Rattle.sshkey_cert.specs.CertificateValues.{certificate_of, comment_of};
 ghost use Rattle.sshkey_cert.specs.Signing.{RefusesToSign};
 
 use super::Builder;
 use sshkey_base::certificate::Field;
 use sshkey_base::{Bytes, Error, Result, Text};
-use sshkey_cert::{Certificate, Unsigned};
+use sshkey_cert::Certificate;
 use sshkey_keys::{KeyData, SigningKey};
 use sshkey_options::CertType;
+use sshkey_unsigned::Unsigned;
 use std::alloc::Global;
 
 impl Builder {
@@ -42,7 +43,7 @@ impl Builder {
         }
         let signature_key = signing_key.public_key().try_clone(alloc)?;
         let (unsigned, comment) = self.fields(alloc, signature_key)?;
-        unsigned.sign(alloc, signing_key, comment)
+        Certificate::sign(alloc, unsigned, signing_key, comment)
     }
 
     /// The fields, with the defaults for those that were not set, and the comment.

@@ -2,7 +2,7 @@ use Rattle.std.proofs.Common.{◌≡◌}
 use Rattle.sshkey_keys.specs.Keys.{key_of}
 use Rattle.sshkey_model.specs.Drafts.{drafted}
 use Rattle.sshkey_builder.specs.Builders.{draft_of}
-use Rattle.sshkey_cert.specs.Certificates.{unsigned_of}
+use Rattle.sshkey_unsigned.specs.UnsignedValues.{unsigned_of}
 use Rattle.sshkey_builder.proofs.Signed.{drafted_by, signed_of, valid_of, refused_of}
 use Rattle.sshkey_builder.proofs.builder.Builder.sign.Goals as goal
 
