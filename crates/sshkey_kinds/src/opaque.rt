@@ -113,7 +113,8 @@ impl OpaquePublicKey {
 
     /// The key of these bytes under that algorithm, whichever it is. Takes no memory.
     pub fn new(key: Vec<u8>, algorithm: Algorithm) -> OpaquePublicKey
-        ensures value { opaque_of result ≡ Opaque (algorithm_name (algorithm_of algorithm)) key.items }
+        ensures value { opaque_of result
+            ≡ Opaque (algorithm_name (algorithm_of algorithm)) key.items }
         ensures fields { opaque_fields result ≡ (algorithm_of algorithm, key.items) }
     {
         OpaquePublicKey {
