@@ -141,7 +141,7 @@ impl Algorithm {
 }
 
 // The algorithm with that fixed name.
-#[tactic(auto, unfolding(crate::specs::Readers::named))]
+#[tactic(auto, unfolding(sshkey_model::specs::Names::named))]
 #[inline(always)]
 fn fixed(name: &str) -> Option<Algorithm>
     ensures { option_map algorithm_of result ≡ named algorithm_name algorithms name.now }

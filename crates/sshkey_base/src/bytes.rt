@@ -62,7 +62,7 @@ impl Bytes {
     }
 
     /// Reads a string as `decode` does, into memory that has room for `spare` bytes more.
-    #[tactic(auto, using(crate::proofs::Steps::steps), unfolding(crate::specs::Readers::string_at))]
+    #[tactic(auto, using(crate::proofs::Steps::steps), unfolding(sshkey_model::specs::Reading::string_at))]
     pub fn decode_with_spare<R: Reader>(
         alloc: Global,
         reader: &mut R,

@@ -53,7 +53,7 @@ pub trait Decode: Sized {
 }
 
 /// One byte (RFC 4251, section 5). Takes no memory.
-#[tactic(auto, using(crate::proofs::Steps::steps), unfolding(crate::specs::Readers::number_at))]
+#[tactic(auto, using(crate::proofs::Steps::steps), unfolding(sshkey_model::specs::Reading::number_at))]
 impl Decode for u8 {
     type Error = encoding::Error;
 
@@ -82,7 +82,7 @@ impl Decode for u8 {
 }
 
 /// A number of four bytes, most significant first (RFC 4251, section 5). Takes no memory.
-#[tactic(auto, using(crate::proofs::Steps::steps), unfolding(crate::specs::Readers::number_at))]
+#[tactic(auto, using(crate::proofs::Steps::steps), unfolding(sshkey_model::specs::Reading::number_at))]
 impl Decode for u32 {
     type Error = encoding::Error;
 
@@ -111,7 +111,7 @@ impl Decode for u32 {
 }
 
 /// A number of eight bytes, most significant first (RFC 4251, section 5). Takes no memory.
-#[tactic(auto, using(crate::proofs::Steps::steps), unfolding(crate::specs::Readers::number_at))]
+#[tactic(auto, using(crate::proofs::Steps::steps), unfolding(sshkey_model::specs::Reading::number_at))]
 impl Decode for u64 {
     type Error = encoding::Error;
 

@@ -59,7 +59,7 @@ pub trait Label: Sized {
 }
 
 /// The string of a name. `Label` for a string that is none of the names.
-#[tactic(auto, using(crate::proofs::Steps::steps), unfolding(crate::specs::Labels::label_at, crate::specs::Readers::string_at))]
+#[tactic(auto, using(crate::proofs::Steps::steps), unfolding(crate::specs::Labels::label_at, sshkey_model::specs::Reading::string_at))]
 impl<T: Label> Decode for T {
     type Error = Error;
 

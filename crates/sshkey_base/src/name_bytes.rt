@@ -23,7 +23,7 @@ pub(crate) enum NameBytes {
 
 impl NameBytes {
     /// A string of any bytes (RFC 4251, section 5). A length that passes what is left is `Length`.
-    #[tactic(auto, using(crate::proofs::Steps::steps), unfolding(crate::specs::Readers::string_at))]
+    #[tactic(auto, using(crate::proofs::Steps::steps), unfolding(sshkey_model::specs::Reading::string_at))]
     pub(crate) fn decode<R: Reader>(alloc: Global, reader: &mut R) -> Result<NameBytes>
         ensures gives { Decodes name_bytes_of string_at R.source reader.old result reader.new }
         ensures later { Later (R.source reader.old) (R.source reader.new) }

@@ -224,7 +224,7 @@ pub fn array_from<const N: usize, R: Reader>(reader: &mut R) -> Result<[u8; N]>
 ///
 /// Where fewer are left, the answer is `Length` from a sound source, and from another one a fault
 /// of its own.
-#[tactic(auto, using(crate::proofs::Steps::steps), unfolding(crate::specs::Readers::number_at))]
+#[tactic(auto, using(crate::proofs::Steps::steps), unfolding(sshkey_model::specs::Reading::number_at))]
 #[inline(always)]
 pub fn length_from<R: Reader>(reader: &mut R) -> Result<usize>
     ensures gives { DecodesAlways (λ x. x) (number_at w32) R.source reader.old result reader.new }

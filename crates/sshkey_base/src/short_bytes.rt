@@ -66,7 +66,7 @@ impl<const MAX: usize> ShortBytes<MAX> {
 /// A string of at most `MAX` bytes: a length of four bytes, and the bytes (RFC 4251, section 5).
 ///
 /// `Length` for a longer one, and for a length that passes what is left. Takes no memory.
-#[tactic(auto, using(crate::proofs::Steps::steps), unfolding(crate::specs::ShortStrings::short_at, crate::specs::Readers::string_at))]
+#[tactic(auto, using(crate::proofs::Steps::steps), unfolding(crate::specs::ShortStrings::short_at, sshkey_model::specs::Reading::string_at))]
 impl<const MAX: usize> Decode for ShortBytes<MAX> {
     ghost use Rattle.sshkey_base.specs.ShortBytes.{short_of};
 

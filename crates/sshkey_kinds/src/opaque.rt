@@ -2,7 +2,7 @@
 
 ghost use Rattle.std.specs.Prelude.{◌≡◌, ℕ, List, IfOk, IfErr, ◌+◌, ◌^◌};
 ghost use Rattle.sshkey_base.specs.Leaves.{SpellsString, string_grammar};
-ghost use Rattle.sshkey_base.specs.Readers.{string_at};
+ghost use Rattle.sshkey_model.specs.Reading.{string_at};
 ghost use Rattle.sshkey_model.specs.Keys.{body};
 ghost use Rattle.sshkey_model.specs.Texts.{string};
 

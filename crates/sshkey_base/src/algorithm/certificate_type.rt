@@ -136,7 +136,7 @@ impl Algorithm {
     }
 }
 
-#[tactic(auto, using(crate::proofs::Steps::steps), unfolding(crate::specs::Readers::certificate_algorithm_at))]
+#[tactic(auto, using(crate::proofs::Steps::steps), unfolding(sshkey_model::specs::CertificateNames::certificate_algorithm_at))]
 fn read_certificate_type<R: Reader>(alloc: Global, reader: &mut R) -> Result<Algorithm>
     ensures past { LengthPast cause (R.source reader.old) result }
     ensures gives { Gives algorithm_of cause certificate_algorithm_at
@@ -152,7 +152,7 @@ fn read_certificate_type<R: Reader>(alloc: Global, reader: &mut R) -> Result<Alg
 }
 
 // The algorithm with that fixed name in a certificate.
-#[tactic(auto, unfolding(crate::specs::Readers::named))]
+#[tactic(auto, unfolding(sshkey_model::specs::Names::named))]
 fn fixed_in_certificate(name: &str) -> Option<Algorithm>
     ensures { option_map algorithm_of result ≡ named certificate_name certified name.now }
 {

@@ -75,7 +75,7 @@ impl HashAlg {
     }
 }
 
-#[tactic(auto, unfolding(crate::specs::Readers::named))]
+#[tactic(auto, unfolding(sshkey_model::specs::Names::named))]
 impl FromStr for HashAlg {
     type Err = LabelError;
 
