@@ -16,6 +16,7 @@ pub mod CertificateTypes
 pub mod OtherNames
 pub mod CertifiedNames
 pub mod PlainParts
+pub mod WholeStrings
 pub mod Judging
 pub mod WrittenLists
 pub mod ReadLists

@@ -1,6 +1,5 @@
 pub mod Causes
 pub mod Source
-pub mod Readers
 pub mod Reading
 pub mod Needs
 pub mod Nested

@@ -2,7 +2,8 @@
 use Rattle.std.specs.Prelude.{◌≡◌, ◌≢◌, ℕ, ◌<◌, ◌+◌, IsErrAnd, List, [], length, Result, Ok, Err, ◌++◌, ◌^◌}
 use Rattle.std.specs.Int.{w32, to_be_bytes}
 use Rattle.sshkey_model.specs.Reading.{Fault, Length, ◌>>=◌, Front, Whole, number_at}
-use Rattle.sshkey_base.specs.Causes.{Cause, NoMemory, Faulty}
+use Rattle.sshkey_base.specs.declared.encoding.Error.{Error}
+use Rattle.sshkey_base.specs.Causes.{Cause, NoMemory, Faulty, encoding_cause}
 use Rattle.sshkey_base.specs.Source.{Source, IsSound}
 
 -- What was read is what the plain reader gives of the bytes that were left, the rest is left, and nothing else changed.
@@ -30,6 +31,14 @@ pub record Refuses {Y : Type 0} (missing : ℕ) (cause : Cause) (found : Result 
 abbrev pub GivesAlways : {X Y E : Type 0} → (X → Y) → (E → Cause) → Front Y → Source → Result X E → Source → Type 0
 GivesAlways means cause read s (Ok x) t = Reads means read s x t
 GivesAlways means cause read s (Err e) t = Refuses s.missing (cause e) (read s.left)
+
+-- What a call gives that moves a reader, whose source is given, and refuses with an error of the encoding.
+abbrev pub Decodes : {R X Y : Type 0} → (X → Y) → Front Y → (R → Source) → R → Result X Error → R → Type 0
+Decodes means read source before result after = Gives means encoding_cause read (source before) result (source after)
+
+-- The same of a call that takes no memory.
+abbrev pub DecodesAlways : {R X Y : Type 0} → (X → Y) → Front Y → (R → Source) → R → Result X Error → R → Type 0
+DecodesAlways means read source before result after = GivesAlways means encoding_cause read (source before) result (source after)
 
 -- A stated length that passes all that was announced is `Length`, whatever memory there is.
 abbrev pub LengthPast : {X E : Type 0} → (E → Cause) → Source → Result X E → Type 0

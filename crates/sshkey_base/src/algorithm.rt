@@ -60,8 +60,10 @@ impl Algorithm {
     /// `Label` where it is no name. Memory is asked for only for a private-use name.
     pub fn new(alloc: Global, name: &str) -> Result<Algorithm>
         ensures gives { Names algorithm_of cause (algorithm_from name.now) result }
-        ensures fixed { (a : model.Algorithm) → named algorithm_name algorithms name.now ≡ Some a → IsOk result }
-        ensures refused { algorithm_from name.now ≡ Err fault.Label → result ≡ Err (Error.Encoding encoding.Label) }
+        ensures fixed { (a : model.Algorithm) → named algorithm_name algorithms name.now ≡ Some a →
+            IsOk result }
+        ensures refused { algorithm_from name.now ≡ Err fault.Label →
+            result ≡ Err (Error.Encoding encoding.Label) }
     {
         match fixed(name) {
             Some(algorithm) => Ok(algorithm),
@@ -139,7 +141,7 @@ impl Algorithm {
 }
 
 // The algorithm with that fixed name.
-#[tactic(auto, unfolding(crate::specs::Readers::named))]
+#[tactic(auto, unfolding(sshkey_model::specs::Names::named))]
 #[inline(always)]
 fn fixed(name: &str) -> Option<Algorithm>
     ensures { option_map algorithm_of result ≡ named algorithm_name algorithms name.now }
@@ -190,7 +192,8 @@ impl Label for Algorithm {
     #[inline(always)]
     fn from_label(alloc: Global, name: &str) -> encoding::Result<Algorithm>
         ensures gives { LooksUp algorithm_of algorithm_from name.now result }
-        ensures fixed { (a : model.Algorithm) → named algorithm_name algorithms name.now ≡ Some a → IsOk result }
+        ensures fixed { (a : model.Algorithm) → named algorithm_name algorithms name.now ≡ Some a →
+            IsOk result }
         ensures refused { algorithm_from name.now ≡ Err fault.Label → result ≡ Err encoding.Label }
     {
         match fixed(name) {

@@ -32,7 +32,8 @@ pub trait Encode {
     /// the writer's own. After a refusal the writer holds what it held, and a beginning of the
     /// bytes. Takes no memory of its own.
     fn encode<W: Writer>(&self, writer: &mut W) -> Result<()>
-        ensures { Encodes W.fault (normal self.now) (W.sink writer.old) result (W.sink writer.new) };
+        ensures { Encodes W.fault (normal self.now)
+            (W.sink writer.old) result (W.sink writer.new) };
 
     /// How many bytes the value has behind its length. Exactly where it or a box in it would pass
     /// 2^32 - 1 bytes, the answer is `Length`. Takes no memory.
@@ -52,7 +53,8 @@ pub trait Encode {
     final fn encode_prefixed<W: Writer>(&self, writer: &mut W) -> Result<()>
     where
         Self: Sized,
-        ensures { Encodes W.fault (box (normal self.now)) (W.sink writer.old) result (W.sink writer.new) }
+        ensures { Encodes W.fault (box (normal self.now))
+            (W.sink writer.old) result (W.sink writer.new) }
     {
         u32_of(self.encoded_len()?)?.encode(writer)?;
         self.encode(writer)
@@ -97,7 +99,8 @@ pub fn encode_both<A: Encode, B: Encode, W: Writer>(
     second: &B,
     writer: &mut W,
 ) -> Result<()>
-    ensures { Encodes W.fault (A.normal first.now & B.normal second.now) (W.sink writer.old) result (W.sink writer.new) }
+    ensures { Encodes W.fault (A.normal first.now & B.normal second.now)
+        (W.sink writer.old) result (W.sink writer.new) }
 {
     first.encode(writer)?;
     second.encode(writer)

@@ -37,7 +37,6 @@ impl Mpint {
     ghost use Rattle.sshkey_base.specs.Answers.{Answers, AnswersAlways};
     ghost use Rattle.sshkey_base.specs.Causes.{cause};
     ghost use Rattle.sshkey_base.specs.Mpint.{mpint_of};
-    ghost use Rattle.sshkey_base.specs.declared.error.Error.TheVariants as wide;
 
     /// The number that has these bytes, in two's complement.
     ///
@@ -70,7 +69,7 @@ impl Mpint {
     /// Refuses only when out of memory.
     pub fn from_positive_bytes(alloc: Global, bytes: &[u8]) -> Result<Mpint>
         ensures value { IfOk result (λ m. mpint_of m ≡ of_positive bytes.now) }
-        ensures refused { IfErr result (λ e. e ≡ wide.Memory) }
+        ensures refused { IfErr result (λ e. e ≡ Error.Memory) }
     {
         let digits = without_leading_zeros(bytes);
         if digits.first().is_some_and(|first| *first >= 0x80) {
@@ -107,7 +106,7 @@ impl Mpint {
     /// The same number in memory of its own. Refuses only when out of memory.
     pub fn try_clone(&self, alloc: Global) -> Result<Mpint>
         ensures value { IfOk result (λ m. mpint_of m ≡ mpint_of self.now) }
-        ensures refused { IfErr result (λ e. e ≡ wide.Memory) }
+        ensures refused { IfErr result (λ e. e ≡ Error.Memory) }
     {
         Ok(Mpint {
             bytes: Vec::from_slice(alloc, &self.bytes)?,
@@ -219,7 +218,8 @@ impl fmt::LowerHex for Mpint {
     ghost use Rattle.sshkey_base.specs.Mpint.{mpint_of};
 
     fn fmt<W: fmt::Write>(&self, f: &mut fmt::Formatter<W>) -> fmt::Result
-        ensures { WritesOnOk W.write_str_gives f.old result (encode_lower (mpint_of self.now)) f.new }
+        ensures { WritesOnOk W.write_str_gives f.old result
+            (encode_lower (mpint_of self.now)) f.new }
     {
         write_lower_hex(&self.bytes, f)
     }
@@ -230,7 +230,8 @@ impl fmt::UpperHex for Mpint {
     ghost use Rattle.sshkey_base.specs.Mpint.{mpint_of};
 
     fn fmt<W: fmt::Write>(&self, f: &mut fmt::Formatter<W>) -> fmt::Result
-        ensures { WritesOnOk W.write_str_gives f.old result (encode_upper (mpint_of self.now)) f.new }
+        ensures { WritesOnOk W.write_str_gives f.old result
+            (encode_upper (mpint_of self.now)) f.new }
     {
         write_upper_hex(&self.bytes, f)
     }
@@ -277,7 +278,8 @@ impl Decode for Mpint {
     ghost grammar = { mpint_grammar };
 
     fn decode<R: Reader>(alloc: Global, reader: &mut R) -> Result<Mpint>
-        ensures gives { Gives mpint_of cause mpint_at (R.source reader.old) result (R.source reader.new) }
+        ensures gives { Gives mpint_of cause mpint_at
+            (R.source reader.old) result (R.source reader.new) }
         ensures later { Later (R.source reader.old) (R.source reader.new) }
         ensures asks { Asks cause NeedsString (R.source reader.old) result }
         ensures past { LengthPast cause (R.source reader.old) result }

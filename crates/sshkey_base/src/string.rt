@@ -4,7 +4,7 @@ ghost use Rattle.std.specs.Prelude.{ℕ, ◌+◌, ◌^◌, List, string_bytes};
 ghost use Rattle.sshkey_model.specs.Texts.{string};
 ghost use Rattle.sshkey_base.specs.Causes.{encoding_cause};
 ghost use Rattle.sshkey_base.specs.Needs.{Asks, NeedsString};
-ghost use Rattle.sshkey_base.specs.Reading.{Gives, LengthPast};
+ghost use Rattle.sshkey_base.specs.Reading.{Decodes, LengthPast};
 ghost use Rattle.sshkey_base.specs.Source.{Later};
 ghost use Rattle.sshkey_base.specs.Texts.{SpellsText, text_at, text_grammar, string_text_normal};
 
@@ -37,7 +37,7 @@ impl Decode for String {
     ghost grammar = { text_grammar };
 
     fn decode<R: Reader>(alloc: Global, reader: &mut R) -> Result<String>
-        ensures gives { Gives string_bytes encoding_cause text_at (R.source reader.old) result (R.source reader.new) }
+        ensures gives { Decodes string_bytes text_at R.source reader.old result reader.new }
         ensures later { Later (R.source reader.old) (R.source reader.new) }
         ensures asks { Asks encoding_cause NeedsString (R.source reader.old) result }
         ensures past { LengthPast encoding_cause (R.source reader.old) result }

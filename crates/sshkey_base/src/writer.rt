@@ -72,7 +72,8 @@ impl Writer for SliceWriter<'_> {
     ghost fault = { λ e. e ≡ Length };
 
     fn write(&mut self, bytes: &[u8]) -> Result<()>
-        ensures writes { Writes (λ e. e ≡ Length) (slice_sink self.old) bytes.now result (slice_sink self.new) }
+        ensures writes { Writes (λ e. e ≡ Length) (slice_sink self.old)
+            bytes.now result (slice_sink self.new) }
         ensures unwritten { IfErr result (λ _. slice_sink self.new ≡ slice_sink self.old) }
     {
         let slice = &mut *self.slice;

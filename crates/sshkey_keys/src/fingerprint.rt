@@ -92,7 +92,8 @@ impl Fingerprint {
 
     /// The digest by SHA-256; `None` where it is by SHA-512.
     pub fn sha256(self) -> Option<[u8; 32]>
-        ensures { MatchOption result (algorithm_of self ≡ model.Sha512) (λ d. self ≡ Fingerprint.Sha256 d) }
+        ensures { MatchOption result (algorithm_of self ≡ model.Sha512)
+            (λ d. self ≡ Fingerprint.Sha256 d) }
     {
         match self {
             Fingerprint::Sha256(digest) => Some(digest),
@@ -102,7 +103,8 @@ impl Fingerprint {
 
     /// The digest by SHA-512; `None` where it is by SHA-256.
     pub fn sha512(self) -> Option<[u8; 64]>
-        ensures { MatchOption result (algorithm_of self ≡ model.Sha256) (λ d. self ≡ Fingerprint.Sha512 d) }
+        ensures { MatchOption result (algorithm_of self ≡ model.Sha256)
+            (λ d. self ≡ Fingerprint.Sha512 d) }
     {
         match self {
             Fingerprint::Sha256(_) => None,

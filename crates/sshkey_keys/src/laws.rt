@@ -18,7 +18,8 @@ use sshkey_model::laws::normal_keys;
 
 /// No spelling of a key begins another: what follows it does not matter, and it is that of one key.
 pub fn prefix_key()
-    ensures { (k j : Key) (a b r q : List ℕ) → SpellsKey k a → SpellsKey j b → a ++ r ≡ b ++ q → (k ≡ j) × (a ≡ b) × (r ≡ q) }
+    ensures { (k j : Key) (a b r q : List ℕ) → SpellsKey k a → SpellsKey j b → a ++ r ≡ b ++ q →
+        (k ≡ j) × (a ≡ b) × (r ≡ q) }
 {}
 
 /// Two fingerprints are equal exactly if they are by one hash and have one digest. They are ordered
@@ -50,7 +51,8 @@ pub fn compared_keys()
 /// No spelling of a signature begins another: what follows it does not matter, and it is that of
 /// one signature.
 pub fn prefix_signature()
-    ensures { (g h : TheSignature) (a b r q : List ℕ) → SpellsSignature g a → SpellsSignature h b → a ++ r ≡ b ++ q → (g ≡ h) × (a ≡ b) × (r ≡ q) }
+    ensures { (g h : TheSignature) (a b r q : List ℕ) → SpellsSignature g a → SpellsSignature h b →
+        a ++ r ≡ b ++ q → (g ≡ h) × (a ≡ b) × (r ≡ q) }
 {}
 
 /// Two signatures are equal exactly if they mean the same: one algorithm and the same bytes. They

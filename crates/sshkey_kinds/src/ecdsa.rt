@@ -149,7 +149,8 @@ impl Decode for EcdsaPublicKey {
 /// A point string of any of the curves, none of which is longer than 133 bytes.
 #[tactic(auto, using(sshkey_base::proofs::Steps::steps))]
 fn decode_point<R: Reader>(reader: &mut R) -> Result<EcdsaPublicKey>
-    ensures gives { Gives ecdsa_of cause (checked_at point_from string_at) (R.source reader.old) result (R.source reader.new) }
+    ensures gives { Gives ecdsa_of cause (checked_at point_from string_at)
+        (R.source reader.old) result (R.source reader.new) }
     ensures later { Later (R.source reader.old) (R.source reader.new) }
     ensures asks { Asks cause NoNeed (R.source reader.old) result }
 {
@@ -160,7 +161,8 @@ fn decode_point<R: Reader>(reader: &mut R) -> Result<EcdsaPublicKey>
 /// The point that the next `len` bytes spell.
 #[tactic(auto, using(sshkey_base::proofs::Lending::lending, sshkey_base::proofs::Places::places))]
 fn point_from<R: Reader>(len: usize, reader: &mut R) -> Result<EcdsaPublicKey>
-    ensures gives { Gives ecdsa_of cause (checked_at point_from (bytes_at len)) (R.source reader.old) result (R.source reader.new) }
+    ensures gives { Gives ecdsa_of cause (checked_at point_from (bytes_at len))
+        (R.source reader.old) result (R.source reader.new) }
     ensures later { Later (R.source reader.old) (R.source reader.new) }
     ensures asks { Asks cause NoNeed (R.source reader.old) result }
 {
@@ -272,7 +274,8 @@ impl fmt::LowerHex for EcdsaPublicKey {
     ghost use Rattle.sshkey_kinds.specs.EcdsaPublicKey.{ecdsa_of};
 
     fn fmt<W: fmt::Write>(&self, f: &mut fmt::Formatter<W>) -> fmt::Result
-        ensures { WritesOnOk W.write_str_gives f.old result (encode_lower (ecdsa_of self.now).1) f.new }
+        ensures { WritesOnOk W.write_str_gives f.old result
+            (encode_lower (ecdsa_of self.now).1) f.new }
     {
         write_lower_hex(self.as_sec1_bytes(), f)
     }
@@ -283,7 +286,8 @@ impl fmt::UpperHex for EcdsaPublicKey {
     ghost use Rattle.sshkey_kinds.specs.EcdsaPublicKey.{ecdsa_of};
 
     fn fmt<W: fmt::Write>(&self, f: &mut fmt::Formatter<W>) -> fmt::Result
-        ensures { WritesOnOk W.write_str_gives f.old result (encode_upper (ecdsa_of self.now).1) f.new }
+        ensures { WritesOnOk W.write_str_gives f.old result
+            (encode_upper (ecdsa_of self.now).1) f.new }
     {
         write_upper_hex(self.as_sec1_bytes(), f)
     }

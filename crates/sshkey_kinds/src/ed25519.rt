@@ -5,7 +5,7 @@ ghost use Rattle.std.specs.Prelude.{◌≡◌, ℕ, Some, ◌+◌, ◌^◌};
 ghost use Rattle.hex.specs.Hex.{encode_lower, encode_upper};
 ghost use Rattle.sshkey_base.specs.Answers.{AnswersAlways};
 ghost use Rattle.sshkey_base.specs.Causes.{cause, encoding_cause};
-ghost use Rattle.sshkey_base.specs.Reading.{Gives, GivesAlways};
+ghost use Rattle.sshkey_base.specs.Reading.{Decodes, DecodesAlways};
 ghost use Rattle.sshkey_base.specs.Source.{Later};
 ghost use Rattle.sshkey_model.specs.Keys.{Key, body};
 ghost use Rattle.sshkey_kinds.specs.Bodies.{SpellsEd25519, ed25519_body_at, ed25519_body_grammar};
@@ -49,10 +49,11 @@ impl Decode for Ed25519PublicKey {
     ghost grammar = { ed25519_body_grammar };
 
     fn decode<R: Reader>(alloc: Global, reader: &mut R) -> encoding::Result<Ed25519PublicKey>
-        ensures gives { Gives ed25519_of encoding_cause ed25519_body_at (R.source reader.old) result (R.source reader.new) }
+        ensures gives { Decodes ed25519_of ed25519_body_at R.source reader.old result reader.new }
         ensures later { Later (R.source reader.old) (R.source reader.new) }
         ensures asks { Asks encoding_cause NoNeed (R.source reader.old) result }
-        ensures always { GivesAlways ed25519_of encoding_cause ed25519_body_at (R.source reader.old) result (R.source reader.new) }
+        ensures always { DecodesAlways ed25519_of ed25519_body_at
+            R.source reader.old result reader.new }
     {
         Ok(Ed25519PublicKey(<[u8; 32]>::decode(alloc, reader)?))
     }

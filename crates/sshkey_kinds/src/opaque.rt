@@ -2,7 +2,7 @@
 
 ghost use Rattle.std.specs.Prelude.{◌≡◌, ℕ, List, IfOk, IfErr, ◌+◌, ◌^◌};
 ghost use Rattle.sshkey_base.specs.Leaves.{SpellsString, string_grammar};
-ghost use Rattle.sshkey_base.specs.Readers.{string_at};
+ghost use Rattle.sshkey_model.specs.Reading.{string_at};
 ghost use Rattle.sshkey_model.specs.Keys.{body};
 ghost use Rattle.sshkey_model.specs.Texts.{string};
 
@@ -113,7 +113,8 @@ impl OpaquePublicKey {
 
     /// The key of these bytes under that algorithm, whichever it is. Takes no memory.
     pub fn new(key: Vec<u8>, algorithm: Algorithm) -> OpaquePublicKey
-        ensures value { opaque_of result ≡ Opaque (algorithm_name (algorithm_of algorithm)) key.items }
+        ensures value { opaque_of result
+            ≡ Opaque (algorithm_name (algorithm_of algorithm)) key.items }
         ensures fields { opaque_fields result ≡ (algorithm_of algorithm, key.items) }
     {
         OpaquePublicKey {

@@ -35,7 +35,8 @@ impl SkEcdsaSha2NistP256 {
 
     /// The key for that application. Takes no memory.
     pub fn new(ec_point: EcdsaNistP256PublicKey, application: String) -> SkEcdsaSha2NistP256
-        ensures { sk_ecdsa_of result ≡ SkEcdsa (record { key = point_of ec_point; application = string_bytes application }) }
+        ensures { sk_ecdsa_of result
+            ≡ SkEcdsa (record { key = point_of ec_point; application = string_bytes application }) }
     {
         SkEcdsaSha2NistP256 {
             ec_point,
@@ -48,7 +49,8 @@ impl SkEcdsaSha2NistP256 {
         alloc: Global,
         ec_point: EcdsaNistP256PublicKey,
     ) -> Result<SkEcdsaSha2NistP256>
-        ensures value { IfOk result (λ k. sk_ecdsa_of k ≡ SkEcdsa (record { key = point_of ec_point; application = codes "ssh:" })) }
+        ensures value { IfOk result (λ k. sk_ecdsa_of k
+            ≡ SkEcdsa (record { key = point_of ec_point; application = codes "ssh:" })) }
         ensures refused { IfErr result (λ e. e ≡ Error.Memory) }
     {
         let application = String::from_str(alloc, DEFAULT_APPLICATION)?;
@@ -132,7 +134,8 @@ impl Decode for SkEcdsaSha2NistP256 {
 /// A point string of P-256, none of which is longer than 65 bytes.
 #[tactic(auto, using(sshkey_base::proofs::Steps::steps))]
 fn decode_point<R: Reader>(reader: &mut R) -> Result<EcdsaNistP256PublicKey>
-    ensures gives { Gives point_of cause (checked_at p256_point_from string_at) (R.source reader.old) result (R.source reader.new) }
+    ensures gives { Gives point_of cause (checked_at p256_point_from string_at)
+        (R.source reader.old) result (R.source reader.new) }
     ensures later { Later (R.source reader.old) (R.source reader.new) }
     ensures asks { Asks cause NoNeed (R.source reader.old) result }
 {
@@ -143,7 +146,8 @@ fn decode_point<R: Reader>(reader: &mut R) -> Result<EcdsaNistP256PublicKey>
 /// The point that the next `len` bytes spell.
 #[tactic(auto, using(sshkey_base::proofs::Lending::lending, sshkey_base::proofs::Places::places))]
 fn point_from<R: Reader>(len: usize, reader: &mut R) -> Result<EcdsaNistP256PublicKey>
-    ensures gives { Gives point_of cause (checked_at p256_point_from (bytes_at len)) (R.source reader.old) result (R.source reader.new) }
+    ensures gives { Gives point_of cause (checked_at p256_point_from (bytes_at len))
+        (R.source reader.old) result (R.source reader.new) }
     ensures later { Later (R.source reader.old) (R.source reader.new) }
     ensures asks { Asks cause NoNeed (R.source reader.old) result }
 {
@@ -193,7 +197,8 @@ impl SkEd25519 {
 
     /// The key for that application. Takes no memory.
     pub fn new(public_key: Ed25519PublicKey, application: String) -> SkEd25519
-        ensures { sk_ed25519_of result ≡ SkEd25519Key (record { key = public_key.0; application = string_bytes application }) }
+        ensures { sk_ed25519_of result
+            ≡ SkEd25519Key (record { key = public_key.0; application = string_bytes application }) }
     {
         SkEd25519 {
             public_key,
@@ -206,7 +211,8 @@ impl SkEd25519 {
         alloc: Global,
         public_key: Ed25519PublicKey,
     ) -> Result<SkEd25519>
-        ensures value { IfOk result (λ k. sk_ed25519_of k ≡ SkEd25519Key (record { key = public_key.0; application = codes "ssh:" })) }
+        ensures value { IfOk result (λ k. sk_ed25519_of k
+            ≡ SkEd25519Key (record { key = public_key.0; application = codes "ssh:" })) }
         ensures refused { IfErr result (λ e. e ≡ Error.Memory) }
     {
         let application = String::from_str(alloc, DEFAULT_APPLICATION)?;

@@ -11,5 +11,6 @@ use crate::unix_time::UnixTime;
 
 /// No options begin others: what follows them does not matter, and they are those of one map.
 pub fn prefix_options()
-    ensures { (o p : List CertificateOption) (a b r q : List ℕ) → SpellsOptions o a → SpellsOptions p b → a ++ r ≡ b ++ q → (o ≡ p) × (a ≡ b) × (r ≡ q) }
+    ensures { (o p : List CertificateOption) (a b r q : List ℕ) → SpellsOptions o a →
+        SpellsOptions p b → a ++ r ≡ b ++ q → (o ≡ p) × (a ≡ b) × (r ≡ q) }
 {}

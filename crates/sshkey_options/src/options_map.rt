@@ -11,7 +11,6 @@ ghost use Rattle.sshkey_base.specs.Nested.{nested_source};
 ghost use Rattle.sshkey_base.specs.Needs.{Asks, NeedsString};
 ghost use Rattle.sshkey_base.specs.Reading.{Gives, LengthPast, to_end};
 ghost use Rattle.sshkey_base.specs.Source.{Later};
-ghost use Rattle.sshkey_base.specs.declared.error.Error.TheVariants as wide;
 ghost use Rattle.sshkey_options.specs.OptionReaders.{SpellsOptions, option_list_at, options_value_at, options_grammar, options_normal};
 ghost use Rattle.sshkey_options.specs.OptionMaps.{option_of, options_of};
 
@@ -55,7 +54,7 @@ impl OptionsMap {
     /// The same options in memory of their own. Refused only when out of memory.
     pub fn try_clone(&self, _alloc: Global) -> Result<OptionsMap>
         ensures value { IfOk result (λ m. options_of m ≡ options_of self.now) }
-        ensures memory { IfErr result (λ e. e ≡ wide.Memory) }
+        ensures memory { IfErr result (λ e. e ≡ Error.Memory) }
     {
         Ok(OptionsMap(self.0.clone()?))
     }
@@ -73,10 +72,13 @@ impl OptionsMap {
     /// Sets the value of that name, and gives the one before. Refused only when out of memory, and
     /// then nothing is changed.
     pub fn insert(&mut self, name: String, value: String) -> Result<Option<String>>
-        ensures old { IfOk result (λ before. option_map string_bytes before ≡ value_of (string_bytes name) (options_of self.old)) }
-        ensures set { OnOk result (options_of self.new ≡ with_option (record { name = string_bytes name; value = string_bytes value }) (options_of self.old)) }
+        ensures old { IfOk result (λ before. option_map string_bytes before
+            ≡ value_of (string_bytes name) (options_of self.old)) }
+        ensures set { OnOk result (options_of self.new ≡ with_option
+            (record { name = string_bytes name; value = string_bytes value })
+            (options_of self.old)) }
         ensures unchanged { OnErr result (options_of self.new ≡ options_of self.old) }
-        ensures memory { IfErr result (λ e. e ≡ wide.Memory) }
+        ensures memory { IfErr result (λ e. e ≡ Error.Memory) }
     {
         Ok(self.0.insert(name, value)?)
     }
@@ -149,15 +151,18 @@ impl Decode for OptionsMap {
     ghost grammar = { options_grammar };
 
     fn decode<R: Reader>(alloc: Global, reader: &mut R) -> Result<OptionsMap>
-        ensures gives { Gives options_of cause options_value_at (R.source reader.old) result (R.source reader.new) }
+        ensures gives { Gives options_of cause options_value_at
+            (R.source reader.old) result (R.source reader.new) }
         ensures later { Later (R.source reader.old) (R.source reader.new) }
         ensures asks { Asks cause NeedsString (R.source reader.old) result }
         ensures past { LengthPast cause (R.source reader.old) result }
     {
         reader.read_prefixed(
             |part: &mut NestedReader<'_, R>| -> Result<OptionsMap>
-                ensures gives { Gives options_of cause (to_end option_list_at) (nested_source R.source part.old) result (nested_source R.source part.new) }
-                ensures later { Later (nested_source R.source part.old) (nested_source R.source part.new) }
+                ensures gives { Gives options_of cause (to_end option_list_at)
+                    (nested_source R.source part.old) result (nested_source R.source part.new) }
+                ensures later { Later (nested_source R.source part.old)
+                    (nested_source R.source part.new) }
             { options_from(alloc, part) },
         )
     }

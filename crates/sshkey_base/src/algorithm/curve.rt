@@ -62,7 +62,7 @@ impl EcdsaCurve {
     }
 }
 
-#[tactic(auto, unfolding(crate::specs::Readers::named))]
+#[tactic(auto, unfolding(sshkey_model::specs::Names::named))]
 impl FromStr for EcdsaCurve {
     type Err = LabelError;
 

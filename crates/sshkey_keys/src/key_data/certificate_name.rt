@@ -38,7 +38,8 @@ impl KeyData {
     /// A refusal is the writer's own; then it holds what it held, and a beginning of the name.
     /// Takes no memory of its own.
     pub fn write_certificate_name<W: Writer>(&self, writer: &mut W) -> encoding::Result<()>
-        ensures { Encodes W.fault (bytes (certificate_name (key_algorithm (key_of self.now)))) (W.sink writer.old) result (W.sink writer.new) }
+        ensures { Encodes W.fault (bytes (certificate_name (key_algorithm (key_of self.now))))
+            (W.sink writer.old) result (W.sink writer.new) }
     {
         match self {
             KeyData::Dsa(_) => Algorithm::Dsa.write_certificate_name(writer),
@@ -58,7 +59,8 @@ impl KeyData {
     /// A refusal is the writer's own; then it holds what it held, and a beginning of the string.
     /// Takes no memory of its own.
     pub fn encode_certificate_name<W: Writer>(&self, writer: &mut W) -> encoding::Result<()>
-        ensures { Encodes W.fault (certificate_algorithm (key_algorithm (key_of self.now))) (W.sink writer.old) result (W.sink writer.new) }
+        ensures { Encodes W.fault (certificate_algorithm (key_algorithm (key_of self.now)))
+            (W.sink writer.old) result (W.sink writer.new) }
     {
         (self.certificate_name_len() as u32).encode(writer)?;
         self.write_certificate_name(writer)
@@ -78,7 +80,8 @@ fn keeps_name(algorithm: &Algorithm) -> bool
 /// How many bytes the name of an opaque key under that algorithm has in a certificate.
 #[tactic(auto, using(crate::proofs::OpaqueNames::plain_name, crate::proofs::OpaqueNames::own_name, crate::proofs::OpaqueNames::short_name))]
 fn opaque_name_len(algorithm: &Algorithm) -> usize
-    ensures value { result ≡ length (certificate_name (Other (algorithm_name (algorithm_of algorithm.now)))) }
+    ensures value { result
+        ≡ length (certificate_name (Other (algorithm_name (algorithm_of algorithm.now)))) }
     ensures short { result ≤ 73 }
 {
     if keeps_name(algorithm) {
@@ -90,7 +93,9 @@ fn opaque_name_len(algorithm: &Algorithm) -> usize
 /// Writes the name of an opaque key under that algorithm.
 #[tactic(auto, using(sshkey_base::proofs::Writing::plain_bytes, crate::proofs::OpaqueNames::plain_name, crate::proofs::OpaqueNames::own_name))]
 fn write_opaque_name<W: Writer>(algorithm: &Algorithm, writer: &mut W) -> encoding::Result<()>
-    ensures { Encodes W.fault (bytes (certificate_name (Other (algorithm_name (algorithm_of algorithm.now))))) (W.sink writer.old) result (W.sink writer.new) }
+    ensures { Encodes W.fault
+        (bytes (certificate_name (Other (algorithm_name (algorithm_of algorithm.now)))))
+        (W.sink writer.old) result (W.sink writer.new) }
 {
     if keeps_name(algorithm) {
         return writer.write(algorithm.as_str().as_bytes());

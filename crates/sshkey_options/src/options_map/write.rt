@@ -81,7 +81,8 @@ pub(super) fn each_len(options: &OptionsMap) -> encoding::Result<u32>
 
 /// Writes the options, one behind the other.
 pub(super) fn encode_each<W: Writer>(options: &OptionsMap, writer: &mut W) -> encoding::Result<()>
-    ensures { Encodes W.fault (each plain_option (options_of options.now)) (W.sink writer.old) result (W.sink writer.new) }
+    ensures { Encodes W.fault (each plain_option (options_of options.now))
+        (W.sink writer.old) result (W.sink writer.new) }
 {
     for (name, value) in &options.0 {
         let value = OptionValue {
