@@ -4,4 +4,3 @@ pub mod Filling
 pub mod WrittenLines
 pub mod Measured
 pub mod Verified
-pub mod Files

@@ -6,4 +6,4 @@ pub returns-in_err-key : goal.returns-in_err-key
 returns-in_err-key c = let p = err_from_is_err_and c.from_residual.result c.from_residual.ensures.1 in rw (p.1, p.2) (refusal _ _ c.in_err-key.ensures)
 
 pub returns : goal.returns
-returns c = shows _ _ c.in_ok-key.field-0 c.shown_of_key.result c.in_ok-key.ensures c.shown_of_key.ensures
+returns c = shows _ _ c.in_ok-key.key c.shown_of_key.result c.in_ok-key.ensures c.shown_of_key.ensures
