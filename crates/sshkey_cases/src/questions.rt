@@ -4,11 +4,13 @@ use crate::bytes::{NO_LINE, part, parts, text};
 use crate::wire::shown;
 use crate::{keys, kinds, names, signatures, wire};
 use sshkey_base::{Algorithm, AlgorithmName, EcdsaCurve, Error, HashAlg, Mpint, Result};
+use sshkey_cert::Certificate;
 use sshkey_keys::{KeyData, Signature};
 use sshkey_kinds::{
     DsaPublicKey, EcdsaPublicKey, Ed25519PublicKey, OpaquePublicKeyBytes, RsaPublicKey,
     SkEcdsaSha2NistP256, SkEd25519,
 };
+use sshkey_options::{CertType, EndTime, OptionsMap, UnixTime};
 use sshkey_public::SshSig;
 use sshkey_tool::run;
 use std::alloc::Global;
@@ -134,6 +136,17 @@ fn answer_of_keys(alloc: Global, question: &str, parts: &[Vec<u8>]) -> Result<St
         "signature-of-bytes" => signatures::made(alloc, parts),
         "ssh-signature" => wire::whole::<SshSig>(alloc, bytes),
         "rising-signatures" => wire::rising::<Signature>(alloc, parts),
+        _ => answer_of_certificates(alloc, question, bytes),
+    }
+}
+
+fn answer_of_certificates(alloc: Global, question: &str, bytes: &[u8]) -> Result<String> {
+    match question {
+        "options" => wire::whole::<OptionsMap>(alloc, bytes),
+        "certificate-type" => wire::whole::<CertType>(alloc, bytes),
+        "time" => wire::whole::<UnixTime>(alloc, bytes),
+        "end-time" => wire::whole::<EndTime>(alloc, bytes),
+        "certificate" => wire::whole::<Certificate>(alloc, bytes),
         _ => Err(NO_LINE),
     }
 }

@@ -2,3 +2,4 @@ pub mod CertificateFields
 pub mod NormalFits
 pub mod Given
 pub mod Signing
+pub mod Lines

@@ -4,3 +4,4 @@ pub mod Needs
 pub mod CertificateValues
 pub mod Validity
 pub mod Signing
+pub mod Lines

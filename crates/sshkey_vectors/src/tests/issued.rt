@@ -1,6 +1,7 @@
 //! Certificates that a builder makes: their bytes, their windows, and what a builder refuses.
 
-use crate::{AcceptAll, Fixed, RefuseAll};
+use crate::{AcceptAll, Count, Fixed, RefuseAll};
+use rand_core::Rng;
 use sshkey_base::certificate::Field;
 use sshkey_base::{Error, HashAlg};
 use sshkey_builder::Builder;
@@ -173,4 +174,19 @@ fn unnamed(alloc: Global) -> Result<Certificate, Error> {
 fn a_builder_is_told_once_and_told_whom(rt: HostRuntime) {
     assert!(rt; second_serial(rt.alloc()) == Err(Error::CertificateFieldInvalid(Field::Serial)));
     assert!(rt; unnamed(rt.alloc()) == Err(Error::CertificateFieldInvalid(Field::ValidPrincipals)));
+}
+
+/// The nonce of a certificate whose builder drew it, and the first byte drawn behind it.
+fn drawn(alloc: Global) -> Result<(Certificate, u64), Error> {
+    let mut count = Count::new();
+    let mut builder = Builder::new_with_random_nonce(alloc, &mut count, KEY, 10, 20)?;
+    builder.all_principals_valid()?;
+    Ok((builder.sign(alloc, &signer())?, count.next_u64()))
+}
+
+#[test]
+fn a_random_nonce_is_the_next_16_bytes(rt: HostRuntime) {
+    let nonce = b"\x00\x01\x02\x03\x04\x05\x06\x07\x08\x09\x0a\x0b\x0c\x0d\x0e\x0f";
+    assert!(rt; matches!(drawn(rt.alloc()),
+        Ok((certificate, next)) if certificate.nonce() == nonce && next == 0x1716_1514_1312_1110));
 }
