@@ -1,0 +1,3 @@
+pub mod FixedWidth
+pub mod PrivateHalves
+pub mod SameParts
