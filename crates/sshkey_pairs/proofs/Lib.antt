@@ -1,3 +1,3 @@
 pub mod FixedWidth
-pub mod PrivateHalves
-pub mod SameParts
+pub mod Halves
+pub mod SignedScalars

@@ -16,7 +16,6 @@ use Rattle.sshkey_pairs.specs.declared.ed25519.Ed25519Keypair.{Ed25519Keypair}
 use Rattle.sshkey_pairs.specs.declared.sk.SkEcdsaSha2NistP256.{SkEcdsaSha2NistP256}
 use Rattle.sshkey_pairs.specs.declared.sk.SkEd25519 as sk
 use Rattle.sshkey_pairs.specs.declared.opaque.OpaqueKeypair.{OpaqueKeypair}
-use Rattle.sshkey_pairs.specs.declared.opaque.OpaqueKeypairBytes.{OpaqueKeypairBytes}
 use Rattle.sshkey_pairs.specs.PrivateHalves.{dsa_private_of, ecdsa_private_of, ed25519_private_of, opaque_private_of, rsa_private_of, held_of}
 
 abbrev pub dsa_pair_of : DsaKeypair → KeyPair
@@ -59,7 +58,3 @@ sk_ed25519_pair_of k = SkEd25519Pair (record { key = (sk_ed25519_key (sk_ed25519
 
 abbrev pub opaque_pair_of : OpaqueKeypair → KeyPair
 opaque_pair_of k = OpaquePair (algorithm_name (algorithm_of k.public.algorithm)) k.public.key (opaque_private_of k.private)
-
--- the public and the private bytes, of whichever name
-abbrev pub opaque_bytes_of : OpaqueKeypairBytes → List ℕ × List ℕ
-opaque_bytes_of k = (k.public, opaque_private_of k.private)
