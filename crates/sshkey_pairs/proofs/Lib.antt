@@ -1,3 +1,4 @@
 pub mod FixedWidth
 pub mod Halves
+pub mod SameReaders
 pub mod SignedScalars

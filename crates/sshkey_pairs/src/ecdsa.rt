@@ -36,7 +36,7 @@ impl<const SIZE: usize> EcdsaPrivateKey<SIZE> {
 
     /// The bytes of the scalar.
     pub fn into_bytes(self) -> [u8; SIZE]
-        ensures { result ≡ ecdsa_private_of self }
+        ensures { result ≡ ecdsa_private_of self.entry }
     {
         self.bytes
     }
@@ -150,7 +150,6 @@ pub enum EcdsaKeypair {
 impl EcdsaKeypair {
     ghost use Rattle.sshkey_base.specs.Names.{algorithm_of};
     ghost use Rattle.sshkey_model.specs.KeyPairs.{pair_algorithm, public_half, private_bytes};
-    ghost use Rattle.sshkey_model.specs.Points.{curve_eq};
     ghost use Rattle.sshkey_kinds.specs.EcdsaPublicKey.{ecdsa_key_of};
     ghost use Rattle.sshkey_pairs.specs.Pairs.{ecdsa_curve_of};
 
@@ -196,18 +195,6 @@ impl EcdsaKeypair {
             EcdsaKeypair::NistP256 { private, .. } => &private.bytes,
             EcdsaKeypair::NistP384 { private, .. } => &private.bytes,
             EcdsaKeypair::NistP521 { private, .. } => &private.bytes,
-        }
-    }
-
-    /// Whether the pair is on that curve.
-    pub(crate) fn is_on(&self, curve: EcdsaCurve) -> bool
-        ensures { result ≡ curve_eq (ecdsa_curve_of self.now) (curve_of curve) }
-    {
-        match (self, curve) {
-            (EcdsaKeypair::NistP256 { .. }, EcdsaCurve::NistP256) => true,
-            (EcdsaKeypair::NistP384 { .. }, EcdsaCurve::NistP384) => true,
-            (EcdsaKeypair::NistP521 { .. }, EcdsaCurve::NistP521) => true,
-            _ => false,
         }
     }
 }

@@ -176,7 +176,7 @@ fn ecdsa_from<R: Reader>(
     ensures asks { Asks cause (NeedsPair (Ecdsa (curve_of curve))) (R.source reader.old) result }
 {
     let pair = EcdsaKeypair::decode(alloc, reader)?;
-    if !pair.is_on(curve) {
+    if !pair.public_key().is_on(curve) {
         return Err(Error::AlgorithmUnknown);
     }
     Ok(KeypairData::Ecdsa(pair))
