@@ -133,11 +133,7 @@ impl Decode for KeypairData {
 }
 
 /// The pair under that algorithm.
-fn pair_from<R: Reader>(
-    alloc: Global,
-    reader: &mut R,
-    algorithm: Algorithm,
-) -> Result<KeypairData>
+fn pair_from<R: Reader>(alloc: Global, reader: &mut R, algorithm: Algorithm) -> Result<KeypairData>
     ensures gives { Gives pair_of cause (some_at (steps_at (algorithm_of algorithm))) (R.source reader.old) result (R.source reader.new) }
     ensures later { Later (R.source reader.old) (R.source reader.new) }
     ensures asks { Asks cause (NeedsPair (algorithm_of algorithm)) (R.source reader.old) result }
@@ -166,11 +162,7 @@ fn dsa_from<R: Reader>(alloc: Global, reader: &mut R) -> Result<KeypairData>
 
 /// An ECDSA pair on that curve. `AlgorithmUnknown` for another curve, after the scalar was read.
 #[tactic(auto, using(sshkey_base::proofs::Steps::steps))]
-fn ecdsa_from<R: Reader>(
-    alloc: Global,
-    reader: &mut R,
-    curve: EcdsaCurve,
-) -> Result<KeypairData>
+fn ecdsa_from<R: Reader>(alloc: Global, reader: &mut R, curve: EcdsaCurve) -> Result<KeypairData>
     ensures gives { Gives pair_of cause (some_at (steps_at (Ecdsa (curve_of curve)))) (R.source reader.old) result (R.source reader.new) }
     ensures later { Later (R.source reader.old) (R.source reader.new) }
     ensures asks { Asks cause (NeedsPair (Ecdsa (curve_of curve))) (R.source reader.old) result }
