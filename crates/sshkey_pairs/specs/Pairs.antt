@@ -13,8 +13,8 @@ use Rattle.sshkey_pairs.specs.declared.rsa.RsaKeypair.{RsaKeypair}
 use Rattle.sshkey_pairs.specs.declared.ecdsa.EcdsaKeypair.{EcdsaKeypair}
 use Rattle.sshkey_pairs.specs.declared.ecdsa.EcdsaKeypair.TheVariants as on
 use Rattle.sshkey_pairs.specs.declared.ed25519.Ed25519Keypair.{Ed25519Keypair}
-use Rattle.sshkey_pairs.specs.declared.sk.SkEcdsaSha2NistP256.{SkEcdsaSha2NistP256}
-use Rattle.sshkey_pairs.specs.declared.sk.SkEd25519 as sk
+use Rattle.sshkey_pairs.specs.declared.sk_ecdsa.SkEcdsaSha2NistP256.{SkEcdsaSha2NistP256}
+use Rattle.sshkey_pairs.specs.declared.sk_ed25519.SkEd25519 as sk
 use Rattle.sshkey_pairs.specs.declared.opaque.OpaqueKeypair.{OpaqueKeypair}
 use Rattle.sshkey_pairs.specs.PrivateHalves.{dsa_private_of, ecdsa_private_of, ed25519_private_of, opaque_private_of, rsa_private_of, held_of}
 

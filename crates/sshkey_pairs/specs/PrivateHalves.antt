@@ -7,7 +7,7 @@ use Rattle.sshkey_pairs.specs.declared.ecdsa.EcdsaPrivateKey.{EcdsaPrivateKey}
 use Rattle.sshkey_pairs.specs.declared.ed25519.Ed25519PrivateKey.{Ed25519PrivateKey}
 use Rattle.sshkey_pairs.specs.declared.opaque.OpaquePrivateKeyBytes.{OpaquePrivateKeyBytes}
 use Rattle.sshkey_pairs.specs.declared.rsa.RsaPrivateKey.{RsaPrivateKey}
-use Rattle.sshkey_pairs.specs.declared.sk.Held.{Held}
+use Rattle.sshkey_pairs.specs.declared.held.Held.{Held}
 
 abbrev pub dsa_private_of : DsaPrivateKey → List ℕ
 dsa_private_of k = mpint_of k.inner

@@ -168,12 +168,7 @@ impl EcdsaKeypair {
     pub fn algorithm(&self) -> Algorithm
         ensures { algorithm_of result ≡ pair_algorithm (ecdsa_pair_of self.now) }
     {
-        let curve = match self {
-            EcdsaKeypair::NistP256 { .. } => EcdsaCurve::NistP256,
-            EcdsaKeypair::NistP384 { .. } => EcdsaCurve::NistP384,
-            EcdsaKeypair::NistP521 { .. } => EcdsaCurve::NistP521,
-        };
-        Algorithm::Ecdsa { curve }
+        self.public_key().algorithm()
     }
 
     /// The public key.

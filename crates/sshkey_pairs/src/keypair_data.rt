@@ -19,7 +19,8 @@ use crate::ecdsa::EcdsaKeypair;
 use crate::ed25519::Ed25519Keypair;
 use crate::opaque::{OpaqueKeypair, OpaquePrivateKeyBytes};
 use crate::rsa::RsaKeypair;
-use crate::sk::{SkEcdsaSha2NistP256, SkEd25519};
+use crate::sk_ecdsa::SkEcdsaSha2NistP256;
+use crate::sk_ed25519::SkEd25519;
 use sshkey_base::{
     Algorithm, Decode, EcdsaCurve, Encode, Error, Reader, Result, Writer, encode_both, encoding,
 };

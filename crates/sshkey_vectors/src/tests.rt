@@ -5,8 +5,8 @@
 mod certificates;
 mod certified;
 mod errors;
-mod key_files;
 mod issued;
+mod key_files;
 mod keys;
 mod kinds;
 mod laws;

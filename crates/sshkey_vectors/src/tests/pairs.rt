@@ -51,9 +51,12 @@ fn is_written(alloc: Global, string: &str, wanted: &str) -> bool {
 }
 
 const LOW: &str = "000000200101010101010101010101010101010101010101010101010101010101010101";
+
 const LOW_BEHIND_ZERO: &str =
     "00000021000101010101010101010101010101010101010101010101010101010101010101";
+
 const HIGH: &str = "00000020ffffffffffffffffffffffffffffffffffffffffffffffffffffffffffffffff";
+
 const HIGH_BEHIND_ZERO: &str =
     "0000002100ffffffffffffffffffffffffffffffffffffffffffffffffffffffffffffffff";
 
