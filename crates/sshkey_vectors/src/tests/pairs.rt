@@ -95,8 +95,8 @@ fn not_known(alloc: Global) -> Result<bool> {
     let ciphertext = encode_vec(alloc, &encrypted)?;
     Ok(
         is_named
-            && written.as_slice() == b"\0\0\0\x02ab\0\0\0\x03cde"
-            && ciphertext.as_slice() == b"secret"
+            && written.as_slice() == b"\0\0\0\x02ab\0\0\0\x03cde".as_slice()
+            && ciphertext.as_slice() == b"secret".as_slice()
             && encrypted.checkint() == 0
             && encrypted.to_public(alloc)?.is_none(),
     )
