@@ -1,6 +1,6 @@
 -- A pair is read as the model reads it.
 use Rattle.std.proofs.Common.{◌≡◌, ℕ, List, Option, Result, Ok, Err, refl, ◌∙◌}
-use Rattle.sshkey_model.specs.Reading.{◌>>=◌, Front}
+use Rattle.sshkey_model.specs.Reading.{Front}
 use Rattle.sshkey_model.specs.Grammar.{value_at}
 use Rattle.sshkey_model.specs.Names.{Algorithm}
 use Rattle.sshkey_model.specs.KeyPairs.{KeyPair, pair_at}

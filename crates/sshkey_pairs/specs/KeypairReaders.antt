@@ -1,5 +1,5 @@
 -- The reader of pairs of any kind, behind their names.
-use Rattle.std.proofs.Common.{◌≡◌, ℕ, Bool, true, false, cond, Option, Some, None, List, ◌++◌, Result, Ok, Err, refl, sym, ap, subst, ◌∙◌}
+use Rattle.std.proofs.Common.{◌≡◌, ℕ, Bool, true, false, cond, Option, Some, None, List, ◌++◌, Result, Ok, Err, refl, sym, subst}
 use Rattle.sshkey_model.specs.Reading.{Fault, AlgorithmUnknown, ◌>>=◌, Front, checked_at}
 use Rattle.sshkey_model.specs.Grammar.{IsGrammar, SpellsWith, value_at}
 use Rattle.sshkey_model.specs.Names.{Algorithm, Curve, Dsa, Ecdsa, Ed25519, Rsa, SkEcdsa, SkEd25519, Other, algorithm_from, algorithm_at}

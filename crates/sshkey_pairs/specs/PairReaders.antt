@@ -1,5 +1,5 @@
 -- The readers of pairs without the choices of their spelling, which take exactly the spellings.
-use Rattle.std.specs.Prelude.{◌≡◌, ℕ, List, None, Result, Ok, Err}
+use Rattle.std.specs.Prelude.{◌≡◌, ℕ, List, Result, Ok, Err}
 use Rattle.sshkey_model.specs.Reading.{Fault, Length, ◌>>=◌, Front}
 use Rattle.sshkey_model.specs.Grammar.{IsGrammar, Spells, SpellsWith, value_at}
 use Rattle.sshkey_model.specs.Names.{Algorithm}

@@ -1,5 +1,4 @@
 -- What each kind of pair means.
-use Rattle.std.specs.Prelude.{ℕ, List}
 use Rattle.sshkey_model.specs.Names.{Curve, Nistp256, Nistp384, Nistp521, algorithm_name}
 use Rattle.sshkey_model.specs.KeyPairs.{KeyPair, DsaPair, EcdsaPair, Ed25519Pair, RsaPair, SecurityPrivate, SkEcdsaPair, SkEd25519Pair, OpaquePair}
 use Rattle.sshkey_base.specs.Names.{algorithm_of}

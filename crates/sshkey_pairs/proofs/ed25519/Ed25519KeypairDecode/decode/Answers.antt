@@ -1,5 +1,4 @@
 use Rattle.std.proofs.Common.{◌≡◌, refl, length, rules, ◌∙◌}
-use Rattle.sshkey_model.specs.Reading.{Crypto}
 use Rattle.sshkey_pairs.specs.PairReaders.{ed25519_pair_at, ed25519_at}
 use Rattle.sshkey_pairs.proofs.Halves.{halves_differ, halves_same}
 use Rattle.sshkey_pairs.proofs.ed25519.Ed25519KeypairDecode.decode.Goals as goal
