@@ -8,6 +8,7 @@
 //! comment. The public key is that of `KEY.pub`. All in hexadecimal digits.
 
 /// A pair, and its public half.
+#[derive(Clone, Copy)]
 pub(crate) struct MadePair {
     /// The pair behind its name, as OpenSSH wrote it.
     pub(crate) pair: &'static str,
