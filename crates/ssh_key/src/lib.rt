@@ -7,6 +7,7 @@
 pub mod certificate;
 pub mod encoding;
 pub mod laws;
+pub mod private;
 pub mod public;
 
 pub use sshkey_base::{Algorithm, AlgorithmName, EcdsaCurve, Error, HashAlg, Mpint, Result};
