@@ -2,7 +2,7 @@
 
 ghost use Rattle.std.specs.Prelude.{◌≡◌, ◌+◌, ◌*◌, ◌^◌, List, ℕ};
 ghost use Rattle.sshkey_base.specs.Leaves.{SpellsString, string_grammar};
-ghost use Rattle.sshkey_base.specs.Readers.{string_at};
+ghost use Rattle.sshkey_model.specs.Reading.{string_at};
 ghost use Rattle.sshkey_model.specs.KeyPairs.{OpaquePair, pair, Plain};
 ghost use Rattle.sshkey_model.specs.Names.{algorithm_name};
 ghost use Rattle.sshkey_model.specs.Texts.{string};
