@@ -42,7 +42,7 @@ impl OptionsMap {
     /// Refused only when out of memory.
     pub fn from_pairs(alloc: Global, pairs: Vec<(String, String)>) -> Result<OptionsMap>
         ensures value { IfOk result (λ m. options_of m ≡ with_options (map option_of pairs.items) []) }
-        ensures memory { IfErr result (λ e. e ≡ wide.Memory) }
+        ensures memory { IfErr result (λ e. e ≡ Error.Memory) }
     {
         let mut options = OptionsMap::new(alloc);
         for (name, value) in pairs {
