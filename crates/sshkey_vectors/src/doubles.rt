@@ -176,7 +176,7 @@ impl Rng for Count {
     ghost stream = { stream_of (steps_u64_low (λ s. (s, (s + 0x0808080808080808) % 2 ^ 64))) };
 
     fn next_u32(&mut self) -> u32 {
-        self.next_word() as u32
+        (self.next_word() % 0x1_0000_0000) as u32
     }
 
     fn next_u64(&mut self) -> u64 {

@@ -68,8 +68,7 @@ fn refusal(alloc: Global, line: &str) -> Option<Error> {
 
 #[test]
 fn lines_of_keys_are_none_of_certificates(rt: HostRuntime) {
-    let key =
-        "ssh-ed25519 AAAAC3NzaC1lZDI1NTE5AAAAILM+rvN+ot98qgEN796jTiQfZfG1KaT0PtFDJ/XFSqti";
+    let key = "ssh-ed25519 AAAAC3NzaC1lZDI1NTE5AAAAILM+rvN+ot98qgEN796jTiQfZfG1KaT0PtFDJ/XFSqti";
     let label = Some(Error::Encoding(encoding::Error::Label));
     assert!(rt; refusal(rt.alloc(), key) == label);
     assert!(rt; ssh_key::PublicKey::from_openssh(rt.alloc(), LINE).is_err());

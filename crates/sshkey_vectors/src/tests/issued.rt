@@ -187,6 +187,8 @@ fn drawn(alloc: Global) -> Result<(Certificate, u64), Error> {
 #[test]
 fn a_random_nonce_is_the_next_16_bytes(rt: HostRuntime) {
     let nonce = b"\x00\x01\x02\x03\x04\x05\x06\x07\x08\x09\x0a\x0b\x0c\x0d\x0e\x0f";
-    assert!(rt; matches!(drawn(rt.alloc()),
-        Ok((certificate, next)) if certificate.nonce() == nonce.as_slice() && next == 0x1716_1514_1312_1110));
+    assert!(rt;
+        matches!(drawn(rt.alloc()),
+        Ok((certificate, next)) if certificate.nonce() == nonce.as_slice() && next == 0x1716_1514_1312_1110)
+    );
 }
