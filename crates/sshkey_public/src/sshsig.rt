@@ -8,7 +8,6 @@ mod views;
 mod wire;
 
 pub(crate) use signed_data::signed_bytes;
-
 use sshkey_base::{Bytes, Error, HashAlg, Result, Text};
 use sshkey_keys::{KeyData, Signature};
 use std::alloc::Global;

@@ -39,10 +39,12 @@ fn is_written(alloc: Global, line: &str, wanted: &str) -> ssh_key::Result<bool> 
     let text = key.to_openssh(alloc)?;
     let mut bytes = Vec::new(alloc);
     write_line(key.key_data(), key.comment(), &mut bytes)?;
-    Ok(text.as_str() == wanted
-        && bytes.as_slice() == wanted.as_bytes()
-        && is_written_into(&key, wanted.len(), wanted)
-        && !is_written_into(&key, wanted.len() - 1, wanted))
+    Ok(
+        text.as_str() == wanted
+            && bytes.as_slice() == wanted.as_bytes()
+            && is_written_into(&key, wanted.len(), wanted)
+            && !is_written_into(&key, wanted.len() - 1, wanted),
+    )
 }
 
 /// Whether the line is written into so much room, and is that text.
@@ -70,7 +72,10 @@ fn lines_are_written_from_what_was_read(rt: HostRuntime) -> Result<(), Fail> {
 fn words_with_more_behind_them_are_refused(rt: HostRuntime) -> Result<(), Fail> {
     for end in ["AAAA", "A=AA", "@AAA", "====", "AA==", "="] {
         let line = format!(in rt.alloc(); "ssh-ed25519 {WORD}{end}")?;
-        assert!(rt; PublicKey::from_openssh(rt.alloc(), line.as_str()).is_err(), "{end}");
+        assert!(rt;
+            PublicKey::from_openssh(rt.alloc(), line.as_str()).is_err(),
+            "{end}"
+        );
     }
     Ok(())
 }

@@ -42,7 +42,10 @@ fn a_message_is_signed(rt: HostRuntime) -> Result<(), Fail> {
     assert!(rt; signature.to_bytes(alloc)?.as_slice() == MADE);
     assert!(rt; SshSig::from_bytes(alloc, MADE)? == signature);
     let key = key_of(K, alloc);
-    assert!(rt; key.verify(alloc, "file", b"", &signature, &AcceptAll).is_ok());
+    assert!(rt;
+        key.verify(alloc, "file", b"", &signature, &AcceptAll)
+            .is_ok()
+    );
     let refused = key.verify(alloc, "other", b"", &signature, &AcceptAll);
     assert!(rt; matches!(refused, Err(Error::Namespace)));
     let other = key_of([1; 32], alloc);
@@ -115,7 +118,12 @@ fn other_bytes_are_refused(rt: HostRuntime) -> Result<(), Fail> {
     let magic = SshSig::from_bytes(alloc, &changed(alloc, 5, b'H')?);
     assert!(rt; matches!(magic, Err(Error::FormatEncoding)));
     let text = SshSig::from_bytes(alloc, &changed(alloc, 69, 0xff)?);
-    assert!(rt; matches!(text, Err(Error::Encoding(encoding::Error::CharacterEncoding))));
+    assert!(rt;
+        matches!(
+            text,
+            Err(Error::Encoding(encoding::Error::CharacterEncoding))
+        )
+    );
     let hash = SshSig::from_bytes(alloc, &changed(alloc, 86, b'7')?);
     assert!(rt; matches!(hash, Err(Error::Encoding(encoding::Error::Label))));
     let short = SshSig::from_bytes(alloc, &MADE[..173]);
@@ -135,11 +143,19 @@ fn is_verified(alloc: Global, file: &SignedFile) -> ssh_key::Result<bool> {
         Vec::from_slice(alloc, SIGNED)?,
         Vec::from_slice(alloc, file.signature)?,
     );
-    Ok(signature.to_bytes(alloc)?.as_slice() == file.blob
-        && key.to_openssh(alloc)?.as_str() == file.line
-        && key.verify(alloc, "file", MESSAGE, &signature, &verifier).is_ok()
-        && key.verify(alloc, "files", MESSAGE, &signature, &verifier).is_err()
-        && key.verify(alloc, "file", b"another", &signature, &verifier).is_err())
+    Ok(
+        signature.to_bytes(alloc)?.as_slice() == file.blob
+            && key.to_openssh(alloc)?.as_str() == file.line
+            && key
+                .verify(alloc, "file", MESSAGE, &signature, &verifier)
+                .is_ok()
+            && key
+                .verify(alloc, "files", MESSAGE, &signature, &verifier)
+                .is_err()
+            && key
+                .verify(alloc, "file", b"another", &signature, &verifier)
+                .is_err(),
+    )
 }
 
 #[test]
