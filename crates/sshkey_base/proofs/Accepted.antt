@@ -10,9 +10,8 @@ use Rattle.sshkey_base.proofs.Boxes.{some_behind}
 use Rattle.sshkey_base.specs.declared.encoding.Error.{Error}
 use Rattle.sshkey_base.specs.declared.encoding.Error.TheVariants as encoding
 use Rattle.sshkey_base.specs.Causes.{Cause, NoMemory, encoding_cause}
-use Rattle.sshkey_base.specs.Source.{Source, told}
-use Rattle.sshkey_base.specs.Reading.{Gives, GivesWhole, Reads, IsRefused}
-use Rattle.sshkey_base.specs.Accepting.{AcceptsFront, AcceptsWhole}
+use Rattle.sshkey_base.specs.Source.{Source, announced_len}
+use Rattle.sshkey_base.specs.Reading.{Gives, GivesWhole, Reads, IsRefused, AcceptsFront, AcceptsWhole}
 
 -- nothing stands behind what ended
 ended : {Y : Type 0} (y : Y) (rest : List ℕ) (z : Y) → end_of y rest ≡ Ok z → (rest ≡ []) × (y ≡ z)
@@ -55,14 +54,14 @@ module _ {X Y E : Type 0} (means : X → Y) (cause : E → Cause) (read : Front 
   unfinished true x e d is = absurd cc
   unfinished false x e d is = (refl, cc)
 
-  pub finish_refused : (s t : Source) (x : X) (narrow : Error) (e : E) → Reads means read s x t → Err narrow ≡ cond (eqb (told t) 0) (Ok x) (Err (encoding.TrailingData (told t))) → cause e ≡ encoding_cause narrow → IsRefused s.missing (cause e) (whole read s.left)
+  pub finish_refused : (s t : Source) (x : X) (narrow : Error) (e : E) → Reads means read s x t → Err narrow ≡ cond (eqb (announced_len t) 0) (Ok x) (Err (encoding.TrailingData (announced_len t))) → cause e ≡ encoding_cause narrow → IsRefused s.missing (cause e) (whole read s.left)
   finish_refused s t x narrow e h finished says = record {
     fault = λ other sound.
-        let u = unfinished (eqb (told t) 0) x narrow (encoding.TrailingData (told t)) finished in
-        let some : 0 < told t = omega (arith, eqb-false (told t) 0 u.0) in
+        let u = unfinished (eqb (announced_len t) 0) x narrow (encoding.TrailingData (announced_len t)) finished in
+        let some : 0 < announced_len t = omega (arith, eqb-false (announced_len t) 0 u.0) in
         let none : t.missing ≡ 0 = h.missing ∙ sound in
-        let len : length t.left ≡ told t = omega arith in
-        rw (h.value, some_behind (means x) t.left (told t) len some) (says ∙ ap encoding_cause u.1);
+        let len : length t.left ≡ announced_len t = omega arith in
+        rw (h.value, some_behind (means x) t.left (announced_len t) len some) (says ∙ ap encoding_cause u.1);
   }
 
   -- what is not finished is not out of memory

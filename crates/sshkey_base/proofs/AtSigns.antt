@@ -5,7 +5,7 @@ use denote.Ref.{Bor}
 use Rattle.sshkey_model.specs.Names.{at_sign, cut}
 use Rattle.sshkey_model.specs.CertificateNames.{suffix}
 use Rattle.sshkey_model.proofs.CertificateNameReaders.{suffix_before}
-use Rattle.sshkey_base.specs.OwnNames.{IsCutOf}
+use Rattle.sshkey_base.specs.AlgorithmName.{IsCutOf}
 
 -- no at sign stands in the text
 abbrev pub HasNone : List ℕ → Type 0

@@ -7,7 +7,7 @@ use Rattle.sshkey_model.specs.Parts.{InRange, flat}
 use Rattle.sshkey_model.specs.Reading.{Fault, ◌>>=◌, Front, whole, number_at, box_at}
 use Rattle.sshkey_model.specs.Grammar.{IsGrammar}
 use Rattle.sshkey_model.proofs.CombinedReaders.{bind_ok, ok_is, fits_number}
-use Rattle.sshkey_base.specs.Accepting.{SpellsBoxed}
+use Rattle.sshkey_base.specs.Reading.{SpellsBoxed}
 use Rattle.sshkey_base.specs.Leaves.{number32_grammar, number32_normal}
 use Rattle.sshkey_base.proofs.Accepted.{whole_spelled, spelled_whole}
 

@@ -10,7 +10,7 @@ use Rattle.sshkey_model.specs.Reading.{Length, TrailingData, ◌>>=◌, Front, e
 use Rattle.sshkey_base.specs.declared.encoding.Error.{Error}
 use Rattle.sshkey_base.specs.declared.encoding.Error.TheVariants as encoding
 use Rattle.sshkey_base.specs.Causes.{Cause, NoMemory, Faulty, encoding_cause}
-use Rattle.sshkey_base.specs.Source.{Outer, Source, IsSound, told, part}
+use Rattle.sshkey_base.specs.Source.{Outer, Source, IsSound, announced_len, part}
 use Rattle.sshkey_base.specs.Reading.{Reads, Refuses, IsRefused, Gives, GivesAlways, LengthPast}
 use Rattle.sshkey_base.specs.Needs.{Asks, NeedsBoxed}
 use Rattle.sshkey_base.specs.Nested.{ReadsBy, AsksBy, Calls, Past, Trails, Finishes, NoLength, Prefixed, PastIs}
@@ -39,10 +39,10 @@ module _ {X Y : Type 0} (means : X → Y) (read : Front Y) (s t : Source) (n : �
   unfolding box_at
   box_within a le = rw (a.value, le-ltb _ _ le) refl
 
-  box_too_long : Reads (λ k. k) (number_at w32) s n t → told t < n → Refuses s.missing (Faulty Length) (box_at (whole read) s.left)
+  box_too_long : Reads (λ k. k) (number_at w32) s n t → announced_len t < n → Refuses s.missing (Faulty Length) (box_at (whole read) s.left)
   box_too_long a lt = record { met = Length; is = box_past a (omega arith); same = λ _. refl }
 
-  box_inner : (c : Cause) → Reads (λ k. k) (number_at w32) s n t → n ≤ told t → IsRefused (n - length t.left) c (read (take n t.left)) → IsRefused s.missing c (box_at (whole read) s.left)
+  box_inner : (c : Cause) → Reads (λ k. k) (number_at w32) s n t → n ≤ announced_len t → IsRefused (n - length t.left) c (read (take n t.left)) → IsRefused s.missing c (box_at (whole read) s.left)
   box_inner c a le r = record {
     fault = λ other sound.
         let m = a.missing in
@@ -50,14 +50,14 @@ module _ {X Y : Type 0} (means : X → Y) (read : Front Y) (s t : Source) (n : �
         rw (box_within a (omega arith), h.1) h.2;
   }
 
-  box_inner_always : (c : Cause) → Reads (λ k. k) (number_at w32) s n t → n ≤ told t → Refuses (n - length t.left) c (read (take n t.left)) → Refuses s.missing c (box_at (whole read) s.left)
+  box_inner_always : (c : Cause) → Reads (λ k. k) (number_at w32) s n t → n ≤ announced_len t → Refuses (n - length t.left) c (read (take n t.left)) → Refuses s.missing c (box_at (whole read) s.left)
   box_inner_always c a le h =
       elim (cases_lt (length t.left) n) [
         | inl lt ↦ record { met = Length; is = box_past a lt; same = λ sound. let m = a.missing in absurd (omega arith) }
         | inr ge ↦ record { met = h.met; is = box_within a ge ∙ rw h.is refl; same = λ _. h.same (omega arith) }
       ]
 
-  box_trailing : (name other rest : ℕ) (u : Source) (x : X) → Reads (λ k. k) (number_at w32) s n t → n ≤ told t → Reads means read (part name n t) x (part other rest u) → 0 < rest → Refuses s.missing (Faulty (TrailingData rest)) (box_at (whole read) s.left)
+  box_trailing : (name other rest : ℕ) (u : Source) (x : X) → Reads (λ k. k) (number_at w32) s n t → n ≤ announced_len t → Reads means read (part name n t) x (part other rest u) → 0 < rest → Refuses s.missing (Faulty (TrailingData rest)) (box_at (whole read) s.left)
   box_trailing name other rest u x a le h lt =
       elim (cases_lt (length t.left) n) [
         | inl short ↦ record { met = Length; is = box_past a short; same = λ sound. let m = a.missing in absurd (omega arith) }

@@ -6,13 +6,12 @@ use denote.Ref.{Bor}
 use Rattle.sshkey_model.specs.Parts.{bytes, ◌&◌, flat}
 use Rattle.sshkey_model.specs.Names.{Other, at_sign, cut, are_ascii, is_split, is_own_name}
 use Rattle.sshkey_model.specs.CertificateNames.{suffix, with_suffix, certificate_name}
-use Rattle.sshkey_model.proofs.CertificateNameReaders.{cut_parts}
-use Rattle.sshkey_base.specs.OwnNames.{IsCutOf, AreParts, IsNoCertificateType, IsNoCertificateName, HasCertificateName, are_own_parts}
+use Rattle.sshkey_model.proofs.CertificateNameReaders.{cut_parts, cut_left}
+use Rattle.sshkey_base.specs.AlgorithmName.{IsCutOf, AreParts, IsNoCertificateType, IsNoCertificateName, HasCertificateName, are_own_parts}
 use Rattle.sshkey_base.specs.Causes.{cause}
 use Rattle.sshkey_base.specs.declared.error.Error.{Error}
 use Rattle.sshkey_base.specs.declared.error.Error.TheVariants as wide
 use Rattle.sshkey_base.specs.declared.encoding.Error.TheVariants as encoding
-use Rattle.sshkey_model.proofs.CertificateNameReaders.{cut_left}
 use Rattle.sshkey_base.proofs.AtSigns.{cut-at, cut-suffixed}
 
 split_some : (o : Option (List ℕ × List ℕ)) → is_split o ≡ true → (p : List ℕ × List ℕ) × (o ≡ Some p)

@@ -4,11 +4,11 @@ use Rattle.std.specs.List.{AllByRecursion}
 use Rattle.std.proofs.lemmas.Bool.{and_parts}
 use Rattle.std.proofs.lemmas.List.{take_at, drop_at, take-append-drop, length-append}
 use Rattle.std.proofs.lemmas.Slice.Eq.{bytes_eq-Decides}
-use Rattle.sshkey_model.specs.Parts.{Any, bytes}
 use Rattle.sshkey_model.specs.Reading.{Fault, Label, string_at}
 use Rattle.sshkey_model.specs.Names.{Nistp256, Nistp384, Nistp521, Algorithm, Dsa, Ecdsa, Ed25519, Rsa, SkEcdsa, SkEd25519, Other, algorithm_name, algorithms, named, are_ascii, at_sign, cut, is_split, is_own_name, is_other_name, algorithm_or}
 use Rattle.sshkey_model.specs.CertificateNames.{IsCertified, suffix, certificate_name, certified, without_suffix, certified_or, certified_from, certificate_algorithm_at}
-use Rattle.sshkey_model.proofs.CombinedReaders.{Checks, chosen}
+use Rattle.sshkey_model.proofs.CertificateNameReaders.{certified_checks}
+use Rattle.sshkey_model.proofs.CombinedReaders.{chosen}
 use Rattle.sshkey_model.proofs.NameReaders.{found}
 use Rattle.std.specs.Str.{IsUtf8}
 use Rattle.sshkey_base.specs.Causes.{Cause, Faulty}
@@ -16,7 +16,7 @@ use Rattle.sshkey_base.specs.Labels.{label_at}
 use Rattle.sshkey_base.specs.Reading.{Reads, IsRefused}
 use Rattle.sshkey_base.specs.Source.{Source}
 use Rattle.sshkey_base.proofs.Labels.{text_refused}
-use Rattle.sshkey_base.specs.OwnNames.{HasCertificateName}
+use Rattle.sshkey_base.specs.AlgorithmName.{HasCertificateName}
 use Rattle.sshkey_base.proofs.AtSigns.{cut-at, cut-suffixed}
 use Rattle.sshkey_base.proofs.CertificateTypes.{parts_of, are_parts, are_ascii-append, certificate_name-cut}
 
@@ -89,35 +89,6 @@ pub certified_unknown : (t : List ℕ) → named certificate_name certified t �
 certified_unknown t fresh none = unknown_is t (certified_from t) none (certified_is t fresh)
 
 -- ---- names in certificates as labels
-
-certified_takes : (o : Option Algorithm) (t : List ℕ) (a : Algorithm) → named certificate_name certified t ≡ o → certified_from t ≡ Ok a → IsCertified a × (certificate_name a ≡ t)
-certified_takes (Some x) t a from e =
-    let is : Ok x ≡ Ok a = ap (λ (o : Option Algorithm). certified_or o t) (sym from) ∙ e in
-    subst (λ (z : Algorithm). IsCertified z × (certificate_name z ≡ t)) (cc is) (found IsCertified certificate_name certified t x (assumption) from)
-certified_takes None t a from e =
-    let is : IsStripped t (Ok a) = subst (IsStripped t) e (certified_is t from) in
-    subst (λ (z : Algorithm). IsCertified z × (certificate_name z ≡ t)) (sym is.1) ((is.2, rw is.3.spelled from), is.3.spelled)
-
-certified_again : (a : Algorithm) → IsCertified a → certified_from (certificate_name a) ≡ Ok a
-unfolding named is_other_name
-certified_again Dsa is = refl
-certified_again (Ecdsa Nistp256) is = refl
-certified_again (Ecdsa Nistp384) is = refl
-certified_again (Ecdsa Nistp521) is = refl
-certified_again Ed25519 is = refl
-certified_again (Rsa None) is = refl
-certified_again (Rsa (Some h)) is = absurd is
-certified_again SkEcdsa is = refl
-certified_again SkEd25519 is = refl
-certified_again (Other n) is =
-    let own = (and_parts (is_own_name n) (is_none (named algorithm_name algorithms n)) is.0).0 in
-    certified_other (certificate_name (Other n)) n is.1 (record { own = own; spelled = refl })
-
-pub certified_checks : Checks Any bytes IsCertified (λ a. bytes (certificate_name a)) certified_from
-certified_checks = record {
-  takes = λ t a was e. let is = certified_takes (named certificate_name certified t) t a refl e in (is.0, ap bytes (sym is.1));
-  again = λ a is. (certificate_name a, tt, certified_again a is, refl);
-}
 
 other_ascii : (n : List ℕ) → is_other_name n ≡ true → are_ascii (certificate_name (Other n)) ≡ true
 unfolding is_other_name is_own_name

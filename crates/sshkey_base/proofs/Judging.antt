@@ -1,7 +1,7 @@
 -- A value that is read and then judged.
 use Rattle.std.proofs.Common.{◌≡◌, Result, Ok, Err, refl, ◌∙◌}
 use Rattle.sshkey_model.specs.Reading.{Fault, ◌>>=◌, Front, checked_at}
-use Rattle.sshkey_base.specs.Answering.{AnswersAlways}
+use Rattle.sshkey_base.specs.Answers.{AnswersAlways}
 use Rattle.sshkey_base.specs.Causes.{Cause}
 use Rattle.sshkey_base.specs.Source.{Source}
 use Rattle.sshkey_base.specs.Reading.{Reads, Gives}

@@ -7,6 +7,7 @@ pub mod Boxes
 pub mod Accepted
 pub mod BoxGrammars
 pub mod Writing
+pub mod Tails
 pub mod Labels
 pub mod Utf8
 pub mod AtSigns
@@ -15,7 +16,9 @@ pub mod CertificateTypes
 pub mod OtherNames
 pub mod CertifiedNames
 pub mod PlainParts
+pub mod WholeStrings
 pub mod Judging
 pub mod WrittenLists
 pub mod ReadLists
+pub mod MappedBoxes
 pub mod ShortStrings

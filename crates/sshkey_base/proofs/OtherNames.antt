@@ -10,8 +10,8 @@ use Rattle.sshkey_base.specs.Causes.{Cause, NoMemory, cause}
 use Rattle.sshkey_base.specs.Labels.{LooksUp}
 use Rattle.sshkey_base.specs.declared.encoding.Error as narrow
 use Rattle.sshkey_base.specs.declared.encoding.Error.TheVariants as encoding
-use Rattle.sshkey_base.specs.Naming.{IsUnknown, Names}
-use Rattle.sshkey_base.specs.OwnNames.{own_name_from}
+use Rattle.sshkey_base.specs.Answers.{IsUnknown, Names}
+use Rattle.sshkey_base.specs.AlgorithmName.{own_name_from}
 
 -- a text that differs from each name of a table
 pub named-none : {A : Type 0} (name : A → List ℕ) (xs : List A) (t : List ℕ) → AllByRecursion (λ a. t ≢ name a) xs → named name xs t ≡ None

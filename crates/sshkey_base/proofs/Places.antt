@@ -5,7 +5,7 @@ use Rattle.std.proofs.Math.Seq.{take-append-add, drop-append-add}
 use denote.Ref.{MutBor}
 use denote.Param.Members.{Once}
 use Rattle.sshkey_base.specs.declared.encoding.Error.{Error}
-use Rattle.sshkey_base.specs.Source.{Outer, Source, Later, Takes, Advances, told, part}
+use Rattle.sshkey_base.specs.Source.{Outer, Source, Later, Takes, Advances, announced_len, part}
 use Rattle.sshkey_base.specs.Nested.{PassesBy}
 use Rattle.sshkey_base.proofs.NestedSources.{part_advances}
 
@@ -27,17 +27,17 @@ pub ruleset places = (later_none, later_then)
 
 -- ---- a part
 
-passed_len : (s t : Source) (l : Later s t) → told s ≡ length l.passed + told t
+passed_len : (s t : Source) (l : Later s t) → announced_len s ≡ length l.passed + announced_len t
 passed_len s t l =
     let lengths : length s.left ≡ length l.passed + length t.left = ap length l.left ∙ length-append l.passed t.left in
     let m = l.missing in
     omega arith
 
 -- how many bytes were passed
-pub passes : (s t : Source) → Later s t → told t ≤ told s
+pub passes : (s t : Source) → Later s t → announced_len t ≤ announced_len s
 passes s t l = omega (arith, passed_len s t l)
 
-pub passes_within : (s t : Source) (bytes : List ℕ) (r : Result (Unit {0}) Error) (n : ℕ) → length bytes ≤ n → Takes s bytes r t → Later s t → told s - told t ≤ n
+pub passes_within : (s t : Source) (bytes : List ℕ) (r : Result (Unit {0}) Error) (n : ℕ) → length bytes ≤ n → Takes s bytes r t → Later s t → announced_len s - announced_len t ≤ n
 passes_within s t bytes (Ok x) n le takes l =
     let lengths : length s.left ≡ length bytes + length t.left = ap length takes.taken ∙ length-append bytes t.left in
     let m = l.missing in
@@ -56,16 +56,16 @@ part_later name n m s t l n_is =
     record { passed = l.passed; left = front; missing = lacks; outer = rw (back, l.missing, l.outer) refl }
 
 -- What is read of a part is passed in the reader and in the part.
-pub part_stands : (name n : ℕ) (s t : Source) (bytes : List ℕ) (r : Result (Unit {0}) Error) → length bytes ≤ n → Takes s bytes r t → Later s t → Later (part name n s) (part name (n - (told s - told t)) t)
+pub part_stands : (name n : ℕ) (s t : Source) (bytes : List ℕ) (r : Result (Unit {0}) Error) → length bytes ≤ n → Takes s bytes r t → Later s t → Later (part name n s) (part name (n - (announced_len s - announced_len t)) t)
 part_stands name n s t bytes r le takes l =
     let within = passes_within s t bytes r n le takes l in
-    part_later name n (n - (told s - told t)) s t l (omega (arith, passed_len s t l))
+    part_later name n (n - (announced_len s - announced_len t)) s t l (omega (arith, passed_len s t l))
 
-pub part_takes : (name n : ℕ) (s t : Source) (bytes : List ℕ) (r : Result (Unit {0}) Error) → length bytes ≤ n → Takes s bytes r t → Later s t → Takes (part name n s) bytes r (part name (n - (told s - told t)) t)
+pub part_takes : (name n : ℕ) (s t : Source) (bytes : List ℕ) (r : Result (Unit {0}) Error) → length bytes ≤ n → Takes s bytes r t → Later s t → Takes (part name n s) bytes r (part name (n - (announced_len s - announced_len t)) t)
 part_takes name n s t bytes (Ok x) le takes l =
     let lengths : length s.left ≡ length bytes + length t.left = ap length takes.taken ∙ length-append bytes t.left in
     let m = l.missing in
-    let passed : told s - told t ≡ length bytes = omega arith in
+    let passed : announced_len s - announced_len t ≡ length bytes = omega arith in
     rw passed (part_advances name n s t bytes le takes)
 part_takes name n s t bytes (Err e) le takes l =
     let few = takes.few in

@@ -6,7 +6,7 @@ use Rattle.sshkey_model.specs.Reading.{Fault, ◌>>=◌, Front, Whole, whole, bo
 use Rattle.sshkey_model.specs.Parts.{Parts, flat}
 use Rattle.sshkey_model.proofs.CombinedReaders.{ReadsFront}
 use Rattle.sshkey_base.specs.Causes.{Cause}
-use Rattle.sshkey_base.specs.Source.{Source, told}
+use Rattle.sshkey_base.specs.Source.{Source, announced_len}
 use Rattle.sshkey_base.specs.Reading.{Reads, IsRefused, Gives, to_end}
 
 module _ {A : Type 0} (item : Option A → Front A) where
@@ -57,7 +57,7 @@ module _ {A : Type 0} (item : Option A → Front A) where
   }
 
   -- the next value is refused
-  pub collects_refused : (s t : Source) (before : Option A) (done : List A) (cause : Cause) → Collects s before done t → (told t ≢ 0) → IsRefused t.missing cause (item before t.left) → IsRefused s.missing cause (to_end (list_whole item) s.left)
+  pub collects_refused : (s t : Source) (before : Option A) (done : List A) (cause : Cause) → Collects s before done t → (announced_len t ≢ 0) → IsRefused t.missing cause (item before t.left) → IsRefused s.missing cause (to_end (list_whole item) s.left)
   collects_refused s t before done cause c some h = record {
     fault = λ other sound.
         let m = c.missing in
@@ -66,7 +66,7 @@ module _ {A : Type 0} (item : Option A → Front A) where
   }
 
   -- nothing is left
-  pub collects_end : {V : Type 0} (means : V → List A) (s t : Source) (before : Option A) (v : V) → Collects s before (means v) t → told t ≡ 0 → Reads means (to_end (list_whole item)) s v t
+  pub collects_end : {V : Type 0} (means : V → List A) (s t : Source) (before : Option A) (v : V) → Collects s before (means v) t → announced_len t ≡ 0 → Reads means (to_end (list_whole item)) s v t
   collects_end means s t before v c none =
       let left : t.left ≡ [] = nil_from_length t.left (omega arith) in
       let given : GivesFrom before t.left (Ok []) = (λ n enough. rw left (no_step n before)) in

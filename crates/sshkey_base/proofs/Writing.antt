@@ -10,14 +10,14 @@ use Rattle.sshkey_model.specs.Parts.{Parts, bytes, number, box, ◌&◌, flat, B
 use Rattle.sshkey_model.proofs.CombinedReaders.{fits_both, fits_box, fits_bytes, fits_number}
 use Rattle.sshkey_base.specs.declared.encoding.Error.{Error}
 use Rattle.sshkey_base.specs.declared.encoding.Error.TheVariants.{Length, Memory}
-use Rattle.sshkey_base.specs.Sink.{Sink, Began, Stopped, Writes, Written, after, NotWritten, Encodes}
+use Rattle.sshkey_base.specs.Sink.{Sink, WrotePrefix, Stopped, Writes, Written, after, NotWritten, Encodes}
 
 -- nothing was added
-pub none_began : (s t : Sink) (b : List ℕ) → t.written ≡ s.written → t.limit ≡ s.limit → Began s b t
-none_began s t b e limit = record { count = 0; added = e ∙ sym (append-nil s.written); limit = limit }
+pub wrote_none : (s t : Sink) (b : List ℕ) → t.written ≡ s.written → t.limit ≡ s.limit → WrotePrefix s b t
+wrote_none s t b e limit = record { count = 0; added = e ∙ sym (append-nil s.written); limit = limit }
 
-began_first : (s t : Sink) (a b : List ℕ) → Began s a t → Began s (a ++ b) t
-began_first s t a b h =
+prefix_first : (s t : Sink) (a b : List ℕ) → WrotePrefix s a t → WrotePrefix s (a ++ b) t
+prefix_first s t a b h =
     elim (cases_lt h.count (length a)) [
       | inl lt ↦ record { count = h.count; added = h.added ∙ ap (λ (l : List ℕ). s.written ++ l) (sym (take-append-le h.count a b (omega arith))); limit = h.limit }
       | inr ge ↦
@@ -26,8 +26,8 @@ began_first s t a b h =
           record { count = length a; added = h.added ∙ ap (λ (l : List ℕ). s.written ++ l) (all ∙ sym same); limit = h.limit }
     ]
 
-began_later : (s t u : Sink) (a b : List ℕ) → t.written ≡ s.written ++ a → t.limit ≡ s.limit → Began t b u → Began s (a ++ b) u
-began_later s t u a b added limit h = record {
+prefix_later : (s t u : Sink) (a b : List ℕ) → t.written ≡ s.written ++ a → t.limit ≡ s.limit → WrotePrefix t b u → WrotePrefix s (a ++ b) u
+prefix_later s t u a b added limit h = record {
   count = length a + h.count;
   added = h.added ∙ rw (added, append_assoc, take-append-add a b h.count) refl;
   limit = h.limit ∙ limit;
@@ -48,11 +48,11 @@ stopped_first : (fault : Error → Type 0) (s t : Sink) (a b : List ℕ) (e : Er
 stopped_first fault s t a b e h = record {
   own = h.own;
   full = rw length-append (room_first s.limit (length s.written) (length a) (length b) h.full);
-  began = began_first s t a b h.began;
+  prefix = prefix_first s t a b h.prefix;
 }
 
 stopped_later : (fault : Error → Type 0) (s t u : Sink) (a b : List ℕ) (e : Error) → t.written ≡ s.written ++ a → t.limit ≡ s.limit → Stopped fault t b e u → Stopped fault s (a ++ b) e u
-stopped_later fault s t u a b e added limit h = record { own = h.own; full = room_later s t a b added limit h.full; began = began_later s t u a b added limit h.began }
+stopped_later fault s t u a b e added limit h = record { own = h.own; full = room_later s t a b added limit h.full; prefix = prefix_later s t u a b added limit h.prefix }
 
 -- ---- parts, one after the other
 
@@ -61,7 +61,7 @@ pub not_first : (fault : Error → Type 0) (p q : Parts) (s t : Sink) (e : Error
 unfolding flat BoxesFit NotWritten
 not_first fault p q s t e h =
     elim h [
-      | inl l ↦ inl (record { misfit = λ b. l.misfit b.0; is = l.is; began = began_first s t (flat p) (flat q) l.began })
+      | inl l ↦ inl (record { misfit = λ b. l.misfit b.0; is = l.is; prefix = prefix_first s t (flat p) (flat q) l.prefix })
       | inr o ↦ inr (stopped_first fault s t (flat p) (flat q) e o)
     ]
 
@@ -70,7 +70,7 @@ pub not_later : (fault : Error → Type 0) (p q : Parts) (s u : Sink) (e : Error
 unfolding flat BoxesFit NotWritten after
 not_later fault p q s u e h =
     elim h [
-      | inl l ↦ inl (record { misfit = λ b. l.misfit b.1; is = l.is; began = began_later s (after p s) u (flat p) (flat q) refl refl l.began })
+      | inl l ↦ inl (record { misfit = λ b. l.misfit b.1; is = l.is; prefix = prefix_later s (after p s) u (flat p) (flat q) refl refl l.prefix })
       | inr o ↦ inr (stopped_later fault s (after p s) u (flat p) (flat q) e refl refl o)
     ]
 
@@ -100,7 +100,7 @@ box_later fault p s t u (Err e) n len lt w h =
     let added : t.written ≡ s.written ++ to_be_bytes w32 (length (flat p)) = rw (w.1, len) refl in
     let limit : t.limit ≡ s.limit = rw w.1 refl in
     elim h [
-      | inl l ↦ inl (record { misfit = λ b. l.misfit b.1; is = l.is; began = began_later s t u (to_be_bytes w32 (length (flat p))) (flat p) added limit l.began })
+      | inl l ↦ inl (record { misfit = λ b. l.misfit b.1; is = l.is; prefix = prefix_later s t u (to_be_bytes w32 (length (flat p))) (flat p) added limit l.prefix })
       | inr o ↦ inr (stopped_later fault s t u (to_be_bytes w32 (length (flat p))) (flat p) e added limit o)
     ]
 
@@ -185,17 +185,17 @@ pub ruleset measuring_leaves = (length_box, length_bytes, length_number8, length
 -- nothing is added of what does not fit
 pub misfit : (fault : Error → Type 0) (p : Parts) (s : Sink) (e : Error) → (BoxesFit p → ⊥) × (e ≡ Length) → NotWritten fault p s e s
 unfolding NotWritten
-misfit fault p s e h = inl (record { misfit = h.0; is = h.1; began = none_began s s (flat p) refl refl })
+misfit fault p s e h = inl (record { misfit = h.0; is = h.1; prefix = wrote_none s s (flat p) refl refl })
 
 -- what a box holds does not fit
 pub inside_misfit : (fault : Error → Type 0) (p : Parts) (s : Sink) (e : Error) → (BoxesFit p → ⊥) × (e ≡ Length) → NotWritten fault (box p) s e s
 unfolding NotWritten
-inside_misfit fault p s e h = inl (record { misfit = λ b. h.0 (boxes_inside p b); is = h.1; began = none_began s s (flat (box p)) refl refl })
+inside_misfit fault p s e h = inl (record { misfit = λ b. h.0 (boxes_inside p b); is = h.1; prefix = wrote_none s s (flat (box p)) refl refl })
 
 -- it is too long
 pub outside_misfit : (fault : Error → Type 0) (p : Parts) (s : Sink) (e : Error) (n : ℕ) → n ≡ length (flat p) → (2 ^ 32 ≤ n) × (e ≡ Length) → NotWritten fault (box p) s e s
 unfolding NotWritten
-outside_misfit fault p s e n len h = inl (record { misfit = λ b. let lt = boxes_length p b in let ge = h.0 in absurd (omega arith); is = h.1; began = none_began s s (flat (box p)) refl refl })
+outside_misfit fault p s e n len h = inl (record { misfit = λ b. let lt = boxes_length p b in let ge = h.0 in absurd (omega arith); is = h.1; prefix = wrote_none s s (flat (box p)) refl refl })
 
 -- ---- a vector of its own
 

@@ -29,10 +29,15 @@ cause (wide.AlgorithmUnsupported algorithm) = Other
 cause wide.Crypto = Faulty fault.Crypto
 cause wide.Ecdsa = Faulty fault.Ecdsa
 cause (wide.CertificateFieldInvalid field) = Other
+cause wide.CertificateValidation = Other
 cause (wide.Encoding e) = encoding_cause e
 cause wide.FormatEncoding = Faulty fault.FormatEncoding
 cause (wide.Io kind) = Other
 cause wide.Memory = NoMemory
+cause wide.Namespace = Faulty fault.Namespace
+cause wide.PublicKey = Faulty fault.PublicKey
+cause (wide.Version number) = Faulty (fault.Version number)
+cause wide.Time = Faulty fault.Time
 
 -- what `From` makes of an error of the encoding
 abbrev pub widened : encoding-error.Error → wide-error.Error

@@ -1,5 +1,5 @@
 -- What the types of names mean: the model's values.
-use Rattle.std.specs.Prelude.{option_map}
+use Rattle.std.specs.Prelude.{option_map, Bool, true, false}
 use Rattle.sshkey_model.specs.Names as model
 use Rattle.sshkey_base.specs.declared.algorithm.Algorithm.{Algorithm}
 use Rattle.sshkey_base.specs.declared.algorithm.Algorithm.TheVariants as algorithm
@@ -25,3 +25,18 @@ algorithm_of (algorithm.Rsa hash) = model.Rsa (option_map hash_of hash)
 algorithm_of algorithm.SkEcdsaSha2NistP256 = model.SkEcdsa
 algorithm_of algorithm.SkEd25519 = model.SkEd25519
 algorithm_of (algorithm.Other name) = model.Other name
+
+-- ---- kinds of algorithms
+
+abbrev pub is_ecdsa : model.Algorithm → Bool
+is_ecdsa (model.Ecdsa curve) = true
+is_ecdsa _ = false
+
+abbrev pub is_rsa : model.Algorithm → Bool
+is_rsa (model.Rsa hash) = true
+is_rsa _ = false
+
+-- no private-use one
+abbrev pub IsFixed : model.Algorithm → Type 0
+IsFixed (model.Other n) = ⊥
+IsFixed _ = Unit {0}

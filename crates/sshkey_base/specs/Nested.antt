@@ -8,7 +8,7 @@ use Rattle.sshkey_base.specs.declared.encoding.Error.{Error}
 use Rattle.sshkey_base.specs.declared.encoding.Error.TheVariants.{Length, TrailingData}
 use Rattle.sshkey_base.specs.declared.reader.NestedReader.{NestedReader}
 use Rattle.sshkey_base.specs.Causes.{Cause, encoding_cause}
-use Rattle.sshkey_base.specs.Source.{Source, Later, part, told}
+use Rattle.sshkey_base.specs.Source.{Source, Later, part, announced_len}
 use Rattle.sshkey_base.specs.Needs.{Asks}
 use Rattle.sshkey_base.specs.Reading.{Gives, Reads, Refuses}
 
@@ -36,7 +36,7 @@ module _ {F N T E : Type 0} (call : Once F (MutBor N × Unit {0}) (Result T E ×
     pub len : ℕ
     pub after : Source
     pub number : Reads (λ k. k) (number_at w32) s len after
-    pub within : len ≤ told after
+    pub within : len ≤ announced_len after
     pub name : ℕ
     pub given : MutBor N
     pub left : MutBor N
@@ -48,7 +48,7 @@ module _ {F N T E : Type 0} (call : Once F (MutBor N × Unit {0}) (Result T E ×
     pub len : ℕ
     pub after : Source
     pub number : Reads (λ k. k) (number_at w32) s len after
-    pub past : told after < len
+    pub past : announced_len after < len
     pub is : from_gives Length e
 
   -- The closure left some bytes of the part.

@@ -1,8 +1,9 @@
--- What a reading call gives, measured by a plain reader on lists.
-use Rattle.std.specs.Prelude.{◌≡◌, ◌≢◌, ℕ, ◌<◌, ◌+◌, IsErrAnd, List, [], length, Result, Ok, Err}
-use Rattle.std.specs.Int.{w32}
+-- What a reading call gives, measured by a plain reader on lists, and in the words of the grammar.
+use Rattle.std.specs.Prelude.{◌≡◌, ◌≢◌, ℕ, ◌<◌, ◌+◌, IsErrAnd, List, [], length, Result, Ok, Err, ◌++◌, ◌^◌}
+use Rattle.std.specs.Int.{w32, to_be_bytes}
 use Rattle.sshkey_model.specs.Reading.{Fault, Length, ◌>>=◌, Front, Whole, number_at}
-use Rattle.sshkey_base.specs.Causes.{Cause, NoMemory, Faulty}
+use Rattle.sshkey_base.specs.declared.encoding.Error.{Error}
+use Rattle.sshkey_base.specs.Causes.{Cause, NoMemory, Faulty, encoding_cause}
 use Rattle.sshkey_base.specs.Source.{Source, IsSound}
 
 -- What was read is what the plain reader gives of the bytes that were left, the rest is left, and nothing else changed.
@@ -31,6 +32,14 @@ abbrev pub GivesAlways : {X Y E : Type 0} → (X → Y) → (E → Cause) → Fr
 GivesAlways means cause read s (Ok x) t = Reads means read s x t
 GivesAlways means cause read s (Err e) t = Refuses s.missing (cause e) (read s.left)
 
+-- What a call gives that moves a reader, whose source is given, and refuses with an error of the encoding.
+abbrev pub Decodes : {R X Y : Type 0} → (X → Y) → Front Y → (R → Source) → R → Result X Error → R → Type 0
+Decodes means read source before result after = Gives means encoding_cause read (source before) result (source after)
+
+-- The same of a call that takes no memory.
+abbrev pub DecodesAlways : {R X Y : Type 0} → (X → Y) → Front Y → (R → Source) → R → Result X Error → R → Type 0
+DecodesAlways means read source before result after = GivesAlways means encoding_cause read (source before) result (source after)
+
 -- A stated length that passes all that was announced is `Length`, whatever memory there is.
 abbrev pub LengthPast : {X E : Type 0} → (E → Cause) → Source → Result X E → Type 0
 LengthPast cause s result = (n : ℕ) (rest : List ℕ) → number_at w32 s.left ≡ Ok (n, rest) → length rest + s.missing < n → IsErrAnd result (λ e. cause e ≡ Faulty Length)
@@ -50,3 +59,43 @@ abbrev pub to_end : {A : Type 0} → Whole A → Front A
 to_end read b = do
   x ← read b
   Ok (x, [])
+
+-- ---- in the words of the grammar
+
+-- The bytes that were taken spell the value, and nothing else changed.
+pub record Accepted {X Y : Type 0} (means : X → Y) (Spells : Y → List ℕ → Type 0) (s : Source) (x : X) (t : Source) : Type 0 where
+  pub front : List ℕ
+  pub spelled : Spells (means x) front
+  pub taken : s.left ≡ front ++ t.left
+  pub missing : t.missing ≡ s.missing
+  pub outer : t.outer ≡ s.outer
+
+-- No front of the bytes is a spelling.
+abbrev pub NoFront : {Y : Type 0} → (Y → List ℕ → Type 0) → List ℕ → Type 0
+NoFront {Y} Spells bytes = (y : Y) (front rest : List ℕ) → Spells y front → bytes ≢ front ++ rest
+
+-- A front is accepted if it is a spelling. A sound source is refused when out of memory, or because no front is one.
+abbrev pub AcceptsFront : {X Y E : Type 0} → (X → Y) → (Y → List ℕ → Type 0) → (E → Cause) → Source → Result X E → Source → Type 0
+AcceptsFront means Spells cause s (Ok x) t = Accepted means Spells s x t
+AcceptsFront means Spells cause s (Err e) t = cause e ≢ NoMemory → IsSound s → NoFront Spells s.left
+
+-- A length of four bytes, and so many bytes that spell the value.
+pub record SpellsBoxed {Y : Type 0} (Spells : Y → List ℕ → Type 0) (y : Y) (bytes : List ℕ) : Type 0 where
+  pub inside : List ℕ
+  pub spelled : Spells y inside
+  pub short : length inside < 2 ^ 32
+  pub whole : bytes ≡ to_be_bytes w32 (length inside) ++ inside
+
+-- All the bytes spell the value, and none is missing.
+pub record SpelledWhole {X Y : Type 0} (means : X → Y) (Spells : Y → List ℕ → Type 0) (s : Source) (x : X) : Type 0 where
+  pub spelled : Spells (means x) s.left
+  pub sound : IsSound s
+
+-- The bytes are a spelling of no value.
+abbrev pub NoSpelling : {Y : Type 0} → (Y → List ℕ → Type 0) → List ℕ → Type 0
+NoSpelling {Y} Spells bytes = (y : Y) → Spells y bytes → ⊥
+
+-- All the bytes are accepted exactly if they are a spelling and none is missing, out of memory aside.
+abbrev pub AcceptsWhole : {X Y E : Type 0} → (X → Y) → (Y → List ℕ → Type 0) → (E → Cause) → Source → Result X E → Type 0
+AcceptsWhole means Spells cause s (Ok x) = SpelledWhole means Spells s x
+AcceptsWhole means Spells cause s (Err e) = cause e ≢ NoMemory → IsSound s → NoSpelling Spells s.left

@@ -16,7 +16,7 @@ pub record Wrote (s : Sink) (bytes : List ℕ) (t : Sink) : Type 0 where
   pub are : are_bytes bytes ≡ true
 
 -- A beginning of the bytes was added, which may be none of them, and nothing else changed.
-pub record Began (s : Sink) (bytes : List ℕ) (t : Sink) : Type 0 where
+pub record WrotePrefix (s : Sink) (bytes : List ℕ) (t : Sink) : Type 0 where
   pub count : ℕ
   pub added : t.written ≡ s.written ++ take count bytes
   pub limit : t.limit ≡ s.limit
@@ -25,7 +25,7 @@ pub record Began (s : Sink) (bytes : List ℕ) (t : Sink) : Type 0 where
 pub record Stopped (fault : Error → Type 0) (s : Sink) (bytes : List ℕ) (e : Error) (t : Sink) : Type 0 where
   pub own : fault e
   pub full : IfSome s.limit (λ n. n < length s.written + length bytes)
-  pub began : Began s bytes t
+  pub prefix : WrotePrefix s bytes t
 
 -- what a write gives
 abbrev pub Writes : (Error → Type 0) → Sink → List ℕ → Result (Unit {0}) Error → Sink → Type 0
@@ -46,7 +46,7 @@ Written p s t = Fits p × (t ≡ after p s)
 pub record TooLong (p : Parts) (s : Sink) (e : Error) (t : Sink) : Type 0 where
   pub misfit : BoxesFit p → ⊥
   pub is : e ≡ Length
-  pub began : Began s (flat p) t
+  pub prefix : WrotePrefix s (flat p) t
 
 -- why parts were not added
 unfoldable pub NotWritten : (Error → Type 0) → Parts → Sink → Error → Sink → Type 0

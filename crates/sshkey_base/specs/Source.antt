@@ -25,8 +25,8 @@ abbrev pub IsSound : Source → Type 0
 IsSound s = s.missing ≡ 0
 
 -- what `remaining_len` answers
-abbrev pub told : Source → ℕ
-told s = length s.left + s.missing
+abbrev pub announced_len : Source → ℕ
+announced_len s = length s.left + s.missing
 
 -- The bytes were taken from the front, and nothing else changed.
 pub record Advances (s : Source) (bytes : List ℕ) (t : Source) : Type 0 where

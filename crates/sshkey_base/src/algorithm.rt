@@ -5,11 +5,10 @@ ghost use Rattle.sshkey_model.specs.Names.{Dsa, Ed25519, algorithm_name, IsAlgor
 ghost use Rattle.sshkey_model.specs.Names as model;
 ghost use Rattle.sshkey_model.specs.Reading as fault;
 ghost use Rattle.sshkey_base.specs.Causes.{cause};
-ghost use Rattle.sshkey_base.specs.Kinds.{IsFixed, is_ecdsa, is_rsa};
+ghost use Rattle.sshkey_base.specs.Names.{IsFixed, is_ecdsa, is_rsa, algorithm_of};
 ghost use Rattle.sshkey_base.specs.LabelLaws.{algorithm_checks, algorithm_ascii, algorithm_refusals};
 ghost use Rattle.sshkey_base.specs.Labels.{LooksUp};
-ghost use Rattle.sshkey_base.specs.Names.{algorithm_of};
-ghost use Rattle.sshkey_base.specs.Naming.{Names};
+ghost use Rattle.sshkey_base.specs.Answers.{Names};
 ghost use Rattle.sshkey_base.specs.declared.encoding.Error.TheVariants as encoding;
 
 mod certificate_type;
@@ -61,10 +60,15 @@ impl Algorithm {
     /// `Label` where it is no name. Memory is asked for only for a private-use name.
     pub fn new(alloc: Global, name: &str) -> Result<Algorithm>
         ensures gives { Names algorithm_of cause (algorithm_from name.now) result }
-        ensures fixed { (a : model.Algorithm) → named algorithm_name algorithms name.now ≡ Some a → IsOk result }
-        ensures refused { algorithm_from name.now ≡ Err fault.Label → result ≡ Err (Error.Encoding encoding.Label) }
+        ensures fixed { (a : model.Algorithm) → named algorithm_name algorithms name.now ≡ Some a →
+            IsOk result }
+        ensures refused { algorithm_from name.now ≡ Err fault.Label →
+            result ≡ Err (Error.Encoding encoding.Label) }
     {
-        Ok(Algorithm::from_label(alloc, name)?)
+        match fixed(name) {
+            Some(algorithm) => Ok(algorithm),
+            None => Ok(Algorithm::Other(AlgorithmName::new(alloc, name)?)),
+        }
     }
 
     /// The name of the algorithm, as `ssh-ed25519`.
@@ -137,7 +141,7 @@ impl Algorithm {
 }
 
 // The algorithm with that fixed name.
-#[tactic(auto, unfolding(crate::specs::NameReaders::named))]
+#[tactic(auto, unfolding(sshkey_model::specs::Names::named))]
 #[inline(always)]
 fn fixed(name: &str) -> Option<Algorithm>
     ensures { option_map algorithm_of result ≡ named algorithm_name algorithms name.now }
@@ -188,7 +192,8 @@ impl Label for Algorithm {
     #[inline(always)]
     fn from_label(alloc: Global, name: &str) -> encoding::Result<Algorithm>
         ensures gives { LooksUp algorithm_of algorithm_from name.now result }
-        ensures fixed { (a : model.Algorithm) → named algorithm_name algorithms name.now ≡ Some a → IsOk result }
+        ensures fixed { (a : model.Algorithm) → named algorithm_name algorithms name.now ≡ Some a →
+            IsOk result }
         ensures refused { algorithm_from name.now ≡ Err fault.Label → result ≡ Err encoding.Label }
     {
         match fixed(name) {

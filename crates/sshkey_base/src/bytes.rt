@@ -5,8 +5,8 @@ ghost use Rattle.sshkey_model.specs.Reading.{bytes_at, string_at};
 ghost use Rattle.sshkey_base.specs.Causes.{encoding_cause};
 ghost use Rattle.sshkey_base.specs.Leaves.{SpellsString, string_grammar};
 ghost use Rattle.sshkey_base.specs.Needs.{Asks, NeedsString};
-ghost use Rattle.sshkey_base.specs.Reading.{Gives, LengthPast};
-ghost use Rattle.sshkey_base.specs.Source.{told, Later};
+ghost use Rattle.sshkey_base.specs.Reading.{Decodes, LengthPast};
+ghost use Rattle.sshkey_base.specs.Source.{announced_len, Later};
 
 mod compare;
 
@@ -61,6 +61,22 @@ impl Bytes {
         &self.bytes
     }
 
+    /// Reads a string as `decode` does, into memory that has room for `spare` bytes more.
+    #[tactic(auto, using(crate::proofs::Steps::steps), unfolding(sshkey_model::specs::Reading::string_at))]
+    pub fn decode_with_spare<R: Reader>(
+        alloc: Global,
+        reader: &mut R,
+        spare: usize,
+    ) -> Result<Bytes, Error>
+        ensures gives { Decodes (λ x. x) string_at R.source reader.old result reader.new }
+        ensures later { Later (R.source reader.old) (R.source reader.new) }
+        ensures asks { Asks encoding_cause NeedsString (R.source reader.old) result }
+        ensures past { LengthPast encoding_cause (R.source reader.old) result }
+    {
+        let len = length_from(reader)?;
+        bytes_from(alloc, len, spare, reader)
+    }
+
     /// The vector that holds the bytes. Takes no memory.
     pub fn into_vec(self) -> Vec<u8>
         ensures { result.items ≡ self }
@@ -72,7 +88,6 @@ impl Bytes {
 /// A length of four bytes, and the bytes (RFC 4251, section 5).
 ///
 /// A length that passes what is left is `Length`, and no memory is asked for it.
-#[tactic(auto, using(crate::proofs::Steps::steps), unfolding(crate::specs::Readers::string_at))]
 impl Decode for Bytes {
     type Error = Error;
 
@@ -89,34 +104,36 @@ impl Decode for Bytes {
     ghost grammar = { string_grammar };
 
     fn decode<R: Reader>(alloc: Global, reader: &mut R) -> Result<Bytes, Error>
-        ensures gives { Gives (λ x. x) encoding_cause string_at (R.source reader.old) result (R.source reader.new) }
+        ensures gives { Decodes (λ x. x) string_at R.source reader.old result reader.new }
         ensures later { Later (R.source reader.old) (R.source reader.new) }
         ensures asks { Asks encoding_cause NeedsString (R.source reader.old) result }
         ensures past { LengthPast encoding_cause (R.source reader.old) result }
     {
-        let len = length_from(reader)?;
-        bytes_from(alloc, len, reader)
+        Bytes::decode_with_spare(alloc, reader, 0)
     }
 }
 
-/// The next `len` bytes. `Length` where more are asked for than are announced.
+/// The next `len` bytes, in memory that has room for `spare` more. `Length` where more are asked
+/// for than are announced.
 #[tactic(auto, using(crate::proofs::Lending::lending))]
 #[inline(always)]
 pub(crate) fn bytes_from<R: Reader>(
     alloc: Global,
     len: usize,
+    spare: usize,
     reader: &mut R,
 ) -> Result<Bytes, Error>
-    ensures gives { Gives (λ x. x) encoding_cause (bytes_at len) (R.source reader.old) result (R.source reader.new) }
+    ensures gives { Decodes (λ x. x) (bytes_at len) R.source reader.old result reader.new }
     ensures later { Later (R.source reader.old) (R.source reader.new) }
     ensures asks { Asks encoding_cause (λ b. len ≤ length b) (R.source reader.old) result }
-    ensures past { told (R.source reader.old) < len → result ≡ Err Error.Length }
+    ensures past { announced_len (R.source reader.old) < len → result ≡ Err Error.Length }
 {
     if reader.remaining_len() < len {
         return Err(Error::Length);
     }
     if let Some(front) = reader.ahead(len) {
-        let bytes = Vec::from_slice(alloc, front)?;
+        let mut bytes = Vec::with_capacity(alloc, len.saturating_add(spare))?;
+        bytes.extend_from_slice(front)?;
         reader.skip(len);
         return Ok(Bytes { bytes });
     }
@@ -143,7 +160,7 @@ impl Decode for Vec<u8> {
     ghost grammar = { string_grammar };
 
     fn decode<R: Reader>(alloc: Global, reader: &mut R) -> Result<Vec<u8>, Error>
-        ensures gives { Gives (λ v. v.items) encoding_cause string_at (R.source reader.old) result (R.source reader.new) }
+        ensures gives { Decodes (λ v. v.items) string_at R.source reader.old result reader.new }
         ensures later { Later (R.source reader.old) (R.source reader.new) }
         ensures asks { Asks encoding_cause NeedsString (R.source reader.old) result }
         ensures past { LengthPast encoding_cause (R.source reader.old) result }

@@ -4,12 +4,11 @@ ghost use Rattle.std.specs.Prelude.{ℕ, List};
 ghost use Rattle.std.specs.Int.{w8, w32, w64};
 ghost use Rattle.sshkey_model.specs.Grammar.{IsGrammar};
 ghost use Rattle.sshkey_model.specs.Reading.{Front, whole, bytes_at, number_at, box_at};
-ghost use Rattle.sshkey_base.specs.Accepting.{AcceptsFront, AcceptsWhole, SpellsBoxed};
+ghost use Rattle.sshkey_base.specs.Reading.{Decodes, DecodesAlways, AcceptsFront, AcceptsWhole, SpellsBoxed, Gives, GivesWhole, LengthPast};
 ghost use Rattle.sshkey_base.specs.Causes.{encoding_cause};
 ghost use Rattle.sshkey_base.specs.Leaves.{SpellsByte, SpellsNumber32, SpellsNumber64, SpellsArray, byte_grammar, number32_grammar, number64_grammar, array_grammar};
 ghost use Rattle.sshkey_base.specs.Nested.{nested_source};
 ghost use Rattle.sshkey_base.specs.Needs.{Asks, NeedsBoxed, NoNeed};
-ghost use Rattle.sshkey_base.specs.Reading.{Gives, GivesAlways, GivesWhole, LengthPast};
 ghost use Rattle.sshkey_base.specs.Source.{Later};
 
 use crate::encoding;
@@ -44,7 +43,8 @@ pub trait Decode: Sized {
     /// source with a fault is refused is open. After a refusal some of the bytes that were left may
     /// be passed, and nothing else changed.
     fn decode<R: Reader>(alloc: Global, reader: &mut R) -> Result<Self, Self::Error>
-        ensures gives { Gives means Self.Error.cause parse (R.source reader.old) result (R.source reader.new) }
+        ensures gives { Gives means Self.Error.cause parse
+            (R.source reader.old) result (R.source reader.new) }
         ensures later { Later (R.source reader.old) (R.source reader.new) }
         ensures asks { Asks Self.Error.cause needs (R.source reader.old) result };
 
@@ -53,7 +53,7 @@ pub trait Decode: Sized {
 }
 
 /// One byte (RFC 4251, section 5). Takes no memory.
-#[tactic(auto, using(crate::proofs::Steps::steps), unfolding(crate::specs::Readers::number_at))]
+#[tactic(auto, using(crate::proofs::Steps::steps), unfolding(sshkey_model::specs::Reading::number_at))]
 impl Decode for u8 {
     type Error = encoding::Error;
 
@@ -70,10 +70,11 @@ impl Decode for u8 {
     ghost grammar = { byte_grammar };
 
     fn decode<R: Reader>(_alloc: Global, reader: &mut R) -> Result<u8, encoding::Error>
-        ensures gives { Gives (λ x. x) encoding_cause (number_at w8) (R.source reader.old) result (R.source reader.new) }
+        ensures gives { Decodes (λ x. x) (number_at w8) R.source reader.old result reader.new }
         ensures later { Later (R.source reader.old) (R.source reader.new) }
         ensures asks { Asks encoding_cause NoNeed (R.source reader.old) result }
-        ensures always { GivesAlways (λ x. x) encoding_cause (number_at w8) (R.source reader.old) result (R.source reader.new) }
+        ensures always { DecodesAlways (λ x. x) (number_at w8)
+            R.source reader.old result reader.new }
     {
         let bytes = array_from::<1, R>(reader)?;
         Ok(u8::from_be_bytes(bytes))
@@ -81,7 +82,7 @@ impl Decode for u8 {
 }
 
 /// A number of four bytes, most significant first (RFC 4251, section 5). Takes no memory.
-#[tactic(auto, using(crate::proofs::Steps::steps), unfolding(crate::specs::Readers::number_at))]
+#[tactic(auto, using(crate::proofs::Steps::steps), unfolding(sshkey_model::specs::Reading::number_at))]
 impl Decode for u32 {
     type Error = encoding::Error;
 
@@ -98,10 +99,11 @@ impl Decode for u32 {
     ghost grammar = { number32_grammar };
 
     fn decode<R: Reader>(_alloc: Global, reader: &mut R) -> Result<u32, encoding::Error>
-        ensures gives { Gives (λ x. x) encoding_cause (number_at w32) (R.source reader.old) result (R.source reader.new) }
+        ensures gives { Decodes (λ x. x) (number_at w32) R.source reader.old result reader.new }
         ensures later { Later (R.source reader.old) (R.source reader.new) }
         ensures asks { Asks encoding_cause NoNeed (R.source reader.old) result }
-        ensures always { GivesAlways (λ x. x) encoding_cause (number_at w32) (R.source reader.old) result (R.source reader.new) }
+        ensures always { DecodesAlways (λ x. x) (number_at w32)
+            R.source reader.old result reader.new }
     {
         let bytes = array_from::<4, R>(reader)?;
         Ok(u32::from_be_bytes(bytes))
@@ -109,7 +111,7 @@ impl Decode for u32 {
 }
 
 /// A number of eight bytes, most significant first (RFC 4251, section 5). Takes no memory.
-#[tactic(auto, using(crate::proofs::Steps::steps), unfolding(crate::specs::Readers::number_at))]
+#[tactic(auto, using(crate::proofs::Steps::steps), unfolding(sshkey_model::specs::Reading::number_at))]
 impl Decode for u64 {
     type Error = encoding::Error;
 
@@ -126,10 +128,11 @@ impl Decode for u64 {
     ghost grammar = { number64_grammar };
 
     fn decode<R: Reader>(_alloc: Global, reader: &mut R) -> Result<u64, encoding::Error>
-        ensures gives { Gives (λ x. x) encoding_cause (number_at w64) (R.source reader.old) result (R.source reader.new) }
+        ensures gives { Decodes (λ x. x) (number_at w64) R.source reader.old result reader.new }
         ensures later { Later (R.source reader.old) (R.source reader.new) }
         ensures asks { Asks encoding_cause NoNeed (R.source reader.old) result }
-        ensures always { GivesAlways (λ x. x) encoding_cause (number_at w64) (R.source reader.old) result (R.source reader.new) }
+        ensures always { DecodesAlways (λ x. x) (number_at w64)
+            R.source reader.old result reader.new }
     {
         let bytes = array_from::<8, R>(reader)?;
         Ok(u64::from_be_bytes(bytes))
@@ -155,15 +158,19 @@ impl<const N: usize> Decode for [u8; N] {
     ghost grammar = { array_grammar N };
 
     fn decode<R: Reader>(_alloc: Global, reader: &mut R) -> Result<[u8; N], encoding::Error>
-        ensures gives { Gives (λ b. b) encoding_cause (box_at (whole (bytes_at N))) (R.source reader.old) result (R.source reader.new) }
+        ensures gives { Decodes (λ b. b) (box_at (whole (bytes_at N)))
+            R.source reader.old result reader.new }
         ensures later { Later (R.source reader.old) (R.source reader.new) }
         ensures asks { Asks encoding_cause NoNeed (R.source reader.old) result }
-        ensures always { GivesAlways (λ b. b) encoding_cause (box_at (whole (bytes_at N))) (R.source reader.old) result (R.source reader.new) }
+        ensures always { DecodesAlways (λ b. b) (box_at (whole (bytes_at N)))
+            R.source reader.old result reader.new }
     {
         reader.read_prefixed(
             |part: &mut NestedReader<'_, R>| -> encoding::Result<[u8; N]>
-                ensures gives { GivesAlways (λ x. x) encoding_cause (bytes_at N) (nested_source R.source part.old) result (nested_source R.source part.new) }
-                ensures later { Later (nested_source R.source part.old) (nested_source R.source part.new) }
+                ensures gives { DecodesAlways (λ x. x) (bytes_at N)
+                    (nested_source R.source) part.old result part.new }
+                ensures later { Later (nested_source R.source part.old)
+                    (nested_source R.source part.new) }
             { array_from(part) },
         )
     }
@@ -181,10 +188,12 @@ pub fn decode_boxed<T: Decode + Drop, R: Reader>(
     reader: &mut R,
 ) -> Result<T, T::Error>
     ensures past { LengthPast T.Error.cause (R.source reader.old) result }
-    ensures gives { Gives T.means T.Error.cause (box_at (whole T.parse)) (R.source reader.old) result (R.source reader.new) }
+    ensures gives { Gives T.means T.Error.cause (box_at (whole T.parse))
+        (R.source reader.old) result (R.source reader.new) }
     ensures later { Later (R.source reader.old) (R.source reader.new) }
     ensures asks { Asks T.Error.cause (NeedsBoxed T.needs) (R.source reader.old) result }
-    ensures accepts { AcceptsFront T.means (SpellsBoxed T.Spells) T.Error.cause (R.source reader.old) result (R.source reader.new) }
+    ensures accepts { AcceptsFront T.means (SpellsBoxed T.Spells) T.Error.cause
+        (R.source reader.old) result (R.source reader.new) }
 {
     reader.read_prefixed(|part| T::decode(alloc, part))
 }
@@ -195,10 +204,12 @@ pub fn decode_boxed<T: Decode + Drop, R: Reader>(
 /// refused only where no front of it spells any value, and out of memory is answered only where
 /// the value needs some: a stated length that passes what is left is `Length`.
 pub fn decode_front<T: Decode, R: Reader>(alloc: Global, reader: &mut R) -> Result<T, T::Error>
-    ensures gives { Gives T.means T.Error.cause T.parse (R.source reader.old) result (R.source reader.new) }
+    ensures gives { Gives T.means T.Error.cause T.parse
+        (R.source reader.old) result (R.source reader.new) }
     ensures later { Later (R.source reader.old) (R.source reader.new) }
     ensures asks { Asks T.Error.cause T.needs (R.source reader.old) result }
-    ensures accepts { AcceptsFront T.means T.Spells T.Error.cause (R.source reader.old) result (R.source reader.new) }
+    ensures accepts { AcceptsFront T.means T.Spells T.Error.cause
+        (R.source reader.old) result (R.source reader.new) }
 {
     T::decode(alloc, reader)
 }

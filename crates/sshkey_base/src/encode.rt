@@ -18,13 +18,13 @@ pub trait Encode {
     ghost normal: { Self → Parts };
 
     /// No value that fits has more bytes.
-    ghost most: { ℕ };
+    ghost max_len: { ℕ };
 
     /// How many bytes the normal form has. Exactly where a box in it would pass 2^32 - 1 bytes,
     /// the answer is `Length`. Takes no memory.
     fn encoded_len(&self) -> Result<usize>
         ensures measures { Measures (normal self.now) result }
-        ensures short { IfOk result (λ n. n ≤ most) };
+        ensures short { IfOk result (λ n. n ≤ max_len) };
 
     /// Writes the bytes of the normal form.
     ///
@@ -32,7 +32,8 @@ pub trait Encode {
     /// the writer's own. After a refusal the writer holds what it held, and a beginning of the
     /// bytes. Takes no memory of its own.
     fn encode<W: Writer>(&self, writer: &mut W) -> Result<()>
-        ensures { Encodes W.fault (normal self.now) (W.sink writer.old) result (W.sink writer.new) };
+        ensures { Encodes W.fault (normal self.now)
+            (W.sink writer.old) result (W.sink writer.new) };
 
     /// How many bytes the value has behind its length. Exactly where it or a box in it would pass
     /// 2^32 - 1 bytes, the answer is `Length`. Takes no memory.
@@ -52,15 +53,16 @@ pub trait Encode {
     final fn encode_prefixed<W: Writer>(&self, writer: &mut W) -> Result<()>
     where
         Self: Sized,
-        ensures { Encodes W.fault (box (normal self.now)) (W.sink writer.old) result (W.sink writer.new) }
+        ensures { Encodes W.fault (box (normal self.now))
+            (W.sink writer.old) result (W.sink writer.new) }
     {
         u32_of(self.encoded_len()?)?.encode(writer)?;
         self.encode(writer)
     }
 }
 
-/// The number in four bytes. `Length` where it needs more.
-pub(crate) fn u32_of(len: usize) -> Result<u32>
+/// The number in four bytes. `Length` where it needs more. Takes no memory.
+pub fn u32_of(len: usize) -> Result<u32>
     ensures { IsLength len result }
 {
     if len > u32::MAX as usize {
@@ -97,7 +99,8 @@ pub fn encode_both<A: Encode, B: Encode, W: Writer>(
     second: &B,
     writer: &mut W,
 ) -> Result<()>
-    ensures { Encodes W.fault (A.normal first.now & B.normal second.now) (W.sink writer.old) result (W.sink writer.new) }
+    ensures { Encodes W.fault (A.normal first.now & B.normal second.now)
+        (W.sink writer.old) result (W.sink writer.new) }
 {
     first.encode(writer)?;
     second.encode(writer)
@@ -121,7 +124,7 @@ pub fn encode_vec<T: Encode>(alloc: Global, value: &T) -> Result<Vec<u8>>
 impl Encode for u8 {
     ghost normal = { number w8 };
 
-    ghost most = { 1 };
+    ghost max_len = { 1 };
 
     fn encoded_len(&self) -> Result<usize> {
         Ok(1)
@@ -137,7 +140,7 @@ impl Encode for u8 {
 impl Encode for u32 {
     ghost normal = { number w32 };
 
-    ghost most = { 4 };
+    ghost max_len = { 4 };
 
     fn encoded_len(&self) -> Result<usize> {
         Ok(4)
@@ -153,7 +156,7 @@ impl Encode for u32 {
 impl Encode for u64 {
     ghost normal = { number w64 };
 
-    ghost most = { 8 };
+    ghost max_len = { 8 };
 
     fn encoded_len(&self) -> Result<usize> {
         Ok(8)
@@ -168,7 +171,7 @@ impl Encode for u64 {
 impl<const N: usize> Encode for [u8; N] {
     ghost normal = { string };
 
-    ghost most = { 2 ^ 32 + 3 };
+    ghost max_len = { 2 ^ 32 + 3 };
 
     fn encoded_len(&self) -> Result<usize> {
         string_len(self)
@@ -183,7 +186,7 @@ impl<const N: usize> Encode for [u8; N] {
 impl Encode for &[u8] {
     ghost normal = { λ s. string s.now };
 
-    ghost most = { 2 ^ 32 + 3 };
+    ghost max_len = { 2 ^ 32 + 3 };
 
     fn encoded_len(&self) -> Result<usize> {
         string_len(*self)
@@ -198,7 +201,7 @@ impl Encode for &[u8] {
 impl Encode for Bytes {
     ghost normal = { string };
 
-    ghost most = { 2 ^ 32 + 3 };
+    ghost max_len = { 2 ^ 32 + 3 };
 
     fn encoded_len(&self) -> Result<usize> {
         string_len(self.as_slice())
@@ -213,7 +216,7 @@ impl Encode for Bytes {
 impl Encode for Vec<u8> {
     ghost normal = { λ v. string v.items };
 
-    ghost most = { 2 ^ 32 + 3 };
+    ghost max_len = { 2 ^ 32 + 3 };
 
     fn encoded_len(&self) -> Result<usize> {
         string_len(self)

@@ -4,6 +4,7 @@ ghost use Rattle.std.specs.Prelude.{◌≡◌};
 ghost use Rattle.sshkey_base.specs.declared.encoding.Error.TheVariants as encoding;
 
 use std::alloc::{AllocError, AllocFailed};
+use std::array::TryFromSliceError;
 use std::str::Utf8Error;
 
 /// Why bytes could not be read or written.
@@ -48,6 +49,15 @@ impl<T: Drop> From<AllocFailed<T>> for Error {
 
     fn from(_error: AllocFailed<T>) -> Error {
         Error::Memory
+    }
+}
+
+/// A slice of another length.
+impl From<TryFromSliceError> for Error {
+    ghost from_gives = { λ _ e. e ≡ encoding.Length };
+
+    fn from(_error: TryFromSliceError) -> Error {
+        Error::Length
     }
 }
 

@@ -10,6 +10,7 @@ use crate::algorithm::Algorithm;
 use crate::certificate::Field;
 use crate::encoding;
 use std::alloc::{AllocError, AllocFailed};
+use std::array::TryFromSliceError;
 use std::io;
 use std::str::Utf8Error;
 
@@ -34,6 +35,9 @@ pub enum Error {
     /// A field of a certificate is invalid.
     #[error("certificate field invalid: {0}")]
     CertificateFieldInvalid(Field),
+    /// A certificate is not valid.
+    #[error("certificate validation failed")]
+    CertificateValidation,
     /// The bytes do not keep the wire encoding.
     #[error("{0}")]
     Encoding(encoding::Error),
@@ -46,6 +50,21 @@ pub enum Error {
     /// Memory ran out.
     #[error("out of memory")]
     Memory,
+    /// The namespace of an SSH signature is empty, or not the one that was asked for.
+    #[error("namespace invalid")]
+    Namespace,
+    /// The public key is not the one that was asked for.
+    #[error("public key is incorrect")]
+    PublicKey,
+    /// The version is none that is read.
+    #[error("version unsupported: {number}")]
+    Version {
+        /// The version.
+        number: u32,
+    },
+    /// A time is past 2^63 - 1 seconds.
+    #[error("invalid time")]
+    Time,
 }
 
 /// What a call of the crates answers.
@@ -75,6 +94,15 @@ impl<T: Drop> From<AllocFailed<T>> for Error {
 
     fn from(_error: AllocFailed<T>) -> Error {
         Error::Memory
+    }
+}
+
+/// A slice of another length.
+impl From<TryFromSliceError> for Error {
+    ghost from_gives = { λ _ e. e ≡ wide.Encoding encoding.Length };
+
+    fn from(_error: TryFromSliceError) -> Error {
+        Error::Encoding(encoding::Error::Length)
     }
 }
 

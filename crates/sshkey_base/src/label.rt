@@ -10,8 +10,8 @@ ghost use Rattle.sshkey_model.proofs.CombinedReaders.{Checks, checked_string_rea
 ghost use Rattle.sshkey_model.proofs.Grammars.{grammar};
 ghost use Rattle.sshkey_base.specs.Causes.{encoding_cause};
 ghost use Rattle.sshkey_base.specs.Needs.{Asks, NeedsString};
-ghost use Rattle.sshkey_base.specs.Reading.{Gives, LengthPast};
-ghost use Rattle.sshkey_base.specs.Source.{Later, told};
+ghost use Rattle.sshkey_base.specs.Reading.{Decodes, LengthPast};
+ghost use Rattle.sshkey_base.specs.Source.{Later, announced_len};
 ghost use Rattle.sshkey_base.specs.Labels.{LooksUp, label_at, label_grammar};
 
 use crate::decode::Decode;
@@ -59,7 +59,7 @@ pub trait Label: Sized {
 }
 
 /// The string of a name. `Label` for a string that is none of the names.
-#[tactic(auto, using(crate::proofs::Steps::steps), unfolding(crate::specs::Labels::label_at, crate::specs::Readers::string_at))]
+#[tactic(auto, using(crate::proofs::Steps::steps), unfolding(crate::specs::Labels::label_at, sshkey_model::specs::Reading::string_at))]
 impl<T: Label> Decode for T {
     type Error = Error;
 
@@ -77,7 +77,8 @@ impl<T: Label> Decode for T {
 
     #[inline(always)]
     fn decode<R: Reader>(alloc: Global, reader: &mut R) -> Result<T>
-        ensures gives { Gives T.stands_for encoding_cause (label_at T.named) (R.source reader.old) result (R.source reader.new) }
+        ensures gives { Decodes T.stands_for (label_at T.named)
+            R.source reader.old result reader.new }
         ensures later { Later (R.source reader.old) (R.source reader.new) }
         ensures asks { Asks encoding_cause NeedsString (R.source reader.old) result }
         ensures past { LengthPast encoding_cause (R.source reader.old) result }
@@ -92,10 +93,11 @@ impl<T: Label> Decode for T {
 #[tactic(auto, using(crate::proofs::Steps::steps, crate::proofs::Lending::lending))]
 #[inline(always)]
 fn name_from<T: Label, R: Reader>(alloc: Global, len: usize, reader: &mut R) -> Result<T>
-    ensures gives { Gives T.stands_for encoding_cause (checked_at T.named (bytes_at len)) (R.source reader.old) result (R.source reader.new) }
+    ensures gives { Decodes T.stands_for (checked_at T.named (bytes_at len))
+        R.source reader.old result reader.new }
     ensures later { Later (R.source reader.old) (R.source reader.new) }
     ensures asks { Asks encoding_cause (λ b. len ≤ length b) (R.source reader.old) result }
-    ensures past { told (R.source reader.old) < len → result ≡ Err Error.Length }
+    ensures past { announced_len (R.source reader.old) < len → result ≡ Err Error.Length }
 {
     if let Some(name) = reader.ahead(len) {
         let value = named(alloc, name)?;
@@ -122,7 +124,7 @@ fn named<T: Label>(alloc: Global, name: &[u8]) -> Result<T>
 impl<T: Label> Encode for T {
     ghost normal = { λ x. string (T.name (T.stands_for x)) };
 
-    ghost most = { 2 ^ 32 + 3 };
+    ghost max_len = { 2 ^ 32 + 3 };
 
     fn encoded_len(&self) -> Result<usize> {
         string_len(self.label().as_bytes())

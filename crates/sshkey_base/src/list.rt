@@ -6,7 +6,7 @@ ghost use Rattle.sshkey_model.specs.Texts.{texts, texts_at};
 ghost use Rattle.sshkey_base.specs.Causes.{encoding_cause};
 ghost use Rattle.sshkey_base.specs.Nested.{nested_source};
 ghost use Rattle.sshkey_base.specs.Needs.{Asks, NeedsString};
-ghost use Rattle.sshkey_base.specs.Reading.{Gives, LengthPast, to_end};
+ghost use Rattle.sshkey_base.specs.Reading.{Decodes, LengthPast, to_end};
 ghost use Rattle.sshkey_base.specs.Source.{Later};
 ghost use Rattle.sshkey_base.specs.Sink.{Encodes, Measures, MeasuresBoxed};
 ghost use Rattle.sshkey_base.specs.TextLists.{SpellsTexts, texts_of, text_list_at, texts_grammar, texts_normal};
@@ -34,7 +34,8 @@ fn each_len<T: Encode>(values: &[T]) -> Result<u32>
 
 /// Writes the values, one behind the other.
 fn encode_each<T: Encode, W: Writer>(values: &[T], writer: &mut W) -> Result<()>
-    ensures { Encodes W.fault (each T.normal values.now) (W.sink writer.old) result (W.sink writer.new) }
+    ensures { Encodes W.fault (each T.normal values.now)
+        (W.sink writer.old) result (W.sink writer.new) }
 {
     for value in values {
         value.encode(writer)?;
@@ -58,7 +59,8 @@ pub fn list_len<T: Encode>(values: &[T]) -> Result<usize>
 ///
 /// The refusals are those of the values, and `Length` where they pass 2^32 - 1 bytes.
 pub fn encode_list<T: Encode, W: Writer>(values: &[T], writer: &mut W) -> Result<()>
-    ensures { Encodes W.fault (box (each T.normal values.now)) (W.sink writer.old) result (W.sink writer.new) }
+    ensures { Encodes W.fault (box (each T.normal values.now))
+        (W.sink writer.old) result (W.sink writer.new) }
 {
     each_len(values)?.encode(writer)?;
     encode_each(values, writer)
@@ -67,7 +69,7 @@ pub fn encode_list<T: Encode, W: Writer>(values: &[T], writer: &mut W) -> Result
 /// The texts up to the end of the reader.
 #[tactic(auto, using(crate::proofs::Places::places))]
 fn texts_from<R: Reader>(alloc: Global, reader: &mut R) -> Result<Vec<String>>
-    ensures gives { Gives texts_of encoding_cause (to_end text_list_at) (R.source reader.old) result (R.source reader.new) }
+    ensures gives { Decodes texts_of (to_end text_list_at) R.source reader.old result reader.new }
     ensures later { Later (R.source reader.old) (R.source reader.new) }
 {
     let mut texts = Vec::new(alloc);
@@ -99,15 +101,17 @@ impl Decode for Vec<String> {
     ghost grammar = { texts_grammar };
 
     fn decode<R: Reader>(alloc: Global, reader: &mut R) -> Result<Vec<String>>
-        ensures gives { Gives texts_of encoding_cause texts_at (R.source reader.old) result (R.source reader.new) }
+        ensures gives { Decodes texts_of texts_at R.source reader.old result reader.new }
         ensures later { Later (R.source reader.old) (R.source reader.new) }
         ensures asks { Asks encoding_cause NeedsString (R.source reader.old) result }
         ensures past { LengthPast encoding_cause (R.source reader.old) result }
     {
         reader.read_prefixed(
             |part: &mut NestedReader<'_, R>| -> Result<Vec<String>>
-                ensures gives { Gives texts_of encoding_cause (to_end text_list_at) (nested_source R.source part.old) result (nested_source R.source part.new) }
-                ensures later { Later (nested_source R.source part.old) (nested_source R.source part.new) }
+                ensures gives { Decodes texts_of (to_end text_list_at)
+                    (nested_source R.source) part.old result part.new }
+                ensures later { Later (nested_source R.source part.old)
+                    (nested_source R.source part.new) }
             { texts_from(alloc, part) },
         )
     }
@@ -117,7 +121,7 @@ impl Decode for Vec<String> {
 impl Encode for Vec<String> {
     ghost normal = { λ v. texts (texts_of v) };
 
-    ghost most = { 2 ^ 32 + 3 };
+    ghost max_len = { 2 ^ 32 + 3 };
 
     fn encoded_len(&self) -> Result<usize> {
         list_len(self)

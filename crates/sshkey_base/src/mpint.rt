@@ -34,10 +34,9 @@ pub struct Mpint {
 
 impl Mpint {
     ghost use Rattle.sshkey_model.specs.Mpints.{mpint_from, positive_part};
-    ghost use Rattle.sshkey_base.specs.Answering.{Answers, AnswersAlways};
+    ghost use Rattle.sshkey_base.specs.Answers.{Answers, AnswersAlways};
     ghost use Rattle.sshkey_base.specs.Causes.{cause};
-    ghost use Rattle.sshkey_base.specs.Numbers.{mpint_of};
-    ghost use Rattle.sshkey_base.specs.declared.error.Error.TheVariants as wide;
+    ghost use Rattle.sshkey_base.specs.Mpint.{mpint_of};
 
     /// The number that has these bytes, in two's complement.
     ///
@@ -67,18 +66,21 @@ impl Mpint {
     /// The number that is not negative and has these bytes, most significant first.
     ///
     /// Leading bytes 00 are left out, and one 00 is put before a first byte of 80 hex or more.
-    /// Refuses only with `Memory`.
+    /// Refuses only when out of memory.
     pub fn from_positive_bytes(alloc: Global, bytes: &[u8]) -> Result<Mpint>
         ensures value { IfOk result (λ m. mpint_of m ≡ of_positive bytes.now) }
-        ensures refused { IfErr result (λ e. e ≡ wide.Memory) }
+        ensures refused { IfErr result (λ e. e ≡ Error.Memory) }
     {
         let digits = without_leading_zeros(bytes);
-        let mut bytes = Vec::with_capacity(alloc, digits.len() + 1)?;
         if digits.first().is_some_and(|first| *first >= 0x80) {
+            let mut bytes = Vec::with_capacity(alloc, digits.len() + 1)?;
             bytes.push(0)?;
+            bytes.extend_from_slice(digits)?;
+            return Ok(Mpint { bytes });
         }
-        bytes.extend_from_slice(digits)?;
-        Ok(Mpint { bytes })
+        Ok(Mpint {
+            bytes: Vec::from_slice(alloc, digits)?,
+        })
     }
 
     /// The bytes, in two's complement.
@@ -101,10 +103,10 @@ impl Mpint {
         }
     }
 
-    /// The same number in memory of its own. Refuses only with `Memory`.
+    /// The same number in memory of its own. Refuses only when out of memory.
     pub fn try_clone(&self, alloc: Global) -> Result<Mpint>
         ensures value { IfOk result (λ m. mpint_of m ≡ mpint_of self.now) }
-        ensures refused { IfErr result (λ e. e ≡ wide.Memory) }
+        ensures refused { IfErr result (λ e. e ≡ Error.Memory) }
     {
         Ok(Mpint {
             bytes: Vec::from_slice(alloc, &self.bytes)?,
@@ -141,7 +143,7 @@ impl PartialEq for Mpint {
     ghost use Rattle.std.proofs.Common.{rules};
     ghost use Rattle.std.specs.Ordering.{on};
     ghost use Rattle.std.specs.Str.{bytes_eq};
-    ghost use Rattle.sshkey_base.specs.Numbers.{mpint_of};
+    ghost use Rattle.sshkey_base.specs.Mpint.{mpint_of};
 
     ghost eq = { on mpint_of bytes_eq };
 
@@ -168,7 +170,7 @@ impl Ord for Mpint {
     ghost use Rattle.std.specs.Cmp.Rules.{comparing};
     ghost use Rattle.std.proofs.Common.{rules};
     ghost use Rattle.std.specs.Ordering.{nat_cmp, on};
-    ghost use Rattle.sshkey_base.specs.Numbers.{mpint_of};
+    ghost use Rattle.sshkey_base.specs.Mpint.{mpint_of};
 
     ghost cmp = { on mpint_of (slice_cmp nat_cmp) };
 
@@ -190,7 +192,7 @@ impl PartialOrd for Mpint {
     ghost use Rattle.std.specs.Cmp.Rules.{comparing};
     ghost use Rattle.std.proofs.Common.{rules};
     ghost use Rattle.std.specs.Ordering.{nat_cmp, on, as_partial_cmp};
-    ghost use Rattle.sshkey_base.specs.Numbers.{mpint_of};
+    ghost use Rattle.sshkey_base.specs.Mpint.{mpint_of};
 
     ghost partial_cmp = { as_partial_cmp (on mpint_of (slice_cmp nat_cmp)) };
 
@@ -202,7 +204,7 @@ impl PartialOrd for Mpint {
 }
 
 impl AsSlice<u8> for Mpint {
-    ghost use Rattle.sshkey_base.specs.Numbers.{mpint_of};
+    ghost use Rattle.sshkey_base.specs.Mpint.{mpint_of};
 
     ghost items = { mpint_of };
 
@@ -213,10 +215,11 @@ impl AsSlice<u8> for Mpint {
 
 /// Two digits a byte, with small letters.
 impl fmt::LowerHex for Mpint {
-    ghost use Rattle.sshkey_base.specs.Numbers.{mpint_of};
+    ghost use Rattle.sshkey_base.specs.Mpint.{mpint_of};
 
     fn fmt<W: fmt::Write>(&self, f: &mut fmt::Formatter<W>) -> fmt::Result
-        ensures { WritesOnOk W.write_str_gives f.old result (encode_lower (mpint_of self.now)) f.new }
+        ensures { WritesOnOk W.write_str_gives f.old result
+            (encode_lower (mpint_of self.now)) f.new }
     {
         write_lower_hex(&self.bytes, f)
     }
@@ -224,10 +227,11 @@ impl fmt::LowerHex for Mpint {
 
 /// Two digits a byte, with capital letters.
 impl fmt::UpperHex for Mpint {
-    ghost use Rattle.sshkey_base.specs.Numbers.{mpint_of};
+    ghost use Rattle.sshkey_base.specs.Mpint.{mpint_of};
 
     fn fmt<W: fmt::Write>(&self, f: &mut fmt::Formatter<W>) -> fmt::Result
-        ensures { WritesOnOk W.write_str_gives f.old result (encode_upper (mpint_of self.now)) f.new }
+        ensures { WritesOnOk W.write_str_gives f.old result
+            (encode_upper (mpint_of self.now)) f.new }
     {
         write_upper_hex(&self.bytes, f)
     }
@@ -237,7 +241,7 @@ impl fmt::UpperHex for Mpint {
 impl fmt::Display for Mpint {
     ghost use Rattle.std.specs.Prelude.{Some};
     ghost use Rattle.hex.specs.Hex.{encode_upper};
-    ghost use Rattle.sshkey_base.specs.Numbers.{mpint_of};
+    ghost use Rattle.sshkey_base.specs.Mpint.{mpint_of};
 
     ghost output = { λ m. Some (encode_upper (mpint_of m)) };
 
@@ -250,15 +254,14 @@ impl fmt::Display for Mpint {
 ///
 /// `Length` where the string passes what is left, which no memory is asked for, and
 /// `FormatEncoding` where its bytes are those of no number.
-#[tactic(auto, using(crate::proofs::Steps::steps), unfolding(crate::specs::MpintSpelling::mpint_at))]
+#[tactic(auto, using(crate::proofs::Steps::steps), unfolding(crate::specs::Mpint::mpint_at))]
 impl Decode for Mpint {
     ghost use Rattle.std.specs.Prelude.{ℕ, List};
     ghost use Rattle.sshkey_base.specs.Causes.{cause};
-    ghost use Rattle.sshkey_base.specs.MpintSpelling.{SpellsMpint, mpint_at, mpint_grammar};
+    ghost use Rattle.sshkey_base.specs.Mpint.{SpellsMpint, mpint_at, mpint_grammar, mpint_of};
     ghost use Rattle.sshkey_base.specs.Reading.{Gives, LengthPast};
     ghost use Rattle.sshkey_base.specs.Needs.{Asks, NeedsString};
     ghost use Rattle.sshkey_base.specs.Source.{Later};
-    ghost use Rattle.sshkey_base.specs.Numbers.{mpint_of};
 
     type Error = Error;
 
@@ -275,7 +278,8 @@ impl Decode for Mpint {
     ghost grammar = { mpint_grammar };
 
     fn decode<R: Reader>(alloc: Global, reader: &mut R) -> Result<Mpint>
-        ensures gives { Gives mpint_of cause mpint_at (R.source reader.old) result (R.source reader.new) }
+        ensures gives { Gives mpint_of cause mpint_at
+            (R.source reader.old) result (R.source reader.new) }
         ensures later { Later (R.source reader.old) (R.source reader.new) }
         ensures asks { Asks cause NeedsString (R.source reader.old) result }
         ensures past { LengthPast cause (R.source reader.old) result }
@@ -289,11 +293,11 @@ impl Decode for Mpint {
 impl Encode for Mpint {
     ghost use Rattle.std.specs.Prelude.{◌+◌, ◌^◌};
     ghost use Rattle.sshkey_model.specs.Texts.{string};
-    ghost use Rattle.sshkey_base.specs.Numbers.{mpint_of};
+    ghost use Rattle.sshkey_base.specs.Mpint.{mpint_of};
 
     ghost normal = { λ m. string (mpint_of m) };
 
-    ghost most = { 2 ^ 32 + 4 };
+    ghost max_len = { 2 ^ 32 + 4 };
 
     fn encoded_len(&self) -> encoding::Result<usize> {
         string_len(&self.bytes)
@@ -306,7 +310,7 @@ impl Encode for Mpint {
 
 /// Every number is one that its format has.
 impl NormalForm for Mpint {
-    ghost use Rattle.sshkey_base.specs.MpintNormal.{mpint_normal};
+    ghost use Rattle.sshkey_base.specs.Mpint.{mpint_normal};
 
     ghost IsWellFormed = { λ _. Unit {0} };
 

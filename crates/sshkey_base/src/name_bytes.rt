@@ -5,8 +5,8 @@ ghost use Rattle.sshkey_model.specs.Reading.{bytes_at, string_at};
 ghost use Rattle.sshkey_base.specs.Causes.{encoding_cause};
 ghost use Rattle.sshkey_base.specs.NameBytes.{name_bytes_of};
 ghost use Rattle.sshkey_base.specs.Needs.{Asks, NeedsString};
-ghost use Rattle.sshkey_base.specs.Reading.{Gives, LengthPast};
-ghost use Rattle.sshkey_base.specs.Source.{Later, told};
+ghost use Rattle.sshkey_base.specs.Reading.{Decodes, LengthPast};
+ghost use Rattle.sshkey_base.specs.Source.{Later, announced_len};
 
 use crate::bytes::{Bytes, bytes_from};
 use crate::encoding::{Error, Result};
@@ -23,9 +23,9 @@ pub(crate) enum NameBytes {
 
 impl NameBytes {
     /// A string of any bytes (RFC 4251, section 5). A length that passes what is left is `Length`.
-    #[tactic(auto, using(crate::proofs::Steps::steps), unfolding(crate::specs::Readers::string_at))]
+    #[tactic(auto, using(crate::proofs::Steps::steps), unfolding(sshkey_model::specs::Reading::string_at))]
     pub(crate) fn decode<R: Reader>(alloc: Global, reader: &mut R) -> Result<NameBytes>
-        ensures gives { Gives name_bytes_of encoding_cause string_at (R.source reader.old) result (R.source reader.new) }
+        ensures gives { Decodes name_bytes_of string_at R.source reader.old result reader.new }
         ensures later { Later (R.source reader.old) (R.source reader.new) }
         ensures asks { Asks encoding_cause NeedsString (R.source reader.old) result }
         ensures past { LengthPast encoding_cause (R.source reader.old) result }
@@ -40,15 +40,15 @@ impl NameBytes {
         len: usize,
         reader: &mut R,
     ) -> Result<NameBytes>
-        ensures gives { Gives name_bytes_of encoding_cause (bytes_at len) (R.source reader.old) result (R.source reader.new) }
+        ensures gives { Decodes name_bytes_of (bytes_at len) R.source reader.old result reader.new }
         ensures later { Later (R.source reader.old) (R.source reader.new) }
         ensures asks { Asks encoding_cause (λ b. len ≤ length b) (R.source reader.old) result }
-        ensures past { told (R.source reader.old) < len → result ≡ Err Error.Length }
+        ensures past { announced_len (R.source reader.old) < len → result ≡ Err Error.Length }
     {
         if len <= 73 {
             Ok(NameBytes::Short(ShortBytes::take_from(len, reader)?))
         } else {
-            Ok(NameBytes::Long(bytes_from(alloc, len, reader)?))
+            Ok(NameBytes::Long(bytes_from(alloc, len, 0, reader)?))
         }
     }
 

@@ -3,10 +3,9 @@
 ghost use Rattle.std.specs.Prelude.{◌≡◌, ◌≤◌, ◌↔◌, IfSome, IsTrue, Ok, Err, cond, eqb, length};
 ghost use Rattle.std.specs.Int.{w32};
 ghost use Rattle.sshkey_model.specs.Reading.{bytes_at, number_at};
-ghost use Rattle.sshkey_base.specs.Causes.{encoding_cause};
 ghost use Rattle.sshkey_base.specs.Nested.{PassesBy, Prefixed, PastIs, nested_source};
-ghost use Rattle.sshkey_base.specs.Reading.{GivesAlways, Reads};
-ghost use Rattle.sshkey_base.specs.Source.{Source, Later, Takes, all_of, behind, told};
+ghost use Rattle.sshkey_base.specs.Reading.{DecodesAlways, Reads};
+ghost use Rattle.sshkey_base.specs.Source.{Source, Later, Takes, all_of, behind, announced_len};
 
 use crate::encoding::{Error, Result};
 
@@ -29,7 +28,8 @@ pub trait Reader: Sized {
     /// The next `len` bytes where they lie in memory. `None` where fewer are left, and always from
     /// a reader that does not hold its bytes.
     fn ahead(&self, len: usize) -> Option<&[u8]>
-        ensures lent { IfSome result (λ bytes. Reads (λ x. x) (bytes_at len) (source self.now) bytes.now (behind len (source self.now))) }
+        ensures lent { IfSome result (λ bytes. Reads (λ x. x) (bytes_at len)
+            (source self.now) bytes.now (behind len (source self.now))) }
         ensures within { IfSome result (λ _. len ≤ length (source self.now).left) }
     {
         let _ = len;
@@ -55,11 +55,11 @@ pub trait Reader: Sized {
     /// How many bytes are left. A source with a fault announces more than it has, and the number
     /// falls by what is read.
     fn remaining_len(&self) -> usize
-        ensures { result ≡ told (source self.now) };
+        ensures { result ≡ announced_len (source self.now) };
 
     /// Whether no byte is left.
     final fn is_finished(&self) -> bool
-        ensures { IsTrue result ↔ (told (source self.now) ≡ 0) }
+        ensures { IsTrue result ↔ (announced_len (source self.now) ≡ 0) }
     {
         self.remaining_len() == 0
     }
@@ -69,7 +69,8 @@ pub trait Reader: Sized {
     final fn finish<T: Drop>(self, value: T) -> Result<T>
     where
         Self: Drop,
-        ensures { result ≡ cond (eqb (told (source self)) 0) (Ok value) (Err (Error.TrailingData (told (source self)))) }
+        ensures { result ≡ cond (eqb (announced_len (source self)) 0) (Ok value)
+            (Err (Error.TrailingData (announced_len (source self)))) }
     {
         let remaining = self.remaining_len();
         if remaining == 0 {
@@ -92,8 +93,10 @@ pub trait Reader: Sized {
         F: FnOnce(&mut NestedReader<'_, Self>) -> std::result::Result<T, E>,
         requires { F.IsAlwaysCallable f }
         ensures past { PastIs E.from_gives (source self.old) result }
-        ensures calls { Prefixed F.FnOnce ⟦<NestedReader<'static, Self> as Reader>⟧.source E.from_gives f (source self.old) result (source self.new) }
-        ensures later { PassesBy F.FnOnce ⟦<NestedReader<'static, Self> as Reader>⟧.source f → Later (source self.old) (source self.new) }
+        ensures calls { Prefixed F.FnOnce ⟦<NestedReader<'static, Self> as Reader>⟧.source
+            E.from_gives f (source self.old) result (source self.new) }
+        ensures later { PassesBy F.FnOnce ⟦<NestedReader<'static, Self> as Reader>⟧.source f →
+            Later (source self.old) (source self.new) }
     {
         let len = length_from(self)?;
         if self.remaining_len() < len {
@@ -150,7 +153,8 @@ impl Reader for &[u8] {
 /// The first `len` bytes, if there are so many.
 #[inline(always)]
 fn first(bytes: &[u8], len: usize) -> Option<&[u8]>
-    ensures lent { IfSome result (λ front. Reads (λ x. x) (bytes_at len) (all_of bytes.now) front.now (behind len (all_of bytes.now))) }
+    ensures lent { IfSome result (λ front. Reads (λ x. x) (bytes_at len)
+        (all_of bytes.now) front.now (behind len (all_of bytes.now))) }
     ensures within { IfSome result (λ _. len ≤ length bytes.now) }
 {
     if bytes.len() < len {
@@ -208,7 +212,7 @@ impl<R: Reader> Reader for NestedReader<'_, R> {
 /// of its own.
 #[inline(always)]
 pub fn array_from<const N: usize, R: Reader>(reader: &mut R) -> Result<[u8; N]>
-    ensures gives { GivesAlways (λ x. x) encoding_cause (bytes_at N) (R.source reader.old) result (R.source reader.new) }
+    ensures gives { DecodesAlways (λ x. x) (bytes_at N) R.source reader.old result reader.new }
     ensures later { Later (R.source reader.old) (R.source reader.new) }
 {
     let mut bytes = [0u8; N];
@@ -220,10 +224,10 @@ pub fn array_from<const N: usize, R: Reader>(reader: &mut R) -> Result<[u8; N]>
 ///
 /// Where fewer are left, the answer is `Length` from a sound source, and from another one a fault
 /// of its own.
-#[tactic(auto, using(crate::proofs::Steps::steps), unfolding(crate::specs::Readers::number_at))]
+#[tactic(auto, using(crate::proofs::Steps::steps), unfolding(sshkey_model::specs::Reading::number_at))]
 #[inline(always)]
 pub fn length_from<R: Reader>(reader: &mut R) -> Result<usize>
-    ensures gives { GivesAlways (λ x. x) encoding_cause (number_at w32) (R.source reader.old) result (R.source reader.new) }
+    ensures gives { DecodesAlways (λ x. x) (number_at w32) R.source reader.old result reader.new }
     ensures later { Later (R.source reader.old) (R.source reader.new) }
 {
     let bytes = array_from::<4, R>(reader)?;

@@ -4,9 +4,9 @@ ghost use Rattle.std.specs.Prelude.{◌≡◌, ◌<◌, ◌≤◌, ℕ, List, Er
 ghost use Rattle.sshkey_model.specs.Reading.{bytes_at, checked_at};
 ghost use Rattle.sshkey_base.specs.Causes.{encoding_cause};
 ghost use Rattle.sshkey_base.specs.Needs.{Asks, NoNeed};
-ghost use Rattle.sshkey_base.specs.Reading.{Gives, GivesAlways, LengthPast, Reads};
+ghost use Rattle.sshkey_base.specs.Reading.{Decodes, DecodesAlways, GivesAlways, LengthPast, Reads};
 ghost use Rattle.sshkey_base.specs.ShortStrings.{SpellsShort, at_most, short_at, short_grammar};
-ghost use Rattle.sshkey_base.specs.Source.{Later, behind, told};
+ghost use Rattle.sshkey_base.specs.Source.{Later, behind, announced_len};
 
 use crate::decode::Decode;
 use crate::encoding::{Error, Result};
@@ -34,7 +34,9 @@ impl<const MAX: usize> ShortBytes<MAX> {
 
     /// The next `len` bytes where they lie in memory, if they are not more than `MAX`.
     pub fn ahead<R: Reader>(len: usize, reader: &R) -> Option<&[u8]>
-        ensures lent { IfSome result (λ bytes. Reads (λ x. x) (checked_at (at_most MAX) (bytes_at len)) (R.source reader.now) bytes.now (behind len (R.source reader.now))) }
+        ensures lent { IfSome result (λ bytes. Reads (λ x. x)
+            (checked_at (at_most MAX) (bytes_at len)) (R.source reader.now)
+            bytes.now (behind len (R.source reader.now))) }
         ensures within { IfSome result (λ _. len ≤ length (R.source reader.now).left) }
     {
         if len > MAX {
@@ -45,10 +47,12 @@ impl<const MAX: usize> ShortBytes<MAX> {
 
     /// The next `len` bytes. `Length` where there are more than `MAX`, or more than are announced.
     pub fn take_from<R: Reader>(len: usize, reader: &mut R) -> Result<ShortBytes<MAX>>
-        ensures gives { GivesAlways short_of encoding_cause (checked_at (at_most MAX) (bytes_at len)) (R.source reader.old) result (R.source reader.new) }
+        ensures gives { DecodesAlways short_of (checked_at (at_most MAX) (bytes_at len))
+            R.source reader.old result reader.new }
         ensures later { Later (R.source reader.old) (R.source reader.new) }
-        ensures plain { len ≤ MAX → GivesAlways short_of encoding_cause (bytes_at len) (R.source reader.old) result (R.source reader.new) }
-        ensures past { told (R.source reader.old) < len → result ≡ Err Error.Length }
+        ensures plain { len ≤ MAX → GivesAlways short_of encoding_cause (bytes_at len)
+            (R.source reader.old) result (R.source reader.new) }
+        ensures past { announced_len (R.source reader.old) < len → result ≡ Err Error.Length }
     {
         if len > MAX || reader.remaining_len() < len {
             return Err(Error::Length);
@@ -62,7 +66,7 @@ impl<const MAX: usize> ShortBytes<MAX> {
 /// A string of at most `MAX` bytes: a length of four bytes, and the bytes (RFC 4251, section 5).
 ///
 /// `Length` for a longer one, and for a length that passes what is left. Takes no memory.
-#[tactic(auto, using(crate::proofs::Steps::steps), unfolding(crate::specs::ShortStrings::short_at, crate::specs::Readers::string_at))]
+#[tactic(auto, using(crate::proofs::Steps::steps), unfolding(crate::specs::ShortStrings::short_at, sshkey_model::specs::Reading::string_at))]
 impl<const MAX: usize> Decode for ShortBytes<MAX> {
     ghost use Rattle.sshkey_base.specs.ShortBytes.{short_of};
 
@@ -81,10 +85,11 @@ impl<const MAX: usize> Decode for ShortBytes<MAX> {
     ghost grammar = { short_grammar MAX };
 
     fn decode<R: Reader>(_alloc: Global, reader: &mut R) -> Result<ShortBytes<MAX>>
-        ensures gives { Gives short_of encoding_cause (short_at MAX) (R.source reader.old) result (R.source reader.new) }
+        ensures gives { Decodes short_of (short_at MAX) R.source reader.old result reader.new }
         ensures later { Later (R.source reader.old) (R.source reader.new) }
         ensures asks { Asks encoding_cause NoNeed (R.source reader.old) result }
-        ensures always { GivesAlways short_of encoding_cause (short_at MAX) (R.source reader.old) result (R.source reader.new) }
+        ensures always { DecodesAlways short_of (short_at MAX)
+            R.source reader.old result reader.new }
         ensures past { LengthPast encoding_cause (R.source reader.old) result }
     {
         let len = length_from(reader)?;

@@ -7,7 +7,7 @@ ghost use Rattle.sshkey_base.specs.Causes.{encoding_cause};
 ghost use Rattle.sshkey_base.specs.Counts.{count_normal};
 ghost use Rattle.sshkey_base.specs.Leaves.{SpellsNumber32, number32_grammar, count};
 ghost use Rattle.sshkey_base.specs.Needs.{Asks, NoNeed};
-ghost use Rattle.sshkey_base.specs.Reading.{Gives, GivesAlways};
+ghost use Rattle.sshkey_base.specs.Reading.{Decodes, DecodesAlways};
 ghost use Rattle.sshkey_base.specs.Sink.{Encodes};
 ghost use Rattle.sshkey_base.specs.Source.{Later};
 
@@ -37,10 +37,11 @@ impl Decode for usize {
     ghost grammar = { number32_grammar };
 
     fn decode<R: Reader>(_alloc: Global, reader: &mut R) -> Result<usize>
-        ensures gives { Gives (λ x. x) encoding_cause (number_at w32) (R.source reader.old) result (R.source reader.new) }
+        ensures gives { Decodes (λ x. x) (number_at w32) R.source reader.old result reader.new }
         ensures later { Later (R.source reader.old) (R.source reader.new) }
         ensures asks { Asks encoding_cause NoNeed (R.source reader.old) result }
-        ensures always { GivesAlways (λ x. x) encoding_cause (number_at w32) (R.source reader.old) result (R.source reader.new) }
+        ensures always { DecodesAlways (λ x. x) (number_at w32)
+            R.source reader.old result reader.new }
     {
         length_from(reader)
     }
@@ -52,15 +53,17 @@ impl Decode for usize {
 impl Encode for usize {
     ghost normal = { count };
 
-    ghost most = { 4 };
+    ghost max_len = { 4 };
 
     fn encoded_len(&self) -> Result<usize> {
         u32_of(*self)?.encoded_len()
     }
 
     fn encode<W: Writer>(&self, writer: &mut W) -> Result<()>
-        ensures encodes { Encodes W.fault (count self.now) (W.sink writer.old) result (W.sink writer.new) }
-        ensures unwritten { 2 ^ 32 ≤ self.now → (result ≡ Err Error.Length) × (W.sink writer.new ≡ W.sink writer.old) }
+        ensures encodes { Encodes W.fault (count self.now)
+            (W.sink writer.old) result (W.sink writer.new) }
+        ensures unwritten { 2 ^ 32 ≤ self.now →
+            (result ≡ Err Error.Length) × (W.sink writer.new ≡ W.sink writer.old) }
     {
         u32_of(*self)?.encode(writer)
     }

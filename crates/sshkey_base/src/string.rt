@@ -4,7 +4,7 @@ ghost use Rattle.std.specs.Prelude.{ℕ, ◌+◌, ◌^◌, List, string_bytes};
 ghost use Rattle.sshkey_model.specs.Texts.{string};
 ghost use Rattle.sshkey_base.specs.Causes.{encoding_cause};
 ghost use Rattle.sshkey_base.specs.Needs.{Asks, NeedsString};
-ghost use Rattle.sshkey_base.specs.Reading.{Gives, LengthPast};
+ghost use Rattle.sshkey_base.specs.Reading.{Decodes, LengthPast};
 ghost use Rattle.sshkey_base.specs.Source.{Later};
 ghost use Rattle.sshkey_base.specs.Texts.{SpellsText, text_at, text_grammar, string_text_normal};
 
@@ -37,7 +37,7 @@ impl Decode for String {
     ghost grammar = { text_grammar };
 
     fn decode<R: Reader>(alloc: Global, reader: &mut R) -> Result<String>
-        ensures gives { Gives string_bytes encoding_cause text_at (R.source reader.old) result (R.source reader.new) }
+        ensures gives { Decodes string_bytes text_at R.source reader.old result reader.new }
         ensures later { Later (R.source reader.old) (R.source reader.new) }
         ensures asks { Asks encoding_cause NeedsString (R.source reader.old) result }
         ensures past { LengthPast encoding_cause (R.source reader.old) result }
@@ -51,7 +51,7 @@ impl Decode for String {
 impl Encode for String {
     ghost normal = { λ s. string (string_bytes s) };
 
-    ghost most = { 2 ^ 32 + 3 };
+    ghost max_len = { 2 ^ 32 + 3 };
 
     fn encoded_len(&self) -> Result<usize> {
         self.as_str().encoded_len()
@@ -66,7 +66,7 @@ impl Encode for String {
 impl Encode for &str {
     ghost normal = { λ s. string s.now };
 
-    ghost most = { 2 ^ 32 + 3 };
+    ghost max_len = { 2 ^ 32 + 3 };
 
     fn encoded_len(&self) -> Result<usize> {
         string_len(self.as_bytes())

@@ -2,10 +2,10 @@
 
 ghost use Rattle.std.specs.Prelude.{◌≡◌, ℕ, ◌+◌, ◌^◌, List, IfOk, IfErr, string_bytes};
 ghost use Rattle.sshkey_model.specs.Texts.{string, text_from};
-ghost use Rattle.sshkey_base.specs.Answering.{AnswersAlways};
+ghost use Rattle.sshkey_base.specs.Answers.{AnswersAlways};
 ghost use Rattle.sshkey_base.specs.Causes.{encoding_cause};
 ghost use Rattle.sshkey_base.specs.Needs.{Asks, NeedsString};
-ghost use Rattle.sshkey_base.specs.Reading.{Gives, LengthPast};
+ghost use Rattle.sshkey_base.specs.Reading.{Decodes, LengthPast};
 ghost use Rattle.sshkey_base.specs.Source.{Later};
 ghost use Rattle.sshkey_base.specs.Texts.{SpellsText, text_at, text_grammar};
 
@@ -85,7 +85,7 @@ impl Decode for Text {
     ghost grammar = { text_grammar };
 
     fn decode<R: Reader>(alloc: Global, reader: &mut R) -> Result<Text>
-        ensures gives { Gives (λ t. t) encoding_cause text_at (R.source reader.old) result (R.source reader.new) }
+        ensures gives { Decodes (λ t. t) text_at R.source reader.old result reader.new }
         ensures later { Later (R.source reader.old) (R.source reader.new) }
         ensures asks { Asks encoding_cause NeedsString (R.source reader.old) result }
         ensures past { LengthPast encoding_cause (R.source reader.old) result }
@@ -109,7 +109,7 @@ fn text_of(bytes: Bytes) -> Result<Text>
 impl Encode for Text {
     ghost normal = { string };
 
-    ghost most = { 2 ^ 32 + 3 };
+    ghost max_len = { 2 ^ 32 + 3 };
 
     fn encoded_len(&self) -> Result<usize> {
         string_len(self.as_str().as_bytes())

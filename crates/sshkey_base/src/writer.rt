@@ -24,7 +24,7 @@ pub trait Writer: Sized {
 }
 
 /// A vector that grows. `Memory` where it can't.
-#[tactic(auto, using(crate::proofs::Writing::none_began))]
+#[tactic(auto, using(crate::proofs::Writing::wrote_none))]
 impl Writer for Vec<u8> {
     ghost sink = { λ v. record { written = v.items; limit = None } };
 
@@ -63,7 +63,7 @@ impl<'s> SliceWriter<'s> {
 }
 
 /// `Length` where the bytes pass the rest of the slice; then none of them is written.
-#[tactic(auto, using(crate::proofs::Writing::none_began))]
+#[tactic(auto, using(crate::proofs::Writing::wrote_none))]
 impl Writer for SliceWriter<'_> {
     ghost use Rattle.sshkey_base.specs.SliceWriter.{slice_sink};
 
@@ -72,7 +72,8 @@ impl Writer for SliceWriter<'_> {
     ghost fault = { λ e. e ≡ Length };
 
     fn write(&mut self, bytes: &[u8]) -> Result<()>
-        ensures writes { Writes (λ e. e ≡ Length) (slice_sink self.old) bytes.now result (slice_sink self.new) }
+        ensures writes { Writes (λ e. e ≡ Length) (slice_sink self.old)
+            bytes.now result (slice_sink self.new) }
         ensures unwritten { IfErr result (λ _. slice_sink self.new ≡ slice_sink self.old) }
     {
         let slice = &mut *self.slice;

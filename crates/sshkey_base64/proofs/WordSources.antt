@@ -10,7 +10,7 @@ use Rattle.base64.specs.declared.decode.DecodeError.{DecodeError}
 use Rattle.base64.proofs.EngineFacts.{decode_of-encode_of, decode_of_strict, encode_of-append, encode_of-nil}
 use Rattle.sshkey_model.specs.Parts.{are_bytes}
 use Rattle.sshkey_model.proofs.CombinedReaders.{bytes_fit, are_bytes-append}
-use Rattle.sshkey_base.specs.Source.{Source, Advances, Later, TooFew, Takes, told}
+use Rattle.sshkey_base.specs.Source.{Source, Advances, Later, TooFew, Takes, announced_len}
 use Rattle.sshkey_base.proofs.Places.{later_then, later_advanced}
 use Rattle.sshkey_base.specs.declared.encoding.Error.{Error}
 use Rattle.sshkey_base.specs.declared.encoding.Error.TheVariants as encoding
@@ -64,7 +64,7 @@ range_length xs i j le fits = length-take-le (j - i) (drop i xs) (omega (arith, 
 pub held_taken : (held first rest w : List ℕ) → held ≡ first ++ rest → are_bytes first ≡ true → Advances (word_source held w) first (word_source rest w)
 held_taken held first rest w is are = record { taken = ap (λ (l : List ℕ). l ++ good w) is ∙ append_assoc first rest (good w); missing = refl; outer = refl; are = are }
 
-pub told_is : (held w : List ℕ) → are_bytes w ≡ true → length w % 4 ≡ 0 → told (word_source held w) ≡ length held + announced w
+pub told_is : (held w : List ℕ) → are_bytes w ≡ true → length w % 4 ≡ 0 → announced_len (word_source held w) ≡ length held + announced w
 told_is held w are whole =
     let le = bounded w (bytes_fit w are) whole in
     sums (length (held ++ good w)) (length held) (length (good w)) (announced w) (length-append held (good w)) le
@@ -191,7 +191,7 @@ group_refused (a ∷ b ∷ c ∷ d ∷ []) r len none = group_refused_at a b c d
 group_refused (a ∷ b ∷ c ∷ d ∷ e ∷ g) r len none = absurd (omega arith)
 
 -- nothing more is read of a word that has ended
-pub some_text : (held w : List ℕ) (n : ℕ) → held ≡ [] → are_bytes w ≡ true → length w % 4 ≡ 0 → 0 < n → n ≤ told (word_source held w) → 0 < length w
+pub some_text : (held w : List ℕ) (n : ℕ) → held ≡ [] → are_bytes w ≡ true → length w % 4 ≡ 0 → 0 < n → n ≤ announced_len (word_source held w) → 0 < length w
 some_text held w n none are whole some le = omega (arith, told_is held w are whole, ap length none)
 
 pub no_items : (l : List ℕ) → length l ≡ 0 → l ≡ []
@@ -199,9 +199,9 @@ no_items [] e = refl
 no_items (x ∷ l) e = absurd (omega arith)
 
 -- all that is left of a word is held
-pub told_held : (new r : List ℕ) (n : ℕ) → r ≡ [] → n ≤ length new → told (word_source (slice_range new 0 n) r) ≡ n
+pub told_held : (new r : List ℕ) (n : ℕ) → r ≡ [] → n ≤ length new → announced_len (word_source (slice_range new 0 n) r) ≡ n
 told_held new r n end le =
-    let ended : told (word_source (slice_range new 0 n) r) ≡ told (word_source (slice_range new 0 n) []) = ap (λ (l : List ℕ). told (word_source (slice_range new 0 n) l)) end in
+    let ended : announced_len (word_source (slice_range new 0 n) r) ≡ announced_len (word_source (slice_range new 0 n) []) = ap (λ (l : List ℕ). announced_len (word_source (slice_range new 0 n) l)) end in
     let none : n - 0 ≡ n = omega arith in
     ended ∙ told_is (slice_range new 0 n) [] refl refl ∙ plus (length (slice_range new 0 n)) ∙ range_length new 0 n (omega arith) le ∙ none
   where
@@ -223,7 +223,7 @@ never_ok w e err b ok =
 
 -- ---- one read after another
 
-pub told_before : (s t : Source) (a : List ℕ) → Advances s a t → told s ≡ length a + told t
+pub told_before : (s t : Source) (a : List ℕ) → Advances s a t → announced_len s ≡ length a + announced_len t
 told_before s t a h = omega (arith, ap length h.taken, length-append a t.left, h.missing)
 
 pub nothing_taken : (s : Source) (bytes : List ℕ) → length bytes ≡ 0 → Advances s bytes s
@@ -239,7 +239,7 @@ advances_both s t u a b h k = record {
 }
 
 -- A fault was met in what was announced, so that the source has one.
-pub too_few : (s t : Source) (a b : List ℕ) (n : ℕ) (e : Error) → Advances s a t → length t.left < length b → length a + length b ≤ n → n ≤ told s → TooFew s n e
+pub too_few : (s t : Source) (a b : List ℕ) (n : ℕ) (e : Error) → Advances s a t → length t.left < length b → length a + length b ≤ n → n ≤ announced_len s → TooFew s n e
 too_few s t a b n e h lt fits announced =
     let few : length s.left < n = omega (arith, ap length h.taken, length-append a t.left) in
     record { few = few; sound = λ sound. absurd (never (length s.left) n s.missing few sound announced) }
@@ -256,7 +256,7 @@ later_all s t u v a b d (Err e) h k l = subst (λ (x : Source). Later s x) (sym 
 pub later_held : (s t u : Source) (a b : List ℕ) (e : Error) → Advances s a t → TakesBase64 t b (Err e) u → Later s u
 later_held s t u a b e h k = subst (λ (x : Source). Later s x) (sym k.2) (later_advanced s t a h)
 
-pub takes_all : (s t u v : Source) (a b d : List ℕ) (r : Result (Unit {0}) Error) → Advances s a t → Advances t b u → TakesBase64 u d r v → length (a ++ (b ++ d)) ≤ told s → Takes s (a ++ (b ++ d)) r v
+pub takes_all : (s t u v : Source) (a b d : List ℕ) (r : Result (Unit {0}) Error) → Advances s a t → Advances t b u → TakesBase64 u d r v → length (a ++ (b ++ d)) ≤ announced_len s → Takes s (a ++ (b ++ d)) r v
 takes_all s t u v a b d (Ok x) h k l le = advances_both s t v a (b ++ d) h (advances_both t u v b d k l)
 takes_all s t u v a b d (Err e) h k l le =
     too_few s u (a ++ b) d (length (a ++ (b ++ d))) e (advances_both s t u a b h k) l.1 (omega (arith, length-append a b, length-append a (b ++ d), length-append b d)) le

@@ -3,7 +3,7 @@ use Rattle.std.specs.Prelude.{◌≡◌, ◌⊎◌, ℕ, ◌<◌, ◌≤◌, ◌
 use Rattle.base64.specs.Engines.{standard}
 use Rattle.base64.specs.GeneralPurpose.{encode_of, decode_of, decoded_of, IsBytes}
 use Rattle.sshkey_model.specs.Parts.{are_bytes}
-use Rattle.sshkey_base.specs.Source.{Source, IsSound, Advances, told}
+use Rattle.sshkey_base.specs.Source.{Source, IsSound, Advances, announced_len}
 use Rattle.sshkey_base.specs.declared.encoding.Error as narrow
 use Rattle.sshkey_base.specs.declared.encoding.Error.TheVariants as encoding
 
@@ -61,5 +61,5 @@ TakesBase64 s bytes (Err e) t = (e ≡ encoding.Base64) × (length s.left < leng
 
 -- Nothing was taken, and three bytes are held or all that are left; or none is left before a fault.
 abbrev pub Holds : Source → Result (Unit {0}) narrow.Error → Source → ℕ → ℕ → Type 0
-Holds s (Ok _) t from to = (t ≡ s) × (from ≡ 0) × ((to ≡ 3) ⊎ (to ≡ told s))
+Holds s (Ok _) t from to = (t ≡ s) × (from ≡ 0) × ((to ≡ 3) ⊎ (to ≡ announced_len s))
 Holds s (Err e) t from to = (e ≡ encoding.Base64) × (length s.left ≡ 0) × (t ≡ s)

@@ -2,7 +2,7 @@
 
 ghost use Rattle.std.specs.Prelude.{◌≡◌, ◌≢◌, ◌≤◌, ◌<◌, ◌+◌, ◌*◌, ◌/◌, ◌%◌, ◌⊎◌, ◌↔◌, [], length, slice_range, IfOk, IfErr, OnOk, IsTrue, true};
 ghost use Rattle.sshkey_model.specs.Parts.{are_bytes};
-ghost use Rattle.sshkey_base.specs.Source.{Source, Takes, Advances, told};
+ghost use Rattle.sshkey_base.specs.Source.{Source, Takes, Advances, announced_len};
 ghost use Rattle.sshkey_base.specs.declared.encoding.Error.TheVariants as encoding;
 ghost use Rattle.sshkey_base64.specs.Words64.{IsSourceOf, padding, announced, word_source, DecodesGroups, DecodesSome, TakesBase64, Holds};
 
@@ -91,9 +91,12 @@ fn is_in_place(count: usize, rest: &[u8]) -> bool
 impl<'a> Base64Reader<'a> {
     /// A reader of that word. `Base64` where its length is no multiple of four.
     pub fn new(text: &'a str) -> Result<Base64Reader<'a>>
-        ensures source { IfOk result (λ r. ⟦<Base64Reader<'static> as Reader>⟧.source r ≡ word_source [] text.now) }
-        ensures word { IfOk result (λ r. IsSourceOf text.now (⟦<Base64Reader<'static> as Reader>⟧.source r)) }
-        ensures told { IfOk result (λ r. told (⟦<Base64Reader<'static> as Reader>⟧.source r) ≡ announced text.now) }
+        ensures source { IfOk result
+            (λ r. ⟦<Base64Reader<'static> as Reader>⟧.source r ≡ word_source [] text.now) }
+        ensures word { IfOk result
+            (λ r. IsSourceOf text.now (⟦<Base64Reader<'static> as Reader>⟧.source r)) }
+        ensures told { IfOk result (λ r. announced_len
+            (⟦<Base64Reader<'static> as Reader>⟧.source r) ≡ announced text.now) }
         ensures refused { IfErr result (λ e. (e ≡ encoding.Base64) × (length text.now % 4 ≢ 0)) }
     {
         let text = text.as_bytes();
@@ -111,7 +114,8 @@ impl<'a> Base64Reader<'a> {
     /// Takes held bytes.
     fn read_held(&mut self, bytes: &mut [u8])
         requires { self.old.from + length bytes.old ≤ self.old.to }
-        ensures taken { Advances (⟦<Base64Reader<'static> as Reader>⟧.source self.old) bytes.new (⟦<Base64Reader<'static> as Reader>⟧.source self.new) }
+        ensures taken { Advances (⟦<Base64Reader<'static> as Reader>⟧.source self.old) bytes.new
+            (⟦<Base64Reader<'static> as Reader>⟧.source self.new) }
         ensures from { self.new.from ≡ self.old.from + length bytes.old }
         ensures to { self.new.to ≡ self.old.to }
         ensures text { self.new.text.now ≡ self.old.text.now }
@@ -129,7 +133,8 @@ impl<'a> Base64Reader<'a> {
         requires whole { length bytes.old % 3 ≡ 0 }
         requires room { length bytes.old ≤ announced self.old.text.now }
         requires none_held { length bytes.old ≡ 0 ⊎ (self.old.from ≡ self.old.to) }
-        ensures taken { TakesBase64 (⟦<Base64Reader<'static> as Reader>⟧.source self.old) bytes.new result (⟦<Base64Reader<'static> as Reader>⟧.source self.new) }
+        ensures taken { TakesBase64 (⟦<Base64Reader<'static> as Reader>⟧.source self.old) bytes.new
+            result (⟦<Base64Reader<'static> as Reader>⟧.source self.new) }
         ensures held { OnOk result ((self.new.from ≡ self.old.from) × (self.new.to ≡ self.old.to)) }
     {
         if bytes.is_empty() {
@@ -146,7 +151,8 @@ impl<'a> Base64Reader<'a> {
     fn hold(&mut self) -> Result<()>
         requires none_held { self.old.from ≡ self.old.to }
         requires some { 0 < length self.old.text.now }
-        ensures { Holds (⟦<Base64Reader<'static> as Reader>⟧.source self.old) result (⟦<Base64Reader<'static> as Reader>⟧.source self.new) self.new.from self.new.to }
+        ensures { Holds (⟦<Base64Reader<'static> as Reader>⟧.source self.old) result
+            (⟦<Base64Reader<'static> as Reader>⟧.source self.new) self.new.from self.new.to }
     {
         let text = self.text;
         let (group, rest) = text.split_at(4);
@@ -166,9 +172,11 @@ impl<'a> Base64Reader<'a> {
     /// Takes fewer bytes than a group has.
     fn read_last(&mut self, bytes: &mut [u8]) -> Result<()>
         requires few { length bytes.old < 3 }
-        requires room { length bytes.old ≤ told (⟦<Base64Reader<'static> as Reader>⟧.source self.old) }
+        requires room { length bytes.old ≤ announced_len
+            (⟦<Base64Reader<'static> as Reader>⟧.source self.old) }
         requires none_held { length bytes.old ≡ 0 ⊎ (self.old.from ≡ self.old.to) }
-        ensures { TakesBase64 (⟦<Base64Reader<'static> as Reader>⟧.source self.old) bytes.new result (⟦<Base64Reader<'static> as Reader>⟧.source self.new) }
+        ensures { TakesBase64 (⟦<Base64Reader<'static> as Reader>⟧.source self.old) bytes.new result
+            (⟦<Base64Reader<'static> as Reader>⟧.source self.new) }
     {
         if !bytes.is_empty() {
             self.hold()?;

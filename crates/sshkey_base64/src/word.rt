@@ -18,7 +18,8 @@ const PIECE: usize = 48;
 ///
 /// Any refusal is the writer's own; then it holds what it held, and a beginning of the word.
 pub fn write_base64<W: Writer>(blob: &[u8], writer: &mut W) -> Result<()>
-    ensures { Encodes W.fault (bytes (encode_of standard blob.now)) (W.sink writer.old) result (W.sink writer.new) }
+    ensures { Encodes W.fault (bytes (encode_of standard blob.now))
+        (W.sink writer.old) result (W.sink writer.new) }
 {
     let mut done = 0;
     'pieces: while done < blob.len() {
@@ -40,7 +41,8 @@ pub fn write_base64<W: Writer>(blob: &[u8], writer: &mut W) -> Result<()>
 pub fn write_word<T: Encode, W: Writer>(value: &T, len: usize, writer: &mut W) -> Result<()>
     requires boxes { BoxesFit (T.normal value.now) }
     requires counted { len ≡ length (flat (T.normal value.now)) }
-    ensures { Encodes W.fault (bytes (encode_of standard (flat (T.normal value.now)))) (W.sink writer.old) result (W.sink writer.new) }
+    ensures { Encodes W.fault (bytes (encode_of standard (flat (T.normal value.now))))
+        (W.sink writer.old) result (W.sink writer.new) }
 {
     let mut done = 0;
     'windows: while done < len {

@@ -9,11 +9,14 @@ use sshkey_kinds::{
 };
 use std::alloc::Global;
 
-/// The name and the kind of the key that all the bytes spell.
+/// The name and the kind of the key that all the bytes spell, and how many bytes stand behind the
+/// name where it is written, of a copy of the key.
 pub(crate) fn name_and_kind(alloc: Global, bytes: &[u8]) -> Result<String> {
-    let key: KeyData = decode_whole(alloc, bytes)?;
+    let read: KeyData = decode_whole(alloc, bytes)?;
+    let key = read.try_clone(alloc)?;
     let name = key.algorithm_name();
-    Ok(format!(in alloc; "{name}, {}", kind_of(&key))?)
+    let len = key.encoded_key_data_len()?;
+    Ok(format!(in alloc; "{name}, {}, {len} bytes", kind_of(&key))?)
 }
 
 /// The kind of which the key is said to be, and as which it is seen.

@@ -38,8 +38,9 @@ pub(crate) fn certified(alloc: Global, bytes: &[u8]) -> Result<String> {
     Ok(format!(in alloc; "{algorithm}{other}")?)
 }
 
-/// The digest of the second byte string by the hash that the first one names.
+/// The digest of the second byte string by the hash that the first one names, and its size.
 pub(crate) fn digest(alloc: Global, parts: &[Vec<u8>]) -> Result<String> {
     let hash = HashAlg::new(text(parts, 0)?)?;
-    Ok(hex::encode(alloc, hash.digest(alloc, part(parts, 1))?)?)
+    let digits = hex::encode(alloc, hash.digest(alloc, part(parts, 1))?)?;
+    Ok(format!(in alloc; "{digits}, {} bytes", hash.digest_size())?)
 }

@@ -4,11 +4,14 @@ use crate::bytes::{NO_LINE, part, parts, text};
 use crate::wire::shown;
 use crate::{keys, kinds, names, signatures, wire};
 use sshkey_base::{Algorithm, AlgorithmName, EcdsaCurve, Error, HashAlg, Mpint, Result};
+use sshkey_cert::Certificate;
 use sshkey_keys::{KeyData, Signature};
 use sshkey_kinds::{
     DsaPublicKey, EcdsaPublicKey, Ed25519PublicKey, OpaquePublicKeyBytes, RsaPublicKey,
     SkEcdsaSha2NistP256, SkEd25519,
 };
+use sshkey_options::{CertType, EndTime, OptionsMap, UnixTime};
+use sshkey_public::SshSig;
 use sshkey_tool::run;
 use std::alloc::Global;
 
@@ -68,7 +71,8 @@ fn answer(alloc: Global, question: &str, parts: &[Vec<u8>]) -> Result<String> {
         "number" => wire::number(alloc, bytes),
         "positive" => wire::positive(alloc, bytes),
         "rising-mpints" => wire::rising::<Mpint>(alloc, parts),
-        "line" => shown_by_program(alloc, bytes),
+        "line" => shown_by_program(alloc, "fingerprint", bytes),
+        "normal" => shown_by_program(alloc, "normal", bytes),
         _ => answer_of_names(alloc, question, parts),
     }
 }
@@ -130,17 +134,29 @@ fn answer_of_keys(alloc: Global, question: &str, parts: &[Vec<u8>]) -> Result<St
         "signature" => signatures::whole(alloc, bytes),
         "signature-in-front" => signatures::front(alloc, bytes),
         "signature-of-bytes" => signatures::made(alloc, parts),
+        "ssh-signature" => wire::whole::<SshSig>(alloc, bytes),
         "rising-signatures" => wire::rising::<Signature>(alloc, parts),
+        _ => answer_of_certificates(alloc, question, bytes),
+    }
+}
+
+fn answer_of_certificates(alloc: Global, question: &str, bytes: &[u8]) -> Result<String> {
+    match question {
+        "options" => wire::whole::<OptionsMap>(alloc, bytes),
+        "certificate-type" => wire::whole::<CertType>(alloc, bytes),
+        "time" => wire::whole::<UnixTime>(alloc, bytes),
+        "end-time" => wire::whole::<EndTime>(alloc, bytes),
+        "certificate" => wire::whole::<Certificate>(alloc, bytes),
         _ => Err(NO_LINE),
     }
 }
 
-/// The status and the output of `sshkey fingerprint` on that input. The output has room for each of
+/// The status and the output of the program for that word on that input. The output has room for each of
 /// its lines.
-fn shown_by_program(alloc: Global, input: &[u8]) -> Result<String> {
+fn shown_by_program(alloc: Global, word: &str, input: &[u8]) -> Result<String> {
     let mut left = input;
     let mut output = Vec::with_capacity(alloc, 128)?;
-    let status = run(alloc, &["fingerprint"], &mut left, &mut output);
+    let status = run(alloc, &[word], &mut left, &mut output);
     let text = std::str::from_utf8(&output)?;
     Ok(format!(in alloc; "{status}, {}", text.trim_end_matches('\n'))?)
 }

@@ -3,9 +3,8 @@ use Rattle.std.specs.Prelude.{Result}
 use Rattle.sshkey_model.specs.Keys.{body_at}
 use Rattle.sshkey_model.specs.Names.{Algorithm}
 use Rattle.sshkey_base.specs.declared.error.Error.{Error}
-use Rattle.sshkey_base.specs.Accepting.{AcceptsFront}
+use Rattle.sshkey_base.specs.Reading.{AcceptsFront, Gives}
 use Rattle.sshkey_base.specs.Causes.{cause}
-use Rattle.sshkey_base.specs.Reading.{Gives}
 use Rattle.sshkey_base.specs.Source.{Source}
 use Rattle.sshkey_base.proofs.Accepted.{accepts_front}
 use Rattle.sshkey_kinds.specs.Bodies.{SpellsBody}

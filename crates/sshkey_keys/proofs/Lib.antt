@@ -1,4 +1,5 @@
 pub mod OwnAlgorithms
+pub mod OpaqueNames
 pub mod SignatureForms
 pub mod SplitStrings
 pub mod SignatureParts

@@ -7,8 +7,7 @@ use Rattle.sshkey_base.specs.declared.error.Error.{Error}
 use Rattle.sshkey_base.specs.declared.error.Error.TheVariants.{Encoding, Memory}
 use Rattle.sshkey_base.specs.Causes.{Cause}
 use Rattle.sshkey_base.specs.Source.{Source}
-use Rattle.sshkey_base.specs.Reading.{Gives}
-use Rattle.sshkey_base.specs.Accepting.{AcceptsFront}
+use Rattle.sshkey_base.specs.Reading.{Gives, AcceptsFront}
 
 -- all the bytes of a list, and no fault
 abbrev pub all_of : List ℕ → Source

@@ -11,6 +11,10 @@ use Rattle.sshkey_keys.specs.Keys.{key_of}
 abbrev pub IsEqualityOfKeys : (KeyData → KeyData → Bool) → Type 0
 IsEqualityOfKeys eq = (x y : KeyData) → IsKey (key_of x) → IsKey (key_of y) → (eq x y ≡ true) ↔ (key_of x ≡ key_of y)
 
+-- Two that are equal mean the same, well-formed or not.
+abbrev pub EqualMeanSame : (KeyData → KeyData → Bool) → Type 0
+EqualMeanSame eq = (x y : KeyData) → eq x y ≡ true → key_of x ≡ key_of y
+
 -- Two that can be written are equal exactly if the same bytes are written of them.
 abbrev pub IsEqualityOfForms : (KeyData → KeyData → Bool) → Type 0
 IsEqualityOfForms eq = (x y : KeyData) → IsKey (key_of x) → IsKey (key_of y) → Fits (normal_key (key_of x)) → Fits (normal_key (key_of y)) → (eq x y ≡ true) ↔ (flat (normal_key (key_of x)) ≡ flat (normal_key (key_of y)))

@@ -37,7 +37,7 @@ pub record IsFingerprint (h : Hash) (k : Key) (f : Fingerprint) : Type 0 where
 abbrev pub IsShort : Key → Type 0
 IsShort k = length (flat (normal_key k)) ≤ 256
 
--- It is that fingerprint. Exactly where a part of the key is too long, it is `Length`, and else it is refused only with `Memory`.
+-- It is that fingerprint. Exactly where a part of the key is too long, it is `Length`, and else it is refused only when out of memory.
 abbrev pub GivesFingerprint : Hash → Key → Result Fingerprint Error → Type 0
 GivesFingerprint h k (Ok f) = IsFingerprint h k f
 GivesFingerprint h k (Err e) = ((BoxesFit (normal_key k) → ⊥) × (e ≡ Encoding Length)) ⊎ (BoxesFit (normal_key k) × (e ≡ Memory))

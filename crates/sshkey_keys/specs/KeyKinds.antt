@@ -1,5 +1,6 @@
 -- Kinds of keys.
 use Rattle.std.specs.Prelude.{Bool, true, false}
+use Rattle.sshkey_model.specs.Names as names
 use Rattle.sshkey_model.specs.Keys.{Key, Dsa, Ecdsa, Ed25519, Rsa, SkEcdsa, SkEd25519, Opaque}
 
 abbrev pub is_dsa : Key → Bool
@@ -29,3 +30,10 @@ is_sk_ed25519 _ = false
 abbrev pub is_opaque : Key → Bool
 is_opaque (Opaque name k) = true
 is_opaque _ = false
+
+-- An opaque key that stands under this algorithm has the algorithm's name in certificates, too.
+abbrev pub keeps_name : names.Algorithm → Bool
+keeps_name names.SkEcdsa = false
+keeps_name names.SkEd25519 = false
+keeps_name (names.Other n) = false
+keeps_name a = true

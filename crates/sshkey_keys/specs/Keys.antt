@@ -1,13 +1,17 @@
 -- What a public key's value means, and which bytes spell it.
-use Rattle.std.specs.Prelude.{ℕ, List, Ok}
+use Rattle.std.specs.Prelude.{ℕ, List, Result, Ok}
 use Rattle.sshkey_model.specs.Reading.{◌>>=◌, Front}
 use Rattle.sshkey_model.specs.Grammar.{SpellsWith}
 use Rattle.sshkey_model.specs.Names.{Algorithm, algorithm_from}
 use Rattle.sshkey_model.specs.Keys.{Key, IsKey, HasKeyPlaces, key, key_algorithm, body_at}
+use Rattle.sshkey_base.specs.declared.error.Error.{Error}
+use Rattle.sshkey_base.specs.Causes.{cause}
 use Rattle.sshkey_base.specs.Labels.{label_at}
 use Rattle.sshkey_base.specs.Names.{algorithm_of}
+use Rattle.sshkey_base.specs.Reading.{Gives}
+use Rattle.sshkey_base.specs.Source.{Source}
 use Rattle.sshkey_kinds.specs.Kinds.{dsa_of, ed25519_of, rsa_of, sk_ecdsa_of, sk_ed25519_of, opaque_of}
-use Rattle.sshkey_kinds.specs.EcdsaWords.{ecdsa_key_of}
+use Rattle.sshkey_kinds.specs.EcdsaPublicKey.{ecdsa_key_of}
 use Rattle.sshkey_keys.specs.declared.key_data.KeyData.{KeyData}
 use Rattle.sshkey_keys.specs.declared.key_data.KeyData.TheVariants as kinds
 
@@ -30,6 +34,10 @@ abbrev pub SpellsKey : Key → List ℕ → Type 0
 SpellsKey = SpellsWith IsKey HasKeyPlaces key
 
 -- ---- reading
+
+-- What a call gives that reads what stands behind the name of that algorithm.
+abbrev pub DecodesBody : {R : Type 0} → Algorithm → (R → Source) → R → Result KeyData Error → R → Type 0
+DecodesBody a source before result after = Gives key_of cause (body_at a) (source before) result (source after)
 
 -- the key, without the way in which its name is spelled
 unfoldable pub key_data_at : Front Key

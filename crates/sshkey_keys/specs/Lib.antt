@@ -1,6 +1,7 @@
 pub mod Keys
 pub mod Needs
 pub mod KeyKinds
+pub mod NameStrings
 pub mod Comparisons
 pub mod KeyReaders
 pub mod Fingerprints

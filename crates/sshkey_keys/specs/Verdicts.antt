@@ -2,8 +2,7 @@
 use Rattle.std.specs.Prelude.{◌≡◌, List, ℕ, Bool, Option, Some, None, Result, Ok, Err, if◌then◌else◌}
 use Rattle.sshkey_model.specs.Verification.{Question, question}
 use Rattle.sshkey_base.specs.declared.algorithm.Algorithm.{Algorithm}
-use Rattle.sshkey_base.specs.Kinds.{IsFixed}
-use Rattle.sshkey_base.specs.Names.{algorithm_of}
+use Rattle.sshkey_base.specs.Names.{IsFixed, algorithm_of}
 use Rattle.sshkey_base.specs.declared.error.Error.{Error}
 use Rattle.sshkey_base.specs.declared.error.Error.TheVariants.{AlgorithmUnsupported, Crypto, Memory}
 use Rattle.sshkey_keys.specs.declared.key_data.KeyData.{KeyData}

@@ -35,7 +35,7 @@ impl Fingerprint {
     /// The digest by that hash of the key's normal form.
     ///
     /// Exactly where a part of the key is longer than 2^32 - 1 bytes, the answer is `Length`;
-    /// otherwise it is refused only with `Memory`. A key of at most 256 bytes is never refused.
+    /// otherwise it is refused only when out of memory. A key of at most 256 bytes is never refused.
     pub fn new(alloc: Global, hash_alg: HashAlg, key: &KeyData) -> Result<Fingerprint>
         ensures gives { GivesFingerprint (hash_of hash_alg) (key_of key.now) result }
         ensures short { IsShort (key_of key.now) → IsOk result }
@@ -92,7 +92,8 @@ impl Fingerprint {
 
     /// The digest by SHA-256; `None` where it is by SHA-512.
     pub fn sha256(self) -> Option<[u8; 32]>
-        ensures { MatchOption result (algorithm_of self ≡ model.Sha512) (λ d. self ≡ Fingerprint.Sha256 d) }
+        ensures { MatchOption result (algorithm_of self ≡ model.Sha512)
+            (λ d. self ≡ Fingerprint.Sha256 d) }
     {
         match self {
             Fingerprint::Sha256(digest) => Some(digest),
@@ -102,7 +103,8 @@ impl Fingerprint {
 
     /// The digest by SHA-512; `None` where it is by SHA-256.
     pub fn sha512(self) -> Option<[u8; 64]>
-        ensures { MatchOption result (algorithm_of self ≡ model.Sha256) (λ d. self ≡ Fingerprint.Sha512 d) }
+        ensures { MatchOption result (algorithm_of self ≡ model.Sha256)
+            (λ d. self ≡ Fingerprint.Sha512 d) }
     {
         match self {
             Fingerprint::Sha256(_) => None,
@@ -110,7 +112,7 @@ impl Fingerprint {
         }
     }
 
-    /// The text that is shown, in a string of its size. Refused only with `Memory`.
+    /// The text that is shown, in a string of its size. Refused only when out of memory.
     pub fn to_string(&self, alloc: Global) -> Result<String>
         ensures text { IfOk result (λ text. string_bytes text ≡ shown self.now) }
         ensures refused { IfErr result (λ e. e ≡ Error.Memory) }

@@ -1,31 +1,31 @@
 //! Public keys of any kind.
 
 ghost use Rattle.std.specs.Prelude.{◌≡◌, ◌≤◌, ◌+◌, ◌*◌, ◌^◌, ◌||◌, ℕ, List, IfOk, IfErr, IsOk, IsTrue, None};
-ghost use Rattle.sshkey_model.specs.Keys.{Key, key_algorithm, normal_key, body, body_at, IsKey};
+ghost use Rattle.sshkey_model.specs.Keys.{Key, key_algorithm, normal_key, body, IsKey};
 ghost use Rattle.sshkey_model.specs.Lines.{key_name};
-ghost use Rattle.sshkey_base.specs.Accepting.{AcceptsFront};
+ghost use Rattle.sshkey_base.specs.Reading.{AcceptsFront};
 ghost use Rattle.sshkey_base.specs.Causes.{cause};
-ghost use Rattle.sshkey_base.specs.Kinds.{IsFixed};
-ghost use Rattle.sshkey_base.specs.Names.{algorithm_of, curve_of, hash_of};
+ghost use Rattle.sshkey_base.specs.Names.{IsFixed, algorithm_of, curve_of, hash_of};
 ghost use Rattle.sshkey_model.specs.Names.{algorithm_name, Dsa, Ecdsa, Ed25519, Rsa, SkEcdsa, SkEd25519 as AlgorithmSkEd25519, Other};
 ghost use Rattle.sshkey_base.specs.Needs.{Asks};
-ghost use Rattle.sshkey_base.specs.Reading.{Gives};
 ghost use Rattle.sshkey_base.specs.Source.{Later};
 ghost use Rattle.sshkey_base.specs.Sink.{Encodes, Measures};
 ghost use Rattle.sshkey_kinds.specs.Bodies.{SpellsBody};
 ghost use Rattle.sshkey_keys.specs.Fingerprints.{GivesFingerprint, IsShort};
-ghost use Rattle.sshkey_keys.specs.Keys.{key_of, algorithm_beside, SpellsKey, key_data_at};
+ghost use Rattle.sshkey_keys.specs.Keys.{DecodesBody, key_of, algorithm_beside, SpellsKey, key_data_at};
 ghost use Rattle.sshkey_keys.specs.KeyKinds.{is_ecdsa, is_ed25519};
 ghost use Rattle.sshkey_keys.specs.KeyReaders.{key_grammar, key_normal};
 ghost use Rattle.sshkey_keys.specs.Needs.{NeedsBody, NeedsKey};
 
+mod certificate_name;
 mod from;
 mod kinds;
+mod name_string;
 
 use crate::fingerprint::Fingerprint;
 use sshkey_base::{
     Algorithm, Decode, EcdsaCurve, Encode, Error, HashAlg, NormalForm, Reader, Result, Writer,
-    encode_string, encoding, names, string_len,
+    encoding, names, string_len,
 };
 use sshkey_kinds::{
     DsaPublicKey, EcdsaPublicKey, Ed25519PublicKey, OpaquePublicKey, OpaquePublicKeyBytes,
@@ -76,11 +76,12 @@ impl KeyData {
     /// The key's algorithm. That of an opaque key is the one that stands beside its bytes, and for
     /// a well-formed key the one that its name tells.
     ///
-    /// Refused only with `Memory`, and only under a private-use name.
+    /// Refused only when out of memory, and only under a private-use name.
     #[tactic(auto, using(crate::proofs::OwnAlgorithms::well_formed_algorithm))]
     pub fn algorithm(&self, alloc: Global) -> Result<Algorithm>
         ensures ok { IfOk result (λ a. algorithm_of a ≡ algorithm_beside self.now) }
-        ensures well_formed { IsKey (key_of self.now) → algorithm_beside self.now ≡ key_algorithm (key_of self.now) }
+        ensures well_formed { IsKey (key_of self.now) →
+            algorithm_beside self.now ≡ key_algorithm (key_of self.now) }
         ensures fixed { IsFixed (algorithm_beside self.now) → IsOk result }
         ensures err { IfErr result (λ e. e ≡ Error.Memory) }
     {
@@ -95,13 +96,14 @@ impl KeyData {
         })
     }
 
-    /// The same key in memory of its own. Refuses only with `Memory`, and of an ECDSA or an Ed25519
+    /// The same key in memory of its own. Refuses only when out of memory, and of an ECDSA or an Ed25519
     /// key never.
     pub fn try_clone(&self, alloc: Global) -> Result<KeyData>
         ensures value { IfOk result (λ k. key_of k ≡ key_of self.now) }
         ensures algorithm { IfOk result (λ k. algorithm_beside k ≡ algorithm_beside self.now) }
         ensures refused { IfErr result (λ e. e ≡ Error.Memory) }
-        ensures in_place { IsTrue (is_ecdsa (key_of self.now) || is_ed25519 (key_of self.now)) → IsOk result }
+        ensures in_place { IsTrue (is_ecdsa (key_of self.now) || is_ed25519 (key_of self.now)) →
+            IsOk result }
     {
         Ok(match self {
             KeyData::Dsa(key) => KeyData::Dsa(key.try_clone(alloc)?),
@@ -119,7 +121,7 @@ impl KeyData {
     /// The fingerprint by that hash: the digest of the key's normal form.
     ///
     /// Exactly where a part of the key is longer than 2^32 - 1 bytes, the answer is `Length`;
-    /// otherwise it is refused only with `Memory`. A key of at most 256 bytes is never refused.
+    /// otherwise it is refused only when out of memory. A key of at most 256 bytes is never refused.
     pub fn fingerprint(&self, alloc: Global, hash_alg: HashAlg) -> Result<Fingerprint>
         ensures gives { GivesFingerprint (hash_of hash_alg) (key_of self.now) result }
         ensures short { IsShort (key_of self.now) → IsOk result }
@@ -138,10 +140,12 @@ impl KeyData {
         reader: &mut R,
         algorithm: Algorithm,
     ) -> Result<KeyData>
-        ensures gives { Gives key_of cause (body_at (algorithm_of algorithm)) (R.source reader.old) result (R.source reader.new) }
+        ensures gives { DecodesBody (algorithm_of algorithm) R.source reader.old result reader.new }
         ensures later { Later (R.source reader.old) (R.source reader.new) }
-        ensures accepts { AcceptsFront key_of (SpellsBody (algorithm_of algorithm)) cause (R.source reader.old) result (R.source reader.new) }
-        ensures asks { Asks cause (NeedsBody (algorithm_of algorithm)) (R.source reader.old) result }
+        ensures accepts { AcceptsFront key_of (SpellsBody (algorithm_of algorithm)) cause
+            (R.source reader.old) result (R.source reader.new) }
+        ensures asks { Asks cause (NeedsBody (algorithm_of algorithm))
+            (R.source reader.old) result }
     {
         match algorithm {
             Algorithm::Dsa => dsa_from(alloc, reader),
@@ -177,7 +181,8 @@ impl KeyData {
     /// writer's own. After a refusal the writer holds what it held, and a beginning of the bytes.
     /// Takes no memory of its own.
     pub fn encode_key_data<W: Writer>(&self, writer: &mut W) -> encoding::Result<()>
-        ensures { Encodes W.fault (body (key_of self.now)) (W.sink writer.old) result (W.sink writer.new) }
+        ensures { Encodes W.fault (body (key_of self.now))
+            (W.sink writer.old) result (W.sink writer.new) }
     {
         match self {
             KeyData::Dsa(key) => key.encode(writer),
@@ -194,7 +199,7 @@ impl KeyData {
 /// The body of a DSA key.
 #[tactic(auto, using(sshkey_base::proofs::Steps::steps))]
 fn dsa_from<R: Reader>(alloc: Global, reader: &mut R) -> Result<KeyData>
-    ensures gives { Gives key_of cause (body_at Dsa) (R.source reader.old) result (R.source reader.new) }
+    ensures gives { DecodesBody Dsa R.source reader.old result reader.new }
     ensures later { Later (R.source reader.old) (R.source reader.new) }
     ensures asks { Asks cause (NeedsBody Dsa) (R.source reader.old) result }
 {
@@ -205,7 +210,7 @@ fn dsa_from<R: Reader>(alloc: Global, reader: &mut R) -> Result<KeyData>
 /// The body of an ECDSA key of that curve. `AlgorithmUnknown` for another curve.
 #[tactic(auto, using(sshkey_base::proofs::Steps::steps), unfolding(crate::specs::KeyReaders::ecdsa_at))]
 fn ecdsa_from<R: Reader>(alloc: Global, reader: &mut R, curve: EcdsaCurve) -> Result<KeyData>
-    ensures gives { Gives key_of cause (body_at (Ecdsa (curve_of curve))) (R.source reader.old) result (R.source reader.new) }
+    ensures gives { DecodesBody (Ecdsa (curve_of curve)) R.source reader.old result reader.new }
     ensures later { Later (R.source reader.old) (R.source reader.new) }
     ensures asks { Asks cause (NeedsBody (Ecdsa (curve_of curve))) (R.source reader.old) result }
 {
@@ -219,7 +224,7 @@ fn ecdsa_from<R: Reader>(alloc: Global, reader: &mut R, curve: EcdsaCurve) -> Re
 /// The body of an Ed25519 key.
 #[tactic(auto, using(sshkey_base::proofs::Steps::steps), unfolding(crate::specs::KeyReaders::ed25519_body_at))]
 fn ed25519_from<R: Reader>(alloc: Global, reader: &mut R) -> Result<KeyData>
-    ensures gives { Gives key_of cause (body_at Ed25519) (R.source reader.old) result (R.source reader.new) }
+    ensures gives { DecodesBody Ed25519 R.source reader.old result reader.new }
     ensures later { Later (R.source reader.old) (R.source reader.new) }
     ensures asks { Asks cause (NeedsBody Ed25519) (R.source reader.old) result }
 {
@@ -230,7 +235,7 @@ fn ed25519_from<R: Reader>(alloc: Global, reader: &mut R) -> Result<KeyData>
 /// The body of an RSA key.
 #[tactic(auto, using(sshkey_base::proofs::Steps::steps))]
 fn rsa_from<R: Reader>(alloc: Global, reader: &mut R) -> Result<KeyData>
-    ensures gives { Gives key_of cause (body_at (Rsa None)) (R.source reader.old) result (R.source reader.new) }
+    ensures gives { DecodesBody (Rsa None) R.source reader.old result reader.new }
     ensures later { Later (R.source reader.old) (R.source reader.new) }
     ensures asks { Asks cause (NeedsBody (Rsa None)) (R.source reader.old) result }
 {
@@ -241,7 +246,7 @@ fn rsa_from<R: Reader>(alloc: Global, reader: &mut R) -> Result<KeyData>
 /// The body of a P-256 key that a security key holds.
 #[tactic(auto, using(sshkey_base::proofs::Steps::steps))]
 fn sk_ecdsa_from<R: Reader>(alloc: Global, reader: &mut R) -> Result<KeyData>
-    ensures gives { Gives key_of cause (body_at SkEcdsa) (R.source reader.old) result (R.source reader.new) }
+    ensures gives { DecodesBody SkEcdsa R.source reader.old result reader.new }
     ensures later { Later (R.source reader.old) (R.source reader.new) }
     ensures asks { Asks cause (NeedsBody SkEcdsa) (R.source reader.old) result }
 {
@@ -252,7 +257,7 @@ fn sk_ecdsa_from<R: Reader>(alloc: Global, reader: &mut R) -> Result<KeyData>
 /// The body of an Ed25519 key that a security key holds.
 #[tactic(auto, using(sshkey_base::proofs::Steps::steps))]
 fn sk_ed25519_from<R: Reader>(alloc: Global, reader: &mut R) -> Result<KeyData>
-    ensures gives { Gives key_of cause (body_at AlgorithmSkEd25519) (R.source reader.old) result (R.source reader.new) }
+    ensures gives { DecodesBody AlgorithmSkEd25519 R.source reader.old result reader.new }
     ensures later { Later (R.source reader.old) (R.source reader.new) }
     ensures asks { Asks cause (NeedsBody AlgorithmSkEd25519) (R.source reader.old) result }
 {
@@ -263,9 +268,11 @@ fn sk_ed25519_from<R: Reader>(alloc: Global, reader: &mut R) -> Result<KeyData>
 /// The body of a key under a private-use name.
 #[tactic(auto, using(sshkey_base::proofs::Steps::steps))]
 fn opaque_from<R: Reader>(alloc: Global, reader: &mut R, algorithm: Algorithm) -> Result<KeyData>
-    ensures gives { Gives key_of cause (body_at (Other (algorithm_name (algorithm_of algorithm)))) (R.source reader.old) result (R.source reader.new) }
+    ensures gives { DecodesBody (Other (algorithm_name (algorithm_of algorithm)))
+        R.source reader.old result reader.new }
     ensures later { Later (R.source reader.old) (R.source reader.new) }
-    ensures asks { Asks cause (NeedsBody (Other (algorithm_name (algorithm_of algorithm)))) (R.source reader.old) result }
+    ensures asks { Asks cause (NeedsBody (Other (algorithm_name (algorithm_of algorithm))))
+        (R.source reader.old) result }
 {
     let key = OpaquePublicKeyBytes::decode(alloc, reader)?;
     Ok(KeyData::Other(OpaquePublicKey { algorithm, key }))
@@ -302,7 +309,7 @@ impl Decode for KeyData {
 impl Encode for KeyData {
     ghost normal = { λ k. normal_key (key_of k) };
 
-    ghost most = { 5 * (2 ^ 32 + 4) };
+    ghost max_len = { 5 * (2 ^ 32 + 4) };
 
     fn encoded_len(&self) -> encoding::Result<usize> {
         let name = string_len(self.algorithm_name().as_bytes())?;
@@ -310,7 +317,7 @@ impl Encode for KeyData {
     }
 
     fn encode<W: Writer>(&self, writer: &mut W) -> encoding::Result<()> {
-        encode_string(self.algorithm_name().as_bytes(), writer)?;
+        self.encode_name(writer)?;
         self.encode_key_data(writer)
     }
 }

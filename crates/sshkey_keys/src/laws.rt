@@ -4,7 +4,7 @@ ghost use Rattle.std.specs.Prelude.{◌≡◌, ◌++◌, ℕ, List};
 ghost use Rattle.sshkey_model.specs.Keys.{Key};
 ghost use Rattle.sshkey_model.specs.Signatures.{Signature as TheSignature};
 ghost use Rattle.sshkey_base.specs.Comparisons.{IsEqualityOf, IsOrderOf, IsOrderByParts};
-ghost use Rattle.sshkey_keys.specs.Comparisons.{IsEqualityOfKeys, IsEqualityOfForms, key_parts};
+ghost use Rattle.sshkey_keys.specs.Comparisons.{IsEqualityOfKeys, IsEqualityOfForms, EqualMeanSame, key_parts};
 ghost use Rattle.sshkey_keys.specs.Fingerprints.{fingerprint_key};
 ghost use Rattle.sshkey_keys.specs.Keys.{SpellsKey};
 ghost use Rattle.sshkey_keys.specs.Signatures.{signature_of, signature_parts};
@@ -18,7 +18,8 @@ use sshkey_model::laws::normal_keys;
 
 /// No spelling of a key begins another: what follows it does not matter, and it is that of one key.
 pub fn prefix_key()
-    ensures { (k j : Key) (a b r q : List ℕ) → SpellsKey k a → SpellsKey j b → a ++ r ≡ b ++ q → (k ≡ j) × (a ≡ b) × (r ≡ q) }
+    ensures { (k j : Key) (a b r q : List ℕ) → SpellsKey k a → SpellsKey j b → a ++ r ≡ b ++ q →
+        (k ≡ j) × (a ≡ b) × (r ≡ q) }
 {}
 
 /// Two fingerprints are equal exactly if they are by one hash and have one digest. They are ordered
@@ -28,11 +29,12 @@ pub fn compared_fingerprints()
     ensures ordered { IsOrderOf fingerprint_key ⟦<Fingerprint as Ord>⟧.cmp }
 {}
 
-/// Two well-formed keys are equal exactly if they mean the same, and two that can be written
-/// exactly if the same bytes are written of them. Keys are ordered by their kind, and then part by
-/// part.
+/// Two keys that are equal mean the same. Two well-formed keys are equal exactly if they mean the
+/// same, and two that can be written exactly if the same bytes are written of them. Keys are
+/// ordered by their kind, and then part by part.
 pub fn compared_keys()
     ensures equal { IsEqualityOfKeys ⟦<KeyData as PartialEq>⟧.eq }
+    ensures same { EqualMeanSame ⟦<KeyData as PartialEq>⟧.eq }
     ensures written { IsEqualityOfForms ⟦<KeyData as PartialEq>⟧.eq }
     ensures ordered { IsOrderByParts key_parts ⟦<KeyData as Ord>⟧.cmp }
 {
@@ -49,7 +51,8 @@ pub fn compared_keys()
 /// No spelling of a signature begins another: what follows it does not matter, and it is that of
 /// one signature.
 pub fn prefix_signature()
-    ensures { (g h : TheSignature) (a b r q : List ℕ) → SpellsSignature g a → SpellsSignature h b → a ++ r ≡ b ++ q → (g ≡ h) × (a ≡ b) × (r ≡ q) }
+    ensures { (g h : TheSignature) (a b r q : List ℕ) → SpellsSignature g a → SpellsSignature h b →
+        a ++ r ≡ b ++ q → (g ≡ h) × (a ≡ b) × (r ≡ q) }
 {}
 
 /// Two signatures are equal exactly if they mean the same: one algorithm and the same bytes. They

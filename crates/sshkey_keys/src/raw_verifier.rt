@@ -24,5 +24,10 @@ pub trait RawVerifier {
         message: &[u8],
         signature: &[u8],
     ) -> std::result::Result<bool, AllocError>
-        ensures { IfOk result (λ yes. yes ≡ accepts self.now (record { algorithm = algorithm_of algorithm.now; key = key_of key.now; message = message.now; blob = signature.now })) };
+        ensures { IfOk result (λ yes. yes ≡ accepts self.now (record {
+          algorithm = algorithm_of algorithm.now;
+          key = key_of key.now;
+          message = message.now;
+          blob = signature.now;
+        })) };
 }

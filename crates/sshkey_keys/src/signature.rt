@@ -32,10 +32,10 @@ pub struct Signature {
 }
 
 impl Signature {
-    ghost use Rattle.sshkey_base.specs.Answering.{AnswersAlways};
+    ghost use Rattle.sshkey_base.specs.Answers.{AnswersAlways};
     ghost use Rattle.sshkey_base.specs.Causes.{cause};
     ghost use Rattle.sshkey_keys.specs.SignatureForms.{signature_from};
-    ghost use Rattle.sshkey_keys.specs.Signatures.{signature_of};
+    ghost use Rattle.sshkey_keys.specs.Signatures.{signature_algorithm, signature_of};
 
     /// The signature by that algorithm that has these bytes, where they are well-formed for it.
     ///
@@ -45,7 +45,8 @@ impl Signature {
     #[inline(always)]
     pub fn new(algorithm: Algorithm, bytes: Vec<u8>) -> Result<Signature>
         ensures exactly { IsOk result ↔ IsSignatureBlob (algorithm_of algorithm) bytes.items }
-        ensures answer { AnswersAlways signature_of cause (signature_from (algorithm_of algorithm) bytes.items) result }
+        ensures answer { AnswersAlways signature_of cause
+            (signature_from (algorithm_of algorithm) bytes.items) result }
     {
         check_blob(&algorithm, &bytes)?;
         Ok(Signature {
@@ -56,7 +57,7 @@ impl Signature {
 
     /// The algorithm.
     pub fn algorithm(&self) -> &Algorithm
-        ensures { result.now ≡ self.now.algorithm }
+        ensures { result.now ≡ signature_algorithm self.now }
     {
         &self.algorithm
     }

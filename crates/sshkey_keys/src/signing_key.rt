@@ -39,6 +39,7 @@ pub trait SigningKey {
     ///
     /// An error is one that the signer may refuse that message with.
     fn try_sign(&self, alloc: Global, message: &[u8]) -> Result<Signature>
-        ensures accepted { IfOk result (λ g. IsAccepted (Self.Raw.accepts (raw_of self.now)) (key_of (public_of self.now)) message.now (signature_of g)) }
+        ensures accepted { IfOk result (λ g. IsAccepted (Self.Raw.accepts (raw_of self.now))
+            (key_of (public_of self.now)) message.now (signature_of g)) }
         ensures refused { IfErr result (refuses self.now message.now) };
 }

@@ -6,8 +6,7 @@ ghost use Rattle.std.specs.Prelude.{◌≡◌, ◌≢◌, ◌++◌, ℕ, List, O
 ghost use Rattle.sha2.specs.Sha256.{sha256};
 ghost use Rattle.sshkey_model.specs.Names.{SkEcdsa, SkEd25519 as AlgorithmSkEd25519};
 ghost use Rattle.sshkey_model.specs.Verification.{IsAccepted, question, question_under};
-ghost use Rattle.sshkey_base.specs.Kinds.{IsFixed};
-ghost use Rattle.sshkey_base.specs.Names.{algorithm_of};
+ghost use Rattle.sshkey_base.specs.Names.{IsFixed, algorithm_of};
 ghost use Rattle.sshkey_kinds.specs.Kinds.{sk_ecdsa_of, sk_ed25519_of};
 ghost use Rattle.sshkey_keys.specs.Keys.{key_of};
 ghost use Rattle.sshkey_keys.specs.Signatures.{signature_of};
@@ -42,9 +41,12 @@ impl KeyData {
         signature: &Signature,
         verifier: &V,
     ) -> Result<()>
-        ensures answer { Verifies (verdict (V.accepts verifier.now) self.now message.now signature.now) result }
-        ensures accepted { OnOk result (IsAccepted (V.accepts verifier.now) (key_of self.now) message.now (signature_of signature.now)) }
-        ensures refused { IfErr result (λ e. e ≢ Error.Memory → IsAccepted (V.accepts verifier.now) (key_of self.now) message.now (signature_of signature.now) → ⊥) }
+        ensures answer { Verifies (verdict (V.accepts verifier.now) self.now
+            message.now signature.now) result }
+        ensures accepted { OnOk result (IsAccepted (V.accepts verifier.now) (key_of self.now)
+            message.now (signature_of signature.now)) }
+        ensures refused { IfErr result (λ e. e ≢ Error.Memory → IsAccepted (V.accepts verifier.now)
+            (key_of self.now) message.now (signature_of signature.now) → ⊥) }
         ensures unasked { NamesFixed self.now message.now signature.now result }
     {
         if !self.is_asked_about(signature) {
@@ -58,7 +60,8 @@ impl KeyData {
 
     /// Whether the verifier is asked about the signature, whatever the message.
     fn is_asked_about(&self, signature: &Signature) -> bool
-        ensures { (message : List ℕ) → result ≡ is_some (question (key_of self.now) message (signature_of signature.now)) }
+        ensures { (message : List ℕ) →
+            result ≡ is_some (question (key_of self.now) message (signature_of signature.now)) }
     {
         let algorithm = signature.algorithm();
         match self {
@@ -82,7 +85,8 @@ impl KeyData {
         signature: &Signature,
         verifier: &V,
     ) -> std::result::Result<bool, AllocError>
-        ensures { IfOk result (IsAnswer (V.accepts verifier.now) (question (key_of self.now) message.now (signature_of signature.now))) }
+        ensures { IfOk result (IsAnswer (V.accepts verifier.now)
+            (question (key_of self.now) message.now (signature_of signature.now))) }
     {
         match self {
             KeyData::SkEcdsaSha2NistP256(key) => {
@@ -112,7 +116,8 @@ fn ask_sk_ecdsa<V: RawVerifier>(
     signature: &Signature,
     verifier: &V,
 ) -> std::result::Result<bool, AllocError>
-    ensures { IfOk result (IsAnswer (V.accepts verifier.now) (question_under SkEcdsa (sk_ecdsa_of key.now) message.now (signature_of signature.now))) }
+    ensures { IfOk result (IsAnswer (V.accepts verifier.now)
+        (question_under SkEcdsa (sk_ecdsa_of key.now) message.now (signature_of signature.now))) }
 {
     let curve = EcdsaCurve::NistP256;
     let plain = KeyData::Ecdsa(EcdsaPublicKey::NistP256(*key.ec_point()));
@@ -129,7 +134,9 @@ fn ask_sk_ed25519<V: RawVerifier>(
     signature: &Signature,
     verifier: &V,
 ) -> std::result::Result<bool, AllocError>
-    ensures { IfOk result (IsAnswer (V.accepts verifier.now) (question_under AlgorithmSkEd25519 (sk_ed25519_of key.now) message.now (signature_of signature.now))) }
+    ensures { IfOk result (IsAnswer (V.accepts verifier.now)
+        (question_under AlgorithmSkEd25519 (sk_ed25519_of key.now)
+        message.now (signature_of signature.now))) }
 {
     let plain = KeyData::Ed25519(*key.public_key());
     let (blob, trailer) = split_trailer(signature.as_bytes());
@@ -145,7 +152,8 @@ fn security_key_message(
     trailer: &[u8],
     message: &[u8],
 ) -> std::result::Result<Vec<u8>, AllocError>
-    ensures { IfOk result (λ signed. signed.items ≡ sha256 application.now ++ trailer.now ++ sha256 message.now) }
+    ensures { IfOk result
+        (λ signed. signed.items ≡ sha256 application.now ++ trailer.now ++ sha256 message.now) }
 {
     let application_digest: [u8; 32] = Sha256::digest(application);
     let message_digest: [u8; 32] = Sha256::digest(message);
@@ -159,7 +167,8 @@ fn security_key_message(
 /// The refusal of this algorithm, or of memory for its name.
 fn unsupported(alloc: Global, algorithm: &Algorithm) -> Error
     ensures named { IsUnsupported algorithm.now result }
-    ensures fixed { IsFixed (algorithm_of algorithm.now) → result ≡ Error.AlgorithmUnsupported algorithm.now }
+    ensures fixed { IsFixed (algorithm_of algorithm.now) →
+        result ≡ Error.AlgorithmUnsupported algorithm.now }
 {
     match algorithm.try_clone(alloc) {
         Ok(algorithm) => Error::AlgorithmUnsupported { algorithm },

@@ -5,10 +5,10 @@ use Rattle.sshkey_model.specs.Names.{Curve}
 use Rattle.sshkey_model.specs.Points.{point_curve}
 use Rattle.sshkey_model.proofs.PointReaders.{point_takes, point_again}
 use Rattle.sshkey_base.specs.declared.error.Error.{Error}
-use Rattle.sshkey_base.specs.Answering.{AnswersAlways}
+use Rattle.sshkey_base.specs.Answers.{AnswersAlways}
 use Rattle.sshkey_base.specs.Causes.{cause}
 use Rattle.sshkey_kinds.specs.declared.ecdsa.EcdsaPublicKey.{EcdsaPublicKey}
-use Rattle.sshkey_kinds.specs.EcdsaWords.{ecdsa_of, sec1_from, IsAnyPoint}
+use Rattle.sshkey_kinds.specs.EcdsaPublicKey.{ecdsa_of, sec1_from, IsAnyPoint}
 
 pub taken_points : (b : List ℕ) (r : Result EcdsaPublicKey Error) → AnswersAlways ecdsa_of cause (sec1_from b) r → IsOk r ↔ IsAnyPoint b
 taken_points b r h = go (point_curve b) r refl h

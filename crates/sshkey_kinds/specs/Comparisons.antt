@@ -3,7 +3,7 @@ use Rattle.std.specs.Prelude.{ℕ, List, [], ◌∷◌}
 use Rattle.sshkey_model.specs.Names.{Algorithm}
 use Rattle.sshkey_base.specs.Comparisons.{algorithm_key}
 use Rattle.sshkey_base.specs.Names.{algorithm_of}
-use Rattle.sshkey_base.specs.Numbers.{mpint_of}
+use Rattle.sshkey_base.specs.Mpint.{mpint_of}
 use Rattle.sshkey_kinds.specs.declared.dsa.DsaPublicKey.{DsaPublicKey}
 use Rattle.sshkey_kinds.specs.declared.rsa.RsaPublicKey.{RsaPublicKey}
 use Rattle.sshkey_kinds.specs.declared.ecdsa.EcdsaPublicKey.{EcdsaPublicKey}
@@ -11,7 +11,7 @@ use Rattle.sshkey_kinds.specs.declared.ecdsa.EcdsaPublicKey.TheVariants.{NistP25
 use Rattle.sshkey_kinds.specs.declared.sk.SkEcdsaSha2NistP256.{SkEcdsaSha2NistP256}
 use Rattle.sshkey_kinds.specs.declared.sk.SkEd25519.{SkEd25519}
 use Rattle.sshkey_kinds.specs.declared.opaque.OpaquePublicKey.{OpaquePublicKey}
-use Rattle.sshkey_kinds.specs.PointWords.{point_of}
+use Rattle.sshkey_kinds.specs.EcPoint.{point_of}
 
 abbrev pub dsa_parts : DsaPublicKey → List (List ℕ)
 dsa_parts k = mpint_of k.p ∷ mpint_of k.q ∷ mpint_of k.g ∷ mpint_of k.y ∷ []

@@ -8,7 +8,7 @@ use Rattle.sshkey_model.specs.Names.{Curve, Nistp256, Nistp384, Nistp521}
 use Rattle.sshkey_base.specs.Equality.{decided_equivalence, decided_partial_equivalence}
 use Rattle.sshkey_kinds.specs.declared.ecdsa.EcdsaPublicKey.{EcdsaPublicKey}
 use Rattle.sshkey_kinds.specs.declared.ecdsa.EcdsaPublicKey.TheVariants.{NistP256, NistP384, NistP521}
-use Rattle.sshkey_kinds.specs.EcdsaWords.{ecdsa_of, same_key}
+use Rattle.sshkey_kinds.specs.EcdsaPublicKey.{ecdsa_of, same_key}
 
 pub same_key_exact : (k l : EcdsaPublicKey) → Decides (same_key k l) (ecdsa_of k ≡ ecdsa_of l)
 same_key_exact (NistP256 p) (NistP256 q) = (λ e. ap (λ (b : List ℕ). (Nistp256, b)) ((bytes_eq-Decides _ _).0 e), λ e. (bytes_eq-Decides _ _).1 (ap (λ (x : Curve × List ℕ). x.1) e))

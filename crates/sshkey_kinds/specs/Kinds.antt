@@ -3,7 +3,7 @@ use Rattle.std.specs.Prelude.{ℕ, List}
 use Rattle.sshkey_model.specs.Keys.{Key, Dsa, Ed25519, Rsa, SkEcdsa, SkEd25519, Opaque}
 use Rattle.sshkey_model.specs.Names.{algorithm_name}
 use Rattle.sshkey_base.specs.Names.{algorithm_of}
-use Rattle.sshkey_base.specs.Numbers.{mpint_of}
+use Rattle.sshkey_base.specs.Mpint.{mpint_of}
 use Rattle.sshkey_kinds.specs.declared.dsa.DsaPublicKey.{DsaPublicKey}
 use Rattle.sshkey_kinds.specs.declared.ec_point.EcPoint.{EcPoint}
 use Rattle.sshkey_kinds.specs.declared.rsa.RsaPublicKey.{RsaPublicKey}
@@ -11,7 +11,7 @@ use Rattle.sshkey_kinds.specs.declared.ed25519.Ed25519PublicKey.{Ed25519PublicKe
 use Rattle.sshkey_kinds.specs.declared.sk.SkEcdsaSha2NistP256.{SkEcdsaSha2NistP256}
 use Rattle.sshkey_kinds.specs.declared.sk.SkEd25519 as sk
 use Rattle.sshkey_kinds.specs.declared.opaque.OpaquePublicKey.{OpaquePublicKey}
-use Rattle.sshkey_kinds.specs.PointWords.{point_of}
+use Rattle.sshkey_kinds.specs.EcPoint.{point_of}
 
 abbrev pub dsa_of : DsaPublicKey → Key
 dsa_of k = Dsa (record { p = mpint_of k.p; q = mpint_of k.q; g = mpint_of k.g; y = mpint_of k.y })

@@ -1,9 +1,9 @@
 pub mod PointSizes
-pub mod PointWords
-pub mod EcdsaWords
+pub mod EcPoint
+pub mod EcdsaPublicKey
 pub mod EcdsaEquality
 pub mod Kinds
 pub mod Bodies
 pub mod BodyNeeds
 pub mod Comparisons
-pub mod Ed25519Bytes
+pub mod Ed25519PublicKey

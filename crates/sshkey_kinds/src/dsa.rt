@@ -25,7 +25,7 @@ pub struct DsaPublicKey {
 impl DsaPublicKey {
     ghost use Rattle.sshkey_kinds.specs.Kinds.{dsa_of};
 
-    /// The same key in memory of its own. Refuses only with `Memory`.
+    /// The same key in memory of its own. Refuses only when out of memory.
     pub fn try_clone(&self, alloc: Global) -> Result<DsaPublicKey>
         ensures value { IfOk result (λ k. dsa_of k ≡ dsa_of self.now) }
         ensures refused { IfErr result (λ e. e ≡ Error.Memory) }
@@ -75,7 +75,7 @@ impl Encode for DsaPublicKey {
 
     ghost normal = { λ k. body (dsa_of k) };
 
-    ghost most = { 4 * (2 ^ 32 + 4) };
+    ghost max_len = { 4 * (2 ^ 32 + 4) };
 
     fn encoded_len(&self) -> encoding::Result<usize> {
         Ok(

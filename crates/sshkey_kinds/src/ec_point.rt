@@ -34,10 +34,10 @@ pub type EcdsaNistP521PublicKey = EcPoint<133>;
 
 impl<const LEN: usize> EcPoint<LEN> {
     ghost use Rattle.std.specs.Prelude.{◌≡◌};
-    ghost use Rattle.sshkey_base.specs.Answering.{AnswersAlways};
+    ghost use Rattle.sshkey_base.specs.Answers.{AnswersAlways};
     ghost use Rattle.sshkey_base.specs.Causes.{cause};
     ghost use Rattle.sshkey_kinds.specs.PointSizes.{point_within};
-    ghost use Rattle.sshkey_kinds.specs.PointWords.{point_of};
+    ghost use Rattle.sshkey_kinds.specs.EcPoint.{point_of};
 
     /// The point of these bytes. `Ecdsa` where they are no point string of this size.
     pub fn from_bytes(bytes: &[u8]) -> Result<EcPoint<LEN>>
@@ -95,7 +95,7 @@ impl<const LEN: usize> PartialEq for EcPoint<LEN> {
     ghost use Rattle.std.proofs.Common.{rules};
     ghost use Rattle.std.specs.Ordering.{on};
     ghost use Rattle.std.specs.Str.{bytes_eq};
-    ghost use Rattle.sshkey_kinds.specs.PointWords.{point_of};
+    ghost use Rattle.sshkey_kinds.specs.EcPoint.{point_of};
 
     ghost eq = { on point_of bytes_eq };
 
@@ -122,7 +122,7 @@ impl<const LEN: usize> Ord for EcPoint<LEN> {
     ghost use Rattle.std.specs.Cmp.Rules.{comparing};
     ghost use Rattle.std.proofs.Common.{rules};
     ghost use Rattle.std.specs.Ordering.{nat_cmp, on};
-    ghost use Rattle.sshkey_kinds.specs.PointWords.{point_of};
+    ghost use Rattle.sshkey_kinds.specs.EcPoint.{point_of};
 
     ghost cmp = { on point_of (slice_cmp nat_cmp) };
 
@@ -144,7 +144,7 @@ impl<const LEN: usize> PartialOrd for EcPoint<LEN> {
     ghost use Rattle.std.specs.Cmp.Rules.{comparing};
     ghost use Rattle.std.proofs.Common.{rules};
     ghost use Rattle.std.specs.Ordering.{nat_cmp, on, as_partial_cmp};
-    ghost use Rattle.sshkey_kinds.specs.PointWords.{point_of};
+    ghost use Rattle.sshkey_kinds.specs.EcPoint.{point_of};
 
     ghost partial_cmp = { as_partial_cmp (on point_of (slice_cmp nat_cmp)) };
 
@@ -157,7 +157,7 @@ impl<const LEN: usize> PartialOrd for EcPoint<LEN> {
 
 impl<const LEN: usize> Hash for EcPoint<LEN> {
     ghost use Rattle.std.specs.Hash as fed;
-    ghost use Rattle.sshkey_kinds.specs.PointWords.{point_of};
+    ghost use Rattle.sshkey_kinds.specs.EcPoint.{point_of};
     ghost use Rattle.sshkey_base.specs.ByteHash.{same_hash};
 
     ghost hash_input = { λ p. fed.slice fed.u8 (point_of p) };
@@ -171,7 +171,7 @@ impl<const LEN: usize> Hash for EcPoint<LEN> {
 }
 
 impl<const LEN: usize> AsSlice<u8> for EcPoint<LEN> {
-    ghost use Rattle.sshkey_kinds.specs.PointWords.{point_of};
+    ghost use Rattle.sshkey_kinds.specs.EcPoint.{point_of};
 
     ghost items = { point_of };
 
@@ -184,11 +184,11 @@ impl<const LEN: usize> AsSlice<u8> for EcPoint<LEN> {
 impl<const LEN: usize> Encode for EcPoint<LEN> {
     ghost use Rattle.std.specs.Prelude.{◌+◌, ◌^◌};
     ghost use Rattle.sshkey_model.specs.Texts.{string};
-    ghost use Rattle.sshkey_kinds.specs.PointWords.{point_of};
+    ghost use Rattle.sshkey_kinds.specs.EcPoint.{point_of};
 
     ghost normal = { λ p. string (point_of p) };
 
-    ghost most = { 2 ^ 32 + 3 };
+    ghost max_len = { 2 ^ 32 + 3 };
 
     fn encoded_len(&self) -> encoding::Result<usize> {
         string_len(self.as_bytes())

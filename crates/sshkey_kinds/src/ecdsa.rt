@@ -3,7 +3,7 @@
 ghost use Rattle.std.specs.Fmt.{WritesOnOk};
 ghost use Rattle.std.specs.Prelude.{◌≡◌};
 ghost use Rattle.hex.specs.Hex.{encode_lower, encode_upper};
-ghost use Rattle.sshkey_base.specs.Answering.{AnswersAlways};
+ghost use Rattle.sshkey_base.specs.Answers.{AnswersAlways};
 ghost use Rattle.sshkey_base.specs.Causes.{cause};
 ghost use Rattle.sshkey_base.specs.Needs.{Asks, NoNeed};
 ghost use Rattle.sshkey_base.specs.Reading.{Gives};
@@ -11,7 +11,7 @@ ghost use Rattle.sshkey_base.specs.Source.{Later};
 ghost use Rattle.sshkey_model.specs.Points.{curve_of_size, point_curve, point_from};
 ghost use Rattle.sshkey_base.specs.Names.{curve_of};
 ghost use Rattle.sshkey_model.specs.Reading.{bytes_at, checked_at, string_at};
-ghost use Rattle.sshkey_kinds.specs.EcdsaWords.{ecdsa_of};
+ghost use Rattle.sshkey_kinds.specs.EcdsaPublicKey.{ecdsa_of};
 
 use crate::ec_point::{
     EcPoint, EcdsaNistP256PublicKey, EcdsaNistP384PublicKey, EcdsaNistP521PublicKey,
@@ -39,7 +39,7 @@ pub enum EcdsaPublicKey {
 
 impl EcdsaPublicKey {
     ghost use Rattle.std.specs.Prelude.{◌↔◌, IsOk};
-    ghost use Rattle.sshkey_kinds.specs.EcdsaWords.{ecdsa_of, sec1_from, IsAnyPoint};
+    ghost use Rattle.sshkey_kinds.specs.EcdsaPublicKey.{ecdsa_of, sec1_from, IsAnyPoint};
 
     /// The key of a point string (SEC 1, section 2.3.3), whose curve its tag and its size tell. The
     /// answer is `Ok` exactly where the bytes are a point string of one of the curves.
@@ -76,7 +76,7 @@ impl EcdsaPublicKey {
     ghost use Rattle.sshkey_base.specs.Names.{curve_of, algorithm_of};
     ghost use Rattle.sshkey_model.specs.Names.{Ecdsa};
     ghost use Rattle.sshkey_model.specs.Points.{curve_eq};
-    ghost use Rattle.sshkey_kinds.specs.EcdsaWords.{ecdsa_of};
+    ghost use Rattle.sshkey_kinds.specs.EcdsaPublicKey.{ecdsa_of};
 
     /// The curve of the point.
     pub fn curve(&self) -> EcdsaCurve
@@ -120,7 +120,7 @@ impl Decode for EcdsaPublicKey {
     ghost use Rattle.sshkey_model.specs.Keys.{Key};
     ghost use Rattle.sshkey_kinds.specs.Bodies.{SpellsEcdsa, any_ecdsa_at, any_ecdsa_grammar};
     ghost use Rattle.sshkey_kinds.specs.BodyNeeds.{NeedsEcdsa};
-    ghost use Rattle.sshkey_kinds.specs.EcdsaWords.{ecdsa_key_of};
+    ghost use Rattle.sshkey_kinds.specs.EcdsaPublicKey.{ecdsa_key_of};
 
     type Error = Error;
 
@@ -149,7 +149,8 @@ impl Decode for EcdsaPublicKey {
 /// A point string of any of the curves, none of which is longer than 133 bytes.
 #[tactic(auto, using(sshkey_base::proofs::Steps::steps))]
 fn decode_point<R: Reader>(reader: &mut R) -> Result<EcdsaPublicKey>
-    ensures gives { Gives ecdsa_of cause (checked_at point_from string_at) (R.source reader.old) result (R.source reader.new) }
+    ensures gives { Gives ecdsa_of cause (checked_at point_from string_at)
+        (R.source reader.old) result (R.source reader.new) }
     ensures later { Later (R.source reader.old) (R.source reader.new) }
     ensures asks { Asks cause NoNeed (R.source reader.old) result }
 {
@@ -160,7 +161,8 @@ fn decode_point<R: Reader>(reader: &mut R) -> Result<EcdsaPublicKey>
 /// The point that the next `len` bytes spell.
 #[tactic(auto, using(sshkey_base::proofs::Lending::lending, sshkey_base::proofs::Places::places))]
 fn point_from<R: Reader>(len: usize, reader: &mut R) -> Result<EcdsaPublicKey>
-    ensures gives { Gives ecdsa_of cause (checked_at point_from (bytes_at len)) (R.source reader.old) result (R.source reader.new) }
+    ensures gives { Gives ecdsa_of cause (checked_at point_from (bytes_at len))
+        (R.source reader.old) result (R.source reader.new) }
     ensures later { Later (R.source reader.old) (R.source reader.new) }
     ensures asks { Asks cause NoNeed (R.source reader.old) result }
 {
@@ -178,11 +180,11 @@ fn point_from<R: Reader>(len: usize, reader: &mut R) -> Result<EcdsaPublicKey>
 impl Encode for EcdsaPublicKey {
     ghost use Rattle.std.specs.Prelude.{◌+◌, ◌*◌, ◌^◌};
     ghost use Rattle.sshkey_model.specs.Keys.{body};
-    ghost use Rattle.sshkey_kinds.specs.EcdsaWords.{ecdsa_key_of};
+    ghost use Rattle.sshkey_kinds.specs.EcdsaPublicKey.{ecdsa_key_of};
 
     ghost normal = { λ k. body (ecdsa_key_of k) };
 
-    ghost most = { 2 * (2 ^ 32 + 4) };
+    ghost max_len = { 2 * (2 ^ 32 + 4) };
 
     fn encoded_len(&self) -> encoding::Result<usize> {
         Ok(self.curve().encoded_len()? + string_len(self.as_sec1_bytes())?)
@@ -230,7 +232,7 @@ fn curve_of_size(size: usize) -> Result<EcdsaCurve>
 
 impl PartialEq for EcdsaPublicKey {
     ghost use Rattle.std.specs.Prelude.{◌≡◌, ◌↔◌, IsTrue};
-    ghost use Rattle.sshkey_kinds.specs.EcdsaWords.{ecdsa_of, same_key};
+    ghost use Rattle.sshkey_kinds.specs.EcdsaPublicKey.{ecdsa_of, same_key};
     ghost use Rattle.sshkey_kinds.specs.EcdsaEquality.{same_key_partial_equivalence};
 
     ghost eq = { same_key };
@@ -258,7 +260,7 @@ impl Eq for EcdsaPublicKey {
 }
 
 impl AsSlice<u8> for EcdsaPublicKey {
-    ghost use Rattle.sshkey_kinds.specs.EcdsaWords.{ecdsa_of};
+    ghost use Rattle.sshkey_kinds.specs.EcdsaPublicKey.{ecdsa_of};
 
     ghost items = { λ k. (ecdsa_of k).1 };
 
@@ -269,10 +271,11 @@ impl AsSlice<u8> for EcdsaPublicKey {
 
 /// Two digits a byte, with small letters.
 impl fmt::LowerHex for EcdsaPublicKey {
-    ghost use Rattle.sshkey_kinds.specs.EcdsaWords.{ecdsa_of};
+    ghost use Rattle.sshkey_kinds.specs.EcdsaPublicKey.{ecdsa_of};
 
     fn fmt<W: fmt::Write>(&self, f: &mut fmt::Formatter<W>) -> fmt::Result
-        ensures { WritesOnOk W.write_str_gives f.old result (encode_lower (ecdsa_of self.now).1) f.new }
+        ensures { WritesOnOk W.write_str_gives f.old result
+            (encode_lower (ecdsa_of self.now).1) f.new }
     {
         write_lower_hex(self.as_sec1_bytes(), f)
     }
@@ -280,10 +283,11 @@ impl fmt::LowerHex for EcdsaPublicKey {
 
 /// Two digits a byte, with capital letters.
 impl fmt::UpperHex for EcdsaPublicKey {
-    ghost use Rattle.sshkey_kinds.specs.EcdsaWords.{ecdsa_of};
+    ghost use Rattle.sshkey_kinds.specs.EcdsaPublicKey.{ecdsa_of};
 
     fn fmt<W: fmt::Write>(&self, f: &mut fmt::Formatter<W>) -> fmt::Result
-        ensures { WritesOnOk W.write_str_gives f.old result (encode_upper (ecdsa_of self.now).1) f.new }
+        ensures { WritesOnOk W.write_str_gives f.old result
+            (encode_upper (ecdsa_of self.now).1) f.new }
     {
         write_upper_hex(self.as_sec1_bytes(), f)
     }
@@ -293,7 +297,7 @@ impl fmt::UpperHex for EcdsaPublicKey {
 impl fmt::Display for EcdsaPublicKey {
     ghost use Rattle.std.specs.Prelude.{Some};
     ghost use Rattle.hex.specs.Hex.{encode_upper};
-    ghost use Rattle.sshkey_kinds.specs.EcdsaWords.{ecdsa_of};
+    ghost use Rattle.sshkey_kinds.specs.EcdsaPublicKey.{ecdsa_of};
 
     ghost output = { λ k. Some (encode_upper (ecdsa_of k).1) };
 

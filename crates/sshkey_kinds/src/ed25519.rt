@@ -3,13 +3,13 @@
 ghost use Rattle.std.specs.Fmt.{WritesOnOk};
 ghost use Rattle.std.specs.Prelude.{◌≡◌, ℕ, Some, ◌+◌, ◌^◌};
 ghost use Rattle.hex.specs.Hex.{encode_lower, encode_upper};
-ghost use Rattle.sshkey_base.specs.Answering.{AnswersAlways};
+ghost use Rattle.sshkey_base.specs.Answers.{AnswersAlways};
 ghost use Rattle.sshkey_base.specs.Causes.{cause, encoding_cause};
-ghost use Rattle.sshkey_base.specs.Reading.{Gives, GivesAlways};
+ghost use Rattle.sshkey_base.specs.Reading.{Decodes, DecodesAlways};
 ghost use Rattle.sshkey_base.specs.Source.{Later};
 ghost use Rattle.sshkey_model.specs.Keys.{Key, body};
 ghost use Rattle.sshkey_kinds.specs.Bodies.{SpellsEd25519, ed25519_body_at, ed25519_body_grammar};
-ghost use Rattle.sshkey_kinds.specs.Ed25519Bytes.{ed25519_from};
+ghost use Rattle.sshkey_kinds.specs.Ed25519PublicKey.{ed25519_from};
 
 use sshkey_base::{
     Decode, Encode, Error, Reader, Result, Writer, encoding, write_lower_hex, write_upper_hex,
@@ -49,10 +49,11 @@ impl Decode for Ed25519PublicKey {
     ghost grammar = { ed25519_body_grammar };
 
     fn decode<R: Reader>(alloc: Global, reader: &mut R) -> encoding::Result<Ed25519PublicKey>
-        ensures gives { Gives ed25519_of encoding_cause ed25519_body_at (R.source reader.old) result (R.source reader.new) }
+        ensures gives { Decodes ed25519_of ed25519_body_at R.source reader.old result reader.new }
         ensures later { Later (R.source reader.old) (R.source reader.new) }
         ensures asks { Asks encoding_cause NoNeed (R.source reader.old) result }
-        ensures always { GivesAlways ed25519_of encoding_cause ed25519_body_at (R.source reader.old) result (R.source reader.new) }
+        ensures always { DecodesAlways ed25519_of ed25519_body_at
+            R.source reader.old result reader.new }
     {
         Ok(Ed25519PublicKey(<[u8; 32]>::decode(alloc, reader)?))
     }
@@ -64,7 +65,7 @@ impl Encode for Ed25519PublicKey {
 
     ghost normal = { λ k. body (ed25519_of k) };
 
-    ghost most = { 2 ^ 32 + 4 };
+    ghost max_len = { 2 ^ 32 + 4 };
 
     fn encoded_len(&self) -> encoding::Result<usize> {
         self.0.encoded_len()
@@ -82,10 +83,7 @@ impl TryFrom<&[u8]> for Ed25519PublicKey {
     ghost try_from_gives = { λ bytes r. AnswersAlways (λ k. k.0) cause (ed25519_from bytes.now) r };
 
     fn try_from(bytes: &[u8]) -> Result<Ed25519PublicKey> {
-        match <[u8; 32]>::try_from(bytes) {
-            Ok(bytes) => Ok(Ed25519PublicKey(bytes)),
-            Err(_) => Err(Error::Encoding(encoding::Error::Length)),
-        }
+        Ok(Ed25519PublicKey(<[u8; 32]>::try_from(bytes)?))
     }
 }
 

@@ -2,7 +2,7 @@
 
 ghost use Rattle.std.specs.Prelude.{◌≡◌, ℕ, List, IfOk, IfErr, ◌+◌, ◌^◌};
 ghost use Rattle.sshkey_base.specs.Leaves.{SpellsString, string_grammar};
-ghost use Rattle.sshkey_base.specs.Readers.{string_at};
+ghost use Rattle.sshkey_model.specs.Reading.{string_at};
 ghost use Rattle.sshkey_model.specs.Keys.{body};
 ghost use Rattle.sshkey_model.specs.Texts.{string};
 
@@ -35,7 +35,7 @@ impl OpaquePublicKeyBytes {
         self.bytes.as_slice()
     }
 
-    /// The same bytes in memory of their own. Refuses only with `Memory`.
+    /// The same bytes in memory of their own. Refuses only when out of memory.
     pub fn try_clone(&self, alloc: Global) -> Result<OpaquePublicKeyBytes>
         ensures value { IfOk result (λ k. k ≡ self.now) }
         ensures refused { IfErr result (λ e. e ≡ Error.Memory) }
@@ -84,7 +84,7 @@ impl Decode for OpaquePublicKeyBytes {
 impl Encode for OpaquePublicKeyBytes {
     ghost normal = { string };
 
-    ghost most = { 2 ^ 32 + 3 };
+    ghost max_len = { 2 ^ 32 + 3 };
 
     fn encoded_len(&self) -> encoding::Result<usize> {
         self.bytes.encoded_len()
@@ -113,7 +113,8 @@ impl OpaquePublicKey {
 
     /// The key of these bytes under that algorithm, whichever it is. Takes no memory.
     pub fn new(key: Vec<u8>, algorithm: Algorithm) -> OpaquePublicKey
-        ensures value { opaque_of result ≡ Opaque (algorithm_name (algorithm_of algorithm)) key.items }
+        ensures value { opaque_of result
+            ≡ Opaque (algorithm_name (algorithm_of algorithm)) key.items }
         ensures fields { opaque_fields result ≡ (algorithm_of algorithm, key.items) }
     {
         OpaquePublicKey {
@@ -124,7 +125,7 @@ impl OpaquePublicKey {
         }
     }
 
-    /// The same key in memory of its own. Refuses only with `Memory`.
+    /// The same key in memory of its own. Refuses only when out of memory.
     pub fn try_clone(&self, alloc: Global) -> Result<OpaquePublicKey>
         ensures value { IfOk result (λ k. opaque_of k ≡ opaque_of self.now) }
         ensures fields { IfOk result (λ k. opaque_fields k ≡ opaque_fields self.now) }
@@ -159,7 +160,7 @@ impl Encode for OpaquePublicKey {
 
     ghost normal = { λ k. body (opaque_of k) };
 
-    ghost most = { 2 ^ 32 + 3 };
+    ghost max_len = { 2 ^ 32 + 3 };
 
     fn encoded_len(&self) -> encoding::Result<usize> {
         self.key.encoded_len()

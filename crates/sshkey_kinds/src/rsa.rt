@@ -21,7 +21,7 @@ pub struct RsaPublicKey {
 impl RsaPublicKey {
     ghost use Rattle.sshkey_kinds.specs.Kinds.{rsa_of};
 
-    /// The same key in memory of its own. Refuses only with `Memory`.
+    /// The same key in memory of its own. Refuses only when out of memory.
     pub fn try_clone(&self, alloc: Global) -> Result<RsaPublicKey>
         ensures value { IfOk result (λ k. rsa_of k ≡ rsa_of self.now) }
         ensures refused { IfErr result (λ e. e ≡ Error.Memory) }
@@ -67,7 +67,7 @@ impl Encode for RsaPublicKey {
 
     ghost normal = { λ k. body (rsa_of k) };
 
-    ghost most = { 2 * (2 ^ 32 + 4) };
+    ghost max_len = { 2 * (2 ^ 32 + 4) };
 
     fn encoded_len(&self) -> encoding::Result<usize> {
         Ok(self.e.encoded_len()? + self.n.encoded_len()?)

@@ -9,7 +9,7 @@ ghost use Rattle.sshkey_model.specs.Keys.{Key, SkEcdsa, SkEd25519 as SkEd25519Ke
 ghost use Rattle.sshkey_model.specs.Points.{p256_point_from};
 ghost use Rattle.sshkey_model.specs.Reading.{bytes_at, checked_at, string_at};
 ghost use Rattle.sshkey_kinds.specs.Bodies.{SpellsSkEcdsa, sk_ecdsa_at, sk_ecdsa_grammar, SpellsSkEd25519, sk_ed25519_at, sk_ed25519_grammar};
-ghost use Rattle.sshkey_kinds.specs.PointWords.{point_of};
+ghost use Rattle.sshkey_kinds.specs.EcPoint.{point_of};
 
 use crate::ec_point::{EcPoint, EcdsaNistP256PublicKey};
 use crate::ed25519::Ed25519PublicKey;
@@ -35,7 +35,8 @@ impl SkEcdsaSha2NistP256 {
 
     /// The key for that application. Takes no memory.
     pub fn new(ec_point: EcdsaNistP256PublicKey, application: String) -> SkEcdsaSha2NistP256
-        ensures { sk_ecdsa_of result ≡ SkEcdsa (record { key = point_of ec_point; application = string_bytes application }) }
+        ensures { sk_ecdsa_of result
+            ≡ SkEcdsa (record { key = point_of ec_point; application = string_bytes application }) }
     {
         SkEcdsaSha2NistP256 {
             ec_point,
@@ -43,19 +44,20 @@ impl SkEcdsaSha2NistP256 {
         }
     }
 
-    /// The key for the application `ssh:`. Refuses only with `Memory`.
+    /// The key for the application `ssh:`. Refuses only when out of memory.
     pub fn with_default_application(
         alloc: Global,
         ec_point: EcdsaNistP256PublicKey,
     ) -> Result<SkEcdsaSha2NistP256>
-        ensures value { IfOk result (λ k. sk_ecdsa_of k ≡ SkEcdsa (record { key = point_of ec_point; application = codes "ssh:" })) }
+        ensures value { IfOk result (λ k. sk_ecdsa_of k
+            ≡ SkEcdsa (record { key = point_of ec_point; application = codes "ssh:" })) }
         ensures refused { IfErr result (λ e. e ≡ Error.Memory) }
     {
         let application = String::from_str(alloc, DEFAULT_APPLICATION)?;
         Ok(SkEcdsaSha2NistP256::new(ec_point, application))
     }
 
-    /// The same key in memory of its own. Refuses only with `Memory`.
+    /// The same key in memory of its own. Refuses only when out of memory.
     pub fn try_clone(&self, alloc: Global) -> Result<SkEcdsaSha2NistP256>
         ensures value { IfOk result (λ k. sk_ecdsa_of k ≡ sk_ecdsa_of self.now) }
         ensures refused { IfErr result (λ e. e ≡ Error.Memory) }
@@ -132,7 +134,8 @@ impl Decode for SkEcdsaSha2NistP256 {
 /// A point string of P-256, none of which is longer than 65 bytes.
 #[tactic(auto, using(sshkey_base::proofs::Steps::steps))]
 fn decode_point<R: Reader>(reader: &mut R) -> Result<EcdsaNistP256PublicKey>
-    ensures gives { Gives point_of cause (checked_at p256_point_from string_at) (R.source reader.old) result (R.source reader.new) }
+    ensures gives { Gives point_of cause (checked_at p256_point_from string_at)
+        (R.source reader.old) result (R.source reader.new) }
     ensures later { Later (R.source reader.old) (R.source reader.new) }
     ensures asks { Asks cause NoNeed (R.source reader.old) result }
 {
@@ -143,7 +146,8 @@ fn decode_point<R: Reader>(reader: &mut R) -> Result<EcdsaNistP256PublicKey>
 /// The point that the next `len` bytes spell.
 #[tactic(auto, using(sshkey_base::proofs::Lending::lending, sshkey_base::proofs::Places::places))]
 fn point_from<R: Reader>(len: usize, reader: &mut R) -> Result<EcdsaNistP256PublicKey>
-    ensures gives { Gives point_of cause (checked_at p256_point_from (bytes_at len)) (R.source reader.old) result (R.source reader.new) }
+    ensures gives { Gives point_of cause (checked_at p256_point_from (bytes_at len))
+        (R.source reader.old) result (R.source reader.new) }
     ensures later { Later (R.source reader.old) (R.source reader.new) }
     ensures asks { Asks cause NoNeed (R.source reader.old) result }
 {
@@ -163,7 +167,7 @@ impl Encode for SkEcdsaSha2NistP256 {
 
     ghost normal = { λ k. body (sk_ecdsa_of k) };
 
-    ghost most = { 3 * (2 ^ 32 + 4) };
+    ghost max_len = { 3 * (2 ^ 32 + 4) };
 
     fn encoded_len(&self) -> encoding::Result<usize> {
         Ok(
@@ -193,7 +197,8 @@ impl SkEd25519 {
 
     /// The key for that application. Takes no memory.
     pub fn new(public_key: Ed25519PublicKey, application: String) -> SkEd25519
-        ensures { sk_ed25519_of result ≡ SkEd25519Key (record { key = public_key.0; application = string_bytes application }) }
+        ensures { sk_ed25519_of result
+            ≡ SkEd25519Key (record { key = public_key.0; application = string_bytes application }) }
     {
         SkEd25519 {
             public_key,
@@ -201,19 +206,20 @@ impl SkEd25519 {
         }
     }
 
-    /// The key for the application `ssh:`. Refuses only with `Memory`.
+    /// The key for the application `ssh:`. Refuses only when out of memory.
     pub fn with_default_application(
         alloc: Global,
         public_key: Ed25519PublicKey,
     ) -> Result<SkEd25519>
-        ensures value { IfOk result (λ k. sk_ed25519_of k ≡ SkEd25519Key (record { key = public_key.0; application = codes "ssh:" })) }
+        ensures value { IfOk result (λ k. sk_ed25519_of k
+            ≡ SkEd25519Key (record { key = public_key.0; application = codes "ssh:" })) }
         ensures refused { IfErr result (λ e. e ≡ Error.Memory) }
     {
         let application = String::from_str(alloc, DEFAULT_APPLICATION)?;
         Ok(SkEd25519::new(public_key, application))
     }
 
-    /// The same key in memory of its own. Refuses only with `Memory`.
+    /// The same key in memory of its own. Refuses only when out of memory.
     pub fn try_clone(&self, alloc: Global) -> Result<SkEd25519>
         ensures value { IfOk result (λ k. sk_ed25519_of k ≡ sk_ed25519_of self.now) }
         ensures refused { IfErr result (λ e. e ≡ Error.Memory) }
@@ -287,7 +293,7 @@ impl Encode for SkEd25519 {
 
     ghost normal = { λ k. body (sk_ed25519_of k) };
 
-    ghost most = { 2 * (2 ^ 32 + 4) };
+    ghost max_len = { 2 * (2 ^ 32 + 4) };
 
     fn encoded_len(&self) -> encoding::Result<usize> {
         Ok(self.public_key.encoded_len()? + self.application.encoded_len()?)

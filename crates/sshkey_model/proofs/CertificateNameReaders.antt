@@ -3,11 +3,11 @@ use Rattle.std.proofs.Common.{◌≡◌, ℕ, ◌-◌, Option, Some, None, is_no
 use Rattle.std.proofs.lemmas.Slice.Eq.{bytes_eq-Decides}
 use Rattle.std.proofs.lemmas.Bool.{and_parts, eqb-true}
 use Rattle.std.proofs.lemmas.List.{take_at, drop_at, take-append-drop, length-append}
-use Rattle.sshkey_model.specs.Parts.{bytes}
+use Rattle.sshkey_model.specs.Parts.{Any, bytes}
 use Rattle.sshkey_model.specs.Reading.{Label}
 use Rattle.sshkey_model.specs.Names.{Nistp256, Nistp384, Nistp521, Algorithm, Dsa, Ecdsa, Ed25519, Rsa, SkEcdsa, SkEd25519, Other, algorithms, algorithm_name, named, are_ascii, is_own_name, is_other_name, at_sign, cut, behind_first, is_split, algorithm_or}
-use Rattle.sshkey_model.specs.CertificateNames.{suffix, with_suffix, certificate_name, certified, IsCertified, certificate_algorithm, without_suffix, certified_or, certificate_algorithm_at}
-use Rattle.sshkey_model.proofs.CombinedReaders.{ok_is, done, chosen, ReadsFront, checked_string_reads}
+use Rattle.sshkey_model.specs.CertificateNames.{suffix, with_suffix, certificate_name, certified, IsCertified, certificate_algorithm, without_suffix, certified_or, certified_from, certificate_algorithm_at}
+use Rattle.sshkey_model.proofs.CombinedReaders.{Checks, ok_is, done, chosen, ReadsFront, checked_string_reads}
 use Rattle.sshkey_model.proofs.NameReaders.{found}
 
 cut_later : (c : ℕ) (rest : List ℕ) (p : List ℕ × List ℕ) (o : Option (List ℕ × List ℕ)) → ((q : List ℕ × List ℕ) → cut rest ≡ Some q → (rest ≡ q.0 ++ at_sign ∷ q.1) × (cut q.0 ≡ None)) → cut rest ≡ o → eqb c at_sign ≡ false → behind_first c o ≡ Some p → (c ∷ rest ≡ p.0 ++ at_sign ∷ p.1) × (cut p.0 ≡ None)
@@ -121,9 +121,12 @@ certified_takes (Some x) q t a from split e = subst (λ (z : Algorithm). IsCerti
 certified_takes None None t a from split e = absurd (cc (sym e ∙ ap without_suffix split))
 certified_takes None (Some p) t a from split e = let c = cut_parts t p split in stripped_takes p t a c.0 c.1 from (sym (ap without_suffix split) ∙ e)
 
-pub certificate_algorithm_reads : ReadsFront IsCertified certificate_algorithm certificate_algorithm_at
-unfolding certificate_algorithm_at
-certificate_algorithm_reads = checked_string_reads (record {
+pub certified_checks : Checks Any bytes IsCertified (λ a. bytes (certificate_name a)) certified_from
+certified_checks = record {
   takes = λ t a was e. let c = certified_takes (named certificate_name certified t) (cut t) t a refl refl e in (c.0, ap bytes (sym c.1));
   again = λ a is. (certificate_name a, tt, certified_again a is, refl);
-})
+}
+
+pub certificate_algorithm_reads : ReadsFront IsCertified certificate_algorithm certificate_algorithm_at
+unfolding certificate_algorithm_at
+certificate_algorithm_reads = checked_string_reads certified_checks

@@ -26,3 +26,6 @@ pub mod LinesApart
 pub mod LineExamples
 pub mod PrivateExamples
 pub mod NormalKeysFit
+pub mod Refusals
+pub mod InsertedOptions
+pub mod SignedDrafts

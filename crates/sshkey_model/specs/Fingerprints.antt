@@ -1,5 +1,5 @@
 -- Fingerprints of public keys (FIPS 180-4; unpadded Base64, RFC 4648, section 3.2).
-use Rattle.std.specs.Prelude.{ℕ, List, ◌++◌, codes}
+use Rattle.std.specs.Prelude.{ℕ, List, ◌++◌, Bool, true, false, ◌&&◌, bytes_eq, codes}
 use Rattle.base64.specs.Engines.{standard_no_pad}
 use Rattle.base64.specs.GeneralPurpose.{encode_of}
 use Rattle.sha2.specs.Sha256.{sha256}
@@ -20,6 +20,14 @@ pub record Fingerprint : Type 0 where
 -- The digest of the key's normal form, whatever bytes it was read from.
 abbrev pub fingerprint : Hash → Key → Fingerprint
 fingerprint h k = record { hash = h; digest = digest h (flat (normal_key k)) }
+
+abbrev pub same_hash : Hash → Hash → Bool
+same_hash Sha256 Sha256 = true
+same_hash Sha512 Sha512 = true
+same_hash _ _ = false
+
+abbrev pub same_fingerprint : Fingerprint → Fingerprint → Bool
+same_fingerprint f g = same_hash f.hash g.hash && bytes_eq f.digest g.digest
 
 abbrev pub fingerprint_prefix : Hash → List ℕ
 fingerprint_prefix Sha256 = codes "SHA256:"

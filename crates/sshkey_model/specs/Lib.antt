@@ -14,7 +14,12 @@ pub mod SshSignatures
 pub mod Fingerprints
 pub mod Verification
 pub mod Validity
+pub mod Refusals
+pub mod Principals
+pub mod OptionMaps
+pub mod Drafts
 pub mod Lines
+pub mod SignedMessages
 pub mod KeyDerivation
 pub mod KeyPairs
 pub mod PrivateKeys
@@ -30,6 +35,8 @@ pub mod DispatchExamples
 pub mod OptionExamples
 pub mod CertificateExamples
 pub mod ValidityExamples
+pub mod RefusalExamples
+pub mod DraftExamples
 pub mod SshSignatureExamples
 pub mod TextExamples
 pub mod LineExamples

@@ -8,6 +8,8 @@ use Rattle.sshkey_model.specs.Keys.{Plain, Head256}
 use Rattle.sshkey_model.specs.SshSignatures.{SshSignature, signed_data, ssh_signature, normal_ssh_signature, ssh_signature_at}
 use Rattle.sshkey_model.specs.KeyExamples.{ed25519_key, ed25519_bytes, rsa_key, rsa_bytes, rsa_256_bytes}
 use Rattle.sshkey_model.specs.DispatchExamples.{empty_digest}
+use Rattle.sshkey_model.specs.Lines.{key_line}
+use Rattle.sshkey_model.specs.SignedMessages.{signed_message}
 
 -- In the namespace `file`, over the empty message.
 abbrev pub SignedData : Type 0
@@ -64,3 +66,12 @@ abbrev pub SignerNames : Type 0
 SignerNames = (ssh_signature_at (hex "535348534947 00000001 0000001d" ++ rsa_256_bytes ++ rsa_middle) ≡ Ok ((rsa_file_signature, Head256), []))
     × (flat (ssh_signature rsa_file_signature Head256) ≡ hex "535348534947 00000001 0000001d" ++ rsa_256_bytes ++ rsa_middle)
     × (flat (normal_ssh_signature rsa_file_signature) ≡ hex "535348534947 00000001 00000018" ++ rsa_bytes ++ rsa_middle)
+
+-- The digest of the empty message stands in what is signed in its place.
+abbrev pub SignedMessage : Type 0
+SignedMessage = signed_message (codes "file") [] Sha256 [] ≡ signed_data (codes "file") [] Sha256 empty_digest
+
+-- A comment has a space before it, and an empty one none.
+abbrev pub KeyLine : Type 0
+KeyLine = (key_line ed25519_key (codes "user@example.com") ≡ codes "ssh-ed25519 AAAAC3NzaC1lZDI1NTE5AAAAILM+rvN+ot98qgEN796jTiQfZfG1KaT0PtFDJ/XFSqti user@example.com")
+    × (key_line ed25519_key [] ≡ codes "ssh-ed25519 AAAAC3NzaC1lZDI1NTE5AAAAILM+rvN+ot98qgEN796jTiQfZfG1KaT0PtFDJ/XFSqti")

@@ -3,6 +3,7 @@
 
 pub mod certificates;
 pub mod dispatch;
+pub mod drafts;
 pub mod keys;
 pub mod lines;
 pub mod names;

@@ -1,5 +1,6 @@
 //! Laws over the definitions alone: each stands for all values and all bytes, and makes no call.
 
+pub mod certificates;
 pub mod lines;
 pub mod private;
 pub mod readers;

@@ -2,3 +2,5 @@ pub mod Cuts
 pub mod ReadLines
 pub mod Filling
 pub mod WrittenLines
+pub mod Measured
+pub mod Verified

@@ -4,7 +4,7 @@ use Rattle.std.specs.Prelude.{IfSome, true}
 use Rattle.std.specs.Str.{is_utf8}
 use Rattle.base64.specs.Engines.{standard}
 use Rattle.base64.specs.GeneralPurpose.{encode_of, IsBytes}
-use Rattle.sshkey_base.specs.Accepting.{AcceptsWhole}
+use Rattle.sshkey_base.specs.Reading.{AcceptsWhole}
 use Rattle.sshkey_base.specs.Causes.{cause, NoMemory}
 use Rattle.sshkey_base.specs.Source.{Source}
 use Rattle.sshkey_base.specs.Sink.{Sink, Written, NotWritten}
@@ -13,10 +13,8 @@ use Rattle.sshkey_base.specs.declared.encoding.Error.{Error}
 use Rattle.sshkey_base.specs.declared.error.Error as wide
 use Rattle.sshkey_model.proofs.CombinedReaders.{bytes_fit}
 use Rattle.sshkey_model.specs.Parts.{bytes, flat, BoxesFit}
-use Rattle.sshkey_model.specs.Lines.{IsLineOf}
-use Rattle.sshkey_model.proofs.LineCuts.{IsCut}
-use Rattle.sshkey_model.specs.Lines.{IsNoLine}
-use Rattle.sshkey_model.proofs.LineCuts.{one_cut}
+use Rattle.sshkey_model.specs.Lines.{IsLineOf, IsNoLine}
+use Rattle.sshkey_model.proofs.LineCuts.{IsCut, one_cut}
 use Rattle.sshkey_model.proofs.Lines.{line_cut, no_cut, other_first, is_line}
 use Rattle.sshkey_public.specs.Blobs.{StandsInLines}
 use Rattle.sshkey_public.specs.Lines.{IsWordOf, IsNoWord, ReadsWord}

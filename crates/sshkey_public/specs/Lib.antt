@@ -5,3 +5,7 @@ pub mod Lines
 pub mod Filling
 pub mod WritingLines
 pub mod PublicKeys
+pub mod SshSignatures
+pub mod SshSignatureReaders
+pub mod Needs
+pub mod Signing

@@ -1,13 +1,15 @@
-//! Key lines: reading and writing them, and public keys with their comments.
+//! Key lines, public keys with their comments, and SSH signatures of messages.
 #![tactic(auto)]
 
 mod blob;
 mod line;
 mod line_writer;
 mod public_key;
+mod sshsig;
 mod words;
 
 pub use blob::Blob;
 pub use line::{read_line, write_line};
 pub use public_key::PublicKey;
 pub use sshkey_base64::Base64Reader;
+pub use sshsig::SshSig;

@@ -1,4 +1,2 @@
-pub mod Cuts
 pub mod Writing
-pub mod ReadLines
 pub mod Outcomes

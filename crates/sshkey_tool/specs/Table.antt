@@ -1,13 +1,37 @@
 -- What the program writes, and its status, for each words and each input.
-use Rattle.std.specs.Prelude.{◌≡◌, ◌⊎◌, ℕ, List, [], ◌∷◌, ◌++◌, map, codes, Option, IfSome}
+use Rattle.std.specs.Prelude.{◌≡◌, ◌≢◌, ◌⊎◌, ◌<◌, ℕ, List, [], ◌∷◌, ◌++◌, length, get_or, map, codes, Option, IfSome}
 use Rattle.std.specs.Str.{IsUtf8}
 use denote.Ref.{Bor}
 use Rattle.sshkey_model.specs.Fingerprints.{fingerprint_text}
 use Rattle.sshkey_model.specs.Keys.{Key}
+use Rattle.sshkey_model.specs.Lines.{IsKeyLine, key_line, key_name, IsNoLine}
 use Rattle.sshkey_model.specs.Names.{Sha256}
+use Rattle.sshkey_keys.specs.Keys.{SpellsKey}
 use Rattle.sshkey_tool.specs.Faults.{Writes}
-use Rattle.sshkey_model.specs.Lines.{IsKeyLine}
-use Rattle.sshkey_tool.specs.KeyLines.{IsNoKeyLine}
+use Rattle.sshkey_tool.specs.declared.command.Command.{Command}
+use Rattle.sshkey_tool.specs.declared.command.Command.TheVariants.{Fingerprint, Normal}
+
+-- ---- the rows
+
+-- the words that ask for it
+abbrev pub command_words : Command → List (List ℕ)
+command_words Fingerprint = codes "fingerprint" ∷ []
+command_words Normal = codes "normal" ∷ []
+
+-- what is shown of a key and its comment
+abbrev pub key_text : Command → Key → List ℕ → List ℕ
+key_text Fingerprint k comment = fingerprint_text Sha256 k
+key_text Normal k comment = key_line k comment
+
+-- The bytes are the line of a key, and the text is what is shown of it.
+abbrev pub IsShown : Command → List ℕ → List ℕ → Type 0
+IsShown c text bytes = IsUtf8 bytes × ((k : Key) × (comment : List ℕ) × IsKeyLine bytes k comment × (text ≡ key_text c k comment))
+
+-- The bytes are no text, or a line of no key.
+abbrev pub IsRefused : List ℕ → Type 0
+IsRefused bytes = IsUtf8 bytes → IsNoLine key_name SpellsKey bytes
+
+-- ---- the answers
 
 -- How it is used; a text that is shown; or why the input is refused.
 pub data Answer : Type 0 where
@@ -16,6 +40,10 @@ pub data Answer : Type 0 where
 
 abbrev pub line_end : List ℕ
 line_end = 10 ∷ []
+
+-- a text of one line: no byte of it is a line end
+abbrev pub IsOneLine : List ℕ → Type 0
+IsOneLine text = (i : ℕ) → i < length text → get_or text i 0 ≢ 10
 
 abbrev pub answer_line : Answer → List ℕ
 answer_line Usage = codes "usage: sshkey fingerprint | art <header> | normal | cert | keys | hosts" ++ line_end
@@ -27,23 +55,19 @@ status_of Usage = 2
 status_of (Shown text) = 0
 status_of (Refused why) = 1
 
--- the one word `fingerprint`
-abbrev pub IsFingerprintWord : List (Bor (List ℕ)) → Type 0
-IsFingerprintWord words = map (λ w. w.now) words ≡ codes "fingerprint" ∷ []
+-- ---- the table
 
--- the fingerprint of the key in the bytes
-abbrev pub IsShown : List ℕ → List ℕ → Type 0
-IsShown text bytes = IsUtf8 bytes × ((k : Key) × (comment : List ℕ) × IsKeyLine bytes k comment × (text ≡ fingerprint_text Sha256 k))
+abbrev pub Asks : List (Bor (List ℕ)) → Command → Type 0
+Asks words c = map (λ w. w.now) words ≡ command_words c
 
--- The bytes are no text, or a line of no key.
-abbrev pub IsRefused : List ℕ → Type 0
-IsRefused bytes = IsUtf8 bytes → IsNoKeyLine bytes
+abbrev pub IsNoCommand : List (Bor (List ℕ)) → Type 0
+IsNoCommand words = (c : Command) → Asks words c → ⊥
 
--- The table. An input is known where the reader tells its bytes.
+-- An input is known where the reader tells its bytes. A reason is one line.
 abbrev pub IsAnswer : List (Bor (List ℕ)) → Option (List ℕ) → Answer → Type 0
-IsAnswer words input Usage = IsFingerprintWord words → ⊥
-IsAnswer words input (Shown text) = IsFingerprintWord words × IfSome input (IsShown text)
-IsAnswer words input (Refused why) = IsFingerprintWord words × IfSome input IsRefused
+IsAnswer words input Usage = IsNoCommand words
+IsAnswer words input (Shown text) = (c : Command) × Asks words c × IfSome input (IsShown c text)
+IsAnswer words input (Refused why) = IsOneLine why × ((c : Command) × Asks words c × IfSome input IsRefused)
 
 -- in place of the table's line: there was no memory, or the input could not be read
 abbrev pub IsFaultLine : List ℕ → Type 0
@@ -57,8 +81,12 @@ WritesFault old new status = (line : List ℕ) × IsFaultLine line × Writes old
 abbrev pub Runs : List (Bor (List ℕ)) → Option (List ℕ) → Option (List ℕ) → Option (List ℕ) → ℕ → Type 0
 Runs words input old new status =
     ((a : Answer) × IsAnswer words input a × Writes old new (answer_line a) (status_of a) status)
-    ⊎ (IsFingerprintWord words × WritesFault old new status)
+    ⊎ (((c : Command) × Asks words c) × WritesFault old new status)
 
--- an error's line
+-- an error's line, one line alone
 abbrev pub IsRefusalLine : List ℕ → Type 0
-IsRefusalLine line = (why : List ℕ) × (line ≡ answer_line (Refused why))
+IsRefusalLine line = (why : List ℕ) × IsOneLine why × (line ≡ answer_line (Refused why))
+
+-- what stands before the first line end, or all where there is none
+abbrev pub IsFirstLine : List ℕ → List ℕ → Type 0
+IsFirstLine text line = IsOneLine line × ((text ≡ line) ⊎ ((rest : List ℕ) × (text ≡ line ++ (10 ∷ rest))))

@@ -3,7 +3,7 @@
 ghost use Rattle.std.specs.Prelude.{◌≡◌, IfOk, IfErr, IfSome};
 ghost use Rattle.sshkey_tool.specs.Faults.{IsMachineFault};
 
-use sshkey_base::Error;
+use ssh_key::Error;
 use std::alloc::Global;
 use std::io::{ErrorKind, Read};
 

@@ -1,11 +1,10 @@
 //! The program `sshkey`, over any input and output.
 #![tactic(auto)]
 
-mod fingerprints;
+mod command;
 mod input;
-mod key_line;
 mod output;
 mod program;
-mod words;
+mod shown;
 
 pub use program::run;

@@ -1,15 +1,13 @@
 //! The program.
 
-ghost use Rattle.std.specs.Prelude.{◌≡◌, ◌↔◌, IsTrue, IfOk};
-ghost use Rattle.std.specs.String.{string_bytes};
-ghost use Rattle.sshkey_keys.specs.Fingerprints.{shown};
+ghost use Rattle.std.specs.Prelude.{◌≡◌, IfOk, string_bytes};
 ghost use Rattle.sshkey_tool.specs.Outcomes.{WritesOutcome};
-ghost use Rattle.sshkey_tool.specs.Table.{Runs, IsFingerprintWord, Shown, answer_line, IsRefusalLine};
+ghost use Rattle.sshkey_tool.specs.Table.{Runs, IsNoCommand, Shown, answer_line, IsRefusalLine, IsFirstLine};
 
-use crate::fingerprints::fingerprint_of;
+use crate::command::Command;
 use crate::output::write_line;
-use sshkey_base::{Error, encoding};
-use sshkey_keys::Fingerprint;
+use crate::shown::shown_of;
+use ssh_key::{Error, encoding};
 use std::alloc::{AllocError, Global};
 use std::io::{Read, Write};
 
@@ -23,36 +21,38 @@ const OUT_OF_MEMORY: [u8; 23] = *b"refused: out of memory\n";
 /// What is written where the input could not be read.
 const INPUT_FAULT: [u8; 19] = *b"refused: I/O error\n";
 
-fn is_fingerprint(words: &[&str]) -> bool
-    ensures { IsTrue result ↔ IsFingerprintWord words.now }
+/// The line that shows a text.
+fn shown_line(alloc: Global, text: &str) -> Result<String, AllocError>
+    ensures { IfOk result (λ line. string_bytes line ≡ answer_line (Shown text.now)) }
 {
-    match words {
-        [word] => *word == "fingerprint",
-        _ => false,
+    format!(in alloc; "{text}\n")
+}
+
+/// The text up to its first line end.
+fn first_line(text: &str) -> &str
+    ensures { IsFirstLine text.now result.now }
+{
+    match text.split_once('\n') {
+        Some((line, _)) => line,
+        None => text,
     }
 }
 
-/// The line that shows a fingerprint.
-fn shown_line(alloc: Global, fingerprint: &Fingerprint) -> Result<String, AllocError>
-    ensures { IfOk result (λ line. string_bytes line ≡ answer_line (Shown (shown fingerprint.now))) }
-{
-    format!(in alloc; "{fingerprint}\n")
-}
-
-/// The line that says why an input is refused.
+/// The line that says why an input is refused: one line, whatever the error's text.
 fn refused_line(alloc: Global, error: &Error) -> Result<String, AllocError>
     ensures { IfOk result (λ line. IsRefusalLine (string_bytes line)) }
 {
     let reason = format!(in alloc; "{error}")?;
-    format!(in alloc; "refused: {reason}\n")
+    let line = first_line(reason.as_str());
+    format!(in alloc; "refused: {line}\n")
 }
 
-/// Writes the fingerprint of an input, or why it has none.
-fn answer<W: Write>(alloc: Global, outcome: &Result<Fingerprint, Error>, output: &mut W) -> u8
+/// Writes what is shown of an input, or why nothing is.
+fn answer<W: Write>(alloc: Global, outcome: &Result<String, Error>, output: &mut W) -> u8
     ensures { WritesOutcome outcome.now (W.contents output.old) (W.contents output.new) result }
 {
     match outcome {
-        Ok(fingerprint) => match shown_line(alloc, fingerprint) {
+        Ok(text) => match shown_line(alloc, text.as_str()) {
             Ok(line) => write_line(output, line.as_bytes(), 0),
             Err(_) => write_line(output, &OUT_OF_MEMORY, 1),
         },
@@ -69,18 +69,23 @@ fn answer<W: Write>(alloc: Global, outcome: &Result<Fingerprint, Error>, output:
 
 /// Answers the words and the input on the output, and says by a status how it went.
 ///
-/// 2 for other words than `fingerprint`, after a line that says how the program is used; nothing of
-/// the input is read then. 1 after `refused:` and the reason, where the input is not UTF-8 or is a
-/// line of no key; where memory or the input failed; and where the output failed, which then holds
-/// only a beginning of the line. Else 0, after the SHA-256 fingerprint of the key. Each line has a
-/// line end.
+/// 2 for words that are no command, after a line that says how the program is used; nothing of the
+/// input is read then. 1 after `refused:` and the reason, where the input is not UTF-8 or is a line
+/// of no key; where memory or the input failed; and where the output failed, which then holds only a
+/// beginning of the line. Else 0, after the SHA-256 fingerprint of the key for `fingerprint`, and
+/// for `normal` after the line that is written of the key and its comment. Each line has a line end,
+/// and a reason is one line.
+///
+/// What is shown or refused is the table's of all bytes of an input whose reader tells them
+/// (`remaining`); of another input no more is said than that the line is one of the command's. What
+/// was written is said of an output that tells what it holds (`contents`).
 pub fn run<R: Read, W: Write>(alloc: Global, words: &[&str], input: &mut R, output: &mut W) -> u8
     ensures runs { Runs words.now (R.remaining input.old) (W.contents output.old) (W.contents output.new) result }
-    ensures untouched { (IsFingerprintWord words.now → ⊥) → input.new ≡ input.old }
+    ensures untouched { IsNoCommand words.now → input.new ≡ input.old }
 {
-    if !is_fingerprint(words) {
+    let Some(command) = Command::from_words(words) else {
         return write_line(output, &USAGE, 2);
-    }
-    let outcome = fingerprint_of(alloc, input);
+    };
+    let outcome = shown_of(alloc, command, input);
     answer(alloc, &outcome, output)
 }

@@ -1,2 +1,3 @@
 pub mod HostKeys
 pub mod Signed
+pub mod SignedFiles

@@ -1,16 +1,20 @@
-//! Verifiers and a signer for tests. No cryptography is in them.
+//! Verifiers, a signer and a generator for tests. No cryptography is in them.
 
-ghost use Rattle.std.specs.Prelude.{◌≡◌, true, false};
+ghost use Rattle.rand_core.specs.Steps.{stream_of, steps_u64_low};
+ghost use Rattle.std.specs.Prelude.{◌≡◌, ◌+◌, ◌%◌, ◌^◌, true, false};
 ghost use Rattle.sshkey_base.specs.Names.{algorithm_of};
 ghost use Rattle.sshkey_base.specs.declared.error.Error.TheVariants as wide;
 ghost use Rattle.sshkey_keys.specs.KeyKinds.{is_ed25519};
 ghost use Rattle.sshkey_keys.specs.Keys.{key_of};
 ghost use Rattle.sshkey_vectors.specs.Doubles.{is_asked};
 
+use rand_core::utils::NextWord;
+use rand_core::{CryptoRng, Rng, utils};
 use sshkey_base::{Algorithm, Result};
 use sshkey_keys::{KeyData, RawVerifier, Signature, SigningKey};
 use sshkey_kinds::Ed25519PublicKey;
 use std::alloc::{AllocError, Global};
+use std::marker::Model;
 
 /// A verifier that accepts all that it is asked.
 #[derive(Clone, Copy, Debug)]
@@ -135,3 +139,53 @@ impl SigningKey for Fixed {
         Signature::new(Algorithm::Ed25519, vec![in alloc; 0; 64]?)
     }
 }
+
+/// A generator whose first 248 bytes are 00, 01, 02 and so on. It is marked as a secure one, since
+/// calls ask for that, and is none.
+#[derive(Drop)]
+pub struct Count(u64);
+
+impl Count {
+    /// The generator at its first byte.
+    pub fn new() -> Count
+        ensures { result ≡ 0x0706050403020100 }
+    {
+        Count(0x0706_0504_0302_0100)
+    }
+}
+
+impl Model for Count {
+    ghost use Rattle.std.specs.Prelude.{ℕ};
+
+    ghost Value = { ℕ };
+
+    ghost view = { λ c. c.0 };
+}
+
+impl NextWord<u64> for Count {
+    ghost step = { λ s. (s, (s + 0x0808080808080808) % 2 ^ 64) };
+
+    fn next_word(&mut self) -> u64 {
+        let word = self.0;
+        self.0 = word.wrapping_add(0x0808_0808_0808_0808);
+        word
+    }
+}
+
+impl Rng for Count {
+    ghost stream = { stream_of (steps_u64_low (λ s. (s, (s + 0x0808080808080808) % 2 ^ 64))) };
+
+    fn next_u32(&mut self) -> u32 {
+        (self.next_word() % 0x1_0000_0000) as u32
+    }
+
+    fn next_u64(&mut self) -> u64 {
+        self.next_word()
+    }
+
+    fn fill_bytes(&mut self, dst: &mut [u8]) {
+        utils::fill_bytes_via_u64(self, dst)
+    }
+}
+
+impl CryptoRng for Count {}

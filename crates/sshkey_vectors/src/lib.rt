@@ -1,4 +1,4 @@
-//! Verifiers and a signer for tests; and the tests of the crates below that are no lines of the table in
+//! Verifiers, a signer and a generator for tests; and the tests of the crates below that are no lines of the table in
 //! `sshkey_cases`.
 #![tactic(auto)]
 
@@ -6,4 +6,4 @@ mod doubles;
 #[cfg(test)]
 mod tests;
 
-pub use doubles::{AcceptAll, Fixed, Only, RefuseAll};
+pub use doubles::{AcceptAll, Count, Fixed, Only, RefuseAll};

@@ -2,14 +2,24 @@
 //! readers, writers, inputs and outputs that fail; and verifiers. A test asserts answers of yes or
 //! no, since one with a `?` at every call takes longer to prove.
 
+mod certificate_lines;
+mod certificates;
+mod certified;
 mod errors;
+mod issued;
+mod key_files;
 mod keys;
 mod kinds;
 mod laws;
+mod lines;
+mod made_pairs;
 mod names;
 mod openssh;
+mod pairs;
 mod program;
 mod readers;
+mod signed_files;
+mod ssh_signatures;
 mod support;
 mod values;
 mod verification;

@@ -7,13 +7,11 @@ ghost use Rattle.sshkey_model.specs.Names.{named};
 ghost use Rattle.sshkey_model.specs.Names as model;
 ghost use Rattle.sshkey_model.specs.Parts.{bytes};
 ghost use Rattle.sshkey_model.specs.Reading as fault;
-ghost use Rattle.sshkey_base.specs.Accepting.{AcceptsFront};
+ghost use Rattle.sshkey_base.specs.Reading.{AcceptsFront, Gives, LengthPast};
 ghost use Rattle.sshkey_base.specs.Causes.{cause};
-ghost use Rattle.sshkey_base.specs.Kinds.{IsFixed};
-ghost use Rattle.sshkey_base.specs.Names.{algorithm_of};
-ghost use Rattle.sshkey_base.specs.Naming.{Names};
+ghost use Rattle.sshkey_base.specs.Names.{IsFixed, algorithm_of};
+ghost use Rattle.sshkey_base.specs.Answers.{Names};
 ghost use Rattle.sshkey_base.specs.Needs.{Asks, NeedsString};
-ghost use Rattle.sshkey_base.specs.Reading.{Gives, LengthPast};
 ghost use Rattle.sshkey_base.specs.Source.{Later};
 ghost use Rattle.sshkey_base.specs.Sink.{Encodes};
 ghost use Rattle.sshkey_base.specs.declared.encoding.Error.TheVariants as encoding;
@@ -35,8 +33,10 @@ impl Algorithm {
     /// none of the fixed ones.
     pub fn new_certificate(alloc: Global, name: &str) -> Result<Algorithm>
         ensures gives { Names algorithm_of cause (certified_from name.now) result }
-        ensures fixed { (a : model.Algorithm) → named certificate_name certified name.now ≡ Some a → IsOk result }
-        ensures refused { certified_from name.now ≡ Err fault.Label → result ≡ Err (Error.Encoding encoding.Label) }
+        ensures fixed { (a : model.Algorithm) → named certificate_name certified name.now ≡ Some a →
+            IsOk result }
+        ensures refused { certified_from name.now ≡ Err fault.Label →
+            result ≡ Err (Error.Encoding encoding.Label) }
     {
         match fixed_in_certificate(name) {
             Some(algorithm) => Ok(algorithm),
@@ -51,7 +51,8 @@ impl Algorithm {
     /// `ssh-ed25519-cert-v01@openssh.com`. RSA has one name there, with and without a hash. It
     /// is refused only when out of memory.
     pub fn to_certificate_type(&self, alloc: Global) -> Result<String>
-        ensures ok { IfOk result (λ text. string_bytes text ≡ certificate_name (algorithm_of self.now)) }
+        ensures ok { IfOk result
+            (λ text. string_bytes text ≡ certificate_name (algorithm_of self.now)) }
         ensures err { IfErr result (λ e. e ≡ Error.Memory) }
     {
         match self {
@@ -86,10 +87,12 @@ impl Algorithm {
     /// where it is no such name. After a refusal some of the bytes may be passed.
     pub fn decode_certificate<R: Reader>(alloc: Global, reader: &mut R) -> Result<Algorithm>
         ensures past { LengthPast cause (R.source reader.old) result }
-        ensures gives { Gives algorithm_of cause certificate_algorithm_at (R.source reader.old) result (R.source reader.new) }
+        ensures gives { Gives algorithm_of cause certificate_algorithm_at
+            (R.source reader.old) result (R.source reader.new) }
         ensures later { Later (R.source reader.old) (R.source reader.new) }
         ensures asks { Asks cause NeedsString (R.source reader.old) result }
-        ensures accepts { AcceptsFront algorithm_of (Spells IsCertified certificate_algorithm) cause (R.source reader.old) result (R.source reader.new) }
+        ensures accepts { AcceptsFront algorithm_of (Spells IsCertified certificate_algorithm) cause
+            (R.source reader.old) result (R.source reader.new) }
     {
         read_certificate_type(alloc, reader)
     }
@@ -110,7 +113,8 @@ impl Algorithm {
     /// A refusal is the writer's own; then it holds what it held, and a beginning of the string.
     /// Takes no memory of its own.
     pub fn encode_certificate_name<W: Writer>(&self, writer: &mut W) -> encoding::Result<()>
-        ensures { Encodes W.fault (certificate_algorithm (algorithm_of self.now)) (W.sink writer.old) result (W.sink writer.new) }
+        ensures { Encodes W.fault (certificate_algorithm (algorithm_of self.now))
+            (W.sink writer.old) result (W.sink writer.new) }
     {
         (self.certificate_name_len() as u32).encode(writer)?;
         self.write_certificate_name(writer)
@@ -122,7 +126,8 @@ impl Algorithm {
     /// Takes no memory of its own.
     #[tactic(auto, using(crate::proofs::Writing::plain_bytes))]
     pub fn write_certificate_name<W: Writer>(&self, writer: &mut W) -> encoding::Result<()>
-        ensures { Encodes W.fault (bytes (certificate_name (algorithm_of self.now))) (W.sink writer.old) result (W.sink writer.new) }
+        ensures { Encodes W.fault (bytes (certificate_name (algorithm_of self.now)))
+            (W.sink writer.old) result (W.sink writer.new) }
     {
         match self {
             Algorithm::Other(name) => name.write_certificate_type(writer),
@@ -131,10 +136,11 @@ impl Algorithm {
     }
 }
 
-#[tactic(auto, using(crate::proofs::Steps::steps), unfolding(crate::specs::NameReaders::certificate_algorithm_at))]
+#[tactic(auto, using(crate::proofs::Steps::steps), unfolding(sshkey_model::specs::CertificateNames::certificate_algorithm_at))]
 fn read_certificate_type<R: Reader>(alloc: Global, reader: &mut R) -> Result<Algorithm>
     ensures past { LengthPast cause (R.source reader.old) result }
-    ensures gives { Gives algorithm_of cause certificate_algorithm_at (R.source reader.old) result (R.source reader.new) }
+    ensures gives { Gives algorithm_of cause certificate_algorithm_at
+        (R.source reader.old) result (R.source reader.new) }
     ensures later { Later (R.source reader.old) (R.source reader.new) }
     ensures asks { Asks cause NeedsString (R.source reader.old) result }
 {
@@ -146,7 +152,7 @@ fn read_certificate_type<R: Reader>(alloc: Global, reader: &mut R) -> Result<Alg
 }
 
 // The algorithm with that fixed name in a certificate.
-#[tactic(auto, unfolding(crate::specs::NameReaders::named))]
+#[tactic(auto, unfolding(sshkey_model::specs::Names::named))]
 fn fixed_in_certificate(name: &str) -> Option<Algorithm>
     ensures { option_map algorithm_of result ≡ named certificate_name certified name.now }
 {

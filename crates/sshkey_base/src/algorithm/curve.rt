@@ -9,7 +9,7 @@ ghost use Rattle.sshkey_model.specs.Points.{field_size};
 ghost use Rattle.sshkey_base.specs.Labels.{LooksUp, LooksUpAlways};
 ghost use Rattle.sshkey_base.specs.LabelLaws.{curve_checks, curve_ascii, curve_refusals};
 ghost use Rattle.sshkey_base.specs.Names.{curve_of};
-ghost use Rattle.sshkey_base.specs.Naming.{NamesAlways};
+ghost use Rattle.sshkey_base.specs.Answers.{NamesAlways};
 
 use crate::encoding;
 use crate::error::Result;
@@ -62,7 +62,7 @@ impl EcdsaCurve {
     }
 }
 
-#[tactic(auto, unfolding(crate::specs::NameReaders::named))]
+#[tactic(auto, unfolding(sshkey_model::specs::Names::named))]
 impl FromStr for EcdsaCurve {
     type Err = LabelError;
 

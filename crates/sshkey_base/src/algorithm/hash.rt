@@ -9,7 +9,7 @@ ghost use Rattle.sshkey_model.specs.Parts.{Any};
 ghost use Rattle.sshkey_base.specs.Labels.{LooksUp, LooksUpAlways};
 ghost use Rattle.sshkey_base.specs.LabelLaws.{hash_checks, hash_ascii, hash_refusals};
 ghost use Rattle.sshkey_base.specs.Names.{hash_of};
-ghost use Rattle.sshkey_base.specs.Naming.{NamesAlways};
+ghost use Rattle.sshkey_base.specs.Answers.{NamesAlways};
 ghost use Rattle.sshkey_base.specs.Digests.{digest_len};
 
 use crate::encoding;
@@ -62,7 +62,8 @@ impl HashAlg {
 
     /// The digest of the message, of `digest_size` bytes (FIPS 180-4).
     pub fn digest(&self, alloc: Global, message: &[u8]) -> Result<Vec<u8>>
-        ensures ok { IfOk result (λ digest. digest.items ≡ digest_of (hash_of self.now) message.now) }
+        ensures ok { IfOk result
+            (λ digest. digest.items ≡ digest_of (hash_of self.now) message.now) }
         ensures len { IfOk result (λ digest. length digest.items ≡ digest_len (hash_of self.now)) }
         ensures err { IfErr result (λ e. e ≡ Error.Memory) }
     {
@@ -74,7 +75,7 @@ impl HashAlg {
     }
 }
 
-#[tactic(auto, unfolding(crate::specs::NameReaders::named))]
+#[tactic(auto, unfolding(sshkey_model::specs::Names::named))]
 impl FromStr for HashAlg {
     type Err = LabelError;
 

@@ -12,8 +12,8 @@ ghost use Rattle.sshkey_model.specs.Names.{Other, are_ascii, at_sign, is_own_nam
 ghost use Rattle.sshkey_model.specs.Parts.{bytes, ◌&◌};
 ghost use Rattle.sshkey_base.specs.Causes.{cause};
 ghost use Rattle.sshkey_base.specs.Labels.{LooksUp};
-ghost use Rattle.sshkey_base.specs.Naming.{Names};
-ghost use Rattle.sshkey_base.specs.OwnNames.{own_name_from, NamesCertified, IsNoCertificateType, IsCutOf, IsWithoutSuffix, are_own_parts};
+ghost use Rattle.sshkey_base.specs.Answers.{Names};
+ghost use Rattle.sshkey_base.specs.AlgorithmName.{own_name_from, NamesCertified, IsNoCertificateType, IsCutOf, IsWithoutSuffix, are_own_parts};
 ghost use Rattle.sshkey_base.specs.Sink.{Encodes};
 ghost use Rattle.sshkey_base.specs.declared.encoding.Error.TheVariants as encoding;
 
@@ -59,7 +59,8 @@ impl AlgorithmName {
     /// is one too. Memory is asked for only for a name.
     pub fn new(alloc: Global, text: &str) -> Result<AlgorithmName>
         ensures gives { Names (λ name. name) cause (own_name_from text.now) result }
-        ensures refused { is_own_name text.now ≡ false → result ≡ Err (Error.Encoding encoding.Label) }
+        ensures refused { is_own_name text.now ≡ false →
+            result ≡ Err (Error.Encoding encoding.Label) }
     {
         Ok(AlgorithmName::checked(alloc, text)?)
     }
@@ -105,7 +106,8 @@ impl AlgorithmName {
 
     // Writes the name in a certificate, with no length before it.
     pub(crate) fn write_certificate_type<W: Writer>(&self, writer: &mut W) -> encoding::Result<()>
-        ensures { Encodes W.fault (bytes (certificate_name (Other self.now))) (W.sink writer.old) result (W.sink writer.new) }
+        ensures { Encodes W.fault (bytes (certificate_name (Other self.now)))
+            (W.sink writer.old) result (W.sink writer.new) }
     {
         let (name, domain) = split_at_sign(&self.text).unwrap();
         write_parts(name, domain, writer)
@@ -115,7 +117,8 @@ impl AlgorithmName {
     /// is asked for only for a name.
     pub fn from_certificate_type(alloc: Global, text: &str) -> Result<AlgorithmName>
         ensures gives { NamesCertified cause text.now result }
-        ensures refused { IsNoCertificateType text.now → result ≡ Err (Error.Encoding encoding.Label) }
+        ensures refused { IsNoCertificateType text.now →
+            result ≡ Err (Error.Encoding encoding.Label) }
     {
         let Some((name, domain)) = without_suffix(text) else {
             return Err(Error::from(LabelError));
@@ -185,7 +188,9 @@ fn without_suffix(text: &str) -> Option<(&str, &str)>
 
 #[tactic(auto, using(crate::proofs::Writing::writing))]
 fn write_parts<W: Writer>(name: &str, domain: &str, writer: &mut W) -> encoding::Result<()>
-    ensures { Encodes W.fault (bytes name.now & bytes suffix & bytes (at_sign ∷ []) & bytes domain.now) (W.sink writer.old) result (W.sink writer.new) }
+    ensures { Encodes W.fault
+        (bytes name.now & bytes suffix & bytes (at_sign ∷ []) & bytes domain.now)
+        (W.sink writer.old) result (W.sink writer.new) }
 {
     write_text(name, writer)?;
     write_text(CERTIFICATE_SUFFIX, writer)?;

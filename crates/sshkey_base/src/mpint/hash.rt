@@ -1,7 +1,7 @@
 //! Numbers are hashed by their bytes.
 
 ghost use Rattle.std.specs.Hash as fed;
-ghost use Rattle.sshkey_base.specs.Numbers.{mpint_of};
+ghost use Rattle.sshkey_base.specs.Mpint.{mpint_of};
 ghost use Rattle.sshkey_base.specs.ByteHash.{same_hash};
 
 use super::Mpint;

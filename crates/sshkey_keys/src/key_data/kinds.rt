@@ -62,7 +62,8 @@ impl KeyData {
 
     /// What a DSA key is made of; `None` for a key of another kind.
     pub fn dsa(&self) -> Option<&DsaPublicKey>
-        ensures { MatchOption result (is_dsa (key_of self.now) ≡ false) (λ k. self.now ≡ KeyData.Dsa k.now) }
+        ensures { MatchOption result (is_dsa (key_of self.now) ≡ false)
+            (λ k. self.now ≡ KeyData.Dsa k.now) }
     {
         match self {
             KeyData::Dsa(key) => Some(key),
@@ -72,7 +73,8 @@ impl KeyData {
 
     /// What an ECDSA key is made of; `None` for a key of another kind.
     pub fn ecdsa(&self) -> Option<&EcdsaPublicKey>
-        ensures { MatchOption result (is_ecdsa (key_of self.now) ≡ false) (λ k. self.now ≡ KeyData.Ecdsa k.now) }
+        ensures { MatchOption result (is_ecdsa (key_of self.now) ≡ false)
+            (λ k. self.now ≡ KeyData.Ecdsa k.now) }
     {
         match self {
             KeyData::Ecdsa(key) => Some(key),
@@ -82,7 +84,8 @@ impl KeyData {
 
     /// What an Ed25519 key is made of; `None` for a key of another kind.
     pub fn ed25519(&self) -> Option<&Ed25519PublicKey>
-        ensures { MatchOption result (is_ed25519 (key_of self.now) ≡ false) (λ k. self.now ≡ KeyData.Ed25519 k.now) }
+        ensures { MatchOption result (is_ed25519 (key_of self.now) ≡ false)
+            (λ k. self.now ≡ KeyData.Ed25519 k.now) }
     {
         match self {
             KeyData::Ed25519(key) => Some(key),
@@ -92,7 +95,8 @@ impl KeyData {
 
     /// What an RSA key is made of; `None` for a key of another kind.
     pub fn rsa(&self) -> Option<&RsaPublicKey>
-        ensures { MatchOption result (is_rsa (key_of self.now) ≡ false) (λ k. self.now ≡ KeyData.Rsa k.now) }
+        ensures { MatchOption result (is_rsa (key_of self.now) ≡ false)
+            (λ k. self.now ≡ KeyData.Rsa k.now) }
     {
         match self {
             KeyData::Rsa(key) => Some(key),
@@ -102,7 +106,8 @@ impl KeyData {
 
     /// What a P-256 key that a security key holds is made of; `None` for a key of another kind.
     pub fn sk_ecdsa_p256(&self) -> Option<&SkEcdsaSha2NistP256>
-        ensures { MatchOption result (is_sk_ecdsa (key_of self.now) ≡ false) (λ k. self.now ≡ KeyData.SkEcdsaSha2NistP256 k.now) }
+        ensures { MatchOption result (is_sk_ecdsa (key_of self.now) ≡ false)
+            (λ k. self.now ≡ KeyData.SkEcdsaSha2NistP256 k.now) }
     {
         match self {
             KeyData::SkEcdsaSha2NistP256(key) => Some(key),
@@ -112,7 +117,8 @@ impl KeyData {
 
     /// What an Ed25519 key that a security key holds is made of; `None` for a key of another kind.
     pub fn sk_ed25519(&self) -> Option<&SkEd25519>
-        ensures { MatchOption result (is_sk_ed25519 (key_of self.now) ≡ false) (λ k. self.now ≡ KeyData.SkEd25519 k.now) }
+        ensures { MatchOption result (is_sk_ed25519 (key_of self.now) ≡ false)
+            (λ k. self.now ≡ KeyData.SkEd25519 k.now) }
     {
         match self {
             KeyData::SkEd25519(key) => Some(key),
@@ -122,7 +128,8 @@ impl KeyData {
 
     /// What a key under a private-use name is made of; `None` for a key of another kind.
     pub fn other(&self) -> Option<&OpaquePublicKey>
-        ensures { MatchOption result (is_opaque (key_of self.now) ≡ false) (λ k. self.now ≡ KeyData.Other k.now) }
+        ensures { MatchOption result (is_opaque (key_of self.now) ≡ false)
+            (λ k. self.now ≡ KeyData.Other k.now) }
     {
         match self {
             KeyData::Other(key) => Some(key),

@@ -1,7 +1,7 @@
 //! Which bytes are those of a signature.
 
 ghost use Rattle.std.specs.Prelude.{◌≡◌};
-ghost use Rattle.sshkey_base.specs.Answering.{AnswersAlways};
+ghost use Rattle.sshkey_base.specs.Answers.{AnswersAlways};
 ghost use Rattle.sshkey_base.specs.Causes.{cause, encoding_cause};
 ghost use Rattle.sshkey_base.specs.Names.{algorithm_of};
 ghost use Rattle.sshkey_model.specs.Reading.{string_at};
@@ -11,12 +11,13 @@ ghost use Rattle.sshkey_keys.specs.SignatureForms.{has_trailer, string_from, blo
 use sshkey_base::{Algorithm, EcdsaCurve, Error, Result, encoding, length_from};
 
 /// How many bytes stand behind a security key's signature: one of flags, four of a counter.
-const TRAILER_LEN: usize = 5;
+pub(crate) const TRAILER_LEN: usize = 5;
 
 /// Whether the bytes are those of a signature by the algorithm.
 #[inline(always)]
 pub(crate) fn check_blob(algorithm: &Algorithm, bytes: &[u8]) -> Result<()>
-    ensures { AnswersAlways (λ _. bytes.now) cause (blob_from (algorithm_of algorithm.now) bytes.now) result }
+    ensures { AnswersAlways (λ _. bytes.now) cause
+        (blob_from (algorithm_of algorithm.now) bytes.now) result }
 {
     if !has_trailer(algorithm) {
         return check_string(algorithm, bytes);
@@ -41,7 +42,8 @@ pub(crate) fn has_trailer(algorithm: &Algorithm) -> bool
 /// Whether the bytes are those that stand in the string of a signature by the algorithm.
 #[inline(always)]
 pub(crate) fn check_string(algorithm: &Algorithm, bytes: &[u8]) -> Result<()>
-    ensures { AnswersAlways (λ _. bytes.now) cause (string_from (algorithm_of algorithm.now) bytes.now) result }
+    ensures { AnswersAlways (λ _. bytes.now) cause
+        (string_from (algorithm_of algorithm.now) bytes.now) result }
 {
     match algorithm {
         Algorithm::Dsa => check_len(40, bytes),
@@ -119,7 +121,8 @@ fn positive_part(number: &[u8]) -> Result<&[u8]>
 
 /// The bytes that a length of four bytes before them counts, and what stands behind them.
 fn split_string(bytes: &[u8]) -> encoding::Result<(&[u8], &[u8])>
-    ensures { AnswersAlways (λ parts. (parts.0.now, parts.1.now)) encoding_cause (string_at bytes.now) result }
+    ensures { AnswersAlways (λ parts. (parts.0.now, parts.1.now)) encoding_cause
+        (string_at bytes.now) result }
 {
     let mut behind = bytes;
     let len = length_from(&mut behind)?;

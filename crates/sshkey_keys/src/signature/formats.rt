@@ -12,7 +12,7 @@ use std::convert::AsSlice;
 use std::fmt;
 
 impl Signature {
-    /// The same signature in memory of its own. Refused only with `Memory`.
+    /// The same signature in memory of its own. Refused only when out of memory.
     pub fn try_clone(&self, alloc: Global) -> Result<Signature>
         ensures same { IfOk result (λ g. signature_of g ≡ signature_of self.now) }
         ensures refused { IfErr result (λ e. e ≡ Error.Memory) }
@@ -34,7 +34,8 @@ impl AsSlice<u8> for Signature {
 /// Two digits for each of its bytes, with small letters.
 impl fmt::LowerHex for Signature {
     fn fmt<W: fmt::Write>(&self, f: &mut fmt::Formatter<W>) -> fmt::Result
-        ensures { WritesOnOk W.write_str_gives f.old result (encode_lower (signature_of self.now).blob) f.new }
+        ensures { WritesOnOk W.write_str_gives f.old result
+            (encode_lower (signature_of self.now).blob) f.new }
     {
         write_lower_hex(self.as_bytes(), f)
     }
@@ -43,7 +44,8 @@ impl fmt::LowerHex for Signature {
 /// Two digits for each of its bytes, with capital letters.
 impl fmt::UpperHex for Signature {
     fn fmt<W: fmt::Write>(&self, f: &mut fmt::Formatter<W>) -> fmt::Result
-        ensures { WritesOnOk W.write_str_gives f.old result (encode_upper (signature_of self.now).blob) f.new }
+        ensures { WritesOnOk W.write_str_gives f.old result
+            (encode_upper (signature_of self.now).blob) f.new }
     {
         write_upper_hex(self.as_bytes(), f)
     }

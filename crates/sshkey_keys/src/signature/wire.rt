@@ -1,12 +1,11 @@
 //! How signatures are read and written.
 
 ghost use Rattle.std.specs.Prelude.{◌≡◌, ◌++◌, ◌+◌, ◌*◌, ◌^◌, ◌≤◌, IfOk, IfErr};
-ghost use Rattle.sshkey_base.specs.Accepting.{AcceptsWhole};
-ghost use Rattle.sshkey_base.specs.Answering.{AnswersAlways};
+ghost use Rattle.sshkey_base.specs.Reading.{AcceptsWhole, Gives, GivesWhole};
+ghost use Rattle.sshkey_base.specs.Answers.{AnswersAlways};
 ghost use Rattle.sshkey_base.specs.Causes.{cause};
 ghost use Rattle.sshkey_base.specs.Names.{algorithm_of};
 ghost use Rattle.sshkey_base.specs.Needs.{Asks, NeedsString};
-ghost use Rattle.sshkey_base.specs.Reading.{Gives, GivesWhole};
 ghost use Rattle.sshkey_base.specs.Source.{Later};
 ghost use Rattle.sshkey_base.specs.Sink.{Encodes, Measures};
 ghost use Rattle.sshkey_model.specs.Reading.{checked_at, string_at, whole};
@@ -18,7 +17,7 @@ ghost use Rattle.sshkey_keys.specs.SignatureReaders.{SpellsSignature, signature_
 ghost use Rattle.sshkey_keys.specs.Signatures.{signature_of};
 
 use super::Signature;
-use super::form::{check_string, has_trailer, split_trailer};
+use super::form::{TRAILER_LEN, check_string, has_trailer, split_trailer};
 use sshkey_base::{
     Algorithm, Bytes, Decode, Encode, Error, NormalForm, Reader, Result, Writer, array_from,
     decode_front, decode_whole, encode_string, encode_vec, encoding, string_len,
@@ -31,7 +30,8 @@ impl Signature {
     /// It is refused only where no front spells a signature, with the refusals of `decode`, or for
     /// memory that ran out, never where a stated length passes the bytes: that is `Length`.
     pub fn from_front(alloc: Global, bytes: &[u8]) -> Result<Signature>
-        ensures reads { ReadsFrontOf signature_of signature_at SpellsSignature cause bytes.now result }
+        ensures reads { ReadsFrontOf signature_of signature_at SpellsSignature cause
+            bytes.now result }
         ensures asks { Asks cause NeedsSignature (all_of bytes.now) result }
     {
         let mut left = bytes;
@@ -44,9 +44,11 @@ impl Signature {
     /// behind one, else the refusals of `decode`; or for memory that ran out, never where a stated
     /// length passes the bytes: that is `Length`.
     pub fn from_bytes(alloc: Global, bytes: &[u8]) -> Result<Signature>
-        ensures gives { GivesWhole signature_of cause (whole signature_at) (all_of bytes.now) result }
+        ensures gives { GivesWhole signature_of cause (whole signature_at)
+            (all_of bytes.now) result }
         ensures asks { Asks cause NeedsSignature (all_of bytes.now) result }
-        ensures accepts { AcceptsWhole signature_of SpellsSignature cause (all_of bytes.now) result }
+        ensures accepts { AcceptsWhole signature_of SpellsSignature cause
+            (all_of bytes.now) result }
     {
         decode_whole(alloc, bytes)
     }
@@ -54,7 +56,7 @@ impl Signature {
     /// The bytes that spell the signature, in memory of their own.
     ///
     /// Exactly where the bytes of the signature are more than 2^32 - 1 (those behind the string
-    /// aside), the answer is `Length`; otherwise it is refused only with `Memory`.
+    /// aside), the answer is `Length`; otherwise it is refused only when out of memory.
     pub fn to_bytes(&self, alloc: Global) -> Result<Vec<u8>>
         ensures { MakesBlob (signature (signature_of self.now)) result }
     {
@@ -92,7 +94,8 @@ impl Decode for Signature {
 
 /// What stands behind the name of that algorithm.
 fn decode_blob<R: Reader>(alloc: Global, reader: &mut R, algorithm: &Algorithm) -> Result<Bytes>
-    ensures gives { Gives (λ b. b) cause (signature_blob_at (algorithm_of algorithm.now)) (R.source reader.old) result (R.source reader.new) }
+    ensures gives { Gives (λ b. b) cause (signature_blob_at (algorithm_of algorithm.now))
+        (R.source reader.old) result (R.source reader.new) }
     ensures later { Later (R.source reader.old) (R.source reader.new) }
     ensures asks { Asks cause NeedsString (R.source reader.old) result }
     ensures form { IfOk result (IsSignatureBlob (algorithm_of algorithm.now)) }
@@ -107,7 +110,9 @@ fn decode_blob<R: Reader>(alloc: Global, reader: &mut R, algorithm: &Algorithm) 
 /// A string of bytes that are well-formed.
 #[tactic(auto, using(sshkey_base::proofs::Steps::steps))]
 fn decode_string<R: Reader>(alloc: Global, reader: &mut R, algorithm: &Algorithm) -> Result<Bytes>
-    ensures gives { Gives (λ b. b) cause (checked_at (string_from (algorithm_of algorithm.now)) string_at) (R.source reader.old) result (R.source reader.new) }
+    ensures gives { Gives (λ b. b) cause
+        (checked_at (string_from (algorithm_of algorithm.now)) string_at)
+        (R.source reader.old) result (R.source reader.new) }
     ensures later { Later (R.source reader.old) (R.source reader.new) }
     ensures asks { Asks cause NeedsString (R.source reader.old) result }
 {
@@ -123,20 +128,22 @@ fn checked(algorithm: &Algorithm, bytes: Bytes) -> Result<Bytes>
     Ok(bytes)
 }
 
-/// A string of bytes that are well-formed, and the five bytes behind it.
+/// A string of bytes that are well-formed, and the five bytes behind it, for which there is room
+/// from the start.
 #[tactic(auto, using(sshkey_base::proofs::Steps::steps))]
 fn decode_trailed<R: Reader>(alloc: Global, reader: &mut R, algorithm: &Algorithm) -> Result<Bytes>
-    ensures gives { Gives (λ b. b) cause (trailed_at (string_from (algorithm_of algorithm.now))) (R.source reader.old) result (R.source reader.new) }
+    ensures gives { Gives (λ b. b) cause (trailed_at (string_from (algorithm_of algorithm.now)))
+        (R.source reader.old) result (R.source reader.new) }
     ensures later { Later (R.source reader.old) (R.source reader.new) }
     ensures asks { Asks cause NeedsString (R.source reader.old) result }
 {
-    let bytes = Bytes::decode(alloc, reader)?;
+    let bytes = Bytes::decode_with_spare(alloc, reader, TRAILER_LEN)?;
     let trailer = array_from::<5, R>(reader)?;
     check_string(algorithm, bytes.as_slice())?;
     with_trailer(bytes, &trailer)
 }
 
-/// The bytes, and then the trailer. Refused only with `Memory`.
+/// The bytes, and then the trailer. Refused only when out of memory.
 fn with_trailer(bytes: Bytes, trailer: &[u8]) -> Result<Bytes>
     ensures joined { IfOk result (λ blob. blob ≡ bytes ++ trailer.now) }
     ensures refused { IfErr result (λ e. e ≡ Error.Memory) }
@@ -151,7 +158,7 @@ fn with_trailer(bytes: Bytes, trailer: &[u8]) -> Result<Bytes>
 impl Encode for Signature {
     ghost normal = { λ g. signature (signature_of g) };
 
-    ghost most = { 2 * (2 ^ 32 + 8) };
+    ghost max_len = { 2 * (2 ^ 32 + 8) };
 
     fn encoded_len(&self) -> encoding::Result<usize> {
         Ok(self.algorithm.encoded_len()? + blob_len(&self.algorithm, self.blob.as_slice())?)
@@ -181,7 +188,8 @@ fn encode_blob<W: Writer>(
     blob: &[u8],
     writer: &mut W,
 ) -> encoding::Result<()>
-    ensures { Encodes W.fault (signature_blob (algorithm_of algorithm.now) blob.now) (W.sink writer.old) result (W.sink writer.new) }
+    ensures { Encodes W.fault (signature_blob (algorithm_of algorithm.now) blob.now)
+        (W.sink writer.old) result (W.sink writer.new) }
 {
     if !has_trailer(algorithm) {
         return encode_string(blob, writer);

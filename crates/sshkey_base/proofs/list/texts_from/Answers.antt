@@ -5,7 +5,7 @@ use Rattle.std.specs.Prelude.{string_bytes}
 use Rattle.sshkey_model.specs.Parts.{bytes}
 use Rattle.sshkey_model.specs.Texts.{text_at}
 use Rattle.sshkey_model.proofs.TextReaders.{text_reads, box_shows}
-use Rattle.sshkey_base.specs.Source.{told}
+use Rattle.sshkey_base.specs.Source.{announced_len}
 use Rattle.sshkey_base.specs.TextLists.{texts_of}
 use Rattle.sshkey_base.proofs.ReadLists.{collects_more, collects_refused, collects_end, leaves_less}
 use Rattle.sshkey_base.proofs.Places.{later_then}
@@ -14,7 +14,7 @@ use Rattle.sshkey_base.proofs.list.texts_from.Goals as goal
 pub returns-in_err-decode-clause-gives : goal.returns-in_err-decode-clause-gives
 returns-in_err-decode-clause-gives g c =
     let p = err_from_is_err_and c.from_residual.result c.from_residual.ensures.1 in
-    let some : told (g.R.Reader.source c.reads.reader) ≢ 0 = (λ none. let t = c.is_finished.ensures.1 none in cc) in
+    let some : announced_len (g.R.Reader.source c.reads.reader) ≢ 0 = (λ none. let t = c.is_finished.ensures.1 none in cc) in
     rw (p.1, p.2) (collects_refused (λ _. text_at) _ _ _ _ _ c.reads.invariant.0.1 some c.in_err-decode.ensures.gives)
 
 pub reads-smaller : goal.reads-smaller

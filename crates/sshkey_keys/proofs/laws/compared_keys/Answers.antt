@@ -45,6 +45,16 @@ returns-clause-equal c (kinds.Other x) (kinds.Other y) is_x is_y =
     Decides-like _ (ap (λ (p : Algorithm × List ℕ). Opaque (algorithm_name p.0) p.1)) (λ e. let s = same_names _ _ _ _ e in both _ _ _ _ (same_name (algorithm_of x.algorithm) (algorithm_of y.algorithm) is_x.0 is_y.0 s.0) s.1) (c.compared_opaque_keys.ensures.equal x y)
 returns-clause-equal c x y is_x is_y = apart (key_of x) (key_of y) refl
 
+pub returns-clause-same : goal.returns-clause-same
+returns-clause-same c (kinds.Dsa x) (kinds.Dsa y) is = (c.compared_dsa_keys.ensures.equal x y).0 is
+returns-clause-same c (kinds.Ecdsa x) (kinds.Ecdsa y) is = ap (λ (p : Curve × List ℕ). Ecdsa p.0 p.1) ((c.compared_ecdsa_keys.ensures.equal x y).0 is)
+returns-clause-same c (kinds.Ed25519 x) (kinds.Ed25519 y) is = (c.compared_ed25519_keys.ensures.equal x y).0 is
+returns-clause-same c (kinds.Rsa x) (kinds.Rsa y) is = (c.compared_rsa_keys.ensures.equal x y).0 is
+returns-clause-same c (kinds.SkEcdsaSha2NistP256 x) (kinds.SkEcdsaSha2NistP256 y) is = (c.compared_sk_ecdsa_keys.ensures.equal x y).0 is
+returns-clause-same c (kinds.SkEd25519 x) (kinds.SkEd25519 y) is = (c.compared_sk_ed25519_keys.ensures.equal x y).0 is
+returns-clause-same c (kinds.Other x) (kinds.Other y) is = ap (λ (p : Algorithm × List ℕ). Opaque (algorithm_name p.0) p.1) ((c.compared_opaque_keys.ensures.equal x y).0 is)
+returns-clause-same c x y is = absurd (true≢false (sym is))
+
 pub returns-clause-written : goal.returns-clause-written
 returns-clause-written c x y is_x is_y fits_x fits_y =
     let n = c.normal_keys.ensures (key_of x) (key_of y) is_x is_y fits_x fits_y in

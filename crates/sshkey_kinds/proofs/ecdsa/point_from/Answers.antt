@@ -5,8 +5,7 @@ use Rattle.sshkey_base.proofs.ShortStrings.{bounded_refused, bounded_gives}
 use Rattle.sshkey_base.specs.Causes.{cause, same_cause}
 use Rattle.sshkey_base.specs.Source.{behind}
 use Rattle.sshkey_model.specs.Reading.{bytes_at}
-use Rattle.sshkey_kinds.specs.EcdsaWords.{sec1_from}
-use Rattle.sshkey_kinds.specs.EcdsaWords.{ecdsa_of}
+use Rattle.sshkey_kinds.specs.EcdsaPublicKey.{sec1_from, ecdsa_of}
 use Rattle.sshkey_kinds.proofs.ecdsa.point_from.Goals as goal
 
 pub returns-in_err-bytes-clause-gives : goal.returns-in_err-bytes-clause-gives

@@ -5,7 +5,7 @@ use Rattle.std.specs.Ordering.{ordering_then}
 use Rattle.std.proofs.lemmas.Bool.Decides.{Decides-and, Decides-like}
 use Rattle.std.proofs.lemmas.Slice.Eq.{bytes_eq-Decides}
 use Rattle.sshkey_model.specs.Keys.{Dsa, DsaKey}
-use Rattle.sshkey_base.specs.Numbers.{mpint_of}
+use Rattle.sshkey_base.specs.Mpint.{mpint_of}
 use Rattle.sshkey_kinds.specs.Kinds.{dsa_of}
 use Rattle.sshkey_kinds.specs.declared.dsa.DsaPublicKey.{DsaPublicKey}
 use Rattle.sshkey_kinds.proofs.laws.compared_dsa_keys.Goals as goal

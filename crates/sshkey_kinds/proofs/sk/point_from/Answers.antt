@@ -4,7 +4,7 @@ use Rattle.sshkey_base.proofs.ShortStrings.{bounded_refused, bounded_gives}
 use Rattle.sshkey_base.specs.Causes.{cause, same_cause}
 use Rattle.sshkey_model.specs.Reading.{bytes_at}
 use Rattle.sshkey_kinds.specs.PointSizes.{point_within}
-use Rattle.sshkey_kinds.specs.PointWords.{point_of}
+use Rattle.sshkey_kinds.specs.EcPoint.{point_of}
 use Rattle.sshkey_kinds.proofs.sk.point_from.Goals as goal
 
 pub returns-in_err-bytes-clause-gives : goal.returns-in_err-bytes-clause-gives

@@ -1,7 +1,7 @@
 use Rattle.std.proofs.Common.{◌≡◌, ◌⊎◌, refl, arith, ◌∙◌, sym, ap, ℕ, List, [], ◌++◌, length, inl, inr}
 use Rattle.std.specs.Prelude.{slice_range}
 use Rattle.sshkey_model.specs.Parts.{are_bytes}
-use Rattle.sshkey_base.specs.Source.{told, Source}
+use Rattle.sshkey_base.specs.Source.{announced_len, Source}
 use Rattle.sshkey_base64.specs.Words64.{word_source, good}
 use Rattle.sshkey_base64.proofs.WordSources.{group_held, group_refused, not_in_place, range_none, are_split, told_held, no_items}
 use Rattle.sshkey_base64.proofs.base64_reader.Base64Reader.hold.Goals as goal
@@ -19,7 +19,7 @@ returns-in-Some c =
     let same : word_source (slice_range new 0 c.in-Some.count) rest ≡ word_source (slice_range r.held r.from r.to) r.text.now
     = group_held g rest new c.in-Some.count are (omega (arith, r.groups, c.split_at.ensures.back_len)) c.in-Some.ensures.0 c.in-Some.ensures.2 whole c.in-Some.ensures.1
     ∙ ap (λ (t : List ℕ). word_source [] t) (sym text) ∙ ap (λ (h : List ℕ). word_source h r.text.now) (sym (range_none r.held r.from r.to c.requires.none_held)) in
-    (same, refl, elim whole [ inl e ↦ inl e | inr e ↦ inr (sym (told_held new rest c.in-Some.count e c.in-Some.ensures.1) ∙ ap (λ (s : Source). told s) same) ])
+    (same, refl, elim whole [ inl e ↦ inl e | inr e ↦ inr (sym (told_held new rest c.in-Some.count e c.in-Some.ensures.1) ∙ ap (λ (s : Source). announced_len s) same) ])
 
 -- nothing is left before the fault
 none_left : (held text g rest : List ℕ) → held ≡ [] → text ≡ g ++ rest → length (good (g ++ rest)) ≡ 0 → length (held ++ good text) ≡ 0

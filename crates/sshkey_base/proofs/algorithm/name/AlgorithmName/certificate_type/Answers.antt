@@ -1,7 +1,7 @@
 use Rattle.std.proofs.Common.{◌≡◌, Some, ap, sym, ◌∙◌, ◌∷◌, append_assoc}
 use Rattle.sshkey_model.specs.Names.{at_sign, cut}
 use Rattle.sshkey_model.specs.CertificateNames.{suffix}
-use Rattle.sshkey_base.specs.OwnNames.{IsCutOf}
+use Rattle.sshkey_base.specs.AlgorithmName.{IsCutOf}
 use Rattle.sshkey_base.proofs.CertificateTypes.{cut_some, certificate_name-cut}
 use Rattle.sshkey_base.proofs.algorithm.name.AlgorithmName.certificate_type.Goals as goal
 

@@ -1,5 +1,5 @@
 use Rattle.std.proofs.Common.{◌≡◌, true, false, refl}
-use Rattle.sshkey_base.specs.OwnNames.{are_own_parts}
+use Rattle.sshkey_base.specs.AlgorithmName.{are_own_parts}
 use Rattle.sshkey_base.proofs.CertificateTypes.{no_type, no_parts, refused, has_name}
 use Rattle.sshkey_base.proofs.algorithm.name.AlgorithmName.from_certificate_type.Goals as goal
 

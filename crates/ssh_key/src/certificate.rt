@@ -1,0 +1,6 @@
+//! Certificates, and what they hold.
+
+pub use sshkey_base::certificate::Field;
+pub use sshkey_builder::Builder;
+pub use sshkey_cert::Certificate;
+pub use sshkey_options::{CertType, FOREVER, MAX_SECS, OptionsMap, UnixTime};

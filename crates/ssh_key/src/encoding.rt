@@ -1,0 +1,7 @@
+//! The wire encoding: readers, writers, and what is read and written (RFC 4251, section 5).
+
+pub use sshkey_base::encoding::{Error, Result};
+pub use sshkey_base::{
+    Bytes, Decode, Encode, Label, LabelError, NestedReader, NormalForm, Reader, Refusal,
+    SliceWriter, Text, Writer, decode_boxed, decode_front, decode_whole, encode_vec,
+};

@@ -1,0 +1,16 @@
+//! What holds of all values and all bytes: public functions without code, each with a law as its
+//! contract.
+
+pub use sshkey_base::laws::{one_front, read_back};
+pub use sshkey_keys::laws::{compared_fingerprints, compared_keys, compared_signatures};
+pub use sshkey_model::laws::lines::{lines_apart, one_certificate_line, one_key_line};
+pub use sshkey_model::laws::private::{
+    normal_keypairs, prefix_keypair, prefix_pair, read_back_keypair,
+};
+pub use sshkey_model::laws::{
+    apart, certificate_fields, normal_keys, normal_signatures, normal_ssh_signatures, prefix_body,
+    prefix_certificate, prefix_certificate_name, prefix_key, prefix_mpint, prefix_name,
+    prefix_options, prefix_point, prefix_signature, prefix_ssh_signature, prefix_text,
+    read_back_certificate, read_back_key, read_back_signature, read_back_ssh_signature,
+    signed_fields,
+};

@@ -1,0 +1,16 @@
+//! SSH keys and signatures: the one crate that a user names.
+//!
+//! It holds no code of its own, and gives what the crates below it have under the module names of
+//! the Rust crate `ssh-key`.
+#![tactic(auto)]
+
+pub mod certificate;
+pub mod encoding;
+pub mod laws;
+pub mod private;
+pub mod public;
+
+pub use sshkey_base::{Algorithm, AlgorithmName, EcdsaCurve, Error, HashAlg, Mpint, Result};
+pub use sshkey_cert::Certificate;
+pub use sshkey_keys::{Fingerprint, RawVerifier, Signature, SigningKey};
+pub use sshkey_public::{Base64Reader, Blob, PublicKey, SshSig, read_line, write_line};

@@ -1,0 +1,31 @@
+-- What a call answers that judges all that it is given, or finds what a text names.
+use Rattle.std.specs.Prelude.{◌≡◌, Result, Ok, Err, IsOkAnd, IsErrAnd, MatchResult, ◌≢◌}
+use Rattle.sshkey_model.specs.Reading.{Fault, Label}
+use Rattle.sshkey_base.specs.Causes.{Cause, NoMemory, Faulty}
+
+-- The plain reader's value, unless memory was refused; and its fault, whatever memory there is.
+abbrev pub Answers : {X Y E : Type 0} → (X → Y) → (E → Cause) → Result Y Fault → Result X E → Type 0
+Answers means cause (Ok y) r = MatchResult r (λ x. means x ≡ y) (λ e. cause e ≡ NoMemory)
+Answers means cause (Err fault) r = IsErrAnd r (λ e. cause e ≡ Faulty fault)
+
+-- The same of a call that takes no memory.
+abbrev pub AnswersAlways : {X Y E : Type 0} → (X → Y) → (E → Cause) → Result Y Fault → Result X E → Type 0
+AnswersAlways means cause (Ok y) r = IsOkAnd r (λ x. means x ≡ y)
+AnswersAlways means cause (Err fault) r = IsErrAnd r (λ e. cause e ≡ Faulty fault)
+
+-- ---- names
+
+-- The text names nothing, and the error says so.
+pub record IsUnknown {X : Type 0} (named : Result X Fault) (cause : Cause) : Type 0 where
+  pub none : named ≡ Err Label
+  pub label : cause ≡ Faulty Label
+
+-- The answer is what the text names, and `Label` where it names nothing, out of memory aside.
+abbrev pub Names : {X Y E : Type 0} → (X → Y) → (E → Cause) → Result Y Fault → Result X E → Type 0
+Names means cause named (Ok x) = named ≡ Ok (means x)
+Names means cause named (Err e) = cause e ≢ NoMemory → IsUnknown named (cause e)
+
+-- The same of a call that takes no memory.
+abbrev pub NamesAlways : {X Y E : Type 0} → (X → Y) → (E → Cause) → Result Y Fault → Result X E → Type 0
+NamesAlways means cause named (Ok x) = named ≡ Ok (means x)
+NamesAlways means cause named (Err e) = IsUnknown named (cause e)

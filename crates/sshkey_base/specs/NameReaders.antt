@@ -1,3 +1,0 @@
--- The model's words of names, under names that an attribute of this crate can unfold.
-unfoldable pub use Rattle.sshkey_model.specs.Names.{named, cut, is_own_name, is_other_name}
-unfoldable pub use Rattle.sshkey_model.specs.CertificateNames.{certificate_algorithm_at}

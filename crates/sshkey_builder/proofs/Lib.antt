@@ -1,0 +1,3 @@
+pub mod Principals
+pub mod Signed
+pub mod Steps

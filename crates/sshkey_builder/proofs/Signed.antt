@@ -1,0 +1,32 @@
+-- What a builder signs is its draft.
+use Rattle.std.proofs.Common.{◌≡◌, List, Bool, Result, Ok, Err, IfOk, IfErr, ℕ, subst, ap, ◌∙◌}
+use Rattle.sshkey_model.specs.Parts.{flat}
+use Rattle.sshkey_model.specs.Names.{Sha256}
+use Rattle.sshkey_model.specs.Keys.{Key}
+use Rattle.sshkey_model.specs.Certificates.{SignedFields, normal_to_be_signed}
+use Rattle.sshkey_model.specs.Drafts.{Draft, drafted, IsSignedDraft, IsValidThrough}
+use Rattle.sshkey_model.specs.Fingerprints.{fingerprint}
+use Rattle.sshkey_model.specs.Verification.{Question, IsAccepted}
+use Rattle.sshkey_model.proofs.SignedDrafts.{signed_through}
+use Rattle.sshkey_base.specs.declared.error.Error.{Error}
+use Rattle.sshkey_keys.specs.Keys.{key_of}
+use Rattle.sshkey_keys.specs.declared.key_data.KeyData.{KeyData}
+use Rattle.sshkey_cert.specs.CertificateValues.{certificate_of}
+use Rattle.sshkey_cert.specs.Signing.{RefusesToSign}
+use Rattle.sshkey_cert.specs.declared.certificate.Certificate.{Certificate}
+
+-- what is signed is what was drafted, under the signer's key
+pub drafted_by : (d : Draft) (u : SignedFields) (copy key other : KeyData) → u ≡ drafted d (key_of copy) → key_of copy ≡ key_of key → key ≡ other → u ≡ drafted d (key_of other)
+drafted_by d u copy key other fields value is = fields ∙ ap (λ (k : Key). drafted d k) (value ∙ ap key_of is)
+
+module _ (accepts : Question → Bool) (k : Key) (d : Draft) (u : SignedFields) (same : u ≡ drafted d k) where
+  pub signed_of : (r : Result Certificate Error) → IfOk r (λ c. (certificate_of c).signed ≡ u) → IfOk r (λ c. IsAccepted accepts k (flat (normal_to_be_signed u)) (certificate_of c).signature) → IfOk r (λ c. IsSignedDraft accepts k d (certificate_of c))
+  signed_of (Ok c) fields signed = record { fields = fields ∙ same; signature = subst (λ (w : SignedFields). IsAccepted accepts k (flat (normal_to_be_signed w)) (certificate_of c).signature) same signed }
+  signed_of (Err e) fields signed = tt
+
+pub valid_of : (accepts : Question → Bool) (k : Key) (d : Draft) (r : Result Certificate Error) → IfOk r (λ c. IsSignedDraft accepts k d (certificate_of c)) → IfOk r (λ c. IsValidThrough accepts (fingerprint Sha256 k) (certificate_of c))
+valid_of accepts k d (Ok c) signed = signed_through accepts k d (certificate_of c) signed
+valid_of accepts k d (Err e) signed = tt
+
+pub refused_of : (refuses : List ℕ → Error → Type 0) (u d : SignedFields) (r : Result Certificate Error) → u ≡ d → IfErr r (RefusesToSign refuses u) → IfErr r (RefusesToSign refuses d)
+refused_of refuses u d r same h = subst (λ (w : SignedFields). IfErr r (RefusesToSign refuses w)) same h

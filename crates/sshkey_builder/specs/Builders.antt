@@ -1,0 +1,76 @@
+-- What a builder holds, and what its calls answer.
+use Rattle.std.specs.Prelude.{◌≡◌, ◌≢◌, Option, Some, None, option_map, Result, Ok, Err}
+use Rattle.sshkey_model.specs.Drafts.{Draft, DraftField, SerialField, KindField, KeyIdField, PrincipalsField, AfterField, BeforeField, CriticalField, ExtensionsField, CommentField, Step, after_step}
+use Rattle.sshkey_base.specs.TextLists.{texts_of}
+use Rattle.sshkey_base.specs.declared.certificate.field.Field.{Field}
+use Rattle.sshkey_base.specs.declared.certificate.field.Field.TheVariants as field
+use Rattle.sshkey_base.specs.declared.error.Error.{Error}
+use Rattle.sshkey_base.specs.declared.error.Error.TheVariants as wide
+use Rattle.sshkey_keys.specs.Keys.{key_of}
+use Rattle.sshkey_options.specs.CertTypes.{type_of}
+use Rattle.sshkey_options.specs.OptionMaps.{options_of}
+use Rattle.sshkey_options.specs.Times.{time_of, end_of}
+use Rattle.sshkey_builder.specs.declared.builder.Builder.{Builder}
+
+abbrev pub draft_of : Builder → Draft
+draft_of b = record {
+  nonce = b.nonce;
+  key = key_of b.public_key;
+  serial = b.serial;
+  certificate_type = option_map type_of b.cert_type;
+  key_id = b.key_id;
+  valid_principals = option_map texts_of b.valid_principals;
+  valid_after = time_of b.valid_after;
+  valid_before = end_of b.valid_before;
+  critical_options = options_of b.critical_options;
+  extensions = options_of b.extensions;
+  comment = b.comment;
+}
+
+abbrev pub field_of : DraftField → Field
+field_of SerialField = field.Serial
+field_of KindField = field.CertType
+field_of KeyIdField = field.KeyId
+field_of PrincipalsField = field.ValidPrincipals
+field_of AfterField = field.ValidAfter
+field_of BeforeField = field.ValidBefore
+field_of CriticalField = field.CriticalOptions
+field_of ExtensionsField = field.Extensions
+field_of CommentField = field.Comment
+
+abbrev pub field_error : DraftField → Error
+field_error f = wide.CertificateFieldInvalid (field_of f)
+
+-- ---- steps
+
+-- A step that is taken is refused only when out of memory, and another one with the field that it names.
+abbrev pub Refuses : Result Draft DraftField → Error → Type 0
+Refuses (Ok d) e = e ≡ wide.Memory
+Refuses (Err f) e = e ≡ field_error f
+
+-- The same of a step that takes no memory.
+abbrev pub RefusesAlways : Result Draft DraftField → Error → Type 0
+RefusesAlways (Ok d) e = ⊥
+RefusesAlways (Err f) e = e ≡ field_error f
+
+-- The step was taken, or it was refused and nothing is changed.
+abbrev pub TakesStep : Step → Draft → Result Unit Error → Draft → Type 0
+TakesStep s d (Ok x) t = after_step s d ≡ Ok t
+TakesStep s d (Err e) t = (t ≡ d) × Refuses (after_step s d) e
+
+-- The same of a step that takes no memory.
+abbrev pub TakesStepAlways : Step → Draft → Result Unit Error → Draft → Type 0
+TakesStepAlways s d (Ok x) t = after_step s d ≡ Ok t
+TakesStepAlways s d (Err e) t = (t ≡ d) × RefusesAlways (after_step s d) e
+
+-- ---- beginnings
+
+-- The draft is begun, unless a time is bad.
+abbrev pub Begins : Option DraftField → Draft → Result Builder Error → Type 0
+Begins bad d (Ok b) = (bad ≡ None) × (draft_of b ≡ d)
+Begins bad d (Err e) = option_map field_error bad ≡ Some e
+
+-- The same of a call that takes memory.
+abbrev pub BeginsInMemory : Option DraftField → Draft → Result Builder Error → Type 0
+BeginsInMemory bad d (Ok b) = (bad ≡ None) × (draft_of b ≡ d)
+BeginsInMemory bad d (Err e) = e ≢ wide.Memory → option_map field_error bad ≡ Some e

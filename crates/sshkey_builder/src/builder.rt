@@ -1,0 +1,219 @@
+//! How certificates are made.
+
+ghost use Rattle.rand_core.specs.Stream.{fill_bytes};
+ghost use Rattle.std.specs.Prelude.{◌≡◌, [], Some, None, Ok, true, IfOk, IfErr, OnOk, OnErr, string_bytes};
+ghost use Rattle.sshkey_keys.specs.Keys.{key_of};
+ghost use Rattle.sshkey_model.specs.Certificates.{forever};
+ghost use Rattle.sshkey_model.specs.Drafts.{Serial, Kind, KeyId, Comment, Principal, AllPrincipals, Critical, Extension, after_step, begun, bad_start, bad_window};
+ghost use Rattle.sshkey_options.specs.CertTypes.{type_of};
+ghost use Rattle.sshkey_options.specs.Times.{end_of, time_of};
+ghost use Rattle.sshkey_builder.specs.Builders.{draft_of, Begins, BeginsInMemory, Refuses, RefusesAlways, TakesStep, TakesStepAlways};
+
+mod set;
+mod sign;
+
+use rand_core::{CryptoRng, Rng};
+use sshkey_base::certificate::Field;
+use sshkey_base::{Bytes, Error, Result, Text};
+use sshkey_keys::KeyData;
+use sshkey_options::{CertType, EndTime, OptionsMap, UnixTime};
+use std::alloc::Global;
+
+/// Collects the fields of a certificate, and signs them.
+///
+/// Each setter stands here twice: `serial` hands the builder back, so that calls can be chained;
+/// `set_serial` answers nothing, and its contract also says that a refused call changes nothing.
+#[derive(Drop)]
+pub struct Builder {
+    alloc: Global,
+    nonce: Bytes,
+    public_key: KeyData,
+    serial: Option<u64>,
+    cert_type: Option<CertType>,
+    key_id: Option<Text>,
+    valid_principals: Option<Vec<String>>,
+    valid_after: UnixTime,
+    valid_before: EndTime,
+    critical_options: OptionsMap,
+    extensions: OptionsMap,
+    comment: Option<Text>,
+}
+
+impl Builder {
+    /// How many bytes a nonce should have.
+    pub const RECOMMENDED_NONCE_SIZE: usize = 16;
+
+    /// A builder for a certificate of that key, for times from `valid_after` on and before
+    /// `valid_before`, in seconds since 1970. Takes no memory.
+    ///
+    /// `CertificateFieldInvalid` of the first time that is above 2^63 - 1, or of `valid_before`
+    /// where that is before `valid_after`.
+    pub fn new(
+        alloc: Global,
+        nonce: Vec<u8>,
+        public_key: KeyData,
+        valid_after: u64,
+        valid_before: u64,
+    ) -> Result<Builder>
+        ensures { Begins (bad_window valid_after valid_before) (begun nonce.items (key_of public_key) valid_after valid_before) result }
+    {
+        let Ok(valid_after) = UnixTime::new(valid_after) else {
+            return Err(Error::CertificateFieldInvalid(Field::ValidAfter));
+        };
+        let Ok(valid_before) = UnixTime::new(valid_before) else {
+            return Err(Error::CertificateFieldInvalid(Field::ValidBefore));
+        };
+        if valid_before.secs() < valid_after.secs() {
+            return Err(Error::CertificateFieldInvalid(Field::ValidBefore));
+        }
+        let valid_before = EndTime::from(valid_before);
+        Ok(Builder::begun(alloc, nonce, public_key, valid_after, valid_before))
+    }
+
+    /// A builder for a certificate of that key without an end, for times from `valid_after` on.
+    /// Takes no memory.
+    ///
+    /// `CertificateFieldInvalid` of `valid_after` where it is above 2^63 - 1.
+    pub fn new_forever(
+        alloc: Global,
+        nonce: Vec<u8>,
+        public_key: KeyData,
+        valid_after: u64,
+    ) -> Result<Builder>
+        ensures { Begins (bad_start valid_after) (begun nonce.items (key_of public_key) valid_after forever) result }
+    {
+        let Ok(valid_after) = UnixTime::new(valid_after) else {
+            return Err(Error::CertificateFieldInvalid(Field::ValidAfter));
+        };
+        Ok(Builder::begun(alloc, nonce, public_key, valid_after, EndTime::forever()))
+    }
+
+    /// `new` with a nonce of the next 16 bytes of the generator, for which memory is asked first.
+    pub fn new_with_random_nonce<R: Rng + CryptoRng>(
+        alloc: Global,
+        rng: &mut R,
+        public_key: KeyData,
+        valid_after: u64,
+        valid_before: u64,
+    ) -> Result<Builder>
+        ensures drawn { OnOk result (R.stream rng.new ≡ (fill_bytes 16 (R.stream rng.old)).1) }
+        ensures begins { BeginsInMemory (bad_window valid_after valid_before) (begun (fill_bytes 16 (R.stream rng.old)).0 (key_of public_key) valid_after valid_before) result }
+    {
+        let mut nonce = vec![in alloc; 0u8; 16]?;
+        rng.fill_bytes(&mut nonce);
+        Builder::new(alloc, nonce, public_key, valid_after, valid_before)
+    }
+
+    /// A builder with nothing set.
+    fn begun(
+        alloc: Global,
+        nonce: Vec<u8>,
+        public_key: KeyData,
+        valid_after: UnixTime,
+        valid_before: EndTime,
+    ) -> Builder
+        ensures { draft_of result ≡ begun nonce.items (key_of public_key) (time_of valid_after) (end_of valid_before) }
+    {
+        Builder {
+            alloc,
+            nonce: Bytes::new(nonce),
+            public_key,
+            serial: None,
+            cert_type: None,
+            key_id: None,
+            valid_principals: None,
+            valid_after,
+            valid_before,
+            critical_options: OptionsMap::new(alloc),
+            extensions: OptionsMap::new(alloc),
+            comment: None,
+        }
+    }
+
+    /// Sets the serial number. `CertificateFieldInvalid` if it was set, and then nothing is changed.
+    /// Takes no memory.
+    pub fn serial(&mut self, serial: u64) -> Result<&mut Builder>
+        ensures same_reference { IfOk result (λ b. b.ghost_name ≡ self.entry.ghost_name) }
+        ensures taken { IfOk result (λ b. after_step (Serial serial) (draft_of self.old) ≡ Ok (draft_of b.now)) }
+        ensures refused { IfErr result (RefusesAlways (after_step (Serial serial) (draft_of self.old))) }
+    {
+        self.set_serial(serial)?;
+        Ok(self)
+    }
+
+    /// Sets the type. `CertificateFieldInvalid` if it was set, and then nothing is changed. Takes no
+    /// memory.
+    pub fn cert_type(&mut self, cert_type: CertType) -> Result<&mut Builder>
+        ensures same_reference { IfOk result (λ b. b.ghost_name ≡ self.entry.ghost_name) }
+        ensures taken { IfOk result (λ b. after_step (Kind (type_of cert_type)) (draft_of self.old) ≡ Ok (draft_of b.now)) }
+        ensures refused { IfErr result (RefusesAlways (after_step (Kind (type_of cert_type)) (draft_of self.old))) }
+    {
+        self.set_cert_type(cert_type)?;
+        Ok(self)
+    }
+
+    /// Sets the key id. `CertificateFieldInvalid` if it was set, and then nothing is changed. Takes
+    /// no memory.
+    pub fn key_id(&mut self, key_id: String) -> Result<&mut Builder>
+        ensures same_reference { IfOk result (λ b. b.ghost_name ≡ self.entry.ghost_name) }
+        ensures taken { IfOk result (λ b. after_step (KeyId (string_bytes key_id)) (draft_of self.old) ≡ Ok (draft_of b.now)) }
+        ensures refused { IfErr result (RefusesAlways (after_step (KeyId (string_bytes key_id)) (draft_of self.old))) }
+    {
+        self.set_key_id(key_id)?;
+        Ok(self)
+    }
+
+    /// Sets the comment. `CertificateFieldInvalid` if it was set, and then nothing is changed. Takes
+    /// no memory.
+    pub fn comment(&mut self, comment: String) -> Result<&mut Builder>
+        ensures same_reference { IfOk result (λ b. b.ghost_name ≡ self.entry.ghost_name) }
+        ensures taken { IfOk result (λ b. after_step (Comment (string_bytes comment)) (draft_of self.old) ≡ Ok (draft_of b.now)) }
+        ensures refused { IfErr result (RefusesAlways (after_step (Comment (string_bytes comment)) (draft_of self.old))) }
+    {
+        self.set_comment(comment)?;
+        Ok(self)
+    }
+
+    /// Names one more principal, also after all were made valid. Refused only when out of memory,
+    /// and then nothing is changed.
+    pub fn valid_principal(&mut self, principal: String) -> Result<&mut Builder>
+        ensures same_reference { IfOk result (λ b. b.ghost_name ≡ self.entry.ghost_name) }
+        ensures taken { IfOk result (λ b. after_step (Principal (string_bytes principal)) (draft_of self.old) ≡ Ok (draft_of b.now)) }
+        ensures refused { IfErr result (Refuses (after_step (Principal (string_bytes principal)) (draft_of self.old))) }
+    {
+        self.add_valid_principal(principal)?;
+        Ok(self)
+    }
+
+    /// Makes all principals valid, whichever were named. Never refused, and takes no memory.
+    pub fn all_principals_valid(&mut self) -> Result<&mut Builder>
+        ensures same_reference { IfOk result (λ b. b.ghost_name ≡ self.entry.ghost_name) }
+        ensures taken { IfOk result (λ b. after_step AllPrincipals (draft_of self.old) ≡ Ok (draft_of b.now)) }
+        ensures refused { IfErr result (RefusesAlways (after_step AllPrincipals (draft_of self.old))) }
+    {
+        self.set_all_principals_valid()?;
+        Ok(self)
+    }
+
+    /// Adds one of the critical options. `CertificateFieldInvalid` if there is one of that name, and
+    /// else refused only when out of memory; then nothing is changed.
+    pub fn critical_option(&mut self, name: String, value: String) -> Result<&mut Builder>
+        ensures same_reference { IfOk result (λ b. b.ghost_name ≡ self.entry.ghost_name) }
+        ensures taken { IfOk result (λ b. after_step (Critical (record { name = string_bytes name; value = string_bytes value })) (draft_of self.old) ≡ Ok (draft_of b.now)) }
+        ensures refused { IfErr result (Refuses (after_step (Critical (record { name = string_bytes name; value = string_bytes value })) (draft_of self.old))) }
+    {
+        self.add_critical_option(name, value)?;
+        Ok(self)
+    }
+
+    /// Adds one of the extensions. `CertificateFieldInvalid` if there is one of that name, and else
+    /// refused only when out of memory; then nothing is changed.
+    pub fn extension(&mut self, name: String, value: String) -> Result<&mut Builder>
+        ensures same_reference { IfOk result (λ b. b.ghost_name ≡ self.entry.ghost_name) }
+        ensures taken { IfOk result (λ b. after_step (Extension (record { name = string_bytes name; value = string_bytes value })) (draft_of self.old) ≡ Ok (draft_of b.now)) }
+        ensures refused { IfErr result (Refuses (after_step (Extension (record { name = string_bytes name; value = string_bytes value })) (draft_of self.old))) }
+    {
+        self.add_extension(name, value)?;
+        Ok(self)
+    }
+}

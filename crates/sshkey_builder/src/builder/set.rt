@@ -1,0 +1,103 @@
+//! What a builder is told, with no reference handed back.
+
+ghost use Rattle.std.specs.Prelude.{◌≡◌, string_bytes};
+ghost use Rattle.sshkey_model.specs.Drafts.{Serial, Kind, KeyId, Comment, Principal, AllPrincipals, Critical, Extension};
+ghost use Rattle.sshkey_options.specs.CertTypes.{type_of};
+ghost use Rattle.sshkey_builder.specs.Builders.{draft_of, TakesStep, TakesStepAlways};
+
+use super::Builder;
+use sshkey_base::certificate::Field;
+use sshkey_base::{Error, Result, Text};
+use sshkey_options::CertType;
+
+impl Builder {
+    /// `serial`, with no reference handed back.
+    pub fn set_serial(&mut self, serial: u64) -> Result<()>
+        ensures { TakesStepAlways (Serial serial) (draft_of self.old) result (draft_of self.new) }
+    {
+        if self.serial.is_some() {
+            return Err(Error::CertificateFieldInvalid(Field::Serial));
+        }
+        self.serial = Some(serial);
+        Ok(())
+    }
+
+    /// `cert_type`, with no reference handed back.
+    pub fn set_cert_type(&mut self, cert_type: CertType) -> Result<()>
+        ensures { TakesStepAlways (Kind (type_of cert_type)) (draft_of self.old) result (draft_of self.new) }
+    {
+        if self.cert_type.is_some() {
+            return Err(Error::CertificateFieldInvalid(Field::CertType));
+        }
+        self.cert_type = Some(cert_type);
+        Ok(())
+    }
+
+    /// `key_id`, with no reference handed back.
+    pub fn set_key_id(&mut self, key_id: String) -> Result<()>
+        ensures { TakesStepAlways (KeyId (string_bytes key_id)) (draft_of self.old) result (draft_of self.new) }
+    {
+        if self.key_id.is_some() {
+            return Err(Error::CertificateFieldInvalid(Field::KeyId));
+        }
+        self.key_id = Some(Text::new(key_id));
+        Ok(())
+    }
+
+    /// `comment`, with no reference handed back.
+    pub fn set_comment(&mut self, comment: String) -> Result<()>
+        ensures { TakesStepAlways (Comment (string_bytes comment)) (draft_of self.old) result (draft_of self.new) }
+    {
+        if self.comment.is_some() {
+            return Err(Error::CertificateFieldInvalid(Field::Comment));
+        }
+        self.comment = Some(Text::new(comment));
+        Ok(())
+    }
+
+    /// `valid_principal`, with no reference handed back.
+    #[tactic(auto, using(crate::proofs::Principals::map_added))]
+    pub fn add_valid_principal(&mut self, principal: String) -> Result<()>
+        ensures { TakesStep (Principal (string_bytes principal)) (draft_of self.old) result (draft_of self.new) }
+    {
+        match &mut self.valid_principals {
+            Some(principals) => principals.push(principal)?,
+            None => {
+                let mut principals = Vec::new(self.alloc);
+                principals.push(principal)?;
+                self.valid_principals = Some(principals);
+            }
+        }
+        Ok(())
+    }
+
+    /// `all_principals_valid`, with no reference handed back.
+    pub fn set_all_principals_valid(&mut self) -> Result<()>
+        ensures { TakesStepAlways AllPrincipals (draft_of self.old) result (draft_of self.new) }
+    {
+        self.valid_principals = Some(Vec::new(self.alloc));
+        Ok(())
+    }
+
+    /// `critical_option`, with no reference handed back.
+    pub fn add_critical_option(&mut self, name: String, value: String) -> Result<()>
+        ensures { TakesStep (Critical (record { name = string_bytes name; value = string_bytes value })) (draft_of self.old) result (draft_of self.new) }
+    {
+        if self.critical_options.contains_key(name.as_str()) {
+            return Err(Error::CertificateFieldInvalid(Field::CriticalOptions));
+        }
+        self.critical_options.insert(name, value)?;
+        Ok(())
+    }
+
+    /// `extension`, with no reference handed back.
+    pub fn add_extension(&mut self, name: String, value: String) -> Result<()>
+        ensures { TakesStep (Extension (record { name = string_bytes name; value = string_bytes value })) (draft_of self.old) result (draft_of self.new) }
+    {
+        if self.extensions.contains_key(name.as_str()) {
+            return Err(Error::CertificateFieldInvalid(Field::Extensions));
+        }
+        self.extensions.insert(name, value)?;
+        Ok(())
+    }
+}

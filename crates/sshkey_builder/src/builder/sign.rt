@@ -1,0 +1,99 @@
+//! How what a builder holds is signed.
+
+ghost use Rattle.std.specs.Prelude.{◌≡◌, [], Err, IfOk, IfErr, IsSome, IsNone, IsErrOf, IsOkUnless, ◌↔◌};
+ghost use Rattle.sshkey_base.specs.declared.certificate.field.Field.TheVariants as field;
+ghost use Rattle.sshkey_base.specs.declared.error.Error.TheVariants as wide;
+ghost use Rattle.sshkey_keys.specs.Keys.{key_of};
+ghost use Rattle.sshkey_model.specs.Drafts.{IsSignedDraft, IsValidThrough, drafted, or_default};
+ghost use Rattle.sshkey_model.specs.Fingerprints.{fingerprint};
+ghost use Rattle.sshkey_model.specs.Names.{Sha256};
+ghost use Rattle.sshkey_builder.specs.Builders.{draft_of};
+ghost use Rattle.sshkey_unsigned.specs.UnsignedValues.{unsigned_of};
+ghost use Rattle.sshkey_cert.specs.CertificateValues.{certificate_of, comment_of};
+ghost use Rattle.sshkey_cert.specs.Signing.{RefusesToSign};
+
+use super::Builder;
+use sshkey_base::certificate::Field;
+use sshkey_base::{Bytes, Error, Result, Text};
+use sshkey_cert::Certificate;
+use sshkey_keys::{KeyData, SigningKey};
+use sshkey_options::CertType;
+use sshkey_unsigned::Unsigned;
+use std::alloc::Global;
+
+impl Builder {
+    /// Signs what was collected, with the defaults for what was not set: serial number 0, a user,
+    /// an empty key id and an empty comment.
+    ///
+    /// The certificate is valid, as `validate_at` has it, at each time of its window, by the
+    /// signer's `raw` and for whoever gives the fingerprint of the signer's key.
+    ///
+    /// `CertificateFieldInvalid` where no principal was named and not all were made valid, whatever
+    /// memory there is. Else, out of memory aside, `Length` where the bytes to be signed do not
+    /// fit, and otherwise an error of the signer's own.
+    pub fn sign<S: SigningKey>(self, alloc: Global, signing_key: &S) -> Result<Certificate>
+        ensures unnamed { IsNone (draft_of self).valid_principals → result ≡ Err (wide.CertificateFieldInvalid field.ValidPrincipals) }
+        ensures signed { IfOk result (λ c. IsSignedDraft (S.Raw.accepts (S.raw_of signing_key.now)) (key_of (S.public_of signing_key.now)) (draft_of self) (certificate_of c)) }
+        ensures comment { IfOk result (λ c. comment_of c ≡ or_default [] (draft_of self).comment) }
+        ensures valid { IfOk result (λ c. IsValidThrough (S.Raw.accepts (S.raw_of signing_key.now)) (fingerprint Sha256 (key_of (S.public_of signing_key.now))) (certificate_of c)) }
+        ensures refused { IsSome (draft_of self).valid_principals → IfErr result (RefusesToSign (S.refuses signing_key.now) (drafted (draft_of self) (key_of (S.public_of signing_key.now)))) }
+    {
+        if self.valid_principals.is_none() {
+            return Err(Error::CertificateFieldInvalid(Field::ValidPrincipals));
+        }
+        let signature_key = signing_key.public_key().try_clone(alloc)?;
+        let (unsigned, comment) = self.fields(alloc, signature_key)?;
+        Certificate::sign(alloc, unsigned, signing_key, comment)
+    }
+
+    /// The fields, with the defaults for those that were not set, and the comment.
+    fn fields(self, alloc: Global, signature_key: KeyData) -> Result<(Unsigned, Text)>
+        ensures unnamed { IsErrOf result (wide.CertificateFieldInvalid field.ValidPrincipals) ↔ IsNone (draft_of self).valid_principals }
+        ensures only { IsOkUnless result (wide.CertificateFieldInvalid field.ValidPrincipals) }
+        ensures fields { IfOk result (λ made. unsigned_of made.0 ≡ drafted (draft_of self) (key_of signature_key)) }
+        ensures comment { IfOk result (λ made. made.1 ≡ or_default [] (draft_of self).comment) }
+    {
+        let Builder {
+            alloc: _,
+            nonce,
+            public_key,
+            serial,
+            cert_type,
+            key_id,
+            valid_principals,
+            valid_after,
+            valid_before,
+            critical_options,
+            extensions,
+            comment,
+        } = self;
+        let Some(valid_principals) = valid_principals else {
+            return Err(Error::CertificateFieldInvalid(Field::ValidPrincipals));
+        };
+        let unsigned = Unsigned {
+            nonce,
+            public_key,
+            serial: serial.unwrap_or(0),
+            cert_type: cert_type.unwrap_or(CertType::User),
+            key_id: or_empty(alloc, key_id),
+            valid_principals,
+            valid_after,
+            valid_before,
+            critical_options,
+            extensions,
+            reserved: Bytes::new(Vec::new(alloc)),
+            signature_key,
+        };
+        Ok((unsigned, or_empty(alloc, comment)))
+    }
+}
+
+/// The text, or an empty one. Takes no memory.
+fn or_empty(alloc: Global, text: Option<Text>) -> Text
+    ensures { result ≡ or_default [] text }
+{
+    match text {
+        Some(text) => text,
+        None => Text::new(String::new(alloc)),
+    }
+}

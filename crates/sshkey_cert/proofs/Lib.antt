@@ -1,0 +1,5 @@
+pub mod CertificateFields
+pub mod NormalFits
+pub mod Given
+pub mod Signing
+pub mod Lines

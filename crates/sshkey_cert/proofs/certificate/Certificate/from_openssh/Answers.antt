@@ -1,0 +1,5 @@
+use Rattle.std.proofs.lemmas.Result.{err_from_is_err_and}
+use Rattle.sshkey_cert.proofs.certificate.Certificate.from_openssh.Goals as goal
+
+pub returns-in_err-certificate : goal.returns-in_err-certificate
+returns-in_err-certificate c = let p = err_from_is_err_and c.from_residual.result c.from_residual.ensures.1 in rw (p.1, p.2) c.in_err-certificate.ensures

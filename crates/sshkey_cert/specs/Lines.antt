@@ -1,0 +1,46 @@
+-- Certificates stand in lines; what is read of a line.
+use Rattle.std.proofs.Common.{◌≡◌, ◌≢◌, ℕ, ◌≤◌, List, length, None, Some, Result, Ok, Err, arith}
+use Rattle.sshkey_model.specs.CertificateNames.{certificate_name, IsCertified}
+use Rattle.sshkey_model.specs.Keys.{key_algorithm}
+use Rattle.sshkey_model.specs.Lines.{name_of_certificate, IsCertificateLine, IsNoLine}
+use Rattle.std.proofs.lemmas.Bool.{and_parts}
+use Rattle.sshkey_model.specs.Names.{Algorithm, Dsa, Ecdsa, Ed25519, Rsa, SkEcdsa, SkEd25519, Other, Nistp256, Nistp384, Nistp521, is_other_name, is_own_name}
+use Rattle.sshkey_model.proofs.Blobs.{certificate_blobs}
+use Rattle.sshkey_base.specs.Causes.{cause, NoMemory}
+use Rattle.sshkey_base.specs.declared.error.Error.{Error}
+use Rattle.sshkey_base.proofs.CertificateTypes.{certificate_length}
+use Rattle.sshkey_public.specs.Blobs.{StandsInLines}
+use Rattle.sshkey_cert.specs.CertificateReaders.{SpellsCertificate}
+use Rattle.sshkey_cert.specs.CertificateValues.{certificate_of, comment_of}
+use Rattle.sshkey_cert.specs.declared.certificate.Certificate.{Certificate}
+
+-- Accepted is the certificate and the comment of the line. Refused for anything but memory, it is a line of no certificate.
+abbrev pub ReadsCertificate : List ℕ → Result Certificate Error → Type 0
+ReadsCertificate text (Ok c) = IsCertificateLine text (certificate_of c) (comment_of c)
+ReadsCertificate text (Err e) = cause e ≢ NoMemory → IsNoLine name_of_certificate SpellsCertificate text
+
+-- some text is the line of it
+abbrev pub IsOfSomeLine : Certificate → Type 0
+IsOfSomeLine c = (text : List ℕ) × IsCertificateLine text (certificate_of c) (comment_of c)
+
+-- ---- names are short
+
+short_name : (a : Algorithm) → IsCertified a → length (certificate_name a) ≤ 73
+unfolding is_other_name
+short_name Dsa is = omega arith
+short_name (Ecdsa Nistp256) is = omega arith
+short_name (Ecdsa Nistp384) is = omega arith
+short_name (Ecdsa Nistp521) is = omega arith
+short_name Ed25519 is = omega arith
+short_name (Rsa h) is = omega arith
+short_name SkEcdsa is = omega arith
+short_name SkEd25519 is = omega arith
+short_name (Other n) is = let h = certificate_length n (and_parts (is_own_name n) _ is.0).0 in omega (arith, h.0, h.1)
+
+pub certificates_stand : StandsInLines certificate_of SpellsCertificate certificate_of SpellsCertificate name_of_certificate
+certificates_stand = record {
+  is = λ c b s. s;
+  every = λ c b s. (c, s);
+  blobs = certificate_blobs;
+  short = λ c b s. short_name (key_algorithm c.signed.key) s.is.0.name;
+}

@@ -1,0 +1,40 @@
+//! Certificates in files.
+
+ghost use Rattle.std.specs.Prelude.{IfOk};
+ghost use Rattle.sshkey_model.specs.Certificates.{normal_certificate};
+ghost use Rattle.sshkey_public.specs.PublicKeys.{WritesFile};
+ghost use Rattle.sshkey_cert.specs.CertificateValues.{certificate_of};
+ghost use Rattle.sshkey_cert.specs.Lines.{IsOfSomeLine};
+
+use super::Certificate;
+use sshkey_base::Result;
+use std::alloc::Global;
+use std::fs::{self, File, Files};
+use std::io;
+
+impl Certificate {
+    /// Reads the line that a file holds.
+    ///
+    /// `Io` with the machine's fault where the file could not be read, `Io(InvalidData)` where it
+    /// is not UTF-8, and else the refusals of `from_openssh`.
+    pub fn read_file<R: Files>(rt: &R, alloc: Global, path: &str) -> Result<Certificate>
+        ensures { IfOk result IsOfSomeLine }
+    {
+        let file = File::open(rt, path)?;
+        let text = io::read_to_string(alloc, file)?;
+        Certificate::from_openssh(alloc, text.as_str())
+    }
+
+    /// Writes the line of the certificate's normal form, with no line end, into a file, which is
+    /// created, or emptied first.
+    ///
+    /// The refusals of `to_openssh`, which come before the file is touched, and `Io` with the
+    /// machine's fault where it could not be written.
+    pub fn write_file<R: Files>(&self, rt: &R, alloc: Global, path: &str) -> Result<()>
+        ensures { WritesFile (normal_certificate (certificate_of self.now)) result }
+    {
+        let text = self.to_openssh(alloc)?;
+        fs::write(rt, path, text.as_str())?;
+        Ok(())
+    }
+}

@@ -1,0 +1,93 @@
+//! Certificates in lines.
+
+ghost use Rattle.std.specs.Prelude.{◌≡◌, string_bytes};
+ghost use Rattle.std.specs.Str.{IsUtf8};
+ghost use Rattle.sshkey_model.specs.CertificateNames.{certificate_name};
+ghost use Rattle.sshkey_model.specs.Certificates.{Certificate as TheCertificate, normal_certificate};
+ghost use Rattle.sshkey_model.specs.Keys.{key_algorithm};
+ghost use Rattle.sshkey_model.specs.Lines.{name_of_certificate};
+ghost use Rattle.sshkey_keys.specs.Keys.{key_of};
+ghost use Rattle.sshkey_public.specs.PublicKeys.{MakesLine};
+ghost use Rattle.sshkey_cert.specs.CertificateReaders.{SpellsCertificate};
+ghost use Rattle.sshkey_cert.specs.CertificateValues.{certificate_of, comment_of};
+ghost use Rattle.sshkey_cert.specs.Lines.{ReadsCertificate, certificates_stand};
+
+use super::Certificate;
+use sshkey_base::{Result, Text, Writer, encoding};
+use sshkey_keys::KeyData;
+use sshkey_public::{Blob, read_line, write_line};
+use std::alloc::Global;
+
+/// The name of the certified key's algorithm in certificates.
+impl Blob for Certificate {
+    ghost Value = { TheCertificate };
+
+    ghost value = { certificate_of };
+
+    ghost name = { name_of_certificate };
+
+    ghost Spelling = { SpellsCertificate };
+
+    ghost stands = { certificates_stand };
+
+    fn write_name<W: Writer>(&self, writer: &mut W) -> encoding::Result<()> {
+        self.unsigned.public_key.write_certificate_name(writer)
+    }
+}
+
+impl Certificate {
+    /// Reads a line: the name of the key's algorithm in certificates, the certificate in padded
+    /// Base64, and the comment.
+    ///
+    /// White space at the end is cut off. Out of memory aside, it is refused exactly where the
+    /// text is a line of no certificate: `Length` where a word is missing or empty,
+    /// `CharacterEncoding` for a character in the first word that no name has, `Base64` where the
+    /// second is no canonical Base64, the refusals of `from_bytes`, and `AlgorithmUnknown` where
+    /// the first word is not the certificate's name.
+    pub fn from_openssh(alloc: Global, text: &str) -> Result<Certificate>
+        ensures { ReadsCertificate text.now result }
+    {
+        let (certificate, comment) = read_line::<Certificate>(alloc, text)?;
+        Ok(certificate.with_comment(comment))
+    }
+
+    /// The line of the certificate's normal form, in memory of its own.
+    ///
+    /// Exactly where a box in it would pass 2^32 - 1 bytes, the answer is `Length`; otherwise it
+    /// is refused only when out of memory.
+    pub fn to_openssh(&self, alloc: Global) -> Result<String>
+        ensures { MakesLine (name_of_certificate (certificate_of self.now)) (normal_certificate (certificate_of self.now)) (comment_of self.now) result }
+    {
+        let mut line = Vec::new(alloc);
+        write_line(self, self.comment.as_str(), &mut line)?;
+        is_text_in_certificates(&self.unsigned.public_key);
+        let Ok(line) = String::from_utf8(line) else {
+            unreachable!();
+        };
+        Ok(line)
+    }
+
+    /// The same certificate with that comment.
+    fn with_comment(self, comment: String) -> Certificate
+        ensures value { certificate_of result ≡ certificate_of self }
+        ensures comment { comment_of result ≡ string_bytes comment }
+    {
+        let Certificate {
+            unsigned,
+            signature,
+            comment: _,
+        } = self;
+        Certificate {
+            unsigned,
+            signature,
+            comment: Text::new(comment),
+        }
+    }
+}
+
+/// The name of a key's algorithm in certificates is a text.
+fn is_text_in_certificates(key: &KeyData)
+    ensures { IsUtf8 (certificate_name (key_algorithm (key_of key.now))) }
+{
+    let _ = key.algorithm_name();
+}

@@ -1,0 +1,7 @@
+//! Certificates (PROTOCOL.certkeys).
+#![tactic(auto)]
+
+mod certificate;
+pub mod laws;
+
+pub use certificate::Certificate;

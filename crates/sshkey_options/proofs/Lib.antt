@@ -1,0 +1,4 @@
+pub mod OptionNames
+pub mod OptionValues
+pub mod WrittenOptions
+pub mod OptionPairs

@@ -1,0 +1,11 @@
+use Rattle.std.proofs.Common.{ap, ◌∙◌, option_map, map}
+use Rattle.std.specs.Prelude.{string_bytes}
+use Rattle.sshkey_options.specs.OptionMaps.{option_of}
+use Rattle.sshkey_options.proofs.OptionNames.{found, inserted}
+use Rattle.sshkey_options.proofs.options_map.OptionsMap.insert.Goals as goal
+
+pub returns-clause-old : goal.returns-clause-old
+returns-clause-old c = ap (option_map string_bytes) c.in_ok-insert.ensures.old ∙ found (string_bytes c.args.name) c.args.self.now.0.entries
+
+pub returns-clause-set : goal.returns-clause-set
+returns-clause-set c = ap (λ (es : _). map option_of es) c.in_ok-insert.ensures.entries ∙ inserted c.args.name c.args.value c.args.self.now.0.entries

@@ -1,0 +1,35 @@
+-- Types and times of certificates: what spells them.
+use Rattle.std.specs.Prelude.{ℕ, List, Result, Ok, Err, if◌then◌else◌}
+use Rattle.std.specs.Int.{w64}
+use Rattle.sshkey_model.specs.Parts.{Any, number}
+use Rattle.sshkey_model.specs.Reading.{Fault, Time}
+use Rattle.sshkey_model.specs.Grammar.{IsGrammar, Spells}
+use Rattle.sshkey_model.specs.Certificates.{CertificateType, certificate_type, is_time, is_end, IsTime, IsEnd}
+use Rattle.sshkey_model.proofs.CertificateReaders.{type_reads, time_reads, end_reads}
+use Rattle.sshkey_model.proofs.Grammars.{grammar}
+-- under names that an attribute of this crate can unfold
+unfoldable pub use Rattle.sshkey_model.specs.Certificates.{type_at, time_at, end_at}
+
+abbrev pub time_from : ℕ → Result ℕ Fault
+time_from t = if is_time t then Ok t else Err Time
+
+abbrev pub end_from : ℕ → Result ℕ Fault
+end_from t = if is_end t then Ok t else Err Time
+
+abbrev pub SpellsType : CertificateType → List ℕ → Type 0
+SpellsType = Spells Any certificate_type
+
+abbrev pub SpellsTime : ℕ → List ℕ → Type 0
+SpellsTime = Spells IsTime (number w64)
+
+abbrev pub SpellsEnd : ℕ → List ℕ → Type 0
+SpellsEnd = Spells IsEnd (number w64)
+
+pub type_grammar : IsGrammar SpellsType type_at
+type_grammar = grammar type_reads
+
+pub time_grammar : IsGrammar SpellsTime time_at
+time_grammar = grammar time_reads
+
+pub end_grammar : IsGrammar SpellsEnd end_at
+end_grammar = grammar end_reads

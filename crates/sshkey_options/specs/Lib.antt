@@ -1,0 +1,5 @@
+pub mod Leaves
+pub mod Times
+pub mod CertTypes
+pub mod OptionReaders
+pub mod OptionMaps

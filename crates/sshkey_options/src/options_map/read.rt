@@ -1,0 +1,108 @@
+//! How options are read.
+
+ghost use Rattle.std.specs.Prelude.{◌≡◌, ◌∷◌, ◌++◌, [], true, option_map, string_bytes, OnOk, IfErr};
+ghost use Rattle.std.specs.BTreeMap.{insert_entry};
+ghost use Rattle.std.specs.String.{string_cmp};
+ghost use Rattle.sshkey_base.specs.Causes.{cause, encoding_cause};
+ghost use Rattle.sshkey_base.specs.Nested.{nested_source};
+ghost use Rattle.sshkey_base.specs.Reading.{Decodes, Gives, to_end};
+ghost use Rattle.sshkey_base.specs.Source.{Later};
+ghost use Rattle.sshkey_options.specs.OptionReaders.{may_follow, value_front, option_box_at, option_behind, option_list_at};
+ghost use Rattle.sshkey_options.specs.OptionMaps.{option_of, options_of, last_name, GoesLast};
+
+use super::OptionsMap;
+use sshkey_base::{Decode, Error, NestedReader, Reader, Result, encoding};
+use std::alloc::Global;
+use std::collections::BTreeMap;
+
+/// The options up to the end of the reader.
+#[tactic(auto, using(sshkey_base::proofs::Places::places))]
+pub(super) fn options_from<R: Reader>(alloc: Global, reader: &mut R) -> Result<OptionsMap>
+    ensures gives { Gives options_of cause (to_end option_list_at)
+        (R.source reader.old) result (R.source reader.new) }
+    ensures later { Later (R.source reader.old) (R.source reader.new) }
+{
+    let mut options = BTreeMap::new(alloc);
+    'reads: while !reader.is_finished() {
+        let (name, value) = option_from(alloc, reader, greatest_name(&options))?;
+        add(&mut options, name, value)?;
+    }
+    Ok(OptionsMap(options))
+}
+
+/// The options, and that one instead of one of its name.
+fn add(options: &mut BTreeMap<String, String>, name: String, value: String) -> Result<()>
+    ensures added { OnOk result
+        (options.new.entries ≡ insert_entry string_cmp options.old.entries name value) }
+    ensures memory { IfErr result (λ e. e ≡ Error.Memory) }
+{
+    options.insert(name, value)?;
+    Ok(())
+}
+
+/// The greatest of the names: each that may follow it goes to the end.
+fn greatest_name(options: &BTreeMap<String, String>) -> Option<&str>
+    ensures name { option_map (λ name. name.now) result ≡ last_name options.now }
+    ensures last { GoesLast (option_map (λ name. name.now) result) options.now }
+{
+    match options.last_key_value() {
+        Some((name, _)) => Some(name.as_str()),
+        None => None,
+    }
+}
+
+/// An option that stands behind that of the name before.
+#[tactic(auto, using(sshkey_base::proofs::Steps::steps), unfolding(crate::specs::OptionReaders::option_behind))]
+fn option_from<R: Reader>(
+    alloc: Global,
+    reader: &mut R,
+    before: Option<&str>,
+) -> Result<(String, String)>
+    ensures gives { Gives option_of cause
+        (option_behind (option_map (λ name. name.now) before.entry))
+        (R.source reader.old) result (R.source reader.new) }
+    ensures later { Later (R.source reader.old) (R.source reader.new) }
+{
+    let name = String::decode(alloc, reader)?;
+    let value = boxed_value(alloc, reader)?;
+    if !may_follow(before, name.as_str()) {
+        return Err(Error::FormatEncoding);
+    }
+    Ok((name, value))
+}
+
+/// Whether the name may stand behind that of the option before: it is above it.
+fn may_follow(before: Option<&str>, name: &str) -> bool
+    ensures { result ≡ may_follow (option_map (λ name. name.now) before.entry) name.now }
+{
+    match before {
+        Some(before) => before < name,
+        None => true,
+    }
+}
+
+/// A value: a string that is empty, or that holds one text.
+fn boxed_value<R: Reader>(alloc: Global, reader: &mut R) -> encoding::Result<String>
+    ensures gives { Decodes string_bytes option_box_at R.source reader.old result reader.new }
+    ensures later { Later (R.source reader.old) (R.source reader.new) }
+{
+    reader.read_prefixed(
+        |part: &mut NestedReader<'_, R>| -> encoding::Result<String>
+            ensures gives { Decodes string_bytes value_front
+                (nested_source R.source) part.old result part.new }
+            ensures later { Later (nested_source R.source part.old)
+                (nested_source R.source part.new) }
+        { value_from(alloc, part) },
+    )
+}
+
+/// One text, or nothing at the end of the reader.
+fn value_from<R: Reader>(alloc: Global, reader: &mut R) -> encoding::Result<String>
+    ensures gives { Decodes string_bytes value_front R.source reader.old result reader.new }
+    ensures later { Later (R.source reader.old) (R.source reader.new) }
+{
+    if reader.is_finished() {
+        return Ok(String::new(alloc));
+    }
+    String::decode(alloc, reader)
+}

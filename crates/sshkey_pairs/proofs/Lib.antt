@@ -1,0 +1,4 @@
+pub mod FixedWidth
+pub mod Halves
+pub mod SameReaders
+pub mod SignedScalars

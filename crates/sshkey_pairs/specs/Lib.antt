@@ -1,0 +1,7 @@
+pub mod FixedWidth
+pub mod PairReaders
+pub mod PairNeeds
+pub mod PrivateHalves
+pub mod Pairs
+pub mod KeypairReaders
+pub mod Keypairs

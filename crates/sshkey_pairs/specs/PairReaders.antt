@@ -1,0 +1,109 @@
+-- The readers of pairs without the choices of their spelling, which take exactly the spellings.
+use Rattle.std.specs.Prelude.{◌≡◌, ℕ, List, Result, Ok, Err}
+use Rattle.sshkey_model.specs.Reading.{Fault, Length, ◌>>=◌, Front}
+use Rattle.sshkey_model.specs.Grammar.{IsGrammar, Spells, SpellsWith, value_at}
+use Rattle.sshkey_model.specs.Names.{Algorithm}
+use Rattle.sshkey_model.specs.Mpints.{mpint_at}
+use Rattle.sshkey_model.specs.Keys.{Key, Dsa, Ecdsa, SkEcdsa, SkEd25519, dsa_at, any_ecdsa_at, sk_ecdsa_at, sk_ed25519_at}
+use Rattle.sshkey_model.specs.KeyPairs.{KeyPair, DsaPair, EcdsaPair, SkEcdsaPair, SkEd25519Pair, IsScalar, HasScalarPlaces, scalar, scalar_at, RsaPrivate, IsRsaPrivate, rsa_private, SecurityPrivate, security_private, IsEcdsaPair, IsPairUnder, HasPairPlaces, pair, pair_at, dsa_pair_at, any_ecdsa_pair_at}
+use Rattle.sshkey_model.specs.Points.{field_size}
+use Rattle.sshkey_model.specs.Parts.{Any}
+use Rattle.sshkey_model.proofs.CombinedReaders.{bind_assoc}
+use Rattle.sshkey_model.proofs.Grammars.{grammar, grammar_with, same_grammar}
+use Rattle.sshkey_model.proofs.KeyPairReaders.{scalar_reads, rsa_private_reads, security_private_reads, any_ecdsa_pair_reads, pair_reads}
+-- under names that an attribute of this crate can unfold
+unfoldable pub use Rattle.sshkey_model.specs.KeyPairs.{rsa_pair_at, rsa_private_at, security_private_at, ed25519_pair_at, opaque_pair_at, sk_ecdsa_pair_at, sk_ed25519_pair_at}
+unfoldable pub use Rattle.sshkey_model.specs.Keys.{ed25519_at}
+
+-- the bytes spell the scalar of that size
+abbrev pub SpellsScalar : ℕ → List ℕ → List ℕ → Type 0
+SpellsScalar size = SpellsWith (IsScalar size) HasScalarPlaces scalar
+
+pub scalar_grammar : (size : ℕ) → IsGrammar (SpellsScalar size) (value_at (scalar_at size))
+scalar_grammar size = grammar_with (scalar_reads size)
+
+abbrev pub SpellsRsaPrivate : RsaPrivate → List ℕ → Type 0
+SpellsRsaPrivate = Spells IsRsaPrivate rsa_private
+
+pub rsa_private_grammar : IsGrammar SpellsRsaPrivate rsa_private_at
+rsa_private_grammar = grammar rsa_private_reads
+
+abbrev pub SpellsHeld : SecurityPrivate → List ℕ → Type 0
+SpellsHeld = Spells Any security_private
+
+pub held_grammar : IsGrammar SpellsHeld security_private_at
+held_grammar = grammar security_private_reads
+
+-- the bytes spell the pair under that algorithm
+abbrev pub SpellsPair : Algorithm → KeyPair → List ℕ → Type 0
+SpellsPair a = SpellsWith (IsPairUnder a) HasPairPlaces pair
+
+pub pair_grammar : (a : Algorithm) → IsGrammar (SpellsPair a) (value_at (pair_at a))
+pair_grammar a = grammar_with (pair_reads a)
+
+abbrev pub SpellsEcdsaPair : KeyPair → List ℕ → Type 0
+SpellsEcdsaPair = SpellsWith IsEcdsaPair HasPairPlaces pair
+
+-- ---- a public key, and what is kept beside it
+
+-- the private number of a DSA key
+abbrev pub number_with : Key → List ℕ → Result KeyPair Fault
+number_with (Dsa k) x = Ok (DsaPair k x)
+number_with _ x = Err Length
+
+abbrev pub number_behind : Key × List ℕ → Result (KeyPair × List ℕ) Fault
+number_behind k = mpint_at k.1 >>= λ x. number_with k.0 x.0 >>= λ p. Ok (p, x.1)
+
+unfoldable pub dsa_steps_at : Front KeyPair
+dsa_steps_at b = dsa_at b >>= number_behind
+
+-- the scalar of the key's curve
+abbrev pub scalar_behind : Key × List ℕ → Result (KeyPair × List ℕ) Fault
+scalar_behind (Ecdsa c point, rest) = value_at (scalar_at (field_size c)) rest >>= λ s. Ok (EcdsaPair c point s.0, s.1)
+scalar_behind _ = Err Length
+
+unfoldable pub ecdsa_steps_at : Front KeyPair
+ecdsa_steps_at b = any_ecdsa_at b >>= scalar_behind
+
+-- what is kept of a key that a security key holds
+abbrev pub held_with : Key → SecurityPrivate → Result KeyPair Fault
+held_with (SkEcdsa k) r = Ok (SkEcdsaPair k r)
+held_with (SkEd25519 k) r = Ok (SkEd25519Pair k r)
+held_with _ r = Err Length
+
+abbrev pub held_behind : Key × List ℕ → Result (KeyPair × List ℕ) Fault
+held_behind k = security_private_at k.1 >>= λ r. held_with k.0 r.0 >>= λ p. Ok (p, r.1)
+
+unfoldable pub sk_ecdsa_steps_at : Front KeyPair
+sk_ecdsa_steps_at b = sk_ecdsa_at b >>= held_behind
+
+unfoldable pub sk_ed25519_steps_at : Front KeyPair
+sk_ed25519_steps_at b = sk_ed25519_at b >>= held_behind
+
+pub dsa_steps : (b : List ℕ) → value_at dsa_pair_at b ≡ dsa_steps_at b
+unfolding dsa_pair_at dsa_steps_at dsa_at
+dsa_steps b = simp bind_assoc
+
+pub ecdsa_steps : (b : List ℕ) → value_at any_ecdsa_pair_at b ≡ ecdsa_steps_at b
+unfolding any_ecdsa_pair_at ecdsa_steps_at any_ecdsa_at
+ecdsa_steps b = simp bind_assoc
+
+pub sk_ecdsa_steps : (b : List ℕ) → value_at sk_ecdsa_pair_at b ≡ sk_ecdsa_steps_at b
+unfolding sk_ecdsa_pair_at sk_ecdsa_steps_at sk_ecdsa_at
+sk_ecdsa_steps b = simp bind_assoc
+
+pub sk_ed25519_steps : (b : List ℕ) → value_at sk_ed25519_pair_at b ≡ sk_ed25519_steps_at b
+unfolding sk_ed25519_pair_at sk_ed25519_steps_at sk_ed25519_at
+sk_ed25519_steps b = simp bind_assoc
+
+pub dsa_grammar : IsGrammar (SpellsPair Algorithm.Dsa) dsa_steps_at
+dsa_grammar = same_grammar (pair_grammar Algorithm.Dsa) dsa_steps
+
+pub ecdsa_grammar : IsGrammar SpellsEcdsaPair ecdsa_steps_at
+ecdsa_grammar = same_grammar (grammar_with any_ecdsa_pair_reads) ecdsa_steps
+
+pub sk_ecdsa_grammar : IsGrammar (SpellsPair Algorithm.SkEcdsa) sk_ecdsa_steps_at
+sk_ecdsa_grammar = same_grammar (pair_grammar Algorithm.SkEcdsa) sk_ecdsa_steps
+
+pub sk_ed25519_grammar : IsGrammar (SpellsPair Algorithm.SkEd25519) sk_ed25519_steps_at
+sk_ed25519_grammar = same_grammar (pair_grammar Algorithm.SkEd25519) sk_ed25519_steps

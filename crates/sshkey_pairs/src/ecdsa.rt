@@ -1,0 +1,263 @@
+//! ECDSA key pairs.
+
+ghost use Rattle.std.specs.Prelude.{◌≡◌, ◌+◌, ◌*◌, ◌^◌, List, ℕ};
+ghost use Rattle.sshkey_model.specs.Grammar.{value_at};
+ghost use Rattle.sshkey_model.specs.KeyPairs.{KeyPair, is_high, zero_if, scalar, scalar_at, pair, Plain};
+ghost use Rattle.sshkey_model.specs.Parts.{bytes};
+ghost use Rattle.sshkey_base.specs.Names.{curve_of};
+ghost use Rattle.sshkey_base.specs.Needs.{NoNeed};
+ghost use Rattle.sshkey_pairs.specs.PairReaders.{SpellsScalar, scalar_grammar, SpellsEcdsaPair, ecdsa_steps_at, ecdsa_grammar};
+ghost use Rattle.sshkey_pairs.specs.Pairs.{ecdsa_pair_of};
+ghost use Rattle.sshkey_pairs.specs.PrivateHalves.{ecdsa_private_of};
+
+use crate::fixed_width::decode_fixed;
+use sshkey_base::{
+    Algorithm, Decode, EcdsaCurve, Encode, Error, Reader, Result, Writer, encode_both, encoding,
+};
+use sshkey_kinds::{
+    EcdsaNistP256PublicKey, EcdsaNistP384PublicKey, EcdsaNistP521PublicKey, EcdsaPublicKey,
+};
+use std::alloc::Global;
+
+/// The private scalar of an ECDSA key, as wide as the field: 32, 48 or 66 bytes, most significant
+/// first. Nobody asks whether it is below the order of the curve, or zero.
+#[derive(Clone, Drop, PartialEq, Eq)]
+pub struct EcdsaPrivateKey<const SIZE: usize> {
+    bytes: [u8; SIZE],
+}
+
+impl<const SIZE: usize> EcdsaPrivateKey<SIZE> {
+    /// The bytes of the scalar.
+    pub fn as_slice(&self) -> &[u8]
+        ensures { result.now ≡ ecdsa_private_of self.now }
+    {
+        &self.bytes
+    }
+
+    /// The bytes of the scalar.
+    pub fn into_bytes(self) -> [u8; SIZE]
+        ensures { result ≡ ecdsa_private_of self.entry }
+    {
+        self.bytes
+    }
+}
+
+/// A string of `SIZE` bytes, or of 00 and so many, or of fewer that are the scalar's shortest
+/// mpint.
+///
+/// `Length` where the string passes what is left; `FormatEncoding` for one more byte that does not
+/// begin with 00, and for fewer that are no such mpint; `TrailingData` for two more. Takes no memory.
+#[tactic(auto, using(sshkey_base::proofs::Steps::steps))]
+impl<const SIZE: usize> Decode for EcdsaPrivateKey<SIZE> {
+    type Error = Error;
+
+    ghost Meaning = { List ℕ };
+
+    ghost means = { ecdsa_private_of };
+
+    ghost parse = { value_at (scalar_at SIZE) };
+
+    ghost Spells = { SpellsScalar SIZE };
+
+    ghost needs = { NoNeed };
+
+    ghost grammar = { scalar_grammar SIZE };
+
+    fn decode<R: Reader>(_alloc: Global, reader: &mut R) -> Result<EcdsaPrivateKey<SIZE>> {
+        let bytes = decode_fixed::<SIZE, R>(reader)?;
+        Ok(EcdsaPrivateKey { bytes })
+    }
+}
+
+/// A string of the bytes, with 00 before them exactly if the first bit is set.
+impl<const SIZE: usize> Encode for EcdsaPrivateKey<SIZE> {
+    ghost normal = { λ k. scalar (ecdsa_private_of k) Plain };
+
+    ghost max_len = { 2 ^ 32 + 4 };
+
+    fn encoded_len(&self) -> encoding::Result<usize> {
+        Scalar { bytes: &self.bytes }.encoded_len_prefixed()
+    }
+
+    fn encode<W: Writer>(&self, writer: &mut W) -> encoding::Result<()> {
+        Scalar { bytes: &self.bytes }.encode_prefixed(writer)
+    }
+}
+
+/// What the string of a scalar holds.
+#[derive(Clone, Copy)]
+struct Scalar<'a> {
+    bytes: &'a [u8],
+}
+
+/// The bytes, with 00 before them exactly if the first bit is set.
+#[tactic(auto, using(sshkey_base::proofs::Writing::measuring_leaves))]
+impl Encode for Scalar<'_> {
+    ghost normal = { λ s. bytes (zero_if (is_high s.bytes.now) s.bytes.now) };
+
+    ghost max_len = { 2 ^ 63 };
+
+    fn encoded_len(&self) -> encoding::Result<usize> {
+        let sign = if is_high(self.bytes) { 1 } else { 0 };
+        Ok(sign + self.bytes.len())
+    }
+
+    fn encode<W: Writer>(&self, writer: &mut W) -> encoding::Result<()> {
+        if is_high(self.bytes) {
+            writer.write(&[0])?;
+        }
+        writer.write(self.bytes)
+    }
+}
+
+/// Whether the first bit is set.
+fn is_high(bytes: &[u8]) -> bool
+    ensures { result ≡ is_high bytes.now }
+{
+    match bytes {
+        [] => false,
+        [first, ..] => *first >= 0x80,
+    }
+}
+
+/// An ECDSA key pair: a point of one of the NIST curves, and a scalar (the SSH agent protocol,
+/// draft-miller-ssh-agent-04, section 4.2.2).
+#[derive(Clone, Drop, PartialEq, Eq)]
+pub enum EcdsaKeypair {
+    /// On P-256.
+    NistP256 {
+        /// The public key.
+        public: EcdsaNistP256PublicKey,
+        /// The private scalar.
+        private: EcdsaPrivateKey<32>,
+    },
+    /// On P-384.
+    NistP384 {
+        /// The public key.
+        public: EcdsaNistP384PublicKey,
+        /// The private scalar.
+        private: EcdsaPrivateKey<48>,
+    },
+    /// On P-521.
+    NistP521 {
+        /// The public key.
+        public: EcdsaNistP521PublicKey,
+        /// The private scalar.
+        private: EcdsaPrivateKey<66>,
+    },
+}
+
+impl EcdsaKeypair {
+    ghost use Rattle.sshkey_base.specs.Names.{algorithm_of};
+    ghost use Rattle.sshkey_model.specs.KeyPairs.{pair_algorithm, public_half, private_bytes};
+    ghost use Rattle.sshkey_kinds.specs.EcdsaPublicKey.{ecdsa_key_of};
+    ghost use Rattle.sshkey_pairs.specs.Pairs.{ecdsa_curve_of};
+
+    /// The curve of the pair.
+    pub fn curve(&self) -> EcdsaCurve
+        ensures { curve_of result ≡ ecdsa_curve_of self.now }
+    {
+        match self {
+            EcdsaKeypair::NistP256 { .. } => EcdsaCurve::NistP256,
+            EcdsaKeypair::NistP384 { .. } => EcdsaCurve::NistP384,
+            EcdsaKeypair::NistP521 { .. } => EcdsaCurve::NistP521,
+        }
+    }
+
+    /// The algorithm of the pair: ECDSA on its curve.
+    pub fn algorithm(&self) -> Algorithm
+        ensures { algorithm_of result ≡ pair_algorithm (ecdsa_pair_of self.now) }
+    {
+        self.public_key().algorithm()
+    }
+
+    /// The public key.
+    pub fn public_key(&self) -> EcdsaPublicKey
+        ensures { ecdsa_key_of result ≡ public_half (ecdsa_pair_of self.now) }
+    {
+        match self {
+            EcdsaKeypair::NistP256 { public, .. } => EcdsaPublicKey::NistP256(*public),
+            EcdsaKeypair::NistP384 { public, .. } => EcdsaPublicKey::NistP384(*public),
+            EcdsaKeypair::NistP521 { public, .. } => EcdsaPublicKey::NistP521(*public),
+        }
+    }
+
+    /// The scalar, as wide as the field.
+    pub fn private_key_bytes(&self) -> &[u8]
+        ensures { result.now ≡ private_bytes (ecdsa_pair_of self.now) }
+    {
+        match self {
+            EcdsaKeypair::NistP256 { private, .. } => &private.bytes,
+            EcdsaKeypair::NistP384 { private, .. } => &private.bytes,
+            EcdsaKeypair::NistP521 { private, .. } => &private.bytes,
+        }
+    }
+}
+
+/// The public key, and the scalar.
+#[tactic(auto, using(sshkey_base::proofs::Steps::steps), unfolding(crate::specs::PairReaders::ecdsa_steps_at))]
+impl Decode for EcdsaKeypair {
+    ghost use Rattle.sshkey_kinds.specs.BodyNeeds.{NeedsEcdsa};
+
+    type Error = Error;
+
+    ghost Meaning = { KeyPair };
+
+    ghost means = { ecdsa_pair_of };
+
+    ghost parse = { ecdsa_steps_at };
+
+    ghost Spells = { SpellsEcdsaPair };
+
+    ghost needs = { NeedsEcdsa };
+
+    ghost grammar = { ecdsa_grammar };
+
+    fn decode<R: Reader>(alloc: Global, reader: &mut R) -> Result<EcdsaKeypair> {
+        match EcdsaPublicKey::decode(alloc, reader)? {
+            EcdsaPublicKey::NistP256(public) => {
+                let private = EcdsaPrivateKey::<32>::decode(alloc, reader)?;
+                Ok(EcdsaKeypair::NistP256 { public, private })
+            }
+            EcdsaPublicKey::NistP384(public) => {
+                let private = EcdsaPrivateKey::<48>::decode(alloc, reader)?;
+                Ok(EcdsaKeypair::NistP384 { public, private })
+            }
+            EcdsaPublicKey::NistP521(public) => {
+                let private = EcdsaPrivateKey::<66>::decode(alloc, reader)?;
+                Ok(EcdsaKeypair::NistP521 { public, private })
+            }
+        }
+    }
+}
+
+/// The name of the curve, the point string and the scalar.
+#[tactic(auto, using(sshkey_base::proofs::Writing::writing, sshkey_base::proofs::Writing::measuring))]
+impl Encode for EcdsaKeypair {
+    ghost normal = { λ k. pair (ecdsa_pair_of k) Plain };
+
+    ghost max_len = { 3 * (2 ^ 32 + 4) };
+
+    fn encoded_len(&self) -> encoding::Result<usize> {
+        let public = self.public_key().encoded_len()?;
+        Ok(match self {
+            EcdsaKeypair::NistP256 { private, .. } => public + private.encoded_len()?,
+            EcdsaKeypair::NistP384 { private, .. } => public + private.encoded_len()?,
+            EcdsaKeypair::NistP521 { private, .. } => public + private.encoded_len()?,
+        })
+    }
+
+    fn encode<W: Writer>(&self, writer: &mut W) -> encoding::Result<()> {
+        match self {
+            EcdsaKeypair::NistP256 { public, private } => {
+                encode_both(&EcdsaPublicKey::NistP256(*public), private, writer)
+            }
+            EcdsaKeypair::NistP384 { public, private } => {
+                encode_both(&EcdsaPublicKey::NistP384(*public), private, writer)
+            }
+            EcdsaKeypair::NistP521 { public, private } => {
+                encode_both(&EcdsaPublicKey::NistP521(*public), private, writer)
+            }
+        }
+    }
+}

@@ -1,0 +1,125 @@
+//! Ed25519 key pairs.
+
+ghost use Rattle.std.specs.Prelude.{◌≡◌, ◌+◌, ◌*◌, ◌^◌, ◌++◌, List, ℕ, take, drop};
+ghost use Rattle.sshkey_base.specs.Needs.{NoNeed};
+ghost use Rattle.sshkey_model.specs.Grammar.{value_at};
+ghost use Rattle.sshkey_model.specs.KeyPairs.{KeyPair, Ed25519Pair, pair, Plain};
+ghost use Rattle.sshkey_model.specs.Names.{Ed25519};
+ghost use Rattle.sshkey_pairs.specs.PairReaders.{SpellsPair, ed25519_pair_at, pair_grammar};
+ghost use Rattle.sshkey_pairs.specs.Pairs.{ed25519_pair_of};
+ghost use Rattle.sshkey_pairs.specs.PrivateHalves.{ed25519_private_of};
+
+use sshkey_base::{Decode, Encode, Error, Reader, Result, Writer, encoding};
+use sshkey_kinds::Ed25519PublicKey;
+use std::alloc::Global;
+
+/// The private bytes of an Ed25519 key, 32 (RFC 8032, section 5.1.5).
+#[derive(Clone, Drop, PartialEq, Eq)]
+pub struct Ed25519PrivateKey {
+    bytes: [u8; 32],
+}
+
+impl Ed25519PrivateKey {
+    /// How many bytes a private key has.
+    pub const BYTE_SIZE: usize = 32;
+
+    /// The key of these bytes.
+    pub fn from_bytes(bytes: &[u8; 32]) -> Ed25519PrivateKey
+        ensures { ed25519_private_of result ≡ bytes.now }
+    {
+        Ed25519PrivateKey { bytes: *bytes }
+    }
+
+    /// The bytes.
+    pub fn to_bytes(&self) -> [u8; 32]
+        ensures { result ≡ ed25519_private_of self.now }
+    {
+        self.bytes
+    }
+}
+
+/// An Ed25519 key pair (the SSH agent protocol, draft-miller-ssh-agent-04, section 4.2.3).
+#[derive(Clone, Drop, PartialEq, Eq)]
+pub struct Ed25519Keypair {
+    /// The public key.
+    pub public: Ed25519PublicKey,
+    /// The private bytes.
+    pub private: Ed25519PrivateKey,
+}
+
+impl Ed25519Keypair {
+    /// How many bytes a pair has.
+    pub const BYTE_SIZE: usize = 64;
+
+    /// The pair of 32 private bytes and the public ones behind them. Nobody asks whether the public
+    /// key is that of the private one.
+    pub fn from_bytes(bytes: &[u8; 64]) -> Ed25519Keypair
+        ensures { ed25519_pair_of result ≡ Ed25519Pair (drop 32 bytes.now) (take 32 bytes.now) }
+    {
+        let mut private = [0u8; 32];
+        let mut public = [0u8; 32];
+        private.copy_from_slice(&bytes[..32]);
+        public.copy_from_slice(&bytes[32..]);
+        Ed25519Keypair {
+            public: Ed25519PublicKey(public),
+            private: Ed25519PrivateKey { bytes: private },
+        }
+    }
+
+    /// The private bytes, and the public ones behind them.
+    pub fn to_bytes(&self) -> [u8; 64]
+        ensures { result ≡ ed25519_private_of self.now.private ++ self.now.public.0 }
+    {
+        let mut bytes = [0u8; 64];
+        bytes[..32].copy_from_slice(&self.private.bytes);
+        bytes[32..].copy_from_slice(&self.public.0);
+        bytes
+    }
+}
+
+/// A string of the 32 public bytes, and one of the private bytes and again the public ones.
+///
+/// `Length` for a string that is too short, `TrailingData` for one that is too long, and `Crypto`
+/// where the public bytes differ. Takes no memory.
+#[tactic(auto, using(sshkey_base::proofs::Steps::steps), unfolding(crate::specs::PairReaders::ed25519_pair_at, crate::specs::PairReaders::ed25519_at))]
+impl Decode for Ed25519Keypair {
+    type Error = Error;
+
+    ghost Meaning = { KeyPair };
+
+    ghost means = { ed25519_pair_of };
+
+    ghost parse = { value_at ed25519_pair_at };
+
+    ghost Spells = { SpellsPair Ed25519 };
+
+    ghost needs = { NoNeed };
+
+    ghost grammar = { pair_grammar Ed25519 };
+
+    fn decode<R: Reader>(alloc: Global, reader: &mut R) -> Result<Ed25519Keypair> {
+        let public = <[u8; 32]>::decode(alloc, reader)?;
+        let bytes = <[u8; 64]>::decode(alloc, reader)?;
+        if bytes[32..] != public[..] {
+            return Err(Error::Crypto);
+        }
+        Ok(Ed25519Keypair::from_bytes(&bytes))
+    }
+}
+
+/// A string of the 32 public bytes, and one of the private bytes and again the public ones.
+#[tactic(auto, using(sshkey_base::proofs::Writing::writing, sshkey_base::proofs::Writing::measuring))]
+impl Encode for Ed25519Keypair {
+    ghost normal = { λ k. pair (ed25519_pair_of k) Plain };
+
+    ghost max_len = { 2 * (2 ^ 32 + 4) };
+
+    fn encoded_len(&self) -> encoding::Result<usize> {
+        Ok(self.public.0.encoded_len()? + self.to_bytes().encoded_len()?)
+    }
+
+    fn encode<W: Writer>(&self, writer: &mut W) -> encoding::Result<()> {
+        self.public.0.encode(writer)?;
+        self.to_bytes().encode(writer)
+    }
+}

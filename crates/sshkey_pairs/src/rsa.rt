@@ -1,0 +1,149 @@
+//! RSA key pairs.
+
+ghost use Rattle.std.specs.Prelude.{◌+◌, ◌*◌, ◌^◌, List, ℕ, None};
+ghost use Rattle.sshkey_model.specs.Grammar.{value_at};
+ghost use Rattle.sshkey_model.specs.KeyPairs.{KeyPair, RsaPrivate, rsa_private, pair, Plain};
+ghost use Rattle.sshkey_model.specs.Names.{Rsa};
+ghost use Rattle.sshkey_pairs.specs.PairReaders.{SpellsPair, SpellsRsaPrivate, rsa_pair_at, rsa_private_at, rsa_private_grammar, pair_grammar};
+
+use sshkey_base::{Decode, Encode, Error, Mpint, Reader, Result, Writer, encoding};
+use sshkey_kinds::RsaPublicKey;
+use std::alloc::Global;
+
+/// The private numbers of an RSA key.
+#[derive(Drop, PartialEq, Eq)]
+pub struct RsaPrivateKey {
+    /// The private exponent.
+    pub d: Mpint,
+    /// The inverse of q modulo p.
+    pub iqmp: Mpint,
+    /// A prime factor of the modulus.
+    pub p: Mpint,
+    /// The other prime factor.
+    pub q: Mpint,
+}
+
+/// The numbers d, iqmp, p and q, each as a string.
+///
+/// `Length` where a string passes what is left, and `FormatEncoding` where its bytes are those of
+/// no number.
+#[tactic(auto, using(sshkey_base::proofs::Steps::steps), unfolding(crate::specs::PairReaders::rsa_private_at))]
+impl Decode for RsaPrivateKey {
+    ghost use Rattle.sshkey_pairs.specs.PairNeeds.{NeedsRsaPrivate};
+    ghost use Rattle.sshkey_pairs.specs.PrivateHalves.{rsa_private_of};
+
+    type Error = Error;
+
+    ghost Meaning = { RsaPrivate };
+
+    ghost means = { rsa_private_of };
+
+    ghost parse = { rsa_private_at };
+
+    ghost Spells = { SpellsRsaPrivate };
+
+    ghost needs = { NeedsRsaPrivate };
+
+    ghost grammar = { rsa_private_grammar };
+
+    fn decode<R: Reader>(alloc: Global, reader: &mut R) -> Result<RsaPrivateKey> {
+        let d = Mpint::decode(alloc, reader)?;
+        let iqmp = Mpint::decode(alloc, reader)?;
+        let p = Mpint::decode(alloc, reader)?;
+        let q = Mpint::decode(alloc, reader)?;
+        Ok(RsaPrivateKey { d, iqmp, p, q })
+    }
+}
+
+/// The numbers d, iqmp, p and q, each as a string.
+#[tactic(auto, using(sshkey_base::proofs::Writing::writing, sshkey_base::proofs::Writing::measuring))]
+impl Encode for RsaPrivateKey {
+    ghost use Rattle.sshkey_pairs.specs.PrivateHalves.{rsa_private_of};
+
+    ghost normal = { λ r. rsa_private (rsa_private_of r) };
+
+    ghost max_len = { 4 * (2 ^ 32 + 4) };
+
+    fn encoded_len(&self) -> encoding::Result<usize> {
+        Ok(
+            self.d.encoded_len()?
+                + self.iqmp.encoded_len()?
+                + self.p.encoded_len()?
+                + self.q.encoded_len()?,
+        )
+    }
+
+    fn encode<W: Writer>(&self, writer: &mut W) -> encoding::Result<()> {
+        self.d.encode(writer)?;
+        self.iqmp.encode(writer)?;
+        self.p.encode(writer)?;
+        self.q.encode(writer)
+    }
+}
+
+/// An RSA key pair (OpenSSH, PROTOCOL.key).
+#[derive(Drop, PartialEq, Eq)]
+pub struct RsaKeypair {
+    /// The public key.
+    pub public: RsaPublicKey,
+    /// The private numbers.
+    pub private: RsaPrivateKey,
+}
+
+/// The numbers n and e, and the private ones, each as a string.
+///
+/// `Length` where a string passes what is left, and `FormatEncoding` where its bytes are those of
+/// no number.
+#[tactic(auto, using(sshkey_base::proofs::Steps::steps), unfolding(crate::specs::PairReaders::rsa_pair_at))]
+impl Decode for RsaKeypair {
+    ghost use Rattle.sshkey_pairs.specs.PairNeeds.{NeedsRsaPair};
+    ghost use Rattle.sshkey_pairs.specs.Pairs.{rsa_pair_of};
+
+    type Error = Error;
+
+    ghost Meaning = { KeyPair };
+
+    ghost means = { rsa_pair_of };
+
+    ghost parse = { value_at rsa_pair_at };
+
+    ghost Spells = { SpellsPair (Rsa None) };
+
+    ghost needs = { NeedsRsaPair };
+
+    ghost grammar = { pair_grammar (Rsa None) };
+
+    fn decode<R: Reader>(alloc: Global, reader: &mut R) -> Result<RsaKeypair> {
+        let n = Mpint::decode(alloc, reader)?;
+        let e = Mpint::decode(alloc, reader)?;
+        let private = RsaPrivateKey::decode(alloc, reader)?;
+        Ok(RsaKeypair {
+            public: RsaPublicKey { e, n },
+            private,
+        })
+    }
+}
+
+/// The numbers n and e, and the private ones, each as a string.
+#[tactic(auto, using(sshkey_base::proofs::Writing::writing, sshkey_base::proofs::Writing::measuring))]
+impl Encode for RsaKeypair {
+    ghost use Rattle.sshkey_pairs.specs.Pairs.{rsa_pair_of};
+
+    ghost normal = { λ k. pair (rsa_pair_of k) Plain };
+
+    ghost max_len = { 6 * (2 ^ 32 + 4) };
+
+    fn encoded_len(&self) -> encoding::Result<usize> {
+        Ok(
+            self.public.n.encoded_len()?
+                + self.public.e.encoded_len()?
+                + self.private.encoded_len()?,
+        )
+    }
+
+    fn encode<W: Writer>(&self, writer: &mut W) -> encoding::Result<()> {
+        self.public.n.encode(writer)?;
+        self.public.e.encode(writer)?;
+        self.private.encode(writer)
+    }
+}

@@ -1,0 +1,103 @@
+//! P-256 pairs of security keys.
+
+ghost use Rattle.std.specs.Prelude.{◌≡◌, ◌≤◌, ◌+◌, ◌*◌, ◌^◌, [], length, IfOk, IsOk, ◌↔◌, IfErr};
+ghost use Rattle.sshkey_base.specs.declared.error.Error.TheVariants as wide;
+ghost use Rattle.sshkey_base.specs.declared.encoding.Error.TheVariants as encoding;
+ghost use Rattle.sshkey_model.specs.KeyPairs.{KeyPair, pair, Plain};
+ghost use Rattle.sshkey_model.specs.Names.{SkEcdsa};
+ghost use Rattle.sshkey_pairs.specs.PairReaders.{SpellsPair, sk_ecdsa_steps_at, sk_ecdsa_grammar};
+ghost use Rattle.sshkey_pairs.specs.Pairs.{sk_ecdsa_pair_of, sk_ecdsa_public, sk_ecdsa_held};
+
+use crate::held::Held;
+use sshkey_base::{Decode, Encode, Error, Reader, Result, Writer, encode_both, encoding};
+use sshkey_kinds::SkEcdsaSha2NistP256 as PublicSkEcdsa;
+use std::alloc::Global;
+
+/// A P-256 key that a security key holds, and what is kept of it (OpenSSH, PROTOCOL.u2f).
+#[derive(Drop, PartialEq, Eq)]
+pub struct SkEcdsaSha2NistP256 {
+    public: PublicSkEcdsa,
+    held: Held,
+}
+
+impl SkEcdsaSha2NistP256 {
+    /// The pair of that key, with no reserved bytes. `Length` for a key handle of more than 255
+    /// bytes. Takes no memory but that of the vector handed in.
+    pub fn new(
+        alloc: Global,
+        public: PublicSkEcdsa,
+        flags: u8,
+        key_handle: Vec<u8>,
+    ) -> Result<SkEcdsaSha2NistP256>
+        ensures exactly { IsOk result ↔ (length key_handle.items ≤ 255) }
+        ensures public { IfOk result (λ k. sk_ecdsa_public k ≡ public) }
+        ensures held { IfOk result (λ k. sk_ecdsa_held k ≡ record { flags = flags; handle = key_handle.items; reserved = [] }) }
+        ensures refused { IfErr result (λ e. e ≡ wide.Encoding encoding.Length) }
+    {
+        let held = Held::new(alloc, flags, key_handle)?;
+        Ok(SkEcdsaSha2NistP256 { public, held })
+    }
+
+    /// The public key.
+    pub fn public(&self) -> &PublicSkEcdsa
+        ensures { result.now ≡ sk_ecdsa_public self.now }
+    {
+        &self.public
+    }
+
+    /// The flags.
+    pub fn flags(&self) -> u8
+        ensures { result ≡ (sk_ecdsa_held self.now).flags }
+    {
+        self.held.flags
+    }
+
+    /// The key handle.
+    pub fn key_handle(&self) -> &[u8]
+        ensures { result.now ≡ (sk_ecdsa_held self.now).handle }
+    {
+        self.held.key_handle.as_slice()
+    }
+}
+
+/// The public key, and what is kept of it.
+#[tactic(auto, using(sshkey_base::proofs::Steps::steps), unfolding(crate::specs::PairReaders::sk_ecdsa_steps_at))]
+impl Decode for SkEcdsaSha2NistP256 {
+    ghost use Rattle.sshkey_pairs.specs.PairNeeds.{NeedsSkEcdsaPair};
+
+    type Error = Error;
+
+    ghost Meaning = { KeyPair };
+
+    ghost means = { sk_ecdsa_pair_of };
+
+    ghost parse = { sk_ecdsa_steps_at };
+
+    ghost Spells = { SpellsPair SkEcdsa };
+
+    ghost needs = { NeedsSkEcdsaPair };
+
+    ghost grammar = { sk_ecdsa_grammar };
+
+    fn decode<R: Reader>(alloc: Global, reader: &mut R) -> Result<SkEcdsaSha2NistP256> {
+        let public = PublicSkEcdsa::decode(alloc, reader)?;
+        let held = Held::decode(alloc, reader)?;
+        Ok(SkEcdsaSha2NistP256 { public, held })
+    }
+}
+
+/// The public key, and what is kept of it.
+#[tactic(auto, using(sshkey_base::proofs::Writing::measuring))]
+impl Encode for SkEcdsaSha2NistP256 {
+    ghost normal = { λ k. pair (sk_ecdsa_pair_of k) Plain };
+
+    ghost max_len = { 6 * (2 ^ 32 + 4) };
+
+    fn encoded_len(&self) -> encoding::Result<usize> {
+        Ok(self.public.encoded_len()? + self.held.encoded_len()?)
+    }
+
+    fn encode<W: Writer>(&self, writer: &mut W) -> encoding::Result<()> {
+        encode_both(&self.public, &self.held, writer)
+    }
+}

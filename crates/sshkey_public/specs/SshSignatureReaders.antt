@@ -1,0 +1,78 @@
+-- The plain reader of SSH signatures, without the choice in the name of their key.
+use Rattle.std.proofs.Common.{◌≡◌, ℕ, List, [], ◌∷◌, length, Result, Ok, Err, refl, nat_lt, if◌then◌else◌}
+use Rattle.sshkey_model.specs.Parts.{flat, Fits}
+use Rattle.sshkey_model.specs.Grammar.{IsGrammar, SpellsWith}
+use Rattle.sshkey_model.specs.Reading.{Fault, Version, Namespace, ◌>>=◌, Front, end_of, whole, box_at, string_at}
+use Rattle.sshkey_model.specs.Names.{algorithm_at}
+use Rattle.sshkey_model.specs.Keys.{Key, Head, Plain, key_at}
+use Rattle.sshkey_model.specs.Signatures.{signature_at}
+use Rattle.sshkey_model.specs.SshSignatures.{SshSignature, IsSshSignature, HasSshSignaturePlaces, ssh_signature, normal_ssh_signature, signature_magic, ssh_signature_at}
+use Rattle.sshkey_model.proofs.CombinedReaders.{bind_assoc}
+use Rattle.sshkey_model.proofs.Grammars.{grammar_with, same_grammar}
+use Rattle.sshkey_model.proofs.SshSignatureReaders.{ssh_signature_reads}
+use Rattle.sshkey_base.proofs.MappedBoxes.{made, on_value, box_map}
+use Rattle.sshkey_keys.specs.Keys.{key_data_at}
+-- under names that an attribute of this crate can unfold
+unfoldable pub use Rattle.sshkey_model.specs.Reading.{literal_at}
+unfoldable pub use Rattle.sshkey_model.specs.Names.{hash_at}
+unfoldable pub use Rattle.sshkey_model.specs.SshSignatures.{version_at, namespace_at}
+unfoldable pub use Rattle.sshkey_base.specs.Labels.{label_at}
+
+-- a version that is read
+abbrev pub version_from : ℕ → Result ℕ Fault
+version_from n = if nat_lt n 2 then Ok n else Err (Version n)
+
+-- a namespace that is not empty
+abbrev pub namespace_from : List ℕ → Result (List ℕ) Fault
+namespace_from t = if nat_lt 0 (length t) then Ok t else Err Namespace
+
+unfoldable pub ssh_signature_value_at : Front SshSignature
+ssh_signature_value_at b = do
+  start ← literal_at signature_magic b
+  version ← version_at start.1
+  key ← box_at (whole key_data_at) version.1
+  namespace ← namespace_at key.1
+  reserved ← string_at namespace.1
+  hash ← hash_at reserved.1
+  signature ← box_at (whole signature_at) hash.1
+  Ok (record { version = version.0; key = key.0; namespace = namespace.0; reserved = reserved.0; hash = hash.0; signature = signature.0 }, signature.1)
+
+-- the bytes spell the SSH signature
+abbrev pub SpellsSshSignature : SshSignature → List ℕ → Type 0
+SpellsSshSignature = SpellsWith IsSshSignature HasSshSignaturePlaces ssh_signature
+
+-- ---- a key in a box
+
+abbrev Pair : Type 0
+Pair = Key × Head
+
+abbrev plain : Pair → Key
+plain x = x.0
+
+key_is : (b : List ℕ) → key_data_at b ≡ (key_at b >>= on_value plain)
+unfolding key_data_at key_at algorithm_at label_at
+key_is b = simp bind_assoc
+
+key_end : (r : Result (Pair × List ℕ) Fault) → ((r >>= on_value plain) >>= λ x. end_of x.0 x.1) ≡ ((r >>= λ x. end_of x.0 x.1) >>= made plain)
+key_end (Ok (x, [])) = refl
+key_end (Ok (x, (b ∷ rest))) = refl
+key_end (Err e) = refl
+
+key_whole : (b : List ℕ) → whole key_data_at b ≡ (whole key_at b >>= made plain)
+key_whole b = rw (key_is b) (key_end (key_at b))
+
+key_box : (b : List ℕ) → box_at (whole key_data_at) b ≡ (box_at (whole key_at) b >>= on_value plain)
+key_box b = box_map (whole key_at) (whole key_data_at) plain key_whole b
+
+-- ---- the grammar
+
+value_is : (b : List ℕ) → (ssh_signature_at b >>= on_value {A = SshSignature × Head} (λ x. x.0)) ≡ ssh_signature_value_at b
+unfolding ssh_signature_value_at ssh_signature_at
+value_is b = simp (bind_assoc, key_box)
+
+pub ssh_signature_grammar : IsGrammar SpellsSshSignature ssh_signature_value_at
+ssh_signature_grammar = same_grammar (grammar_with ssh_signature_reads) value_is
+
+-- what is written of an SSH signature is one of its spellings
+pub ssh_signature_normal : (f : SshSignature) → IsSshSignature f → Fits (normal_ssh_signature f) → SpellsSshSignature f (flat (normal_ssh_signature f))
+ssh_signature_normal f is fits = record { is = is; choices = Plain; place = tt; fits = fits; shape = refl }

@@ -1,0 +1,39 @@
+//! Public keys in files.
+
+ghost use Rattle.std.specs.Prelude.{IfOk};
+ghost use Rattle.sshkey_model.specs.Keys.{normal_key};
+ghost use Rattle.sshkey_public.specs.PublicKeys.{public_of, IsOfSomeLine, WritesFile};
+
+use super::PublicKey;
+use sshkey_base::Result;
+use std::alloc::Global;
+use std::fs::{self, File, Files};
+use std::io;
+
+impl PublicKey {
+    /// Reads the line that a file holds.
+    ///
+    /// `Io` with the machine's fault where the file could not be read, `Io(InvalidData)` where it
+    /// is not UTF-8, and else the refusals of `from_openssh`.
+    pub fn read_openssh_file<R: Files>(rt: &R, alloc: Global, path: &str) -> Result<PublicKey>
+        ensures { IfOk result IsOfSomeLine }
+    {
+        let file = File::open(rt, path)?;
+        let text = io::read_to_string(alloc, file)?;
+        PublicKey::from_openssh(alloc, text.as_str())
+    }
+
+    /// Writes the line of the key's normal form and a line end into a file, which is created, or
+    /// emptied first.
+    ///
+    /// The refusals of `to_openssh`, which come before the file is touched, and `Io` with the
+    /// machine's fault where it could not be written.
+    pub fn write_openssh_file<R: Files>(&self, rt: &R, alloc: Global, path: &str) -> Result<()>
+        ensures { WritesFile (normal_key (public_of self.now)) result }
+    {
+        let mut text = self.to_openssh(alloc)?;
+        text.push('\n')?;
+        fs::write(rt, path, text.as_str())?;
+        Ok(())
+    }
+}

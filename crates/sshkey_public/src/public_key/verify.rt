@@ -1,0 +1,82 @@
+//! Verifying SSH signatures of messages.
+
+ghost use Rattle.std.specs.Prelude.{◌≡◌, ◌≢◌, ◌↔◌, true, false, Err, OnOk, IsTrue};
+ghost use Rattle.sshkey_base.specs.declared.error.Error.TheVariants as wide;
+ghost use Rattle.sshkey_keys.specs.Keys.{key_of};
+ghost use Rattle.sshkey_model.specs.SignedMessages.{IsVerified};
+ghost use Rattle.sshkey_public.specs.PublicKeys.{data_of, public_of};
+ghost use Rattle.sshkey_public.specs.Signing.{signed_parts, JudgesSigned};
+ghost use Rattle.sshkey_public.specs.SshSignatures.{ssh_signature_of, signer_of};
+
+use super::PublicKey;
+use crate::sshsig::{SshSig, signed_bytes};
+use sshkey_base::{Error, Result};
+use sshkey_keys::laws::compared_keys;
+use sshkey_keys::{KeyData, RawVerifier};
+use std::alloc::Global;
+
+impl PublicKey {
+    /// Asks the verifier about an SSH signature of the message, which has to be by this key and in
+    /// that namespace.
+    ///
+    /// `PublicKey` exactly where the signature is by another key. Else `Namespace` exactly where it
+    /// is in another namespace. Else the answer is that of `KeyData::verify` over what is signed in
+    /// place of the message, by the signature's own namespace, reserved bytes and hash; `Length`
+    /// where one of these is longer than 2^32 - 1 bytes.
+    pub fn verify<V: RawVerifier>(
+        &self,
+        alloc: Global,
+        namespace: &str,
+        message: &[u8],
+        signature: &SshSig,
+        verifier: &V,
+    ) -> Result<()>
+        ensures other_key { ⟦<KeyData as PartialEq>⟧.eq (data_of self.now) (signer_of signature.now) ≡ false → result ≡ Err wide.PublicKey }
+        ensures other_namespace { ⟦<KeyData as PartialEq>⟧.eq (data_of self.now) (signer_of signature.now) ≡ true → (ssh_signature_of signature.now).namespace ≢ namespace.now → result ≡ Err wide.Namespace }
+        ensures judged { ⟦<KeyData as PartialEq>⟧.eq (data_of self.now) (signer_of signature.now) ≡ true → (ssh_signature_of signature.now).namespace ≡ namespace.now → JudgesSigned (V.accepts verifier.now) signature.now (signed_parts signature.now message.now) result }
+        ensures verified { OnOk result (IsVerified (V.accepts verifier.now) (public_of self.now) namespace.now message.now (ssh_signature_of signature.now)) }
+    {
+        if !is_same_key(&self.key_data, signature.public_key()) {
+            return Err(Error::PublicKey);
+        }
+        if !is_same_text(namespace, signature.namespace()) {
+            return Err(Error::Namespace);
+        }
+        judge(alloc, message, signature, verifier)
+    }
+}
+
+/// What the verifier says of the signature in it.
+fn judge<V: RawVerifier>(
+    alloc: Global,
+    message: &[u8],
+    signature: &SshSig,
+    verifier: &V,
+) -> Result<()>
+    ensures { JudgesSigned (V.accepts verifier.now) signature.now (signed_parts signature.now message.now) result }
+{
+    let signed = signed_bytes(
+        alloc,
+        signature.namespace(),
+        signature.reserved(),
+        signature.hash_alg(),
+        message,
+    )?;
+    let key = signature.public_key();
+    key.verify(alloc, &signed, signature.signature(), verifier)
+}
+
+/// Whether the keys are equal. Those that are mean the same.
+fn is_same_key(left: &KeyData, right: &KeyData) -> bool
+    ensures is { result ≡ ⟦<KeyData as PartialEq>⟧.eq left.now right.now }
+    ensures same { IsTrue result → key_of left.now ≡ key_of right.now }
+{
+    compared_keys();
+    left == right
+}
+
+fn is_same_text(left: &str, right: &str) -> bool
+    ensures { IsTrue result ↔ (left.now ≡ right.now) }
+{
+    left == right
+}

@@ -1,0 +1,3 @@
+pub mod UnsignedFields
+pub mod Names
+pub mod Copies

@@ -1,0 +1,16 @@
+use Rattle.std.proofs.Common.{◌∙◌, inr}
+use Rattle.std.proofs.lemmas.Result.{err_from_is_err_and}
+use Rattle.sshkey_base.proofs.Steps.{refused_first, refused_later}
+use Rattle.sshkey_unsigned.specs.UnsignedReaders.{limits_at}
+use Rattle.sshkey_unsigned.proofs.unsigned.read.limits_from.Goals as goal
+
+pub returns-in_err-extensions-clause-gives : goal.returns-in_err-extensions-clause-gives
+unfolding limits_at
+returns-in_err-extensions-clause-gives g c =
+    let p = err_from_is_err_and c.from_residual-in_err-extensions.result c.from_residual-in_err-extensions.ensures.1 in
+    rw (p.1, p.2) (refused_later _ _ _ _ _ _ _ c.in_ok-critical_options.ensures.gives (refused_first _ _ _ _ c.in_err-extensions.ensures.gives))
+
+pub returns-in_err-extensions-clause-asks : goal.returns-in_err-extensions-clause-asks
+returns-in_err-extensions-clause-asks g c =
+    let p = err_from_is_err_and c.from_residual-in_err-extensions.result c.from_residual-in_err-extensions.ensures.1 in
+    rw (p.1, p.2) (λ memory sound. inr (rw c.in_ok-critical_options.ensures.gives.value (c.in_err-extensions.ensures.asks memory (c.in_ok-critical_options.ensures.gives.missing ∙ sound))))

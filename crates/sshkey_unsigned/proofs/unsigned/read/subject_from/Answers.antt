@@ -1,0 +1,28 @@
+use Rattle.std.proofs.Common.{◌∙◌, inl, inr}
+use Rattle.std.proofs.lemmas.Result.{err_from_is_err_and}
+use Rattle.sshkey_base.specs.Causes.{same_cause}
+use Rattle.sshkey_base.proofs.Steps.{refused_first, refused_later}
+use Rattle.sshkey_unsigned.specs.UnsignedReaders.{subject_at}
+use Rattle.sshkey_unsigned.proofs.unsigned.read.subject_from.Goals as goal
+
+pub returns-in_err-key-clause-gives : goal.returns-in_err-key-clause-gives
+unfolding subject_at
+returns-in_err-key-clause-gives g c =
+    let p = err_from_is_err_and c.from_residual-in_err-key.result c.from_residual-in_err-key.ensures.1 in
+    rw (p.1, p.2) (refused_later _ _ _ _ _ _ _ c.in_ok-algorithm.ensures.gives (refused_later _ _ _ _ _ _ _ c.in_ok-nonce.ensures.gives (refused_first _ _ _ _ c.in_err-key.ensures.gives)))
+
+pub returns-in_err-nonce-clause-gives : goal.returns-in_err-nonce-clause-gives
+unfolding subject_at
+returns-in_err-nonce-clause-gives g c =
+    let p = err_from_is_err_and c.from_residual-in_err-nonce.result c.from_residual-in_err-nonce.ensures.1 in
+    rw (p.1, p.2, same_cause c.in_err-nonce.field-0.0) (refused_later _ _ _ _ _ _ _ c.in_ok-algorithm.ensures.gives (refused_first _ _ _ _ c.in_err-nonce.ensures.gives))
+
+pub returns-in_err-nonce-clause-asks : goal.returns-in_err-nonce-clause-asks
+returns-in_err-nonce-clause-asks g c =
+    let p = err_from_is_err_and c.from_residual-in_err-nonce.result c.from_residual-in_err-nonce.ensures.1 in
+    rw (p.1, p.2, same_cause c.in_err-nonce.field-0.0) (λ memory sound. inr (rw c.in_ok-algorithm.ensures.gives.value (inl (c.in_err-nonce.ensures.asks memory (c.in_ok-algorithm.ensures.gives.missing ∙ sound)))))
+
+pub returns-in_err-key-clause-asks : goal.returns-in_err-key-clause-asks
+returns-in_err-key-clause-asks g c =
+    let p = err_from_is_err_and c.from_residual-in_err-key.result c.from_residual-in_err-key.ensures.1 in
+    rw (p.1, p.2) (λ memory sound. inr (rw c.in_ok-algorithm.ensures.gives.value (inr (rw c.in_ok-nonce.ensures.gives.value (c.in_err-key.ensures.asks memory (c.in_ok-nonce.ensures.gives.missing ∙ (c.in_ok-algorithm.ensures.gives.missing ∙ sound)))))))

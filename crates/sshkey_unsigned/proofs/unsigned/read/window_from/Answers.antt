@@ -1,0 +1,16 @@
+use Rattle.std.proofs.Common.{◌∙◌}
+use Rattle.std.proofs.lemmas.Result.{err_from_is_err_and}
+use Rattle.sshkey_base.proofs.Steps.{refused_first, refused_later}
+use Rattle.sshkey_unsigned.specs.UnsignedReaders.{window_at}
+use Rattle.sshkey_unsigned.proofs.unsigned.read.window_from.Goals as goal
+
+pub returns-in_err-valid_before-clause-gives : goal.returns-in_err-valid_before-clause-gives
+unfolding window_at
+returns-in_err-valid_before-clause-gives g c =
+    let p = err_from_is_err_and c.from_residual-in_err-valid_before.result c.from_residual-in_err-valid_before.ensures.1 in
+    rw (p.1, p.2) (refused_later _ _ _ _ _ _ _ c.in_ok-valid_after.ensures.gives (refused_first _ _ _ _ c.in_err-valid_before.ensures.gives))
+
+pub returns-in_err-valid_before-clause-asks : goal.returns-in_err-valid_before-clause-asks
+returns-in_err-valid_before-clause-asks g c =
+    let p = err_from_is_err_and c.from_residual-in_err-valid_before.result c.from_residual-in_err-valid_before.ensures.1 in
+    rw (p.1, p.2) (λ memory sound. c.in_err-valid_before.ensures.asks memory (c.in_ok-valid_after.ensures.gives.missing ∙ sound))

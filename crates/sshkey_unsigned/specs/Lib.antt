@@ -1,0 +1,4 @@
+pub mod UnsignedReaders
+pub mod Needs
+pub mod UnsignedValues
+pub mod UnsignedParts

@@ -1,0 +1,31 @@
+-- Where reading what a certificate's signature is over needs memory.
+use Rattle.std.specs.Prelude.{ℕ, List}
+use Rattle.std.specs.Int.{w64}
+use Rattle.sshkey_model.specs.Reading.{number_at, string_at}
+use Rattle.sshkey_model.specs.Texts.{text_at}
+use Rattle.sshkey_model.specs.CertificateNames.{certificate_algorithm_at}
+use Rattle.sshkey_model.specs.Certificates.{type_at}
+use Rattle.sshkey_base.specs.Needs.{NoNeed, NeedsString, NeedsBoth, NeedsThen, NeedsBoxed}
+use Rattle.sshkey_keys.specs.Needs.{NeedsBody, NeedsKey}
+use Rattle.sshkey_options.specs.OptionReaders.{options_value_at}
+use Rattle.sshkey_unsigned.specs.UnsignedReaders.{subject_at, grant_at, window_at, limits_at}
+
+-- the name, the nonce, or the key's body
+abbrev pub NeedsSubject : List ℕ → Type 0
+NeedsSubject = NeedsThen NeedsString certificate_algorithm_at (λ a. NeedsBoth NeedsString string_at (NeedsBody a))
+
+-- the key id, or the principals
+abbrev pub NeedsGrant : List ℕ → Type 0
+NeedsGrant = NeedsBoth NoNeed (number_at w64) (NeedsBoth NoNeed type_at (NeedsBoth NeedsString text_at NeedsString))
+
+-- the critical options, or the extensions
+abbrev pub NeedsLimits : List ℕ → Type 0
+NeedsLimits = NeedsBoth NeedsString options_value_at NeedsString
+
+-- the reserved bytes, or the signature key
+abbrev pub NeedsAuthority : List ℕ → Type 0
+NeedsAuthority = NeedsBoth NeedsString string_at (NeedsBoxed NeedsKey)
+
+-- one of them; the times need none
+abbrev pub NeedsUnsigned : List ℕ → Type 0
+NeedsUnsigned = NeedsBoth NeedsSubject subject_at (NeedsBoth NeedsGrant grant_at (NeedsBoth NoNeed window_at (NeedsBoth NeedsLimits limits_at NeedsAuthority)))

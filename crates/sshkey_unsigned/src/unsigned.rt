@@ -1,0 +1,113 @@
+//! All of a certificate that its signature is over.
+
+ghost use Rattle.std.specs.Prelude.{◌≡◌, ◌≤◌, ◌+◌, ◌*◌, ◌^◌, ◌<◌, IfOk, List, ℕ};
+ghost use Rattle.sshkey_base.specs.Causes.{cause};
+ghost use Rattle.sshkey_base.specs.Sink.{Encodes, Measures};
+ghost use Rattle.sshkey_model.specs.Certificates.{SignedFields, normal_to_be_signed};
+ghost use Rattle.sshkey_keys.specs.Blobs.{MakesBlob};
+ghost use Rattle.sshkey_unsigned.specs.Needs.{NeedsUnsigned};
+ghost use Rattle.sshkey_unsigned.specs.UnsignedReaders.{SpellsUnsigned, unsigned_value_at, unsigned_grammar};
+
+mod copy;
+mod read;
+mod write;
+
+use read::unsigned_from;
+use sshkey_base::{
+    Bytes, Decode, Encode, Error, Reader, Result, Text, Writer, encode_vec, encoding,
+};
+use sshkey_keys::KeyData;
+use sshkey_options::{CertType, EndTime, OptionsMap, UnixTime};
+use std::alloc::Global;
+
+/// All of a certificate but its signature and its comment (PROTOCOL.certkeys).
+#[derive(Debug, Drop, PartialEq, Eq, PartialOrd, Ord)]
+pub struct Unsigned {
+    /// Bytes that nobody can foretell.
+    pub nonce: Bytes,
+    /// The certified key.
+    pub public_key: KeyData,
+    /// The serial number.
+    pub serial: u64,
+    /// Whether it is of a user or of a host.
+    pub cert_type: CertType,
+    /// A text that names the key.
+    pub key_id: Text,
+    /// The users or hosts that it is good for; none are all.
+    pub valid_principals: Vec<String>,
+    /// The first second of the window.
+    pub valid_after: UnixTime,
+    /// The second behind the window, or that there is none.
+    pub valid_before: EndTime,
+    /// The options that a reader has to know.
+    pub critical_options: OptionsMap,
+    /// The options that a reader may ignore.
+    pub extensions: OptionsMap,
+    /// Bytes that have no meaning yet.
+    pub reserved: Bytes,
+    /// The key that signs.
+    pub signature_key: KeyData,
+}
+
+impl Unsigned {
+    ghost use Rattle.sshkey_unsigned.specs.UnsignedValues.{unsigned_of};
+
+    /// The bytes that the signature is over, in memory of their own.
+    ///
+    /// Exactly where a box in them would pass 2^32 - 1 bytes, the answer is `Length`; otherwise
+    /// it is refused only when out of memory.
+    pub fn signed_bytes(&self, alloc: Global) -> Result<Vec<u8>>
+        ensures { MakesBlob (normal_to_be_signed (unsigned_of self.now)) result }
+    {
+        Ok(encode_vec(alloc, self)?)
+    }
+}
+
+/// The first thirteen fields.
+impl Decode for Unsigned {
+    ghost use Rattle.sshkey_unsigned.specs.UnsignedValues.{unsigned_of};
+
+    type Error = Error;
+
+    ghost Meaning = { SignedFields };
+
+    ghost means = { unsigned_of };
+
+    ghost parse = { unsigned_value_at };
+
+    ghost Spells = { SpellsUnsigned };
+
+    ghost needs = { NeedsUnsigned };
+
+    ghost grammar = { unsigned_grammar };
+
+    fn decode<R: Reader>(alloc: Global, reader: &mut R) -> Result<Unsigned> {
+        unsigned_from(alloc, reader)
+    }
+}
+
+/// The first thirteen fields, in their normal form.
+#[tactic(auto, using(sshkey_base::proofs::Writing::writing, sshkey_base::proofs::Writing::measuring))]
+impl Encode for Unsigned {
+    ghost use Rattle.sshkey_unsigned.specs.UnsignedValues.{unsigned_of};
+
+    ghost normal = { λ u. normal_to_be_signed (unsigned_of u) };
+
+    ghost max_len = { 30 * (2 ^ 32 + 4) };
+
+    fn encoded_len(&self) -> encoding::Result<usize> {
+        Ok(
+            4 + self.public_key.certificate_name_len()
+                + self.nonce.encoded_len()?
+                + self.public_key.encoded_key_data_len()?
+                + self.grant_len()?,
+        )
+    }
+
+    fn encode<W: Writer>(&self, writer: &mut W) -> encoding::Result<()> {
+        self.public_key.encode_certificate_name(writer)?;
+        self.nonce.encode(writer)?;
+        self.public_key.encode_key_data(writer)?;
+        self.encode_grant(writer)
+    }
+}

@@ -1,0 +1,17 @@
+-- What whoever is given a signed file learns.
+use Rattle.std.specs.Prelude.{ℕ, List, Bool}
+use Rattle.sshkey_model.specs.Keys.{Key}
+use Rattle.sshkey_model.specs.Lines.{IsKeyLine}
+use Rattle.sshkey_model.specs.SignedMessages.{IsVerified}
+use Rattle.sshkey_model.specs.SshSignatures.{SshSignature}
+use Rattle.sshkey_model.specs.Verification.{Question}
+use Rattle.sshkey_public.specs.SshSignatureReaders.{SpellsSshSignature}
+
+-- The text is the line of a key, and the bytes spell an SSH signature of the content that is verified under it.
+pub record IsSignedFile (accepts : Question → Bool) (text namespace content bytes : List ℕ) : Type 0 where
+  pub key : Key
+  pub comment : List ℕ
+  pub line : IsKeyLine text key comment
+  pub signature : SshSignature
+  pub spelled : SpellsSshSignature signature bytes
+  pub verified : IsVerified accepts key namespace content signature

@@ -1,0 +1,175 @@
+//! Certificates that OpenSSH made: read, written back and validated.
+
+use super::certified::{Certified, EACH, ED25519_USER, P256_HOST, P384_USER, RSA_SHA256};
+use super::support::is_shown;
+use crate::{AcceptAll, Only, RefuseAll};
+use base64::engine::general_purpose::STANDARD;
+use sshkey_base::{Algorithm, Error, HashAlg};
+use sshkey_cert::Certificate;
+use sshkey_keys::Fingerprint;
+use sshkey_options::{MAX_SECS, OptionsMap};
+use std::alloc::Global;
+
+/// The bytes of a certificate.
+fn blob_of(alloc: Global, made: &Certified) -> Option<Vec<u8>> {
+    STANDARD.decode(alloc, made.base64.as_bytes()).ok()
+}
+
+/// A certificate, read.
+fn read(alloc: Global, made: &Certified) -> Option<Certificate> {
+    Certificate::from_bytes(alloc, &blob_of(alloc, made)?).ok()
+}
+
+/// The options are these, in this order.
+fn are_options(options: &OptionsMap, wanted: &[(&str, &str)]) -> bool {
+    options.len() == wanted.len()
+        && wanted
+            .iter()
+            .all(|option| options.get(option.0) == Some(option.1))
+}
+
+/// The certificate has these plain fields.
+fn has_fields(certificate: &Certificate, made: &Certified) -> bool {
+    certificate.public_key().algorithm_name() == made.name
+        && certificate.cert_type().is_host() == made.is_host
+        && certificate.serial() == made.serial
+        && certificate.key_id() == made.key_id
+        && certificate.valid_after() == made.valid_after
+        && certificate.valid_before() == made.valid_before
+        && certificate.is_forever() == (made.valid_before == u64::MAX)
+        && certificate.nonce().len() == 32
+        && certificate.comment().is_empty()
+}
+
+/// The certificate has these principals and options, and allows no other principals.
+fn has_lists(certificate: &Certificate, made: &Certified) -> bool {
+    certificate.valid_principals().len() == made.principals.len()
+        && made
+            .principals
+            .iter()
+            .all(|principal| certificate.allows_principal(principal))
+        && certificate.allows_principal("nobody") == made.principals.is_empty()
+        && are_options(certificate.critical_options(), made.critical)
+        && are_options(certificate.extensions(), made.extensions)
+}
+
+/// The certificate is of that key, and signed by that authority.
+fn has_keys(alloc: Global, certificate: &Certificate, made: &Certified) -> bool {
+    is_shown(alloc, certificate.public_key(), HashAlg::Sha256, made.key)
+        && is_shown(
+            alloc,
+            certificate.signature_key(),
+            HashAlg::Sha256,
+            made.authority,
+        )
+        && certificate.signature().algorithm().as_str() == made.algorithm
+}
+
+/// It is written as the bytes that it was read from.
+fn is_written_back(alloc: Global, certificate: &Certificate, made: &Certified) -> bool {
+    let Some(blob) = blob_of(alloc, made) else {
+        return false;
+    };
+    match certificate.to_bytes(alloc) {
+        Ok(bytes) => bytes == blob,
+        Err(_) => false,
+    }
+}
+
+/// A certificate is read with these fields, and written back.
+fn holds(alloc: Global, made: &Certified) -> bool {
+    let Some(certificate) = read(alloc, made) else {
+        return false;
+    };
+    has_fields(&certificate, made)
+        && has_lists(&certificate, made)
+        && has_keys(alloc, &certificate, made)
+        && is_written_back(alloc, &certificate, made)
+}
+
+#[test]
+fn each_kind_is_read_and_written_back(rt: HostRuntime) {
+    assert!(rt; EACH.iter().all(|made| holds(rt.alloc(), made)));
+}
+
+/// The verifier that knows the certificate's signature of its first bytes.
+fn knower(alloc: Global, certificate: &Certificate, made: &Certified) -> Option<Only> {
+    let blob = blob_of(alloc, made)?;
+    let algorithm = Algorithm::new(alloc, made.algorithm).ok()?;
+    let signed = Vec::from_slice(alloc, blob.get(..made.signed)?).ok()?;
+    let signature = Vec::from_slice(alloc, certificate.signature().as_bytes()).ok()?;
+    Some(Only::new(algorithm, signed, signature))
+}
+
+/// The SHA-256 fingerprint of the key that signed, and the SHA-512 one.
+fn authorities(alloc: Global, certificate: &Certificate) -> Option<[Fingerprint; 2]> {
+    let key = certificate.signature_key();
+    let sha256 = key.fingerprint(alloc, HashAlg::Sha256).ok()?;
+    let sha512 = key.fingerprint(alloc, HashAlg::Sha512).ok()?;
+    Some([sha256, sha512])
+}
+
+/// Who knows the signature finds the certificate valid at its first second.
+fn is_known(alloc: Global, made: &Certified) -> bool {
+    let Some(certificate) = read(alloc, made) else {
+        return false;
+    };
+    let Some(only) = knower(alloc, &certificate, made) else {
+        return false;
+    };
+    let Some(authorities) = authorities(alloc, &certificate) else {
+        return false;
+    };
+    certificate.verify_signature(alloc, &only) == Ok(())
+        && certificate.validate_at(alloc, made.valid_after, &authorities, &only) == Ok(())
+}
+
+#[test]
+fn each_is_signed_over_its_first_bytes(rt: HostRuntime) {
+    assert!(rt; EACH.iter().all(|made| is_known(rt.alloc(), made)));
+}
+
+/// What a validation at that time answers, by a verifier that accepts all.
+fn answer_at(alloc: Global, made: &Certified, secs: u64) -> Option<Result<(), Error>> {
+    let certificate = read(alloc, made)?;
+    let authorities = authorities(alloc, &certificate)?;
+    Some(certificate.validate_at(alloc, secs, &authorities, &AcceptAll))
+}
+
+#[test]
+fn a_window_has_both_its_ends(rt: HostRuntime) {
+    let invalid = || Some(Err(Error::CertificateValidation));
+    assert!(rt; answer_at(rt.alloc(), &ED25519_USER, 1_577_836_799) == invalid());
+    assert!(rt; answer_at(rt.alloc(), &ED25519_USER, 1_577_836_800) == Some(Ok(())));
+    assert!(rt; answer_at(rt.alloc(), &ED25519_USER, 1_893_455_999) == Some(Ok(())));
+    assert!(rt; answer_at(rt.alloc(), &ED25519_USER, 1_893_456_000) == invalid());
+    assert!(rt; answer_at(rt.alloc(), &ED25519_USER, MAX_SECS + 1) == Some(Err(Error::Time)));
+}
+
+#[test]
+fn without_an_end_the_last_time_is_valid(rt: HostRuntime) {
+    assert!(rt; answer_at(rt.alloc(), &P256_HOST, MAX_SECS) == Some(Ok(())));
+    assert!(rt; answer_at(rt.alloc(), &P384_USER, MAX_SECS + 1) == Some(Err(Error::Time)));
+}
+
+/// Without the SHA-256 fingerprint of its authority a certificate is not valid, nor where the
+/// verifier says no, whatever the time.
+fn is_refused(alloc: Global, made: &Certified) -> bool {
+    let Some(certificate) = read(alloc, made) else {
+        return false;
+    };
+    let Some(authorities) = authorities(alloc, &certificate) else {
+        return false;
+    };
+    let invalid = Err(Error::CertificateValidation);
+    let at = made.valid_after;
+    certificate.validate_at(alloc, at, &[], &AcceptAll) == invalid
+        && certificate.validate_at(alloc, at, &authorities[1..], &AcceptAll) == invalid
+        && certificate.validate_at(alloc, at, &authorities, &RefuseAll) == invalid
+        && certificate.validate_at(alloc, MAX_SECS + 1, &authorities, &RefuseAll) == invalid
+}
+
+#[test]
+fn other_authorities_are_refused(rt: HostRuntime) {
+    assert!(rt; is_refused(rt.alloc(), &RSA_SHA256));
+}

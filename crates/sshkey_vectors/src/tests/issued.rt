@@ -1,0 +1,194 @@
+//! Certificates that a builder makes: their bytes, their windows, and what a builder refuses.
+
+use crate::{AcceptAll, Count, Fixed, RefuseAll};
+use rand_core::Rng;
+use sshkey_base::certificate::Field;
+use sshkey_base::{Error, HashAlg};
+use sshkey_builder::Builder;
+use sshkey_cert::Certificate;
+use sshkey_keys::{Fingerprint, KeyData};
+use sshkey_kinds::Ed25519PublicKey;
+use sshkey_options::{FOREVER, MAX_SECS};
+use std::alloc::Global;
+
+/// The bytes of an Ed25519 key that ssh-keygen made.
+const POINT: [u8; 32] =
+    *b"\xb3\x3e\xae\xf3\x7e\xa2\xdf\x7c\xaa\x01\x0d\xef\xde\xa3\x4e\x24\x1f\x65\xf1\xb5\x29\xa4\xf4\x3e\xd1\x43\x27\xf5\xc5\x4a\xab\x62";
+
+const KEY: KeyData = KeyData::Ed25519(Ed25519PublicKey(POINT));
+
+/// The certificate of the nonce 01, `KEY` and the times 10 and 20, for all principals, signed by
+/// `Fixed`: 180 bytes that are signed, and the signature of 87.
+const ISSUED: &str =
+    "000000207373682d656432353531392d636572742d763031406f70656e7373682e636f6d00000001\
+    0100000020b33eaef37ea2df7caa010defdea34e241f65f1b529a4f43ed14327f5c54aab62000000\
+    0000000000000000010000000000000000000000000000000a000000000000001400000000000000\
+    0000000000000000330000000b7373682d6564323535313900000020b33eaef37ea2df7caa010def\
+    dea34e241f65f1b529a4f43ed14327f5c54aab62000000530000000b7373682d6564323535313900\
+    00004000000000000000000000000000000000000000000000000000000000000000000000000000\
+    000000000000000000000000000000000000000000000000000000";
+
+/// The signer of these tests.
+fn signer() -> Fixed {
+    Fixed::new(Ed25519PublicKey(POINT))
+}
+
+/// A builder with the nonce 01 for `KEY`.
+fn builder(alloc: Global, valid_after: u64, valid_before: u64) -> Result<Builder, Error> {
+    let nonce = Vec::from_slice(alloc, &[1])?;
+    Builder::new(alloc, nonce, KEY, valid_after, valid_before)
+}
+
+/// The certificate of the first lines.
+fn issued(alloc: Global) -> Result<Certificate, Error> {
+    let mut builder = builder(alloc, 10, 20)?;
+    builder.all_principals_valid()?;
+    builder.sign(alloc, &signer())
+}
+
+/// It is written as these bytes, and read from them.
+fn is_spelled(alloc: Global, certificate: &Certificate, digits: &str) -> bool {
+    let Ok(bytes) = hex::decode(alloc, digits) else {
+        return false;
+    };
+    certificate.to_bytes(alloc).as_ref() == Ok(&bytes)
+        && Certificate::from_bytes(alloc, &bytes).as_ref() == Ok(certificate)
+}
+
+#[test]
+fn one_is_issued_down_to_the_byte(rt: HostRuntime) {
+    let certificate = issued(rt.alloc());
+    assert!(rt;
+        matches!(&certificate, Ok(certificate) if is_spelled(rt.alloc(), certificate, ISSUED))
+    );
+}
+
+/// The fingerprint of `KEY` by that hash.
+fn fingerprints(alloc: Global, hash_alg: HashAlg) -> Result<[Fingerprint; 1], Error> {
+    Ok([KEY.fingerprint(alloc, hash_alg)?])
+}
+
+/// What the issued certificate's validation at that time answers.
+fn answer_at(alloc: Global, secs: u64) -> Result<(), Error> {
+    let given = fingerprints(alloc, HashAlg::Sha256)?;
+    issued(alloc)?.validate_at(alloc, secs, &given, &AcceptAll)
+}
+
+#[test]
+fn its_window_has_both_its_ends(rt: HostRuntime) {
+    assert!(rt; answer_at(rt.alloc(), 9) == Err(Error::CertificateValidation));
+    assert!(rt; answer_at(rt.alloc(), 10) == Ok(()));
+    assert!(rt; answer_at(rt.alloc(), 19) == Ok(()));
+    assert!(rt; answer_at(rt.alloc(), 20) == Err(Error::CertificateValidation));
+    assert!(rt; answer_at(rt.alloc(), MAX_SECS + 1) == Err(Error::Time));
+}
+
+/// What a validation by no verifier at all, or for another fingerprint, answers.
+fn refused_at(alloc: Global, secs: u64) -> Result<(), Error> {
+    let given = fingerprints(alloc, HashAlg::Sha256)?;
+    issued(alloc)?.validate_at(alloc, secs, &given, &RefuseAll)
+}
+
+fn for_sha512(alloc: Global) -> Result<(), Error> {
+    let given = fingerprints(alloc, HashAlg::Sha512)?;
+    issued(alloc)?.validate_at(alloc, 10, &given, &AcceptAll)
+}
+
+#[test]
+fn other_judges_refuse_it(rt: HostRuntime) {
+    assert!(rt; refused_at(rt.alloc(), 10) == Err(Error::CertificateValidation));
+    assert!(rt; refused_at(rt.alloc(), MAX_SECS + 1) == Err(Error::CertificateValidation));
+    assert!(rt; for_sha512(rt.alloc()) == Err(Error::CertificateValidation));
+}
+
+/// The same certificate without an end.
+fn endless(alloc: Global) -> Result<Certificate, Error> {
+    let nonce = Vec::from_slice(alloc, &[1])?;
+    let mut builder = Builder::new_forever(alloc, nonce, KEY, 10)?;
+    builder.all_principals_valid()?;
+    builder.sign(alloc, &signer())
+}
+
+fn endless_at(alloc: Global, secs: u64) -> Result<(), Error> {
+    let given = fingerprints(alloc, HashAlg::Sha256)?;
+    endless(alloc)?.validate_at(alloc, secs, &given, &AcceptAll)
+}
+
+#[test]
+fn without_an_end(rt: HostRuntime) {
+    let certificate = endless(rt.alloc());
+    assert!(rt; matches!(&certificate, Ok(it) if it.is_forever() && it.valid_before() == FOREVER));
+    assert!(rt; endless_at(rt.alloc(), 9) == Err(Error::CertificateValidation));
+    assert!(rt; endless_at(rt.alloc(), 10) == Ok(()));
+    assert!(rt; endless_at(rt.alloc(), MAX_SECS) == Ok(()));
+    assert!(rt; endless_at(rt.alloc(), MAX_SECS + 1) == Err(Error::Time));
+}
+
+/// What a validation for a wanted principal answers, of a certificate for `a` alone.
+fn wanted_at(alloc: Global, secs: u64, wanted: &str) -> Result<(), Error> {
+    let mut builder = builder(alloc, 10, 20)?;
+    builder.valid_principal(String::from_str(alloc, "a")?)?;
+    let certificate = builder.sign(alloc, &signer())?;
+    let given = fingerprints(alloc, HashAlg::Sha256)?;
+    certificate.validate_principal_at(alloc, secs, wanted, &given, &AcceptAll)
+}
+
+#[test]
+fn a_principal_is_wanted_by_its_bytes(rt: HostRuntime) {
+    let other = || Err(Error::CertificateFieldInvalid(Field::ValidPrincipals));
+    assert!(rt; wanted_at(rt.alloc(), 10, "a") == Ok(()));
+    assert!(rt; wanted_at(rt.alloc(), 10, "A") == other());
+    assert!(rt; wanted_at(rt.alloc(), 10, "a.b") == other());
+    assert!(rt; wanted_at(rt.alloc(), 10, "") == other());
+    assert!(rt; wanted_at(rt.alloc(), 20, "A") == Err(Error::CertificateValidation));
+}
+
+/// The error of a builder for that window.
+fn window_error(alloc: Global, valid_after: u64, valid_before: u64) -> Option<Error> {
+    builder(alloc, valid_after, valid_before).err()
+}
+
+#[test]
+fn bad_windows_are_refused(rt: HostRuntime) {
+    let before = || Some(Error::CertificateFieldInvalid(Field::ValidBefore));
+    let after = || Some(Error::CertificateFieldInvalid(Field::ValidAfter));
+    assert!(rt; window_error(rt.alloc(), 10, 10).is_none());
+    assert!(rt; window_error(rt.alloc(), 11, 10) == before());
+    assert!(rt; window_error(rt.alloc(), MAX_SECS + 1, MAX_SECS + 1) == after());
+    assert!(rt; window_error(rt.alloc(), 0, FOREVER) == before());
+}
+
+/// What a second serial number answers.
+fn second_serial(alloc: Global) -> Result<(), Error> {
+    let mut builder = builder(alloc, 10, 20)?;
+    builder.serial(1)?;
+    builder.set_serial(2)
+}
+
+/// The signer is not asked where no principal was named.
+fn unnamed(alloc: Global) -> Result<Certificate, Error> {
+    builder(alloc, 10, 20)?.sign(alloc, &signer())
+}
+
+#[test]
+fn a_builder_is_told_once_and_told_whom(rt: HostRuntime) {
+    assert!(rt; second_serial(rt.alloc()) == Err(Error::CertificateFieldInvalid(Field::Serial)));
+    assert!(rt; unnamed(rt.alloc()) == Err(Error::CertificateFieldInvalid(Field::ValidPrincipals)));
+}
+
+/// The nonce of a certificate whose builder drew it, and the first byte drawn behind it.
+fn drawn(alloc: Global) -> Result<(Certificate, u64), Error> {
+    let mut count = Count::new();
+    let mut builder = Builder::new_with_random_nonce(alloc, &mut count, KEY, 10, 20)?;
+    builder.all_principals_valid()?;
+    Ok((builder.sign(alloc, &signer())?, count.next_u64()))
+}
+
+#[test]
+fn a_random_nonce_is_the_next_16_bytes(rt: HostRuntime) {
+    let nonce = b"\x00\x01\x02\x03\x04\x05\x06\x07\x08\x09\x0a\x0b\x0c\x0d\x0e\x0f";
+    assert!(rt;
+        matches!(drawn(rt.alloc()),
+        Ok((certificate, next)) if certificate.nonce() == nonce.as_slice() && next == 0x1716_1514_1312_1110)
+    );
+}
