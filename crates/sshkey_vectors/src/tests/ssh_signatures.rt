@@ -2,9 +2,8 @@
 
 use super::signed_files::{MESSAGE, SIGNED, SIGNED_FILES, SignedFile};
 use crate::{AcceptAll, Fixed, Only, RefuseAll};
-use ssh_key::encoding::Decode;
 use ssh_key::public::{Ed25519PublicKey, KeyData, SkEd25519};
-use ssh_key::{Algorithm, Error, HashAlg, PublicKey, Signature, SshSig, encoding};
+use ssh_key::{Algorithm, Error, HashAlg, PublicKey, Signature, SshSig};
 use std::alloc::Global;
 use std::test::Fail;
 
@@ -89,47 +88,6 @@ fn no_namespace_is_empty(rt: HostRuntime) -> Result<(), Fail> {
     let key = KeyData::from(Ed25519PublicKey(K));
     let made = SshSig::new(alloc, key, String::new(alloc), HashAlg::Sha256, signature);
     assert!(rt; matches!(made, Err(Error::Namespace)));
-    Ok(())
-}
-
-/// The signature with another byte at that place.
-fn changed(alloc: Global, place: usize, byte: u8) -> ssh_key::Result<Vec<u8>> {
-    let mut bytes = Vec::from_slice(alloc, MADE)?;
-    if let Some(old) = bytes.get_mut(place) {
-        *old = byte;
-    }
-    Ok(bytes)
-}
-
-#[test]
-fn other_versions_are_read_or_refused(rt: HostRuntime) -> Result<(), Fail> {
-    let alloc = rt.alloc();
-    let zero = changed(alloc, 9, 0)?;
-    let kept = SshSig::from_bytes(alloc, &zero)?;
-    assert!(rt; kept.version() == 0 && kept.to_bytes(alloc)? == zero);
-    let two = SshSig::from_bytes(alloc, &changed(alloc, 9, 2)?);
-    assert!(rt; matches!(two, Err(Error::Version { number: 2 })));
-    Ok(())
-}
-
-#[test]
-fn other_bytes_are_refused(rt: HostRuntime) -> Result<(), Fail> {
-    let alloc = rt.alloc();
-    let magic = SshSig::from_bytes(alloc, &changed(alloc, 5, b'H')?);
-    assert!(rt; matches!(magic, Err(Error::FormatEncoding)));
-    let text = SshSig::from_bytes(alloc, &changed(alloc, 69, 0xff)?);
-    assert!(rt;
-        matches!(
-            text,
-            Err(Error::Encoding(encoding::Error::CharacterEncoding))
-        )
-    );
-    let hash = SshSig::from_bytes(alloc, &changed(alloc, 86, b'7')?);
-    assert!(rt; matches!(hash, Err(Error::Encoding(encoding::Error::Label))));
-    let short = SshSig::from_bytes(alloc, &MADE[..173]);
-    assert!(rt; matches!(short, Err(Error::Encoding(encoding::Error::Length))));
-    let mut left: &[u8] = MADE;
-    assert!(rt; SshSig::decode(alloc, &mut left).is_ok() && left.is_empty());
     Ok(())
 }
 
