@@ -20,7 +20,7 @@ pub(crate) fn shown_of_certificate(
     wanted: Option<&str>,
     certificate: &Certificate,
 ) -> Result<String, Error>
-    ensures { ShowsCertificate wanted (certificate_of certificate.now) result }
+    ensures { ShowsCertificate wanted.entry (certificate_of certificate.now) result }
 {
     let mut lines = certificate_lines(alloc, certificate)?;
     if let Some(principal) = wanted {
@@ -58,14 +58,17 @@ fn certificate_lines(alloc: Global, certificate: &Certificate) -> Result<String,
 fn field_lines(alloc: Global, certificate: &Certificate) -> Result<String, AllocError>
     ensures { IfOk result (λ s. string_bytes s ≡ in_lines (field_lines (certificate_of certificate.now))) }
 {
-    let algorithm = certificate.public_key().algorithm_name();
-    let cert_type = type_word(certificate.cert_type());
+    let name = certificate.public_key().algorithm_name();
+    let kind = type_word(certificate.cert_type());
     let serial = certificate.serial();
     let key_id = certificate.key_id();
     let after = certificate.valid_after();
     let before = end_text(alloc, certificate.valid_before())?;
-    let subject = format!(in alloc; "algorithm {algorithm}\ntype {cert_type}\nserial {serial}\n")?;
-    format!(in alloc; "{subject}key id {key_id}\nvalid after {after}\nvalid before {before}\n")
+    format!(
+        in alloc;
+        "algorithm {name}\ntype {kind}\nserial {serial}\nkey id {key_id}\n\
+         valid after {after}\nvalid before {before}\n"
+    )
 }
 
 /// The word for a type.

@@ -41,7 +41,7 @@ fn shown_of_certificate_line(
     wanted: Option<&str>,
     text: &str,
 ) -> Result<String, Error>
-    ensures { ShowsText (commands.Certificate wanted) text.now result }
+    ensures { ShowsText (commands.Certificate wanted.entry) text.now result }
 {
     let certificate = Certificate::from_openssh(alloc, text)?;
     shown_of_certificate(alloc, wanted, &certificate)
@@ -49,7 +49,7 @@ fn shown_of_certificate_line(
 
 /// What the command shows of a text.
 fn shown_of_text(alloc: Global, command: Command<'_>, text: &str) -> Result<String, Error>
-    ensures { ShowsText command text.now result }
+    ensures { ShowsText command.entry text.now result }
 {
     match command {
         Command::Key(command) => shown_of_key_line(alloc, command, text),
@@ -59,7 +59,7 @@ fn shown_of_text(alloc: Global, command: Command<'_>, text: &str) -> Result<Stri
 
 /// The same of bytes that may be a text.
 fn shown_of_bytes(alloc: Global, command: Command<'_>, bytes: &[u8]) -> Result<String, Error>
-    ensures { ShowsBytes command bytes.now result }
+    ensures { ShowsBytes command.entry bytes.now result }
 {
     let text = str::from_utf8(bytes)?;
     shown_of_text(alloc, command, text)
@@ -71,7 +71,7 @@ pub(crate) fn shown_of<R: Read>(
     command: Command<'_>,
     input: &mut R,
 ) -> Result<String, Error>
-    ensures { ShowsInput command (R.remaining input.old) result }
+    ensures { ShowsInput command.entry (R.remaining input.old) result }
 {
     let bytes = read_all(alloc, input)?;
     shown_of_bytes(alloc, command, &bytes)
