@@ -1,12 +1,12 @@
 -- Lines, one behind the other.
-use Rattle.std.proofs.Common.{◌≡◌, ◌<◌, ◌+◌, ℕ, List, [], ◌∷◌, ◌++◌, length, take, get_or, map, take_all, refl, sym, ap, ◌∙◌, arith}
+use Rattle.std.proofs.Common.{◌≡◌, ◌<◌, ◌+◌, ℕ, List, [], ◌∷◌, ◌++◌, length, take, get_or, map, refl, sym, ap, ◌∙◌}
 use Rattle.std.proofs.lemmas.List.{append_assoc, map-append, take_more}
-use Rattle.std.specs.Prelude.{String, string_bytes, codes}
+use Rattle.std.specs.Prelude.{String, string_bytes, codes, decimal}
 use Rattle.sshkey_model.specs.Certificates.{Certificate}
-use Rattle.sshkey_model.specs.Lines.{key_line}
+use Rattle.sshkey_model.specs.Lines.{key_line, key_name}
 use Rattle.sshkey_model.specs.Options.{CertificateOption}
 use Rattle.sshkey_options.specs.OptionMaps.{option_of}
-use Rattle.sshkey_tool.specs.Lines.{in_lines, line_end, principal_line, principal_lines, option_line, field_lines, certificate_lines}
+use Rattle.sshkey_tool.specs.Lines.{in_lines, line_end, principal_line, principal_lines, option_line, type_word, end_text, field_lines, certificate_lines}
 
 pub lines_append : (xs ys : List (List ℕ)) → in_lines (xs ++ ys) ≡ in_lines xs ++ in_lines ys
 lines_append [] ys = refl
@@ -25,17 +25,13 @@ module _ {Z : Type 0} where
       ∙ lines_append (map principal_line (map string_bytes ps)) (principal_line (string_bytes p) ∷ [])
 
   -- the line of the next principal behind those so far
-  pub principal_more : (ps : List (String Z)) (i : ℕ) (p : String Z) (was text : List ℕ) → i < length ps → p ≡ get_or ps i p → was ≡ shown (take i ps) → text ≡ principal_line (string_bytes p) ++ line_end → was ++ text ≡ shown (take (i + 1) ps)
-  principal_more ps i p was text below is so_far line =
-      ap (λ (l : List ℕ). l ++ text) so_far
+  pub principal_more : (ps : List (String Z)) (i : ℕ) (p : String Z) (text now : List ℕ) → i < length ps → p ≡ get_or ps i p → text ≡ principal_line (string_bytes p) ++ line_end → now ≡ shown (take i ps) ++ text → now ≡ shown (take (i + 1) ps)
+  principal_more ps i p text now below is line behind =
+      behind
       ∙ ap (λ (l : List ℕ). shown (take i ps) ++ l) line
       ∙ sym (shown_one_more (take i ps) p)
       ∙ ap (λ (q : String Z). shown (take i ps ++ q ∷ [])) is
       ∙ sym (ap shown (take_more ps i p below))
-
-  pub principals_end : (ps : List (String Z)) (i : ℕ) (now : List ℕ) → length ps ≡ i → 0 < length ps → now ≡ shown (take i ps) → now ≡ in_lines (principal_lines (map string_bytes ps))
-  principals_end [] i now all some so_far = absurd (omega arith)
-  principals_end (p ∷ ps) i now all some so_far = so_far ∙ ap shown (take_all i (p ∷ ps) (omega arith))
 
 -- ---- options
 
@@ -43,24 +39,32 @@ module _ {Y Z : Type 0} (kind : List ℕ) where
   abbrev pub options_shown : List (String Y × String Z) → List ℕ
   options_shown es = in_lines (map (option_line kind) (map option_of es))
 
-  -- what is written so far, and the lines of the rest
-  pub option_more : (rest others : List (String Y × String Z)) (e : String Y × String Z) (was text all : List ℕ) → rest ≡ e ∷ others → was ++ options_shown rest ≡ all → text ≡ option_line kind (option_of e) ++ line_end → (was ++ text) ++ options_shown others ≡ all
-  option_more rest others e was text all is so_far line =
-      append_assoc was text (options_shown others)
-      ∙ ap (λ (l : List ℕ). was ++ (l ++ options_shown others)) line
-      ∙ ap (λ (l : List ℕ). was ++ l) (append_assoc (option_line kind (option_of e)) line_end (options_shown others))
-      ∙ sym (ap (λ (l : List (String Y × String Z)). was ++ options_shown l) is)
-      ∙ so_far
-
 -- ---- all lines
 
-pub certificate_is : (c : Certificate) → in_lines (certificate_lines c) ≡ in_lines (field_lines c) ++ (in_lines (principal_lines c.signed.valid_principals) ++ (in_lines (map (option_line (codes "critical option")) c.signed.critical_options) ++ (in_lines (map (option_line (codes "extension")) c.signed.extensions) ++ (codes "ca " ++ (key_line c.signed.signature_key [] ++ line_end)))))
+-- as they are formatted
+pub fields_are : (c : Certificate) (name kind serial key_id after before text : List ℕ) → name ≡ key_name c.signed.key → kind ≡ type_word c.signed.certificate_type → serial ≡ decimal c.signed.serial → key_id ≡ c.signed.key_id → after ≡ decimal c.signed.valid_after → before ≡ end_text c.signed.valid_before → text ≡ codes "algorithm " ++ (name ++ (10 ∷ codes "type " ++ (kind ++ (10 ∷ codes "serial " ++ (serial ++ (10 ∷ codes "key id " ++ (key_id ++ (10 ∷ codes "valid after " ++ (after ++ (10 ∷ codes "valid before " ++ (before ++ line_end))))))))))) → text ≡ in_lines (field_lines c)
+fields_are c name kind serial key_id after before text e1 e2 e3 e4 e5 e6 is =
+    let all : codes "algorithm " ++ (name ++ (10 ∷ codes "type " ++ (kind ++ (10 ∷ codes "serial " ++ (serial ++ (10 ∷ codes "key id " ++ (key_id ++ (10 ∷ codes "valid after " ++ (after ++ (10 ∷ codes "valid before " ++ (before ++ line_end))))))))))) ≡ in_lines (field_lines c) = rw (e1, e2, e3, e4, e5, e6) refl in
+    is ∙ all
+
+certificate_is : (c : Certificate) → in_lines (certificate_lines c) ≡ in_lines (field_lines c) ++ (in_lines (principal_lines c.signed.valid_principals) ++ (in_lines (map (option_line (codes "critical option")) c.signed.critical_options) ++ (in_lines (map (option_line (codes "extension")) c.signed.extensions) ++ (codes "ca " ++ (key_line c.signed.signature_key [] ++ line_end)))))
 certificate_is c =
-    let ca = (codes "ca " ++ key_line c.signed.signature_key []) ∷ [] in
-    let extensions = map (option_line (codes "extension")) c.signed.extensions in
-    let critical = map (option_line (codes "critical option")) c.signed.critical_options in
-    let principals = principal_lines c.signed.valid_principals in
+    let ca : List (List ℕ) = (codes "ca " ++ key_line c.signed.signature_key []) ∷ [] in
+    let extensions : List (List ℕ) = map (option_line (codes "extension")) c.signed.extensions in
+    let critical : List (List ℕ) = map (option_line (codes "critical option")) c.signed.critical_options in
+    let principals : List (List ℕ) = principal_lines c.signed.valid_principals in
     lines_append (field_lines c) (principals ++ (critical ++ (extensions ++ ca)))
     ∙ ap (λ (l : List ℕ). in_lines (field_lines c) ++ l) (lines_append principals (critical ++ (extensions ++ ca)))
     ∙ ap (λ (l : List ℕ). in_lines (field_lines c) ++ (in_lines principals ++ l)) (lines_append critical (extensions ++ ca))
     ∙ ap (λ (l : List ℕ). in_lines (field_lines c) ++ (in_lines principals ++ (in_lines critical ++ l))) (lines_append extensions ca)
+
+-- from each part of them
+pub lines_are : (c : Certificate) (fields principals critical extensions authority text : List ℕ) → fields ≡ in_lines (field_lines c) → principals ≡ in_lines (principal_lines c.signed.valid_principals) → critical ≡ in_lines (map (option_line (codes "critical option")) c.signed.critical_options) → extensions ≡ in_lines (map (option_line (codes "extension")) c.signed.extensions) → authority ≡ key_line c.signed.signature_key [] → text ≡ fields ++ (principals ++ (critical ++ (extensions ++ (codes "ca " ++ (authority ++ line_end))))) → text ≡ in_lines (certificate_lines c)
+lines_are c fields principals critical extensions authority text e1 e2 e3 e4 e5 is =
+    is
+    ∙ ap (λ (l : List ℕ). l ++ (principals ++ (critical ++ (extensions ++ (codes "ca " ++ (authority ++ line_end)))))) e1
+    ∙ ap (λ (l : List ℕ). in_lines (field_lines c) ++ (l ++ (critical ++ (extensions ++ (codes "ca " ++ (authority ++ line_end)))))) e2
+    ∙ ap (λ (l : List ℕ). in_lines (field_lines c) ++ (in_lines (principal_lines c.signed.valid_principals) ++ (l ++ (extensions ++ (codes "ca " ++ (authority ++ line_end)))))) e3
+    ∙ ap (λ (l : List ℕ). in_lines (field_lines c) ++ (in_lines (principal_lines c.signed.valid_principals) ++ (in_lines (map (option_line (codes "critical option")) c.signed.critical_options) ++ (l ++ (codes "ca " ++ (authority ++ line_end)))))) e4
+    ∙ ap (λ (l : List ℕ). in_lines (field_lines c) ++ (in_lines (principal_lines c.signed.valid_principals) ++ (in_lines (map (option_line (codes "critical option")) c.signed.critical_options) ++ (in_lines (map (option_line (codes "extension")) c.signed.extensions) ++ (codes "ca " ++ (l ++ line_end)))))) e5
+    ∙ sym (certificate_is c)

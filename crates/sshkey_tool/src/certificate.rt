@@ -64,8 +64,7 @@ fn field_lines(alloc: Global, certificate: &Certificate) -> Result<String, Alloc
     let key_id = certificate.key_id();
     let after = certificate.valid_after();
     let before = end_text(alloc, certificate.valid_before())?;
-    format!(
-        in alloc;
+    format!(in alloc;
         "algorithm {name}\ntype {kind}\nserial {serial}\nkey id {key_id}\n\
          valid after {after}\nvalid before {before}\n"
     )

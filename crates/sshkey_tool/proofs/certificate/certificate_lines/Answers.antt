@@ -1,0 +1,18 @@
+use Rattle.std.proofs.Common.{List, ℕ, [], map, ap, ◌∙◌}
+use Rattle.std.specs.Prelude.{codes}
+use Rattle.sshkey_cert.specs.CertificateValues.{certificate_of}
+use Rattle.sshkey_model.specs.Keys.{Key}
+use Rattle.sshkey_model.specs.Lines.{key_line}
+use Rattle.sshkey_model.specs.Options.{CertificateOption}
+use Rattle.sshkey_tool.specs.Lines.{in_lines, option_line, principal_lines}
+use Rattle.sshkey_tool.proofs.Lines.{lines_are}
+use Rattle.sshkey_tool.proofs.certificate.certificate_lines.Goals as goal
+
+pub returns : goal.returns
+returns c = lines_are (certificate_of c.args.certificate.now) _ _ _ _ _ _
+    c.in_ok-fields.ensures
+    (c.in_ok-principals.ensures ∙ ap (λ (ps : List (List ℕ)). in_lines (principal_lines ps)) c.valid_principals.ensures)
+    (c.in_ok-critical.ensures ∙ ap (λ (os : List CertificateOption). in_lines (map (option_line (codes "critical option")) os)) c.critical_options.ensures)
+    (c.in_ok-extensions.ensures ∙ ap (λ (os : List CertificateOption). in_lines (map (option_line (codes "extension")) os)) c.extensions.ensures)
+    (c.in_ok-authority.ensures ∙ ap (λ (k : Key). key_line k []) c.signature_key.ensures)
+    c.in_ok-format.ensures.ok
