@@ -41,11 +41,24 @@ module _ {Y Z : Type 0} (kind : List ℕ) where
 
 -- ---- all lines
 
--- as they are formatted
-pub fields_are : (c : Certificate) (name kind serial key_id after before text : List ℕ) → name ≡ key_name c.signed.key → kind ≡ type_word c.signed.certificate_type → serial ≡ decimal c.signed.serial → key_id ≡ c.signed.key_id → after ≡ decimal c.signed.valid_after → before ≡ end_text c.signed.valid_before → text ≡ codes "algorithm " ++ (name ++ (10 ∷ codes "type " ++ (kind ++ (10 ∷ codes "serial " ++ (serial ++ (10 ∷ codes "key id " ++ (key_id ++ (10 ∷ codes "valid after " ++ (after ++ (10 ∷ codes "valid before " ++ (before ++ line_end))))))))))) → text ≡ in_lines (field_lines c)
+-- as a format groups them
+abbrev pub window_text : (after before : List ℕ) → List ℕ
+window_text after before = after ++ (10 ∷ codes "valid before " ++ before)
+
+abbrev pub rest_text : (kind serial key_id after before : List ℕ) → List ℕ
+rest_text kind serial key_id after before = kind ++ (10 ∷ codes "serial " ++ (serial ++ (10 ∷ codes "key id " ++ (key_id ++ (10 ∷ codes "valid after " ++ window_text after before)))))
+
+rest_ends : (kind serial key_id after before : List ℕ) → rest_text kind serial key_id after before ++ line_end ≡ rest_text kind serial key_id after (before ++ line_end)
+rest_ends kind serial key_id after before =
+    append_assoc kind (10 ∷ codes "serial " ++ (serial ++ (10 ∷ codes "key id " ++ (key_id ++ (10 ∷ codes "valid after " ++ window_text after before))))) line_end
+    ∙ ap (λ (l : List ℕ). kind ++ (10 ∷ codes "serial " ++ l)) (append_assoc serial (10 ∷ codes "key id " ++ (key_id ++ (10 ∷ codes "valid after " ++ window_text after before))) line_end)
+    ∙ ap (λ (l : List ℕ). kind ++ (10 ∷ codes "serial " ++ (serial ++ (10 ∷ codes "key id " ++ l)))) (append_assoc key_id (10 ∷ codes "valid after " ++ window_text after before) line_end)
+    ∙ ap (λ (l : List ℕ). kind ++ (10 ∷ codes "serial " ++ (serial ++ (10 ∷ codes "key id " ++ (key_id ++ (10 ∷ codes "valid after " ++ l)))))) (append_assoc after (10 ∷ codes "valid before " ++ before) line_end)
+
+pub fields_are : (c : Certificate) (name kind serial key_id after before text : List ℕ) → name ≡ key_name c.signed.key → kind ≡ type_word c.signed.certificate_type → serial ≡ decimal c.signed.serial → key_id ≡ c.signed.key_id → after ≡ decimal c.signed.valid_after → before ≡ end_text c.signed.valid_before → text ≡ codes "algorithm " ++ (name ++ (10 ∷ codes "type " ++ (rest_text kind serial key_id after before ++ line_end))) → text ≡ in_lines (field_lines c)
 fields_are c name kind serial key_id after before text e1 e2 e3 e4 e5 e6 is =
-    let all : codes "algorithm " ++ (name ++ (10 ∷ codes "type " ++ (kind ++ (10 ∷ codes "serial " ++ (serial ++ (10 ∷ codes "key id " ++ (key_id ++ (10 ∷ codes "valid after " ++ (after ++ (10 ∷ codes "valid before " ++ (before ++ line_end))))))))))) ≡ in_lines (field_lines c) = rw (e1, e2, e3, e4, e5, e6) refl in
-    is ∙ all
+    let all : codes "algorithm " ++ (name ++ (10 ∷ codes "type " ++ rest_text kind serial key_id after (before ++ line_end))) ≡ in_lines (field_lines c) = rw (e1, e2, e3, e4, e5, e6) refl in
+    is ∙ ap (λ (l : List ℕ). codes "algorithm " ++ (name ++ (10 ∷ codes "type " ++ l))) (rest_ends kind serial key_id after before) ∙ all
 
 certificate_is : (c : Certificate) → in_lines (certificate_lines c) ≡ in_lines (field_lines c) ++ (in_lines (principal_lines c.signed.valid_principals) ++ (in_lines (map (option_line (codes "critical option")) c.signed.critical_options) ++ (in_lines (map (option_line (codes "extension")) c.signed.extensions) ++ (codes "ca " ++ (key_line c.signed.signature_key [] ++ line_end)))))
 certificate_is c =

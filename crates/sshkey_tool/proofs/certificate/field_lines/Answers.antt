@@ -4,7 +4,7 @@ use Rattle.std.specs.Prelude.{codes, decimal, string_bytes}
 use Rattle.sshkey_cert.specs.CertificateValues.{certificate_of}
 use Rattle.sshkey_model.specs.Lines.{key_name}
 use Rattle.sshkey_tool.specs.Lines.{line_end, type_word, end_text, in_lines, field_lines}
-use Rattle.sshkey_tool.proofs.Lines.{fields_are}
+use Rattle.sshkey_tool.proofs.Lines.{rest_text, fields_are}
 use Rattle.sshkey_tool.proofs.certificate.field_lines.Goals as goal
 
 pub returns : goal.returns
@@ -17,7 +17,7 @@ returns c =
     let after = decimal c.valid_after-after.result in
     let before = string_bytes c.in_ok-before.before in
     IfOk-weaker c.format.result
-    (λ s. string_bytes s ≡ codes "algorithm " ++ (name ++ (10 ∷ codes "type " ++ (kind ++ (10 ∷ codes "serial " ++ (serial ++ (10 ∷ codes "key id " ++ (key_id ++ (10 ∷ codes "valid after " ++ (after ++ (10 ∷ codes "valid before " ++ (before ++ line_end))))))))))))
+    (λ s. string_bytes s ≡ codes "algorithm " ++ (name ++ (10 ∷ codes "type " ++ (rest_text kind serial key_id after before ++ line_end))))
     (λ s. string_bytes s ≡ in_lines (field_lines it))
     (λ s wrote. fields_are it name kind serial key_id after before (string_bytes s)
     (c.algorithm_name-name.ensures ∙ ap key_name c.public_key.ensures)
