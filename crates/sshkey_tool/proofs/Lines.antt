@@ -6,7 +6,7 @@ use Rattle.sshkey_model.specs.Certificates.{Certificate}
 use Rattle.sshkey_model.specs.Lines.{key_line, key_name}
 use Rattle.sshkey_model.specs.Options.{CertificateOption}
 use Rattle.sshkey_options.specs.OptionMaps.{option_of}
-use Rattle.sshkey_tool.specs.Lines.{in_lines, line_end, principal_line, principal_lines, option_line, type_word, end_text, field_lines, certificate_lines}
+use Rattle.sshkey_tool.specs.Lines.{in_lines, line_end, principal_line, principal_lines, option_line, type_word, end_text, subject_lines, window_lines, field_lines, certificate_lines}
 
 pub lines_append : (xs ys : List (List ℕ)) → in_lines (xs ++ ys) ≡ in_lines xs ++ in_lines ys
 lines_append [] ys = refl
@@ -41,24 +41,22 @@ module _ {Y Z : Type 0} (kind : List ℕ) where
 
 -- ---- all lines
 
--- as a format groups them
-abbrev pub window_text : (after before : List ℕ) → List ℕ
-window_text after before = after ++ (10 ∷ codes "valid before " ++ before)
+pub subject_is : (c : Certificate) (name kind serial text : List ℕ) → name ≡ key_name c.signed.key → kind ≡ type_word c.signed.certificate_type → serial ≡ decimal c.signed.serial → text ≡ codes "algorithm " ++ (name ++ (10 ∷ codes "type " ++ (kind ++ (10 ∷ codes "serial " ++ (serial ++ line_end))))) → text ≡ in_lines (subject_lines c)
+subject_is c name kind serial text e1 e2 e3 is =
+    let all : codes "algorithm " ++ (name ++ (10 ∷ codes "type " ++ (kind ++ (10 ∷ codes "serial " ++ (serial ++ line_end))))) ≡ in_lines (subject_lines c) = rw (e1, e2, e3) refl in
+    is ∙ all
 
-abbrev pub rest_text : (kind serial key_id after before : List ℕ) → List ℕ
-rest_text kind serial key_id after before = kind ++ (10 ∷ codes "serial " ++ (serial ++ (10 ∷ codes "key id " ++ (key_id ++ (10 ∷ codes "valid after " ++ window_text after before)))))
+pub window_is : (c : Certificate) (key_id after before text : List ℕ) → key_id ≡ c.signed.key_id → after ≡ decimal c.signed.valid_after → before ≡ end_text c.signed.valid_before → text ≡ codes "key id " ++ (key_id ++ (10 ∷ codes "valid after " ++ (after ++ (10 ∷ codes "valid before " ++ (before ++ line_end))))) → text ≡ in_lines (window_lines c)
+window_is c key_id after before text e1 e2 e3 is =
+    let all : codes "key id " ++ (key_id ++ (10 ∷ codes "valid after " ++ (after ++ (10 ∷ codes "valid before " ++ (before ++ line_end))))) ≡ in_lines (window_lines c) = rw (e1, e2, e3) refl in
+    is ∙ all
 
-rest_ends : (kind serial key_id after before : List ℕ) → rest_text kind serial key_id after before ++ line_end ≡ rest_text kind serial key_id after (before ++ line_end)
-rest_ends kind serial key_id after before =
-    append_assoc kind (10 ∷ codes "serial " ++ (serial ++ (10 ∷ codes "key id " ++ (key_id ++ (10 ∷ codes "valid after " ++ window_text after before))))) line_end
-    ∙ ap (λ (l : List ℕ). kind ++ (10 ∷ codes "serial " ++ l)) (append_assoc serial (10 ∷ codes "key id " ++ (key_id ++ (10 ∷ codes "valid after " ++ window_text after before))) line_end)
-    ∙ ap (λ (l : List ℕ). kind ++ (10 ∷ codes "serial " ++ (serial ++ (10 ∷ codes "key id " ++ l)))) (append_assoc key_id (10 ∷ codes "valid after " ++ window_text after before) line_end)
-    ∙ ap (λ (l : List ℕ). kind ++ (10 ∷ codes "serial " ++ (serial ++ (10 ∷ codes "key id " ++ (key_id ++ (10 ∷ codes "valid after " ++ l)))))) (append_assoc after (10 ∷ codes "valid before " ++ before) line_end)
-
-pub fields_are : (c : Certificate) (name kind serial key_id after before text : List ℕ) → name ≡ key_name c.signed.key → kind ≡ type_word c.signed.certificate_type → serial ≡ decimal c.signed.serial → key_id ≡ c.signed.key_id → after ≡ decimal c.signed.valid_after → before ≡ end_text c.signed.valid_before → text ≡ codes "algorithm " ++ (name ++ (10 ∷ codes "type " ++ (rest_text kind serial key_id after before ++ line_end))) → text ≡ in_lines (field_lines c)
-fields_are c name kind serial key_id after before text e1 e2 e3 e4 e5 e6 is =
-    let all : codes "algorithm " ++ (name ++ (10 ∷ codes "type " ++ rest_text kind serial key_id after (before ++ line_end))) ≡ in_lines (field_lines c) = rw (e1, e2, e3, e4, e5, e6) refl in
-    is ∙ ap (λ (l : List ℕ). codes "algorithm " ++ (name ++ (10 ∷ codes "type " ++ l))) (rest_ends kind serial key_id after before) ∙ all
+pub fields_are : (c : Certificate) (subject window text : List ℕ) → subject ≡ in_lines (subject_lines c) → window ≡ in_lines (window_lines c) → text ≡ subject ++ window → text ≡ in_lines (field_lines c)
+fields_are c subject window text e1 e2 is =
+    is
+    ∙ ap (λ (l : List ℕ). l ++ window) e1
+    ∙ ap (λ (l : List ℕ). in_lines (subject_lines c) ++ l) e2
+    ∙ sym (lines_append (subject_lines c) (window_lines c))
 
 certificate_is : (c : Certificate) → in_lines (certificate_lines c) ≡ in_lines (field_lines c) ++ (in_lines (principal_lines c.signed.valid_principals) ++ (in_lines (map (option_line (codes "critical option")) c.signed.critical_options) ++ (in_lines (map (option_line (codes "extension")) c.signed.extensions) ++ (codes "ca " ++ (key_line c.signed.signature_key [] ++ line_end)))))
 certificate_is c =

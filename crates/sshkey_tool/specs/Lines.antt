@@ -33,14 +33,20 @@ principal_lines (p ∷ ps) = map principal_line (p ∷ ps)
 abbrev pub option_line : List ℕ → CertificateOption → List ℕ
 option_line kind o = kind ++ (codes " " ++ (o.name ++ (codes "=" ++ o.value)))
 
-abbrev pub field_lines : Certificate → List (List ℕ)
-field_lines c = (codes "algorithm " ++ key_name c.signed.key)
+abbrev pub subject_lines : Certificate → List (List ℕ)
+subject_lines c = (codes "algorithm " ++ key_name c.signed.key)
     ∷ (codes "type " ++ type_word c.signed.certificate_type)
     ∷ (codes "serial " ++ decimal c.signed.serial)
-    ∷ (codes "key id " ++ c.signed.key_id)
+    ∷ []
+
+abbrev pub window_lines : Certificate → List (List ℕ)
+window_lines c = (codes "key id " ++ c.signed.key_id)
     ∷ (codes "valid after " ++ decimal c.signed.valid_after)
     ∷ (codes "valid before " ++ end_text c.signed.valid_before)
     ∷ []
+
+abbrev pub field_lines : Certificate → List (List ℕ)
+field_lines c = subject_lines c ++ window_lines c
 
 -- The texts stand as they are, whatever characters they have.
 abbrev pub certificate_lines : Certificate → List (List ℕ)

@@ -6,7 +6,7 @@ ghost use Rattle.sshkey_keys.specs.Keys.{key_of};
 ghost use Rattle.sshkey_options.specs.CertTypes.{type_of};
 ghost use Rattle.sshkey_options.specs.OptionMaps.{options_of};
 ghost use Rattle.sshkey_cert.specs.CertificateValues.{certificate_of};
-ghost use Rattle.sshkey_tool.specs.Lines.{SaysAllowed, end_text, field_lines, in_lines, line_end, option_line, principal_lines, type_word};
+ghost use Rattle.sshkey_tool.specs.Lines.{SaysAllowed, end_text, field_lines, in_lines, line_end, option_line, principal_lines, subject_lines, type_word, window_lines};
 ghost use Rattle.sshkey_tool.specs.Outcomes.{ShowsCertificate, ShowsFields, ShowsAuthority};
 
 use ssh_key::certificate::{CertType, FOREVER, OptionsMap};
@@ -58,16 +58,29 @@ fn certificate_lines(alloc: Global, certificate: &Certificate) -> Result<String,
 fn field_lines(alloc: Global, certificate: &Certificate) -> Result<String, AllocError>
     ensures { IfOk result (λ s. string_bytes s ≡ in_lines (field_lines (certificate_of certificate.now))) }
 {
+    let subject = subject_lines(alloc, certificate)?;
+    let window = window_lines(alloc, certificate)?;
+    format!(in alloc; "{subject}{window}")
+}
+
+/// The lines of the algorithm, the type and the serial number.
+fn subject_lines(alloc: Global, certificate: &Certificate) -> Result<String, AllocError>
+    ensures { IfOk result (λ s. string_bytes s ≡ in_lines (subject_lines (certificate_of certificate.now))) }
+{
     let name = certificate.public_key().algorithm_name();
     let kind = type_word(certificate.cert_type());
     let serial = certificate.serial();
+    format!(in alloc; "algorithm {name}\ntype {kind}\nserial {serial}\n")
+}
+
+/// The lines of the key id and of the window.
+fn window_lines(alloc: Global, certificate: &Certificate) -> Result<String, AllocError>
+    ensures { IfOk result (λ s. string_bytes s ≡ in_lines (window_lines (certificate_of certificate.now))) }
+{
     let key_id = certificate.key_id();
     let after = certificate.valid_after();
     let before = end_text(alloc, certificate.valid_before())?;
-    format!(in alloc;
-        "algorithm {name}\ntype {kind}\nserial {serial}\nkey id {key_id}\n\
-         valid after {after}\nvalid before {before}\n"
-    )
+    format!(in alloc; "key id {key_id}\nvalid after {after}\nvalid before {before}\n")
 }
 
 /// The word for a type.
