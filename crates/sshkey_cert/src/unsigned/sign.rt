@@ -32,8 +32,12 @@ impl Unsigned {
     ) -> Result<Certificate>
         ensures fields { IfOk result (λ c. (certificate_of c).signed ≡ unsigned_of self) }
         ensures comment { IfOk result (λ c. comment_of c ≡ comment) }
-        ensures signature { IfOk result (λ c. IsAccepted (S.Raw.accepts (S.raw_of signing_key.now)) (key_of (S.public_of signing_key.now)) (flat (normal_to_be_signed (unsigned_of self))) (certificate_of c).signature) }
-        ensures refused { IfErr result (RefusesToSign (S.refuses signing_key.now) (unsigned_of self)) }
+        ensures signature { IfOk result
+            (λ c. IsAccepted (S.Raw.accepts (S.raw_of signing_key.now))
+            (key_of (S.public_of signing_key.now)) (flat (normal_to_be_signed (unsigned_of self)))
+            (certificate_of c).signature) }
+        ensures refused { IfErr result
+            (RefusesToSign (S.refuses signing_key.now) (unsigned_of self)) }
     {
         match self.signature_by(alloc, signing_key) {
             Ok(signature) => Ok(Certificate {
@@ -47,9 +51,13 @@ impl Unsigned {
 
     /// What the signer makes of the bytes that are signed.
     fn signature_by<S: SigningKey>(&self, alloc: Global, signing_key: &S) -> Result<Signature>
-        ensures accepted { IfOk result (λ g. IsAccepted (S.Raw.accepts (S.raw_of signing_key.now)) (key_of (S.public_of signing_key.now)) (flat (normal_to_be_signed (unsigned_of self.now))) (signature_of g)) }
+        ensures accepted { IfOk result
+            (λ g. IsAccepted (S.Raw.accepts (S.raw_of signing_key.now))
+            (key_of (S.public_of signing_key.now)) (flat
+            (normal_to_be_signed (unsigned_of self.now))) (signature_of g)) }
         ensures fits { OnOk result (signed_fits (unsigned_of self.now) ≡ true) }
-        ensures refused { IfErr result (RefusesToSign (S.refuses signing_key.now) (unsigned_of self.now)) }
+        ensures refused { IfErr result
+            (RefusesToSign (S.refuses signing_key.now) (unsigned_of self.now)) }
     {
         let signed = self.checked_bytes(alloc)?;
         signing_key.try_sign(alloc, &signed)
@@ -57,10 +65,12 @@ impl Unsigned {
 
     /// The bytes that are signed, where they fit.
     fn checked_bytes(&self, alloc: Global) -> Result<Vec<u8>>
-        ensures bytes { IfOk result (λ v. v.items ≡ flat (normal_to_be_signed (unsigned_of self.now))) }
+        ensures bytes { IfOk result
+            (λ v. v.items ≡ flat (normal_to_be_signed (unsigned_of self.now))) }
         ensures fits { OnOk result (signed_fits (unsigned_of self.now) ≡ true) }
         ensures boxes { OnOk result (BoxesFit (normal_to_be_signed (unsigned_of self.now))) }
-        ensures too_long { IfErr result (λ e. e ≢ wide.Memory → (e ≡ wide.Encoding narrow.Length) × (BoxesFit (normal_to_be_signed (unsigned_of self.now)) → ⊥)) }
+        ensures too_long { IfErr result (λ e. e ≢ wide.Memory → (e ≡ wide.Encoding narrow.Length) ×
+            (BoxesFit (normal_to_be_signed (unsigned_of self.now)) → ⊥)) }
     {
         self.signed_bytes(alloc)
     }

@@ -32,9 +32,11 @@ impl SshSig {
     /// one, else the refusals of `decode`; or for memory that ran out, never where a stated length
     /// passes the bytes: that is `Length`.
     pub fn from_bytes(alloc: Global, bytes: &[u8]) -> Result<SshSig>
-        ensures gives { GivesWhole ssh_signature_of cause (whole ssh_signature_value_at) (all_of bytes.now) result }
+        ensures gives { GivesWhole ssh_signature_of cause (whole ssh_signature_value_at)
+            (all_of bytes.now) result }
         ensures asks { Asks cause NeedsSshSignature (all_of bytes.now) result }
-        ensures accepts { AcceptsWhole ssh_signature_of SpellsSshSignature cause (all_of bytes.now) result }
+        ensures accepts { AcceptsWhole ssh_signature_of SpellsSshSignature cause
+            (all_of bytes.now) result }
     {
         decode_whole(alloc, bytes)
     }
@@ -63,7 +65,8 @@ fn check_magic(bytes: [u8; 6]) -> Result<[u8; 6]>
 /// The six bytes `SSHSIG`.
 #[tactic(auto, using(sshkey_base::proofs::Steps::steps), unfolding(crate::specs::SshSignatureReaders::literal_at))]
 fn decode_magic<R: Reader>(reader: &mut R) -> Result<[u8; 6]>
-    ensures gives { Gives (λ b. b) cause (literal_at signature_magic) (R.source reader.old) result (R.source reader.new) }
+    ensures gives { Gives (λ b. b) cause (literal_at signature_magic)
+        (R.source reader.old) result (R.source reader.new) }
     ensures later { Later (R.source reader.old) (R.source reader.new) }
     ensures asks { Asks cause NoNeed (R.source reader.old) result }
 {
@@ -84,7 +87,8 @@ fn check_version(number: u32) -> Result<u32>
 /// A version in four bytes.
 #[tactic(auto, using(sshkey_base::proofs::Steps::steps), unfolding(crate::specs::SshSignatureReaders::version_at))]
 fn decode_version<R: Reader>(alloc: Global, reader: &mut R) -> Result<u32>
-    ensures gives { Gives (λ n. n) cause version_at (R.source reader.old) result (R.source reader.new) }
+    ensures gives { Gives (λ n. n) cause version_at
+        (R.source reader.old) result (R.source reader.new) }
     ensures later { Later (R.source reader.old) (R.source reader.new) }
     ensures asks { Asks cause NoNeed (R.source reader.old) result }
     ensures low { IfOk result (λ n. n < 2) }
@@ -106,7 +110,8 @@ fn check_namespace(namespace: Text) -> Result<Text>
 /// A text that is not empty.
 #[tactic(auto, using(sshkey_base::proofs::Steps::steps), unfolding(crate::specs::SshSignatureReaders::namespace_at))]
 fn decode_namespace<R: Reader>(alloc: Global, reader: &mut R) -> Result<Text>
-    ensures gives { Gives (λ t. t) cause namespace_at (R.source reader.old) result (R.source reader.new) }
+    ensures gives { Gives (λ t. t) cause namespace_at
+        (R.source reader.old) result (R.source reader.new) }
     ensures later { Later (R.source reader.old) (R.source reader.new) }
     ensures asks { Asks cause NeedsString (R.source reader.old) result }
     ensures some { IfOk result (λ t. 0 < length t) }
@@ -187,7 +192,8 @@ impl Encode for SshSig {
 /// Writes the namespace, the reserved bytes, the hash's name and the signature.
 #[tactic(auto, using(sshkey_base::proofs::Writing::writing))]
 fn encode_statement<W: Writer>(signature: &SshSig, writer: &mut W) -> encoding::Result<()>
-    ensures { Encodes W.fault (statement (ssh_signature_of signature.now)) (W.sink writer.old) result (W.sink writer.new) }
+    ensures { Encodes W.fault (statement (ssh_signature_of signature.now))
+        (W.sink writer.old) result (W.sink writer.new) }
 {
     signature.namespace.encode(writer)?;
     signature.reserved.encode(writer)?;
