@@ -16,7 +16,6 @@ pub mod NameBytes
 pub mod Mpint
 pub mod Texts
 pub mod TextLists
-pub mod ByteHash
 pub mod Equality
 pub mod Names
 pub mod AlgorithmName

@@ -13,7 +13,7 @@ unfoldable pub use Rattle.sshkey_model.specs.Mpints.{mpint_at}
 
 -- its bytes
 abbrev pub mpint_of : Mpint → List ℕ
-mpint_of m = m.bytes.items
+mpint_of m = m.bytes
 
 abbrev pub SpellsMpint : List ℕ → List ℕ → Type 0
 SpellsMpint = Spells IsMpint string

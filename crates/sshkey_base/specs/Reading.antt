@@ -3,7 +3,8 @@ use Rattle.std.specs.Prelude.{◌≡◌, ◌≢◌, ℕ, ◌<◌, ◌+◌, IsErr
 use Rattle.std.specs.Int.{w32, to_be_bytes}
 use Rattle.sshkey_model.specs.Reading.{Fault, Length, ◌>>=◌, Front, Whole, number_at}
 use Rattle.sshkey_base.specs.declared.encoding.Error.{Error}
-use Rattle.sshkey_base.specs.Causes.{Cause, NoMemory, Faulty, encoding_cause}
+use Rattle.sshkey_base.specs.declared.error.Error as wide
+use Rattle.sshkey_base.specs.Causes.{Cause, NoMemory, Faulty, encoding_cause, cause}
 use Rattle.sshkey_base.specs.Source.{Source, IsSound}
 
 -- What was read is what the plain reader gives of the bytes that were left, the rest is left, and nothing else changed.
@@ -36,7 +37,11 @@ GivesAlways means cause read s (Err e) t = Refuses s.missing (cause e) (read s.l
 abbrev pub Decodes : {R X Y : Type 0} → (X → Y) → Front Y → (R → Source) → R → Result X Error → R → Type 0
 Decodes means read source before result after = Gives means encoding_cause read (source before) result (source after)
 
--- The same of a call that takes no memory.
+-- The same of a call that refuses with an error of a value.
+abbrev pub DecodesWide : {R X Y : Type 0} → (X → Y) → Front Y → (R → Source) → R → Result X wide.Error → R → Type 0
+DecodesWide means read source before result after = Gives means cause read (source before) result (source after)
+
+-- As `Decodes`, of a call that takes no memory.
 abbrev pub DecodesAlways : {R X Y : Type 0} → (X → Y) → Front Y → (R → Source) → R → Result X Error → R → Type 0
 DecodesAlways means read source before result after = GivesAlways means encoding_cause read (source before) result (source after)
 

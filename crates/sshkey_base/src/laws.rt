@@ -1,11 +1,14 @@
 //! Laws of every value that is read and written. They make no call: each is a fact about the
 //! definitions.
 
+ghost use Rattle.sshkey_base.specs.Comparisons.{IsEqualityOf, IsOrderOf};
 ghost use Rattle.sshkey_base.specs.Laws.{ReadBackBefore, OneFront};
+ghost use Rattle.sshkey_base.specs.Mpint.{mpint_of};
 
 mod names;
 
 use crate::decode::Decode;
+use crate::mpint::Mpint;
 use crate::normal_form::NormalForm;
 pub use names::{
     compared_algorithm_names, compared_algorithms, compared_curves, compared_fields,
@@ -20,4 +23,11 @@ pub fn read_back<T: NormalForm>()
 /// No spelling begins another, and no bytes spell two values.
 pub fn one_front<T: Decode>()
     ensures { OneFront T.Spells }
+{}
+
+/// Two numbers are equal exactly if their bytes are. They are ordered by the first byte that
+/// differs, and a proper beginning comes before the whole.
+pub fn compared_mpints()
+    ensures equal { IsEqualityOf mpint_of ⟦<Mpint as PartialEq>⟧.eq }
+    ensures ordered { IsOrderOf mpint_of ⟦<Mpint as Ord>⟧.cmp }
 {}

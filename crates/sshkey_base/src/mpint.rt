@@ -5,11 +5,9 @@ ghost use Rattle.std.specs.Fmt.{WritesOnOk};
 ghost use Rattle.hex.specs.Hex.{encode_lower, encode_upper};
 ghost use Rattle.sshkey_model.specs.Mpints.{IsMpint, is_mpint, of_positive};
 
-mod hash;
-
 use crate::bytes::Bytes;
 use crate::decode::Decode;
-use crate::encode::{Encode, encode_string, string_len};
+use crate::encode::Encode;
 use crate::encoding;
 use crate::error::{Error, Result};
 use crate::hexadecimal::{write_lower_hex, write_upper_hex};
@@ -17,7 +15,6 @@ use crate::normal_form::NormalForm;
 use crate::reader::Reader;
 use crate::writer::Writer;
 use std::alloc::Global;
-use std::cmp::Ordering;
 use std::convert::AsSlice;
 use std::fmt;
 
@@ -26,10 +23,13 @@ use std::fmt;
 ///
 /// Zero has no byte. Neither the byte 00 alone nor 00 before a byte below 80 hex is one; a needless
 /// leading ff, which the standard forbids too, is accepted and kept.
-#[derive(Debug, Drop)]
+///
+/// Numbers are compared and hashed by their bytes: in order, by the first byte that differs, and a
+/// proper beginning comes before the whole.
+#[derive(Debug, Drop, PartialEq, Eq, PartialOrd, Ord, Hash)]
 pub struct Mpint {
-    bytes: Vec<u8>,
-    pub ghost form: { IsMpint bytes.items },
+    bytes: Bytes,
+    pub ghost form: { IsMpint bytes },
 }
 
 impl Mpint {
@@ -49,7 +49,7 @@ impl Mpint {
             return Err(Error::FormatEncoding);
         }
         Ok(Mpint {
-            bytes: Vec::from_slice(alloc, bytes)?,
+            bytes: Bytes::from_slice(alloc, bytes)?,
         })
     }
 
@@ -60,7 +60,9 @@ impl Mpint {
         if !is_mpint(&bytes) {
             return Err(Error::FormatEncoding);
         }
-        Ok(Mpint { bytes })
+        Ok(Mpint {
+            bytes: Bytes::new(bytes),
+        })
     }
 
     /// The number that is not negative and has these bytes, most significant first.
@@ -76,10 +78,12 @@ impl Mpint {
             let mut bytes = Vec::with_capacity(alloc, digits.len() + 1)?;
             bytes.push(0)?;
             bytes.extend_from_slice(digits)?;
-            return Ok(Mpint { bytes });
+            return Ok(Mpint {
+                bytes: Bytes::new(bytes),
+            });
         }
         Ok(Mpint {
-            bytes: Vec::from_slice(alloc, digits)?,
+            bytes: Bytes::from_slice(alloc, digits)?,
         })
     }
 
@@ -109,7 +113,7 @@ impl Mpint {
         ensures refused { IfErr result (λ e. e ≡ Error.Memory) }
     {
         Ok(Mpint {
-            bytes: Vec::from_slice(alloc, &self.bytes)?,
+            bytes: self.bytes.try_clone(alloc)?,
         })
     }
 }
@@ -137,72 +141,6 @@ fn without_leading_zeros(bytes: &[u8]) -> &[u8]
     rest
 }
 
-impl PartialEq for Mpint {
-    ghost use Rattle.std.specs.Prelude.{◌≡◌, ◌↔◌, IsTrue};
-    ghost use Rattle.std.specs.Cmp.Rules.{comparing};
-    ghost use Rattle.std.proofs.Common.{rules};
-    ghost use Rattle.std.specs.Ordering.{on};
-    ghost use Rattle.std.specs.Str.{bytes_eq};
-    ghost use Rattle.sshkey_base.specs.Mpint.{mpint_of};
-
-    ghost eq = { on mpint_of bytes_eq };
-
-    ghost laws = { Prim.search (comparing, rules) };
-
-    /// Whether the bytes are equal.
-    fn eq(&self, other: &Mpint) -> bool
-        ensures value { result ≡ on mpint_of bytes_eq self.now other.now }
-        ensures exact { IsTrue result ↔ (mpint_of self.now ≡ mpint_of other.now) }
-    {
-        self.bytes == other.bytes
-    }
-}
-
-impl Eq for Mpint {
-    ghost use Rattle.std.specs.Cmp.Rules.{comparing};
-    ghost use Rattle.std.proofs.Common.{rules};
-
-    ghost laws = { Prim.search (comparing, rules) };
-}
-
-impl Ord for Mpint {
-    ghost use Rattle.std.specs.Cmp.Lexicographic.{slice_cmp};
-    ghost use Rattle.std.specs.Cmp.Rules.{comparing};
-    ghost use Rattle.std.proofs.Common.{rules};
-    ghost use Rattle.std.specs.Ordering.{nat_cmp, on};
-    ghost use Rattle.sshkey_base.specs.Mpint.{mpint_of};
-
-    ghost cmp = { on mpint_of (slice_cmp nat_cmp) };
-
-    ghost total = { Prim.search (comparing, rules) };
-
-    ghost matches_partial_cmp = { Prim.search (comparing, rules) };
-
-    ghost matches_eq = { Prim.search (comparing, rules) };
-
-    /// The order of the bytes, from the first on; a proper beginning comes before the whole.
-    fn cmp(&self, other: &Mpint) -> Ordering {
-        self.bytes.cmp(&other.bytes)
-    }
-}
-
-impl PartialOrd for Mpint {
-    ghost use Rattle.std.specs.Cmp.{partial_order_from_own_ties};
-    ghost use Rattle.std.specs.Cmp.Lexicographic.{slice_cmp};
-    ghost use Rattle.std.specs.Cmp.Rules.{comparing};
-    ghost use Rattle.std.proofs.Common.{rules};
-    ghost use Rattle.std.specs.Ordering.{nat_cmp, on, as_partial_cmp};
-    ghost use Rattle.sshkey_base.specs.Mpint.{mpint_of};
-
-    ghost partial_cmp = { as_partial_cmp (on mpint_of (slice_cmp nat_cmp)) };
-
-    ghost laws = { partial_order_from_own_ties (Prim.search (comparing, rules)) (Prim.search (comparing, rules)) };
-
-    fn partial_cmp(&self, other: &Mpint) -> Option<Ordering> {
-        Some(self.cmp(other))
-    }
-}
-
 impl AsSlice<u8> for Mpint {
     ghost use Rattle.sshkey_base.specs.Mpint.{mpint_of};
 
@@ -221,7 +159,7 @@ impl fmt::LowerHex for Mpint {
         ensures { WritesOnOk W.write_str_gives f.old result
             (encode_lower (mpint_of self.now)) f.new }
     {
-        write_lower_hex(&self.bytes, f)
+        write_lower_hex(self.as_bytes(), f)
     }
 }
 
@@ -233,7 +171,7 @@ impl fmt::UpperHex for Mpint {
         ensures { WritesOnOk W.write_str_gives f.old result
             (encode_upper (mpint_of self.now)) f.new }
     {
-        write_upper_hex(&self.bytes, f)
+        write_upper_hex(self.as_bytes(), f)
     }
 }
 
@@ -259,7 +197,7 @@ impl Decode for Mpint {
     ghost use Rattle.std.specs.Prelude.{ℕ, List};
     ghost use Rattle.sshkey_base.specs.Causes.{cause};
     ghost use Rattle.sshkey_base.specs.Mpint.{SpellsMpint, mpint_at, mpint_grammar, mpint_of};
-    ghost use Rattle.sshkey_base.specs.Reading.{Gives, LengthPast};
+    ghost use Rattle.sshkey_base.specs.Reading.{DecodesWide, LengthPast};
     ghost use Rattle.sshkey_base.specs.Needs.{Asks, NeedsString};
     ghost use Rattle.sshkey_base.specs.Source.{Later};
 
@@ -278,8 +216,7 @@ impl Decode for Mpint {
     ghost grammar = { mpint_grammar };
 
     fn decode<R: Reader>(alloc: Global, reader: &mut R) -> Result<Mpint>
-        ensures gives { Gives mpint_of cause mpint_at
-            (R.source reader.old) result (R.source reader.new) }
+        ensures gives { DecodesWide mpint_of mpint_at R.source reader.old result reader.new }
         ensures later { Later (R.source reader.old) (R.source reader.new) }
         ensures asks { Asks cause NeedsString (R.source reader.old) result }
         ensures past { LengthPast cause (R.source reader.old) result }
@@ -300,11 +237,11 @@ impl Encode for Mpint {
     ghost max_len = { 2 ^ 32 + 4 };
 
     fn encoded_len(&self) -> encoding::Result<usize> {
-        string_len(&self.bytes)
+        self.bytes.encoded_len()
     }
 
     fn encode<W: Writer>(&self, writer: &mut W) -> encoding::Result<()> {
-        encode_string(&self.bytes, writer)
+        self.bytes.encode(writer)
     }
 }
 

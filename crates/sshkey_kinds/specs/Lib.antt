@@ -1,4 +1,5 @@
 pub mod PointSizes
+pub mod ByteHash
 pub mod EcPoint
 pub mod EcdsaPublicKey
 pub mod EcdsaEquality

@@ -158,7 +158,7 @@ impl<const LEN: usize> PartialOrd for EcPoint<LEN> {
 impl<const LEN: usize> Hash for EcPoint<LEN> {
     ghost use Rattle.std.specs.Hash as fed;
     ghost use Rattle.sshkey_kinds.specs.EcPoint.{point_of};
-    ghost use Rattle.sshkey_base.specs.ByteHash.{same_hash};
+    ghost use Rattle.sshkey_kinds.specs.ByteHash.{same_hash};
 
     ghost hash_input = { λ p. fed.slice fed.u8 (point_of p) };
 

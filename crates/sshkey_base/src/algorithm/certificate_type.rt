@@ -7,7 +7,7 @@ ghost use Rattle.sshkey_model.specs.Names.{named};
 ghost use Rattle.sshkey_model.specs.Names as model;
 ghost use Rattle.sshkey_model.specs.Parts.{bytes};
 ghost use Rattle.sshkey_model.specs.Reading as fault;
-ghost use Rattle.sshkey_base.specs.Reading.{AcceptsFront, Gives, LengthPast};
+ghost use Rattle.sshkey_base.specs.Reading.{AcceptsFront, DecodesWide, LengthPast};
 ghost use Rattle.sshkey_base.specs.Causes.{cause};
 ghost use Rattle.sshkey_base.specs.Names.{IsFixed, algorithm_of};
 ghost use Rattle.sshkey_base.specs.Answers.{Names};
@@ -87,8 +87,8 @@ impl Algorithm {
     /// where it is no such name. After a refusal some of the bytes may be passed.
     pub fn decode_certificate<R: Reader>(alloc: Global, reader: &mut R) -> Result<Algorithm>
         ensures past { LengthPast cause (R.source reader.old) result }
-        ensures gives { Gives algorithm_of cause certificate_algorithm_at
-            (R.source reader.old) result (R.source reader.new) }
+        ensures gives { DecodesWide algorithm_of certificate_algorithm_at
+            R.source reader.old result reader.new }
         ensures later { Later (R.source reader.old) (R.source reader.new) }
         ensures asks { Asks cause NeedsString (R.source reader.old) result }
         ensures accepts { AcceptsFront algorithm_of (Spells IsCertified certificate_algorithm) cause
@@ -139,8 +139,8 @@ impl Algorithm {
 #[tactic(auto, using(crate::proofs::Steps::steps), unfolding(sshkey_model::specs::CertificateNames::certificate_algorithm_at))]
 fn read_certificate_type<R: Reader>(alloc: Global, reader: &mut R) -> Result<Algorithm>
     ensures past { LengthPast cause (R.source reader.old) result }
-    ensures gives { Gives algorithm_of cause certificate_algorithm_at
-        (R.source reader.old) result (R.source reader.new) }
+    ensures gives { DecodesWide algorithm_of certificate_algorithm_at
+        R.source reader.old result reader.new }
     ensures later { Later (R.source reader.old) (R.source reader.new) }
     ensures asks { Asks cause NeedsString (R.source reader.old) result }
 {
