@@ -1,5 +1,5 @@
 -- Nothing is wrong with a certificate exactly where it is valid.
-use Rattle.std.proofs.Common.{◌≡◌, ◌↔◌, ℕ, zero, suc, ◌<◌, ◌≤◌, List, [], ◌∷◌, Bool, true, false, ◌&&◌, ◌||◌, nat_le, nat_lt, Contains, Option, Some, None, refl, sym, subst, arith, rules, tests, bytes_eq, lt-ltb, inl, inr, ◌⊎◌}
+use Rattle.std.proofs.Common.{◌≡◌, ◌↔◌, ℕ, zero, suc, ◌≤◌, List, [], ◌∷◌, Bool, true, false, ◌&&◌, ◌||◌, nat_le, nat_lt, Contains, Option, Some, None, refl, sym, subst, arith, rules, tests, bytes_eq, lt-ltb, inl, inr, ◌⊎◌}
 use Rattle.std.proofs.lemmas.Bool.{and_parts, and_from, ltb-true, leb-true}
 use Rattle.std.proofs.lemmas.Slice.Eq.{bytes_eq-Decides}
 use Rattle.std.specs.List.{list_any}
@@ -8,8 +8,8 @@ use Rattle.sshkey_model.specs.Certificates.{Certificate, is_time}
 use Rattle.sshkey_model.specs.Fingerprints.{Fingerprint, same_hash, same_fingerprint}
 use Rattle.sshkey_model.specs.Verification.{Question}
 use Rattle.sshkey_model.specs.Validity.{IsValid}
-use Rattle.sshkey_model.specs.Principals.{Allows, IsValidFor}
-use Rattle.sshkey_model.specs.Refusals.{Refusal, NotSigned, OtherAuthority, NoTime, OutOfWindow, OtherPrincipal, is_signed, is_given, is_within, allows, unless, or_else, first_refusal, first_refusal_for}
+use Rattle.sshkey_model.specs.Principals.{IsValidFor}
+use Rattle.sshkey_model.specs.Refusals.{Refusal, NotSigned, OtherAuthority, NoTime, OutOfWindow, OtherPrincipal, is_signed, is_given, is_within, allows, unless, first_refusal, first_refusal_for}
 
 -- ---- a list holds a value
 

@@ -1,12 +1,11 @@
 -- A draft that was signed is valid through its window.
-use Rattle.std.proofs.Common.{◌≡◌, ℕ, ◌^◌, ◌<◌, ◌≤◌, List, Bool, Contains, sym, subst, ap}
-use Rattle.sshkey_model.specs.Parts.{flat}
+use Rattle.std.proofs.Common.{◌≡◌, Bool, Contains, sym, subst, ap}
 use Rattle.sshkey_model.specs.Names.{Sha256}
 use Rattle.sshkey_model.specs.Keys.{Key}
-use Rattle.sshkey_model.specs.Certificates.{SignedFields, Certificate, normal_to_be_signed}
+use Rattle.sshkey_model.specs.Certificates.{SignedFields, Certificate}
 use Rattle.sshkey_model.specs.Fingerprints.{fingerprint}
-use Rattle.sshkey_model.specs.Verification.{Question, IsAccepted}
-use Rattle.sshkey_model.specs.Drafts.{Draft, drafted, IsSignedDraft, IsValidThrough}
+use Rattle.sshkey_model.specs.Verification.{Question}
+use Rattle.sshkey_model.specs.Drafts.{Draft, IsSignedDraft, IsValidThrough}
 
 pub signed_through : (accepts : Question → Bool) (k : Key) (d : Draft) (c : Certificate) → IsSignedDraft accepts k d c → IsValidThrough accepts (fingerprint Sha256 k) c
 signed_through accepts k d c signed fingerprints t has time after before =

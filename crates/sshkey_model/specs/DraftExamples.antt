@@ -1,10 +1,10 @@
 -- Worked examples: maps of options, and how a certificate is made.
-use Rattle.std.specs.Prelude.{◌≡◌, ℕ, ◌-◌, ◌^◌, List, [], ◌∷◌, Option, Some, None, Ok, Err, codes}
+use Rattle.std.specs.Prelude.{◌≡◌, ℕ, ◌-◌, ◌^◌, List, [], ◌∷◌, Some, None, Ok, Err, codes}
 use Rattle.sshkey_model.specs.HexText.{hex}
 use Rattle.sshkey_model.specs.Options.{CertificateOption}
 use Rattle.sshkey_model.specs.OptionMaps.{value_of, with_option, with_options}
 use Rattle.sshkey_model.specs.Certificates.{User, Host}
-use Rattle.sshkey_model.specs.Drafts.{Draft, begun, Step, Serial, Kind, KeyId, Comment, Principal, AllPrincipals, Critical, Extension, SerialField, KindField, KeyIdField, PrincipalsField, AfterField, BeforeField, CriticalField, ExtensionsField, CommentField, bad_window, after_step, after_steps, drafted}
+use Rattle.sshkey_model.specs.Drafts.{Draft, begun, Serial, Kind, KeyId, Comment, Principal, AllPrincipals, Critical, Extension, SerialField, KindField, KeyIdField, AfterField, BeforeField, CriticalField, ExtensionsField, CommentField, bad_window, after_step, after_steps, drafted}
 use Rattle.sshkey_model.specs.KeyExamples.{ed25519_key}
 use Rattle.sshkey_model.specs.CertificateExamples.{small_certificate, authority}
 

@@ -3,8 +3,6 @@ use Rattle.std.specs.Prelude.{◌≡◌, ℕ, ◌-◌, ◌^◌, List, [], ◌∷
 use Rattle.sshkey_model.specs.Names.{Sha256}
 use Rattle.sshkey_model.specs.Certificates.{Certificate}
 use Rattle.sshkey_model.specs.Fingerprints.{Fingerprint}
-use Rattle.sshkey_model.specs.Validity.{IsValid}
-use Rattle.sshkey_model.specs.Principals.{IsValidFor}
 use Rattle.sshkey_model.specs.Refusals.{Refusal, NotSigned, OtherAuthority, NoTime, OutOfWindow, OtherPrincipal, first_refusal, first_refusal_for}
 use Rattle.sshkey_model.specs.ValidityExamples.{zero_signed, right_fingerprint}
 

@@ -87,7 +87,8 @@ pub fn prefix_certificate()
 
 /// No SSH signature begins another.
 pub fn prefix_ssh_signature()
-    ensures { IsPrefixFree (IsSpelled IsSshSignature HasSshSignaturePlaces) (spelled ssh_signature) }
+    ensures { IsPrefixFree (IsSpelled IsSshSignature HasSshSignaturePlaces)
+        (spelled ssh_signature) }
 {}
 
 /// Two mpints are written alike exactly if they are equal.
@@ -162,7 +163,8 @@ pub fn read_back_options()
 
 /// The normal form of a certificate is read as that certificate with plain choices.
 pub fn read_back_certificate()
-    ensures { ReadBackPlain IsCertificate certificate (λ c. plain_certificate c.signed) certificate_at }
+    ensures { ReadBackPlain IsCertificate certificate
+        (λ c. plain_certificate c.signed) certificate_at }
 {}
 
 /// The normal form of an SSH signature is read as that signature with the plain name.

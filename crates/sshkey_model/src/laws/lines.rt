@@ -12,7 +12,8 @@ pub fn one_key_line()
 
 /// A text is a line of one certificate at most, and with one comment.
 pub fn one_certificate_line()
-    ensures { LinesDetermineValues name_of_certificate (SpellsWith IsCertificate HasCertificatePlaces certificate) }
+    ensures { LinesDetermineValues name_of_certificate
+        (SpellsWith IsCertificate HasCertificatePlaces certificate) }
 {}
 
 /// What is read of a key's line is written as a line that is read back.
@@ -22,7 +23,8 @@ pub fn read_back_key_line()
 
 /// What is read of a certificate's line is written as a line that is read back.
 pub fn read_back_certificate_line()
-    ensures { LinesReadBack name_of_certificate (SpellsWith IsCertificate HasCertificatePlaces certificate) normal_certificate }
+    ensures { LinesReadBack name_of_certificate
+        (SpellsWith IsCertificate HasCertificatePlaces certificate) normal_certificate }
 {}
 
 /// No text is a line of a key and one of a certificate.

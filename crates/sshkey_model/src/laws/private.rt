@@ -26,7 +26,8 @@ pub fn prefix_kdf()
 
 /// No private scalar of a size begins another.
 pub fn prefix_scalar()
-    ensures { (size : ℕ) → IsPrefixFree (IsSpelled (IsScalar size) HasScalarPlaces) (spelled scalar) }
+    ensures { (size : ℕ) → IsPrefixFree (IsSpelled (IsScalar size) HasScalarPlaces)
+        (spelled scalar) }
 {}
 
 /// No private half of an RSA pair begins another.
@@ -36,7 +37,8 @@ pub fn prefix_rsa_private()
 
 /// Under one algorithm no key pair begins another.
 pub fn prefix_pair()
-    ensures { (a : Algorithm) → IsPrefixFree (IsSpelled (IsPairUnder a) HasPairPlaces) (spelled pair) }
+    ensures { (a : Algorithm) → IsPrefixFree (IsSpelled (IsPairUnder a) HasPairPlaces)
+        (spelled pair) }
 {}
 
 /// No pair of ECDSA begins another, of whichever curve.

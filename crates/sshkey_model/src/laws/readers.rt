@@ -131,7 +131,8 @@ pub fn exact_certificate()
 /// SSH signatures are read exactly where they are spelled.
 #[tactic(auto, using(crate::proofs::Grammars::grammar, crate::proofs::SshSignatureReaders::ssh_signature_reads))]
 pub fn exact_ssh_signature()
-    ensures { IsGrammar (SpellsAs IsSshSignature HasSshSignaturePlaces ssh_signature) ssh_signature_at }
+    ensures { IsGrammar (SpellsAs IsSshSignature HasSshSignaturePlaces ssh_signature)
+        ssh_signature_at }
 {}
 
 /// Names of ciphers are read exactly where they are spelled.
@@ -155,7 +156,8 @@ pub fn exact_kdf()
 /// Private scalars of a size are read exactly where they are spelled, with a leading 00 and without,
 /// and as the shortest mpint.
 pub fn exact_scalar()
-    ensures { (size : ℕ) → IsGrammar (SpellsAs (IsScalar size) HasScalarPlaces scalar) (scalar_at size) }
+    ensures { (size : ℕ) → IsGrammar (SpellsAs (IsScalar size) HasScalarPlaces scalar)
+        (scalar_at size) }
 {}
 
 /// Private halves of RSA pairs are read exactly where they are spelled.
@@ -172,7 +174,8 @@ pub fn exact_ecdsa_pair()
 
 /// Under each algorithm key pairs are read exactly where they are spelled.
 pub fn exact_pair()
-    ensures { (a : Algorithm) → IsGrammar (SpellsAs (IsPairUnder a) HasPairPlaces pair) (pair_at a) }
+    ensures { (a : Algorithm) → IsGrammar (SpellsAs (IsPairUnder a) HasPairPlaces pair)
+        (pair_at a) }
 {}
 
 /// Key pairs with their names are read exactly where they are spelled.
