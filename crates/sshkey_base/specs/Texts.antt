@@ -2,11 +2,10 @@
 use Rattle.std.specs.Prelude.{ℕ, List, String, string_bytes, refl}
 use Rattle.std.proofs.lemmas.Str.{is_utf8-from_IsUtf8, IsUtf8-string_bytes}
 use Rattle.sshkey_model.specs.Parts.{Fits, flat}
-use Rattle.sshkey_model.specs.Texts.{string, IsText}
+use Rattle.sshkey_model.specs.Texts.{string, IsText, text_at}
 use Rattle.sshkey_model.specs.Grammar.{IsGrammar, Spells}
 use Rattle.sshkey_model.proofs.Grammars.{grammar}
 use Rattle.sshkey_model.proofs.TextReaders.{text_reads}
-unfoldable pub use Rattle.sshkey_model.specs.Texts.{text_at}
 
 abbrev pub SpellsText : List ℕ → List ℕ → Type 0
 SpellsText = Spells IsText string

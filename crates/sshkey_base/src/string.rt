@@ -6,7 +6,8 @@ ghost use Rattle.sshkey_base.specs.Causes.{encoding_cause};
 ghost use Rattle.sshkey_base.specs.Needs.{Asks, NeedsString};
 ghost use Rattle.sshkey_base.specs.Reading.{Decodes, LengthPast};
 ghost use Rattle.sshkey_base.specs.Source.{Later};
-ghost use Rattle.sshkey_base.specs.Texts.{SpellsText, text_at, text_grammar, string_text_normal};
+ghost use Rattle.sshkey_model.specs.Texts.{text_at};
+ghost use Rattle.sshkey_base.specs.Texts.{SpellsText, text_grammar, string_text_normal};
 
 use crate::decode::Decode;
 use crate::encode::{Encode, encode_string, string_len};

@@ -7,7 +7,8 @@ ghost use Rattle.sshkey_base.specs.Causes.{encoding_cause};
 ghost use Rattle.sshkey_base.specs.Needs.{Asks, NeedsString};
 ghost use Rattle.sshkey_base.specs.Reading.{Decodes, LengthPast};
 ghost use Rattle.sshkey_base.specs.Source.{Later};
-ghost use Rattle.sshkey_base.specs.Texts.{SpellsText, text_at, text_grammar};
+ghost use Rattle.sshkey_model.specs.Texts.{text_at};
+ghost use Rattle.sshkey_base.specs.Texts.{SpellsText, text_grammar};
 
 mod compare;
 
@@ -68,7 +69,7 @@ impl Text {
 /// A string whose bytes are UTF-8, else `CharacterEncoding` (RFC 4251, section 5).
 ///
 /// A length that passes what is left is `Length`, and no memory is asked for it.
-#[tactic(auto, using(crate::proofs::Steps::steps), unfolding(crate::specs::Texts::text_at))]
+#[tactic(auto, using(crate::proofs::Steps::steps), unfolding(sshkey_model::specs::Texts::text_at))]
 impl Decode for Text {
     type Error = Error;
 

@@ -11,9 +11,6 @@ use Rattle.sshkey_model.proofs.KeyReaders.{body_reads, key_reads}
 use Rattle.sshkey_base.specs.Labels.{label_at}
 use Rattle.sshkey_kinds.specs.Bodies.{SpellsBody}
 use Rattle.sshkey_keys.specs.Keys.{SpellsKey, key_data_at}
--- under names that an attribute of this crate can unfold
-unfoldable pub use Rattle.sshkey_model.specs.Keys.{ecdsa_at}
-unfoldable pub use Rattle.sshkey_kinds.specs.Bodies.{ed25519_body_at}
 
 -- what follows two steps follows the second of them
 after_both : {A B C D : Type 0} (name : Result A Fault) (body : A → Result B Fault) (both : A → B → Result C Fault) (value : C → Result D Fault) → ((name >>= λ n. body n >>= both n) >>= value) ≡ (name >>= λ n. body n >>= λ k. both n k >>= value)

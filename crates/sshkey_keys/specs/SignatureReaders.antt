@@ -2,13 +2,9 @@
 use Rattle.std.proofs.Common.{ℕ, List, refl}
 use Rattle.sshkey_model.specs.Parts.{flat, Fits}
 use Rattle.sshkey_model.specs.Grammar.{IsGrammar, Spells}
-use Rattle.sshkey_model.specs.Signatures.{Signature, IsSignature, signature}
+use Rattle.sshkey_model.specs.Signatures.{Signature, IsSignature, signature, signature_at}
 use Rattle.sshkey_model.proofs.Grammars.{grammar}
 use Rattle.sshkey_model.proofs.SignatureReaders.{signature_reads}
--- under names that an attribute of this crate can unfold
-unfoldable pub use Rattle.sshkey_model.specs.Names.{algorithm_at}
-unfoldable pub use Rattle.sshkey_base.specs.Labels.{label_at}
-unfoldable pub use Rattle.sshkey_model.specs.Signatures.{signature_at}
 
 -- the bytes spell the signature
 abbrev pub SpellsSignature : Signature → List ℕ → Type 0

@@ -208,7 +208,7 @@ fn dsa_from<R: Reader>(alloc: Global, reader: &mut R) -> Result<KeyData>
 }
 
 /// The body of an ECDSA key of that curve. `AlgorithmUnknown` for another curve.
-#[tactic(auto, using(sshkey_base::proofs::Steps::steps), unfolding(crate::specs::KeyReaders::ecdsa_at))]
+#[tactic(auto, using(sshkey_base::proofs::Steps::steps), unfolding(sshkey_model::specs::Keys::ecdsa_at))]
 fn ecdsa_from<R: Reader>(alloc: Global, reader: &mut R, curve: EcdsaCurve) -> Result<KeyData>
     ensures gives { DecodesBody (Ecdsa (curve_of curve)) R.source reader.old result reader.new }
     ensures later { Later (R.source reader.old) (R.source reader.new) }
@@ -222,7 +222,7 @@ fn ecdsa_from<R: Reader>(alloc: Global, reader: &mut R, curve: EcdsaCurve) -> Re
 }
 
 /// The body of an Ed25519 key.
-#[tactic(auto, using(sshkey_base::proofs::Steps::steps), unfolding(crate::specs::KeyReaders::ed25519_body_at))]
+#[tactic(auto, using(sshkey_base::proofs::Steps::steps), unfolding(sshkey_kinds::specs::Bodies::ed25519_body_at))]
 fn ed25519_from<R: Reader>(alloc: Global, reader: &mut R) -> Result<KeyData>
     ensures gives { DecodesBody Ed25519 R.source reader.old result reader.new }
     ensures later { Later (R.source reader.old) (R.source reader.new) }

@@ -3,13 +3,9 @@ use Rattle.std.specs.Prelude.{ℕ, List, Ok, None}
 use Rattle.sshkey_model.specs.Reading.{◌>>=◌, Front}
 use Rattle.sshkey_model.specs.Grammar.{IsGrammar, Spells}
 use Rattle.sshkey_model.specs.Names.{Algorithm}
-use Rattle.sshkey_model.specs.Keys.{Key, Ed25519, body, IsBodyUnder, IsEcdsa}
+use Rattle.sshkey_model.specs.Keys.{Key, Ed25519, body, IsBodyUnder, IsEcdsa, dsa_at, rsa_at, any_ecdsa_at, ed25519_at, sk_ecdsa_at, sk_ed25519_at}
 use Rattle.sshkey_model.proofs.Grammars.{grammar}
 use Rattle.sshkey_model.proofs.KeyReaders.{dsa_reads, rsa_reads, any_ecdsa_reads, ed25519_reads, sk_ecdsa_reads, sk_ed25519_reads}
--- under names that an attribute of this crate can unfold
-unfoldable pub use Rattle.sshkey_model.specs.Names.{curve_at}
-unfoldable pub use Rattle.sshkey_base.specs.Labels.{label_at}
-unfoldable pub use Rattle.sshkey_model.specs.Keys.{dsa_at, rsa_at, any_ecdsa_at, ed25519_at, sk_ecdsa_at, sk_ed25519_at}
 
 -- the bytes spell the key's body under that algorithm
 abbrev pub SpellsBody : Algorithm → Key → List ℕ → Type 0

@@ -2,7 +2,8 @@
 
 ghost use Rattle.std.specs.Prelude.{◌≡◌, ℕ, IfOk, IfErr, ◌+◌, ◌*◌, ◌^◌};
 ghost use Rattle.sshkey_model.specs.Keys.{Key, body};
-ghost use Rattle.sshkey_kinds.specs.Bodies.{SpellsDsa, dsa_at, dsa_grammar};
+ghost use Rattle.sshkey_model.specs.Keys.{dsa_at};
+ghost use Rattle.sshkey_kinds.specs.Bodies.{SpellsDsa, dsa_grammar};
 
 use sshkey_base::{Decode, Encode, Error, Mpint, Reader, Result, Writer, encoding};
 use std::alloc::Global;
@@ -40,7 +41,7 @@ impl DsaPublicKey {
 }
 
 /// The four numbers p, q, g and y, each as a string.
-#[tactic(auto, using(sshkey_base::proofs::Steps::steps), unfolding(crate::specs::Bodies::dsa_at))]
+#[tactic(auto, using(sshkey_base::proofs::Steps::steps), unfolding(sshkey_model::specs::Keys::dsa_at))]
 impl Decode for DsaPublicKey {
     ghost use Rattle.sshkey_kinds.specs.BodyNeeds.{NeedsDsa};
     ghost use Rattle.sshkey_kinds.specs.Kinds.{dsa_of};

@@ -6,7 +6,7 @@ ghost use Rattle.hex.specs.Hex.{encode_lower, encode_upper};
 ghost use Rattle.sshkey_base.specs.Answers.{AnswersAlways};
 ghost use Rattle.sshkey_base.specs.Causes.{cause};
 ghost use Rattle.sshkey_base.specs.Needs.{Asks, NoNeed};
-ghost use Rattle.sshkey_base.specs.Reading.{Gives};
+ghost use Rattle.sshkey_base.specs.Reading.{DecodesWide};
 ghost use Rattle.sshkey_base.specs.Source.{Later};
 ghost use Rattle.sshkey_model.specs.Points.{curve_of_size, point_curve, point_from};
 ghost use Rattle.sshkey_base.specs.Names.{curve_of};
@@ -115,10 +115,11 @@ impl EcdsaPublicKey {
 ///
 /// `Length` for a point string of more than 133 bytes, the faults of `from_sec1_bytes`, and
 /// `AlgorithmUnknown` for a point of another curve than the stated one.
-#[tactic(auto, using(sshkey_base::proofs::Steps::steps), unfolding(crate::specs::Bodies::any_ecdsa_at, crate::specs::Bodies::curve_at, crate::specs::Bodies::label_at))]
+#[tactic(auto, using(sshkey_base::proofs::Steps::steps), unfolding(sshkey_model::specs::Keys::any_ecdsa_at, sshkey_model::specs::Names::curve_at, sshkey_base::specs::Labels::label_at))]
 impl Decode for EcdsaPublicKey {
     ghost use Rattle.sshkey_model.specs.Keys.{Key};
-    ghost use Rattle.sshkey_kinds.specs.Bodies.{SpellsEcdsa, any_ecdsa_at, any_ecdsa_grammar};
+    ghost use Rattle.sshkey_model.specs.Keys.{any_ecdsa_at};
+    ghost use Rattle.sshkey_kinds.specs.Bodies.{SpellsEcdsa, any_ecdsa_grammar};
     ghost use Rattle.sshkey_kinds.specs.BodyNeeds.{NeedsEcdsa};
     ghost use Rattle.sshkey_kinds.specs.EcdsaPublicKey.{ecdsa_key_of};
 
@@ -149,8 +150,8 @@ impl Decode for EcdsaPublicKey {
 /// A point string of any of the curves, none of which is longer than 133 bytes.
 #[tactic(auto, using(sshkey_base::proofs::Steps::steps))]
 fn decode_point<R: Reader>(reader: &mut R) -> Result<EcdsaPublicKey>
-    ensures gives { Gives ecdsa_of cause (checked_at point_from string_at)
-        (R.source reader.old) result (R.source reader.new) }
+    ensures gives { DecodesWide ecdsa_of (checked_at point_from string_at)
+        R.source reader.old result reader.new }
     ensures later { Later (R.source reader.old) (R.source reader.new) }
     ensures asks { Asks cause NoNeed (R.source reader.old) result }
 {
@@ -161,8 +162,8 @@ fn decode_point<R: Reader>(reader: &mut R) -> Result<EcdsaPublicKey>
 /// The point that the next `len` bytes spell.
 #[tactic(auto, using(sshkey_base::proofs::Lending::lending, sshkey_base::proofs::Places::places))]
 fn point_from<R: Reader>(len: usize, reader: &mut R) -> Result<EcdsaPublicKey>
-    ensures gives { Gives ecdsa_of cause (checked_at point_from (bytes_at len))
-        (R.source reader.old) result (R.source reader.new) }
+    ensures gives { DecodesWide ecdsa_of (checked_at point_from (bytes_at len))
+        R.source reader.old result reader.new }
     ensures later { Later (R.source reader.old) (R.source reader.new) }
     ensures asks { Asks cause NoNeed (R.source reader.old) result }
 {

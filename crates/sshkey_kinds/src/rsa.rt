@@ -2,7 +2,8 @@
 
 ghost use Rattle.std.specs.Prelude.{◌≡◌, ℕ, IfOk, IfErr, ◌+◌, ◌*◌, ◌^◌};
 ghost use Rattle.sshkey_model.specs.Keys.{Key, body};
-ghost use Rattle.sshkey_kinds.specs.Bodies.{SpellsRsa, rsa_at, rsa_grammar};
+ghost use Rattle.sshkey_model.specs.Keys.{rsa_at};
+ghost use Rattle.sshkey_kinds.specs.Bodies.{SpellsRsa, rsa_grammar};
 
 use sshkey_base::{Decode, Encode, Error, Mpint, Reader, Result, Writer, encoding};
 use std::alloc::Global;
@@ -34,7 +35,7 @@ impl RsaPublicKey {
 }
 
 /// The two numbers, e and then n, each as a string.
-#[tactic(auto, using(sshkey_base::proofs::Steps::steps), unfolding(crate::specs::Bodies::rsa_at))]
+#[tactic(auto, using(sshkey_base::proofs::Steps::steps), unfolding(sshkey_model::specs::Keys::rsa_at))]
 impl Decode for RsaPublicKey {
     ghost use Rattle.sshkey_kinds.specs.BodyNeeds.{NeedsRsa};
     ghost use Rattle.sshkey_kinds.specs.Kinds.{rsa_of};

@@ -3,12 +3,13 @@
 ghost use Rattle.std.specs.Prelude.{◌≡◌, ℕ, ◌+◌, ◌*◌, ◌^◌, codes, string_bytes, IfOk, IfErr};
 ghost use Rattle.sshkey_base.specs.Causes.{cause};
 ghost use Rattle.sshkey_base.specs.Needs.{Asks, NoNeed};
-ghost use Rattle.sshkey_base.specs.Reading.{Gives};
+ghost use Rattle.sshkey_base.specs.Reading.{DecodesWide};
 ghost use Rattle.sshkey_base.specs.Source.{Later};
 ghost use Rattle.sshkey_model.specs.Keys.{Key, SkEcdsa, SkEd25519 as SkEd25519Key, body, p256_only};
 ghost use Rattle.sshkey_model.specs.Points.{p256_point_from};
 ghost use Rattle.sshkey_model.specs.Reading.{bytes_at, checked_at, string_at};
-ghost use Rattle.sshkey_kinds.specs.Bodies.{SpellsSkEcdsa, sk_ecdsa_at, sk_ecdsa_grammar, SpellsSkEd25519, sk_ed25519_at, sk_ed25519_grammar};
+ghost use Rattle.sshkey_model.specs.Keys.{sk_ecdsa_at, sk_ed25519_at};
+ghost use Rattle.sshkey_kinds.specs.Bodies.{SpellsSkEcdsa, sk_ecdsa_grammar, SpellsSkEd25519, sk_ed25519_grammar};
 ghost use Rattle.sshkey_kinds.specs.EcPoint.{point_of};
 
 use crate::ec_point::{EcPoint, EcdsaNistP256PublicKey};
@@ -98,7 +99,7 @@ impl From<SkEcdsaSha2NistP256> for EcdsaNistP256PublicKey {
 ///
 /// `Crypto` for another curve, `Length` for a point string of more than 65 bytes, and `Ecdsa` for
 /// one that is no point of P-256.
-#[tactic(auto, using(sshkey_base::proofs::Steps::steps), unfolding(crate::specs::Bodies::sk_ecdsa_at, crate::specs::Bodies::curve_at, crate::specs::Bodies::label_at))]
+#[tactic(auto, using(sshkey_base::proofs::Steps::steps), unfolding(sshkey_model::specs::Keys::sk_ecdsa_at, sshkey_model::specs::Names::curve_at, sshkey_base::specs::Labels::label_at))]
 impl Decode for SkEcdsaSha2NistP256 {
     ghost use Rattle.sshkey_kinds.specs.BodyNeeds.{NeedsSkEcdsa};
     ghost use Rattle.sshkey_kinds.specs.Kinds.{sk_ecdsa_of};
@@ -134,8 +135,8 @@ impl Decode for SkEcdsaSha2NistP256 {
 /// A point string of P-256, none of which is longer than 65 bytes.
 #[tactic(auto, using(sshkey_base::proofs::Steps::steps))]
 fn decode_point<R: Reader>(reader: &mut R) -> Result<EcdsaNistP256PublicKey>
-    ensures gives { Gives point_of cause (checked_at p256_point_from string_at)
-        (R.source reader.old) result (R.source reader.new) }
+    ensures gives { DecodesWide point_of (checked_at p256_point_from string_at)
+        R.source reader.old result reader.new }
     ensures later { Later (R.source reader.old) (R.source reader.new) }
     ensures asks { Asks cause NoNeed (R.source reader.old) result }
 {
@@ -146,8 +147,8 @@ fn decode_point<R: Reader>(reader: &mut R) -> Result<EcdsaNistP256PublicKey>
 /// The point that the next `len` bytes spell.
 #[tactic(auto, using(sshkey_base::proofs::Lending::lending, sshkey_base::proofs::Places::places))]
 fn point_from<R: Reader>(len: usize, reader: &mut R) -> Result<EcdsaNistP256PublicKey>
-    ensures gives { Gives point_of cause (checked_at p256_point_from (bytes_at len))
-        (R.source reader.old) result (R.source reader.new) }
+    ensures gives { DecodesWide point_of (checked_at p256_point_from (bytes_at len))
+        R.source reader.old result reader.new }
     ensures later { Later (R.source reader.old) (R.source reader.new) }
     ensures asks { Asks cause NoNeed (R.source reader.old) result }
 {
@@ -257,7 +258,7 @@ impl From<SkEd25519> for Ed25519PublicKey {
 }
 
 /// A string of 32 bytes, and the application as a text.
-#[tactic(auto, using(sshkey_base::proofs::Steps::steps), unfolding(crate::specs::Bodies::sk_ed25519_at, crate::specs::Bodies::ed25519_body_at, crate::specs::Bodies::ed25519_at))]
+#[tactic(auto, using(sshkey_base::proofs::Steps::steps), unfolding(sshkey_model::specs::Keys::sk_ed25519_at, crate::specs::Bodies::ed25519_body_at, sshkey_model::specs::Keys::ed25519_at))]
 impl Decode for SkEd25519 {
     ghost use Rattle.sshkey_kinds.specs.BodyNeeds.{NeedsSkEd25519};
     ghost use Rattle.sshkey_kinds.specs.Kinds.{sk_ed25519_of};

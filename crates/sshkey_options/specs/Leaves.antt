@@ -4,11 +4,9 @@ use Rattle.std.specs.Int.{w64}
 use Rattle.sshkey_model.specs.Parts.{Any, number}
 use Rattle.sshkey_model.specs.Reading.{Fault, Time}
 use Rattle.sshkey_model.specs.Grammar.{IsGrammar, Spells}
-use Rattle.sshkey_model.specs.Certificates.{CertificateType, certificate_type, is_time, is_end, IsTime, IsEnd}
+use Rattle.sshkey_model.specs.Certificates.{CertificateType, certificate_type, is_time, is_end, IsTime, IsEnd, type_at, time_at, end_at}
 use Rattle.sshkey_model.proofs.CertificateReaders.{type_reads, time_reads, end_reads}
 use Rattle.sshkey_model.proofs.Grammars.{grammar}
--- under names that an attribute of this crate can unfold
-unfoldable pub use Rattle.sshkey_model.specs.Certificates.{type_at, time_at, end_at}
 
 abbrev pub time_from : ℕ → Result ℕ Fault
 time_from t = if is_time t then Ok t else Err Time

@@ -7,7 +7,8 @@ ghost use Rattle.sshkey_base.specs.Answers.{AnswersAlways};
 ghost use Rattle.sshkey_base.specs.Causes.{cause};
 ghost use Rattle.sshkey_base.specs.Needs.{NoNeed};
 ghost use Rattle.sshkey_options.specs.CertTypes.{type_of};
-ghost use Rattle.sshkey_options.specs.Leaves.{SpellsType, type_at, type_grammar};
+ghost use Rattle.sshkey_model.specs.Certificates.{type_at};
+ghost use Rattle.sshkey_options.specs.Leaves.{SpellsType, type_grammar};
 
 use sshkey_base::{Decode, Encode, Error, Reader, Result, Writer, encoding};
 use std::alloc::Global;
@@ -74,7 +75,7 @@ impl TryFrom<u32> for CertType {
 }
 
 /// Four bytes, 1 or 2; `FormatEncoding` for any other number. Takes no memory.
-#[tactic(auto, using(sshkey_base::proofs::Steps::steps, sshkey_base::proofs::Judging::judged), unfolding(crate::specs::Leaves::type_at))]
+#[tactic(auto, using(sshkey_base::proofs::Steps::steps, sshkey_base::proofs::Judging::judged), unfolding(sshkey_model::specs::Certificates::type_at))]
 impl Decode for CertType {
     type Error = Error;
 

@@ -7,7 +7,8 @@ ghost use Rattle.sshkey_model.specs.Parts.{number};
 ghost use Rattle.sshkey_base.specs.Answers.{AnswersAlways};
 ghost use Rattle.sshkey_base.specs.Causes.{cause};
 ghost use Rattle.sshkey_base.specs.Needs.{NoNeed};
-ghost use Rattle.sshkey_options.specs.Leaves.{SpellsEnd, end_from, end_at, end_grammar};
+ghost use Rattle.sshkey_model.specs.Certificates.{end_at};
+ghost use Rattle.sshkey_options.specs.Leaves.{SpellsEnd, end_from, end_grammar};
 
 use crate::unix_time::{MAX_SECS, UnixTime};
 use sshkey_base::{Decode, Encode, Error, Reader, Result, Writer, encoding};
@@ -71,7 +72,7 @@ impl From<UnixTime> for EndTime {
 }
 
 /// Eight bytes, most significant first; `Time` above 2^63 - 1, but for `FOREVER`. Takes no memory.
-#[tactic(auto, using(sshkey_base::proofs::Steps::steps, sshkey_base::proofs::Judging::judged), unfolding(crate::specs::Leaves::end_at))]
+#[tactic(auto, using(sshkey_base::proofs::Steps::steps, sshkey_base::proofs::Judging::judged), unfolding(sshkey_model::specs::Certificates::end_at))]
 impl Decode for EndTime {
     ghost use Rattle.sshkey_options.specs.Times.{end_of};
 

@@ -9,7 +9,7 @@ ghost use Rattle.sshkey_model.specs.Options.{CertificateOption, AreOptions, norm
 ghost use Rattle.sshkey_base.specs.Causes.{cause};
 ghost use Rattle.sshkey_base.specs.Nested.{nested_source};
 ghost use Rattle.sshkey_base.specs.Needs.{Asks, NeedsString};
-ghost use Rattle.sshkey_base.specs.Reading.{Gives, LengthPast, to_end};
+ghost use Rattle.sshkey_base.specs.Reading.{DecodesWide, Gives, LengthPast, to_end};
 ghost use Rattle.sshkey_base.specs.Source.{Later};
 ghost use Rattle.sshkey_options.specs.OptionReaders.{SpellsOptions, option_list_at, options_value_at, options_grammar, options_normal};
 ghost use Rattle.sshkey_options.specs.OptionMaps.{option_of, options_of};
@@ -41,7 +41,8 @@ impl OptionsMap {
     /// The options of these pairs of a name and a value; of two of one name the later one counts.
     /// Refused only when out of memory.
     pub fn from_pairs(alloc: Global, pairs: Vec<(String, String)>) -> Result<OptionsMap>
-        ensures value { IfOk result (λ m. options_of m ≡ with_options (map option_of pairs.items) []) }
+        ensures value { IfOk result
+            (λ m. options_of m ≡ with_options (map option_of pairs.items) []) }
         ensures memory { IfErr result (λ e. e ≡ Error.Memory) }
     {
         let mut options = OptionsMap::new(alloc);
@@ -151,8 +152,8 @@ impl Decode for OptionsMap {
     ghost grammar = { options_grammar };
 
     fn decode<R: Reader>(alloc: Global, reader: &mut R) -> Result<OptionsMap>
-        ensures gives { Gives options_of cause options_value_at
-            (R.source reader.old) result (R.source reader.new) }
+        ensures gives { DecodesWide options_of options_value_at
+            R.source reader.old result reader.new }
         ensures later { Later (R.source reader.old) (R.source reader.new) }
         ensures asks { Asks cause NeedsString (R.source reader.old) result }
         ensures past { LengthPast cause (R.source reader.old) result }

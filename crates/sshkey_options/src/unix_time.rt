@@ -7,7 +7,8 @@ ghost use Rattle.std.specs.Int.{w64};
 ghost use Rattle.sshkey_base.specs.Answers.{AnswersAlways};
 ghost use Rattle.sshkey_base.specs.Causes.{cause};
 ghost use Rattle.sshkey_base.specs.Needs.{NoNeed};
-ghost use Rattle.sshkey_options.specs.Leaves.{SpellsTime, time_from, time_at, time_grammar};
+ghost use Rattle.sshkey_model.specs.Certificates.{time_at};
+ghost use Rattle.sshkey_options.specs.Leaves.{SpellsTime, time_from, time_grammar};
 
 use sshkey_base::{Decode, Encode, Error, Reader, Result, Writer, encoding};
 use std::alloc::Global;
@@ -55,7 +56,7 @@ impl From<UnixTime> for u64 {
 }
 
 /// Eight bytes, most significant first; `Time` above 2^63 - 1. Takes no memory.
-#[tactic(auto, using(sshkey_base::proofs::Steps::steps, sshkey_base::proofs::Judging::judged), unfolding(crate::specs::Leaves::time_at))]
+#[tactic(auto, using(sshkey_base::proofs::Steps::steps, sshkey_base::proofs::Judging::judged), unfolding(sshkey_model::specs::Certificates::time_at))]
 impl Decode for UnixTime {
     ghost use Rattle.sshkey_options.specs.Times.{time_of};
 

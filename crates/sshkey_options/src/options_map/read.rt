@@ -5,7 +5,7 @@ ghost use Rattle.std.specs.BTreeMap.{insert_entry};
 ghost use Rattle.std.specs.String.{string_cmp};
 ghost use Rattle.sshkey_base.specs.Causes.{cause, encoding_cause};
 ghost use Rattle.sshkey_base.specs.Nested.{nested_source};
-ghost use Rattle.sshkey_base.specs.Reading.{Decodes, Gives, to_end};
+ghost use Rattle.sshkey_base.specs.Reading.{Decodes, DecodesWide, Gives, to_end};
 ghost use Rattle.sshkey_base.specs.Source.{Later};
 ghost use Rattle.sshkey_options.specs.OptionReaders.{may_follow, value_front, option_box_at, option_behind, option_list_at};
 ghost use Rattle.sshkey_options.specs.OptionMaps.{option_of, options_of, last_name, GoesLast};
@@ -18,8 +18,8 @@ use std::collections::BTreeMap;
 /// The options up to the end of the reader.
 #[tactic(auto, using(sshkey_base::proofs::Places::places))]
 pub(super) fn options_from<R: Reader>(alloc: Global, reader: &mut R) -> Result<OptionsMap>
-    ensures gives { Gives options_of cause (to_end option_list_at)
-        (R.source reader.old) result (R.source reader.new) }
+    ensures gives { DecodesWide options_of (to_end option_list_at)
+        R.source reader.old result reader.new }
     ensures later { Later (R.source reader.old) (R.source reader.new) }
 {
     let mut options = BTreeMap::new(alloc);

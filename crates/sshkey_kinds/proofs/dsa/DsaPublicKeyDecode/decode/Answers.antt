@@ -1,6 +1,6 @@
 use Rattle.std.proofs.lemmas.Result.{err_from_is_err_and}
 use Rattle.sshkey_base.proofs.Steps.{refused_first, refused_later}
-use Rattle.sshkey_kinds.specs.Bodies.{dsa_at}
+use Rattle.sshkey_model.specs.Keys.{dsa_at}
 use Rattle.sshkey_kinds.proofs.dsa.DsaPublicKeyDecode.decode.Goals as goal
 
 pub returns-in_err-q-clause-gives : goal.returns-in_err-q-clause-gives

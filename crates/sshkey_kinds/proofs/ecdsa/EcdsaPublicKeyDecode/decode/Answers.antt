@@ -1,6 +1,8 @@
 use Rattle.std.proofs.lemmas.Result.{err_from_is_err_and}
 use Rattle.sshkey_base.proofs.Steps.{refused_first, refused_later}
-use Rattle.sshkey_kinds.specs.Bodies.{any_ecdsa_at, curve_at, label_at}
+use Rattle.sshkey_model.specs.Keys.{any_ecdsa_at}
+use Rattle.sshkey_model.specs.Names.{curve_at}
+use Rattle.sshkey_base.specs.Labels.{label_at}
 use Rattle.sshkey_kinds.proofs.ecdsa.EcdsaPublicKeyDecode.decode.Goals as goal
 
 pub returns-in_err-key-clause-gives : goal.returns-in_err-key-clause-gives

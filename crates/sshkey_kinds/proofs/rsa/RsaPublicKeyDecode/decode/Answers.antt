@@ -1,6 +1,6 @@
 use Rattle.std.proofs.lemmas.Result.{err_from_is_err_and}
 use Rattle.sshkey_base.proofs.Steps.{refused_first, refused_later}
-use Rattle.sshkey_kinds.specs.Bodies.{rsa_at}
+use Rattle.sshkey_model.specs.Keys.{rsa_at}
 use Rattle.sshkey_kinds.proofs.rsa.RsaPublicKeyDecode.decode.Goals as goal
 
 pub returns-in_err-n-clause-gives : goal.returns-in_err-n-clause-gives

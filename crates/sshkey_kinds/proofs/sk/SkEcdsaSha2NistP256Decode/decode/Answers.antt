@@ -1,7 +1,9 @@
 use Rattle.std.proofs.lemmas.Result.{err_from_is_err_and}
 use Rattle.sshkey_base.specs.Causes.{same_cause}
 use Rattle.sshkey_base.proofs.Steps.{refused_first, refused_later}
-use Rattle.sshkey_kinds.specs.Bodies.{sk_ecdsa_at, curve_at, label_at}
+use Rattle.sshkey_model.specs.Keys.{sk_ecdsa_at}
+use Rattle.sshkey_model.specs.Names.{curve_at}
+use Rattle.sshkey_base.specs.Labels.{label_at}
 use Rattle.sshkey_kinds.proofs.sk.SkEcdsaSha2NistP256Decode.decode.Goals as goal
 use Rattle.sshkey_kinds.proofs.sk.SkEcdsaSha2NistP256Decode.decode.Goals.{in-NistP256, in_default}
 

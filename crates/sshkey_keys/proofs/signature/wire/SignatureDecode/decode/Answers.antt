@@ -1,6 +1,8 @@
 use Rattle.std.proofs.lemmas.Result.{err_from_is_err_and}
 use Rattle.sshkey_base.proofs.Steps.{refused_first, refused_later}
-use Rattle.sshkey_keys.specs.SignatureReaders.{signature_at, algorithm_at, label_at}
+use Rattle.sshkey_model.specs.Signatures.{signature_at}
+use Rattle.sshkey_model.specs.Names.{algorithm_at}
+use Rattle.sshkey_base.specs.Labels.{label_at}
 use Rattle.sshkey_keys.proofs.SignatureForms.{tested}
 use Rattle.sshkey_keys.proofs.signature.wire.SignatureDecode.decode.Goals as goal
 

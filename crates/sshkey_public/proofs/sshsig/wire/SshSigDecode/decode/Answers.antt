@@ -10,7 +10,9 @@ use Rattle.sshkey_base.specs.Needs.{NoNeed, NeedsString, NeedsBoth, NeedsBoxed}
 use Rattle.sshkey_keys.specs.Keys.{key_data_at}
 use Rattle.sshkey_keys.specs.Needs.{NeedsKey, NeedsSignature}
 use Rattle.sshkey_public.specs.Needs.{NeedsStatement}
-use Rattle.sshkey_public.specs.SshSignatureReaders.{ssh_signature_value_at, hash_at, label_at}
+use Rattle.sshkey_model.specs.Names.{hash_at}
+use Rattle.sshkey_base.specs.Labels.{label_at}
+use Rattle.sshkey_public.specs.SshSignatureReaders.{ssh_signature_value_at}
 use Rattle.sshkey_public.proofs.sshsig.wire.SshSigDecode.decode.Goals as goal
 
 pub returns-in_err-version-clause-gives : goal.returns-in_err-version-clause-gives
