@@ -1,6 +1,6 @@
 -- Where one spelling of what is signed fits its boxes, its normal form does.
 use Rattle.std.proofs.Common.{◌≡◌, ℕ, ◌≤◌, ◌^◌, List, [], ◌∷◌, length, Bool, true, ◌&&◌, nat_lt, None, Some, Ok, refl, arith, lt-ltb}
-use Rattle.std.proofs.lemmas.Bool.{and_parts, ltb-true}
+use Rattle.std.proofs.lemmas.Bool.{and_from, and_parts, ltb-true}
 use Rattle.sshkey_model.specs.Parts.{Parts, nothing, bytes, number, box, ◌&◌, flat, BoxesFit}
 use Rattle.sshkey_model.specs.Texts.{string}
 use Rattle.sshkey_model.specs.Names.{Rsa, Sha256, Sha512, algorithm}
@@ -16,17 +16,13 @@ use Rattle.sshkey_unsigned.specs.UnsignedReaders.{unsigned_value_at, unsigned_gr
 
 -- ---- the test
 
-and_both : (a b : Bool) → a ≡ true → b ≡ true → a && b ≡ true
-and_both true true e f = refl
-and_both _ _ e f = cc
-
 pub test_of : (p : Parts) → BoxesFit p → boxes_fit p ≡ true
 unfolding BoxesFit
 test_of nothing b = refl
 test_of (bytes c) b = refl
 test_of (number w n) b = refl
-test_of (box p) b = and_both _ _ (lt-ltb _ _ b.0) (test_of p b.1)
-test_of (p & q) b = and_both _ _ (test_of p b.0) (test_of q b.1)
+test_of (box p) b = and_from _ _ (lt-ltb _ _ b.0) (test_of p b.1)
+test_of (p & q) b = and_from _ _ (test_of p b.0) (test_of q b.1)
 
 pub of_test : (p : Parts) → boxes_fit p ≡ true → BoxesFit p
 unfolding BoxesFit

@@ -4,4 +4,5 @@ pub mod SignatureForms
 pub mod SplitStrings
 pub mod SignatureParts
 pub mod ShortKeys
+pub mod BoxedKeys
 pub mod Bodies

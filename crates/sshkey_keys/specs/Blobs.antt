@@ -1,17 +1,13 @@
 -- Reading from a list of bytes, and making one.
-use Rattle.std.specs.Prelude.{◌≡◌, ℕ, List, [], Result, Ok, Err, ◌⊎◌, Vec}
+use Rattle.std.specs.Prelude.{◌≡◌, ℕ, List, Result, Ok, Err, ◌⊎◌, Vec}
 use Rattle.sshkey_model.specs.Parts.{Parts, flat, Fits, BoxesFit}
 use Rattle.sshkey_model.specs.Reading.{Front}
 use Rattle.sshkey_base.specs.declared.encoding.Error.TheVariants.{Length}
 use Rattle.sshkey_base.specs.declared.error.Error.{Error}
 use Rattle.sshkey_base.specs.declared.error.Error.TheVariants.{Encoding, Memory}
 use Rattle.sshkey_base.specs.Causes.{Cause}
-use Rattle.sshkey_base.specs.Source.{Source}
+use Rattle.sshkey_base.specs.Source.{Source, all_of}
 use Rattle.sshkey_base.specs.Reading.{Gives, AcceptsFront}
-
--- all the bytes of a list, and no fault
-abbrev pub all_of : List ℕ → Source
-all_of b = record { left = b; missing = 0; outer = [] }
 
 -- A front of the bytes was read, whatever follows it.
 pub record ReadsFrontOf {X Y E : Type 0} (means : X → Y) (read : Front Y) (Spells : Y → List ℕ → Type 0) (cause : E → Cause) (b : List ℕ) (r : Result X E) : Type 0 where

@@ -1,22 +1,18 @@
 -- The plain reader of SSH signatures, without the choice in the name of their key.
-use Rattle.std.proofs.Common.{◌≡◌, ℕ, List, [], ◌∷◌, length, Result, Ok, Err, refl, nat_lt, if◌then◌else◌}
+use Rattle.std.proofs.Common.{◌≡◌, ℕ, List, length, Result, Ok, Err, refl, nat_lt, if◌then◌else◌}
 use Rattle.sshkey_model.specs.Parts.{flat, Fits}
 use Rattle.sshkey_model.specs.Grammar.{IsGrammar, SpellsWith}
-use Rattle.sshkey_model.specs.Reading.{Fault, Version, Namespace, ◌>>=◌, Front, end_of, whole, box_at, string_at}
-use Rattle.sshkey_model.specs.Names.{algorithm_at}
-use Rattle.sshkey_model.specs.Keys.{Key, Head, Plain, key_at}
+use Rattle.sshkey_model.specs.Reading.{Fault, Version, Namespace, ◌>>=◌, Front, whole, box_at, string_at, literal_at}
+use Rattle.sshkey_model.specs.Names.{hash_at}
+use Rattle.sshkey_model.specs.Keys.{Head, Plain}
 use Rattle.sshkey_model.specs.Signatures.{signature_at}
-use Rattle.sshkey_model.specs.SshSignatures.{SshSignature, IsSshSignature, HasSshSignaturePlaces, ssh_signature, normal_ssh_signature, signature_magic, ssh_signature_at}
+use Rattle.sshkey_model.specs.SshSignatures.{SshSignature, IsSshSignature, HasSshSignaturePlaces, ssh_signature, normal_ssh_signature, signature_magic, ssh_signature_at, version_at, namespace_at}
 use Rattle.sshkey_model.proofs.CombinedReaders.{bind_assoc}
 use Rattle.sshkey_model.proofs.Grammars.{grammar_with, same_grammar}
 use Rattle.sshkey_model.proofs.SshSignatureReaders.{ssh_signature_reads}
-use Rattle.sshkey_base.proofs.MappedBoxes.{made, on_value, box_map}
+use Rattle.sshkey_base.proofs.MappedBoxes.{on_value}
 use Rattle.sshkey_keys.specs.Keys.{key_data_at}
--- under names that an attribute of this crate can unfold
-unfoldable pub use Rattle.sshkey_model.specs.Reading.{literal_at}
-unfoldable pub use Rattle.sshkey_model.specs.Names.{hash_at}
-unfoldable pub use Rattle.sshkey_model.specs.SshSignatures.{version_at, namespace_at}
-unfoldable pub use Rattle.sshkey_base.specs.Labels.{label_at}
+use Rattle.sshkey_keys.proofs.BoxedKeys.{key_box}
 
 -- a version that is read
 abbrev pub version_from : ℕ → Result ℕ Fault
@@ -40,29 +36,6 @@ ssh_signature_value_at b = do
 -- the bytes spell the SSH signature
 abbrev pub SpellsSshSignature : SshSignature → List ℕ → Type 0
 SpellsSshSignature = SpellsWith IsSshSignature HasSshSignaturePlaces ssh_signature
-
--- ---- a key in a box
-
-abbrev Pair : Type 0
-Pair = Key × Head
-
-abbrev plain : Pair → Key
-plain x = x.0
-
-key_is : (b : List ℕ) → key_data_at b ≡ (key_at b >>= on_value plain)
-unfolding key_data_at key_at algorithm_at label_at
-key_is b = simp bind_assoc
-
-key_end : (r : Result (Pair × List ℕ) Fault) → ((r >>= on_value plain) >>= λ x. end_of x.0 x.1) ≡ ((r >>= λ x. end_of x.0 x.1) >>= made plain)
-key_end (Ok (x, [])) = refl
-key_end (Ok (x, (b ∷ rest))) = refl
-key_end (Err e) = refl
-
-key_whole : (b : List ℕ) → whole key_data_at b ≡ (whole key_at b >>= made plain)
-key_whole b = rw (key_is b) (key_end (key_at b))
-
-key_box : (b : List ℕ) → box_at (whole key_data_at) b ≡ (box_at (whole key_at) b >>= on_value plain)
-key_box b = box_map (whole key_at) (whole key_data_at) plain key_whole b
 
 -- ---- the grammar
 

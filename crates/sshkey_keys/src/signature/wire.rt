@@ -1,16 +1,16 @@
 //! How signatures are read and written.
 
 ghost use Rattle.std.specs.Prelude.{◌≡◌, ◌++◌, ◌+◌, ◌*◌, ◌^◌, ◌≤◌, IfOk, IfErr};
-ghost use Rattle.sshkey_base.specs.Reading.{AcceptsWhole, Gives, GivesWhole};
+ghost use Rattle.sshkey_base.specs.Reading.{AcceptsWhole, DecodesWide, Gives, GivesWhole};
 ghost use Rattle.sshkey_base.specs.Answers.{AnswersAlways};
 ghost use Rattle.sshkey_base.specs.Causes.{cause};
 ghost use Rattle.sshkey_base.specs.Names.{algorithm_of};
 ghost use Rattle.sshkey_base.specs.Needs.{Asks, NeedsString};
-ghost use Rattle.sshkey_base.specs.Source.{Later};
+ghost use Rattle.sshkey_base.specs.Source.{Later, all_of};
 ghost use Rattle.sshkey_base.specs.Sink.{Encodes, Measures};
 ghost use Rattle.sshkey_model.specs.Reading.{checked_at, string_at, whole};
 ghost use Rattle.sshkey_model.specs.Signatures.{Signature as TheSignature, IsSignature, IsSignatureBlob, signature, signature_blob, signature_blob_at, signature_at, trailed_at};
-ghost use Rattle.sshkey_keys.specs.Blobs.{all_of, ReadsFrontOf, MakesBlob};
+ghost use Rattle.sshkey_keys.specs.Blobs.{ReadsFrontOf, MakesBlob};
 ghost use Rattle.sshkey_keys.specs.Needs.{NeedsSignature};
 ghost use Rattle.sshkey_keys.specs.SignatureForms.{string_from};
 ghost use Rattle.sshkey_keys.specs.SignatureReaders.{SpellsSignature, signature_grammar, signature_normal};
@@ -69,7 +69,7 @@ impl Signature {
 ///
 /// `Label` for a name of no algorithm, and the faults of `Signature::new`, for which the bytes
 /// behind the string are read first.
-#[tactic(auto, using(sshkey_base::proofs::Steps::steps), unfolding(crate::specs::SignatureReaders::signature_at, crate::specs::SignatureReaders::algorithm_at, crate::specs::SignatureReaders::label_at))]
+#[tactic(auto, using(sshkey_base::proofs::Steps::steps), unfolding(sshkey_model::specs::Signatures::signature_at, sshkey_model::specs::Names::algorithm_at, sshkey_base::specs::Labels::label_at))]
 impl Decode for Signature {
     type Error = Error;
 
@@ -94,8 +94,8 @@ impl Decode for Signature {
 
 /// What stands behind the name of that algorithm.
 fn decode_blob<R: Reader>(alloc: Global, reader: &mut R, algorithm: &Algorithm) -> Result<Bytes>
-    ensures gives { Gives (λ b. b) cause (signature_blob_at (algorithm_of algorithm.now))
-        (R.source reader.old) result (R.source reader.new) }
+    ensures gives { DecodesWide (λ b. b) (signature_blob_at (algorithm_of algorithm.now))
+        R.source reader.old result reader.new }
     ensures later { Later (R.source reader.old) (R.source reader.new) }
     ensures asks { Asks cause NeedsString (R.source reader.old) result }
     ensures form { IfOk result (IsSignatureBlob (algorithm_of algorithm.now)) }

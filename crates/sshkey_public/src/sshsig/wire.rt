@@ -1,13 +1,13 @@
 //! How SSH signatures are read and written.
 
 ghost use Rattle.std.specs.Prelude.{◌≡◌, ◌<◌, ◌+◌, ◌*◌, ◌^◌, IfOk, length};
-ghost use Rattle.sshkey_base.specs.Reading.{AcceptsWhole, Gives, GivesWhole};
+ghost use Rattle.sshkey_base.specs.Reading.{AcceptsWhole, DecodesWide, GivesWhole};
 ghost use Rattle.sshkey_base.specs.Answers.{AnswersAlways};
 ghost use Rattle.sshkey_base.specs.Causes.{cause};
 ghost use Rattle.sshkey_base.specs.Needs.{Asks, NoNeed, NeedsString};
 ghost use Rattle.sshkey_base.specs.Sink.{Encodes};
-ghost use Rattle.sshkey_base.specs.Source.{Later};
-ghost use Rattle.sshkey_keys.specs.Blobs.{all_of, MakesBlob};
+ghost use Rattle.sshkey_base.specs.Source.{Later, all_of};
+ghost use Rattle.sshkey_keys.specs.Blobs.{MakesBlob};
 ghost use Rattle.sshkey_model.specs.Reading.{literal_at, literal_from, whole};
 ghost use Rattle.sshkey_model.specs.SshSignatures.{SshSignature, IsSshSignature, normal_ssh_signature, signature_magic, version_at, namespace_at};
 ghost use Rattle.sshkey_public.specs.Needs.{NeedsSshSignature};
@@ -32,9 +32,11 @@ impl SshSig {
     /// one, else the refusals of `decode`; or for memory that ran out, never where a stated length
     /// passes the bytes: that is `Length`.
     pub fn from_bytes(alloc: Global, bytes: &[u8]) -> Result<SshSig>
-        ensures gives { GivesWhole ssh_signature_of cause (whole ssh_signature_value_at) (all_of bytes.now) result }
+        ensures gives { GivesWhole ssh_signature_of cause (whole ssh_signature_value_at)
+            (all_of bytes.now) result }
         ensures asks { Asks cause NeedsSshSignature (all_of bytes.now) result }
-        ensures accepts { AcceptsWhole ssh_signature_of SpellsSshSignature cause (all_of bytes.now) result }
+        ensures accepts { AcceptsWhole ssh_signature_of SpellsSshSignature cause
+            (all_of bytes.now) result }
     {
         decode_whole(alloc, bytes)
     }
@@ -61,9 +63,10 @@ fn check_magic(bytes: [u8; 6]) -> Result<[u8; 6]>
 }
 
 /// The six bytes `SSHSIG`.
-#[tactic(auto, using(sshkey_base::proofs::Steps::steps), unfolding(crate::specs::SshSignatureReaders::literal_at))]
+#[tactic(auto, using(sshkey_base::proofs::Steps::steps), unfolding(sshkey_model::specs::Reading::literal_at))]
 fn decode_magic<R: Reader>(reader: &mut R) -> Result<[u8; 6]>
-    ensures gives { Gives (λ b. b) cause (literal_at signature_magic) (R.source reader.old) result (R.source reader.new) }
+    ensures gives { DecodesWide (λ b. b) (literal_at signature_magic)
+        R.source reader.old result reader.new }
     ensures later { Later (R.source reader.old) (R.source reader.new) }
     ensures asks { Asks cause NoNeed (R.source reader.old) result }
 {
@@ -82,9 +85,9 @@ fn check_version(number: u32) -> Result<u32>
 }
 
 /// A version in four bytes.
-#[tactic(auto, using(sshkey_base::proofs::Steps::steps), unfolding(crate::specs::SshSignatureReaders::version_at))]
+#[tactic(auto, using(sshkey_base::proofs::Steps::steps), unfolding(sshkey_model::specs::SshSignatures::version_at))]
 fn decode_version<R: Reader>(alloc: Global, reader: &mut R) -> Result<u32>
-    ensures gives { Gives (λ n. n) cause version_at (R.source reader.old) result (R.source reader.new) }
+    ensures gives { DecodesWide (λ n. n) version_at R.source reader.old result reader.new }
     ensures later { Later (R.source reader.old) (R.source reader.new) }
     ensures asks { Asks cause NoNeed (R.source reader.old) result }
     ensures low { IfOk result (λ n. n < 2) }
@@ -104,9 +107,9 @@ fn check_namespace(namespace: Text) -> Result<Text>
 }
 
 /// A text that is not empty.
-#[tactic(auto, using(sshkey_base::proofs::Steps::steps), unfolding(crate::specs::SshSignatureReaders::namespace_at))]
+#[tactic(auto, using(sshkey_base::proofs::Steps::steps), unfolding(sshkey_model::specs::SshSignatures::namespace_at))]
 fn decode_namespace<R: Reader>(alloc: Global, reader: &mut R) -> Result<Text>
-    ensures gives { Gives (λ t. t) cause namespace_at (R.source reader.old) result (R.source reader.new) }
+    ensures gives { DecodesWide (λ t. t) namespace_at R.source reader.old result reader.new }
     ensures later { Later (R.source reader.old) (R.source reader.new) }
     ensures asks { Asks cause NeedsString (R.source reader.old) result }
     ensures some { IfOk result (λ t. 0 < length t) }
@@ -121,7 +124,7 @@ fn decode_namespace<R: Reader>(alloc: Global, reader: &mut R) -> Result<Text>
 /// `FormatEncoding` for other bytes than `SSHSIG`, `Version` with its number for a version above 1,
 /// `Namespace` for an empty namespace, `Label` for the name of no hash, and the refusals of
 /// `KeyData` and `Signature`.
-#[tactic(auto, using(sshkey_base::proofs::Steps::steps), unfolding(crate::specs::SshSignatureReaders::ssh_signature_value_at, crate::specs::SshSignatureReaders::hash_at, crate::specs::SshSignatureReaders::label_at))]
+#[tactic(auto, using(sshkey_base::proofs::Steps::steps), unfolding(crate::specs::SshSignatureReaders::ssh_signature_value_at, sshkey_model::specs::Names::hash_at, sshkey_base::specs::Labels::label_at))]
 impl Decode for SshSig {
     type Error = Error;
 
@@ -187,7 +190,8 @@ impl Encode for SshSig {
 /// Writes the namespace, the reserved bytes, the hash's name and the signature.
 #[tactic(auto, using(sshkey_base::proofs::Writing::writing))]
 fn encode_statement<W: Writer>(signature: &SshSig, writer: &mut W) -> encoding::Result<()>
-    ensures { Encodes W.fault (statement (ssh_signature_of signature.now)) (W.sink writer.old) result (W.sink writer.new) }
+    ensures { Encodes W.fault (statement (ssh_signature_of signature.now))
+        (W.sink writer.old) result (W.sink writer.new) }
 {
     signature.namespace.encode(writer)?;
     signature.reserved.encode(writer)?;
