@@ -41,6 +41,10 @@ field_of CommentField = field.Comment
 abbrev pub field_error : DraftField → Error
 field_error f = wide.CertificateFieldInvalid (field_of f)
 
+-- no principal was named, and not all were made valid
+abbrev pub no_principals : Error
+no_principals = field_error PrincipalsField
+
 -- ---- steps
 
 -- A step that is taken is refused only when out of memory, and another one with the field that it names.
@@ -54,14 +58,24 @@ RefusesAlways (Ok d) e = ⊥
 RefusesAlways (Err f) e = e ≡ field_error f
 
 -- The step was taken, or it was refused and nothing is changed.
-abbrev pub TakesStep : Step → Draft → Result Unit Error → Draft → Type 0
-TakesStep s d (Ok x) t = after_step s d ≡ Ok t
-TakesStep s d (Err e) t = (t ≡ d) × Refuses (after_step s d) e
+abbrev pub TakesStep : Step → Builder → Result Unit Error → Builder → Type 0
+TakesStep s b (Ok x) after = after_step s (draft_of b) ≡ Ok (draft_of after)
+TakesStep s b (Err e) after = (draft_of after ≡ draft_of b) × Refuses (after_step s (draft_of b)) e
 
 -- The same of a step that takes no memory.
-abbrev pub TakesStepAlways : Step → Draft → Result Unit Error → Draft → Type 0
-TakesStepAlways s d (Ok x) t = after_step s d ≡ Ok t
-TakesStepAlways s d (Err e) t = (t ≡ d) × RefusesAlways (after_step s d) e
+abbrev pub TakesStepAlways : Step → Builder → Result Unit Error → Builder → Type 0
+TakesStepAlways s b (Ok x) after = after_step s (draft_of b) ≡ Ok (draft_of after)
+TakesStepAlways s b (Err e) after = (draft_of after ≡ draft_of b) × RefusesAlways (after_step s (draft_of b)) e
+
+-- The step was taken, and a reference to the builder is handed back, or it was refused.
+abbrev pub Chains : {R : Type 0} → (R → Builder) → Step → Builder → Result R Error → Type 0
+Chains held s b (Ok r) = after_step s (draft_of b) ≡ Ok (draft_of (held r))
+Chains held s b (Err e) = Refuses (after_step s (draft_of b)) e
+
+-- The same of a step that takes no memory.
+abbrev pub ChainsAlways : {R : Type 0} → (R → Builder) → Step → Builder → Result R Error → Type 0
+ChainsAlways held s b (Ok r) = after_step s (draft_of b) ≡ Ok (draft_of (held r))
+ChainsAlways held s b (Err e) = RefusesAlways (after_step s (draft_of b)) e
 
 -- ---- beginnings
 

@@ -1,13 +1,14 @@
 //! How certificates are made.
 
 ghost use Rattle.rand_core.specs.Stream.{fill_bytes};
-ghost use Rattle.std.specs.Prelude.{◌≡◌, [], Some, None, Ok, true, IfOk, IfErr, OnOk, OnErr, string_bytes};
+ghost use Rattle.std.specs.Prelude.{◌≡◌, [], Some, None, true, IfOk, OnOk, OnErr, string_bytes};
 ghost use Rattle.sshkey_keys.specs.Keys.{key_of};
 ghost use Rattle.sshkey_model.specs.Certificates.{forever};
-ghost use Rattle.sshkey_model.specs.Drafts.{Serial, Kind, KeyId, Comment, Principal, AllPrincipals, Critical, Extension, after_step, begun, bad_start, bad_window};
+ghost use Rattle.sshkey_model.specs.Drafts.{Serial, Kind, KeyId, Comment, Principal, AllPrincipals, Critical, Extension, begun, bad_start, bad_window};
 ghost use Rattle.sshkey_options.specs.CertTypes.{type_of};
+ghost use Rattle.sshkey_options.specs.OptionMaps.{option_of};
 ghost use Rattle.sshkey_options.specs.Times.{end_of, time_of};
-ghost use Rattle.sshkey_builder.specs.Builders.{draft_of, Begins, BeginsInMemory, Refuses, RefusesAlways, TakesStep, TakesStepAlways};
+ghost use Rattle.sshkey_builder.specs.Builders.{draft_of, Begins, BeginsInMemory, Chains, ChainsAlways};
 
 mod set;
 mod sign;
@@ -55,7 +56,8 @@ impl Builder {
         valid_after: u64,
         valid_before: u64,
     ) -> Result<Builder>
-        ensures { Begins (bad_window valid_after valid_before) (begun nonce.items (key_of public_key) valid_after valid_before) result }
+        ensures { Begins (bad_window valid_after valid_before)
+            (begun nonce.items (key_of public_key) valid_after valid_before) result }
     {
         let Ok(valid_after) = UnixTime::new(valid_after) else {
             return Err(Error::CertificateFieldInvalid(Field::ValidAfter));
@@ -80,7 +82,8 @@ impl Builder {
         public_key: KeyData,
         valid_after: u64,
     ) -> Result<Builder>
-        ensures { Begins (bad_start valid_after) (begun nonce.items (key_of public_key) valid_after forever) result }
+        ensures { Begins (bad_start valid_after)
+            (begun nonce.items (key_of public_key) valid_after forever) result }
     {
         let Ok(valid_after) = UnixTime::new(valid_after) else {
             return Err(Error::CertificateFieldInvalid(Field::ValidAfter));
@@ -97,7 +100,9 @@ impl Builder {
         valid_before: u64,
     ) -> Result<Builder>
         ensures drawn { OnOk result (R.stream rng.new ≡ (fill_bytes 16 (R.stream rng.old)).1) }
-        ensures begins { BeginsInMemory (bad_window valid_after valid_before) (begun (fill_bytes 16 (R.stream rng.old)).0 (key_of public_key) valid_after valid_before) result }
+        ensures begins { BeginsInMemory (bad_window valid_after valid_before)
+            (begun (fill_bytes 16 (R.stream rng.old)).0 (key_of public_key) valid_after
+            valid_before) result }
     {
         let mut nonce = vec![in alloc; 0u8; 16]?;
         rng.fill_bytes(&mut nonce);
@@ -112,7 +117,8 @@ impl Builder {
         valid_after: UnixTime,
         valid_before: EndTime,
     ) -> Builder
-        ensures { draft_of result ≡ begun nonce.items (key_of public_key) (time_of valid_after) (end_of valid_before) }
+        ensures { draft_of result
+            ≡ begun nonce.items (key_of public_key) (time_of valid_after) (end_of valid_before) }
     {
         Builder {
             alloc,
@@ -134,8 +140,7 @@ impl Builder {
     /// Takes no memory.
     pub fn serial(&mut self, serial: u64) -> Result<&mut Builder>
         ensures same_reference { IfOk result (λ b. b.ghost_name ≡ self.entry.ghost_name) }
-        ensures taken { IfOk result (λ b. after_step (Serial serial) (draft_of self.old) ≡ Ok (draft_of b.now)) }
-        ensures refused { IfErr result (RefusesAlways (after_step (Serial serial) (draft_of self.old))) }
+        ensures step { ChainsAlways (λ b. b.now) (Serial serial) self.old result }
     {
         self.set_serial(serial)?;
         Ok(self)
@@ -145,8 +150,7 @@ impl Builder {
     /// memory.
     pub fn cert_type(&mut self, cert_type: CertType) -> Result<&mut Builder>
         ensures same_reference { IfOk result (λ b. b.ghost_name ≡ self.entry.ghost_name) }
-        ensures taken { IfOk result (λ b. after_step (Kind (type_of cert_type)) (draft_of self.old) ≡ Ok (draft_of b.now)) }
-        ensures refused { IfErr result (RefusesAlways (after_step (Kind (type_of cert_type)) (draft_of self.old))) }
+        ensures step { ChainsAlways (λ b. b.now) (Kind (type_of cert_type)) self.old result }
     {
         self.set_cert_type(cert_type)?;
         Ok(self)
@@ -156,8 +160,7 @@ impl Builder {
     /// no memory.
     pub fn key_id(&mut self, key_id: String) -> Result<&mut Builder>
         ensures same_reference { IfOk result (λ b. b.ghost_name ≡ self.entry.ghost_name) }
-        ensures taken { IfOk result (λ b. after_step (KeyId (string_bytes key_id)) (draft_of self.old) ≡ Ok (draft_of b.now)) }
-        ensures refused { IfErr result (RefusesAlways (after_step (KeyId (string_bytes key_id)) (draft_of self.old))) }
+        ensures step { ChainsAlways (λ b. b.now) (KeyId (string_bytes key_id)) self.old result }
     {
         self.set_key_id(key_id)?;
         Ok(self)
@@ -167,8 +170,7 @@ impl Builder {
     /// no memory.
     pub fn comment(&mut self, comment: String) -> Result<&mut Builder>
         ensures same_reference { IfOk result (λ b. b.ghost_name ≡ self.entry.ghost_name) }
-        ensures taken { IfOk result (λ b. after_step (Comment (string_bytes comment)) (draft_of self.old) ≡ Ok (draft_of b.now)) }
-        ensures refused { IfErr result (RefusesAlways (after_step (Comment (string_bytes comment)) (draft_of self.old))) }
+        ensures step { ChainsAlways (λ b. b.now) (Comment (string_bytes comment)) self.old result }
     {
         self.set_comment(comment)?;
         Ok(self)
@@ -178,8 +180,7 @@ impl Builder {
     /// and then nothing is changed.
     pub fn valid_principal(&mut self, principal: String) -> Result<&mut Builder>
         ensures same_reference { IfOk result (λ b. b.ghost_name ≡ self.entry.ghost_name) }
-        ensures taken { IfOk result (λ b. after_step (Principal (string_bytes principal)) (draft_of self.old) ≡ Ok (draft_of b.now)) }
-        ensures refused { IfErr result (Refuses (after_step (Principal (string_bytes principal)) (draft_of self.old))) }
+        ensures step { Chains (λ b. b.now) (Principal (string_bytes principal)) self.old result }
     {
         self.add_valid_principal(principal)?;
         Ok(self)
@@ -188,8 +189,7 @@ impl Builder {
     /// Makes all principals valid, whichever were named. Never refused, and takes no memory.
     pub fn all_principals_valid(&mut self) -> Result<&mut Builder>
         ensures same_reference { IfOk result (λ b. b.ghost_name ≡ self.entry.ghost_name) }
-        ensures taken { IfOk result (λ b. after_step AllPrincipals (draft_of self.old) ≡ Ok (draft_of b.now)) }
-        ensures refused { IfErr result (RefusesAlways (after_step AllPrincipals (draft_of self.old))) }
+        ensures step { ChainsAlways (λ b. b.now) AllPrincipals self.old result }
     {
         self.set_all_principals_valid()?;
         Ok(self)
@@ -199,8 +199,7 @@ impl Builder {
     /// else refused only when out of memory; then nothing is changed.
     pub fn critical_option(&mut self, name: String, value: String) -> Result<&mut Builder>
         ensures same_reference { IfOk result (λ b. b.ghost_name ≡ self.entry.ghost_name) }
-        ensures taken { IfOk result (λ b. after_step (Critical (record { name = string_bytes name; value = string_bytes value })) (draft_of self.old) ≡ Ok (draft_of b.now)) }
-        ensures refused { IfErr result (Refuses (after_step (Critical (record { name = string_bytes name; value = string_bytes value })) (draft_of self.old))) }
+        ensures step { Chains (λ b. b.now) (Critical (option_of (name, value))) self.old result }
     {
         self.add_critical_option(name, value)?;
         Ok(self)
@@ -210,8 +209,7 @@ impl Builder {
     /// refused only when out of memory; then nothing is changed.
     pub fn extension(&mut self, name: String, value: String) -> Result<&mut Builder>
         ensures same_reference { IfOk result (λ b. b.ghost_name ≡ self.entry.ghost_name) }
-        ensures taken { IfOk result (λ b. after_step (Extension (record { name = string_bytes name; value = string_bytes value })) (draft_of self.old) ≡ Ok (draft_of b.now)) }
-        ensures refused { IfErr result (Refuses (after_step (Extension (record { name = string_bytes name; value = string_bytes value })) (draft_of self.old))) }
+        ensures step { Chains (λ b. b.now) (Extension (option_of (name, value))) self.old result }
     {
         self.add_extension(name, value)?;
         Ok(self)

@@ -10,7 +10,8 @@ use sshkey_model::laws;
 /// No spelling of a certificate begins another: what follows it does not matter, and it is that of
 /// one certificate.
 pub fn prefix_certificate()
-    ensures { (c d : TheCertificate) (a b r q : List ℕ) → SpellsCertificate c a → SpellsCertificate d b → a ++ r ≡ b ++ q → (c ≡ d) × (a ≡ b) × (r ≡ q) }
+    ensures { (c d : TheCertificate) (a b r q : List ℕ) → SpellsCertificate c a
+        → SpellsCertificate d b → a ++ r ≡ b ++ q → (c ≡ d) × (a ≡ b) × (r ≡ q) }
 {}
 
 /// The bytes that a certificate's signature is over determine every other field.

@@ -51,7 +51,8 @@ impl SshSig {
         hash_alg: HashAlg,
         signature: Signature,
     ) -> Result<SshSig>
-        ensures value { IfOk result (λ f. ssh_signature_of f ≡ made_by (key_of public_key) (string_bytes namespace) (hash_of hash_alg) (signature_of signature)) }
+        ensures value { IfOk result (λ f. ssh_signature_of f ≡ made_by (key_of public_key)
+            (string_bytes namespace) (hash_of hash_alg) (signature_of signature)) }
         ensures key { IfOk result (λ f. signer_of f ≡ public_key) }
         ensures empty { IsErr result ↔ (string_bytes namespace ≡ []) }
         ensures refused { IfErr result (λ e. e ≡ wide.Namespace) }

@@ -14,8 +14,10 @@ use sshkey_keys::KeyData;
 ///
 /// `Length` where the room is too small, or where a part of the key is longer than 2^32 - 1 bytes.
 pub fn is_normal_blob(key: &KeyData, blob: &[u8], room: &mut [u8]) -> Result<bool>
-    ensures same { IfOk result (λ yes. IsTrue yes ↔ (blob.now ≡ flat (normal_key (key_of key.now)))) }
-    ensures room { BoxesFit (normal_key (key_of key.now)) → length (flat (normal_key (key_of key.now))) ≤ length room.old → IsOk result }
+    ensures same { IfOk result
+        (λ yes. IsTrue yes ↔ (blob.now ≡ flat (normal_key (key_of key.now)))) }
+    ensures room { BoxesFit (normal_key (key_of key.now))
+        → length (flat (normal_key (key_of key.now))) ≤ length room.old → IsOk result }
 {
     let mut writer = SliceWriter::new(room);
     key.encode(&mut writer)?;

@@ -20,7 +20,8 @@ pub fn is_signed<V: RawVerifier>(
     blob: &[u8],
     verifier: &V,
 ) -> Result<bool>
-    ensures { IfOk result (λ yes. IsTrue yes ↔ IsSigned (V.accepts verifier.now) (key_of key.now) message.now blob.now) }
+    ensures { IfOk result (λ yes. IsTrue yes
+        ↔ IsSigned (V.accepts verifier.now) (key_of key.now) message.now blob.now) }
 {
     prefix_signature();
     let signature = Signature::from_bytes(alloc, blob)?;

@@ -1,9 +1,10 @@
 //! What a builder is told, with no reference handed back.
 
-ghost use Rattle.std.specs.Prelude.{◌≡◌, string_bytes};
+ghost use Rattle.std.specs.Prelude.{string_bytes};
 ghost use Rattle.sshkey_model.specs.Drafts.{Serial, Kind, KeyId, Comment, Principal, AllPrincipals, Critical, Extension};
 ghost use Rattle.sshkey_options.specs.CertTypes.{type_of};
-ghost use Rattle.sshkey_builder.specs.Builders.{draft_of, TakesStep, TakesStepAlways};
+ghost use Rattle.sshkey_options.specs.OptionMaps.{option_of};
+ghost use Rattle.sshkey_builder.specs.Builders.{TakesStep, TakesStepAlways};
 
 use super::Builder;
 use sshkey_base::certificate::Field;
@@ -13,7 +14,7 @@ use sshkey_options::CertType;
 impl Builder {
     /// `serial`, with no reference handed back.
     pub fn set_serial(&mut self, serial: u64) -> Result<()>
-        ensures { TakesStepAlways (Serial serial) (draft_of self.old) result (draft_of self.new) }
+        ensures { TakesStepAlways (Serial serial) self.old result self.new }
     {
         if self.serial.is_some() {
             return Err(Error::CertificateFieldInvalid(Field::Serial));
@@ -24,7 +25,7 @@ impl Builder {
 
     /// `cert_type`, with no reference handed back.
     pub fn set_cert_type(&mut self, cert_type: CertType) -> Result<()>
-        ensures { TakesStepAlways (Kind (type_of cert_type)) (draft_of self.old) result (draft_of self.new) }
+        ensures { TakesStepAlways (Kind (type_of cert_type)) self.old result self.new }
     {
         if self.cert_type.is_some() {
             return Err(Error::CertificateFieldInvalid(Field::CertType));
@@ -35,7 +36,7 @@ impl Builder {
 
     /// `key_id`, with no reference handed back.
     pub fn set_key_id(&mut self, key_id: String) -> Result<()>
-        ensures { TakesStepAlways (KeyId (string_bytes key_id)) (draft_of self.old) result (draft_of self.new) }
+        ensures { TakesStepAlways (KeyId (string_bytes key_id)) self.old result self.new }
     {
         if self.key_id.is_some() {
             return Err(Error::CertificateFieldInvalid(Field::KeyId));
@@ -46,7 +47,7 @@ impl Builder {
 
     /// `comment`, with no reference handed back.
     pub fn set_comment(&mut self, comment: String) -> Result<()>
-        ensures { TakesStepAlways (Comment (string_bytes comment)) (draft_of self.old) result (draft_of self.new) }
+        ensures { TakesStepAlways (Comment (string_bytes comment)) self.old result self.new }
     {
         if self.comment.is_some() {
             return Err(Error::CertificateFieldInvalid(Field::Comment));
@@ -58,7 +59,7 @@ impl Builder {
     /// `valid_principal`, with no reference handed back.
     #[tactic(auto, using(crate::proofs::Principals::map_added))]
     pub fn add_valid_principal(&mut self, principal: String) -> Result<()>
-        ensures { TakesStep (Principal (string_bytes principal)) (draft_of self.old) result (draft_of self.new) }
+        ensures { TakesStep (Principal (string_bytes principal)) self.old result self.new }
     {
         match &mut self.valid_principals {
             Some(principals) => principals.push(principal)?,
@@ -73,7 +74,7 @@ impl Builder {
 
     /// `all_principals_valid`, with no reference handed back.
     pub fn set_all_principals_valid(&mut self) -> Result<()>
-        ensures { TakesStepAlways AllPrincipals (draft_of self.old) result (draft_of self.new) }
+        ensures { TakesStepAlways AllPrincipals self.old result self.new }
     {
         self.valid_principals = Some(Vec::new(self.alloc));
         Ok(())
@@ -81,7 +82,7 @@ impl Builder {
 
     /// `critical_option`, with no reference handed back.
     pub fn add_critical_option(&mut self, name: String, value: String) -> Result<()>
-        ensures { TakesStep (Critical (record { name = string_bytes name; value = string_bytes value })) (draft_of self.old) result (draft_of self.new) }
+        ensures { TakesStep (Critical (option_of (name, value))) self.old result self.new }
     {
         if self.critical_options.contains_key(name.as_str()) {
             return Err(Error::CertificateFieldInvalid(Field::CriticalOptions));
@@ -92,7 +93,7 @@ impl Builder {
 
     /// `extension`, with no reference handed back.
     pub fn add_extension(&mut self, name: String, value: String) -> Result<()>
-        ensures { TakesStep (Extension (record { name = string_bytes name; value = string_bytes value })) (draft_of self.old) result (draft_of self.new) }
+        ensures { TakesStep (Extension (option_of (name, value))) self.old result self.new }
     {
         if self.extensions.contains_key(name.as_str()) {
             return Err(Error::CertificateFieldInvalid(Field::Extensions));

@@ -1,13 +1,11 @@
 //! How what a builder holds is signed.
 
 ghost use Rattle.std.specs.Prelude.{◌≡◌, [], Err, IfOk, IfErr, IsSome, IsNone, IsErrOf, IsOkUnless, ◌↔◌};
-ghost use Rattle.sshkey_base.specs.declared.certificate.field.Field.TheVariants as field;
-ghost use Rattle.sshkey_base.specs.declared.error.Error.TheVariants as wide;
 ghost use Rattle.sshkey_keys.specs.Keys.{key_of};
 ghost use Rattle.sshkey_model.specs.Drafts.{IsSignedDraft, IsValidThrough, drafted, or_default};
 ghost use Rattle.sshkey_model.specs.Fingerprints.{fingerprint};
 ghost use Rattle.sshkey_model.specs.Names.{Sha256};
-ghost use Rattle.sshkey_builder.specs.Builders.{draft_of};
+ghost use Rattle.sshkey_builder.specs.Builders.{draft_of, no_principals};
 ghost use Rattle.sshkey_unsigned.specs.UnsignedValues.{unsigned_of};
 ghost use Rattle.sshkey_cert.specs.CertificateValues.{certificate_of, comment_of};
 ghost use Rattle.sshkey_cert.specs.Signing.{RefusesToSign};
@@ -32,11 +30,16 @@ impl Builder {
     /// memory there is. Else, out of memory aside, `Length` where the bytes to be signed do not
     /// fit, and otherwise an error of the signer's own.
     pub fn sign<S: SigningKey>(self, alloc: Global, signing_key: &S) -> Result<Certificate>
-        ensures unnamed { IsNone (draft_of self).valid_principals → result ≡ Err (wide.CertificateFieldInvalid field.ValidPrincipals) }
-        ensures signed { IfOk result (λ c. IsSignedDraft (S.Raw.accepts (S.raw_of signing_key.now)) (key_of (S.public_of signing_key.now)) (draft_of self) (certificate_of c)) }
-        ensures comment { IfOk result (λ c. comment_of c ≡ or_default [] (draft_of self).comment) }
-        ensures valid { IfOk result (λ c. IsValidThrough (S.Raw.accepts (S.raw_of signing_key.now)) (fingerprint Sha256 (key_of (S.public_of signing_key.now))) (certificate_of c)) }
-        ensures refused { IsSome (draft_of self).valid_principals → IfErr result (RefusesToSign (S.refuses signing_key.now) (drafted (draft_of self) (key_of (S.public_of signing_key.now)))) }
+        ensures unnamed { IsNone (draft_of self).valid_principals → result ≡ Err no_principals }
+        ensures signed { IfOk result (λ c. IsSignedDraft (S.Raw.accepts (S.raw_of signing_key.now))
+            (key_of (S.public_of signing_key.now)) (draft_of self) (certificate_of c)) }
+        ensures comment { IfOk result
+            (λ c. comment_of c ≡ or_default [] (draft_of self).comment) }
+        ensures valid { IfOk result (λ c. IsValidThrough (S.Raw.accepts (S.raw_of signing_key.now))
+            (fingerprint Sha256 (key_of (S.public_of signing_key.now))) (certificate_of c)) }
+        ensures refused { IsSome (draft_of self).valid_principals
+            → IfErr result (RefusesToSign (S.refuses signing_key.now)
+            (drafted (draft_of self) (key_of (S.public_of signing_key.now)))) }
     {
         if self.valid_principals.is_none() {
             return Err(Error::CertificateFieldInvalid(Field::ValidPrincipals));
@@ -48,9 +51,10 @@ impl Builder {
 
     /// The fields, with the defaults for those that were not set, and the comment.
     fn fields(self, alloc: Global, signature_key: KeyData) -> Result<(Unsigned, Text)>
-        ensures unnamed { IsErrOf result (wide.CertificateFieldInvalid field.ValidPrincipals) ↔ IsNone (draft_of self).valid_principals }
-        ensures only { IsOkUnless result (wide.CertificateFieldInvalid field.ValidPrincipals) }
-        ensures fields { IfOk result (λ made. unsigned_of made.0 ≡ drafted (draft_of self) (key_of signature_key)) }
+        ensures unnamed { IsErrOf result no_principals ↔ IsNone (draft_of self).valid_principals }
+        ensures only { IsOkUnless result no_principals }
+        ensures fields { IfOk result
+            (λ made. unsigned_of made.0 ≡ drafted (draft_of self) (key_of signature_key)) }
         ensures comment { IfOk result (λ made. made.1 ≡ or_default [] (draft_of self).comment) }
     {
         let Builder {

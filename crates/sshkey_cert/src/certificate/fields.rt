@@ -21,7 +21,8 @@ impl Certificate {
     /// The algorithm of the certified key, as `KeyData::algorithm` has it. Refused only when out of
     /// memory, and only under a private-use name.
     pub fn algorithm(&self, alloc: Global) -> Result<Algorithm>
-        ensures ok { IfOk result (λ a. IsKey (certificate_of self.now).signed.key → algorithm_of a ≡ key_algorithm (certificate_of self.now).signed.key) }
+        ensures ok { IfOk result (λ a. IsKey (certificate_of self.now).signed.key
+            → algorithm_of a ≡ key_algorithm (certificate_of self.now).signed.key) }
         ensures memory { IfErr result (λ e. e ≡ wide.Memory) }
     {
         self.unsigned.public_key.algorithm(alloc)

@@ -56,7 +56,8 @@ impl Certificate {
     /// Exactly where a box in it would pass 2^32 - 1 bytes, the answer is `Length`; otherwise it
     /// is refused only when out of memory.
     pub fn to_openssh(&self, alloc: Global) -> Result<String>
-        ensures { MakesLine (name_of_certificate (certificate_of self.now)) (normal_certificate (certificate_of self.now)) (comment_of self.now) result }
+        ensures { MakesLine (name_of_certificate (certificate_of self.now))
+            (normal_certificate (certificate_of self.now)) (comment_of self.now) result }
     {
         let mut line = Vec::new(alloc);
         write_line(self, self.comment.as_str(), &mut line)?;

@@ -3,15 +3,13 @@
 ghost use Rattle.std.specs.Prelude.{◌≡◌, ◌≢◌, IfOk, IfErr, OnOk, true};
 ghost use Rattle.sshkey_base.specs.declared.encoding.Error.TheVariants as narrow;
 ghost use Rattle.sshkey_base.specs.declared.error.Error.TheVariants as wide;
-ghost use Rattle.sshkey_keys.specs.Keys.{key_of};
 ghost use Rattle.sshkey_keys.specs.Signatures.{signature_of};
 ghost use Rattle.sshkey_model.specs.Certificates.{normal_to_be_signed};
 ghost use Rattle.sshkey_model.specs.Parts.{BoxesFit, flat};
-ghost use Rattle.sshkey_model.specs.Verification.{IsAccepted};
 ghost use Rattle.sshkey_unsigned.specs.UnsignedValues.{unsigned_of};
 ghost use Rattle.sshkey_cert.specs.CertificateValues.{certificate_of, comment_of};
 ghost use Rattle.sshkey_cert.specs.Fitting.{signed_fits};
-ghost use Rattle.sshkey_cert.specs.Signing.{RefusesToSign};
+ghost use Rattle.sshkey_cert.specs.Signing.{IsSignatureOf, RefusesToSign};
 
 use super::Certificate;
 use sshkey_base::{Result, Text};
@@ -32,8 +30,11 @@ impl Certificate {
     ) -> Result<Certificate>
         ensures fields { IfOk result (λ c. (certificate_of c).signed ≡ unsigned_of unsigned) }
         ensures comment { IfOk result (λ c. comment_of c ≡ comment) }
-        ensures signature { IfOk result (λ c. IsAccepted (S.Raw.accepts (S.raw_of signing_key.now)) (key_of (S.public_of signing_key.now)) (flat (normal_to_be_signed (unsigned_of unsigned))) (certificate_of c).signature) }
-        ensures refused { IfErr result (RefusesToSign (S.refuses signing_key.now) (unsigned_of unsigned)) }
+        ensures signature { IfOk result (λ c.
+            IsSignatureOf (S.Raw.accepts (S.raw_of signing_key.now)) (S.public_of signing_key.now)
+            (unsigned_of unsigned) (certificate_of c).signature) }
+        ensures refused { IfErr result
+            (RefusesToSign (S.refuses signing_key.now) (unsigned_of unsigned)) }
     {
         match signature_by(alloc, &unsigned, signing_key) {
             Ok(signature) => Ok(Certificate {
@@ -52,9 +53,11 @@ fn signature_by<S: SigningKey>(
     unsigned: &Unsigned,
     signing_key: &S,
 ) -> Result<Signature>
-    ensures accepted { IfOk result (λ g. IsAccepted (S.Raw.accepts (S.raw_of signing_key.now)) (key_of (S.public_of signing_key.now)) (flat (normal_to_be_signed (unsigned_of unsigned.now))) (signature_of g)) }
+    ensures accepted { IfOk result (λ g. IsSignatureOf (S.Raw.accepts (S.raw_of signing_key.now))
+        (S.public_of signing_key.now) (unsigned_of unsigned.now) (signature_of g)) }
     ensures fits { OnOk result (signed_fits (unsigned_of unsigned.now) ≡ true) }
-    ensures refused { IfErr result (RefusesToSign (S.refuses signing_key.now) (unsigned_of unsigned.now)) }
+    ensures refused { IfErr result
+        (RefusesToSign (S.refuses signing_key.now) (unsigned_of unsigned.now)) }
 {
     let signed = checked_bytes(alloc, unsigned)?;
     signing_key.try_sign(alloc, &signed)
@@ -62,10 +65,12 @@ fn signature_by<S: SigningKey>(
 
 /// The bytes that are signed, where they fit.
 fn checked_bytes(alloc: Global, unsigned: &Unsigned) -> Result<Vec<u8>>
-    ensures bytes { IfOk result (λ v. v.items ≡ flat (normal_to_be_signed (unsigned_of unsigned.now))) }
+    ensures bytes { IfOk result
+        (λ v. v.items ≡ flat (normal_to_be_signed (unsigned_of unsigned.now))) }
     ensures fits { OnOk result (signed_fits (unsigned_of unsigned.now) ≡ true) }
     ensures boxes { OnOk result (BoxesFit (normal_to_be_signed (unsigned_of unsigned.now))) }
-    ensures too_long { IfErr result (λ e. e ≢ wide.Memory → (e ≡ wide.Encoding narrow.Length) × (BoxesFit (normal_to_be_signed (unsigned_of unsigned.now)) → ⊥)) }
+    ensures too_long { IfErr result (λ e. e ≢ wide.Memory → (e ≡ wide.Encoding narrow.Length)
+        × (BoxesFit (normal_to_be_signed (unsigned_of unsigned.now)) → ⊥)) }
 {
     unsigned.signed_bytes(alloc)
 }

@@ -31,10 +31,19 @@ impl PublicKey {
         signature: &SshSig,
         verifier: &V,
     ) -> Result<()>
-        ensures other_key { ⟦<KeyData as PartialEq>⟧.eq (data_of self.now) (signer_of signature.now) ≡ false → result ≡ Err wide.PublicKey }
-        ensures other_namespace { ⟦<KeyData as PartialEq>⟧.eq (data_of self.now) (signer_of signature.now) ≡ true → (ssh_signature_of signature.now).namespace ≢ namespace.now → result ≡ Err wide.Namespace }
-        ensures judged { ⟦<KeyData as PartialEq>⟧.eq (data_of self.now) (signer_of signature.now) ≡ true → (ssh_signature_of signature.now).namespace ≡ namespace.now → JudgesSigned (V.accepts verifier.now) signature.now (signed_parts signature.now message.now) result }
-        ensures verified { OnOk result (IsVerified (V.accepts verifier.now) (public_of self.now) namespace.now message.now (ssh_signature_of signature.now)) }
+        ensures other_key { ⟦<KeyData as PartialEq>⟧.eq
+            (data_of self.now) (signer_of signature.now) ≡ false → result ≡ Err wide.PublicKey }
+        ensures other_namespace { ⟦<KeyData as PartialEq>⟧.eq
+            (data_of self.now) (signer_of signature.now) ≡ true
+            → (ssh_signature_of signature.now).namespace ≢ namespace.now
+            → result ≡ Err wide.Namespace }
+        ensures judged { ⟦<KeyData as PartialEq>⟧.eq
+            (data_of self.now) (signer_of signature.now) ≡ true
+            → (ssh_signature_of signature.now).namespace ≡ namespace.now
+            → JudgesSigned (V.accepts verifier.now) signature.now
+            (signed_parts signature.now message.now) result }
+        ensures verified { OnOk result (IsVerified (V.accepts verifier.now) (public_of self.now)
+            namespace.now message.now (ssh_signature_of signature.now)) }
     {
         if !is_same_key(&self.key_data, signature.public_key()) {
             return Err(Error::PublicKey);
@@ -53,7 +62,8 @@ fn judge<V: RawVerifier>(
     signature: &SshSig,
     verifier: &V,
 ) -> Result<()>
-    ensures { JudgesSigned (V.accepts verifier.now) signature.now (signed_parts signature.now message.now) result }
+    ensures { JudgesSigned (V.accepts verifier.now) signature.now
+        (signed_parts signature.now message.now) result }
 {
     let signed = signed_bytes(
         alloc,

@@ -29,8 +29,13 @@ impl SshSig {
         message: &[u8],
     ) -> Result<SshSig>
         ensures empty { namespace.now ≡ [] → result ≡ Err wide.Namespace }
-        ensures security_key { namespace.now ≢ [] → is_security_key (key_of (S.public_of signer.now)) ≡ true → IsErrAnd result (IsNoSigner (key_of (S.public_of signer.now))) }
-        ensures made { namespace.now ≢ [] → is_security_key (key_of (S.public_of signer.now)) ≡ false → MakesSigned (S.Raw.accepts (S.raw_of signer.now)) (S.refuses signer.now) (key_of (S.public_of signer.now)) namespace.now message.now hash_alg result }
+        ensures security_key { namespace.now ≢ []
+            → is_security_key (key_of (S.public_of signer.now)) ≡ true
+            → IsErrAnd result (IsNoSigner (key_of (S.public_of signer.now))) }
+        ensures made { namespace.now ≢ []
+            → is_security_key (key_of (S.public_of signer.now)) ≡ false
+            → MakesSigned (S.Raw.accepts (S.raw_of signer.now)) (S.refuses signer.now)
+            (key_of (S.public_of signer.now)) namespace.now message.now hash_alg result }
     {
         if namespace.is_empty() {
             return Err(Error::Namespace);

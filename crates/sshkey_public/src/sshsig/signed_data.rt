@@ -58,7 +58,8 @@ pub(crate) fn signed_bytes(
     hash_alg: HashAlg,
     message: &[u8],
 ) -> Result<Vec<u8>>
-    ensures { MakesBlob (signed_message namespace.now reserved.now (hash_of hash_alg) message.now) result }
+    ensures { MakesBlob
+        (signed_message namespace.now reserved.now (hash_of hash_alg) message.now) result }
 {
     match hash_alg {
         HashAlg::Sha256 => {
@@ -80,7 +81,8 @@ fn bytes_with(
     hash_alg: HashAlg,
     digest: &[u8],
 ) -> Result<Vec<u8>>
-    ensures { MakesBlob (signed_data namespace.now reserved.now (hash_of hash_alg) digest.now) result }
+    ensures { MakesBlob
+        (signed_data namespace.now reserved.now (hash_of hash_alg) digest.now) result }
 {
     let signed = SignedData {
         namespace,
@@ -105,7 +107,8 @@ impl SshSig {
         message: &[u8],
     ) -> Result<Vec<u8>>
         ensures empty { namespace.now ≡ [] → result ≡ Err wide.Namespace }
-        ensures bytes { namespace.now ≢ [] → MakesBlob (signed_message namespace.now [] (hash_of hash_alg) message.now) result }
+        ensures bytes { namespace.now ≢ []
+            → MakesBlob (signed_message namespace.now [] (hash_of hash_alg) message.now) result }
     {
         if namespace.is_empty() {
             return Err(Error::Namespace);

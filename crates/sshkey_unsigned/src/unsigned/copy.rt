@@ -53,7 +53,8 @@ impl Unsigned {
     /// The key id and the principals.
     fn copied_texts(&self, alloc: Global) -> Result<(Text, Vec<String>)>
         ensures key_id { IfOk result (λ copy. copy.0 ≡ self.now.key_id) }
-        ensures principals { IfOk result (λ copy. texts_of copy.1 ≡ texts_of self.now.valid_principals) }
+        ensures principals { IfOk result
+            (λ copy. texts_of copy.1 ≡ texts_of self.now.valid_principals) }
         ensures memory { IfErr result (λ e. e ≡ wide.Memory) }
     {
         let key_id = self.key_id.try_clone(alloc)?;
@@ -63,8 +64,10 @@ impl Unsigned {
 
     /// The critical options and the extensions.
     fn copied_options(&self, alloc: Global) -> Result<(OptionsMap, OptionsMap)>
-        ensures critical { IfOk result (λ copy. options_of copy.0 ≡ options_of self.now.critical_options) }
-        ensures extensions { IfOk result (λ copy. options_of copy.1 ≡ options_of self.now.extensions) }
+        ensures critical { IfOk result
+            (λ copy. options_of copy.0 ≡ options_of self.now.critical_options) }
+        ensures extensions { IfOk result
+            (λ copy. options_of copy.1 ≡ options_of self.now.extensions) }
         ensures memory { IfErr result (λ e. e ≡ wide.Memory) }
     {
         let critical_options = self.critical_options.try_clone(alloc)?;
@@ -75,7 +78,8 @@ impl Unsigned {
     /// The certified key and the key that signs.
     fn copied_keys(&self, alloc: Global) -> Result<(KeyData, KeyData)>
         ensures public_key { IfOk result (λ copy. key_of copy.0 ≡ key_of self.now.public_key) }
-        ensures signature_key { IfOk result (λ copy. key_of copy.1 ≡ key_of self.now.signature_key) }
+        ensures signature_key { IfOk result
+            (λ copy. key_of copy.1 ≡ key_of self.now.signature_key) }
         ensures memory { IfErr result (λ e. e ≡ wide.Memory) }
     {
         let public_key = self.public_key.try_clone(alloc)?;

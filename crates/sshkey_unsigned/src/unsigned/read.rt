@@ -3,7 +3,7 @@
 ghost use Rattle.std.specs.Prelude.{◌≡◌, ◌<◌};
 ghost use Rattle.sshkey_base.specs.Causes.{cause};
 ghost use Rattle.sshkey_base.specs.Needs.{Asks, NoNeed};
-ghost use Rattle.sshkey_base.specs.Reading.{Gives};
+ghost use Rattle.sshkey_base.specs.Reading.{DecodesWide};
 ghost use Rattle.sshkey_base.specs.Source.{Later};
 ghost use Rattle.sshkey_unsigned.specs.UnsignedReaders.{subject_at, grant_at, window_at, limits_at, authority_at, fields_at};
 ghost use Rattle.sshkey_unsigned.specs.Needs.{NeedsUnsigned, NeedsSubject, NeedsGrant, NeedsLimits, NeedsAuthority};
@@ -18,7 +18,7 @@ use std::alloc::Global;
 /// All fields but the signature.
 #[tactic(auto, using(sshkey_base::proofs::Steps::steps), unfolding(crate::specs::UnsignedReaders::fields_at))]
 pub(super) fn unsigned_from<R: Reader>(alloc: Global, reader: &mut R) -> Result<Unsigned>
-    ensures gives { Gives unsigned_of cause fields_at (R.source reader.old) result (R.source reader.new) }
+    ensures gives { DecodesWide unsigned_of fields_at R.source reader.old result reader.new }
     ensures later { Later (R.source reader.old) (R.source reader.new) }
     ensures asks { Asks cause NeedsUnsigned (R.source reader.old) result }
 {
@@ -46,7 +46,7 @@ pub(super) fn unsigned_from<R: Reader>(alloc: Global, reader: &mut R) -> Result<
 /// The name, the nonce, and the key's body.
 #[tactic(auto, using(sshkey_base::proofs::Steps::steps), unfolding(crate::specs::UnsignedReaders::subject_at))]
 fn subject_from<R: Reader>(alloc: Global, reader: &mut R) -> Result<(Bytes, KeyData)>
-    ensures gives { Gives subject_of cause subject_at (R.source reader.old) result (R.source reader.new) }
+    ensures gives { DecodesWide subject_of subject_at R.source reader.old result reader.new }
     ensures later { Later (R.source reader.old) (R.source reader.new) }
     ensures asks { Asks cause NeedsSubject (R.source reader.old) result }
 {
@@ -62,7 +62,7 @@ fn grant_from<R: Reader>(
     alloc: Global,
     reader: &mut R,
 ) -> Result<(u64, CertType, Text, Vec<String>)>
-    ensures gives { Gives grant_of cause grant_at (R.source reader.old) result (R.source reader.new) }
+    ensures gives { DecodesWide grant_of grant_at R.source reader.old result reader.new }
     ensures later { Later (R.source reader.old) (R.source reader.new) }
     ensures asks { Asks cause NeedsGrant (R.source reader.old) result }
 {
@@ -76,7 +76,7 @@ fn grant_from<R: Reader>(
 /// The two times.
 #[tactic(auto, using(sshkey_base::proofs::Steps::steps), unfolding(crate::specs::UnsignedReaders::window_at))]
 fn window_from<R: Reader>(alloc: Global, reader: &mut R) -> Result<(UnixTime, EndTime)>
-    ensures gives { Gives window_of cause window_at (R.source reader.old) result (R.source reader.new) }
+    ensures gives { DecodesWide window_of window_at R.source reader.old result reader.new }
     ensures later { Later (R.source reader.old) (R.source reader.new) }
     ensures asks { Asks cause NoNeed (R.source reader.old) result }
 {
@@ -88,7 +88,7 @@ fn window_from<R: Reader>(alloc: Global, reader: &mut R) -> Result<(UnixTime, En
 /// The critical options and the extensions.
 #[tactic(auto, using(sshkey_base::proofs::Steps::steps), unfolding(crate::specs::UnsignedReaders::limits_at))]
 fn limits_from<R: Reader>(alloc: Global, reader: &mut R) -> Result<(OptionsMap, OptionsMap)>
-    ensures gives { Gives limits_of cause limits_at (R.source reader.old) result (R.source reader.new) }
+    ensures gives { DecodesWide limits_of limits_at R.source reader.old result reader.new }
     ensures later { Later (R.source reader.old) (R.source reader.new) }
     ensures asks { Asks cause NeedsLimits (R.source reader.old) result }
 {
@@ -100,7 +100,7 @@ fn limits_from<R: Reader>(alloc: Global, reader: &mut R) -> Result<(OptionsMap, 
 /// The reserved bytes, and the key that signed.
 #[tactic(auto, using(sshkey_base::proofs::Steps::steps), unfolding(crate::specs::UnsignedReaders::authority_at))]
 fn authority_from<R: Reader>(alloc: Global, reader: &mut R) -> Result<(Bytes, KeyData)>
-    ensures gives { Gives authority_of cause authority_at (R.source reader.old) result (R.source reader.new) }
+    ensures gives { DecodesWide authority_of authority_at R.source reader.old result reader.new }
     ensures later { Later (R.source reader.old) (R.source reader.new) }
     ensures asks { Asks cause NeedsAuthority (R.source reader.old) result }
 {

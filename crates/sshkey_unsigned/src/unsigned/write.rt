@@ -13,7 +13,8 @@ impl Unsigned {
     /// Writes the serial number and all behind it.
     #[tactic(auto, using(sshkey_base::proofs::Writing::writing))]
     pub(super) fn encode_grant<W: Writer>(&self, writer: &mut W) -> encoding::Result<()>
-        ensures { Encodes W.fault (grant_parts (unsigned_of self.now)) (W.sink writer.old) result (W.sink writer.new) }
+        ensures { Encodes W.fault (grant_parts (unsigned_of self.now))
+            (W.sink writer.old) result (W.sink writer.new) }
     {
         self.serial.encode(writer)?;
         self.cert_type.encode(writer)?;
@@ -23,7 +24,8 @@ impl Unsigned {
     /// Writes the key id and all behind it.
     #[tactic(auto, using(sshkey_base::proofs::Writing::writing))]
     fn encode_names<W: Writer>(&self, writer: &mut W) -> encoding::Result<()>
-        ensures { Encodes W.fault (names_parts (unsigned_of self.now)) (W.sink writer.old) result (W.sink writer.new) }
+        ensures { Encodes W.fault (names_parts (unsigned_of self.now))
+            (W.sink writer.old) result (W.sink writer.new) }
     {
         self.key_id.encode(writer)?;
         self.valid_principals.encode(writer)?;
@@ -33,7 +35,8 @@ impl Unsigned {
     /// Writes the two times and all behind them.
     #[tactic(auto, using(sshkey_base::proofs::Writing::writing))]
     fn encode_limits<W: Writer>(&self, writer: &mut W) -> encoding::Result<()>
-        ensures { Encodes W.fault (limits_parts (unsigned_of self.now)) (W.sink writer.old) result (W.sink writer.new) }
+        ensures { Encodes W.fault (limits_parts (unsigned_of self.now))
+            (W.sink writer.old) result (W.sink writer.new) }
     {
         self.valid_after.encode(writer)?;
         self.valid_before.encode(writer)?;
@@ -45,7 +48,8 @@ impl Unsigned {
     /// Writes the reserved bytes and the key that signed.
     #[tactic(auto, using(sshkey_base::proofs::Writing::writing))]
     fn encode_authority<W: Writer>(&self, writer: &mut W) -> encoding::Result<()>
-        ensures { Encodes W.fault (authority_parts (unsigned_of self.now)) (W.sink writer.old) result (W.sink writer.new) }
+        ensures { Encodes W.fault (authority_parts (unsigned_of self.now))
+            (W.sink writer.old) result (W.sink writer.new) }
     {
         self.reserved.encode(writer)?;
         self.signature_key.encode_prefixed(writer)
