@@ -1,8 +1,7 @@
 -- Copies of options, and options that are made of pairs.
-use Rattle.std.proofs.Common.{◌≡◌, ℕ, List, [], ◌∷◌, map, refl, sym, ap, ◌∙◌}
+use Rattle.std.proofs.Common.{◌≡◌, List, [], ◌∷◌, map, refl}
 use Rattle.std.specs.Prelude.{String, string_bytes}
 use Rattle.std.specs.List.{AllZip}
-use Rattle.sshkey_model.specs.Options.{CertificateOption}
 use Rattle.sshkey_options.specs.OptionMaps.{option_of}
 
 pub copied : {Z : Type 0} (es fs : List (String Z × String Z)) → AllZip (λ p q. (string_bytes q.0 ≡ string_bytes p.0) × (string_bytes q.1 ≡ string_bytes p.1)) es fs → map option_of fs ≡ map option_of es

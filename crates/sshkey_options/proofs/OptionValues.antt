@@ -1,12 +1,11 @@
 -- Options are read as the model reads them, without the choices of their spelling.
-use Rattle.std.proofs.Common.{◌≡◌, ◌≢◌, ℕ, zero, suc, ◌<◌, ◌≤◌, Bool, true, false, ltb, Option, Some, None, List, [], ◌∷◌, length, take, drop, Result, Ok, Err, refl, sym, ap, ◌∙◌, arith, cond}
-use Rattle.std.specs.Int.{w32}
-use Rattle.std.proofs.lemmas.List.{nil_from_length, length-drop}
-use Rattle.sshkey_model.specs.Parts.{bytes, number, flat}
-use Rattle.sshkey_model.specs.Reading.{Fault, Length, FormatEncoding, ◌>>=◌, Whole, whole, number_at, box_at, list_within, list_whole}
+use Rattle.std.proofs.Common.{◌≡◌, ◌≢◌, ℕ, zero, suc, ◌<◌, ◌≤◌, Bool, true, false, Option, Some, None, List, [], ◌∷◌, length, Result, Ok, Err, refl, sym, ap, ◌∙◌, arith, cond}
+use Rattle.std.proofs.lemmas.List.{nil_from_length}
+use Rattle.sshkey_model.specs.Parts.{bytes}
+use Rattle.sshkey_model.specs.Reading.{Fault, FormatEncoding, ◌>>=◌, whole, box_at, list_within, list_whole}
 use Rattle.sshkey_model.specs.Texts.{text_at}
 use Rattle.sshkey_model.specs.Options.{CertificateOption, Nesting, nesting_of, option_value_from, option_before, is_after, in_order, option_at, firsts, seconds, options_at}
-use Rattle.sshkey_model.proofs.CombinedReaders.{bind_ok, ok_is, passed, number_reads, wide32}
+use Rattle.sshkey_model.proofs.CombinedReaders.{bind_ok, ok_is}
 use Rattle.sshkey_model.proofs.TextReaders.{text_reads, box_shows}
 use Rattle.sshkey_base.specs.Causes.{Cause}
 use Rattle.sshkey_base.specs.Source.{Source, announced_len}
