@@ -1,3 +1,4 @@
 pub mod UnsignedFields
 pub mod Names
 pub mod Copies
+pub mod Comparisons
