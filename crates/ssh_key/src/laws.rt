@@ -16,3 +16,4 @@ pub use sshkey_model::laws::{
     signed_fields,
 };
 pub use sshkey_options::laws::{compared_ends, compared_options, compared_times, compared_types};
+pub use sshkey_public::laws::{compared_public_keys, compared_ssh_signatures};

@@ -4,7 +4,8 @@ ghost use Rattle.std.specs.Prelude.{◌≡◌, ◌++◌, ℕ, List};
 ghost use Rattle.sshkey_model.specs.Certificates.{Certificate as TheCertificate};
 ghost use Rattle.sshkey_model.specs.Laws.{DetermineFields, AreApart};
 ghost use Rattle.sshkey_cert.specs.CertificateReaders.{SpellsCertificate};
-ghost use Rattle.sshkey_cert.specs.Comparisons.{IsEqualityOfCertificates, EqualMeanSameCertificates, IsOrderOfCertificates};
+ghost use Rattle.sshkey_base.specs.Comparisons.{EqualMeanSame, IsEqualityAmong};
+ghost use Rattle.sshkey_cert.specs.Comparisons.{IsOfKeys, IsOrderOfCertificates, content_of};
 
 use crate::certificate::Certificate;
 use sshkey_keys::laws::compared_signatures;
@@ -35,8 +36,8 @@ pub fn apart()
 /// two are equal exactly if they do. They are ordered by what they sign, field by field from the
 /// nonce on, then by the signature, and then by the comment.
 pub fn compared_certificates()
-    ensures equal { IsEqualityOfCertificates ⟦<Certificate as PartialEq>⟧.eq }
-    ensures same { EqualMeanSameCertificates ⟦<Certificate as PartialEq>⟧.eq }
+    ensures equal { IsEqualityAmong IsOfKeys content_of ⟦<Certificate as PartialEq>⟧.eq }
+    ensures same { EqualMeanSame content_of ⟦<Certificate as PartialEq>⟧.eq }
     ensures ordered { IsOrderOfCertificates ⟦<Certificate as Ord>⟧.cmp }
 {
     compared_signed_fields();

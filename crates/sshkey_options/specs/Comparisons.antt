@@ -1,8 +1,9 @@
 -- What times, types and options are ordered by.
 use Rattle.std.specs.Prelude.{◌≡◌, ℕ, List, [], ◌∷◌}
 use Rattle.std.specs.declared.cmp.Ordering.{Ordering}
-use Rattle.std.specs.Ordering.{nat_cmp, ordering_then}
 use Rattle.std.specs.Cmp.Lexicographic.{slice_cmp}
+use Rattle.std.specs.Ordering.{ordering_then}
+use Rattle.sshkey_base.specs.Comparisons.{bytes_cmp}
 use Rattle.sshkey_model.specs.Options.{CertificateOption}
 use Rattle.sshkey_options.specs.declared.cert_type.CertType.{CertType}
 use Rattle.sshkey_options.specs.declared.cert_type.CertType.TheVariants.{User, Host}
@@ -25,7 +26,7 @@ type_key Host = 1 ∷ []
 
 -- by the name, and then by the value
 abbrev pub option_cmp : CertificateOption → CertificateOption → Ordering
-option_cmp a b = ordering_then (slice_cmp nat_cmp a.name b.name) (slice_cmp nat_cmp a.value b.value)
+option_cmp a b = ordering_then (bytes_cmp a.name b.name) (bytes_cmp a.value b.value)
 
 -- They are ordered as their lists of options, by the first one that differs.
 abbrev pub IsOrderOfOptions : (OptionsMap → OptionsMap → Ordering) → Type 0

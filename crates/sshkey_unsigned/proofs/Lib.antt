@@ -1,4 +1,3 @@
 pub mod UnsignedFields
 pub mod Names
 pub mod Copies
-pub mod Comparisons

@@ -1,12 +1,9 @@
-use Rattle.std.proofs.Common.{◌≡◌, ℕ, List, refl, ap, sym, ◌∙◌}
-use Rattle.std.specs.declared.cmp.Ordering.{Ordering}
-use Rattle.std.specs.declared.cmp.Ordering.TheVariants.{Less, Equal, Greater}
-use Rattle.std.specs.Ordering.{ordering_then}
+use Rattle.std.proofs.Common.{◌≡◌, ℕ, List, refl, ap, sym}
 use Rattle.std.proofs.lemmas.Bool.Decides.{Decides-and, Decides-like}
 use Rattle.std.proofs.lemmas.Slice.Eq.{bytes_eq-Decides}
 use Rattle.sshkey_model.specs.Certificates as model
 use Rattle.sshkey_cert.specs.Comparisons.{content_of}
-use Rattle.sshkey_unsigned.proofs.Comparisons.{both, after, last_of_all}
+use Rattle.sshkey_base.proofs.Comparisons.{both, after, last_of_all}
 use Rattle.sshkey_cert.proofs.laws.compared_certificates.Goals as goal
 
 -- each part is the same

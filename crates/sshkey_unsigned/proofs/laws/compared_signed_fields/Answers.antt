@@ -8,10 +8,10 @@ use Rattle.std.proofs.lemmas.Bool.Decides.{Decides-and, Decides-like}
 use Rattle.std.proofs.lemmas.Slice.Eq.{bytes_eq-Decides, slice_eq-Decides}
 use Rattle.sshkey_model.specs.Certificates.{SignedFields}
 use Rattle.sshkey_base.specs.TextLists.{texts_of}
-use Rattle.sshkey_unsigned.specs.Comparisons.{bytes_cmp}
+use Rattle.sshkey_base.specs.Comparisons.{bytes_cmp}
 use Rattle.sshkey_unsigned.specs.declared.unsigned.Unsigned.{Unsigned}
 use Rattle.sshkey_unsigned.specs.UnsignedValues.{unsigned_of}
-use Rattle.sshkey_unsigned.proofs.Comparisons.{both, after, last_of_all}
+use Rattle.sshkey_base.proofs.Comparisons.{both, after, last_of_all}
 use Rattle.sshkey_unsigned.proofs.laws.compared_signed_fields.Goals as goal
 
 -- each field is the same
