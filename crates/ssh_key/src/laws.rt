@@ -2,6 +2,7 @@
 //! contract.
 
 pub use sshkey_base::laws::{one_front, read_back};
+pub use sshkey_cert::laws::compared_certificates;
 pub use sshkey_keys::laws::{compared_fingerprints, compared_keys, compared_signatures};
 pub use sshkey_model::laws::lines::{lines_apart, one_certificate_line, one_key_line};
 pub use sshkey_model::laws::private::{
@@ -14,3 +15,5 @@ pub use sshkey_model::laws::{
     read_back_certificate, read_back_key, read_back_signature, read_back_ssh_signature,
     signed_fields,
 };
+pub use sshkey_options::laws::{compared_ends, compared_options, compared_times, compared_types};
+pub use sshkey_public::laws::{compared_public_keys, compared_ssh_signatures};

@@ -22,3 +22,4 @@ pub mod WrittenLists
 pub mod ReadLists
 pub mod MappedBoxes
 pub mod ShortStrings
+pub mod Comparisons

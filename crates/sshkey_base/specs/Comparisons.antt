@@ -1,7 +1,8 @@
 -- What equality and order of names say.
 use Rattle.std.specs.Prelude.{◌≡◌, ◌↔◌, ℕ, List, [], ◌∷◌, Bool, true, Option, Some, None}
 use Rattle.std.specs.declared.cmp.Ordering.{Ordering}
-use Rattle.std.specs.Ordering.{nat_cmp}
+use Rattle.std.specs.declared.cmp.Ordering.TheVariants.{Equal}
+use Rattle.std.specs.Ordering.{nat_cmp, ordering_then}
 use Rattle.std.specs.Cmp.Lexicographic.{slice_cmp}
 use Rattle.sshkey_base.specs.declared.algorithm.curve.EcdsaCurve.{EcdsaCurve}
 use Rattle.sshkey_base.specs.declared.algorithm.curve.EcdsaCurve.TheVariants.{NistP256, NistP384, NistP521}
@@ -16,13 +17,34 @@ use Rattle.sshkey_base.specs.declared.certificate.field.Field.TheVariants as fie
 abbrev pub IsEqualityOf : {X Y : Type 0} → (X → Y) → (X → X → Bool) → Type 0
 IsEqualityOf {X} means eq = (x y : X) → (eq x y ≡ true) ↔ (means x ≡ means y)
 
--- They are ordered as their keys, by the first number that differs.
-abbrev pub IsOrderOf : {X : Type 0} → (X → List ℕ) → (X → X → Ordering) → Type 0
-IsOrderOf {X} key cmp = (x y : X) → cmp x y ≡ slice_cmp nat_cmp (key x) (key y)
+-- Among those of which P holds, two are equal exactly if they mean the same.
+abbrev pub IsEqualityAmong : {X Y : Type 0} → (X → Type 0) → (X → Y) → (X → X → Bool) → Type 0
+IsEqualityAmong {X} P means eq = (x y : X) → P x → P y → (eq x y ≡ true) ↔ (means x ≡ means y)
 
--- They are ordered as their lists of parts, by the first part that differs, and each part by its first number that differs.
+-- Two that are equal mean the same.
+abbrev pub EqualMeanSame : {X Y : Type 0} → (X → Y) → (X → X → Bool) → Type 0
+EqualMeanSame {X} means eq = (x y : X) → eq x y ≡ true → means x ≡ means y
+
+-- by the first number that differs
+abbrev pub bytes_cmp : List ℕ → List ℕ → Ordering
+bytes_cmp = slice_cmp nat_cmp
+
+-- by the first part that differs, and there by the first number
+abbrev pub parts_cmp : List (List ℕ) → List (List ℕ) → Ordering
+parts_cmp = slice_cmp bytes_cmp
+
+-- the first that is no equality
+abbrev pub first_of : List Ordering → Ordering
+first_of [] = Equal
+first_of (o ∷ os) = ordering_then o (first_of os)
+
+-- They are ordered as their keys.
+abbrev pub IsOrderOf : {X : Type 0} → (X → List ℕ) → (X → X → Ordering) → Type 0
+IsOrderOf {X} key cmp = (x y : X) → cmp x y ≡ bytes_cmp (key x) (key y)
+
+-- They are ordered as their lists of parts.
 abbrev pub IsOrderByParts : {X : Type 0} → (X → List (List ℕ)) → (X → X → Ordering) → Type 0
-IsOrderByParts {X} parts cmp = (x y : X) → cmp x y ≡ slice_cmp (slice_cmp nat_cmp) (parts x) (parts y)
+IsOrderByParts {X} parts cmp = (x y : X) → cmp x y ≡ parts_cmp (parts x) (parts y)
 
 abbrev pub curve_key : EcdsaCurve → List ℕ
 curve_key NistP256 = 0 ∷ []

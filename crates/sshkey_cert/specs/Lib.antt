@@ -5,3 +5,4 @@ pub mod CertificateValues
 pub mod Validity
 pub mod Signing
 pub mod Lines
+pub mod Comparisons

@@ -4,8 +4,13 @@ ghost use Rattle.std.specs.Prelude.{◌≡◌, ◌++◌, ℕ, List};
 ghost use Rattle.sshkey_model.specs.Certificates.{Certificate as TheCertificate};
 ghost use Rattle.sshkey_model.specs.Laws.{DetermineFields, AreApart};
 ghost use Rattle.sshkey_cert.specs.CertificateReaders.{SpellsCertificate};
+ghost use Rattle.sshkey_base.specs.Comparisons.{EqualMeanSame, IsEqualityAmong};
+ghost use Rattle.sshkey_cert.specs.Comparisons.{IsOfKeys, IsOrderOfCertificates, content_of};
 
+use crate::certificate::Certificate;
+use sshkey_keys::laws::compared_signatures;
 use sshkey_model::laws;
+use sshkey_unsigned::laws::compared_signed_fields;
 
 /// No spelling of a certificate begins another: what follows it does not matter, and it is that of
 /// one certificate.
@@ -26,4 +31,16 @@ pub fn apart()
     ensures { AreApart }
 {
     laws::apart();
+}
+
+/// Two certificates that are equal mean the same and have one comment, and with well-formed keys
+/// two are equal exactly if they do. They are ordered by what they sign, field by field from the
+/// nonce on, then by the signature, and then by the comment.
+pub fn compared_certificates()
+    ensures equal { IsEqualityAmong IsOfKeys content_of ⟦<Certificate as PartialEq>⟧.eq }
+    ensures same { EqualMeanSame content_of ⟦<Certificate as PartialEq>⟧.eq }
+    ensures ordered { IsOrderOfCertificates ⟦<Certificate as Ord>⟧.cmp }
+{
+    compared_signed_fields();
+    compared_signatures();
 }

@@ -7,17 +7,13 @@ use Rattle.sshkey_keys.specs.declared.key_data.KeyData.{KeyData}
 use Rattle.sshkey_keys.specs.declared.key_data.KeyData.TheVariants as kinds
 use Rattle.sshkey_keys.specs.Keys.{key_of}
 
--- Two well-formed keys are equal exactly if they mean the same.
-abbrev pub IsEqualityOfKeys : (KeyData → KeyData → Bool) → Type 0
-IsEqualityOfKeys eq = (x y : KeyData) → IsKey (key_of x) → IsKey (key_of y) → (eq x y ≡ true) ↔ (key_of x ≡ key_of y)
-
--- Two that are equal mean the same, well-formed or not.
-abbrev pub EqualMeanSame : (KeyData → KeyData → Bool) → Type 0
-EqualMeanSame eq = (x y : KeyData) → eq x y ≡ true → key_of x ≡ key_of y
+-- It is well-formed.
+abbrev pub HasForm : KeyData → Type 0
+HasForm k = IsKey (key_of k)
 
 -- Two that can be written are equal exactly if the same bytes are written of them.
 abbrev pub IsEqualityOfForms : (KeyData → KeyData → Bool) → Type 0
-IsEqualityOfForms eq = (x y : KeyData) → IsKey (key_of x) → IsKey (key_of y) → Fits (normal_key (key_of x)) → Fits (normal_key (key_of y)) → (eq x y ≡ true) ↔ (flat (normal_key (key_of x)) ≡ flat (normal_key (key_of y)))
+IsEqualityOfForms eq = (x y : KeyData) → HasForm x → HasForm y → Fits (normal_key (key_of x)) → Fits (normal_key (key_of y)) → (eq x y ≡ true) ↔ (flat (normal_key (key_of x)) ≡ flat (normal_key (key_of y)))
 
 -- its kind, and what it is made of
 abbrev pub key_parts : KeyData → List (List ℕ)

@@ -3,10 +3,10 @@
 ghost use Rattle.std.specs.Prelude.{◌≡◌, ◌++◌, ℕ, List};
 ghost use Rattle.sshkey_model.specs.Keys.{Key};
 ghost use Rattle.sshkey_model.specs.Signatures.{Signature as TheSignature};
-ghost use Rattle.sshkey_base.specs.Comparisons.{IsEqualityOf, IsOrderOf, IsOrderByParts};
-ghost use Rattle.sshkey_keys.specs.Comparisons.{IsEqualityOfKeys, IsEqualityOfForms, EqualMeanSame, key_parts};
+ghost use Rattle.sshkey_base.specs.Comparisons.{EqualMeanSame, IsEqualityAmong, IsEqualityOf, IsOrderOf, IsOrderByParts};
+ghost use Rattle.sshkey_keys.specs.Comparisons.{HasForm, IsEqualityOfForms, key_parts};
 ghost use Rattle.sshkey_keys.specs.Fingerprints.{fingerprint_key};
-ghost use Rattle.sshkey_keys.specs.Keys.{SpellsKey};
+ghost use Rattle.sshkey_keys.specs.Keys.{SpellsKey, key_of};
 ghost use Rattle.sshkey_keys.specs.Signatures.{signature_of, signature_parts};
 ghost use Rattle.sshkey_keys.specs.SignatureReaders.{SpellsSignature};
 
@@ -33,8 +33,8 @@ pub fn compared_fingerprints()
 /// same, and two that can be written exactly if the same bytes are written of them. Keys are
 /// ordered by their kind, and then part by part.
 pub fn compared_keys()
-    ensures equal { IsEqualityOfKeys ⟦<KeyData as PartialEq>⟧.eq }
-    ensures same { EqualMeanSame ⟦<KeyData as PartialEq>⟧.eq }
+    ensures equal { IsEqualityAmong HasForm key_of ⟦<KeyData as PartialEq>⟧.eq }
+    ensures same { EqualMeanSame key_of ⟦<KeyData as PartialEq>⟧.eq }
     ensures written { IsEqualityOfForms ⟦<KeyData as PartialEq>⟧.eq }
     ensures ordered { IsOrderByParts key_parts ⟦<KeyData as Ord>⟧.cmp }
 {

@@ -3,3 +3,4 @@ pub mod Times
 pub mod CertTypes
 pub mod OptionReaders
 pub mod OptionMaps
+pub mod Comparisons

@@ -3,14 +3,44 @@
 ghost use Rattle.std.specs.Prelude.{◌≡◌, ◌++◌, ℕ, List};
 ghost use Rattle.sshkey_model.specs.Options.{CertificateOption};
 ghost use Rattle.sshkey_base.specs.Comparisons.{IsEqualityOf, IsOrderOf};
+ghost use Rattle.sshkey_options.specs.CertTypes.{type_of};
+ghost use Rattle.sshkey_options.specs.Comparisons.{IsOrderOfOptions, time_key, end_key, type_key};
+ghost use Rattle.sshkey_options.specs.OptionMaps.{options_of};
 ghost use Rattle.sshkey_options.specs.OptionReaders.{SpellsOptions};
 ghost use Rattle.sshkey_options.specs.Times.{end_of, time_of};
 
+use crate::cert_type::CertType;
 use crate::end_time::EndTime;
+use crate::options_map::OptionsMap;
 use crate::unix_time::UnixTime;
 
 /// No options begin others: what follows them does not matter, and they are those of one map.
 pub fn prefix_options()
     ensures { (o p : List CertificateOption) (a b r q : List ℕ) → SpellsOptions o a →
         SpellsOptions p b → a ++ r ≡ b ++ q → (o ≡ p) × (a ≡ b) × (r ≡ q) }
+{}
+
+/// Two times are equal exactly if they are the same second, and the earlier one is the less.
+pub fn compared_times()
+    ensures equal { IsEqualityOf time_of ⟦<UnixTime as PartialEq>⟧.eq }
+    ensures ordered { IsOrderOf time_key ⟦<UnixTime as Ord>⟧.cmp }
+{}
+
+/// The same of ends; that there is none comes behind each time.
+pub fn compared_ends()
+    ensures equal { IsEqualityOf end_of ⟦<EndTime as PartialEq>⟧.eq }
+    ensures ordered { IsOrderOf end_key ⟦<EndTime as Ord>⟧.cmp }
+{}
+
+/// Two types are equal exactly if they mean the same, and a user comes before a host.
+pub fn compared_types()
+    ensures equal { IsEqualityOf type_of ⟦<CertType as PartialEq>⟧.eq }
+    ensures ordered { IsOrderOf type_key ⟦<CertType as Ord>⟧.cmp }
+{}
+
+/// Two maps are equal exactly if they have the same options, and they are ordered as the lists of
+/// these, in the order of the names: by the first that differs, and there by the name first.
+pub fn compared_options()
+    ensures equal { IsEqualityOf options_of ⟦<OptionsMap as PartialEq>⟧.eq }
+    ensures ordered { IsOrderOfOptions ⟦<OptionsMap as Ord>⟧.cmp }
 {}

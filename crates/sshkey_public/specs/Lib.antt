@@ -9,3 +9,4 @@ pub mod SshSignatures
 pub mod SshSignatureReaders
 pub mod Needs
 pub mod Signing
+pub mod Comparisons

@@ -2,6 +2,7 @@
 #![tactic(auto)]
 
 mod blob;
+pub mod laws;
 mod line;
 mod line_writer;
 mod public_key;

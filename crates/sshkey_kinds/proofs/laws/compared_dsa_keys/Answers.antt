@@ -1,11 +1,9 @@
-use Rattle.std.proofs.Common.{◌≡◌, refl, ap}
-use Rattle.std.specs.declared.cmp.Ordering.{Ordering}
-use Rattle.std.specs.declared.cmp.Ordering.TheVariants.{Less, Equal, Greater}
-use Rattle.std.specs.Ordering.{ordering_then}
+use Rattle.std.proofs.Common.{◌≡◌, ap}
 use Rattle.std.proofs.lemmas.Bool.Decides.{Decides-and, Decides-like}
 use Rattle.std.proofs.lemmas.Slice.Eq.{bytes_eq-Decides}
 use Rattle.sshkey_model.specs.Keys.{Dsa, DsaKey}
 use Rattle.sshkey_base.specs.Mpint.{mpint_of}
+use Rattle.sshkey_base.proofs.Comparisons.{last_of_all}
 use Rattle.sshkey_kinds.specs.Kinds.{dsa_of}
 use Rattle.sshkey_kinds.specs.declared.dsa.DsaPublicKey.{DsaPublicKey}
 use Rattle.sshkey_kinds.proofs.laws.compared_dsa_keys.Goals as goal
@@ -26,11 +24,6 @@ unfolding SameNumbers
 apart x y same =
     let e = inner _ _ same in
     (ap (λ (k : DsaKey). k.p) e, (ap (λ (k : DsaKey). k.q) e, (ap (λ (k : DsaKey). k.g) e, ap (λ (k : DsaKey). k.y) e)))
-
-last_of_all : (o : Ordering) → ordering_then o Equal ≡ o
-last_of_all Less = refl
-last_of_all Equal = refl
-last_of_all Greater = refl
 
 pub returns-clause-equal : goal.returns-clause-equal
 unfolding SameNumbers
