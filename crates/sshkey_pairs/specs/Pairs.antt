@@ -1,4 +1,6 @@
 -- What each kind of pair means.
+use Rattle.std.specs.Prelude.{ℕ, List, ◌==◌, length, take, drop, Ok, Err, if◌then◌else◌}
+use Rattle.sshkey_model.specs.Reading.{Whole, Length}
 use Rattle.sshkey_model.specs.Names.{Curve, Nistp256, Nistp384, Nistp521}
 use Rattle.sshkey_model.specs.KeyPairs.{KeyPair, DsaPair, EcdsaPair, Ed25519Pair, RsaPair}
 use Rattle.sshkey_base.specs.Mpint.{mpint_of}
@@ -26,5 +28,15 @@ ecdsa_curve_of (on.NistP256 public private) = Nistp256
 ecdsa_curve_of (on.NistP384 public private) = Nistp384
 ecdsa_curve_of (on.NistP521 public private) = Nistp521
 
+-- the point string
+abbrev pub ecdsa_point_of : EcdsaKeypair → List ℕ
+ecdsa_point_of (on.NistP256 public private) = point_of public
+ecdsa_point_of (on.NistP384 public private) = point_of public
+ecdsa_point_of (on.NistP521 public private) = point_of public
+
 abbrev pub ed25519_pair_of : Ed25519Keypair → KeyPair
 ed25519_pair_of k = Ed25519Pair k.public.0 (ed25519_private_of k.private)
+
+-- 32 private bytes and the public ones behind them, if there are 64
+abbrev pub ed25519_pair_from : Whole KeyPair
+ed25519_pair_from b = if length b == 64 then Ok (Ed25519Pair (drop 32 b) (take 32 b)) else Err Length

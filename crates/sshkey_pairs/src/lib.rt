@@ -5,6 +5,7 @@ mod dsa;
 mod ecdsa;
 mod ed25519;
 mod fixed_width;
+pub mod laws;
 mod rsa;
 
 pub use dsa::{DsaKeypair, DsaPrivateKey};
