@@ -2,6 +2,7 @@
 //! contract.
 
 pub use sshkey_base::laws::{one_front, read_back};
+pub use sshkey_keypairs::laws::{equal_opaque_pairs, equal_sk_ecdsa_pairs, equal_sk_ed25519_pairs};
 pub use sshkey_keys::laws::{compared_fingerprints, compared_keys, compared_signatures};
 pub use sshkey_model::laws::lines::{lines_apart, one_certificate_line, one_key_line};
 pub use sshkey_model::laws::private::{
@@ -14,3 +15,4 @@ pub use sshkey_model::laws::{
     read_back_certificate, read_back_key, read_back_signature, read_back_ssh_signature,
     signed_fields,
 };
+pub use sshkey_pairs::laws::{equal_dsa_pairs, equal_ed25519_pairs, equal_rsa_pairs};

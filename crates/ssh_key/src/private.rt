@@ -1,7 +1,8 @@
 //! Key pairs.
 
 pub use sshkey_keypairs::{
-    KeypairData, OpaqueKeypair, OpaquePrivateKeyBytes, SkEcdsaSha2NistP256, SkEd25519,
+    KeypairData, OpaqueKeypair, OpaqueKeypairBytes, OpaquePrivateKeyBytes, SkEcdsaSha2NistP256,
+    SkEd25519,
 };
 pub use sshkey_pairs::{
     DsaKeypair, DsaPrivateKey, EcdsaKeypair, EcdsaPrivateKey, Ed25519Keypair, Ed25519PrivateKey,

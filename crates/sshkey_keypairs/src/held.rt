@@ -11,7 +11,7 @@ use sshkey_base::{Bytes, Decode, Encode, Error, Reader, Result, Writer, encoding
 use std::alloc::Global;
 
 /// What is kept of a key that a security key holds.
-#[derive(Drop, PartialEq, Eq)]
+#[derive(Drop, PartialEq, Eq, PartialOrd, Ord)]
 pub(crate) struct Held {
     pub(crate) flags: u8,
     pub(crate) key_handle: Bytes,
@@ -21,7 +21,7 @@ pub(crate) struct Held {
 impl Held {
     /// What is kept of a new key, with no reserved bytes. `Length` for a key handle of more than
     /// 255 bytes.
-    pub(crate) fn new(alloc: Global, flags: u8, key_handle: Vec<u8>) -> Result<Held>
+    pub(crate) fn new(flags: u8, key_handle: Vec<u8>) -> Result<Held>
         ensures exactly { IsOk result ↔ (length key_handle.items ≤ 255) }
         ensures value { IfOk result (λ h. held_of h ≡ held_anew flags key_handle.items) }
         ensures refused { IfErr result (λ e. e ≡ wide.Encoding encoding.Length) }
@@ -29,10 +29,23 @@ impl Held {
         if key_handle.len() > 255 {
             return Err(Error::Encoding(encoding::Error::Length));
         }
+        let alloc = *key_handle.allocator();
         Ok(Held {
             flags,
             key_handle: Bytes::new(key_handle),
             reserved: Bytes::new(Vec::new(alloc)),
+        })
+    }
+
+    /// The same in memory of its own. Refuses only when out of memory.
+    pub(crate) fn try_clone(&self, alloc: Global) -> Result<Held>
+        ensures value { IfOk result (λ h. held_of h ≡ held_of self.now) }
+        ensures refused { IfErr result (λ e. e ≡ Error.Memory) }
+    {
+        Ok(Held {
+            flags: self.flags,
+            key_handle: self.key_handle.try_clone(alloc)?,
+            reserved: self.reserved.try_clone(alloc)?,
         })
     }
 }

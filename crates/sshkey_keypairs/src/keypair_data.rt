@@ -11,11 +11,15 @@ ghost use Rattle.sshkey_model.specs.Names.{Dsa, Ecdsa, Ed25519, Rsa, SkEcdsa, Sk
 ghost use Rattle.sshkey_keypairs.specs.Keypairs.{pair_of, keypair_parts, public_of, checkint_of, GivesPair, GivesModelPair};
 ghost use Rattle.sshkey_keypairs.specs.KeypairNeeds.{NeedsPair};
 
+mod from;
+mod kinds;
+
 use crate::opaque::{OpaqueKeypair, OpaquePrivateKeyBytes};
 use crate::sk_ecdsa::SkEcdsaSha2NistP256;
 use crate::sk_ed25519::SkEd25519;
 use sshkey_base::{
-    Algorithm, Decode, EcdsaCurve, Encode, Error, Reader, Result, Writer, encode_both, encoding,
+    Algorithm, Decode, EcdsaCurve, Encode, Error, NormalForm, Reader, Result, Writer, encode_both,
+    encoding,
 };
 use sshkey_keys::KeyData;
 use sshkey_kinds::{EcdsaPublicKey, OpaquePublicKey, OpaquePublicKeyBytes};
@@ -23,7 +27,7 @@ use sshkey_pairs::{DsaKeypair, EcdsaKeypair, Ed25519Keypair, RsaKeypair};
 use std::alloc::Global;
 
 /// A key pair of any kind, or one that is encrypted (OpenSSH, PROTOCOL.key).
-#[derive(Drop, PartialEq, Eq)]
+#[derive(Debug, Drop, PartialEq, Eq)]
 pub enum KeypairData {
     /// `ssh-dss`.
     Dsa(DsaKeypair),
@@ -77,6 +81,28 @@ impl KeypairData {
             KeypairData::SkEd25519(pair) => checkint_from(pair.key_handle()),
             KeypairData::Other(pair) => checkint_from(pair.private.as_bytes()),
         }
+    }
+
+    /// The same pair in memory of its own. Refuses only when out of memory.
+    pub fn try_clone(&self, alloc: Global) -> Result<KeypairData>
+        ensures value { IfOk result (λ k. pair_of k ≡ pair_of self.now) }
+        ensures written { IfOk result (λ k. keypair_parts k ≡ keypair_parts self.now) }
+        ensures refused { IfErr result (λ e. e ≡ Error.Memory) }
+    {
+        Ok(match self {
+            KeypairData::Dsa(pair) => KeypairData::Dsa(pair.try_clone(alloc)?),
+            KeypairData::Ecdsa(pair) => KeypairData::Ecdsa(pair.clone()?),
+            KeypairData::Ed25519(pair) => KeypairData::Ed25519(pair.clone()?),
+            KeypairData::Encrypted(ciphertext) => {
+                KeypairData::Encrypted(Vec::from_slice(alloc, ciphertext)?)
+            }
+            KeypairData::Rsa(pair) => KeypairData::Rsa(pair.try_clone(alloc)?),
+            KeypairData::SkEcdsaSha2NistP256(pair) => {
+                KeypairData::SkEcdsaSha2NistP256(pair.try_clone(alloc)?)
+            }
+            KeypairData::SkEd25519(pair) => KeypairData::SkEd25519(pair.try_clone(alloc)?),
+            KeypairData::Other(pair) => KeypairData::Other(pair.try_clone(alloc)?),
+        })
     }
 
     /// The public half, and none of an encrypted pair. Refuses only when out of memory.
@@ -278,6 +304,14 @@ impl Encode for KeypairData {
             KeypairData::Other(pair) => encode_both(&pair.public.algorithm, pair, writer),
         }
     }
+}
+
+impl NormalForm for KeypairData {
+    ghost use Rattle.sshkey_keypairs.specs.NormalPairs.{IsWellFormedPair, keypair_normal};
+
+    ghost IsWellFormed = { λ k. IsWellFormedPair (pair_of k) };
+
+    ghost normal_spells = { keypair_normal };
 }
 
 /// The xor of the whole words of four bytes, most significant byte first.

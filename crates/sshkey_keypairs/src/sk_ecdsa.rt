@@ -13,9 +13,12 @@ use crate::held::Held;
 use sshkey_base::{Decode, Encode, Error, Reader, Result, Writer, encode_both, encoding};
 use sshkey_kinds::SkEcdsaSha2NistP256 as PublicSkEcdsa;
 use std::alloc::Global;
+use std::fmt;
 
 /// A P-256 key that a security key holds, and what is kept of it (OpenSSH, PROTOCOL.u2f).
-#[derive(Drop, PartialEq, Eq)]
+///
+/// Pairs are ordered by the public key, the flags, the key handle and the reserved bytes.
+#[derive(Drop, PartialEq, Eq, PartialOrd, Ord)]
 pub struct SkEcdsaSha2NistP256 {
     public: PublicSkEcdsa,
     held: Held,
@@ -24,18 +27,13 @@ pub struct SkEcdsaSha2NistP256 {
 impl SkEcdsaSha2NistP256 {
     /// The pair of that key, with no reserved bytes. `Length` for a key handle of more than 255
     /// bytes. Takes no memory but that of the vector handed in.
-    pub fn new(
-        alloc: Global,
-        public: PublicSkEcdsa,
-        flags: u8,
-        key_handle: Vec<u8>,
-    ) -> Result<SkEcdsaSha2NistP256>
+    pub fn new(public: PublicSkEcdsa, flags: u8, key_handle: Vec<u8>) -> Result<SkEcdsaSha2NistP256>
         ensures exactly { IsOk result ↔ (length key_handle.items ≤ 255) }
         ensures public { IfOk result (λ k. sk_ecdsa_public k ≡ public) }
         ensures held { IfOk result (λ k. sk_ecdsa_held k ≡ held_anew flags key_handle.items) }
         ensures refused { IfErr result (λ e. e ≡ wide.Encoding encoding.Length) }
     {
-        let held = Held::new(alloc, flags, key_handle)?;
+        let held = Held::new(flags, key_handle)?;
         Ok(SkEcdsaSha2NistP256 { public, held })
     }
 
@@ -58,6 +56,26 @@ impl SkEcdsaSha2NistP256 {
         ensures { result.now ≡ (sk_ecdsa_held self.now).handle }
     {
         self.held.key_handle.as_slice()
+    }
+
+    /// The same pair in memory of its own. Refuses only when out of memory.
+    pub fn try_clone(&self, alloc: Global) -> Result<SkEcdsaSha2NistP256>
+        ensures value { IfOk result (λ k. sk_ecdsa_pair_of k ≡ sk_ecdsa_pair_of self.now) }
+        ensures refused { IfErr result (λ e. e ≡ Error.Memory) }
+    {
+        Ok(SkEcdsaSha2NistP256 {
+            public: self.public.try_clone(alloc)?,
+            held: self.held.try_clone(alloc)?,
+        })
+    }
+}
+
+/// Shows the public key, and nothing of what is kept beside it.
+impl fmt::Debug for SkEcdsaSha2NistP256 {
+    fn fmt<W: fmt::Write>(&self, f: &mut fmt::Formatter<W>) -> fmt::Result {
+        f.debug_struct("SkEcdsaSha2NistP256")
+            .field("public", &self.public)
+            .finish_non_exhaustive()
     }
 }
 

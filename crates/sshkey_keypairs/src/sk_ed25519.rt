@@ -13,9 +13,12 @@ use crate::held::Held;
 use sshkey_base::{Decode, Encode, Error, Reader, Result, Writer, encode_both, encoding};
 use sshkey_kinds::SkEd25519 as PublicSkEd25519;
 use std::alloc::Global;
+use std::fmt;
 
 /// An Ed25519 key that a security key holds, and what is kept of it (OpenSSH, PROTOCOL.u2f).
-#[derive(Drop, PartialEq, Eq)]
+///
+/// Pairs are ordered by the public key, the flags, the key handle and the reserved bytes.
+#[derive(Drop, PartialEq, Eq, PartialOrd, Ord)]
 pub struct SkEd25519 {
     public: PublicSkEd25519,
     held: Held,
@@ -24,18 +27,13 @@ pub struct SkEd25519 {
 impl SkEd25519 {
     /// The pair of that key, with no reserved bytes. `Length` for a key handle of more than 255
     /// bytes. Takes no memory but that of the vector handed in.
-    pub fn new(
-        alloc: Global,
-        public: PublicSkEd25519,
-        flags: u8,
-        key_handle: Vec<u8>,
-    ) -> Result<SkEd25519>
+    pub fn new(public: PublicSkEd25519, flags: u8, key_handle: Vec<u8>) -> Result<SkEd25519>
         ensures exactly { IsOk result ↔ (length key_handle.items ≤ 255) }
         ensures public { IfOk result (λ k. sk_ed25519_public k ≡ public) }
         ensures held { IfOk result (λ k. sk_ed25519_held k ≡ held_anew flags key_handle.items) }
         ensures refused { IfErr result (λ e. e ≡ wide.Encoding encoding.Length) }
     {
-        let held = Held::new(alloc, flags, key_handle)?;
+        let held = Held::new(flags, key_handle)?;
         Ok(SkEd25519 { public, held })
     }
 
@@ -58,6 +56,26 @@ impl SkEd25519 {
         ensures { result.now ≡ (sk_ed25519_held self.now).handle }
     {
         self.held.key_handle.as_slice()
+    }
+
+    /// The same pair in memory of its own. Refuses only when out of memory.
+    pub fn try_clone(&self, alloc: Global) -> Result<SkEd25519>
+        ensures value { IfOk result (λ k. sk_ed25519_pair_of k ≡ sk_ed25519_pair_of self.now) }
+        ensures refused { IfErr result (λ e. e ≡ Error.Memory) }
+    {
+        Ok(SkEd25519 {
+            public: self.public.try_clone(alloc)?,
+            held: self.held.try_clone(alloc)?,
+        })
+    }
+}
+
+/// Shows the public key, and nothing of what is kept beside it.
+impl fmt::Debug for SkEd25519 {
+    fn fmt<W: fmt::Write>(&self, f: &mut fmt::Formatter<W>) -> fmt::Result {
+        f.debug_struct("SkEd25519")
+            .field("public", &self.public)
+            .finish_non_exhaustive()
     }
 }
 
