@@ -27,10 +27,12 @@ abbrev pub cause : wide-error.Error → Cause
 cause wide.AlgorithmUnknown = Faulty fault.AlgorithmUnknown
 cause (wide.AlgorithmUnsupported algorithm) = Other
 cause wide.Crypto = Faulty fault.Crypto
+cause wide.Decrypted = Other
 cause wide.Ecdsa = Faulty fault.Ecdsa
 cause (wide.CertificateFieldInvalid field) = Other
 cause wide.CertificateValidation = Other
 cause (wide.Encoding e) = encoding_cause e
+cause wide.Encrypted = Other
 cause wide.FormatEncoding = Faulty fault.FormatEncoding
 cause (wide.Io kind) = Other
 cause wide.Memory = NoMemory
@@ -38,6 +40,7 @@ cause wide.Namespace = Faulty fault.Namespace
 cause wide.PublicKey = Faulty fault.PublicKey
 cause (wide.Version number) = Faulty (fault.Version number)
 cause wide.Time = Faulty fault.Time
+cause (wide.TrailingData n) = Faulty (fault.TrailingKeyData n)
 
 -- what `From` makes of an error of the encoding
 abbrev pub widened : encoding-error.Error → wide-error.Error

@@ -29,6 +29,9 @@ pub enum Error {
     /// A key or a signature is not one of its kind.
     #[error("cryptographic error")]
     Crypto,
+    /// The private key is not encrypted. Nothing here answers it.
+    #[error("private key is already decrypted")]
+    Decrypted,
     /// A point of an elliptic curve is not encoded as one.
     #[error("ECDSA encoding error")]
     Ecdsa,
@@ -41,6 +44,9 @@ pub enum Error {
     /// The bytes do not keep the wire encoding.
     #[error("{0}")]
     Encoding(encoding::Error),
+    /// The private key is encrypted.
+    #[error("private key is encrypted")]
+    Encrypted,
     /// A value does not keep the form of its kind.
     #[error("format encoding error")]
     FormatEncoding,
@@ -65,6 +71,12 @@ pub enum Error {
     /// A time is past 2^63 - 1 seconds.
     #[error("invalid time")]
     Time,
+    /// Bytes stand behind an encrypted private key.
+    #[error("unexpected trailing data at end of message ({remaining} bytes)")]
+    TrailingData {
+        /// How many.
+        remaining: usize,
+    },
 }
 
 /// What a call of the crates answers.
