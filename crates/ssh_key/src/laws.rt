@@ -3,6 +3,7 @@
 
 pub use sshkey_base::laws::{one_front, read_back};
 pub use sshkey_cert::laws::compared_certificates;
+pub use sshkey_keypairs::laws::{equal_opaque_pairs, equal_sk_ecdsa_pairs, equal_sk_ed25519_pairs};
 pub use sshkey_keys::laws::{compared_fingerprints, compared_keys, compared_signatures};
 pub use sshkey_model::laws::lines::{lines_apart, one_certificate_line, one_key_line};
 pub use sshkey_model::laws::private::{
@@ -17,3 +18,4 @@ pub use sshkey_model::laws::{
 };
 pub use sshkey_options::laws::{compared_ends, compared_options, compared_times, compared_types};
 pub use sshkey_public::laws::{compared_public_keys, compared_ssh_signatures};
+pub use sshkey_pairs::laws::{equal_dsa_pairs, equal_ed25519_pairs, equal_rsa_pairs};

@@ -1,6 +1,7 @@
 //! DSA key pairs.
 
-ghost use Rattle.std.specs.Prelude.{◌≡◌, ◌+◌, ◌*◌, ◌^◌, List, ℕ};
+ghost use Rattle.std.specs.Fmt.{WritesOnOk};
+ghost use Rattle.std.specs.Prelude.{◌≡◌, ◌+◌, ◌*◌, ◌^◌, List, ℕ, IfOk, IfErr, codes};
 ghost use Rattle.sshkey_model.specs.KeyPairs.{KeyPair, pair, Plain};
 ghost use Rattle.sshkey_model.specs.Names.{Dsa};
 ghost use Rattle.sshkey_model.specs.Texts.{string};
@@ -11,6 +12,8 @@ ghost use Rattle.sshkey_pairs.specs.PrivateHalves.{dsa_private_of};
 use sshkey_base::{Decode, Encode, Error, Mpint, Reader, Result, Writer, encode_both, encoding};
 use sshkey_kinds::DsaPublicKey;
 use std::alloc::Global;
+use std::convert::AsSlice;
+use std::fmt;
 
 /// The private number of a DSA key.
 #[derive(Drop, PartialEq, Eq)]
@@ -31,6 +34,34 @@ impl DsaPrivateKey {
         ensures { mpint_of result.now ≡ dsa_private_of self.now }
     {
         &self.inner
+    }
+
+    /// The same number in memory of its own. Refuses only when out of memory.
+    pub fn try_clone(&self, alloc: Global) -> Result<DsaPrivateKey>
+        ensures value { IfOk result (λ k. dsa_private_of k ≡ dsa_private_of self.now) }
+        ensures refused { IfErr result (λ e. e ≡ Error.Memory) }
+    {
+        Ok(DsaPrivateKey {
+            inner: self.inner.try_clone(alloc)?,
+        })
+    }
+}
+
+/// The bytes of the number.
+impl AsSlice<u8> for DsaPrivateKey {
+    ghost items = { dsa_private_of };
+
+    fn as_slice(&self) -> &[u8] {
+        DsaPrivateKey::as_bytes(self)
+    }
+}
+
+/// Shows no bytes.
+impl fmt::Debug for DsaPrivateKey {
+    fn fmt<W: fmt::Write>(&self, f: &mut fmt::Formatter<W>) -> fmt::Result
+        ensures { WritesOnOk W.write_str_gives f.old result (codes "DsaPrivateKey { .. }") f.new }
+    {
+        f.write_str("DsaPrivateKey { .. }")
     }
 }
 
@@ -78,12 +109,36 @@ impl Encode for DsaPrivateKey {
 }
 
 /// A DSA key pair (OpenSSH, PROTOCOL.key).
-#[derive(Drop, PartialEq, Eq)]
+#[derive(Debug, Drop, PartialEq, Eq)]
 pub struct DsaKeypair {
     /// The public key.
     pub public: DsaPublicKey,
     /// The private number.
     pub private: DsaPrivateKey,
+}
+
+impl DsaKeypair {
+    ghost use Rattle.sshkey_pairs.specs.Pairs.{dsa_pair_of};
+
+    /// The same pair in memory of its own. Refuses only when out of memory.
+    pub fn try_clone(&self, alloc: Global) -> Result<DsaKeypair>
+        ensures value { IfOk result (λ k. dsa_pair_of k ≡ dsa_pair_of self.now) }
+        ensures refused { IfErr result (λ e. e ≡ Error.Memory) }
+    {
+        Ok(DsaKeypair {
+            public: self.public.try_clone(alloc)?,
+            private: self.private.try_clone(alloc)?,
+        })
+    }
+}
+
+/// The public key of the pair.
+impl From<DsaKeypair> for DsaPublicKey {
+    ghost from_gives = { λ pair key. key ≡ pair.public };
+
+    fn from(pair: DsaKeypair) -> DsaPublicKey {
+        pair.public
+    }
 }
 
 /// The numbers p, q, g, y and x, each as a string.

@@ -1,6 +1,8 @@
 //! ECDSA key pairs.
 
-ghost use Rattle.std.specs.Prelude.{◌≡◌, ◌+◌, ◌*◌, ◌^◌, List, ℕ};
+ghost use Rattle.std.specs.Fmt.{WritesOnOk};
+ghost use Rattle.std.specs.Prelude.{◌≡◌, ◌+◌, ◌*◌, ◌^◌, List, ℕ, codes};
+ghost use Rattle.hex.specs.Hex.{encode_lower, encode_upper};
 ghost use Rattle.sshkey_model.specs.Grammar.{value_at};
 ghost use Rattle.sshkey_model.specs.KeyPairs.{KeyPair, is_high, zero_if, scalar, scalar_at, pair, Plain};
 ghost use Rattle.sshkey_model.specs.Parts.{bytes};
@@ -13,11 +15,14 @@ ghost use Rattle.sshkey_pairs.specs.PrivateHalves.{ecdsa_private_of};
 use crate::fixed_width::decode_fixed;
 use sshkey_base::{
     Algorithm, Decode, EcdsaCurve, Encode, Error, Reader, Result, Writer, encode_both, encoding,
+    write_lower_hex, write_upper_hex,
 };
 use sshkey_kinds::{
     EcdsaNistP256PublicKey, EcdsaNistP384PublicKey, EcdsaNistP521PublicKey, EcdsaPublicKey,
 };
 use std::alloc::Global;
+use std::convert::AsSlice;
+use std::fmt;
 
 /// The private scalar of an ECDSA key, as wide as the field: 32, 48 or 66 bytes, most significant
 /// first. Nobody asks whether it is below the order of the curve, or zero.
@@ -39,6 +44,44 @@ impl<const SIZE: usize> EcdsaPrivateKey<SIZE> {
         ensures { result ≡ ecdsa_private_of self.entry }
     {
         self.bytes
+    }
+}
+
+/// The bytes of the scalar.
+impl<const SIZE: usize> AsSlice<u8> for EcdsaPrivateKey<SIZE> {
+    ghost items = { ecdsa_private_of };
+
+    fn as_slice(&self) -> &[u8] {
+        EcdsaPrivateKey::as_slice(self)
+    }
+}
+
+/// Two digits a byte, with small letters.
+impl<const SIZE: usize> fmt::LowerHex for EcdsaPrivateKey<SIZE> {
+    fn fmt<W: fmt::Write>(&self, f: &mut fmt::Formatter<W>) -> fmt::Result
+        ensures { WritesOnOk W.write_str_gives f.old result
+            (encode_lower (ecdsa_private_of self.now)) f.new }
+    {
+        write_lower_hex(&self.bytes, f)
+    }
+}
+
+/// Two digits a byte, with capital letters.
+impl<const SIZE: usize> fmt::UpperHex for EcdsaPrivateKey<SIZE> {
+    fn fmt<W: fmt::Write>(&self, f: &mut fmt::Formatter<W>) -> fmt::Result
+        ensures { WritesOnOk W.write_str_gives f.old result
+            (encode_upper (ecdsa_private_of self.now)) f.new }
+    {
+        write_upper_hex(&self.bytes, f)
+    }
+}
+
+/// Shows no bytes.
+impl<const SIZE: usize> fmt::Debug for EcdsaPrivateKey<SIZE> {
+    fn fmt<W: fmt::Write>(&self, f: &mut fmt::Formatter<W>) -> fmt::Result
+        ensures { WritesOnOk W.write_str_gives f.old result (codes "EcdsaPrivateKey { .. }") f.new }
+    {
+        f.write_str("EcdsaPrivateKey { .. }")
     }
 }
 
@@ -122,7 +165,7 @@ fn is_high(bytes: &[u8]) -> bool
 
 /// An ECDSA key pair: a point of one of the NIST curves, and a scalar (the SSH agent protocol,
 /// draft-miller-ssh-agent-04, section 4.2.2).
-#[derive(Clone, Drop, PartialEq, Eq)]
+#[derive(Clone, Debug, Drop, PartialEq, Eq)]
 pub enum EcdsaKeypair {
     /// On P-256.
     NistP256 {
@@ -151,7 +194,7 @@ impl EcdsaKeypair {
     ghost use Rattle.sshkey_base.specs.Names.{algorithm_of};
     ghost use Rattle.sshkey_model.specs.KeyPairs.{pair_algorithm, public_half, private_bytes};
     ghost use Rattle.sshkey_kinds.specs.EcdsaPublicKey.{ecdsa_key_of};
-    ghost use Rattle.sshkey_pairs.specs.Pairs.{ecdsa_curve_of};
+    ghost use Rattle.sshkey_pairs.specs.Pairs.{ecdsa_curve_of, ecdsa_point_of};
 
     /// The curve of the pair.
     pub fn curve(&self) -> EcdsaCurve
@@ -182,6 +225,17 @@ impl EcdsaKeypair {
         }
     }
 
+    /// The point string of the public key: the tag and one coordinate or two.
+    pub fn public_key_bytes(&self) -> &[u8]
+        ensures { result.now ≡ ecdsa_point_of self.now }
+    {
+        match self {
+            EcdsaKeypair::NistP256 { public, .. } => public.as_bytes(),
+            EcdsaKeypair::NistP384 { public, .. } => public.as_bytes(),
+            EcdsaKeypair::NistP521 { public, .. } => public.as_bytes(),
+        }
+    }
+
     /// The scalar, as wide as the field.
     pub fn private_key_bytes(&self) -> &[u8]
         ensures { result.now ≡ private_bytes (ecdsa_pair_of self.now) }
@@ -191,6 +245,18 @@ impl EcdsaKeypair {
             EcdsaKeypair::NistP384 { private, .. } => &private.bytes,
             EcdsaKeypair::NistP521 { private, .. } => &private.bytes,
         }
+    }
+}
+
+/// The public key of the pair.
+impl From<EcdsaKeypair> for EcdsaPublicKey {
+    ghost use Rattle.sshkey_model.specs.KeyPairs.{public_half};
+    ghost use Rattle.sshkey_kinds.specs.EcdsaPublicKey.{ecdsa_key_of};
+
+    ghost from_gives = { λ k key. ecdsa_key_of key ≡ public_half (ecdsa_pair_of k) };
+
+    fn from(pair: EcdsaKeypair) -> EcdsaPublicKey {
+        pair.public_key()
     }
 }
 

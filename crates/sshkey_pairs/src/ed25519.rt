@@ -1,17 +1,28 @@
 //! Ed25519 key pairs.
 
-ghost use Rattle.std.specs.Prelude.{◌≡◌, ◌+◌, ◌*◌, ◌^◌, ◌++◌, List, ℕ, take, drop};
+ghost use Rattle.std.specs.Fmt.{WritesOnOk};
+ghost use Rattle.std.specs.Prelude.{◌≡◌, ◌+◌, ◌*◌, ◌^◌, ◌++◌, List, ℕ, take, drop, codes};
+ghost use Rattle.hex.specs.Hex.{encode_lower, encode_upper};
+ghost use Rattle.rand_core.specs.Stream.{fill_bytes};
+ghost use Rattle.sshkey_base.specs.Answers.{AnswersAlways};
+ghost use Rattle.sshkey_base.specs.Causes.{cause};
 ghost use Rattle.sshkey_base.specs.Needs.{NoNeed};
 ghost use Rattle.sshkey_model.specs.Grammar.{value_at};
 ghost use Rattle.sshkey_model.specs.KeyPairs.{KeyPair, Ed25519Pair, pair, Plain};
 ghost use Rattle.sshkey_model.specs.Names.{Ed25519};
 ghost use Rattle.sshkey_pairs.specs.PairReaders.{SpellsPair, ed25519_pair_at, pair_grammar};
-ghost use Rattle.sshkey_pairs.specs.Pairs.{ed25519_pair_of};
+ghost use Rattle.sshkey_kinds.specs.Ed25519PublicKey.{ed25519_from};
+ghost use Rattle.sshkey_pairs.specs.Pairs.{ed25519_pair_of, ed25519_pair_from};
 ghost use Rattle.sshkey_pairs.specs.PrivateHalves.{ed25519_private_of};
 
-use sshkey_base::{Decode, Encode, Error, Reader, Result, Writer, encoding};
+use rand_core::{CryptoRng, Rng};
+use sshkey_base::{
+    Decode, Encode, Error, Reader, Result, Writer, encoding, write_lower_hex, write_upper_hex,
+};
 use sshkey_kinds::Ed25519PublicKey;
 use std::alloc::Global;
+use std::convert::{AsSlice, TryFrom};
+use std::fmt;
 
 /// The private bytes of an Ed25519 key, 32 (RFC 8032, section 5.1.5).
 #[derive(Clone, Drop, PartialEq, Eq)]
@@ -36,10 +47,72 @@ impl Ed25519PrivateKey {
     {
         self.bytes
     }
+
+    /// The key of the next 32 bytes of the generator. Takes no memory.
+    pub fn random<R: Rng + CryptoRng>(rng: &mut R) -> Ed25519PrivateKey
+        ensures value { ed25519_private_of result ≡ (fill_bytes 32 (R.stream rng.old)).0 }
+        ensures drawn { R.stream rng.new ≡ (fill_bytes 32 (R.stream rng.old)).1 }
+    {
+        let mut bytes = [0u8; 32];
+        rng.fill_bytes(&mut bytes);
+        Ed25519PrivateKey { bytes }
+    }
+}
+
+/// The key of these bytes. `Length` for any number of bytes but 32. Takes no memory.
+impl TryFrom<&[u8]> for Ed25519PrivateKey {
+    type Error = Error;
+
+    ghost try_from_gives = { λ bytes r.
+        AnswersAlways ed25519_private_of cause (ed25519_from bytes.now) r };
+
+    fn try_from(bytes: &[u8]) -> Result<Ed25519PrivateKey> {
+        Ok(Ed25519PrivateKey {
+            bytes: <[u8; 32]>::try_from(bytes)?,
+        })
+    }
+}
+
+/// The bytes.
+impl AsSlice<u8> for Ed25519PrivateKey {
+    ghost items = { ed25519_private_of };
+
+    fn as_slice(&self) -> &[u8] {
+        &self.bytes
+    }
+}
+
+/// Two digits a byte, with small letters.
+impl fmt::LowerHex for Ed25519PrivateKey {
+    fn fmt<W: fmt::Write>(&self, f: &mut fmt::Formatter<W>) -> fmt::Result
+        ensures { WritesOnOk W.write_str_gives f.old result
+            (encode_lower (ed25519_private_of self.now)) f.new }
+    {
+        write_lower_hex(&self.bytes, f)
+    }
+}
+
+/// Two digits a byte, with capital letters.
+impl fmt::UpperHex for Ed25519PrivateKey {
+    fn fmt<W: fmt::Write>(&self, f: &mut fmt::Formatter<W>) -> fmt::Result
+        ensures { WritesOnOk W.write_str_gives f.old result
+            (encode_upper (ed25519_private_of self.now)) f.new }
+    {
+        write_upper_hex(&self.bytes, f)
+    }
+}
+
+/// Shows no bytes.
+impl fmt::Debug for Ed25519PrivateKey {
+    fn fmt<W: fmt::Write>(&self, f: &mut fmt::Formatter<W>) -> fmt::Result
+        ensures { WritesOnOk W.write_str_gives f.old result (codes "Ed25519PrivateKey { .. }") f.new }
+    {
+        f.write_str("Ed25519PrivateKey { .. }")
+    }
 }
 
 /// An Ed25519 key pair (the SSH agent protocol, draft-miller-ssh-agent-04, section 4.2.3).
-#[derive(Clone, Drop, PartialEq, Eq)]
+#[derive(Clone, Debug, Drop, PartialEq, Eq)]
 pub struct Ed25519Keypair {
     /// The public key.
     pub public: Ed25519PublicKey,
@@ -74,6 +147,28 @@ impl Ed25519Keypair {
         bytes[..32].copy_from_slice(&self.private.bytes);
         bytes[32..].copy_from_slice(&self.public.0);
         bytes
+    }
+}
+
+/// The pair of 32 private bytes and the public ones behind them. `Length` for any number of bytes
+/// but 64. Takes no memory.
+impl TryFrom<&[u8]> for Ed25519Keypair {
+    type Error = Error;
+
+    ghost try_from_gives = { λ bytes r.
+        AnswersAlways ed25519_pair_of cause (ed25519_pair_from bytes.now) r };
+
+    fn try_from(bytes: &[u8]) -> Result<Ed25519Keypair> {
+        Ok(Ed25519Keypair::from_bytes(&<[u8; 64]>::try_from(bytes)?))
+    }
+}
+
+/// The public key of the pair.
+impl From<Ed25519Keypair> for Ed25519PublicKey {
+    ghost from_gives = { λ pair key. key ≡ pair.public };
+
+    fn from(pair: Ed25519Keypair) -> Ed25519PublicKey {
+        pair.public
     }
 }
 

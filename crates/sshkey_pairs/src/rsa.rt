@@ -1,6 +1,6 @@
 //! RSA key pairs.
 
-ghost use Rattle.std.specs.Prelude.{◌+◌, ◌*◌, ◌^◌, List, ℕ, None};
+ghost use Rattle.std.specs.Prelude.{◌≡◌, ◌+◌, ◌*◌, ◌^◌, List, ℕ, None, IfOk, IfErr};
 ghost use Rattle.sshkey_model.specs.Grammar.{value_at};
 ghost use Rattle.sshkey_model.specs.KeyPairs.{KeyPair, RsaPrivate, rsa_private, pair, Plain};
 ghost use Rattle.sshkey_model.specs.Names.{Rsa};
@@ -9,6 +9,7 @@ ghost use Rattle.sshkey_pairs.specs.PairReaders.{SpellsPair, SpellsRsaPrivate, r
 use sshkey_base::{Decode, Encode, Error, Mpint, Reader, Result, Writer, encoding};
 use sshkey_kinds::RsaPublicKey;
 use std::alloc::Global;
+use std::fmt;
 
 /// The private numbers of an RSA key.
 #[derive(Drop, PartialEq, Eq)]
@@ -21,6 +22,23 @@ pub struct RsaPrivateKey {
     pub p: Mpint,
     /// The other prime factor.
     pub q: Mpint,
+}
+
+impl RsaPrivateKey {
+    ghost use Rattle.sshkey_pairs.specs.PrivateHalves.{rsa_private_of};
+
+    /// The same numbers in memory of their own. Refuses only when out of memory.
+    pub fn try_clone(&self, alloc: Global) -> Result<RsaPrivateKey>
+        ensures value { IfOk result (λ k. rsa_private_of k ≡ rsa_private_of self.now) }
+        ensures refused { IfErr result (λ e. e ≡ Error.Memory) }
+    {
+        Ok(RsaPrivateKey {
+            d: self.d.try_clone(alloc)?,
+            iqmp: self.iqmp.try_clone(alloc)?,
+            p: self.p.try_clone(alloc)?,
+            q: self.q.try_clone(alloc)?,
+        })
+    }
 }
 
 /// The numbers d, iqmp, p and q, each as a string.
@@ -88,6 +106,39 @@ pub struct RsaKeypair {
     pub public: RsaPublicKey,
     /// The private numbers.
     pub private: RsaPrivateKey,
+}
+
+impl RsaKeypair {
+    ghost use Rattle.sshkey_pairs.specs.Pairs.{rsa_pair_of};
+
+    /// The same pair in memory of its own. Refuses only when out of memory.
+    pub fn try_clone(&self, alloc: Global) -> Result<RsaKeypair>
+        ensures value { IfOk result (λ k. rsa_pair_of k ≡ rsa_pair_of self.now) }
+        ensures refused { IfErr result (λ e. e ≡ Error.Memory) }
+    {
+        Ok(RsaKeypair {
+            public: self.public.try_clone(alloc)?,
+            private: self.private.try_clone(alloc)?,
+        })
+    }
+}
+
+/// Shows the public key, and no private number.
+impl fmt::Debug for RsaKeypair {
+    fn fmt<W: fmt::Write>(&self, f: &mut fmt::Formatter<W>) -> fmt::Result {
+        f.debug_struct("RsaKeypair")
+            .field("public", &self.public)
+            .finish_non_exhaustive()
+    }
+}
+
+/// The public key of the pair.
+impl From<RsaKeypair> for RsaPublicKey {
+    ghost from_gives = { λ pair key. key ≡ pair.public };
+
+    fn from(pair: RsaKeypair) -> RsaPublicKey {
+        pair.public
+    }
 }
 
 /// The numbers n and e, and the private ones, each as a string.

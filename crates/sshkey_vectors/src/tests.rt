@@ -15,6 +15,7 @@ mod lines;
 mod made_pairs;
 mod names;
 mod openssh;
+mod pair_parts;
 mod pairs;
 mod program;
 mod readers;

@@ -3,13 +3,12 @@
 use super::made_pairs::{DSA, ED25519, MadePair, P256, P384, P521, RSA};
 use sshkey_base::{Algorithm, Error, Result, decode_whole, encode_vec, encoding};
 use sshkey_kinds::{Ed25519PublicKey, OpaquePublicKey, SkEd25519 as PublicSkEd25519};
-use sshkey_pairs::{
-    EcdsaPrivateKey, Ed25519Keypair, Ed25519PrivateKey, KeypairData, OpaqueKeypair, SkEd25519,
-};
+use sshkey_keypairs::{KeypairData, OpaqueKeypair, SkEd25519};
+use sshkey_pairs::{EcdsaPrivateKey, Ed25519Keypair, Ed25519PrivateKey};
 use std::alloc::Global;
 
 /// The bytes that the digits spell.
-fn bytes_of(alloc: Global, digits: &str) -> Vec<u8> {
+pub(super) fn bytes_of(alloc: Global, digits: &str) -> Vec<u8> {
     match hex::decode(alloc, digits) {
         Ok(bytes) => bytes,
         Err(_) => Vec::new(alloc),
@@ -103,12 +102,12 @@ fn not_known(alloc: Global) -> Result<bool> {
 }
 
 /// A pair of a security key with that many bytes of key handle.
-fn held(alloc: Global, len: usize) -> Result<SkEd25519> {
+pub(super) fn held(alloc: Global, len: usize) -> Result<SkEd25519> {
     let plain = Ed25519PublicKey([7; 32]);
     let public = PublicSkEd25519::with_default_application(alloc, plain)?;
     let mut handle = Vec::new(alloc);
     handle.resize(len, 9)?;
-    SkEd25519::new(alloc, public, 1, handle)
+    SkEd25519::new(public, 1, handle)
 }
 
 fn is_held(alloc: Global) -> Result<bool> {

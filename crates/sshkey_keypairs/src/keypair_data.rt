@@ -1,0 +1,328 @@
+//! Key pairs of any kind.
+
+ghost use Rattle.std.specs.Prelude.{◌≡◌, ◌≤◌, ◌+◌, ◌*◌, ◌^◌, Option, None, IfOk, IfErr, option_map};
+ghost use Rattle.sshkey_base.specs.Causes.{cause};
+ghost use Rattle.sshkey_base.specs.Names.{algorithm_of, curve_of};
+ghost use Rattle.sshkey_base.specs.Needs.{Asks};
+ghost use Rattle.sshkey_base.specs.Source.{Later};
+ghost use Rattle.sshkey_keys.specs.Keys.{key_of};
+ghost use Rattle.sshkey_model.specs.KeyPairs.{xor_all, words};
+ghost use Rattle.sshkey_model.specs.Names.{Dsa, Ecdsa, Ed25519, Rsa, SkEcdsa, SkEd25519 as AlgorithmSkEd25519, Other, algorithm_name};
+ghost use Rattle.sshkey_keypairs.specs.Keypairs.{pair_of, keypair_parts, public_of, checkint_of, GivesPair, GivesModelPair};
+ghost use Rattle.sshkey_keypairs.specs.KeypairNeeds.{NeedsPair};
+
+mod from;
+mod kinds;
+
+use crate::opaque::{OpaqueKeypair, OpaquePrivateKeyBytes};
+use crate::sk_ecdsa::SkEcdsaSha2NistP256;
+use crate::sk_ed25519::SkEd25519;
+use sshkey_base::{
+    Algorithm, Decode, EcdsaCurve, Encode, Error, NormalForm, Reader, Result, Writer, encode_both,
+    encoding,
+};
+use sshkey_keys::KeyData;
+use sshkey_kinds::{EcdsaPublicKey, OpaquePublicKey, OpaquePublicKeyBytes};
+use sshkey_pairs::{DsaKeypair, EcdsaKeypair, Ed25519Keypair, RsaKeypair};
+use std::alloc::Global;
+
+/// A key pair of any kind, or one that is encrypted (OpenSSH, PROTOCOL.key).
+#[derive(Debug, Drop, PartialEq, Eq)]
+pub enum KeypairData {
+    /// `ssh-dss`.
+    Dsa(DsaKeypair),
+    /// `ecdsa-sha2-nistp256`, `-nistp384` and `-nistp521`.
+    Ecdsa(EcdsaKeypair),
+    /// `ssh-ed25519`.
+    Ed25519(Ed25519Keypair),
+    /// A ciphertext.
+    Encrypted(Vec<u8>),
+    /// `ssh-rsa`.
+    Rsa(RsaKeypair),
+    /// `sk-ecdsa-sha2-nistp256@openssh.com`.
+    SkEcdsaSha2NistP256(SkEcdsaSha2NistP256),
+    /// `sk-ssh-ed25519@openssh.com`.
+    SkEd25519(SkEd25519),
+    /// A pair under a private-use name.
+    Other(OpaqueKeypair),
+}
+
+impl KeypairData {
+    /// Reads what stands behind the name of that algorithm, an RSA pair's with or without a hash.
+    ///
+    /// A sound source is refused only where no front is such a pair, with the first fault from the
+    /// left, or for memory that ran out, where the pair needs some.
+    pub fn decode_as<R: Reader>(
+        alloc: Global,
+        reader: &mut R,
+        algorithm: Algorithm,
+    ) -> Result<KeypairData>
+        ensures gives { GivesModelPair (algorithm_of algorithm)
+            R.source reader.old result reader.new }
+        ensures later { Later (R.source reader.old) (R.source reader.new) }
+        ensures asks { Asks cause (NeedsPair (algorithm_of algorithm))
+            (R.source reader.old) result }
+    {
+        pair_from(alloc, reader, algorithm)
+    }
+
+    /// The number that is written where none was read: the xor of the whole words of four bytes of
+    /// the private half; 0 for an encrypted pair.
+    pub fn checkint(&self) -> u32
+        ensures { result ≡ checkint_of (pair_of self.now) }
+    {
+        match self {
+            KeypairData::Dsa(pair) => checkint_from(pair.private.as_bytes()),
+            KeypairData::Ecdsa(pair) => checkint_from(pair.private_key_bytes()),
+            KeypairData::Ed25519(pair) => checkint_from(&pair.private.to_bytes()),
+            KeypairData::Encrypted(_) => 0,
+            KeypairData::Rsa(pair) => checkint_from(pair.private.d.as_bytes()),
+            KeypairData::SkEcdsaSha2NistP256(pair) => checkint_from(pair.key_handle()),
+            KeypairData::SkEd25519(pair) => checkint_from(pair.key_handle()),
+            KeypairData::Other(pair) => checkint_from(pair.private.as_bytes()),
+        }
+    }
+
+    /// The same pair in memory of its own. Refuses only when out of memory.
+    pub fn try_clone(&self, alloc: Global) -> Result<KeypairData>
+        ensures value { IfOk result (λ k. pair_of k ≡ pair_of self.now) }
+        ensures written { IfOk result (λ k. keypair_parts k ≡ keypair_parts self.now) }
+        ensures refused { IfErr result (λ e. e ≡ Error.Memory) }
+    {
+        Ok(match self {
+            KeypairData::Dsa(pair) => KeypairData::Dsa(pair.try_clone(alloc)?),
+            KeypairData::Ecdsa(pair) => KeypairData::Ecdsa(pair.clone()?),
+            KeypairData::Ed25519(pair) => KeypairData::Ed25519(pair.clone()?),
+            KeypairData::Encrypted(ciphertext) => {
+                KeypairData::Encrypted(Vec::from_slice(alloc, ciphertext)?)
+            }
+            KeypairData::Rsa(pair) => KeypairData::Rsa(pair.try_clone(alloc)?),
+            KeypairData::SkEcdsaSha2NistP256(pair) => {
+                KeypairData::SkEcdsaSha2NistP256(pair.try_clone(alloc)?)
+            }
+            KeypairData::SkEd25519(pair) => KeypairData::SkEd25519(pair.try_clone(alloc)?),
+            KeypairData::Other(pair) => KeypairData::Other(pair.try_clone(alloc)?),
+        })
+    }
+
+    /// The public half, and none of an encrypted pair. Refuses only when out of memory.
+    pub fn to_public(&self, alloc: Global) -> Result<Option<KeyData>>
+        ensures value { IfOk result (λ k. option_map key_of k ≡ public_of self.now) }
+        ensures refused { IfErr result (λ e. e ≡ Error.Memory) }
+    {
+        Ok(Some(match self {
+            KeypairData::Dsa(pair) => KeyData::Dsa(pair.public.try_clone(alloc)?),
+            KeypairData::Ecdsa(pair) => KeyData::Ecdsa(pair.public_key()),
+            KeypairData::Ed25519(pair) => KeyData::Ed25519(pair.public),
+            KeypairData::Encrypted(_) => return Ok(None),
+            KeypairData::Rsa(pair) => KeyData::Rsa(pair.public.try_clone(alloc)?),
+            KeypairData::SkEcdsaSha2NistP256(pair) => {
+                KeyData::SkEcdsaSha2NistP256(pair.public().try_clone(alloc)?)
+            }
+            KeypairData::SkEd25519(pair) => KeyData::SkEd25519(pair.public().try_clone(alloc)?),
+            KeypairData::Other(pair) => KeyData::Other(pair.public.try_clone(alloc)?),
+        }))
+    }
+}
+
+/// The name of the algorithm and the pair. An encrypted pair is never read by itself.
+///
+/// An RSA pair may stand under a name with a hash, which is not kept. `Label` for a name of no
+/// algorithm, and the faults of the kind.
+#[tactic(auto, using(sshkey_base::proofs::Steps::steps), unfolding(crate::specs::KeypairReaders::keypair_data_at))]
+impl Decode for KeypairData {
+    ghost use Rattle.sshkey_model.specs.KeyPairs.{KeyPair};
+    ghost use Rattle.sshkey_keypairs.specs.KeypairReaders.{SpellsKeypair, keypair_data_at, keypair_grammar};
+    ghost use Rattle.sshkey_keypairs.specs.KeypairNeeds.{NeedsKeypair};
+
+    type Error = Error;
+
+    ghost Meaning = { Option KeyPair };
+
+    ghost means = { pair_of };
+
+    ghost parse = { keypair_data_at };
+
+    ghost Spells = { SpellsKeypair };
+
+    ghost needs = { NeedsKeypair };
+
+    ghost grammar = { keypair_grammar };
+
+    fn decode<R: Reader>(alloc: Global, reader: &mut R) -> Result<KeypairData> {
+        let algorithm = Algorithm::decode(alloc, reader)?;
+        KeypairData::decode_as(alloc, reader, algorithm)
+    }
+}
+
+/// The pair under that algorithm.
+fn pair_from<R: Reader>(alloc: Global, reader: &mut R, algorithm: Algorithm) -> Result<KeypairData>
+    ensures gives { GivesPair (algorithm_of algorithm) R.source reader.old result reader.new }
+    ensures later { Later (R.source reader.old) (R.source reader.new) }
+    ensures asks { Asks cause (NeedsPair (algorithm_of algorithm)) (R.source reader.old) result }
+{
+    match algorithm {
+        Algorithm::Dsa => dsa_from(alloc, reader),
+        Algorithm::Ecdsa { curve } => ecdsa_from(alloc, reader, curve),
+        Algorithm::Ed25519 => ed25519_from(alloc, reader),
+        Algorithm::Rsa { hash: _ } => rsa_from(alloc, reader),
+        Algorithm::SkEcdsaSha2NistP256 => sk_ecdsa_from(alloc, reader),
+        Algorithm::SkEd25519 => sk_ed25519_from(alloc, reader),
+        Algorithm::Other(name) => opaque_from(alloc, reader, Algorithm::Other(name)),
+    }
+}
+
+/// A DSA pair.
+#[tactic(auto, using(sshkey_base::proofs::Steps::steps))]
+fn dsa_from<R: Reader>(alloc: Global, reader: &mut R) -> Result<KeypairData>
+    ensures gives { GivesPair Dsa R.source reader.old result reader.new }
+    ensures later { Later (R.source reader.old) (R.source reader.new) }
+    ensures asks { Asks cause (NeedsPair Dsa) (R.source reader.old) result }
+{
+    let pair = DsaKeypair::decode(alloc, reader)?;
+    Ok(KeypairData::Dsa(pair))
+}
+
+/// An ECDSA pair on that curve. `AlgorithmUnknown` for another curve, after the scalar was read.
+#[tactic(auto, using(sshkey_base::proofs::Steps::steps))]
+fn ecdsa_from<R: Reader>(alloc: Global, reader: &mut R, curve: EcdsaCurve) -> Result<KeypairData>
+    ensures gives { GivesPair (Ecdsa (curve_of curve)) R.source reader.old result reader.new }
+    ensures later { Later (R.source reader.old) (R.source reader.new) }
+    ensures asks { Asks cause (NeedsPair (Ecdsa (curve_of curve))) (R.source reader.old) result }
+{
+    let pair = EcdsaKeypair::decode(alloc, reader)?;
+    if !pair.public_key().is_on(curve) {
+        return Err(Error::AlgorithmUnknown);
+    }
+    Ok(KeypairData::Ecdsa(pair))
+}
+
+/// An Ed25519 pair.
+#[tactic(auto, using(sshkey_base::proofs::Steps::steps))]
+fn ed25519_from<R: Reader>(alloc: Global, reader: &mut R) -> Result<KeypairData>
+    ensures gives { GivesPair Ed25519 R.source reader.old result reader.new }
+    ensures later { Later (R.source reader.old) (R.source reader.new) }
+    ensures asks { Asks cause (NeedsPair Ed25519) (R.source reader.old) result }
+{
+    let pair = Ed25519Keypair::decode(alloc, reader)?;
+    Ok(KeypairData::Ed25519(pair))
+}
+
+/// An RSA pair.
+#[tactic(auto, using(sshkey_base::proofs::Steps::steps))]
+fn rsa_from<R: Reader>(alloc: Global, reader: &mut R) -> Result<KeypairData>
+    ensures gives { GivesPair (Rsa None) R.source reader.old result reader.new }
+    ensures later { Later (R.source reader.old) (R.source reader.new) }
+    ensures asks { Asks cause (NeedsPair (Rsa None)) (R.source reader.old) result }
+{
+    let pair = RsaKeypair::decode(alloc, reader)?;
+    Ok(KeypairData::Rsa(pair))
+}
+
+/// A P-256 pair of a security key.
+#[tactic(auto, using(sshkey_base::proofs::Steps::steps))]
+fn sk_ecdsa_from<R: Reader>(alloc: Global, reader: &mut R) -> Result<KeypairData>
+    ensures gives { GivesPair SkEcdsa R.source reader.old result reader.new }
+    ensures later { Later (R.source reader.old) (R.source reader.new) }
+    ensures asks { Asks cause (NeedsPair SkEcdsa) (R.source reader.old) result }
+{
+    let pair = SkEcdsaSha2NistP256::decode(alloc, reader)?;
+    Ok(KeypairData::SkEcdsaSha2NistP256(pair))
+}
+
+/// An Ed25519 pair of a security key.
+#[tactic(auto, using(sshkey_base::proofs::Steps::steps))]
+fn sk_ed25519_from<R: Reader>(alloc: Global, reader: &mut R) -> Result<KeypairData>
+    ensures gives { GivesPair AlgorithmSkEd25519 R.source reader.old result reader.new }
+    ensures later { Later (R.source reader.old) (R.source reader.new) }
+    ensures asks { Asks cause (NeedsPair AlgorithmSkEd25519) (R.source reader.old) result }
+{
+    let pair = SkEd25519::decode(alloc, reader)?;
+    Ok(KeypairData::SkEd25519(pair))
+}
+
+/// A pair under a private-use name.
+#[tactic(auto, using(sshkey_base::proofs::Steps::steps), unfolding(crate::specs::OpaquePairs::opaque_pair_at))]
+fn opaque_from<R: Reader>(
+    alloc: Global,
+    reader: &mut R,
+    algorithm: Algorithm,
+) -> Result<KeypairData>
+    ensures gives { GivesPair (Other (algorithm_name (algorithm_of algorithm)))
+        R.source reader.old result reader.new }
+    ensures later { Later (R.source reader.old) (R.source reader.new) }
+    ensures asks { Asks cause (NeedsPair (Other (algorithm_name (algorithm_of algorithm))))
+        (R.source reader.old) result }
+{
+    let key = OpaquePublicKeyBytes::decode(alloc, reader)?;
+    let private = OpaquePrivateKeyBytes::decode(alloc, reader)?;
+    Ok(KeypairData::Other(OpaqueKeypair {
+        public: OpaquePublicKey { algorithm, key },
+        private,
+    }))
+}
+
+/// The name of the algorithm and the pair in its normal form, or the ciphertext alone.
+#[tactic(auto, using(sshkey_base::proofs::Writing::writing, sshkey_base::proofs::Writing::measuring, sshkey_base::proofs::Writing::plain_bytes, sshkey_base::proofs::Writing::boxes_bytes, sshkey_base::proofs::Writing::length_bytes))]
+impl Encode for KeypairData {
+    ghost normal = { keypair_parts };
+
+    ghost max_len = { 2 ^ 63 };
+
+    fn encoded_len(&self) -> encoding::Result<usize> {
+        Ok(match self {
+            KeypairData::Dsa(pair) => Algorithm::Dsa.encoded_len()? + pair.encoded_len()?,
+            KeypairData::Ecdsa(pair) => pair.algorithm().encoded_len()? + pair.encoded_len()?,
+            KeypairData::Ed25519(pair) => Algorithm::Ed25519.encoded_len()? + pair.encoded_len()?,
+            KeypairData::Encrypted(ciphertext) => ciphertext.len(),
+            KeypairData::Rsa(pair) => {
+                Algorithm::Rsa { hash: None }.encoded_len()? + pair.encoded_len()?
+            }
+            KeypairData::SkEcdsaSha2NistP256(pair) => {
+                Algorithm::SkEcdsaSha2NistP256.encoded_len()? + pair.encoded_len()?
+            }
+            KeypairData::SkEd25519(pair) => {
+                Algorithm::SkEd25519.encoded_len()? + pair.encoded_len()?
+            }
+            KeypairData::Other(pair) => {
+                pair.public.algorithm.encoded_len()? + pair.encoded_len()?
+            }
+        })
+    }
+
+    fn encode<W: Writer>(&self, writer: &mut W) -> encoding::Result<()> {
+        match self {
+            KeypairData::Dsa(pair) => encode_both(&Algorithm::Dsa, pair, writer),
+            KeypairData::Ecdsa(pair) => encode_both(&pair.algorithm(), pair, writer),
+            KeypairData::Ed25519(pair) => encode_both(&Algorithm::Ed25519, pair, writer),
+            KeypairData::Encrypted(ciphertext) => writer.write(ciphertext),
+            KeypairData::Rsa(pair) => encode_both(&Algorithm::Rsa { hash: None }, pair, writer),
+            KeypairData::SkEcdsaSha2NistP256(pair) => {
+                encode_both(&Algorithm::SkEcdsaSha2NistP256, pair, writer)
+            }
+            KeypairData::SkEd25519(pair) => encode_both(&Algorithm::SkEd25519, pair, writer),
+            KeypairData::Other(pair) => encode_both(&pair.public.algorithm, pair, writer),
+        }
+    }
+}
+
+impl NormalForm for KeypairData {
+    ghost use Rattle.sshkey_keypairs.specs.NormalPairs.{IsWellFormedPair, keypair_normal};
+
+    ghost IsWellFormed = { λ k. IsWellFormedPair (pair_of k) };
+
+    ghost normal_spells = { keypair_normal };
+}
+
+/// The xor of the whole words of four bytes, most significant byte first.
+pub(crate) fn checkint_from(bytes: &[u8]) -> u32
+    ensures { result ≡ xor_all (words bytes.now) }
+{
+    let mut rest = bytes;
+    let mut checkint = 0;
+    'words: while let [a, b, c, d, behind @ ..] = rest {
+        checkint ^= u32::from_be_bytes([*a, *b, *c, *d]);
+        rest = behind;
+    }
+    checkint
+}

@@ -1,0 +1,66 @@
+//! A pair of each kind is a pair of any kind.
+
+ghost use Rattle.std.specs.Prelude.{◌≡◌};
+ghost use Rattle.sshkey_keypairs.specs.declared.keypair_data.KeypairData.TheVariants as kinds;
+
+use super::KeypairData;
+use crate::opaque::OpaqueKeypair;
+use crate::sk_ecdsa::SkEcdsaSha2NistP256;
+use crate::sk_ed25519::SkEd25519;
+use sshkey_pairs::{DsaKeypair, EcdsaKeypair, Ed25519Keypair, RsaKeypair};
+
+impl From<DsaKeypair> for KeypairData {
+    ghost from_gives = { λ pair made. made ≡ kinds.Dsa pair };
+
+    fn from(pair: DsaKeypair) -> KeypairData {
+        KeypairData::Dsa(pair)
+    }
+}
+
+impl From<EcdsaKeypair> for KeypairData {
+    ghost from_gives = { λ pair made. made ≡ kinds.Ecdsa pair };
+
+    fn from(pair: EcdsaKeypair) -> KeypairData {
+        KeypairData::Ecdsa(pair)
+    }
+}
+
+impl From<Ed25519Keypair> for KeypairData {
+    ghost from_gives = { λ pair made. made ≡ kinds.Ed25519 pair };
+
+    fn from(pair: Ed25519Keypair) -> KeypairData {
+        KeypairData::Ed25519(pair)
+    }
+}
+
+impl From<RsaKeypair> for KeypairData {
+    ghost from_gives = { λ pair made. made ≡ kinds.Rsa pair };
+
+    fn from(pair: RsaKeypair) -> KeypairData {
+        KeypairData::Rsa(pair)
+    }
+}
+
+impl From<SkEcdsaSha2NistP256> for KeypairData {
+    ghost from_gives = { λ pair made. made ≡ kinds.SkEcdsaSha2NistP256 pair };
+
+    fn from(pair: SkEcdsaSha2NistP256) -> KeypairData {
+        KeypairData::SkEcdsaSha2NistP256(pair)
+    }
+}
+
+impl From<SkEd25519> for KeypairData {
+    ghost from_gives = { λ pair made. made ≡ kinds.SkEd25519 pair };
+
+    fn from(pair: SkEd25519) -> KeypairData {
+        KeypairData::SkEd25519(pair)
+    }
+}
+
+impl From<OpaqueKeypair> for KeypairData {
+    ghost from_gives = { λ pair made. made ≡ kinds.Other pair };
+
+    fn from(pair: OpaqueKeypair) -> KeypairData {
+        KeypairData::Other(pair)
+    }
+}

@@ -1,0 +1,122 @@
+//! P-256 pairs of security keys.
+
+ghost use Rattle.std.specs.Prelude.{◌≡◌, ◌≤◌, ◌+◌, ◌*◌, ◌^◌, length, IfOk, IsOk, ◌↔◌, IfErr};
+ghost use Rattle.sshkey_base.specs.declared.error.Error.TheVariants as wide;
+ghost use Rattle.sshkey_base.specs.declared.encoding.Error.TheVariants as encoding;
+ghost use Rattle.sshkey_model.specs.KeyPairs.{KeyPair, pair, Plain};
+ghost use Rattle.sshkey_model.specs.Names.{SkEcdsa};
+ghost use Rattle.sshkey_pairs.specs.PairReaders.{SpellsPair};
+ghost use Rattle.sshkey_keypairs.specs.SecurityPairs.{sk_ecdsa_steps_at, sk_ecdsa_grammar};
+ghost use Rattle.sshkey_keypairs.specs.SecurityPairs.{sk_ecdsa_pair_of, sk_ecdsa_public, sk_ecdsa_held, held_anew};
+
+use crate::held::Held;
+use sshkey_base::{Decode, Encode, Error, Reader, Result, Writer, encode_both, encoding};
+use sshkey_kinds::SkEcdsaSha2NistP256 as PublicSkEcdsa;
+use std::alloc::Global;
+use std::fmt;
+
+/// A P-256 key that a security key holds, and what is kept of it (OpenSSH, PROTOCOL.u2f).
+///
+/// Pairs are ordered by the public key, the flags, the key handle and the reserved bytes.
+#[derive(Drop, PartialEq, Eq, PartialOrd, Ord)]
+pub struct SkEcdsaSha2NistP256 {
+    public: PublicSkEcdsa,
+    held: Held,
+}
+
+impl SkEcdsaSha2NistP256 {
+    /// The pair of that key, with no reserved bytes. `Length` for a key handle of more than 255
+    /// bytes. Takes no memory but that of the vector handed in.
+    pub fn new(public: PublicSkEcdsa, flags: u8, key_handle: Vec<u8>) -> Result<SkEcdsaSha2NistP256>
+        ensures exactly { IsOk result ↔ (length key_handle.items ≤ 255) }
+        ensures public { IfOk result (λ k. sk_ecdsa_public k ≡ public) }
+        ensures held { IfOk result (λ k. sk_ecdsa_held k ≡ held_anew flags key_handle.items) }
+        ensures refused { IfErr result (λ e. e ≡ wide.Encoding encoding.Length) }
+    {
+        let held = Held::new(flags, key_handle)?;
+        Ok(SkEcdsaSha2NistP256 { public, held })
+    }
+
+    /// The public key.
+    pub fn public(&self) -> &PublicSkEcdsa
+        ensures { result.now ≡ sk_ecdsa_public self.now }
+    {
+        &self.public
+    }
+
+    /// The flags.
+    pub fn flags(&self) -> u8
+        ensures { result ≡ (sk_ecdsa_held self.now).flags }
+    {
+        self.held.flags
+    }
+
+    /// The key handle.
+    pub fn key_handle(&self) -> &[u8]
+        ensures { result.now ≡ (sk_ecdsa_held self.now).handle }
+    {
+        self.held.key_handle.as_slice()
+    }
+
+    /// The same pair in memory of its own. Refuses only when out of memory.
+    pub fn try_clone(&self, alloc: Global) -> Result<SkEcdsaSha2NistP256>
+        ensures value { IfOk result (λ k. sk_ecdsa_pair_of k ≡ sk_ecdsa_pair_of self.now) }
+        ensures refused { IfErr result (λ e. e ≡ Error.Memory) }
+    {
+        Ok(SkEcdsaSha2NistP256 {
+            public: self.public.try_clone(alloc)?,
+            held: self.held.try_clone(alloc)?,
+        })
+    }
+}
+
+/// Shows the public key, and nothing of what is kept beside it.
+impl fmt::Debug for SkEcdsaSha2NistP256 {
+    fn fmt<W: fmt::Write>(&self, f: &mut fmt::Formatter<W>) -> fmt::Result {
+        f.debug_struct("SkEcdsaSha2NistP256")
+            .field("public", &self.public)
+            .finish_non_exhaustive()
+    }
+}
+
+/// The public key, and what is kept of it.
+#[tactic(auto, using(sshkey_base::proofs::Steps::steps), unfolding(crate::specs::SecurityPairs::sk_ecdsa_steps_at))]
+impl Decode for SkEcdsaSha2NistP256 {
+    ghost use Rattle.sshkey_keypairs.specs.SecurityPairs.{NeedsSkEcdsaPair};
+
+    type Error = Error;
+
+    ghost Meaning = { KeyPair };
+
+    ghost means = { sk_ecdsa_pair_of };
+
+    ghost parse = { sk_ecdsa_steps_at };
+
+    ghost Spells = { SpellsPair SkEcdsa };
+
+    ghost needs = { NeedsSkEcdsaPair };
+
+    ghost grammar = { sk_ecdsa_grammar };
+
+    fn decode<R: Reader>(alloc: Global, reader: &mut R) -> Result<SkEcdsaSha2NistP256> {
+        let public = PublicSkEcdsa::decode(alloc, reader)?;
+        let held = Held::decode(alloc, reader)?;
+        Ok(SkEcdsaSha2NistP256 { public, held })
+    }
+}
+
+/// The public key, and what is kept of it.
+#[tactic(auto, using(sshkey_base::proofs::Writing::measuring))]
+impl Encode for SkEcdsaSha2NistP256 {
+    ghost normal = { λ k. pair (sk_ecdsa_pair_of k) Plain };
+
+    ghost max_len = { 6 * (2 ^ 32 + 4) };
+
+    fn encoded_len(&self) -> encoding::Result<usize> {
+        Ok(self.public.encoded_len()? + self.held.encoded_len()?)
+    }
+
+    fn encode<W: Writer>(&self, writer: &mut W) -> encoding::Result<()> {
+        encode_both(&self.public, &self.held, writer)
+    }
+}
