@@ -4,9 +4,10 @@ use Rattle.sshkey_model.specs.Grammar.{value_at}
 use Rattle.sshkey_model.specs.Names.{Algorithm}
 use Rattle.sshkey_model.specs.Parts.{Parts, bytes}
 use Rattle.sshkey_model.specs.Keys.{Key}
-use Rattle.sshkey_model.specs.KeyPairs.{KeyPair, public_half, normal_keypair, derived_checkint, pair_at}
+use Rattle.sshkey_model.specs.KeyPairs.{KeyPair, public_half, pair_algorithm, normal_keypair, derived_checkint, pair_at}
 use Rattle.sshkey_base.specs.declared.error.Error.{Error}
 use Rattle.sshkey_base.specs.Causes.{cause}
+use Rattle.sshkey_base.specs.Names.{algorithm_of}
 use Rattle.sshkey_base.specs.Reading.{Gives}
 use Rattle.sshkey_base.specs.Source.{Source}
 use Rattle.sshkey_keypairs.specs.declared.keypair_data.KeypairData.{KeypairData}
@@ -38,6 +39,13 @@ keypair_parts (kinds.SkEcdsaSha2NistP256 k) = normal_keypair (sk_ecdsa_pair_of k
 keypair_parts (kinds.SkEd25519 k) = normal_keypair (sk_ed25519_pair_of k)
 keypair_parts (kinds.Other k) = normal_keypair (opaque_pair_of k)
 
+-- the algorithm, under a private-use name the one that stands beside the public key
+abbrev pub algorithm_beside : KeypairData → Option Algorithm
+algorithm_beside (kinds.Encrypted c) = None
+algorithm_beside (kinds.Other k) = Some (algorithm_of k.public.algorithm)
+algorithm_beside k = option_map pair_algorithm (pair_of k)
+
+-- the public half
 abbrev pub public_of : KeypairData → Option Key
 public_of k = option_map public_half (pair_of k)
 

@@ -1,6 +1,6 @@
 //! Key pairs of any kind.
 
-ghost use Rattle.std.specs.Prelude.{◌≡◌, ◌≤◌, ◌+◌, ◌*◌, ◌^◌, Option, None, IfOk, IfErr, option_map};
+ghost use Rattle.std.specs.Prelude.{◌≡◌, ◌≤◌, ◌+◌, ◌*◌, ◌^◌, true, false, Option, Some, None, Err, IfOk, IfErr, IsOk};
 ghost use Rattle.sshkey_base.specs.Causes.{cause};
 ghost use Rattle.sshkey_base.specs.Names.{algorithm_of, curve_of};
 ghost use Rattle.sshkey_base.specs.Needs.{Asks};
@@ -8,8 +8,9 @@ ghost use Rattle.sshkey_base.specs.Source.{Later};
 ghost use Rattle.sshkey_keys.specs.Keys.{key_of};
 ghost use Rattle.sshkey_model.specs.KeyPairs.{xor_all, words};
 ghost use Rattle.sshkey_model.specs.Names.{Dsa, Ecdsa, Ed25519, Rsa, SkEcdsa, SkEd25519 as AlgorithmSkEd25519, Other, algorithm_name};
-ghost use Rattle.sshkey_keypairs.specs.Keypairs.{pair_of, keypair_parts, public_of, checkint_of, GivesPair, GivesModelPair};
+ghost use Rattle.sshkey_keypairs.specs.Keypairs.{pair_of, keypair_parts, public_of, algorithm_beside, checkint_of, GivesPair, GivesModelPair};
 ghost use Rattle.sshkey_keypairs.specs.KeypairNeeds.{NeedsPair};
+ghost use Rattle.sshkey_keypairs.specs.PairKinds.{is_encrypted, is_opaque};
 
 mod from;
 mod kinds;
@@ -105,23 +106,45 @@ impl KeypairData {
         })
     }
 
-    /// The public half, and none of an encrypted pair. Refuses only when out of memory.
-    pub fn to_public(&self, alloc: Global) -> Result<Option<KeyData>>
-        ensures value { IfOk result (λ k. option_map key_of k ≡ public_of self.now) }
-        ensures refused { IfErr result (λ e. e ≡ Error.Memory) }
+    /// The algorithm; that of a pair under a private-use name is the one that stands beside its
+    /// public key. `Encrypted` for an encrypted pair; else refused only when out of memory, and
+    /// only under a private-use name.
+    pub fn algorithm(&self, alloc: Global) -> Result<Algorithm>
+        ensures value { IfOk result (λ a. algorithm_beside self.now ≡ Some (algorithm_of a)) }
+        ensures encrypted { is_encrypted self.now ≡ true → result ≡ Err Error.Encrypted }
+        ensures refused { is_encrypted self.now ≡ false → IfErr result (λ e. e ≡ Error.Memory) }
+        ensures fixed { is_encrypted self.now ≡ false → is_opaque self.now ≡ false → IsOk result }
     {
-        Ok(Some(match self {
+        Ok(match self {
+            KeypairData::Dsa(_) => Algorithm::Dsa,
+            KeypairData::Ecdsa(pair) => pair.algorithm(),
+            KeypairData::Ed25519(_) => Algorithm::Ed25519,
+            KeypairData::Encrypted(_) => return Err(Error::Encrypted),
+            KeypairData::Rsa(_) => Algorithm::Rsa { hash: None },
+            KeypairData::SkEcdsaSha2NistP256(_) => Algorithm::SkEcdsaSha2NistP256,
+            KeypairData::SkEd25519(_) => Algorithm::SkEd25519,
+            KeypairData::Other(pair) => pair.public.algorithm.try_clone(alloc)?,
+        })
+    }
+
+    /// The public half. `Encrypted` for an encrypted pair; else refused only when out of memory.
+    pub fn to_public(&self, alloc: Global) -> Result<KeyData>
+        ensures value { IfOk result (λ k. public_of self.now ≡ Some (key_of k)) }
+        ensures encrypted { is_encrypted self.now ≡ true → result ≡ Err Error.Encrypted }
+        ensures refused { is_encrypted self.now ≡ false → IfErr result (λ e. e ≡ Error.Memory) }
+    {
+        Ok(match self {
             KeypairData::Dsa(pair) => KeyData::Dsa(pair.public.try_clone(alloc)?),
             KeypairData::Ecdsa(pair) => KeyData::Ecdsa(pair.public_key()),
             KeypairData::Ed25519(pair) => KeyData::Ed25519(pair.public),
-            KeypairData::Encrypted(_) => return Ok(None),
+            KeypairData::Encrypted(_) => return Err(Error::Encrypted),
             KeypairData::Rsa(pair) => KeyData::Rsa(pair.public.try_clone(alloc)?),
             KeypairData::SkEcdsaSha2NistP256(pair) => {
                 KeyData::SkEcdsaSha2NistP256(pair.public().try_clone(alloc)?)
             }
             KeypairData::SkEd25519(pair) => KeyData::SkEd25519(pair.public().try_clone(alloc)?),
             KeypairData::Other(pair) => KeyData::Other(pair.public.try_clone(alloc)?),
-        }))
+        })
     }
 }
 

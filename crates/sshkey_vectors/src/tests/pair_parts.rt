@@ -8,16 +8,15 @@ use crate::Count;
 use sshkey_base::{Algorithm, EcdsaCurve, Error, Result, decode_whole, encode_vec, encoding};
 use sshkey_keypairs::{KeypairData, OpaqueKeypair, OpaqueKeypairBytes};
 use sshkey_keys::KeyData;
-use sshkey_kinds::{
-    DsaPublicKey, EcdsaPublicKey, Ed25519PublicKey, OpaquePublicKey, RsaPublicKey,
-};
+use sshkey_kinds::{DsaPublicKey, EcdsaPublicKey, Ed25519PublicKey, OpaquePublicKey, RsaPublicKey};
 use sshkey_pairs::{
     DsaKeypair, EcdsaKeypair, EcdsaPrivateKey, Ed25519Keypair, Ed25519PrivateKey, RsaKeypair,
 };
 use std::alloc::Global;
 use std::convert::{AsSlice, TryFrom};
 
-const DRAWN: &str = "000102030405060708090A0B0C0D0E0F101112131415161718191A1B1C1D1E1F 000102030405060708090a0b0c0d0e0f101112131415161718191a1b1c1d1e1f";
+const DRAWN: &str =
+    "000102030405060708090A0B0C0D0E0F101112131415161718191A1B1C1D1E1F 000102030405060708090a0b0c0d0e0f101112131415161718191a1b1c1d1e1f";
 
 /// The key of the bytes that the generator gives, its forms, and what is shown of it.
 fn is_drawn(alloc: Global) -> Result<bool> {
@@ -100,11 +99,23 @@ fn kinds_of_pairs(rt: HostRuntime) {
     let encrypted = Ok(KeypairData::Encrypted(Vec::new(alloc)));
     assert!(rt; is_of(alloc, made(alloc, &DSA), [ON, NO, NO, NO, NO, NO, NO, NO]) == Ok(true));
     assert!(rt; is_of(alloc, made(alloc, &P256), [NO, ON, NO, NO, NO, NO, NO, NO]) == Ok(true));
-    assert!(rt; is_of(alloc, made(alloc, &ED25519), [NO, NO, ON, NO, NO, NO, NO, NO]) == Ok(true));
+    assert!(rt;
+        is_of(
+            alloc,
+            made(alloc, &ED25519),
+            [NO, NO, ON, NO, NO, NO, NO, NO]
+        ) == Ok(true)
+    );
     assert!(rt; is_of(alloc, encrypted, [NO, NO, NO, ON, NO, NO, NO, NO]) == Ok(true));
     assert!(rt; is_of(alloc, made(alloc, &RSA), [NO, NO, NO, NO, ON, NO, NO, NO]) == Ok(true));
     assert!(rt; is_of(alloc, security, [NO, NO, NO, NO, NO, NO, ON, NO]) == Ok(true));
-    assert!(rt; is_of(alloc, opaque(alloc).map(KeypairData::from), [NO, NO, NO, NO, NO, NO, NO, ON]) == Ok(true));
+    assert!(rt;
+        is_of(
+            alloc,
+            opaque(alloc).map(KeypairData::from),
+            [NO, NO, NO, NO, NO, NO, NO, ON]
+        ) == Ok(true)
+    );
 }
 
 /// A pair under a private-use name.
@@ -116,7 +127,7 @@ fn opaque(alloc: Global) -> Result<OpaqueKeypair> {
 
 /// The key by itself is the public half of the pair of any kind.
 fn is_half(alloc: Global, key: KeyData, pair: KeypairData) -> Result<bool> {
-    Ok(pair.to_public(alloc)? == Some(key))
+    Ok(pair.algorithm(alloc)? == key.algorithm(alloc)? && pair.to_public(alloc)? == key)
 }
 
 /// The public key of a DSA pair.
@@ -124,7 +135,11 @@ fn dsa(alloc: Global, pair: &DsaKeypair) -> Result<bool> {
     let bytes = pair.private.try_clone(alloc)?;
     let number = bytes.as_mpint().as_bytes() == bytes.as_slice();
     let key = DsaPublicKey::from(pair.try_clone(alloc)?);
-    let is_half = is_half(alloc, KeyData::from(key), KeypairData::from(pair.try_clone(alloc)?))?;
+    let is_half = is_half(
+        alloc,
+        KeyData::from(key),
+        KeypairData::from(pair.try_clone(alloc)?),
+    )?;
     Ok(number && bytes == pair.private && is_half)
 }
 
@@ -132,7 +147,11 @@ fn dsa(alloc: Global, pair: &DsaKeypair) -> Result<bool> {
 fn rsa(alloc: Global, pair: &RsaKeypair) -> Result<bool> {
     let private = pair.private.try_clone(alloc)?;
     let key = RsaPublicKey::from(pair.try_clone(alloc)?);
-    let is_half = is_half(alloc, KeyData::from(key), KeypairData::from(pair.try_clone(alloc)?))?;
+    let is_half = is_half(
+        alloc,
+        KeyData::from(key),
+        KeypairData::from(pair.try_clone(alloc)?),
+    )?;
     Ok(private == pair.private && is_half)
 }
 

@@ -2,8 +2,8 @@
 
 use super::made_pairs::{DSA, ED25519, MadePair, P256, P384, P521, RSA};
 use sshkey_base::{Algorithm, Error, Result, decode_whole, encode_vec, encoding};
-use sshkey_kinds::{Ed25519PublicKey, OpaquePublicKey, SkEd25519 as PublicSkEd25519};
 use sshkey_keypairs::{KeypairData, OpaqueKeypair, SkEd25519};
+use sshkey_kinds::{Ed25519PublicKey, OpaquePublicKey, SkEd25519 as PublicSkEd25519};
 use sshkey_pairs::{EcdsaPrivateKey, Ed25519Keypair, Ed25519PrivateKey};
 use std::alloc::Global;
 
@@ -19,9 +19,7 @@ pub(super) fn bytes_of(alloc: Global, digits: &str) -> Vec<u8> {
 fn is_kept(alloc: Global, made: &MadePair) -> Result<bool> {
     let bytes = bytes_of(alloc, made.pair);
     let pair: KeypairData = decode_whole(alloc, bytes.as_slice())?;
-    let Some(key) = pair.to_public(alloc)? else {
-        return Ok(false);
-    };
+    let key = pair.to_public(alloc)?;
     let public = encode_vec(alloc, &key)?;
     let written = encode_vec(alloc, &pair)?;
     Ok(
@@ -59,9 +57,18 @@ const HIGH: &str = "00000020ffffffffffffffffffffffffffffffffffffffffffffffffffff
 const HIGH_BEHIND_ZERO: &str =
     "0000002100ffffffffffffffffffffffffffffffffffffffffffffffffffffffffffffffff";
 
+const BEHIND_ONE: &str =
+    "00000021010101010101010101010101010101010101010101010101010101010101010101";
+
+const TWO_BYTES_MORE: &str =
+    "0000002201010101010101010101010101010101010101010101010101010101010101010101";
+
 #[test]
 fn scalars(rt: HostRuntime) {
     let alloc = rt.alloc();
+    let two_left = Error::Encoding(encoding::Error::TrailingData { remaining: 2 });
+    assert!(rt; scalar(alloc, BEHIND_ONE) == Err(Error::FormatEncoding));
+    assert!(rt; scalar(alloc, TWO_BYTES_MORE) == Err(two_left));
     assert!(rt; is_written(alloc, HIGH, HIGH_BEHIND_ZERO));
     assert!(rt; is_written(alloc, HIGH_BEHIND_ZERO, HIGH_BEHIND_ZERO));
     assert!(rt; is_written(alloc, LOW, LOW));
@@ -97,7 +104,8 @@ fn not_known(alloc: Global) -> Result<bool> {
             && written.as_slice() == b"\0\0\0\x02ab\0\0\0\x03cde".as_slice()
             && ciphertext.as_slice() == b"secret".as_slice()
             && encrypted.checkint() == 0
-            && encrypted.to_public(alloc)?.is_none(),
+            && encrypted.to_public(alloc).err() == Some(Error::Encrypted)
+            && encrypted.algorithm(alloc).err() == Some(Error::Encrypted),
     )
 }
 
