@@ -73,10 +73,8 @@ fn answer<W: Write>(alloc: Global, outcome: &Result<String, Error>, output: &mut
 /// (`remaining`); of another input no more is said than that the line is one of the command's. What
 /// was written is said of an output that tells what it holds (`contents`).
 pub fn run<R: Read, W: Write>(alloc: Global, words: &[&str], input: &mut R, output: &mut W) -> u8
-    ensures runs {
-        Runs (texts words.now) (R.remaining input.old)
-            (W.contents output.old) (W.contents output.new) result
-    }
+    ensures runs { Runs (texts words.now) (R.remaining input.old)
+        (W.contents output.old) (W.contents output.new) result }
     ensures untouched { IsNoCommand (texts words.now) → input.new ≡ input.old }
 {
     let Some(command) = Command::from_words(words) else {
