@@ -1,4 +1,4 @@
-//! Fingerprints of SSH public keys: reads standard input whole and writes standard output.
+//! The program `sshkey`: reads standard input whole, a line of a key or of a certificate, and writes standard output.
 #![tactic(auto)]
 
 use sshkey_tool::run;

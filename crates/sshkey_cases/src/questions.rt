@@ -71,8 +71,9 @@ fn answer(alloc: Global, question: &str, parts: &[Vec<u8>]) -> Result<String> {
         "number" => wire::number(alloc, bytes),
         "positive" => wire::positive(alloc, bytes),
         "rising-mpints" => wire::rising::<Mpint>(alloc, parts),
-        "line" => shown_by_program(alloc, "fingerprint", bytes),
-        "normal" => shown_by_program(alloc, "normal", bytes),
+        "line" => shown_by_program(alloc, &["fingerprint"], bytes),
+        "normal" => shown_by_program(alloc, &["normal"], bytes),
+        "cert" => certificate_by_program(alloc, parts),
         _ => answer_of_names(alloc, question, parts),
     }
 }
@@ -151,12 +152,29 @@ fn answer_of_certificates(alloc: Global, question: &str, bytes: &[u8]) -> Result
     }
 }
 
-/// The status and the output of the program for that word on that input. The output has room for each of
-/// its lines.
-fn shown_by_program(alloc: Global, word: &str, input: &[u8]) -> Result<String> {
+/// The status and the lines of the program for these words on that input. The output has room for all of
+/// them.
+fn shown_by_program(alloc: Global, words: &[&str], input: &[u8]) -> Result<String> {
     let mut left = input;
-    let mut output = Vec::with_capacity(alloc, 128)?;
-    let status = run(alloc, &[word], &mut left, &mut output);
+    let mut output = Vec::with_capacity(alloc, 4096)?;
+    let status = run(alloc, words, &mut left, &mut output);
     let text = std::str::from_utf8(&output)?;
-    Ok(format!(in alloc; "{status}, {}", text.trim_end_matches('\n'))?)
+    let mut answer = format!(in alloc; "{status}")?;
+    let mut separator = ", ";
+    for line in text.lines() {
+        answer.push_str(separator)?;
+        answer.push_str(line)?;
+        separator = "; ";
+    }
+    Ok(answer)
+}
+
+/// The same about the certificate in a line, and about a principal where a second byte string is
+/// one.
+fn certificate_by_program(alloc: Global, parts: &[Vec<u8>]) -> Result<String> {
+    let input = part(parts, 0);
+    match parts {
+        [_] => shown_by_program(alloc, &["cert"], input),
+        _ => shown_by_program(alloc, &["cert", text(parts, 1)?], input),
+    }
 }

@@ -1,53 +1,73 @@
 -- What the program writes, and its status, for each words and each input.
-use Rattle.std.specs.Prelude.{◌≡◌, ◌≢◌, ◌⊎◌, ◌<◌, ℕ, List, [], ◌∷◌, ◌++◌, length, get_or, map, codes, Option, IfSome}
+use Rattle.std.specs.Prelude.{◌≡◌, ◌≢◌, ◌⊎◌, ◌<◌, ℕ, List, [], ◌∷◌, ◌++◌, length, get_or, map, codes, Option, None, Some, IfSome, MatchOption}
 use Rattle.std.specs.Str.{IsUtf8}
 use denote.Ref.{Bor}
 use Rattle.sshkey_model.specs.Fingerprints.{fingerprint_text}
+use Rattle.sshkey_model.specs.Certificates.{Certificate}
 use Rattle.sshkey_model.specs.Keys.{Key}
-use Rattle.sshkey_model.specs.Lines.{IsKeyLine, key_line, key_name, IsNoLine}
+use Rattle.sshkey_model.specs.Lines.{IsKeyLine, key_line, key_name, IsCertificateLine, name_of_certificate, IsNoLine}
 use Rattle.sshkey_model.specs.Names.{Sha256}
+use Rattle.sshkey_cert.specs.CertificateReaders.{SpellsCertificate}
 use Rattle.sshkey_keys.specs.Keys.{SpellsKey}
 use Rattle.sshkey_tool.specs.Faults.{Writes}
+use Rattle.sshkey_tool.specs.Lines.{line_end, IsCertificateText}
 use Rattle.sshkey_tool.specs.declared.command.Command.{Command}
-use Rattle.sshkey_tool.specs.declared.command.Command.TheVariants.{Fingerprint, Normal}
+use Rattle.sshkey_tool.specs.declared.command.Command.TheVariants as commands
+use Rattle.sshkey_tool.specs.declared.command.KeyCommand.{KeyCommand}
+use Rattle.sshkey_tool.specs.declared.command.KeyCommand.TheVariants.{Fingerprint, Normal}
 
 -- ---- the rows
 
+-- the texts of words
+abbrev pub texts : List (Bor (List ℕ)) → List (List ℕ)
+texts words = map (λ w. w.now) words
+
 -- the words that ask for it
 abbrev pub command_words : Command → List (List ℕ)
-command_words Fingerprint = codes "fingerprint" ∷ []
-command_words Normal = codes "normal" ∷ []
+command_words (commands.Key Fingerprint) = codes "fingerprint" ∷ []
+command_words (commands.Key Normal) = codes "normal" ∷ []
+command_words (commands.Certificate None) = codes "cert" ∷ []
+command_words (commands.Certificate (Some wanted)) = codes "cert" ∷ wanted.now ∷ []
 
 -- what is shown of a key and its comment
-abbrev pub key_text : Command → Key → List ℕ → List ℕ
-key_text Fingerprint k comment = fingerprint_text Sha256 k
-key_text Normal k comment = key_line k comment
+abbrev pub key_text : KeyCommand → Key → List ℕ → List ℕ
+key_text Fingerprint k comment = fingerprint_text Sha256 k ++ line_end
+key_text Normal k comment = key_line k comment ++ line_end
 
--- The bytes are the line of a key, and the text is what is shown of it.
+-- The bytes are the line that the command asks for, and this text is shown of it.
+abbrev pub IsOfLine : Command → List ℕ → List ℕ → Type 0
+IsOfLine (commands.Key c) bytes text =
+    (k : Key) × (comment : List ℕ) × IsKeyLine bytes k comment × (text ≡ key_text c k comment)
+IsOfLine (commands.Certificate wanted) bytes text =
+    (c : Certificate) × (comment : List ℕ) × IsCertificateLine bytes c comment × IsCertificateText wanted c text
+
+-- The bytes are no line of what the command asks for.
+abbrev pub IsOfNoLine : Command → List ℕ → Type 0
+IsOfNoLine (commands.Key c) bytes = IsNoLine key_name SpellsKey bytes
+IsOfNoLine (commands.Certificate wanted) bytes = IsNoLine name_of_certificate SpellsCertificate bytes
+
+-- The bytes are the line that is asked for, and the text is what is shown of it.
 abbrev pub IsShown : Command → List ℕ → List ℕ → Type 0
-IsShown c text bytes = IsUtf8 bytes × ((k : Key) × (comment : List ℕ) × IsKeyLine bytes k comment × (text ≡ key_text c k comment))
+IsShown c text bytes = IsUtf8 bytes × IsOfLine c bytes text
 
--- The bytes are no text, or a line of no key.
-abbrev pub IsRefused : List ℕ → Type 0
-IsRefused bytes = IsUtf8 bytes → IsNoLine key_name SpellsKey bytes
+-- The bytes are no text, or a line of nothing that is asked for.
+abbrev pub IsRefused : Command → List ℕ → Type 0
+IsRefused c bytes = IsUtf8 bytes → IsOfNoLine c bytes
 
 -- ---- the answers
 
--- How it is used; a text that is shown; or why the input is refused.
+-- How it is used; lines that are shown; or why the input is refused.
 pub data Answer : Type 0 where
   Usage : Answer
   Shown Refused : List ℕ → Answer
-
-abbrev pub line_end : List ℕ
-line_end = 10 ∷ []
 
 -- a text of one line: no byte of it is a line end
 abbrev pub IsOneLine : List ℕ → Type 0
 IsOneLine text = (i : ℕ) → i < length text → get_or text i 0 ≢ 10
 
 abbrev pub answer_line : Answer → List ℕ
-answer_line Usage = codes "usage: sshkey fingerprint | art <header> | normal | cert | keys | hosts" ++ line_end
-answer_line (Shown text) = text ++ line_end
+answer_line Usage = codes "usage: sshkey fingerprint | art <header> | normal | cert [principal] | keys | hosts" ++ line_end
+answer_line (Shown text) = text
 answer_line (Refused why) = codes "refused: " ++ (why ++ line_end)
 
 abbrev pub status_of : Answer → ℕ
@@ -57,17 +77,21 @@ status_of (Refused why) = 1
 
 -- ---- the table
 
-abbrev pub Asks : List (Bor (List ℕ)) → Command → Type 0
-Asks words c = map (λ w. w.now) words ≡ command_words c
+abbrev pub Asks : List (List ℕ) → Command → Type 0
+Asks words c = words ≡ command_words c
 
-abbrev pub IsNoCommand : List (Bor (List ℕ)) → Type 0
+abbrev pub IsNoCommand : List (List ℕ) → Type 0
 IsNoCommand words = (c : Command) → Asks words c → ⊥
 
+-- the command that the words ask for, or none where they are no command's
+abbrev pub FindsCommand : List (List ℕ) → Option Command → Type 0
+FindsCommand words found = MatchOption found (IsNoCommand words) (Asks words)
+
 -- An input is known where the reader tells its bytes. A reason is one line.
-abbrev pub IsAnswer : List (Bor (List ℕ)) → Option (List ℕ) → Answer → Type 0
+abbrev pub IsAnswer : List (List ℕ) → Option (List ℕ) → Answer → Type 0
 IsAnswer words input Usage = IsNoCommand words
 IsAnswer words input (Shown text) = (c : Command) × Asks words c × IfSome input (IsShown c text)
-IsAnswer words input (Refused why) = IsOneLine why × ((c : Command) × Asks words c × IfSome input IsRefused)
+IsAnswer words input (Refused why) = IsOneLine why × ((c : Command) × Asks words c × IfSome input (IsRefused c))
 
 -- in place of the table's line: there was no memory, or the input could not be read
 abbrev pub IsFaultLine : List ℕ → Type 0
@@ -78,7 +102,7 @@ abbrev pub WritesFault : Option (List ℕ) → Option (List ℕ) → ℕ → Typ
 WritesFault old new status = (line : List ℕ) × IsFaultLine line × Writes old new line 1 status
 
 -- The table's line is written with its status, or that of a fault.
-abbrev pub Runs : List (Bor (List ℕ)) → Option (List ℕ) → Option (List ℕ) → Option (List ℕ) → ℕ → Type 0
+abbrev pub Runs : List (List ℕ) → Option (List ℕ) → Option (List ℕ) → Option (List ℕ) → ℕ → Type 0
 Runs words input old new status =
     ((a : Answer) × IsAnswer words input a × Writes old new (answer_line a) (status_of a) status)
     ⊎ (((c : Command) × Asks words c) × WritesFault old new status)

@@ -1,36 +1,58 @@
 //! What the program is asked for.
 
-ghost use Rattle.std.specs.Prelude.{◌≡◌, ◌∷◌, [], MatchOption};
+ghost use Rattle.std.specs.Prelude.{◌∷◌, []};
 
 /// A row of the table of words.
 #[derive(Clone, Copy, Debug)]
-pub(crate) enum Command {
-    /// The fingerprint of the key in a line.
+pub(crate) enum Command<'w> {
+    /// Something about the key in a line.
+    Key(KeyCommand),
+    /// The fields of the certificate in a line, and whether it allows the principal, if one is
+    /// wanted.
+    Certificate(Option<&'w str>),
+}
+
+/// What is shown of a key.
+#[derive(Clone, Copy, Debug)]
+pub(crate) enum KeyCommand {
+    /// Its fingerprint.
     Fingerprint,
-    /// The line as it is written of the key and the comment in it.
+    /// The line as it is written of the key and its comment.
     Normal,
 }
 
-impl Command {
-    ghost use Rattle.sshkey_tool.specs.Table.{Asks, IsNoCommand, command_words};
+impl<'w> Command<'w> {
+    ghost use Rattle.sshkey_tool.specs.Table.{FindsCommand, texts};
 
     /// The command that these words are, if they are one.
-    pub(crate) fn from_words(words: &[&str]) -> Option<Command>
-        ensures { MatchOption result (IsNoCommand words.now) (Asks words.now) }
+    pub(crate) fn from_words(words: &[&'w str]) -> Option<Command<'w>>
+        ensures { FindsCommand (texts words.now) result }
     {
         match words {
             [word] => Command::from_word(word),
+            [word, principal] => Command::from_word_and_principal(word, principal),
             _ => None,
         }
     }
 
     /// The command of that one word.
-    fn from_word(word: &str) -> Option<Command>
-        ensures { MatchOption result ((c : Command) → command_words c ≡ word.now ∷ [] → ⊥) (λ c. command_words c ≡ word.now ∷ []) }
+    fn from_word(word: &str) -> Option<Command<'w>>
+        ensures { FindsCommand (word.now ∷ []) result }
     {
         match word {
-            "fingerprint" => Some(Command::Fingerprint),
-            "normal" => Some(Command::Normal),
+            "fingerprint" => Some(Command::Key(KeyCommand::Fingerprint)),
+            "normal" => Some(Command::Key(KeyCommand::Normal)),
+            "cert" => Some(Command::Certificate(None)),
+            _ => None,
+        }
+    }
+
+    /// The command of that word and a principal.
+    fn from_word_and_principal(word: &str, principal: &'w str) -> Option<Command<'w>>
+        ensures { FindsCommand (word.now ∷ principal.now ∷ []) result }
+    {
+        match word {
+            "cert" => Some(Command::Certificate(Some(principal))),
             _ => None,
         }
     }

@@ -1,6 +1,7 @@
 //! The program `sshkey`, over any input and output.
 #![tactic(auto)]
 
+mod certificate;
 mod command;
 mod input;
 mod output;

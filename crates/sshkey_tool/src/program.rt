@@ -2,7 +2,7 @@
 
 ghost use Rattle.std.specs.Prelude.{◌≡◌, IfOk, string_bytes};
 ghost use Rattle.sshkey_tool.specs.Outcomes.{WritesOutcome};
-ghost use Rattle.sshkey_tool.specs.Table.{Runs, IsNoCommand, Shown, answer_line, IsRefusalLine, IsFirstLine};
+ghost use Rattle.sshkey_tool.specs.Table.{Runs, IsNoCommand, IsRefusalLine, IsFirstLine, texts};
 
 use crate::command::Command;
 use crate::output::write_line;
@@ -12,21 +12,14 @@ use std::alloc::{AllocError, Global};
 use std::io::{Read, Write};
 
 /// How the program is used.
-const USAGE: [u8; 72] =
-    *b"usage: sshkey fingerprint | art <header> | normal | cert | keys | hosts\n";
+const USAGE: [u8; 84] =
+    *b"usage: sshkey fingerprint | art <header> | normal | cert [principal] | keys | hosts\n";
 
 /// What is written where memory ran out.
 const OUT_OF_MEMORY: [u8; 23] = *b"refused: out of memory\n";
 
 /// What is written where the input could not be read.
 const INPUT_FAULT: [u8; 19] = *b"refused: I/O error\n";
-
-/// The line that shows a text.
-fn shown_line(alloc: Global, text: &str) -> Result<String, AllocError>
-    ensures { IfOk result (λ line. string_bytes line ≡ answer_line (Shown text.now)) }
-{
-    format!(in alloc; "{text}\n")
-}
 
 /// The text up to its first line end.
 fn first_line(text: &str) -> &str
@@ -52,10 +45,7 @@ fn answer<W: Write>(alloc: Global, outcome: &Result<String, Error>, output: &mut
     ensures { WritesOutcome outcome.now (W.contents output.old) (W.contents output.new) result }
 {
     match outcome {
-        Ok(text) => match shown_line(alloc, text.as_str()) {
-            Ok(line) => write_line(output, line.as_bytes(), 0),
-            Err(_) => write_line(output, &OUT_OF_MEMORY, 1),
-        },
+        Ok(lines) => write_line(output, lines.as_bytes(), 0),
         Err(Error::Memory | Error::Encoding(encoding::Error::Memory)) => {
             write_line(output, &OUT_OF_MEMORY, 1)
         }
@@ -71,17 +61,21 @@ fn answer<W: Write>(alloc: Global, outcome: &Result<String, Error>, output: &mut
 ///
 /// 2 for words that are no command, after a line that says how the program is used; nothing of the
 /// input is read then. 1 after `refused:` and the reason, where the input is not UTF-8 or is a line
-/// of no key; where memory or the input failed; and where the output failed, which then holds only a
-/// beginning of the line. Else 0, after the SHA-256 fingerprint of the key for `fingerprint`, and
-/// for `normal` after the line that is written of the key and its comment. Each line has a line end,
-/// and a reason is one line.
+/// of no key, for `cert` of no certificate; where memory or the input failed; and where the output
+/// failed, which then holds only a beginning of what is shown. Else 0, after the SHA-256 fingerprint
+/// of the key for `fingerprint`, for `normal` after the line that is written of the key and its
+/// comment, and for `cert` after the fields of the certificate, a line each, and where a principal
+/// follows the word, a line that says whether the certificate allows it. Each line has a line end,
+/// and a reason is one line. A key id, a principal and an option stand as they are in the
+/// certificate, line ends and control characters too.
 ///
 /// What is shown or refused is the table's of all bytes of an input whose reader tells them
 /// (`remaining`); of another input no more is said than that the line is one of the command's. What
 /// was written is said of an output that tells what it holds (`contents`).
 pub fn run<R: Read, W: Write>(alloc: Global, words: &[&str], input: &mut R, output: &mut W) -> u8
-    ensures runs { Runs words.now (R.remaining input.old) (W.contents output.old) (W.contents output.new) result }
-    ensures untouched { IsNoCommand words.now → input.new ≡ input.old }
+    ensures runs { Runs (texts words.now) (R.remaining input.old)
+        (W.contents output.old) (W.contents output.new) result }
+    ensures untouched { IsNoCommand (texts words.now) → input.new ≡ input.old }
 {
     let Some(command) = Command::from_words(words) else {
         return write_line(output, &USAGE, 2);

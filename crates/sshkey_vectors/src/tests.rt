@@ -6,6 +6,7 @@ mod certificate_lines;
 mod certificates;
 mod certified;
 mod errors;
+mod hashed_authorities;
 mod issued;
 mod key_files;
 mod keys;

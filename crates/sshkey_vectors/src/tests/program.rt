@@ -10,7 +10,8 @@ const LINE: &[u8] =
 
 const SHOWN: &[u8] = b"SHA256:UCUiLr7Pjs9wFFJMDByLgc3NrtdU344OgUM45wZPcIQ\n";
 
-const USAGE: &[u8] = b"usage: sshkey fingerprint | art <header> | normal | cert | keys | hosts\n";
+const USAGE: &[u8] =
+    b"usage: sshkey fingerprint | art <header> | normal | cert [principal] | keys | hosts\n";
 
 /// Gives at most `most` bytes a call. Each other call is interrupted, and once it has given
 /// `before` bytes it fails with `kind`.

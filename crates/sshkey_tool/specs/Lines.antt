@@ -1,0 +1,72 @@
+-- What is shown of a certificate, line by line.
+use Rattle.std.specs.Prelude.{◌≡◌, ◌⊎◌, ◌==◌, ℕ, List, [], ◌∷◌, ◌++◌, map, codes, Option, None, Some, if◌then◌else◌, Result, IfOk, String, string_bytes}
+use Rattle.std.specs.Fmt.{decimal}
+use denote.Ref.{Bor}
+use Rattle.sshkey_model.specs.Certificates.{Certificate, CertificateType, User, Host, forever}
+use Rattle.sshkey_model.specs.Lines.{key_line, key_name}
+use Rattle.sshkey_model.specs.Options.{CertificateOption}
+use Rattle.sshkey_model.specs.Principals.{Allows}
+
+abbrev pub line_end : List ℕ
+line_end = 10 ∷ []
+
+-- each line with its line end
+abbrev pub in_lines : List (List ℕ) → List ℕ
+in_lines [] = []
+in_lines (line ∷ lines) = line ++ (line_end ++ in_lines lines)
+
+-- It is these lines, unless memory ran out.
+abbrev pub MakesLines : {Z E : Type 0} → List (List ℕ) → Result (String Z) E → Type 0
+MakesLines lines r = IfOk r (λ s. string_bytes s ≡ in_lines lines)
+
+abbrev pub type_word : CertificateType → List ℕ
+type_word User = codes "user"
+type_word Host = codes "host"
+
+abbrev pub end_text : ℕ → List ℕ
+end_text t = if t == forever then codes "forever" else decimal t
+
+abbrev pub principal_line : List ℕ → List ℕ
+principal_line p = codes "principal " ++ p
+
+-- none is listed where all are valid
+abbrev pub principal_lines : List (List ℕ) → List (List ℕ)
+principal_lines [] = codes "principals any" ∷ []
+principal_lines (p ∷ ps) = map principal_line (p ∷ ps)
+
+abbrev pub option_line : List ℕ → CertificateOption → List ℕ
+option_line kind o = kind ++ (codes " " ++ (o.name ++ (codes "=" ++ o.value)))
+
+abbrev pub subject_lines : Certificate → List (List ℕ)
+subject_lines c = (codes "algorithm " ++ key_name c.signed.key)
+    ∷ (codes "type " ++ type_word c.signed.certificate_type)
+    ∷ (codes "serial " ++ decimal c.signed.serial)
+    ∷ (codes "key id " ++ c.signed.key_id)
+    ∷ []
+
+abbrev pub window_lines : Certificate → List (List ℕ)
+window_lines c = (codes "valid after " ++ decimal c.signed.valid_after)
+    ∷ (codes "valid before " ++ end_text c.signed.valid_before)
+    ∷ []
+
+abbrev pub field_lines : Certificate → List (List ℕ)
+field_lines c = subject_lines c ++ window_lines c
+
+-- The texts stand as they are, whatever characters they have.
+abbrev pub certificate_lines : Certificate → List (List ℕ)
+certificate_lines c = field_lines c
+    ++ (principal_lines c.signed.valid_principals
+    ++ (map (option_line (codes "critical option")) c.signed.critical_options
+    ++ (map (option_line (codes "extension")) c.signed.extensions
+    ++ ((codes "ca " ++ key_line c.signed.signature_key []) ∷ []))))
+
+-- whether it allows that principal
+abbrev pub SaysAllowed : Certificate → List ℕ → List ℕ → Type 0
+SaysAllowed c wanted line =
+    (Allows c wanted × (line ≡ codes "allows yes")) ⊎ ((Allows c wanted → ⊥) × (line ≡ codes "allows no"))
+
+-- The text is these lines, and where a principal is wanted, whether it is allowed.
+abbrev pub IsCertificateText : Option (Bor (List ℕ)) → Certificate → List ℕ → Type 0
+IsCertificateText None c text = text ≡ in_lines (certificate_lines c)
+IsCertificateText (Some wanted) c text =
+    (line : List ℕ) × SaysAllowed c wanted.now line × (text ≡ in_lines (certificate_lines c) ++ (line ++ line_end))
