@@ -130,29 +130,21 @@ fn is_half(alloc: Global, key: KeyData, pair: KeypairData) -> Result<bool> {
     Ok(pair.algorithm(alloc)? == key.algorithm(alloc)? && pair.to_public(alloc)? == key)
 }
 
-/// The public key of a DSA pair.
-fn dsa(alloc: Global, pair: &DsaKeypair) -> Result<bool> {
-    let bytes = pair.private.try_clone(alloc)?;
-    let number = bytes.as_mpint().as_bytes() == bytes.as_slice();
-    let key = DsaPublicKey::from(pair.try_clone(alloc)?);
-    let is_half = is_half(
-        alloc,
-        KeyData::from(key),
-        KeypairData::from(pair.try_clone(alloc)?),
-    )?;
-    Ok(number && bytes == pair.private && is_half)
+/// A copy of a DSA pair, its number and its public key.
+fn dsa(alloc: Global, pair: DsaKeypair) -> Result<bool> {
+    let copy = pair.try_clone(alloc)?;
+    let private = pair.private.as_mpint().as_bytes() == pair.private.as_slice();
+    let same = private && copy == pair;
+    let key = KeyData::from(DsaPublicKey::from(copy));
+    Ok(same && is_half(alloc, key, KeypairData::from(pair))?)
 }
 
-/// The public key of an RSA pair.
-fn rsa(alloc: Global, pair: &RsaKeypair) -> Result<bool> {
-    let private = pair.private.try_clone(alloc)?;
-    let key = RsaPublicKey::from(pair.try_clone(alloc)?);
-    let is_half = is_half(
-        alloc,
-        KeyData::from(key),
-        KeypairData::from(pair.try_clone(alloc)?),
-    )?;
-    Ok(private == pair.private && is_half)
+/// A copy of an RSA pair, and its public key.
+fn rsa(alloc: Global, pair: RsaKeypair) -> Result<bool> {
+    let copy = pair.try_clone(alloc)?;
+    let same = copy == pair;
+    let key = KeyData::from(RsaPublicKey::from(copy));
+    Ok(same && is_half(alloc, key, KeypairData::from(pair))?)
 }
 
 /// The parts of an ECDSA pair on that curve.
@@ -163,25 +155,25 @@ fn ecdsa(alloc: Global, pair: EcdsaKeypair, curve: EcdsaCurve) -> Result<bool> {
     Ok(is_on && key == half && is_half(alloc, KeyData::from(key), KeypairData::from(pair))?)
 }
 
-/// The public keys of the made pairs.
-fn are_halves(alloc: Global) -> Result<[bool; 5]> {
-    let mut right = [false; 5];
-    if let KeypairData::Dsa(pair) = made(alloc, &DSA)? {
-        right[0] = dsa(alloc, &pair)?;
+fn dsa_half(alloc: Global) -> Result<bool> {
+    match made(alloc, &DSA)? {
+        KeypairData::Dsa(pair) => dsa(alloc, pair),
+        _ => Ok(false),
     }
-    if let KeypairData::Rsa(pair) = made(alloc, &RSA)? {
-        right[1] = rsa(alloc, &pair)?;
+}
+
+fn rsa_half(alloc: Global) -> Result<bool> {
+    match made(alloc, &RSA)? {
+        KeypairData::Rsa(pair) => rsa(alloc, pair),
+        _ => Ok(false),
     }
-    if let KeypairData::Ecdsa(pair) = made(alloc, &P256)? {
-        right[2] = ecdsa(alloc, pair, EcdsaCurve::NistP256)?;
+}
+
+fn ecdsa_half(alloc: Global, pair: &MadePair, curve: EcdsaCurve) -> Result<bool> {
+    match made(alloc, pair)? {
+        KeypairData::Ecdsa(pair) => ecdsa(alloc, pair, curve),
+        _ => Ok(false),
     }
-    if let KeypairData::Ecdsa(pair) = made(alloc, &P384)? {
-        right[3] = ecdsa(alloc, pair, EcdsaCurve::NistP384)?;
-    }
-    if let KeypairData::Ecdsa(pair) = made(alloc, &P521)? {
-        right[4] = ecdsa(alloc, pair, EcdsaCurve::NistP521)?;
-    }
-    Ok(right)
 }
 
 /// A private-use pair, its bytes without the name, and its public key.
@@ -212,7 +204,11 @@ fn is_one(alloc: Global) -> Result<bool> {
 #[test]
 fn parts_of_pairs(rt: HostRuntime) {
     let alloc = rt.alloc();
-    assert!(rt; are_halves(alloc) == Ok([true; 5]));
+    assert!(rt; dsa_half(alloc) == Ok(true));
+    assert!(rt; rsa_half(alloc) == Ok(true));
+    assert!(rt; ecdsa_half(alloc, &P256, EcdsaCurve::NistP256) == Ok(true));
+    assert!(rt; ecdsa_half(alloc, &P384, EcdsaCurve::NistP384) == Ok(true));
+    assert!(rt; ecdsa_half(alloc, &P521, EcdsaCurve::NistP521) == Ok(true));
     assert!(rt; is_nameless(alloc) == Ok(true));
     assert!(rt; is_one(alloc) == Ok(true));
 }
