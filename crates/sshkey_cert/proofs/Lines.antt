@@ -1,5 +1,5 @@
 -- What writing lines of certificates answers.
-use Rattle.std.proofs.Common.{◌≡◌, ℕ, zero, suc, List, [], ◌∷◌, ◌++◌, length, true, None, Some, Option, refl, sym, subst, ap, ◌∙◌, arith, get_or, take, drop}
+use Rattle.std.proofs.Common.{◌≡◌, ℕ, zero, suc, List, [], ◌∷◌, ◌++◌, length, true, None, Some, Option, refl, sym, subst, ap, arith, get_or}
 use Rattle.std.specs.Prelude.{String, Vec, string_bytes}
 use Rattle.std.specs.Str.{IsUtf8, IsAscii}
 use Rattle.std.specs.String.{string_vec}

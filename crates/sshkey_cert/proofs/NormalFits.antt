@@ -1,5 +1,5 @@
 -- Where one spelling of what is signed fits its boxes, its normal form does.
-use Rattle.std.proofs.Common.{◌≡◌, ℕ, ◌≤◌, ◌^◌, List, [], ◌∷◌, length, Bool, true, ◌&&◌, nat_lt, None, Some, Ok, refl, arith, lt-ltb}
+use Rattle.std.proofs.Common.{◌≡◌, ℕ, ◌≤◌, ◌^◌, List, [], ◌∷◌, length, true, nat_lt, None, Some, Ok, refl, arith, lt-ltb}
 use Rattle.std.proofs.lemmas.Bool.{and_from, and_parts, ltb-true}
 use Rattle.sshkey_model.specs.Parts.{Parts, nothing, bytes, number, box, ◌&◌, flat, BoxesFit}
 use Rattle.sshkey_model.specs.Texts.{string}

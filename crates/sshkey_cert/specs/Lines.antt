@@ -1,5 +1,5 @@
 -- Certificates stand in lines; what is read of a line.
-use Rattle.std.proofs.Common.{◌≡◌, ◌≢◌, ℕ, ◌≤◌, List, length, None, Some, Result, Ok, Err, arith}
+use Rattle.std.proofs.Common.{◌≢◌, ℕ, ◌≤◌, List, length, Result, Ok, Err, arith}
 use Rattle.sshkey_model.specs.CertificateNames.{certificate_name, IsCertified}
 use Rattle.sshkey_model.specs.Keys.{key_algorithm}
 use Rattle.sshkey_model.specs.Lines.{name_of_certificate, IsCertificateLine, IsNoLine}
