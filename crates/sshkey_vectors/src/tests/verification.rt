@@ -1,8 +1,8 @@
 //! What a verifier is asked, and what is never asked.
 
 use super::openssh::{EACH, Made};
-use crate::{AcceptAll, Fixed, Only, RefuseAll};
 use sshkey_base::{Algorithm, Error, decode_whole};
+use sshkey_doubles::{AcceptAll, Fixed, Only, RefuseAll};
 use sshkey_keys::{KeyData, Signature, SigningKey};
 use sshkey_kinds::{Ed25519PublicKey, OpaquePublicKey, SkEd25519};
 use std::alloc::Global;

@@ -1,11 +1,11 @@
 //! Certificates that a builder makes: their bytes, their windows, and what a builder refuses.
 
-use crate::{AcceptAll, Count, Fixed, RefuseAll};
 use rand_core::Rng;
 use sshkey_base::certificate::Field;
 use sshkey_base::{Error, HashAlg};
 use sshkey_builder::Builder;
 use sshkey_cert::Certificate;
+use sshkey_doubles::{AcceptAll, Count, Fixed, RefuseAll};
 use sshkey_keys::{Fingerprint, KeyData};
 use sshkey_kinds::Ed25519PublicKey;
 use sshkey_options::{FOREVER, MAX_SECS};
@@ -63,15 +63,20 @@ fn one_is_issued_down_to_the_byte(rt: HostRuntime) {
     );
 }
 
-/// The fingerprint of `KEY` by that hash.
-fn fingerprints(alloc: Global, hash_alg: HashAlg) -> Result<[Fingerprint; 1], Error> {
-    Ok([KEY.fingerprint(alloc, hash_alg)?])
+/// What a validation at that time answers, for the fingerprint of `KEY` by that hash.
+fn judged(
+    alloc: Global,
+    certificate: &Certificate,
+    hash_alg: HashAlg,
+    secs: u64,
+) -> Result<(), Error> {
+    let given = [KEY.fingerprint(alloc, hash_alg)?];
+    certificate.validate_at(alloc, secs, &given, &AcceptAll)
 }
 
 /// What the issued certificate's validation at that time answers.
 fn answer_at(alloc: Global, secs: u64) -> Result<(), Error> {
-    let given = fingerprints(alloc, HashAlg::Sha256)?;
-    issued(alloc)?.validate_at(alloc, secs, &given, &AcceptAll)
+    judged(alloc, &issued(alloc)?, HashAlg::Sha256, secs)
 }
 
 #[test]
@@ -83,15 +88,15 @@ fn its_window_has_both_its_ends(rt: HostRuntime) {
     assert!(rt; answer_at(rt.alloc(), MAX_SECS + 1) == Err(Error::Time));
 }
 
-/// What a validation by no verifier at all, or for another fingerprint, answers.
+/// What a validation by a verifier that refuses all answers.
 fn refused_at(alloc: Global, secs: u64) -> Result<(), Error> {
-    let given = fingerprints(alloc, HashAlg::Sha256)?;
+    let given = [KEY.fingerprint(alloc, HashAlg::Sha256)?];
     issued(alloc)?.validate_at(alloc, secs, &given, &RefuseAll)
 }
 
+/// What one for another fingerprint answers.
 fn for_sha512(alloc: Global) -> Result<(), Error> {
-    let given = fingerprints(alloc, HashAlg::Sha512)?;
-    issued(alloc)?.validate_at(alloc, 10, &given, &AcceptAll)
+    judged(alloc, &issued(alloc)?, HashAlg::Sha512, 10)
 }
 
 #[test]
@@ -110,8 +115,7 @@ fn endless(alloc: Global) -> Result<Certificate, Error> {
 }
 
 fn endless_at(alloc: Global, secs: u64) -> Result<(), Error> {
-    let given = fingerprints(alloc, HashAlg::Sha256)?;
-    endless(alloc)?.validate_at(alloc, secs, &given, &AcceptAll)
+    judged(alloc, &endless(alloc)?, HashAlg::Sha256, secs)
 }
 
 #[test]
@@ -124,13 +128,26 @@ fn without_an_end(rt: HostRuntime) {
     assert!(rt; endless_at(rt.alloc(), MAX_SECS + 1) == Err(Error::Time));
 }
 
-/// What a validation for a wanted principal answers, of a certificate for `a` alone.
-fn wanted_at(alloc: Global, secs: u64, wanted: &str) -> Result<(), Error> {
+/// A certificate for `a` alone.
+fn issued_to_one(alloc: Global) -> Result<Certificate, Error> {
     let mut builder = builder(alloc, 10, 20)?;
     builder.valid_principal(String::from_str(alloc, "a")?)?;
-    let certificate = builder.sign(alloc, &signer())?;
-    let given = fingerprints(alloc, HashAlg::Sha256)?;
+    builder.sign(alloc, &signer())
+}
+
+/// What its validation for a wanted principal answers.
+fn wanted_of(
+    alloc: Global,
+    certificate: &Certificate,
+    secs: u64,
+    wanted: &str,
+) -> Result<(), Error> {
+    let given = [KEY.fingerprint(alloc, HashAlg::Sha256)?];
     certificate.validate_principal_at(alloc, secs, wanted, &given, &AcceptAll)
+}
+
+fn wanted_at(alloc: Global, secs: u64, wanted: &str) -> Result<(), Error> {
+    wanted_of(alloc, &issued_to_one(alloc)?, secs, wanted)
 }
 
 #[test]
