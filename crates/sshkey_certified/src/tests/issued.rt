@@ -46,21 +46,38 @@ fn issued(alloc: Global) -> Result<Certificate, Error> {
     builder.sign(alloc, &signer())
 }
 
+fn is_written(alloc: Global, certificate: &Certificate, blob: &[u8]) -> bool {
+    match certificate.to_bytes(alloc) {
+        Ok(bytes) => bytes.as_slice() == blob,
+        Err(_) => false,
+    }
+}
+
+fn is_read(alloc: Global, certificate: &Certificate, blob: &[u8]) -> bool {
+    match Certificate::from_bytes(alloc, blob) {
+        Ok(read) => read == *certificate,
+        Err(_) => false,
+    }
+}
+
 /// It is written as these bytes, and read from them.
 fn is_spelled(alloc: Global, certificate: &Certificate, digits: &str) -> bool {
-    let Ok(bytes) = hex::decode(alloc, digits) else {
-        return false;
-    };
-    certificate.to_bytes(alloc).as_ref() == Ok(&bytes)
-        && Certificate::from_bytes(alloc, &bytes).as_ref() == Ok(certificate)
+    match hex::decode(alloc, digits) {
+        Ok(blob) => is_written(alloc, certificate, &blob) && is_read(alloc, certificate, &blob),
+        Err(_) => false,
+    }
+}
+
+fn issued_is_spelled(alloc: Global) -> bool {
+    match issued(alloc) {
+        Ok(certificate) => is_spelled(alloc, &certificate, ISSUED),
+        Err(_) => false,
+    }
 }
 
 #[test]
 fn one_is_issued_down_to_the_byte(rt: HostRuntime) {
-    let certificate = issued(rt.alloc());
-    assert!(rt;
-        matches!(&certificate, Ok(certificate) if is_spelled(rt.alloc(), certificate, ISSUED))
-    );
+    assert!(rt; issued_is_spelled(rt.alloc()));
 }
 
 /// What a validation at that time answers, for the fingerprint of `KEY` by that hash.
@@ -89,9 +106,13 @@ fn its_window_has_both_its_ends(rt: HostRuntime) {
 }
 
 /// What a validation by a verifier that refuses all answers.
-fn refused_at(alloc: Global, secs: u64) -> Result<(), Error> {
+fn refused(alloc: Global, certificate: &Certificate, secs: u64) -> Result<(), Error> {
     let given = [KEY.fingerprint(alloc, HashAlg::Sha256)?];
-    issued(alloc)?.validate_at(alloc, secs, &given, &RefuseAll)
+    certificate.validate_at(alloc, secs, &given, &RefuseAll)
+}
+
+fn refused_at(alloc: Global, secs: u64) -> Result<(), Error> {
+    refused(alloc, &issued(alloc)?, secs)
 }
 
 /// What one for another fingerprint answers.
@@ -114,14 +135,20 @@ fn endless(alloc: Global) -> Result<Certificate, Error> {
     builder.sign(alloc, &signer())
 }
 
+fn is_endless(alloc: Global) -> bool {
+    match endless(alloc) {
+        Ok(it) => it.is_forever() && it.valid_before() == FOREVER,
+        Err(_) => false,
+    }
+}
+
 fn endless_at(alloc: Global, secs: u64) -> Result<(), Error> {
     judged(alloc, &endless(alloc)?, HashAlg::Sha256, secs)
 }
 
 #[test]
 fn without_an_end(rt: HostRuntime) {
-    let certificate = endless(rt.alloc());
-    assert!(rt; matches!(&certificate, Ok(it) if it.is_forever() && it.valid_before() == FOREVER));
+    assert!(rt; is_endless(rt.alloc()));
     assert!(rt; endless_at(rt.alloc(), 9) == Err(Error::CertificateValidation));
     assert!(rt; endless_at(rt.alloc(), 10) == Ok(()));
     assert!(rt; endless_at(rt.alloc(), MAX_SECS) == Ok(()));

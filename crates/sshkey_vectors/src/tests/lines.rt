@@ -131,11 +131,15 @@ fn fault_of_group() -> encoding::Result<bool> {
     Ok((all, some) == (9, 6) && reader.read(&mut one) == Err(encoding::Error::Base64))
 }
 
+/// How many bytes a word of padding alone announces.
+fn len_of_padding() -> encoding::Result<usize> {
+    Ok(Base64Reader::new("====")?.remaining_len())
+}
+
 #[test]
 fn a_fault_is_met_in_its_group(rt: HostRuntime) {
     assert!(rt; fault_of_group() == Ok(true));
-    let padding = Base64Reader::new("====");
-    assert!(rt; matches!(&padding, Ok(reader) if reader.remaining_len() == 1));
+    assert!(rt; len_of_padding() == Ok(1));
     assert!(rt; Base64Reader::new("AAA").is_err());
 }
 
@@ -152,11 +156,17 @@ fn takes_no_memory(key: &PublicKey) -> bool {
         && is_written_into(key, 80, WITHOUT_COMMENT)
 }
 
+fn is_without_comment(alloc: Global) -> bool {
+    match PublicKey::from_openssh(alloc, WITHOUT_COMMENT) {
+        Ok(key) => takes_no_memory(&key),
+        Err(_) => false,
+    }
+}
+
 /// Passes too where every request for memory is refused.
 #[test]
 fn a_line_without_comment_takes_no_memory(rt: HostRuntime) {
-    let key = PublicKey::from_openssh(rt.alloc(), WITHOUT_COMMENT);
-    assert!(rt; matches!(&key, Ok(key) if takes_no_memory(key)));
+    assert!(rt; is_without_comment(rt.alloc()));
 }
 
 /// One byte less than the line has is filled with its beginning.
@@ -167,10 +177,16 @@ fn is_begun(key: &KeyData, comment: &str) -> bool {
     answer == Err(encoding::Error::Length) && LINE.as_bytes().starts_with(writer.written())
 }
 
+fn does_not_fit(alloc: Global) -> bool {
+    match read_line::<KeyData>(alloc, LINE) {
+        Ok((key, comment)) => is_begun(&key, comment.as_str()),
+        Err(_) => false,
+    }
+}
+
 #[test]
 fn a_line_that_does_not_fit_is_begun(rt: HostRuntime) {
-    let read = read_line::<KeyData>(rt.alloc(), LINE);
-    assert!(rt; matches!(&read, Ok((key, comment)) if is_begun(key, comment.as_str())));
+    assert!(rt; does_not_fit(rt.alloc()));
 }
 
 /// A key whose blob has so many bytes behind its name, so that it takes more than one window.
@@ -189,18 +205,23 @@ fn is_written_again(alloc: Global, line: &str) -> bool {
     }
 }
 
-#[test]
-fn a_long_key_is_written_window_by_window(rt: HostRuntime) {
-    let line = long_line(rt.alloc());
-    assert!(rt; matches!(&line, Some(line) if is_written_again(rt.alloc(), line.as_str())));
+fn is_long(alloc: Global) -> bool {
+    match long_line(alloc) {
+        Some(line) => is_written_again(alloc, line.as_str()),
+        None => false,
+    }
 }
 
-/// The key of the line has this comment, algorithm and fingerprint.
-fn has_parts(alloc: Global, key: &PublicKey) -> bool {
-    let algorithm = key.algorithm(alloc);
-    key.comment() == "user@example.com"
-        && matches!(&algorithm, Ok(algorithm) if algorithm.as_str() == "ssh-ed25519")
-        && has_fingerprint(alloc, key)
+#[test]
+fn a_long_key_is_written_window_by_window(rt: HostRuntime) {
+    assert!(rt; is_long(rt.alloc()));
+}
+
+fn has_algorithm(alloc: Global, key: &PublicKey) -> bool {
+    match key.algorithm(alloc) {
+        Ok(algorithm) => algorithm.as_str() == "ssh-ed25519",
+        Err(_) => false,
+    }
 }
 
 fn has_fingerprint(alloc: Global, key: &PublicKey) -> bool {
@@ -260,10 +281,21 @@ fn is_of_its_data(alloc: Global, read: PublicKey) -> bool {
     }
 }
 
+/// The key of the line has this comment, algorithm and fingerprint, a copy, and bytes.
+fn has_parts(alloc: Global) -> bool {
+    match PublicKey::from_openssh(alloc, LINE) {
+        Ok(key) => {
+            key.comment() == "user@example.com"
+                && has_algorithm(alloc, &key)
+                && has_fingerprint(alloc, &key)
+                && is_copied(alloc, &key)
+                && is_bare(alloc, &key)
+        }
+        Err(_) => false,
+    }
+}
+
 #[test]
 fn keys_have_their_parts(rt: HostRuntime) {
-    let key = PublicKey::from_openssh(rt.alloc(), LINE);
-    assert!(rt; matches!(&key, Ok(key) if has_parts(rt.alloc(), key)));
-    assert!(rt; matches!(&key, Ok(key) if is_copied(rt.alloc(), key)));
-    assert!(rt; matches!(&key, Ok(key) if is_bare(rt.alloc(), key)));
+    assert!(rt; has_parts(rt.alloc()));
 }

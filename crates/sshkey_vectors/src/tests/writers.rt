@@ -27,14 +27,20 @@ fn with_two_more(alloc: Global) -> Result<Vec<u8>> {
     Ok(written)
 }
 
+fn is_longer(alloc: Global) -> bool {
+    match with_two_more(alloc) {
+        Ok(it) => it.len() == 13 && it.starts_with(&TESTING) && it.ends_with(&[1, 2]),
+        Err(_) => false,
+    }
+}
+
 /// A string in each of the types that hold one, and two bytes more.
 fn strings(alloc: Global) -> bool {
-    let longer = with_two_more(alloc);
     is_testing(alloc, &"testing")
         && is_testing(alloc, b"testing")
         && is_testing(alloc, &b"testing".as_slice())
         && string_len(b"testing") == Ok(11)
-        && matches!(&longer, Ok(it) if it.len() == 13 && it.starts_with(&TESTING) && it.ends_with(&[1, 2]))
+        && is_longer(alloc)
 }
 
 #[test]
