@@ -1,9 +1,6 @@
-//! Verifiers, a signer and a generator for tests; and the tests of the crates below that are no lines of the table in
-//! `sshkey_cases`.
+//! The tests of the crates below that are no lines of the table in `sshkey_cases`, but for those of
+//! certificates.
 #![tactic(auto)]
 
-mod doubles;
 #[cfg(test)]
 mod tests;
-
-pub use doubles::{AcceptAll, Count, Fixed, Only, RefuseAll};

@@ -2,12 +2,7 @@
 //! readers, writers, inputs and outputs that fail; and verifiers. A test asserts answers of yes or
 //! no, since one with a `?` at every call takes longer to prove.
 
-mod certificate_lines;
-mod certificates;
-mod certified;
 mod errors;
-mod hashed_authorities;
-mod issued;
 mod key_files;
 mod keys;
 mod kinds;

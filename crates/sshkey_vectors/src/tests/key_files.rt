@@ -1,34 +1,58 @@
 //! Public keys in files.
 
 use ssh_key::{Error, PublicKey};
-use std::fs;
+use std::alloc::Global;
+use std::fs::{self, Files};
 use std::io::ErrorKind;
-use std::test::Fail;
 
 const LINE: &str =
     "ssh-ed25519 AAAAC3NzaC1lZDI1NTE5AAAAILM+rvN+ot98qgEN796jTiQfZfG1KaT0PtFDJ/XFSqti user@example.com";
 
+/// Writes the key of the line into the file.
+fn is_written<R: Files>(rt: &R, alloc: Global, path: &str) -> bool {
+    match PublicKey::from_openssh(alloc, LINE) {
+        Ok(key) => key.write_openssh_file(rt, alloc, path).is_ok(),
+        Err(_) => false,
+    }
+}
+
+/// The key in the file is that of the line.
+fn is_read<R: Files>(rt: &R, alloc: Global, path: &str) -> bool {
+    match PublicKey::read_openssh_file(rt, alloc, path) {
+        Ok(key) => is_of_line(alloc, &key),
+        Err(_) => false,
+    }
+}
+
+fn is_of_line(alloc: Global, key: &PublicKey) -> bool {
+    match PublicKey::from_openssh(alloc, LINE) {
+        Ok(wanted) => *key == wanted,
+        Err(_) => false,
+    }
+}
+
+/// The fault that is met where the file is read.
+fn fault<R: Files>(rt: &R, alloc: Global, path: &str) -> Option<Error> {
+    PublicKey::read_openssh_file(rt, alloc, path).err()
+}
+
 #[test]
-fn a_written_file_is_read_back(rt: HostRuntime) -> Result<(), Fail> {
-    let key = PublicKey::from_openssh(rt.alloc(), LINE)?;
-    key.write_openssh_file(&rt, rt.alloc(), "written_key.pub")?;
-    let read = PublicKey::read_openssh_file(&rt, rt.alloc(), "written_key.pub")?;
-    assert!(rt; read == key);
-    fs::remove_file(&rt, "written_key.pub")?;
-    Ok(())
+fn a_written_file_is_read_back(rt: HostRuntime) {
+    assert!(rt; is_written(&rt, rt.alloc(), "written_key.pub"));
+    assert!(rt; is_read(&rt, rt.alloc(), "written_key.pub"));
+    assert!(rt; fs::remove_file(&rt, "written_key.pub").is_ok());
 }
 
 #[test]
 fn a_missing_file_is_not_found(rt: HostRuntime) {
-    let read = PublicKey::read_openssh_file(&rt, rt.alloc(), "no_such_key.pub");
-    assert!(rt; matches!(read, Err(Error::Io(ErrorKind::NotFound))));
+    let found = fault(&rt, rt.alloc(), "no_such_key.pub");
+    assert!(rt; found == Some(Error::Io(ErrorKind::NotFound)));
 }
 
 #[test]
-fn a_file_that_is_no_text_is_refused(rt: HostRuntime) -> Result<(), Fail> {
-    fs::write(&rt, "no_text.pub", b"\xff")?;
-    let read = PublicKey::read_openssh_file(&rt, rt.alloc(), "no_text.pub");
-    assert!(rt; matches!(read, Err(Error::Io(ErrorKind::InvalidData))));
-    fs::remove_file(&rt, "no_text.pub")?;
-    Ok(())
+fn a_file_that_is_no_text_is_refused(rt: HostRuntime) {
+    assert!(rt; fs::write(&rt, "no_text.pub", b"\xff").is_ok());
+    let found = fault(&rt, rt.alloc(), "no_text.pub");
+    assert!(rt; found == Some(Error::Io(ErrorKind::InvalidData)));
+    assert!(rt; fs::remove_file(&rt, "no_text.pub").is_ok());
 }

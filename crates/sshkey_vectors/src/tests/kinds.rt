@@ -35,58 +35,105 @@ fn is_a_key(alloc: Global) -> Result<bool> {
     )
 }
 
+/// The key is equal to that of the same point and application.
+fn is_same_application(alloc: Global, key: &SkEcdsaSha2NistP256) -> bool {
+    match String::from_str(alloc, "ssh:") {
+        Ok(application) => are_alike(key, &SkEcdsaSha2NistP256::new(*key.ec_point(), application)),
+        Err(_) => false,
+    }
+}
+
 /// The point for an application, and the point of that key again.
-fn is_for_an_application(alloc: Global) -> Result<bool> {
-    let point = EcPoint::from_bytes(&BASE_POINT)?;
-    let key = SkEcdsaSha2NistP256::with_default_application(alloc, point)?;
-    let same = SkEcdsaSha2NistP256::new(point, String::from_str(alloc, "ssh:")?);
-    Ok(
-        are_alike(&key, &same)
-            && key.application() == "ssh:"
-            && *key.ec_point() == point
-            && EcdsaNistP256PublicKey::from(key) == point,
-    )
+fn is_of_point(alloc: Global, point: EcdsaNistP256PublicKey) -> bool {
+    match SkEcdsaSha2NistP256::with_default_application(alloc, point) {
+        Ok(key) => {
+            key.application() == "ssh:"
+                && *key.ec_point() == point
+                && is_same_application(alloc, &key)
+                && EcdsaNistP256PublicKey::from(key) == point
+        }
+        Err(_) => false,
+    }
+}
+
+fn is_for_an_application(alloc: Global) -> bool {
+    match EcPoint::from_bytes(&BASE_POINT) {
+        Ok(point) => is_of_point(alloc, point),
+        Err(_) => false,
+    }
 }
 
 #[test]
 fn points(rt: HostRuntime) {
     assert!(rt; is_a_key(rt.alloc()) == Ok(true));
-    assert!(rt; is_for_an_application(rt.alloc()) == Ok(true));
+    assert!(rt; is_for_an_application(rt.alloc()));
+}
+
+/// The key is equal to that of the same bytes and application.
+fn is_same_plain(alloc: Global, key: &SkEd25519) -> bool {
+    match String::from_str(alloc, "ssh:") {
+        Ok(application) => are_alike(key, &SkEd25519::new(*key.public_key(), application)),
+        Err(_) => false,
+    }
 }
 
 /// 32 bytes as a key, for an application, and the key of that again.
-fn bytes_for_an_application(alloc: Global) -> Result<bool> {
-    let plain = Ed25519PublicKey([0xab; 32]);
-    let key = SkEd25519::with_default_application(alloc, plain)?;
-    let same = SkEd25519::new(plain, String::from_str(alloc, "ssh:")?);
-    let forms = Forms(&plain).to_string(alloc)?;
-    Ok(
-        are_alike(&key, &same)
-            && forms.starts_with("ABABAB")
-            && forms.ends_with(" abababababababababababababababababababababababababababababababab")
-            && key.application() == "ssh:"
-            && *key.public_key() == plain
-            && plain.as_slice().len() == Ed25519PublicKey::BYTE_SIZE
-            && Ed25519PublicKey::from(key) == plain,
-    )
+fn bytes_for_an_application(alloc: Global, plain: Ed25519PublicKey) -> bool {
+    match SkEd25519::with_default_application(alloc, plain) {
+        Ok(key) => {
+            key.application() == "ssh:"
+                && *key.public_key() == plain
+                && is_same_plain(alloc, &key)
+                && Ed25519PublicKey::from(key) == plain
+        }
+        Err(_) => false,
+    }
+}
+
+/// The forms of 32 bytes.
+fn has_forms(alloc: Global, plain: Ed25519PublicKey) -> bool {
+    plain.as_slice().len() == Ed25519PublicKey::BYTE_SIZE
+        && shows(
+            alloc,
+            &Forms(&plain),
+            "ABABABABABABABABABABABABABABABABABABABABABABABABABABABABABABABAB abababababababababababababababababababababababababababababababab",
+        )
+}
+
+fn opaque_key(alloc: Global) -> Result<OpaquePublicKey> {
+    let bytes = Vec::from_slice(alloc, b"abc")?;
+    Ok(OpaquePublicKey::new(bytes, Algorithm::SkEd25519))
+}
+
+/// The copies of an opaque key and of its bytes.
+fn is_copied(alloc: Global, key: &OpaquePublicKey) -> bool {
+    match key.try_clone(alloc) {
+        Ok(copy) => are_alike(key, &copy) && *copy.algorithm() == Algorithm::SkEd25519,
+        Err(_) => false,
+    }
+}
+
+fn has_bytes(alloc: Global, key: &OpaquePublicKey) -> bool {
+    match key.key.try_clone(alloc) {
+        Ok(bytes) => are_alike(&key.key, &bytes) && bytes.as_slice() == b"abc".as_slice(),
+        Err(_) => false,
+    }
 }
 
 /// An opaque key, its copy and its parts.
-fn opaque(alloc: Global) -> Result<bool> {
-    let key = OpaquePublicKey::new(Vec::from_slice(alloc, b"abc")?, Algorithm::SkEd25519);
-    let copy = key.try_clone(alloc)?;
-    let bytes = key.key.try_clone(alloc)?;
-    Ok(
-        are_alike(&key, &copy)
-            && are_alike(&key.key, &bytes)
-            && key.as_slice() == b"abc".as_slice()
-            && bytes.as_slice() == b"abc".as_slice()
-            && *copy.algorithm() == Algorithm::SkEd25519,
-    )
+fn opaque(alloc: Global) -> bool {
+    match opaque_key(alloc) {
+        Ok(key) => {
+            key.as_slice() == b"abc".as_slice() && is_copied(alloc, &key) && has_bytes(alloc, &key)
+        }
+        Err(_) => false,
+    }
 }
 
 #[test]
 fn keys_of_bytes(rt: HostRuntime) {
-    assert!(rt; bytes_for_an_application(rt.alloc()) == Ok(true));
-    assert!(rt; opaque(rt.alloc()) == Ok(true));
+    let plain = Ed25519PublicKey([0xab; 32]);
+    assert!(rt; bytes_for_an_application(rt.alloc(), plain));
+    assert!(rt; has_forms(rt.alloc(), plain));
+    assert!(rt; opaque(rt.alloc()));
 }

@@ -1,10 +1,10 @@
 //! Key lines, read and written.
 
+use super::support::shows;
 use ssh_key::encoding::{Reader, SliceWriter};
 use ssh_key::public::KeyData;
 use ssh_key::{Base64Reader, Error, HashAlg, PublicKey, encoding, read_line, write_line};
-use std::alloc::Global;
-use std::test::Fail;
+use std::alloc::{AllocError, Global};
 
 const LINE: &str =
     "ssh-ed25519 AAAAC3NzaC1lZDI1NTE5AAAAILM+rvN+ot98qgEN796jTiQfZfG1KaT0PtFDJ/XFSqti user@example.com";
@@ -32,19 +32,33 @@ const WRITTEN: [(&str, &str); 5] = [
     ),
 ];
 
+/// The key and its comment are written as that text.
+fn is_text(alloc: Global, key: &PublicKey, wanted: &str) -> bool {
+    match key.to_openssh(alloc) {
+        Ok(text) => text.as_str() == wanted,
+        Err(_) => false,
+    }
+}
+
+/// They are written so to a vector.
+fn is_in_vector(alloc: Global, key: &PublicKey, wanted: &str) -> bool {
+    let mut bytes = Vec::new(alloc);
+    let answer = write_line(key.key_data(), key.comment(), &mut bytes);
+    answer == Ok(()) && bytes.as_slice() == wanted.as_bytes()
+}
+
 /// Whether that is written of the line: as a text, to a vector, and into a slice with just room for
 /// it, but not with less.
-fn is_written(alloc: Global, line: &str, wanted: &str) -> ssh_key::Result<bool> {
-    let key = PublicKey::from_openssh(alloc, line)?;
-    let text = key.to_openssh(alloc)?;
-    let mut bytes = Vec::new(alloc);
-    write_line(key.key_data(), key.comment(), &mut bytes)?;
-    Ok(
-        text.as_str() == wanted
-            && bytes.as_slice() == wanted.as_bytes()
-            && is_written_into(&key, wanted.len(), wanted)
-            && !is_written_into(&key, wanted.len() - 1, wanted),
-    )
+fn is_written(alloc: Global, line: &str, wanted: &str) -> bool {
+    match PublicKey::from_openssh(alloc, line) {
+        Ok(key) => {
+            is_text(alloc, &key, wanted)
+                && is_in_vector(alloc, &key, wanted)
+                && is_written_into(&key, wanted.len(), wanted)
+                && !is_written_into(&key, wanted.len().saturating_sub(1), wanted)
+        }
+        Err(_) => false,
+    }
 }
 
 /// Whether the line is written into so much room, and is that text.
@@ -60,112 +74,228 @@ fn is_written_into(key: &PublicKey, room: usize, text: &str) -> bool {
 }
 
 #[test]
-fn lines_are_written_from_what_was_read(rt: HostRuntime) -> Result<(), Fail> {
-    assert_eq!(rt; LINE.len(), 97);
+fn lines_are_written_from_what_was_read(rt: HostRuntime) {
     for (line, wanted) in WRITTEN {
-        assert!(rt; is_written(rt.alloc(), line, wanted)?, "{line}");
+        assert!(rt; is_written(rt.alloc(), line, wanted), "{line}");
     }
-    Ok(())
+}
+
+/// Ed25519's line with more behind its word.
+fn with_end(alloc: Global, end: &str) -> Result<String, AllocError> {
+    format!(in alloc; "ssh-ed25519 {WORD}{end}")
+}
+
+fn is_refused(alloc: Global, end: &str) -> bool {
+    match with_end(alloc, end) {
+        Ok(line) => PublicKey::from_openssh(alloc, line.as_str()).is_err(),
+        Err(_) => false,
+    }
 }
 
 #[test]
-fn words_with_more_behind_them_are_refused(rt: HostRuntime) -> Result<(), Fail> {
+fn words_with_more_behind_them_are_refused(rt: HostRuntime) {
     for end in ["AAAA", "A=AA", "@AAA", "====", "AA==", "="] {
-        let line = format!(in rt.alloc(); "ssh-ed25519 {WORD}{end}")?;
-        assert!(rt;
-            PublicKey::from_openssh(rt.alloc(), line.as_str()).is_err(),
-            "{end}"
-        );
+        assert!(rt; is_refused(rt.alloc(), end), "{end}");
     }
-    Ok(())
 }
 
-#[test]
-fn a_word_is_read_in_pieces(rt: HostRuntime) -> Result<(), Fail> {
+/// A word of eleven bytes, read in pieces of one, four and six.
+fn in_pieces() -> encoding::Result<bool> {
     let mut reader = Base64Reader::new("AQIDBAUGBwgJCgs=")?;
-    assert_eq!(rt; reader.remaining_len(), 11);
+    let all = reader.remaining_len();
     let (mut one, mut four, mut six) = ([0u8; 1], [0u8; 4], [0u8; 6]);
     reader.read(&mut one)?;
     reader.read(&mut four)?;
-    assert_eq!(rt; reader.remaining_len(), 6);
+    let some = reader.remaining_len();
     reader.read(&mut six)?;
-    assert_eq!(rt; (one, four, six), ([1], [2, 3, 4, 5], [6, 7, 8, 9, 10, 11]));
-    assert!(rt; reader.is_finished());
-    assert_eq!(rt; reader.read(&mut one), Err(encoding::Error::Length));
-    Ok(())
+    Ok(
+        (all, some) == (11, 6)
+            && (one, four, six) == ([1], [2, 3, 4, 5], [6, 7, 8, 9, 10, 11])
+            && reader.is_finished()
+            && reader.read(&mut one) == Err(encoding::Error::Length),
+    )
 }
 
 #[test]
-fn a_fault_is_met_in_its_group(rt: HostRuntime) -> Result<(), Fail> {
+fn a_word_is_read_in_pieces(rt: HostRuntime) {
+    assert!(rt; in_pieces() == Ok(true));
+}
+
+/// The padding stands in the second of three groups.
+fn fault_of_group() -> encoding::Result<bool> {
     let mut reader = Base64Reader::new("AQIDBA==AQID")?;
-    assert_eq!(rt; reader.remaining_len(), 9);
+    let all = reader.remaining_len();
     let (mut three, mut one) = ([0u8; 3], [0u8; 1]);
     reader.read(&mut three)?;
-    assert_eq!(rt; reader.remaining_len(), 6);
-    assert_eq!(rt; reader.read(&mut one), Err(encoding::Error::Base64));
-    assert_eq!(rt; Base64Reader::new("====")?.remaining_len(), 1);
+    let some = reader.remaining_len();
+    Ok((all, some) == (9, 6) && reader.read(&mut one) == Err(encoding::Error::Base64))
+}
+
+/// How many bytes a word of padding alone announces.
+fn len_of_padding() -> encoding::Result<usize> {
+    Ok(Base64Reader::new("====")?.remaining_len())
+}
+
+#[test]
+fn a_fault_is_met_in_its_group(rt: HostRuntime) {
+    assert!(rt; fault_of_group() == Ok(true));
+    assert!(rt; len_of_padding() == Ok(1));
     assert!(rt; Base64Reader::new("AAA").is_err());
-    Ok(())
 }
 
 const WITHOUT_COMMENT: &str =
     "ssh-ed25519 AAAAC3NzaC1lZDI1NTE5AAAAILM+rvN+ot98qgEN796jTiQfZfG1KaT0PtFDJ/XFSqti";
 
-/// Passes too where every request for memory is refused.
-#[test]
-fn a_line_without_comment_takes_no_memory(rt: HostRuntime) -> Result<(), Fail> {
-    let key = PublicKey::from_openssh(rt.alloc(), WITHOUT_COMMENT)?;
+/// The line of the key is written into a slice, by a writer too.
+fn takes_no_memory(key: &PublicKey) -> bool {
     let mut out = [0u8; 80];
     let mut writer = SliceWriter::new(&mut out);
-    write_line(key.key_data(), key.comment(), &mut writer)?;
-    assert!(rt; writer.written() == WITHOUT_COMMENT.as_bytes());
-    assert!(rt; is_written_into(&key, 80, WITHOUT_COMMENT));
-    Ok(())
+    let answer = write_line(key.key_data(), key.comment(), &mut writer);
+    answer == Ok(())
+        && writer.written() == WITHOUT_COMMENT.as_bytes()
+        && is_written_into(key, 80, WITHOUT_COMMENT)
+}
+
+fn is_without_comment(alloc: Global) -> bool {
+    match PublicKey::from_openssh(alloc, WITHOUT_COMMENT) {
+        Ok(key) => takes_no_memory(&key),
+        Err(_) => false,
+    }
+}
+
+/// Passes too where every request for memory is refused.
+#[test]
+fn a_line_without_comment_takes_no_memory(rt: HostRuntime) {
+    assert!(rt; is_without_comment(rt.alloc()));
+}
+
+/// One byte less than the line has is filled with its beginning.
+fn is_begun(key: &KeyData, comment: &str) -> bool {
+    let mut out = [0u8; 96];
+    let mut writer = SliceWriter::new(&mut out);
+    let answer = write_line(key, comment, &mut writer);
+    answer == Err(encoding::Error::Length) && LINE.as_bytes().starts_with(writer.written())
+}
+
+fn does_not_fit(alloc: Global) -> bool {
+    match read_line::<KeyData>(alloc, LINE) {
+        Ok((key, comment)) => is_begun(&key, comment.as_str()),
+        Err(_) => false,
+    }
 }
 
 #[test]
-fn a_line_that_does_not_fit_is_begun(rt: HostRuntime) -> Result<(), Fail> {
-    let (key, comment) = read_line::<KeyData>(rt.alloc(), LINE)?;
-    let mut out = [0u8; 96];
-    let mut writer = SliceWriter::new(&mut out);
-    let refused = write_line(&key, comment.as_str(), &mut writer);
-    assert_eq!(rt; refused, Err(encoding::Error::Length));
-    assert!(rt; LINE.as_bytes().starts_with(writer.written()));
-    Ok(())
+fn a_line_that_does_not_fit_is_begun(rt: HostRuntime) {
+    assert!(rt; does_not_fit(rt.alloc()));
 }
 
 /// A key whose blob has so many bytes behind its name, so that it takes more than one window.
-fn long_line(alloc: Global) -> Result<String, Fail> {
-    let groups = String::from_str(alloc, "CAgI")?.repeat(alloc, 1365)?;
-    Ok(format!(in alloc; "name@example.com AAAAEG5hbWVAZXhhbXBsZS5jb20AABAA{groups}CA== c")?)
+fn long_line(alloc: Global) -> Option<String> {
+    let group = String::from_str(alloc, "CAgI").ok()?;
+    let groups = group.repeat(alloc, 1365).ok()?;
+    let line = format!(in alloc; "name@example.com AAAAEG5hbWVAZXhhbXBsZS5jb20AABAA{groups}CA== c");
+    line.ok()
+}
+
+/// The line is written of the key that is read from it.
+fn is_written_again(alloc: Global, line: &str) -> bool {
+    match PublicKey::from_openssh(alloc, line) {
+        Ok(key) => is_in_vector(alloc, &key, line),
+        Err(_) => false,
+    }
+}
+
+fn is_long(alloc: Global) -> bool {
+    match long_line(alloc) {
+        Some(line) => is_written_again(alloc, line.as_str()),
+        None => false,
+    }
 }
 
 #[test]
-fn a_long_key_is_written_window_by_window(rt: HostRuntime) -> Result<(), Fail> {
-    let line = long_line(rt.alloc())?;
-    let (key, comment) = read_line::<KeyData>(rt.alloc(), line.as_str())?;
-    let mut bytes = Vec::new(rt.alloc());
-    write_line(&key, comment.as_str(), &mut bytes)?;
-    assert!(rt; bytes.as_slice() == line.as_str().as_bytes());
-    Ok(())
+fn a_long_key_is_written_window_by_window(rt: HostRuntime) {
+    assert!(rt; is_long(rt.alloc()));
+}
+
+fn has_algorithm(alloc: Global, key: &PublicKey) -> bool {
+    match key.algorithm(alloc) {
+        Ok(algorithm) => algorithm.as_str() == "ssh-ed25519",
+        Err(_) => false,
+    }
+}
+
+fn has_fingerprint(alloc: Global, key: &PublicKey) -> bool {
+    match key.fingerprint(alloc, HashAlg::Sha256) {
+        Ok(it) => shows(
+            alloc,
+            &it,
+            "SHA256:UCUiLr7Pjs9wFFJMDByLgc3NrtdU344OgUM45wZPcIQ",
+        ),
+        Err(_) => false,
+    }
+}
+
+/// Its copy is equal, and behind it under another comment.
+fn is_copied(alloc: Global, key: &PublicKey) -> bool {
+    match key.try_clone(alloc) {
+        Ok(copy) => copy == *key && is_less_with_comment(alloc, key, copy),
+        Err(_) => false,
+    }
+}
+
+fn is_less_with_comment(alloc: Global, key: &PublicKey, copy: PublicKey) -> bool {
+    let mut other = copy;
+    match String::from_str(alloc, "z") {
+        Ok(comment) => {
+            other.set_comment(comment);
+            *key < other && other.comment() == "z"
+        }
+        Err(_) => false,
+    }
+}
+
+/// Without its comment it is read from its bytes.
+fn is_bare(alloc: Global, key: &PublicKey) -> bool {
+    match key.to_bytes(alloc) {
+        Ok(bytes) => is_read_bare(alloc, key, &bytes),
+        Err(_) => false,
+    }
+}
+
+fn is_read_bare(alloc: Global, key: &PublicKey, bytes: &[u8]) -> bool {
+    match PublicKey::from_bytes(alloc, bytes) {
+        Ok(read) => {
+            read.comment().is_empty()
+                && read.key_data() == key.key_data()
+                && is_of_its_data(alloc, read)
+        }
+        Err(_) => false,
+    }
+}
+
+/// A key with no comment is that of its data.
+fn is_of_its_data(alloc: Global, read: PublicKey) -> bool {
+    match read.try_clone(alloc) {
+        Ok(copy) => PublicKey::from_key_data(alloc, KeyData::from(copy)) == read,
+        Err(_) => false,
+    }
+}
+
+/// The key of the line has this comment, algorithm and fingerprint, a copy, and bytes.
+fn has_parts(alloc: Global) -> bool {
+    match PublicKey::from_openssh(alloc, LINE) {
+        Ok(key) => {
+            key.comment() == "user@example.com"
+                && has_algorithm(alloc, &key)
+                && has_fingerprint(alloc, &key)
+                && is_copied(alloc, &key)
+                && is_bare(alloc, &key)
+        }
+        Err(_) => false,
+    }
 }
 
 #[test]
-fn keys_have_their_parts(rt: HostRuntime) -> Result<(), Fail> {
-    let alloc = rt.alloc();
-    let mut key = PublicKey::from_openssh(alloc, LINE)?;
-    assert!(rt; key.comment() == "user@example.com");
-    assert!(rt; key.algorithm(alloc)?.as_str() == "ssh-ed25519");
-    let fingerprint = format!(in alloc; "{}", key.fingerprint(alloc, HashAlg::Sha256)?)?;
-    assert!(rt; fingerprint.as_str() == "SHA256:UCUiLr7Pjs9wFFJMDByLgc3NrtdU344OgUM45wZPcIQ");
-    let copy = key.try_clone(alloc)?;
-    assert!(rt; copy == key);
-    key.set_comment(String::from_str(alloc, "z")?);
-    assert!(rt; copy < key && key.comment() == "z");
-    let bytes = key.to_bytes(alloc)?;
-    let read = PublicKey::from_bytes(alloc, &bytes)?;
-    assert!(rt; read.comment().is_empty() && read.key_data() == key.key_data());
-    let bare = PublicKey::from_key_data(alloc, KeyData::from(key));
-    assert!(rt; bare == read);
-    Ok(())
+fn keys_have_their_parts(rt: HostRuntime) {
+    assert!(rt; has_parts(rt.alloc()));
 }

@@ -1,7 +1,7 @@
 //! Key pairs.
 
 use super::made_pairs::{DSA, ED25519, MadePair, P256, P384, P521, RSA};
-use sshkey_base::{Algorithm, Error, Result, decode_whole, encode_vec, encoding};
+use sshkey_base::{Algorithm, Encode, Error, Result, decode_whole, encode_vec, encoding};
 use sshkey_keypairs::{KeypairData, OpaqueKeypair, SkEd25519};
 use sshkey_kinds::{Ed25519PublicKey, OpaquePublicKey, SkEd25519 as PublicSkEd25519};
 use sshkey_pairs::{EcdsaPrivateKey, Ed25519Keypair, Ed25519PrivateKey};
@@ -15,23 +15,41 @@ pub(super) fn bytes_of(alloc: Global, digits: &str) -> Vec<u8> {
     }
 }
 
+/// The value is written as the bytes that the digits spell.
+fn is_written<T: Encode>(alloc: Global, value: &T, digits: &str) -> bool {
+    match encode_vec(alloc, value) {
+        Ok(written) => written == bytes_of(alloc, digits),
+        Err(_) => false,
+    }
+}
+
+/// Its public half is that of the other file.
+fn has_public_half(alloc: Global, pair: &KeypairData, made: &MadePair) -> bool {
+    match pair.to_public(alloc) {
+        Ok(key) => is_written(alloc, &key, made.public),
+        Err(_) => false,
+    }
+}
+
+fn read(alloc: Global, digits: &str) -> Result<KeypairData> {
+    decode_whole(alloc, bytes_of(alloc, digits).as_slice())
+}
+
 /// The pair is read, its public half is that of the other file, and it is written at full width.
-fn is_kept(alloc: Global, made: &MadePair) -> Result<bool> {
-    let bytes = bytes_of(alloc, made.pair);
-    let pair: KeypairData = decode_whole(alloc, bytes.as_slice())?;
-    let key = pair.to_public(alloc)?;
-    let public = encode_vec(alloc, &key)?;
-    let written = encode_vec(alloc, &pair)?;
-    Ok(
-        public == bytes_of(alloc, made.public)
-            && written == bytes_of(alloc, made.full.unwrap_or(made.pair)),
-    )
+fn is_kept(alloc: Global, made: &MadePair) -> bool {
+    match read(alloc, made.pair) {
+        Ok(pair) => {
+            has_public_half(alloc, &pair, made)
+                && is_written(alloc, &pair, made.full.unwrap_or(made.pair))
+        }
+        Err(_) => false,
+    }
 }
 
 #[test]
 fn pairs_from_openssh(rt: HostRuntime) {
     for made in [DSA, P256, P384, P521, ED25519, RSA] {
-        assert!(rt; is_kept(rt.alloc(), &made) == Ok(true));
+        assert!(rt; is_kept(rt.alloc(), &made));
     }
 }
 
@@ -43,7 +61,7 @@ fn scalar(alloc: Global, string: &str) -> Result<Vec<u8>> {
 }
 
 /// The string is read as a scalar and written so.
-fn is_written(alloc: Global, string: &str, wanted: &str) -> bool {
+fn is_scalar(alloc: Global, string: &str, wanted: &str) -> bool {
     scalar(alloc, string) == Ok(bytes_of(alloc, wanted))
 }
 
@@ -69,10 +87,10 @@ fn scalars(rt: HostRuntime) {
     let two_left = Error::Encoding(encoding::Error::TrailingData { remaining: 2 });
     assert!(rt; scalar(alloc, BEHIND_ONE) == Err(Error::FormatEncoding));
     assert!(rt; scalar(alloc, TWO_BYTES_MORE) == Err(two_left));
-    assert!(rt; is_written(alloc, HIGH, HIGH_BEHIND_ZERO));
-    assert!(rt; is_written(alloc, HIGH_BEHIND_ZERO, HIGH_BEHIND_ZERO));
-    assert!(rt; is_written(alloc, LOW, LOW));
-    assert!(rt; is_written(alloc, LOW_BEHIND_ZERO, LOW));
+    assert!(rt; is_scalar(alloc, HIGH, HIGH_BEHIND_ZERO));
+    assert!(rt; is_scalar(alloc, HIGH_BEHIND_ZERO, HIGH_BEHIND_ZERO));
+    assert!(rt; is_scalar(alloc, LOW, LOW));
+    assert!(rt; is_scalar(alloc, LOW_BEHIND_ZERO, LOW));
     assert!(rt; scalar(alloc, "000000020001") == Err(Error::FormatEncoding));
     assert!(rt; scalar(alloc, "00000001ff") == Err(Error::FormatEncoding));
     assert!(rt; scalar(alloc, "00000002ff") == Err(Error::Encoding(encoding::Error::Length)));
@@ -90,23 +108,34 @@ fn bytes_and_checkint(alloc: Global) -> Result<bool> {
     Ok(same && public && checkint == 0x0100_0000)
 }
 
-/// A pair under a private-use name, and an encrypted one.
-fn not_known(alloc: Global) -> Result<bool> {
+/// A pair under a private-use name.
+fn opaque(alloc: Global) -> Result<OpaqueKeypair> {
     let algorithm = Algorithm::new(alloc, "name@example.com")?;
     let public = OpaquePublicKey::new(Vec::from_slice(alloc, b"ab")?, algorithm);
-    let pair = OpaqueKeypair::new(Vec::from_slice(alloc, b"cde")?, public);
-    let is_named = pair.algorithm().as_str() == "name@example.com";
-    let written = encode_vec(alloc, &pair)?;
-    let encrypted = KeypairData::Encrypted(Vec::from_slice(alloc, b"secret")?);
-    let ciphertext = encode_vec(alloc, &encrypted)?;
-    Ok(
-        is_named
-            && written.as_slice() == b"\0\0\0\x02ab\0\0\0\x03cde".as_slice()
-            && ciphertext.as_slice() == b"secret".as_slice()
-            && encrypted.checkint() == 0
-            && encrypted.to_public(alloc).err() == Some(Error::Encrypted)
-            && encrypted.algorithm(alloc).err() == Some(Error::Encrypted),
-    )
+    Ok(OpaqueKeypair::new(Vec::from_slice(alloc, b"cde")?, public))
+}
+
+/// The pair under that name is written as two strings.
+fn is_opaque(alloc: Global) -> bool {
+    match opaque(alloc) {
+        Ok(pair) => {
+            pair.algorithm().as_str() == "name@example.com"
+                && is_written(alloc, &pair, "00000002616200000003636465")
+        }
+        Err(_) => false,
+    }
+}
+
+/// A pair that was not decrypted has neither an algorithm nor a public half.
+fn has_no_half(alloc: Global, pair: &KeypairData) -> bool {
+    pair.to_public(alloc).err() == Some(Error::Encrypted)
+        && pair.algorithm(alloc).err() == Some(Error::Encrypted)
+}
+
+/// It is its ciphertext.
+fn is_encrypted(alloc: Global) -> bool {
+    let pair = KeypairData::Encrypted(bytes_of(alloc, "736563726574"));
+    is_written(alloc, &pair, "736563726574") && pair.checkint() == 0 && has_no_half(alloc, &pair)
 }
 
 /// A pair of a security key with that many bytes of key handle.
@@ -118,18 +147,38 @@ pub(super) fn held(alloc: Global, len: usize) -> Result<SkEd25519> {
     SkEd25519::new(public, 1, handle)
 }
 
-fn is_held(alloc: Global) -> Result<bool> {
-    let pair = held(alloc, 255)?;
-    let written = encode_vec(alloc, &pair)?;
-    let again: SkEd25519 = decode_whole(alloc, written.as_slice())?;
-    Ok(again == pair && pair.flags() == 1 && pair.key_handle().len() == 255 && written.len() == 308)
+/// What is written of the pair is read as the same pair.
+fn is_read_back(alloc: Global, pair: &SkEd25519, written: &[u8]) -> bool {
+    match decode_whole::<SkEd25519, &[u8]>(alloc, written) {
+        Ok(again) => again == *pair && written.len() == 308,
+        Err(_) => false,
+    }
+}
+
+fn is_kept_of_device(alloc: Global, pair: &SkEd25519) -> bool {
+    match encode_vec(alloc, pair) {
+        Ok(written) => {
+            is_read_back(alloc, pair, &written)
+                && pair.flags() == 1
+                && pair.key_handle().len() == 255
+        }
+        Err(_) => false,
+    }
+}
+
+fn is_held(alloc: Global) -> bool {
+    match held(alloc, 255) {
+        Ok(pair) => is_kept_of_device(alloc, &pair),
+        Err(_) => false,
+    }
 }
 
 #[test]
 fn other_pairs(rt: HostRuntime) {
     let alloc = rt.alloc();
     assert!(rt; bytes_and_checkint(alloc) == Ok(true));
-    assert!(rt; not_known(alloc) == Ok(true));
-    assert!(rt; is_held(alloc) == Ok(true));
+    assert!(rt; is_opaque(alloc));
+    assert!(rt; is_encrypted(alloc));
+    assert!(rt; is_held(alloc));
     assert!(rt; held(alloc, 256).err() == Some(Error::Encoding(encoding::Error::Length)));
 }

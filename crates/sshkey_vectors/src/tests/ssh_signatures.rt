@@ -1,11 +1,10 @@
 //! SSH signatures of messages.
 
 use super::signed_files::{MESSAGE, SIGNED, SIGNED_FILES, SignedFile};
-use crate::{AcceptAll, Fixed, Only, RefuseAll};
 use ssh_key::public::{Ed25519PublicKey, KeyData, SkEd25519};
-use ssh_key::{Algorithm, Error, HashAlg, PublicKey, Signature, SshSig};
+use ssh_key::{Algorithm, Error, HashAlg, PublicKey, Result, Signature, SshSig};
+use sshkey_doubles::{AcceptAll, Fixed, Only, RefuseAll};
 use std::alloc::Global;
-use std::test::Fail;
 
 /// An Ed25519 key.
 const K: [u8; 32] =
@@ -19,118 +18,200 @@ const MADE: &[u8] =
 const SIGNED_DATA: &[u8] =
     b"SSHSIG\0\0\0\x04file\0\0\0\0\0\0\0\x06sha256\0\0\0\x20\xe3\xb0\xc4\x42\x98\xfc\x1c\x14\x9a\xfb\xf4\xc8\x99\x6f\xb9\x24\x27\xae\x41\xe4\x64\x9b\x93\x4c\xa4\x95\x99\x1b\x78\x52\xb8\x55";
 
-fn made(alloc: Global) -> ssh_key::Result<SshSig> {
-    SshSig::sign(
-        alloc,
-        &Fixed::new(Ed25519PublicKey(K)),
-        "file",
-        HashAlg::Sha256,
-        b"",
-    )
+fn made(alloc: Global, namespace: &str) -> Result<SshSig> {
+    let signer = Fixed::new(Ed25519PublicKey(K));
+    SshSig::sign(alloc, &signer, namespace, HashAlg::Sha256, b"")
 }
 
-fn key_of(bytes: [u8; 32], alloc: Global) -> PublicKey {
+fn key_of(alloc: Global, bytes: [u8; 32]) -> PublicKey {
     PublicKey::from_key_data(alloc, KeyData::from(Ed25519PublicKey(bytes)))
 }
 
-#[test]
-fn a_message_is_signed(rt: HostRuntime) -> Result<(), Fail> {
-    let alloc = rt.alloc();
-    assert_eq!(rt; MADE.len(), 174);
-    let signature = made(alloc)?;
-    assert!(rt; signature.to_bytes(alloc)?.as_slice() == MADE);
-    assert!(rt; SshSig::from_bytes(alloc, MADE)? == signature);
-    let key = key_of(K, alloc);
-    assert!(rt;
-        key.verify(alloc, "file", b"", &signature, &AcceptAll)
-            .is_ok()
-    );
-    let refused = key.verify(alloc, "other", b"", &signature, &AcceptAll);
-    assert!(rt; matches!(refused, Err(Error::Namespace)));
-    let other = key_of([1; 32], alloc);
-    let refused = other.verify(alloc, "other", b"", &signature, &AcceptAll);
-    assert!(rt; matches!(refused, Err(Error::PublicKey)));
-    let refused = key.verify(alloc, "file", b"", &signature, &RefuseAll);
-    assert!(rt; matches!(refused, Err(Error::Crypto)));
-    Ok(())
-}
-
-#[test]
-fn a_signature_has_its_parts(rt: HostRuntime) -> Result<(), Fail> {
-    let signature = made(rt.alloc())?;
-    assert!(rt; signature.version() == 1 && signature.namespace() == "file");
-    assert!(rt; signature.reserved().is_empty() && signature.hash_alg() == HashAlg::Sha256);
-    assert!(rt; *signature.public_key() == KeyData::from(Ed25519PublicKey(K)));
-    assert!(rt; signature.algorithm().as_str() == "ssh-ed25519");
-    assert!(rt; signature.signature_bytes() == [0; 64].as_slice());
-    assert!(rt; signature.signature().as_bytes() == [0; 64].as_slice());
-    Ok(())
-}
-
-#[test]
-fn what_is_signed_has_the_digest(rt: HostRuntime) -> Result<(), Fail> {
-    let signed = SshSig::signed_data(rt.alloc(), "file", HashAlg::Sha256, b"")?;
-    assert!(rt; signed.as_slice() == SIGNED_DATA && SIGNED_DATA.len() == 64);
-    let signed = SshSig::signed_data(rt.alloc(), "file", HashAlg::Sha512, MESSAGE)?;
-    assert!(rt; signed.as_slice() == SIGNED);
-    Ok(())
-}
-
-#[test]
-fn no_namespace_is_empty(rt: HostRuntime) -> Result<(), Fail> {
-    let alloc = rt.alloc();
-    let signer = Fixed::new(Ed25519PublicKey(K));
-    let signed = SshSig::sign(alloc, &signer, "", HashAlg::Sha256, b"");
-    assert!(rt; matches!(signed, Err(Error::Namespace)));
-    let signed = SshSig::signed_data(alloc, "", HashAlg::Sha256, b"");
-    assert!(rt; matches!(signed, Err(Error::Namespace)));
-    let signature = Signature::new(Algorithm::Ed25519, Vec::from_slice(alloc, &[0; 64])?)?;
-    let key = KeyData::from(Ed25519PublicKey(K));
-    let made = SshSig::new(alloc, key, String::new(alloc), HashAlg::Sha256, signature);
-    assert!(rt; matches!(made, Err(Error::Namespace)));
-    Ok(())
-}
-
-/// Whether the file is read, written back, and verified by the one verifier that knows it, in its
-/// own namespace alone.
-fn is_verified(alloc: Global, file: &SignedFile) -> ssh_key::Result<bool> {
-    let key = PublicKey::from_openssh(alloc, file.line)?;
-    let signature = SshSig::from_bytes(alloc, file.blob)?;
-    let verifier = Only::new(
-        Algorithm::new(alloc, file.algorithm)?,
-        Vec::from_slice(alloc, SIGNED)?,
-        Vec::from_slice(alloc, file.signature)?,
-    );
-    Ok(
-        signature.to_bytes(alloc)?.as_slice() == file.blob
-            && key.to_openssh(alloc)?.as_str() == file.line
-            && key
-                .verify(alloc, "file", MESSAGE, &signature, &verifier)
-                .is_ok()
-            && key
-                .verify(alloc, "files", MESSAGE, &signature, &verifier)
-                .is_err()
-            && key
-                .verify(alloc, "file", b"another", &signature, &verifier)
-                .is_err(),
-    )
-}
-
-#[test]
-fn files_that_openssh_signed_are_verified(rt: HostRuntime) -> Result<(), Fail> {
-    for file in &SIGNED_FILES {
-        assert!(rt; is_verified(rt.alloc(), file)?, "{}", file.algorithm);
+/// It is written as these bytes.
+fn is_written(alloc: Global, signature: &SshSig, blob: &[u8]) -> bool {
+    match signature.to_bytes(alloc) {
+        Ok(bytes) => bytes.as_slice() == blob,
+        Err(_) => false,
     }
-    Ok(())
+}
+
+/// It is what is read from these bytes.
+fn is_read(alloc: Global, signature: &SshSig, blob: &[u8]) -> bool {
+    match SshSig::from_bytes(alloc, blob) {
+        Ok(read) => read == *signature,
+        Err(_) => false,
+    }
+}
+
+fn is_spelled(alloc: Global) -> bool {
+    match made(alloc, "file") {
+        Ok(signature) => { is_written(alloc, &signature, MADE) && is_read(alloc, &signature, MADE) }
+        Err(_) => false,
+    }
 }
 
 #[test]
-fn keys_of_security_keys_are_public_keys(rt: HostRuntime) -> Result<(), Fail> {
-    let alloc = rt.alloc();
+fn a_message_is_signed(rt: HostRuntime) {
+    assert!(rt; is_spelled(rt.alloc()));
+}
+
+/// Under the key, the verifier that accepts all answers so about the empty message.
+fn answers(alloc: Global, key: &PublicKey, namespace: &str, wanted: Result<()>) -> bool {
+    match made(alloc, "file") {
+        Ok(signature) => key.verify(alloc, namespace, b"", &signature, &AcceptAll) == wanted,
+        Err(_) => false,
+    }
+}
+
+/// The verifier that refuses all is asked, and refuses.
+fn is_refused(alloc: Global, key: &PublicKey) -> bool {
+    match made(alloc, "file") {
+        Ok(signature) => {
+            key.verify(alloc, "file", b"", &signature, &RefuseAll) == Err(Error::Crypto)
+        }
+        Err(_) => false,
+    }
+}
+
+/// Under the key of these bytes.
+fn answers_by(alloc: Global, bytes: [u8; 32], namespace: &str, wanted: Result<()>) -> bool {
+    answers(alloc, &key_of(alloc, bytes), namespace, wanted)
+}
+
+#[test]
+fn a_signature_is_judged_in_order(rt: HostRuntime) {
+    assert!(rt; answers_by(rt.alloc(), K, "file", Ok(())));
+    assert!(rt; answers_by(rt.alloc(), K, "other", Err(Error::Namespace)));
+    assert!(rt; answers_by(rt.alloc(), [1; 32], "other", Err(Error::PublicKey)));
+    assert!(rt; is_refused(rt.alloc(), &key_of(rt.alloc(), K)));
+}
+
+/// The key of a security key with the same bytes.
+fn key_of_security_key(alloc: Global) -> Result<PublicKey> {
     let key = SkEd25519::with_default_application(alloc, Ed25519PublicKey(K))?;
-    let key = PublicKey::from_key_data(alloc, KeyData::from(key));
-    let signature = made(alloc)?;
-    let refused = key.verify(alloc, "file", b"", &signature, &AcceptAll);
-    assert!(rt; matches!(refused, Err(Error::PublicKey)));
-    Ok(())
+    Ok(PublicKey::from_key_data(alloc, KeyData::from(key)))
+}
+
+fn is_another_key(alloc: Global) -> bool {
+    match key_of_security_key(alloc) {
+        Ok(key) => answers(alloc, &key, "file", Err(Error::PublicKey)),
+        Err(_) => false,
+    }
+}
+
+#[test]
+fn keys_of_security_keys_are_other_keys(rt: HostRuntime) {
+    assert!(rt; is_another_key(rt.alloc()));
+}
+
+/// The parts of what was signed.
+fn has_parts(signature: &SshSig) -> bool {
+    signature.version() == 1
+        && signature.namespace() == "file"
+        && signature.reserved().is_empty()
+        && signature.hash_alg() == HashAlg::Sha256
+        && *signature.public_key() == KeyData::Ed25519(Ed25519PublicKey(K))
+        && signature.algorithm().as_str() == "ssh-ed25519"
+        && signature.signature_bytes() == [0; 64].as_slice()
+        && signature.signature().as_bytes() == [0; 64].as_slice()
+}
+
+fn made_has_parts(alloc: Global) -> bool {
+    match made(alloc, "file") {
+        Ok(signature) => has_parts(&signature),
+        Err(_) => false,
+    }
+}
+
+#[test]
+fn a_signature_has_its_parts(rt: HostRuntime) {
+    assert!(rt; made_has_parts(rt.alloc()));
+}
+
+/// That is signed in place of the message, in the namespace `file`.
+fn is_signed(alloc: Global, hash_alg: HashAlg, message: &[u8], wanted: &[u8]) -> bool {
+    match SshSig::signed_data(alloc, "file", hash_alg, message) {
+        Ok(signed) => signed.as_slice() == wanted,
+        Err(_) => false,
+    }
+}
+
+#[test]
+fn what_is_signed_has_the_digest(rt: HostRuntime) {
+    assert!(rt; is_signed(rt.alloc(), HashAlg::Sha256, b"", SIGNED_DATA));
+    assert!(rt; is_signed(rt.alloc(), HashAlg::Sha512, MESSAGE, SIGNED));
+}
+
+/// The error of a signature with no namespace, of the last 83 bytes of what `Fixed` made.
+fn error_of_parts(alloc: Global) -> Option<Error> {
+    let signature = Signature::from_bytes(alloc, &MADE[91..]).ok()?;
+    let key = KeyData::Ed25519(Ed25519PublicKey(K));
+    SshSig::new(alloc, key, String::new(alloc), HashAlg::Sha256, signature).err()
+}
+
+#[test]
+fn no_namespace_is_empty(rt: HostRuntime) {
+    assert!(rt; made(rt.alloc(), "").err() == Some(Error::Namespace));
+    let signed = SshSig::signed_data(rt.alloc(), "", HashAlg::Sha256, b"");
+    assert!(rt; signed.err() == Some(Error::Namespace));
+    assert!(rt; error_of_parts(rt.alloc()) == Some(Error::Namespace));
+}
+
+/// The one verifier that knows the file's signature.
+fn knower(alloc: Global, file: &SignedFile) -> Option<Only> {
+    let algorithm = Algorithm::new(alloc, file.algorithm).ok()?;
+    let signed = Vec::from_slice(alloc, SIGNED).ok()?;
+    let signature = Vec::from_slice(alloc, file.signature).ok()?;
+    Some(Only::new(algorithm, signed, signature))
+}
+
+/// Who knows the signature accepts it, in its own namespace and for its own message alone.
+fn is_judged(alloc: Global, key: &PublicKey, signature: &SshSig, only: &Only) -> bool {
+    key.verify(alloc, "file", MESSAGE, signature, only).is_ok()
+        && key
+            .verify(alloc, "files", MESSAGE, signature, only)
+            .is_err()
+        && key
+            .verify(alloc, "file", b"another", signature, only)
+            .is_err()
+}
+
+fn is_known(alloc: Global, key: &PublicKey, signature: &SshSig, file: &SignedFile) -> bool {
+    match knower(alloc, file) {
+        Some(only) => is_judged(alloc, key, signature, &only),
+        None => false,
+    }
+}
+
+/// The file is read, written back, and verified under the key.
+fn is_verified(alloc: Global, key: &PublicKey, file: &SignedFile) -> bool {
+    match SshSig::from_bytes(alloc, file.blob) {
+        Ok(signature) => {
+            is_written(alloc, &signature, file.blob) && is_known(alloc, key, &signature, file)
+        }
+        Err(_) => false,
+    }
+}
+
+/// The line is written of the key.
+fn is_line(alloc: Global, key: &PublicKey, line: &str) -> bool {
+    match key.to_openssh(alloc) {
+        Ok(written) => written.as_str() == line,
+        Err(_) => false,
+    }
+}
+
+/// The line is read and written back, and its key verifies the file.
+fn holds(alloc: Global, file: &SignedFile) -> bool {
+    match PublicKey::from_openssh(alloc, file.line) {
+        Ok(key) => is_line(alloc, &key, file.line) && is_verified(alloc, &key, file),
+        Err(_) => false,
+    }
+}
+
+#[test]
+fn files_that_openssh_signed_are_verified(rt: HostRuntime) {
+    for file in &SIGNED_FILES {
+        assert!(rt; holds(rt.alloc(), file), "{}", file.algorithm);
+    }
 }

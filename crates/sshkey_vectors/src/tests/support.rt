@@ -1,7 +1,5 @@
 //! What the tests share.
 
-use sshkey_base::HashAlg;
-use sshkey_keys::{Fingerprint, KeyData};
 use std::alloc::Global;
 use std::fmt::Display;
 use std::hash::{DefaultHasher, Hash, Hasher};
@@ -23,12 +21,4 @@ fn hash_of<T: Hash>(value: &T) -> u64 {
     let mut state = DefaultHasher::new();
     value.hash(&mut state);
     state.finish()
-}
-
-/// The text of the key's fingerprint by that hash is this.
-pub(crate) fn is_shown(alloc: Global, key: &KeyData, hash_alg: HashAlg, wanted: &str) -> bool {
-    match Fingerprint::new(alloc, hash_alg, key) {
-        Ok(fingerprint) => shows(alloc, &fingerprint, wanted),
-        Err(_) => false,
-    }
 }

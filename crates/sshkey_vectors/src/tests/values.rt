@@ -1,7 +1,7 @@
 //! Byte strings, texts and numbers.
 
 use super::support::{are_alike, shows};
-use sshkey_base::{Bytes, Error, Mpint, Result, Text, decode_whole, encode_vec};
+use sshkey_base::{Bytes, Encode, Error, Mpint, Result, Text, decode_whole, encode_vec};
 use std::alloc::Global;
 use std::convert::AsSlice;
 use std::fmt;
@@ -9,42 +9,87 @@ use std::fmt;
 /// `testing` as a string (RFC 4251, section 5).
 const TESTING: &[u8] = b"\0\0\0\x07testing";
 
+/// The value is written as the string.
+fn is_written<T: Encode>(alloc: Global, value: &T) -> bool {
+    match encode_vec(alloc, value) {
+        Ok(written) => written.as_slice() == TESTING,
+        Err(_) => false,
+    }
+}
+
+/// The string's copy, handed back as a vector, is written as it is.
+fn are_copied(alloc: Global, string: &Bytes) -> bool {
+    match string.try_clone(alloc) {
+        Ok(copy) => is_written(alloc, &Bytes::new(copy.into_vec())),
+        Err(_) => false,
+    }
+}
+
+/// The bytes are equal to the string.
+fn are_equal(alloc: Global, string: &Bytes, bytes: &[u8]) -> bool {
+    match Bytes::from_slice(alloc, bytes) {
+        Ok(same) => are_alike(string, &same),
+        Err(_) => false,
+    }
+}
+
+/// The bytes come behind the string.
+fn are_behind(alloc: Global, string: &Bytes, bytes: &[u8]) -> bool {
+    match Bytes::from_slice(alloc, bytes) {
+        Ok(other) => *string < other && *string != other,
+        Err(_) => false,
+    }
+}
+
 /// The string is read, copied, compared, written, and handed back as a vector.
-fn byte_strings(alloc: Global) -> Result<bool> {
-    let string: Bytes = decode_whole(alloc, TESTING)?;
-    let copy = string.try_clone(alloc)?;
-    let written = encode_vec(alloc, &Bytes::new(copy.into_vec()))?;
-    let same = Bytes::from_slice(alloc, b"testing")?;
-    let behind = Bytes::from_slice(alloc, b"testinh")?;
-    Ok(
-        string.as_slice() == b"testing".as_slice()
-            && are_alike(&string, &same)
-            && string < behind
-            && string != behind
-            && written.as_slice() == TESTING,
-    )
+fn byte_strings(alloc: Global) -> bool {
+    match decode_whole::<Bytes, &[u8]>(alloc, TESTING) {
+        Ok(string) => {
+            string.as_slice() == b"testing".as_slice()
+                && are_copied(alloc, &string)
+                && are_equal(alloc, &string, b"testing")
+                && are_behind(alloc, &string, b"testinh")
+        }
+        Err(_) => false,
+    }
+}
+
+/// The text's copy is written as it is, and equal to it once it was a string.
+fn is_copied(alloc: Global, text: &Text) -> bool {
+    match text.try_clone(alloc) {
+        Ok(copy) => { is_written(alloc, &copy) && are_alike(text, &Text::new(copy.into_string())) }
+        Err(_) => false,
+    }
+}
+
+/// The letters come behind the text.
+fn is_behind(alloc: Global, text: &Text, letters: &str) -> bool {
+    match String::from_str(alloc, letters) {
+        Ok(letters) => is_less(text, &Text::new(letters)),
+        Err(_) => false,
+    }
+}
+
+fn is_less(text: &Text, other: &Text) -> bool {
+    text < other && text != other
 }
 
 /// The same of a text.
-fn texts(alloc: Global) -> Result<bool> {
-    let text: Text = decode_whole(alloc, TESTING)?;
-    let copy = text.try_clone(alloc)?;
-    let written = encode_vec(alloc, &copy)?;
-    let same = Text::new(copy.into_string());
-    let behind = Text::new(String::from_str(alloc, "testinh")?);
-    Ok(
-        text.as_str() == "testing"
-            && are_alike(&text, &same)
-            && text < behind
-            && text != behind
-            && written.as_slice() == TESTING,
-    )
+fn texts(alloc: Global) -> bool {
+    match decode_whole::<Text, &[u8]>(alloc, TESTING) {
+        Ok(text) => {
+            text.as_str() == "testing"
+                && is_copied(alloc, &text)
+                && is_behind(alloc, &text, "testinh")
+        }
+        Err(_) => false,
+    }
 }
 
 #[test]
 fn strings(rt: HostRuntime) {
-    assert!(rt; byte_strings(rt.alloc()) == Ok(true));
-    assert!(rt; texts(rt.alloc()) == Ok(true));
+    assert!(rt; byte_strings(rt.alloc()));
+    assert!(rt; texts(rt.alloc()));
 }
 
 /// A value in both hexadecimal forms.
@@ -59,22 +104,34 @@ impl<T: fmt::LowerHex + fmt::UpperHex> fmt::Display for Forms<'_, T> {
     }
 }
 
-/// The number -1234 of a vector (RFC 4251, section 5), its copy and its forms; and bytes that are no
-/// number.
-fn numbers(alloc: Global) -> Result<bool> {
-    let number = Mpint::from_vec(Vec::from_slice(alloc, &[0xed, 0xcc])?)?;
-    let copy = number.try_clone(alloc)?;
-    let refused = Mpint::from_vec(Vec::from_slice(alloc, &[0, 1])?);
-    Ok(
-        number.as_slice() == [0xed, 0xcc].as_slice()
-            && number.as_bytes() == copy.as_bytes()
-            && are_alike(&number, &copy)
-            && shows(alloc, &Forms(&number), "EDCC edcc")
-            && refused.is_err_and(|error| error == Error::FormatEncoding),
-    )
+/// The number of a vector of these bytes.
+fn number(alloc: Global, bytes: &[u8]) -> Result<Mpint> {
+    Mpint::from_vec(Vec::from_slice(alloc, bytes)?)
+}
+
+/// Its copy is the same.
+fn has_copy(alloc: Global, number: &Mpint) -> bool {
+    match number.try_clone(alloc) {
+        Ok(copy) => number.as_bytes() == copy.as_bytes() && are_alike(number, &copy),
+        Err(_) => false,
+    }
+}
+
+/// The number -1234 of a vector (RFC 4251, section 5), its copy and its forms.
+fn numbers(alloc: Global) -> bool {
+    match number(alloc, &[0xed, 0xcc]) {
+        Ok(number) => {
+            number.as_slice() == [0xed, 0xcc].as_slice()
+                && has_copy(alloc, &number)
+                && shows(alloc, &Forms(&number), "EDCC edcc")
+        }
+        Err(_) => false,
+    }
 }
 
 #[test]
 fn numbers_of_vectors(rt: HostRuntime) {
-    assert!(rt; numbers(rt.alloc()) == Ok(true));
+    assert!(rt; numbers(rt.alloc()));
+    // bytes that are no number
+    assert!(rt; number(rt.alloc(), &[0, 1]).err() == Some(Error::FormatEncoding));
 }

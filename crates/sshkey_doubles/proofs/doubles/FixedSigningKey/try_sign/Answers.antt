@@ -12,7 +12,7 @@ use Rattle.sshkey_keys.specs.KeyKinds.{is_ed25519}
 use Rattle.sshkey_keys.specs.SignatureForms.{signature_from}
 use Rattle.sshkey_keys.specs.Signatures.{signature_of}
 use Rattle.sshkey_keys.specs.declared.signature.Signature.{Signature as TheSignature}
-use Rattle.sshkey_vectors.proofs.doubles.FixedSigningKey.try_sign.Goals as goal
+use Rattle.sshkey_doubles.proofs.doubles.FixedSigningKey.try_sign.Goals as goal
 
 -- 64 bytes are a signature by Ed25519
 made : (r : Result TheSignature Error) (b : List ℕ) → length b ≡ 64 → AnswersAlways signature_of cause (signature_from Algorithm.Ed25519 b) r → IfOk r (λ g. signature_of g ≡ record { algorithm = Algorithm.Ed25519; blob = b })

@@ -1,4 +1,4 @@
-//! Verifiers, a signer and a generator for tests. No cryptography is in them.
+//! The doubles: what each of them answers is its contract.
 
 ghost use Rattle.rand_core.specs.Steps.{stream_of, steps_u64_low};
 ghost use Rattle.std.specs.Prelude.{◌≡◌, ◌+◌, ◌%◌, ◌^◌, true, false};
@@ -6,7 +6,7 @@ ghost use Rattle.sshkey_base.specs.Names.{algorithm_of};
 ghost use Rattle.sshkey_base.specs.declared.error.Error.TheVariants as wide;
 ghost use Rattle.sshkey_keys.specs.KeyKinds.{is_ed25519};
 ghost use Rattle.sshkey_keys.specs.Keys.{key_of};
-ghost use Rattle.sshkey_vectors.specs.Doubles.{is_asked};
+ghost use Rattle.sshkey_doubles.specs.Doubles.{is_asked};
 
 use rand_core::utils::NextWord;
 use rand_core::{CryptoRng, Rng, utils};

@@ -1,11 +1,11 @@
 //! Certificates that a builder makes: their bytes, their windows, and what a builder refuses.
 
-use crate::{AcceptAll, Count, Fixed, RefuseAll};
 use rand_core::Rng;
 use sshkey_base::certificate::Field;
 use sshkey_base::{Error, HashAlg};
 use sshkey_builder::Builder;
 use sshkey_cert::Certificate;
+use sshkey_doubles::{AcceptAll, Count, Fixed, RefuseAll};
 use sshkey_keys::{Fingerprint, KeyData};
 use sshkey_kinds::Ed25519PublicKey;
 use sshkey_options::{FOREVER, MAX_SECS};
@@ -46,32 +46,54 @@ fn issued(alloc: Global) -> Result<Certificate, Error> {
     builder.sign(alloc, &signer())
 }
 
+fn is_written(alloc: Global, certificate: &Certificate, blob: &[u8]) -> bool {
+    match certificate.to_bytes(alloc) {
+        Ok(bytes) => bytes.as_slice() == blob,
+        Err(_) => false,
+    }
+}
+
+fn is_read(alloc: Global, certificate: &Certificate, blob: &[u8]) -> bool {
+    match Certificate::from_bytes(alloc, blob) {
+        Ok(read) => read == *certificate,
+        Err(_) => false,
+    }
+}
+
 /// It is written as these bytes, and read from them.
 fn is_spelled(alloc: Global, certificate: &Certificate, digits: &str) -> bool {
-    let Ok(bytes) = hex::decode(alloc, digits) else {
-        return false;
-    };
-    certificate.to_bytes(alloc).as_ref() == Ok(&bytes)
-        && Certificate::from_bytes(alloc, &bytes).as_ref() == Ok(certificate)
+    match hex::decode(alloc, digits) {
+        Ok(blob) => is_written(alloc, certificate, &blob) && is_read(alloc, certificate, &blob),
+        Err(_) => false,
+    }
+}
+
+fn issued_is_spelled(alloc: Global) -> bool {
+    match issued(alloc) {
+        Ok(certificate) => is_spelled(alloc, &certificate, ISSUED),
+        Err(_) => false,
+    }
 }
 
 #[test]
 fn one_is_issued_down_to_the_byte(rt: HostRuntime) {
-    let certificate = issued(rt.alloc());
-    assert!(rt;
-        matches!(&certificate, Ok(certificate) if is_spelled(rt.alloc(), certificate, ISSUED))
-    );
+    assert!(rt; issued_is_spelled(rt.alloc()));
 }
 
-/// The fingerprint of `KEY` by that hash.
-fn fingerprints(alloc: Global, hash_alg: HashAlg) -> Result<[Fingerprint; 1], Error> {
-    Ok([KEY.fingerprint(alloc, hash_alg)?])
+/// What a validation at that time answers, for the fingerprint of `KEY` by that hash.
+fn judged(
+    alloc: Global,
+    certificate: &Certificate,
+    hash_alg: HashAlg,
+    secs: u64,
+) -> Result<(), Error> {
+    let given = [KEY.fingerprint(alloc, hash_alg)?];
+    certificate.validate_at(alloc, secs, &given, &AcceptAll)
 }
 
 /// What the issued certificate's validation at that time answers.
 fn answer_at(alloc: Global, secs: u64) -> Result<(), Error> {
-    let given = fingerprints(alloc, HashAlg::Sha256)?;
-    issued(alloc)?.validate_at(alloc, secs, &given, &AcceptAll)
+    judged(alloc, &issued(alloc)?, HashAlg::Sha256, secs)
 }
 
 #[test]
@@ -83,15 +105,19 @@ fn its_window_has_both_its_ends(rt: HostRuntime) {
     assert!(rt; answer_at(rt.alloc(), MAX_SECS + 1) == Err(Error::Time));
 }
 
-/// What a validation by no verifier at all, or for another fingerprint, answers.
-fn refused_at(alloc: Global, secs: u64) -> Result<(), Error> {
-    let given = fingerprints(alloc, HashAlg::Sha256)?;
-    issued(alloc)?.validate_at(alloc, secs, &given, &RefuseAll)
+/// What a validation by a verifier that refuses all answers.
+fn refused(alloc: Global, certificate: &Certificate, secs: u64) -> Result<(), Error> {
+    let given = [KEY.fingerprint(alloc, HashAlg::Sha256)?];
+    certificate.validate_at(alloc, secs, &given, &RefuseAll)
 }
 
+fn refused_at(alloc: Global, secs: u64) -> Result<(), Error> {
+    refused(alloc, &issued(alloc)?, secs)
+}
+
+/// What one for another fingerprint answers.
 fn for_sha512(alloc: Global) -> Result<(), Error> {
-    let given = fingerprints(alloc, HashAlg::Sha512)?;
-    issued(alloc)?.validate_at(alloc, 10, &given, &AcceptAll)
+    judged(alloc, &issued(alloc)?, HashAlg::Sha512, 10)
 }
 
 #[test]
@@ -109,28 +135,46 @@ fn endless(alloc: Global) -> Result<Certificate, Error> {
     builder.sign(alloc, &signer())
 }
 
+fn is_endless(alloc: Global) -> bool {
+    match endless(alloc) {
+        Ok(it) => it.is_forever() && it.valid_before() == FOREVER,
+        Err(_) => false,
+    }
+}
+
 fn endless_at(alloc: Global, secs: u64) -> Result<(), Error> {
-    let given = fingerprints(alloc, HashAlg::Sha256)?;
-    endless(alloc)?.validate_at(alloc, secs, &given, &AcceptAll)
+    judged(alloc, &endless(alloc)?, HashAlg::Sha256, secs)
 }
 
 #[test]
 fn without_an_end(rt: HostRuntime) {
-    let certificate = endless(rt.alloc());
-    assert!(rt; matches!(&certificate, Ok(it) if it.is_forever() && it.valid_before() == FOREVER));
+    assert!(rt; is_endless(rt.alloc()));
     assert!(rt; endless_at(rt.alloc(), 9) == Err(Error::CertificateValidation));
     assert!(rt; endless_at(rt.alloc(), 10) == Ok(()));
     assert!(rt; endless_at(rt.alloc(), MAX_SECS) == Ok(()));
     assert!(rt; endless_at(rt.alloc(), MAX_SECS + 1) == Err(Error::Time));
 }
 
-/// What a validation for a wanted principal answers, of a certificate for `a` alone.
-fn wanted_at(alloc: Global, secs: u64, wanted: &str) -> Result<(), Error> {
+/// A certificate for `a` alone.
+fn issued_to_one(alloc: Global) -> Result<Certificate, Error> {
     let mut builder = builder(alloc, 10, 20)?;
     builder.valid_principal(String::from_str(alloc, "a")?)?;
-    let certificate = builder.sign(alloc, &signer())?;
-    let given = fingerprints(alloc, HashAlg::Sha256)?;
+    builder.sign(alloc, &signer())
+}
+
+/// What its validation for a wanted principal answers.
+fn wanted_of(
+    alloc: Global,
+    certificate: &Certificate,
+    secs: u64,
+    wanted: &str,
+) -> Result<(), Error> {
+    let given = [KEY.fingerprint(alloc, HashAlg::Sha256)?];
     certificate.validate_principal_at(alloc, secs, wanted, &given, &AcceptAll)
+}
+
+fn wanted_at(alloc: Global, secs: u64, wanted: &str) -> Result<(), Error> {
+    wanted_of(alloc, &issued_to_one(alloc)?, secs, wanted)
 }
 
 #[test]

@@ -1,12 +1,11 @@
 //! Certificates that OpenSSH made: read, written back and validated.
 
 use super::certified::{Certified, EACH, ED25519_USER, P256_HOST, P384_USER, RSA_SHA256};
-use super::support::is_shown;
-use crate::{AcceptAll, Only, RefuseAll};
 use base64::engine::general_purpose::STANDARD;
 use sshkey_base::{Algorithm, Error, HashAlg};
 use sshkey_cert::Certificate;
-use sshkey_keys::Fingerprint;
+use sshkey_doubles::{AcceptAll, Only, RefuseAll};
+use sshkey_keys::{Fingerprint, KeyData};
 use sshkey_options::{MAX_SECS, OptionsMap};
 use std::alloc::Global;
 
@@ -53,15 +52,25 @@ fn has_lists(certificate: &Certificate, made: &Certified) -> bool {
         && are_options(certificate.extensions(), made.extensions)
 }
 
+/// The text of the key's SHA-256 fingerprint is this.
+fn is_shown(alloc: Global, key: &KeyData, wanted: &str) -> bool {
+    match key.fingerprint(alloc, HashAlg::Sha256) {
+        Ok(fingerprint) => shows(alloc, &fingerprint, wanted),
+        Err(_) => false,
+    }
+}
+
+fn shows(alloc: Global, fingerprint: &Fingerprint, wanted: &str) -> bool {
+    match fingerprint.to_string(alloc) {
+        Ok(text) => text.as_str() == wanted,
+        Err(_) => false,
+    }
+}
+
 /// The certificate is of that key, and signed by that authority.
 fn has_keys(alloc: Global, certificate: &Certificate, made: &Certified) -> bool {
-    is_shown(alloc, certificate.public_key(), HashAlg::Sha256, made.key)
-        && is_shown(
-            alloc,
-            certificate.signature_key(),
-            HashAlg::Sha256,
-            made.authority,
-        )
+    is_shown(alloc, certificate.public_key(), made.key)
+        && is_shown(alloc, certificate.signature_key(), made.authority)
         && certificate.signature().algorithm().as_str() == made.algorithm
 }
 
@@ -93,7 +102,11 @@ fn each_kind_is_read_and_written_back(rt: HostRuntime) {
 }
 
 /// The verifier that knows the certificate's signature of its first bytes.
-fn knower(alloc: Global, certificate: &Certificate, made: &Certified) -> Option<Only> {
+pub(super) fn knower(
+    alloc: Global,
+    certificate: &Certificate,
+    made: &Certified,
+) -> Option<Only> {
     let blob = blob_of(alloc, made)?;
     let algorithm = Algorithm::new(alloc, made.algorithm).ok()?;
     let signed = Vec::from_slice(alloc, blob.get(..made.signed)?).ok()?;
@@ -111,17 +124,27 @@ fn authorities(alloc: Global, certificate: &Certificate) -> Option<[Fingerprint;
 
 /// Who knows the signature finds the certificate valid at its first second.
 fn is_known(alloc: Global, made: &Certified) -> bool {
-    let Some(certificate) = read(alloc, made) else {
-        return false;
-    };
-    let Some(only) = knower(alloc, &certificate, made) else {
-        return false;
-    };
-    let Some(authorities) = authorities(alloc, &certificate) else {
-        return false;
-    };
-    certificate.verify_signature(alloc, &only) == Ok(())
-        && certificate.validate_at(alloc, made.valid_after, &authorities, &only) == Ok(())
+    match read(alloc, made) {
+        Some(certificate) => is_valid(alloc, &certificate, made),
+        None => false,
+    }
+}
+
+fn is_valid(alloc: Global, certificate: &Certificate, made: &Certified) -> bool {
+    match knower(alloc, certificate, made) {
+        Some(only) => {
+            certificate.verify_signature(alloc, &only) == Ok(())
+                && is_valid_to(alloc, certificate, made.valid_after, &only)
+        }
+        None => false,
+    }
+}
+
+fn is_valid_to(alloc: Global, certificate: &Certificate, secs: u64, only: &Only) -> bool {
+    match authorities(alloc, certificate) {
+        Some(given) => certificate.validate_at(alloc, secs, &given, only) == Ok(()),
+        None => false,
+    }
 }
 
 #[test]
@@ -155,18 +178,26 @@ fn without_an_end_the_last_time_is_valid(rt: HostRuntime) {
 /// Without the SHA-256 fingerprint of its authority a certificate is not valid, nor where the
 /// verifier says no, whatever the time.
 fn is_refused(alloc: Global, made: &Certified) -> bool {
-    let Some(certificate) = read(alloc, made) else {
-        return false;
-    };
-    let Some(authorities) = authorities(alloc, &certificate) else {
-        return false;
-    };
-    let invalid = Err(Error::CertificateValidation);
-    let at = made.valid_after;
-    certificate.validate_at(alloc, at, &[], &AcceptAll) == invalid
-        && certificate.validate_at(alloc, at, &authorities[1..], &AcceptAll) == invalid
-        && certificate.validate_at(alloc, at, &authorities, &RefuseAll) == invalid
-        && certificate.validate_at(alloc, MAX_SECS + 1, &authorities, &RefuseAll) == invalid
+    match read(alloc, made) {
+        Some(certificate) => is_invalid(alloc, &certificate, made.valid_after),
+        None => false,
+    }
+}
+
+fn is_invalid(alloc: Global, certificate: &Certificate, at: u64) -> bool {
+    match authorities(alloc, certificate) {
+        Some(given) => {
+            is_no(certificate.validate_at(alloc, at, &[], &AcceptAll))
+                && is_no(certificate.validate_at(alloc, at, &given[1..], &AcceptAll))
+                && is_no(certificate.validate_at(alloc, at, &given, &RefuseAll))
+                && is_no(certificate.validate_at(alloc, MAX_SECS + 1, &given, &RefuseAll))
+        }
+        None => false,
+    }
+}
+
+fn is_no(answer: Result<(), Error>) -> bool {
+    answer == Err(Error::CertificateValidation)
 }
 
 #[test]

@@ -1,11 +1,12 @@
 //! Certificates in lines and in files.
 
 use super::certified::{Certified, EACH, ED25519_USER};
-use ssh_key::{Certificate, Error, encoding};
-use std::alloc::{AllocError, Global};
-use std::fs;
+use sshkey_base::{Error, encoding};
+use sshkey_cert::Certificate;
+use sshkey_public::PublicKey;
+use std::alloc::{Alloc, AllocError, Global};
+use std::fs::{self, Files};
 use std::io::ErrorKind;
-use std::test::Fail;
 
 /// A certificate that OpenSSH made, with one critical option.
 const LINE: &str =
@@ -71,7 +72,7 @@ fn lines_of_keys_are_none_of_certificates(rt: HostRuntime) {
     let key = "ssh-ed25519 AAAAC3NzaC1lZDI1NTE5AAAAILM+rvN+ot98qgEN796jTiQfZfG1KaT0PtFDJ/XFSqti";
     let label = Some(Error::Encoding(encoding::Error::Label));
     assert!(rt; refusal(rt.alloc(), key) == label);
-    assert!(rt; ssh_key::PublicKey::from_openssh(rt.alloc(), LINE).is_err());
+    assert!(rt; PublicKey::from_openssh(rt.alloc(), LINE).is_err());
 }
 
 /// The line of a certificate under the name of its key.
@@ -79,28 +80,65 @@ fn under_its_key(alloc: Global) -> Result<String, AllocError> {
     format!(in alloc; "ssh-ed25519 {}", ED25519_USER.base64)
 }
 
-#[test]
-fn the_first_word_is_the_name_in_certificates(rt: HostRuntime) -> Result<(), Fail> {
-    let line = under_its_key(rt.alloc())?;
-    assert!(rt; refusal(rt.alloc(), line.as_str()) == Some(Error::AlgorithmUnknown));
-    Ok(())
+/// The error of that line.
+fn refusal_under_its_key(alloc: Global) -> Option<Error> {
+    let line = under_its_key(alloc).ok()?;
+    refusal(alloc, line.as_str())
 }
 
 #[test]
-fn a_written_file_is_read_back(rt: HostRuntime) -> Result<(), Fail> {
-    let certificate = Certificate::from_openssh(rt.alloc(), LINE)?;
-    certificate.write_file(&rt, rt.alloc(), "written-cert.pub")?;
-    let text = fs::read_to_string(&rt, "written-cert.pub")?;
-    assert!(rt; text.as_str() == LINE);
-    let read = Certificate::read_file(&rt, rt.alloc(), "written-cert.pub")?;
-    assert!(rt; read == certificate);
-    assert!(rt; certificate.try_clone(rt.alloc())? == read);
-    fs::remove_file(&rt, "written-cert.pub")?;
-    Ok(())
+fn the_first_word_is_the_name_in_certificates(rt: HostRuntime) {
+    assert!(rt; refusal_under_its_key(rt.alloc()) == Some(Error::AlgorithmUnknown));
+}
+
+/// Writes the certificate of the line into the file.
+fn is_written<R: Files>(rt: &R, alloc: Global, path: &str) -> bool {
+    match Certificate::from_openssh(alloc, LINE) {
+        Ok(certificate) => certificate.write_file(rt, alloc, path).is_ok(),
+        Err(_) => false,
+    }
+}
+
+/// The file has this text.
+fn has_text<R: Files + Alloc>(rt: &R, path: &str, text: &str) -> bool {
+    match fs::read_to_string(rt, path) {
+        Ok(found) => found.as_str() == text,
+        Err(_) => false,
+    }
+}
+
+/// The certificate in the file is that of the line, and so is its copy.
+fn is_read<R: Files>(rt: &R, alloc: Global, path: &str) -> bool {
+    match Certificate::read_file(rt, alloc, path) {
+        Ok(certificate) => is_of_line(alloc, &certificate) && is_copied(alloc, &certificate),
+        Err(_) => false,
+    }
+}
+
+fn is_of_line(alloc: Global, certificate: &Certificate) -> bool {
+    match Certificate::from_openssh(alloc, LINE) {
+        Ok(wanted) => *certificate == wanted,
+        Err(_) => false,
+    }
+}
+
+fn is_copied(alloc: Global, certificate: &Certificate) -> bool {
+    match certificate.try_clone(alloc) {
+        Ok(copy) => copy == *certificate,
+        Err(_) => false,
+    }
+}
+
+#[test]
+fn a_written_file_is_read_back(rt: HostRuntime) {
+    assert!(rt; is_written(&rt, rt.alloc(), "written-cert.pub"));
+    assert!(rt; has_text(&rt, "written-cert.pub", LINE));
+    assert!(rt; is_read(&rt, rt.alloc(), "written-cert.pub"));
+    assert!(rt; fs::remove_file(&rt, "written-cert.pub").is_ok());
 }
 
 #[test]
 fn a_missing_file_is_not_found(rt: HostRuntime) {
     let read = Certificate::read_file(&rt, rt.alloc(), "no-such-cert.pub");
-    assert!(rt; matches!(read, Err(Error::Io(ErrorKind::NotFound))));
+    assert!(rt; read.err() == Some(Error::Io(ErrorKind::NotFound)));
 }
