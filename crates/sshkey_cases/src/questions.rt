@@ -152,21 +152,15 @@ fn answer_of_certificates(alloc: Global, question: &str, bytes: &[u8]) -> Result
     }
 }
 
-/// The status and the lines of the program for these words on that input. The output has room for all of
-/// them.
+/// The status and the lines of the program for these words on that input, with `; ` between the
+/// lines. The output has room for all of them.
 fn shown_by_program(alloc: Global, words: &[&str], input: &[u8]) -> Result<String> {
     let mut left = input;
     let mut output = Vec::with_capacity(alloc, 4096)?;
     let status = run(alloc, words, &mut left, &mut output);
     let text = std::str::from_utf8(&output)?;
-    let mut answer = format!(in alloc; "{status}")?;
-    let mut separator = ", ";
-    for line in text.lines() {
-        answer.push_str(separator)?;
-        answer.push_str(line)?;
-        separator = "; ";
-    }
-    Ok(answer)
+    let lines = text.trim_end_matches('\n').replace(alloc, '\n', "; ")?;
+    Ok(format!(in alloc; "{status}, {lines}")?)
 }
 
 /// The same about the certificate in a line, and about a principal where a second byte string is
