@@ -89,7 +89,8 @@ impl<const SIZE: usize> fmt::Debug for EcdsaPrivateKey<SIZE> {
 /// mpint.
 ///
 /// `Length` where the string passes what is left; `FormatEncoding` for one more byte that does not
-/// begin with 00, and for fewer that are no such mpint; `TrailingData` for two more. Takes no memory.
+/// begin with 00, and for fewer that are no such mpint; `TrailingData` for two more. Takes no
+/// memory.
 #[tactic(auto, using(sshkey_base::proofs::Steps::steps))]
 impl<const SIZE: usize> Decode for EcdsaPrivateKey<SIZE> {
     type Error = Error;
