@@ -1,4 +1,4 @@
-//! Private keys (OpenSSH, PROTOCOL.key).
+//! What private keys name: ciphers and key derivations (OpenSSH, PROTOCOL.key).
 #![tactic(auto)]
 
 mod cipher;
