@@ -16,7 +16,7 @@ pub(super) fn bytes_of(alloc: Global, digits: &str) -> Vec<u8> {
 }
 
 /// The value is written as the bytes that the digits spell.
-fn is_written<T: Encode>(alloc: Global, value: &T, digits: &str) -> bool {
+pub(super) fn is_written<T: Encode>(alloc: Global, value: &T, digits: &str) -> bool {
     match encode_vec(alloc, value) {
         Ok(written) => written == bytes_of(alloc, digits),
         Err(_) => false,

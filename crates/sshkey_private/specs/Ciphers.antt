@@ -1,0 +1,89 @@
+-- What ciphers and key derivations mean, and their names.
+use Rattle.std.specs.Prelude.{◌≡◌, ℕ, true, List, Option, Some, None, Result, Ok, Err, refl}
+use Rattle.sshkey_model.specs.Parts.{Any, Fits, flat}
+use Rattle.sshkey_model.specs.Reading.{Fault, Label, AlgorithmUnknown, Whole}
+use Rattle.sshkey_model.specs.Grammar.{IsGrammar, Spells}
+use Rattle.sshkey_model.specs.Names.{named, or_label, are_ascii}
+use Rattle.sshkey_model.specs.KeyDerivation as model
+use Rattle.sshkey_model.specs.KeyDerivation.{cipher_name, ciphers, kdf_name, kdf_algorithms}
+use Rattle.sshkey_model.proofs.Grammars.{grammar}
+use Rattle.sshkey_model.proofs.KeyDerivationReaders.{kdf_reads}
+pub use Rattle.sshkey_model.proofs.KeyDerivationReaders.{cipher_checks, kdf_algorithm_checks}
+use Rattle.sshkey_private.specs.declared.cipher.Cipher.{Cipher}
+use Rattle.sshkey_private.specs.declared.cipher.Cipher.TheVariants as cipher
+use Rattle.sshkey_private.specs.declared.kdf.Options.{Options}
+use Rattle.sshkey_private.specs.declared.kdf_alg.KdfAlg.{KdfAlg}
+use Rattle.sshkey_private.specs.declared.kdf_alg.KdfAlg.TheVariants as alg
+use Rattle.sshkey_private.specs.declared.kdf.Kdf.{Kdf}
+use Rattle.sshkey_private.specs.declared.kdf.Kdf.TheVariants as kdf
+-- under names that an attribute of this crate can unfold
+unfoldable pub use Rattle.sshkey_model.specs.KeyDerivation.{kdf_at, kdf_algorithm_at, bcrypt_options_at}
+unfoldable pub use Rattle.sshkey_base.specs.Labels.{label_at}
+
+abbrev pub cipher_of : Cipher → model.Cipher
+cipher_of cipher.None = model.NoCipher
+cipher_of cipher.TDesCbc = model.TDesCbc
+cipher_of cipher.Aes128Cbc = model.Aes128Cbc
+cipher_of cipher.Aes192Cbc = model.Aes192Cbc
+cipher_of cipher.Aes256Cbc = model.Aes256Cbc
+cipher_of cipher.Aes128Ctr = model.Aes128Ctr
+cipher_of cipher.Aes192Ctr = model.Aes192Ctr
+cipher_of cipher.Aes256Ctr = model.Aes256Ctr
+cipher_of cipher.Aes128Gcm = model.Aes128Gcm
+cipher_of cipher.Aes256Gcm = model.Aes256Gcm
+cipher_of cipher.ChaCha20Poly1305 = model.ChaCha20Poly1305
+
+abbrev pub alg_of : KdfAlg → model.KdfAlgorithm
+alg_of alg.None = model.NoDerivation
+alg_of alg.Bcrypt = model.BcryptDerivation
+
+abbrev pub kdf_of : Kdf → model.Kdf
+kdf_of kdf.None = model.NoKdf
+kdf_of (kdf.Bcrypt salt rounds) = model.Bcrypt (record { salt = salt; rounds = rounds })
+
+abbrev pub options_of : Options → model.BcryptOptions
+options_of o = record { salt = o.salt; rounds = o.rounds }
+
+-- bcrypt with that salt and 16 rounds; where no key is derived there is none to be made
+abbrev pub kdf_with_salt : model.KdfAlgorithm → List ℕ → Result model.Kdf Fault
+kdf_with_salt model.NoDerivation salt = Err AlgorithmUnknown
+kdf_with_salt model.BcryptDerivation salt = Ok (model.Bcrypt (record { salt = salt; rounds = 16 }))
+
+-- ---- names
+
+abbrev pub cipher_from : Whole model.Cipher
+cipher_from n = or_label (named cipher_name ciphers n)
+
+abbrev pub kdf_alg_from : Whole model.KdfAlgorithm
+kdf_alg_from n = or_label (named kdf_name kdf_algorithms n)
+
+unlisted : {A : Type 0} (o : Option A) (fault : Fault) → or_label o ≡ Err fault → fault ≡ Label
+unlisted (Some a) fault e = absurd cc
+unlisted None fault e = cc
+
+pub cipher_refusals : (t : List ℕ) (fault : Fault) → cipher_from t ≡ Err fault → fault ≡ Label
+cipher_refusals t = unlisted (named cipher_name ciphers t)
+
+pub kdf_alg_refusals : (t : List ℕ) (fault : Fault) → kdf_alg_from t ≡ Err fault → fault ≡ Label
+kdf_alg_refusals t = unlisted (named kdf_name kdf_algorithms t)
+
+pub cipher_ascii : (c : model.Cipher) → Any c → are_ascii (cipher_name c) ≡ true
+cipher_ascii model.NoCipher is = refl
+cipher_ascii _ is = refl
+
+pub kdf_alg_ascii : (a : model.KdfAlgorithm) → Any a → are_ascii (kdf_name a) ≡ true
+kdf_alg_ascii model.NoDerivation is = refl
+kdf_alg_ascii model.BcryptDerivation is = refl
+
+-- ---- spellings
+
+-- the bytes spell the key derivation
+abbrev pub SpellsKdf : model.Kdf → List ℕ → Type 0
+SpellsKdf = Spells Any model.kdf
+
+pub kdf_grammar : IsGrammar SpellsKdf kdf_at
+kdf_grammar = grammar kdf_reads
+
+-- what is written is a spelling
+pub kdf_normal : (k : model.Kdf) → Any k → Fits (model.kdf k) → SpellsKdf k (flat (model.kdf k))
+kdf_normal k is fits = record { is = is; fits = fits; shape = refl }

@@ -1,0 +1,13 @@
+-- Where the readers need memory.
+use Rattle.std.specs.Prelude.{ℕ, List}
+use Rattle.sshkey_model.specs.KeyDerivation.{KdfAlgorithm, NoDerivation, BcryptDerivation, kdf_algorithm_at}
+use Rattle.sshkey_base.specs.Needs.{NoNeed, NeedsString, NeedsBoxed, NeedsThen}
+
+-- the salt of bcrypt
+abbrev pub NeedsOptions : KdfAlgorithm → List ℕ → Type 0
+NeedsOptions NoDerivation = NoNeed
+NeedsOptions BcryptDerivation = NeedsBoxed NeedsString
+
+-- the name, or what stands behind it
+abbrev pub NeedsKdf : List ℕ → Type 0
+NeedsKdf = NeedsThen NeedsString kdf_algorithm_at NeedsOptions

@@ -1,0 +1,264 @@
+//! How the key of a cipher is derived from a password.
+
+ghost use Rattle.rand_core.specs.Stream.{fill_bytes};
+ghost use Rattle.std.specs.Prelude.{◌≡◌, ◌≢◌, ◌↔◌, ◌+◌, ◌*◌, ◌^◌, IsTrue, OnOk, OnErr, IfOk, IfErr};
+ghost use Rattle.sshkey_base.specs.Answers.{Answers};
+ghost use Rattle.sshkey_base.specs.Causes.{cause, encoding_cause};
+ghost use Rattle.sshkey_base.specs.Needs.{Asks, NoNeed, NeedsString, NeedsBoxed};
+ghost use Rattle.sshkey_base.specs.Reading.{Decodes, Gives};
+ghost use Rattle.sshkey_base.specs.Source.{Later};
+ghost use Rattle.sshkey_base.specs.declared.error.Error.TheVariants as wide;
+ghost use Rattle.sshkey_model.specs.KeyDerivation.{Kdf as TheKdf, NoKdf, NoDerivation, BcryptDerivation, bcrypt_options_at, kdf_options_at, kdf, bcrypt_options, derivation};
+ghost use Rattle.sshkey_model.specs.Parts.{Any};
+ghost use Rattle.sshkey_model.specs.Reading.{box_at, whole};
+ghost use Rattle.sshkey_private.specs.Ciphers.{alg_of, kdf_of, options_of, kdf_with_salt, SpellsKdf, kdf_at, kdf_grammar, kdf_normal};
+ghost use Rattle.sshkey_private.specs.Needs.{NeedsKdf};
+
+use crate::kdf_alg::KdfAlg;
+use rand_core::{CryptoRng, Rng};
+use sshkey_base::{
+    Bytes, Decode, Encode, Error, NestedReader, NormalForm, Reader, Result, Writer, encode_both,
+    encoding,
+};
+use std::alloc::Global;
+
+/// How the key of a cipher is derived from a password, with what that takes (OpenSSH,
+/// PROTOCOL.key). Nothing here derives one.
+#[derive(Debug, Drop, PartialEq, Eq)]
+pub enum Kdf {
+    /// No key is derived.
+    None,
+    /// By bcrypt.
+    Bcrypt {
+        /// The salt.
+        salt: Bytes,
+        /// How many rounds.
+        rounds: u32,
+    },
+}
+
+impl Kdf {
+    /// bcrypt with 16 rounds and a salt of the next 16 bytes of the generator, for which memory is
+    /// asked first.
+    ///
+    /// `AlgorithmUnknown` exactly where no key is to be derived. A refused call draws nothing.
+    pub fn new<R: Rng + CryptoRng>(alloc: Global, algorithm: KdfAlg, rng: &mut R) -> Result<Kdf>
+        ensures gives { Answers kdf_of cause
+            (kdf_with_salt (alg_of algorithm) (fill_bytes 16 (R.stream rng.old)).0) result }
+        ensures drawn { OnOk result (R.stream rng.new ≡ (fill_bytes 16 (R.stream rng.old)).1) }
+        ensures kept { OnErr result (rng.new ≡ rng.old) }
+    {
+        if algorithm.is_none() {
+            return Err(Error::AlgorithmUnknown);
+        }
+        let mut salt = vec![in alloc; 0u8; 16]?;
+        rng.fill_bytes(&mut salt);
+        Ok(Kdf::Bcrypt {
+            salt: Bytes::new(salt),
+            rounds: 16,
+        })
+    }
+
+    /// Its name.
+    pub fn algorithm(&self) -> KdfAlg
+        ensures { alg_of result ≡ derivation (kdf_of self.now) }
+    {
+        match self {
+            Kdf::None => KdfAlg::None,
+            Kdf::Bcrypt { .. } => KdfAlg::Bcrypt,
+        }
+    }
+
+    /// Whether no key is derived.
+    pub fn is_none(&self) -> bool
+        ensures { IsTrue result ↔ (kdf_of self.now ≡ NoKdf) }
+    {
+        matches!(self, Kdf::None)
+    }
+
+    /// Whether a key is derived.
+    pub fn is_some(&self) -> bool
+        ensures { IsTrue result ↔ (kdf_of self.now ≢ NoKdf) }
+    {
+        !self.is_none()
+    }
+
+    /// Whether a key is derived by bcrypt.
+    pub fn is_bcrypt(&self) -> bool
+        ensures { IsTrue result ↔ (derivation (kdf_of self.now) ≡ BcryptDerivation) }
+    {
+        matches!(self, Kdf::Bcrypt { .. })
+    }
+
+    /// The same in memory of its own. Refused only when out of memory.
+    pub fn try_clone(&self, alloc: Global) -> Result<Kdf>
+        ensures value { IfOk result (λ k. kdf_of k ≡ kdf_of self.now) }
+        ensures memory { IfErr result (λ e. e ≡ wide.Memory) }
+    {
+        match self {
+            Kdf::None => Ok(Kdf::None),
+            Kdf::Bcrypt { salt, rounds } => Ok(Kdf::Bcrypt {
+                salt: salt.try_clone(alloc)?,
+                rounds: *rounds,
+            }),
+        }
+    }
+}
+
+/// No key is derived.
+impl Default for Kdf {
+    ghost is_default = { λ k. kdf_of k ≡ NoKdf };
+
+    fn default() -> Kdf {
+        Kdf::None
+    }
+}
+
+/// The name, and behind it the number 0 where no key is derived, else a string of salt and rounds.
+///
+/// `Label` for another name, `AlgorithmUnknown` for another number, and `TrailingData` for bytes
+/// behind the rounds in their string.
+#[tactic(auto, using(sshkey_base::proofs::Steps::steps), unfolding(crate::specs::Ciphers::kdf_at, crate::specs::Ciphers::kdf_algorithm_at, crate::specs::Ciphers::label_at))]
+impl Decode for Kdf {
+    type Error = Error;
+
+    ghost Meaning = { TheKdf };
+
+    ghost means = { kdf_of };
+
+    ghost parse = { kdf_at };
+
+    ghost Spells = { SpellsKdf };
+
+    ghost needs = { NeedsKdf };
+
+    ghost grammar = { kdf_grammar };
+
+    fn decode<R: Reader>(alloc: Global, reader: &mut R) -> Result<Kdf> {
+        let algorithm = KdfAlg::decode(alloc, reader)?;
+        match algorithm {
+            KdfAlg::None => none_from(alloc, reader),
+            KdfAlg::Bcrypt => bcrypt_from(alloc, reader),
+        }
+    }
+}
+
+/// The number 0.
+#[tactic(auto, using(sshkey_base::proofs::Steps::steps))]
+fn none_from<R: Reader>(alloc: Global, reader: &mut R) -> Result<Kdf>
+    ensures gives { Gives kdf_of cause (kdf_options_at NoDerivation)
+        (R.source reader.old) result (R.source reader.new) }
+    ensures later { Later (R.source reader.old) (R.source reader.new) }
+    ensures asks { Asks cause NoNeed (R.source reader.old) result }
+{
+    let len = u32::decode(alloc, reader)?;
+    if len != 0 {
+        return Err(Error::AlgorithmUnknown);
+    }
+    Ok(Kdf::None)
+}
+
+/// A string of salt and rounds.
+#[tactic(auto, using(sshkey_base::proofs::Steps::steps))]
+fn bcrypt_from<R: Reader>(alloc: Global, reader: &mut R) -> Result<Kdf>
+    ensures gives { Gives kdf_of cause (kdf_options_at BcryptDerivation)
+        (R.source reader.old) result (R.source reader.new) }
+    ensures later { Later (R.source reader.old) (R.source reader.new) }
+    ensures asks { Asks cause (NeedsBoxed NeedsString) (R.source reader.old) result }
+{
+    let options = boxed_options_from(alloc, reader)?;
+    Ok(Kdf::Bcrypt {
+        salt: options.salt,
+        rounds: options.rounds,
+    })
+}
+
+/// What bcrypt takes.
+#[derive(Drop)]
+struct Options {
+    salt: Bytes,
+    rounds: u32,
+}
+
+/// The string of a salt and rounds.
+#[tactic(auto, using(sshkey_base::proofs::Boxes::boxes))]
+fn boxed_options_from<R: Reader>(alloc: Global, reader: &mut R) -> encoding::Result<Options>
+    ensures gives { Decodes options_of (box_at (whole bcrypt_options_at))
+        R.source reader.old result reader.new }
+    ensures later { Later (R.source reader.old) (R.source reader.new) }
+    ensures asks { Asks encoding_cause (NeedsBoxed NeedsString) (R.source reader.old) result }
+{
+    reader.read_prefixed(|part| options_from(alloc, part))
+}
+
+/// A salt as a string, and the rounds.
+#[tactic(auto, using(sshkey_base::proofs::Steps::steps), unfolding(crate::specs::Ciphers::bcrypt_options_at))]
+fn options_from<R: Reader>(alloc: Global, reader: &mut R) -> encoding::Result<Options>
+    ensures gives { Decodes options_of bcrypt_options_at R.source reader.old result reader.new }
+    ensures later { Later (R.source reader.old) (R.source reader.new) }
+    ensures asks { Asks encoding_cause NeedsString (R.source reader.old) result }
+{
+    let salt = Bytes::decode(alloc, reader)?;
+    let rounds = u32::decode(alloc, reader)?;
+    Ok(Options { salt, rounds })
+}
+
+/// The name, and the number 0 or a string of salt and rounds.
+#[tactic(auto, using(sshkey_base::proofs::Writing::writing, sshkey_base::proofs::Writing::measuring, sshkey_base::proofs::Writing::length_number32, sshkey_base::proofs::Writing::boxes_number))]
+impl Encode for Kdf {
+    ghost normal = { λ k. kdf (kdf_of k) };
+
+    ghost max_len = { 3 * (2 ^ 32 + 4) };
+
+    fn encoded_len(&self) -> encoding::Result<usize> {
+        match self {
+            Kdf::None => Ok(KdfAlg::None.encoded_len()? + 4),
+            Kdf::Bcrypt { salt, rounds } => {
+                let rounds = *rounds;
+                Ok(KdfAlg::Bcrypt.encoded_len()?
+                    + BcryptOf { salt, rounds }.encoded_len_prefixed()?)
+            }
+        }
+    }
+
+    fn encode<W: Writer>(&self, writer: &mut W) -> encoding::Result<()> {
+        match self {
+            Kdf::None => encode_both(&KdfAlg::None, &0u32, writer),
+            Kdf::Bcrypt { salt, rounds } => {
+                let rounds = *rounds;
+                KdfAlg::Bcrypt.encode(writer)?;
+                BcryptOf { salt, rounds }.encode_prefixed(writer)
+            }
+        }
+    }
+}
+
+impl NormalForm for Kdf {
+    ghost IsWellFormed = { λ k. Any (kdf_of k) };
+
+    ghost normal_spells = { λ k. kdf_normal (kdf_of k) };
+}
+
+/// What bcrypt takes, to be written.
+#[derive(Clone, Copy)]
+struct BcryptOf<'a> {
+    salt: &'a Bytes,
+    rounds: u32,
+}
+
+/// The salt as a string, and the rounds.
+#[tactic(auto, using(sshkey_base::proofs::Writing::writing, sshkey_base::proofs::Writing::measuring))]
+impl Encode for BcryptOf<'_> {
+    ghost normal = { λ o. bcrypt_options (record { salt = o.salt.now; rounds = o.rounds }) };
+
+    ghost max_len = { 2 * (2 ^ 32 + 4) };
+
+    fn encoded_len(&self) -> encoding::Result<usize> {
+        Ok(self.salt.encoded_len()? + self.rounds.encoded_len()?)
+    }
+
+    fn encode<W: Writer>(&self, writer: &mut W) -> encoding::Result<()> {
+        self.salt.encode(writer)?;
+        self.rounds.encode(writer)
+    }
+}

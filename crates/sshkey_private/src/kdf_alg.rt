@@ -1,0 +1,121 @@
+//! Names of key derivations.
+
+ghost use Rattle.std.specs.Prelude.{◌≡◌, ◌↔◌, IsTrue, Some};
+ghost use Rattle.sshkey_base.specs.Answers.{NamesAlways};
+ghost use Rattle.sshkey_base.specs.Causes.{Faulty, cause};
+ghost use Rattle.sshkey_base.specs.Labels.{LooksUp, LooksUpAlways};
+ghost use Rattle.sshkey_model.specs.KeyDerivation.{KdfAlgorithm, NoDerivation, BcryptDerivation, kdf_name};
+ghost use Rattle.sshkey_model.specs.Parts.{Any};
+ghost use Rattle.sshkey_model.specs.Reading as fault;
+ghost use Rattle.sshkey_private.specs.Ciphers.{alg_of, kdf_alg_from, kdf_algorithm_checks, kdf_alg_ascii, kdf_alg_refusals};
+
+use sshkey_base::{Label, LabelError, Result, encoding};
+use std::alloc::Global;
+use std::convert::AsStr;
+use std::fmt;
+use std::str::FromStr;
+
+/// How the key of a cipher is derived from a password, by name (OpenSSH, PROTOCOL.key). Nothing
+/// here derives one.
+#[derive(Clone, Copy, Debug, PartialEq, Eq, PartialOrd, Ord, Hash)]
+pub enum KdfAlg {
+    /// No key is derived.
+    None,
+    /// By bcrypt.
+    Bcrypt,
+}
+
+impl KdfAlg {
+    /// The key derivation of that name, and `Label` where none has it. Takes no memory.
+    pub fn new(name: &str) -> Result<KdfAlg>
+        ensures { NamesAlways alg_of cause (kdf_alg_from name.now) result }
+    {
+        Ok(name.parse::<KdfAlg>()?)
+    }
+
+    /// The name: `none` or `bcrypt`.
+    pub fn as_str(&self) -> &'static str
+        ensures { result.now ≡ kdf_name (alg_of self.now) }
+    {
+        match self {
+            KdfAlg::None => "none",
+            KdfAlg::Bcrypt => "bcrypt",
+        }
+    }
+
+    /// Whether no key is derived.
+    pub fn is_none(&self) -> bool
+        ensures { IsTrue result ↔ (alg_of self.now ≡ NoDerivation) }
+    {
+        matches!(self, KdfAlg::None)
+    }
+}
+
+/// bcrypt.
+impl Default for KdfAlg {
+    ghost is_default = { λ algorithm. alg_of algorithm ≡ BcryptDerivation };
+
+    fn default() -> KdfAlg {
+        KdfAlg::Bcrypt
+    }
+}
+
+#[tactic(auto, unfolding(sshkey_model::specs::Names::named))]
+impl FromStr for KdfAlg {
+    type Err = LabelError;
+
+    ghost from_str_gives = { λ name r. NamesAlways alg_of (λ _. Faulty fault.Label) (kdf_alg_from name) r };
+
+    fn from_str(name: &str) -> std::result::Result<KdfAlg, LabelError> {
+        match name {
+            "none" => Ok(KdfAlg::None),
+            "bcrypt" => Ok(KdfAlg::Bcrypt),
+            _ => Err(LabelError),
+        }
+    }
+}
+
+impl Label for KdfAlg {
+    ghost Named = { KdfAlgorithm };
+
+    ghost stands_for = { alg_of };
+
+    ghost name = { kdf_name };
+
+    ghost IsNamed = { Any };
+
+    ghost named = { kdf_alg_from };
+
+    fn label(&self) -> &str {
+        self.as_str()
+    }
+
+    fn from_label(_alloc: Global, name: &str) -> encoding::Result<KdfAlg>
+        ensures gives { LooksUp alg_of kdf_alg_from name.now result }
+        ensures always { LooksUpAlways alg_of kdf_alg_from name.now result }
+    {
+        Ok(name.parse::<KdfAlg>()?)
+    }
+
+    ghost checks = { kdf_algorithm_checks };
+
+    ghost ascii = { kdf_alg_ascii };
+
+    ghost refusals = { kdf_alg_refusals };
+}
+
+impl AsStr for KdfAlg {
+    ghost text = { λ algorithm. kdf_name (alg_of algorithm) };
+
+    fn as_str(&self) -> &str {
+        KdfAlg::as_str(self)
+    }
+}
+
+impl fmt::Display for KdfAlg {
+    ghost output = { λ algorithm. Some (kdf_name (alg_of algorithm)) };
+
+    fn fmt<W: fmt::Write>(&self, f: &mut fmt::Formatter<W>) -> fmt::Result {
+        f.write_str(self.as_str())
+    }
+}
