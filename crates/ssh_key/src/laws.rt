@@ -17,5 +17,5 @@ pub use sshkey_model::laws::{
     signed_fields,
 };
 pub use sshkey_options::laws::{compared_ends, compared_options, compared_times, compared_types};
-pub use sshkey_public::laws::{compared_public_keys, compared_ssh_signatures};
 pub use sshkey_pairs::laws::{equal_dsa_pairs, equal_ed25519_pairs, equal_rsa_pairs};
+pub use sshkey_public::laws::{compared_public_keys, compared_ssh_signatures};

@@ -19,7 +19,7 @@ IsOfKeys c = HasKeys c.unsigned
 -- They are ordered by what they sign, then by the signature, and then by the comment.
 abbrev pub IsOrderOfCertificates : (Certificate → Certificate → Ordering) → Type 0
 IsOrderOfCertificates cmp = (x y : Certificate) → cmp x y ≡ first_of
-  (first_of (field_orders x.unsigned y.unsigned)
+    (first_of (field_orders x.unsigned y.unsigned)
     ∷ parts_cmp (signature_parts x.signature) (signature_parts y.signature)
     ∷ bytes_cmp (comment_of x) (comment_of y)
     ∷ [])

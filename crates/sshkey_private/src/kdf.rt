@@ -215,8 +215,10 @@ impl Encode for Kdf {
             Kdf::None => Ok(KdfAlg::None.encoded_len()? + 4),
             Kdf::Bcrypt { salt, rounds } => {
                 let rounds = *rounds;
-                Ok(KdfAlg::Bcrypt.encoded_len()?
-                    + BcryptOf { salt, rounds }.encoded_len_prefixed()?)
+                Ok(
+                    KdfAlg::Bcrypt.encoded_len()?
+                        + BcryptOf { salt, rounds }.encoded_len_prefixed()?,
+                )
             }
         }
     }

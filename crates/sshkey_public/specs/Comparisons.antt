@@ -20,7 +20,7 @@ content_of k = (public_of k, comment_of k)
 -- They are ordered by the key, and then by the comment.
 abbrev pub IsOrderOfPublicKeys : (PublicKey → PublicKey → Ordering) → Type 0
 IsOrderOfPublicKeys cmp = (x y : PublicKey) → cmp x y ≡ first_of
-  (parts_cmp (key_parts (data_of x)) (key_parts (data_of y)) ∷ bytes_cmp (comment_of x) (comment_of y) ∷ [])
+    (parts_cmp (key_parts (data_of x)) (key_parts (data_of y)) ∷ bytes_cmp (comment_of x) (comment_of y) ∷ [])
 
 -- It is by a well-formed key.
 abbrev pub IsByKey : SshSig → Type 0

@@ -18,18 +18,18 @@ HasKeys u = HasForm u.public_key × HasForm u.signature_key
 -- how two compare, field by field
 abbrev pub field_orders : Unsigned → Unsigned → List Ordering
 field_orders x y = bytes_cmp x.nonce y.nonce
-  ∷ parts_cmp (key_parts x.public_key) (key_parts y.public_key)
-  ∷ nat_cmp x.serial y.serial
-  ∷ bytes_cmp (type_key x.cert_type) (type_key y.cert_type)
-  ∷ bytes_cmp x.key_id y.key_id
-  ∷ parts_cmp (texts_of x.valid_principals) (texts_of y.valid_principals)
-  ∷ nat_cmp (time_of x.valid_after) (time_of y.valid_after)
-  ∷ nat_cmp (end_of x.valid_before) (end_of y.valid_before)
-  ∷ slice_cmp option_cmp (options_of x.critical_options) (options_of y.critical_options)
-  ∷ slice_cmp option_cmp (options_of x.extensions) (options_of y.extensions)
-  ∷ bytes_cmp x.reserved y.reserved
-  ∷ parts_cmp (key_parts x.signature_key) (key_parts y.signature_key)
-  ∷ []
+    ∷ parts_cmp (key_parts x.public_key) (key_parts y.public_key)
+    ∷ nat_cmp x.serial y.serial
+    ∷ bytes_cmp (type_key x.cert_type) (type_key y.cert_type)
+    ∷ bytes_cmp x.key_id y.key_id
+    ∷ parts_cmp (texts_of x.valid_principals) (texts_of y.valid_principals)
+    ∷ nat_cmp (time_of x.valid_after) (time_of y.valid_after)
+    ∷ nat_cmp (end_of x.valid_before) (end_of y.valid_before)
+    ∷ slice_cmp option_cmp (options_of x.critical_options) (options_of y.critical_options)
+    ∷ slice_cmp option_cmp (options_of x.extensions) (options_of y.extensions)
+    ∷ bytes_cmp x.reserved y.reserved
+    ∷ parts_cmp (key_parts x.signature_key) (key_parts y.signature_key)
+    ∷ []
 
 -- They are ordered by the first field that differs.
 abbrev pub IsOrderOfFields : (Unsigned → Unsigned → Ordering) → Type 0

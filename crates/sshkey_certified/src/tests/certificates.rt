@@ -102,11 +102,7 @@ fn each_kind_is_read_and_written_back(rt: HostRuntime) {
 }
 
 /// The verifier that knows the certificate's signature of its first bytes.
-pub(super) fn knower(
-    alloc: Global,
-    certificate: &Certificate,
-    made: &Certified,
-) -> Option<Only> {
+pub(super) fn knower(alloc: Global, certificate: &Certificate, made: &Certified) -> Option<Only> {
     let blob = blob_of(alloc, made)?;
     let algorithm = Algorithm::new(alloc, made.algorithm).ok()?;
     let signed = Vec::from_slice(alloc, blob.get(..made.signed)?).ok()?;
