@@ -1,10 +1,10 @@
 //! Key pairs and their parts.
 
 use super::made_pairs::{DSA, ED25519, MadePair, P256, P384, P521, RSA};
-use super::pairs::{bytes_of, held};
+use super::pairs::{held, read};
 use super::support::shows;
 use super::values::Forms;
-use sshkey_base::{Algorithm, EcdsaCurve, Error, Result, decode_whole, encode_vec, encoding};
+use sshkey_base::{Algorithm, EcdsaCurve, Error, Result, decode_whole, encoding};
 use sshkey_doubles::Count;
 use sshkey_keypairs::{KeypairData, OpaqueKeypair, OpaqueKeypairBytes};
 use sshkey_keys::KeyData;
@@ -47,12 +47,6 @@ fn ed25519_bytes(rt: HostRuntime) {
     assert!(rt; Ed25519Keypair::try_from([7u8; 65].as_slice()).err() == short);
 }
 
-/// A pair of any kind that OpenSSH made.
-fn made(alloc: Global, made: &MadePair) -> Result<KeypairData> {
-    let bytes = bytes_of(alloc, made.pair);
-    decode_whole(alloc, bytes.as_slice())
-}
-
 /// Which kinds the pair says that it is, as the variants stand.
 fn kinds_of(pair: &KeypairData) -> [bool; 8] {
     [
@@ -81,11 +75,37 @@ fn given_of(pair: &KeypairData) -> [bool; 8] {
     ]
 }
 
-/// The pair and its copy are equal, and of these kinds alone.
-fn is_of(alloc: Global, pair: Result<KeypairData>, kinds: [bool; 8]) -> Result<bool> {
-    let pair = pair?;
-    let copy = pair.try_clone(alloc)?;
-    Ok(copy == pair && kinds_of(&pair) == kinds && given_of(&copy) == kinds)
+/// The pair and a copy of it are of these kinds.
+fn is_of(alloc: Global, pair: &KeypairData, kinds: [bool; 8]) -> bool {
+    match pair.try_clone(alloc) {
+        Ok(copy) => copy == *pair && kinds_of(pair) == kinds && given_of(&copy) == kinds,
+        Err(_) => false,
+    }
+}
+
+fn is_made_of(alloc: Global, made: &MadePair, kinds: [bool; 8]) -> bool {
+    match read(alloc, made.pair) {
+        Ok(pair) => is_of(alloc, &pair, kinds),
+        Err(_) => false,
+    }
+}
+
+fn is_held_of(alloc: Global, kinds: [bool; 8]) -> bool {
+    match held(alloc, 3) {
+        Ok(pair) => is_of(alloc, &KeypairData::from(pair), kinds),
+        Err(_) => false,
+    }
+}
+
+fn is_opaque_of(alloc: Global, kinds: [bool; 8]) -> bool {
+    match opaque(alloc) {
+        Ok(pair) => is_of(alloc, &KeypairData::from(pair), kinds),
+        Err(_) => false,
+    }
+}
+
+fn is_encrypted_of(alloc: Global, kinds: [bool; 8]) -> bool {
+    is_of(alloc, &KeypairData::Encrypted(Vec::new(alloc)), kinds)
 }
 
 const ON: bool = true;
@@ -95,27 +115,100 @@ const NO: bool = false;
 #[test]
 fn kinds_of_pairs(rt: HostRuntime) {
     let alloc = rt.alloc();
-    let security = held(alloc, 3).map(KeypairData::from);
-    let encrypted = Ok(KeypairData::Encrypted(Vec::new(alloc)));
-    assert!(rt; is_of(alloc, made(alloc, &DSA), [ON, NO, NO, NO, NO, NO, NO, NO]) == Ok(true));
-    assert!(rt; is_of(alloc, made(alloc, &P256), [NO, ON, NO, NO, NO, NO, NO, NO]) == Ok(true));
-    assert!(rt;
-        is_of(
-            alloc,
-            made(alloc, &ED25519),
-            [NO, NO, ON, NO, NO, NO, NO, NO]
-        ) == Ok(true)
-    );
-    assert!(rt; is_of(alloc, encrypted, [NO, NO, NO, ON, NO, NO, NO, NO]) == Ok(true));
-    assert!(rt; is_of(alloc, made(alloc, &RSA), [NO, NO, NO, NO, ON, NO, NO, NO]) == Ok(true));
-    assert!(rt; is_of(alloc, security, [NO, NO, NO, NO, NO, NO, ON, NO]) == Ok(true));
-    assert!(rt;
-        is_of(
-            alloc,
-            opaque(alloc).map(KeypairData::from),
-            [NO, NO, NO, NO, NO, NO, NO, ON]
-        ) == Ok(true)
-    );
+    assert!(rt; is_made_of(alloc, &DSA, [ON, NO, NO, NO, NO, NO, NO, NO]));
+    assert!(rt; is_made_of(alloc, &P256, [NO, ON, NO, NO, NO, NO, NO, NO]));
+    assert!(rt; is_made_of(alloc, &ED25519, [NO, NO, ON, NO, NO, NO, NO, NO]));
+    assert!(rt; is_encrypted_of(alloc, [NO, NO, NO, ON, NO, NO, NO, NO]));
+    assert!(rt; is_made_of(alloc, &RSA, [NO, NO, NO, NO, ON, NO, NO, NO]));
+    assert!(rt; is_held_of(alloc, [NO, NO, NO, NO, NO, NO, ON, NO]));
+    assert!(rt; is_opaque_of(alloc, [NO, NO, NO, NO, NO, NO, NO, ON]));
+}
+
+/// The key has that algorithm.
+fn is_under(alloc: Global, key: &KeyData, algorithm: &Algorithm) -> bool {
+    match key.algorithm(alloc) {
+        Ok(own) => own == *algorithm,
+        Err(_) => false,
+    }
+}
+
+fn has_algorithm(alloc: Global, pair: &KeypairData, key: &KeyData) -> bool {
+    match pair.algorithm(alloc) {
+        Ok(algorithm) => is_under(alloc, key, &algorithm),
+        Err(_) => false,
+    }
+}
+
+/// The key is the public half of the pair, and under its algorithm.
+fn has_half(alloc: Global, pair: &KeypairData, key: &KeyData) -> bool {
+    match pair.to_public(alloc) {
+        Ok(half) => half == *key && has_algorithm(alloc, pair, key),
+        Err(_) => false,
+    }
+}
+
+/// A copy is the same pair, and as one of any kind the whole.
+fn is_dsa(alloc: Global, pair: &DsaKeypair, whole: &KeypairData) -> bool {
+    match pair.try_clone(alloc) {
+        Ok(copy) => copy == *pair && KeypairData::from(copy) == *whole,
+        Err(_) => false,
+    }
+}
+
+/// The public key that a copy becomes is the half of the whole.
+fn is_dsa_half(alloc: Global, pair: &DsaKeypair, whole: &KeypairData) -> bool {
+    match pair.try_clone(alloc) {
+        Ok(copy) => has_half(alloc, whole, &KeyData::from(DsaPublicKey::from(copy))),
+        Err(_) => false,
+    }
+}
+
+fn is_rsa(alloc: Global, pair: &RsaKeypair, whole: &KeypairData) -> bool {
+    match pair.try_clone(alloc) {
+        Ok(copy) => copy == *pair && KeypairData::from(copy) == *whole,
+        Err(_) => false,
+    }
+}
+
+fn is_rsa_half(alloc: Global, pair: &RsaKeypair, whole: &KeypairData) -> bool {
+    match pair.try_clone(alloc) {
+        Ok(copy) => has_half(alloc, whole, &KeyData::from(RsaPublicKey::from(copy))),
+        Err(_) => false,
+    }
+}
+
+/// The public key that a copy becomes.
+fn half_of(pair: &EcdsaKeypair) -> Result<EcdsaPublicKey> {
+    Ok(EcdsaPublicKey::from(pair.clone()?))
+}
+
+/// The public key's bytes are a point of the pair's curve.
+fn is_ecdsa(pair: &EcdsaKeypair, curve: EcdsaCurve) -> bool {
+    pair.algorithm() == Algorithm::Ecdsa { curve }
+        && EcdsaPublicKey::from_sec1_bytes(pair.public_key_bytes()) == half_of(pair)
+}
+
+fn has_parts(alloc: Global, whole: &KeypairData) -> bool {
+    match whole {
+        KeypairData::Dsa(pair) => {
+            pair.private.as_mpint().as_bytes() == pair.private.as_slice()
+                && is_dsa(alloc, pair, whole)
+                && is_dsa_half(alloc, pair, whole)
+        }
+        KeypairData::Rsa(pair) => is_rsa(alloc, pair, whole) && is_rsa_half(alloc, pair, whole),
+        KeypairData::Ecdsa(pair) => {
+            is_ecdsa(pair, pair.curve())
+                && has_half(alloc, whole, &KeyData::from(pair.public_key()))
+        }
+        _ => false,
+    }
+}
+
+fn is_made_of_parts(alloc: Global, made: &MadePair) -> bool {
+    match read(alloc, made.pair) {
+        Ok(pair) => has_parts(alloc, &pair),
+        Err(_) => false,
+    }
 }
 
 /// A pair under a private-use name.
@@ -125,67 +218,39 @@ fn opaque(alloc: Global) -> Result<OpaqueKeypair> {
     Ok(OpaqueKeypair::new(Vec::from_slice(alloc, b"cde")?, public))
 }
 
-/// The key by itself is the public half of the pair of any kind.
-fn is_half(alloc: Global, key: KeyData, pair: KeypairData) -> Result<bool> {
-    Ok(pair.algorithm(alloc)? == key.algorithm(alloc)? && pair.to_public(alloc)? == key)
-}
-
-/// A copy of a DSA pair, its number and its public key.
-fn dsa(alloc: Global, pair: DsaKeypair) -> Result<bool> {
-    let copy = pair.try_clone(alloc)?;
-    let private = pair.private.as_mpint().as_bytes() == pair.private.as_slice();
-    let same = private && copy == pair;
-    let key = KeyData::from(DsaPublicKey::from(copy));
-    Ok(same && is_half(alloc, key, KeypairData::from(pair))?)
-}
-
-/// A copy of an RSA pair, and its public key.
-fn rsa(alloc: Global, pair: RsaKeypair) -> Result<bool> {
-    let copy = pair.try_clone(alloc)?;
-    let same = copy == pair;
-    let key = KeyData::from(RsaPublicKey::from(copy));
-    Ok(same && is_half(alloc, key, KeypairData::from(pair))?)
-}
-
-/// The parts of an ECDSA pair on that curve.
-fn ecdsa(alloc: Global, pair: EcdsaKeypair, curve: EcdsaCurve) -> Result<bool> {
-    let key = EcdsaPublicKey::from_sec1_bytes(pair.public_key_bytes())?;
-    let is_on = pair.curve() == curve && pair.algorithm() == Algorithm::Ecdsa { curve };
-    let half = EcdsaPublicKey::from(pair.clone()?);
-    Ok(is_on && key == half && is_half(alloc, KeyData::from(key), KeypairData::from(pair))?)
-}
-
-fn dsa_half(alloc: Global) -> Result<bool> {
-    match made(alloc, &DSA)? {
-        KeypairData::Dsa(pair) => dsa(alloc, pair),
-        _ => Ok(false),
+fn is_copied(alloc: Global, bytes: &OpaqueKeypairBytes) -> bool {
+    match bytes.try_clone(alloc) {
+        Ok(copy) => copy == *bytes,
+        Err(_) => false,
     }
 }
 
-fn rsa_half(alloc: Global) -> Result<bool> {
-    match made(alloc, &RSA)? {
-        KeypairData::Rsa(pair) => rsa(alloc, pair),
-        _ => Ok(false),
+/// The two strings are the pair's bytes without its name.
+fn is_nameless(alloc: Global, pair: &OpaqueKeypair) -> bool {
+    let strings = b"\0\0\0\x02ab\0\0\0\x03cde".as_slice();
+    match decode_whole::<OpaqueKeypairBytes, &[u8]>(alloc, strings) {
+        Ok(bytes) => {
+            bytes.public == pair.public.key
+                && bytes.private == pair.private
+                && bytes.private.as_slice() == b"cde".as_slice()
+                && is_copied(alloc, &bytes)
+        }
+        Err(_) => false,
     }
 }
 
-fn ecdsa_half(alloc: Global, pair: &MadePair, curve: EcdsaCurve) -> Result<bool> {
-    match made(alloc, pair)? {
-        KeypairData::Ecdsa(pair) => ecdsa(alloc, pair, curve),
-        _ => Ok(false),
+fn has_public_key(alloc: Global, pair: &OpaqueKeypair) -> bool {
+    match pair.try_clone(alloc) {
+        Ok(copy) => OpaquePublicKey::from(copy) == pair.public,
+        Err(_) => false,
     }
 }
 
-/// A private-use pair, its bytes without the name, and its public key.
-fn is_nameless(alloc: Global) -> Result<bool> {
-    let pair = opaque(alloc)?;
-    let written = encode_vec(alloc, &pair)?;
-    let bytes: OpaqueKeypairBytes = decode_whole(alloc, written.as_slice())?;
-    let copy = bytes.try_clone(alloc)?;
-    let same = copy == bytes && bytes.public == pair.public.key && bytes.private == pair.private;
-    let private = bytes.private.as_slice() == b"cde".as_slice();
-    let key = OpaquePublicKey::from(pair.try_clone(alloc)?);
-    Ok(same && private && key == pair.public)
+fn is_opaque(alloc: Global) -> bool {
+    match opaque(alloc) {
+        Ok(pair) => is_nameless(alloc, &pair) && has_public_key(alloc, &pair),
+        Err(_) => false,
+    }
 }
 
 /// The scalar 1, its forms and what is shown of it.
@@ -204,11 +269,11 @@ fn is_one(alloc: Global) -> Result<bool> {
 #[test]
 fn parts_of_pairs(rt: HostRuntime) {
     let alloc = rt.alloc();
-    assert!(rt; dsa_half(alloc) == Ok(true));
-    assert!(rt; rsa_half(alloc) == Ok(true));
-    assert!(rt; ecdsa_half(alloc, &P256, EcdsaCurve::NistP256) == Ok(true));
-    assert!(rt; ecdsa_half(alloc, &P384, EcdsaCurve::NistP384) == Ok(true));
-    assert!(rt; ecdsa_half(alloc, &P521, EcdsaCurve::NistP521) == Ok(true));
-    assert!(rt; is_nameless(alloc) == Ok(true));
+    assert!(rt; is_made_of_parts(alloc, &DSA));
+    assert!(rt; is_made_of_parts(alloc, &RSA));
+    assert!(rt; is_made_of_parts(alloc, &P256));
+    assert!(rt; is_made_of_parts(alloc, &P384));
+    assert!(rt; is_made_of_parts(alloc, &P521));
+    assert!(rt; is_opaque(alloc));
     assert!(rt; is_one(alloc) == Ok(true));
 }

@@ -31,7 +31,7 @@ fn has_public_half(alloc: Global, pair: &KeypairData, made: &MadePair) -> bool {
     }
 }
 
-fn read(alloc: Global, digits: &str) -> Result<KeypairData> {
+pub(super) fn read(alloc: Global, digits: &str) -> Result<KeypairData> {
     decode_whole(alloc, bytes_of(alloc, digits).as_slice())
 }
 
