@@ -1,2 +1,3 @@
 pub mod Ciphers
+pub mod Paddings
 pub mod Needs

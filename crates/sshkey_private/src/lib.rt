@@ -4,6 +4,7 @@
 mod cipher;
 mod kdf;
 mod kdf_alg;
+mod padded;
 
 pub use cipher::Cipher;
 pub use kdf::Kdf;
