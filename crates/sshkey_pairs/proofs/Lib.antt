@@ -1,4 +1,3 @@
 pub mod FixedWidth
 pub mod Halves
-pub mod SameReaders
 pub mod SignedScalars

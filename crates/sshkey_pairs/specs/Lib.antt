@@ -3,5 +3,3 @@ pub mod PairReaders
 pub mod PairNeeds
 pub mod PrivateHalves
 pub mod Pairs
-pub mod KeypairReaders
-pub mod Keypairs

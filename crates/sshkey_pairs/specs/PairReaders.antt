@@ -4,15 +4,14 @@ use Rattle.sshkey_model.specs.Reading.{Fault, Length, ◌>>=◌, Front}
 use Rattle.sshkey_model.specs.Grammar.{IsGrammar, Spells, SpellsWith, value_at}
 use Rattle.sshkey_model.specs.Names.{Algorithm}
 use Rattle.sshkey_model.specs.Mpints.{mpint_at}
-use Rattle.sshkey_model.specs.Keys.{Key, Dsa, Ecdsa, SkEcdsa, SkEd25519, dsa_at, any_ecdsa_at, sk_ecdsa_at, sk_ed25519_at}
-use Rattle.sshkey_model.specs.KeyPairs.{KeyPair, DsaPair, EcdsaPair, SkEcdsaPair, SkEd25519Pair, IsScalar, HasScalarPlaces, scalar, scalar_at, RsaPrivate, IsRsaPrivate, rsa_private, SecurityPrivate, security_private, IsEcdsaPair, IsPairUnder, HasPairPlaces, pair, pair_at, dsa_pair_at, any_ecdsa_pair_at}
+use Rattle.sshkey_model.specs.Keys.{Key, Dsa, Ecdsa, dsa_at, any_ecdsa_at}
+use Rattle.sshkey_model.specs.KeyPairs.{KeyPair, DsaPair, EcdsaPair, IsScalar, HasScalarPlaces, scalar, scalar_at, RsaPrivate, IsRsaPrivate, rsa_private, IsEcdsaPair, IsPairUnder, HasPairPlaces, pair, pair_at, dsa_pair_at, any_ecdsa_pair_at}
 use Rattle.sshkey_model.specs.Points.{field_size}
-use Rattle.sshkey_model.specs.Parts.{Any}
 use Rattle.sshkey_model.proofs.CombinedReaders.{bind_assoc}
 use Rattle.sshkey_model.proofs.Grammars.{grammar, grammar_with, same_grammar}
-use Rattle.sshkey_model.proofs.KeyPairReaders.{scalar_reads, rsa_private_reads, security_private_reads, any_ecdsa_pair_reads, pair_reads}
+use Rattle.sshkey_model.proofs.KeyPairReaders.{scalar_reads, rsa_private_reads, any_ecdsa_pair_reads, pair_reads}
 -- under names that an attribute of this crate can unfold
-unfoldable pub use Rattle.sshkey_model.specs.KeyPairs.{rsa_pair_at, rsa_private_at, security_private_at, ed25519_pair_at, opaque_pair_at, sk_ecdsa_pair_at, sk_ed25519_pair_at}
+unfoldable pub use Rattle.sshkey_model.specs.KeyPairs.{rsa_pair_at, rsa_private_at, ed25519_pair_at}
 unfoldable pub use Rattle.sshkey_model.specs.Keys.{ed25519_at}
 
 -- the bytes spell the scalar of that size
@@ -27,12 +26,6 @@ SpellsRsaPrivate = Spells IsRsaPrivate rsa_private
 
 pub rsa_private_grammar : IsGrammar SpellsRsaPrivate rsa_private_at
 rsa_private_grammar = grammar rsa_private_reads
-
-abbrev pub SpellsHeld : SecurityPrivate → List ℕ → Type 0
-SpellsHeld = Spells Any security_private
-
-pub held_grammar : IsGrammar SpellsHeld security_private_at
-held_grammar = grammar security_private_reads
 
 -- the bytes spell the pair under that algorithm
 abbrev pub SpellsPair : Algorithm → KeyPair → List ℕ → Type 0
@@ -65,21 +58,6 @@ scalar_behind _ = Err Length
 unfoldable pub ecdsa_steps_at : Front KeyPair
 ecdsa_steps_at b = any_ecdsa_at b >>= scalar_behind
 
--- what is kept of a key that a security key holds
-abbrev pub held_with : Key → SecurityPrivate → Result KeyPair Fault
-held_with (SkEcdsa k) r = Ok (SkEcdsaPair k r)
-held_with (SkEd25519 k) r = Ok (SkEd25519Pair k r)
-held_with _ r = Err Length
-
-abbrev pub held_behind : Key × List ℕ → Result (KeyPair × List ℕ) Fault
-held_behind k = security_private_at k.1 >>= λ r. held_with k.0 r.0 >>= λ p. Ok (p, r.1)
-
-unfoldable pub sk_ecdsa_steps_at : Front KeyPair
-sk_ecdsa_steps_at b = sk_ecdsa_at b >>= held_behind
-
-unfoldable pub sk_ed25519_steps_at : Front KeyPair
-sk_ed25519_steps_at b = sk_ed25519_at b >>= held_behind
-
 pub dsa_steps : (b : List ℕ) → value_at dsa_pair_at b ≡ dsa_steps_at b
 unfolding dsa_pair_at dsa_steps_at dsa_at
 dsa_steps b = simp bind_assoc
@@ -88,22 +66,8 @@ pub ecdsa_steps : (b : List ℕ) → value_at any_ecdsa_pair_at b ≡ ecdsa_step
 unfolding any_ecdsa_pair_at ecdsa_steps_at any_ecdsa_at
 ecdsa_steps b = simp bind_assoc
 
-pub sk_ecdsa_steps : (b : List ℕ) → value_at sk_ecdsa_pair_at b ≡ sk_ecdsa_steps_at b
-unfolding sk_ecdsa_pair_at sk_ecdsa_steps_at sk_ecdsa_at
-sk_ecdsa_steps b = simp bind_assoc
-
-pub sk_ed25519_steps : (b : List ℕ) → value_at sk_ed25519_pair_at b ≡ sk_ed25519_steps_at b
-unfolding sk_ed25519_pair_at sk_ed25519_steps_at sk_ed25519_at
-sk_ed25519_steps b = simp bind_assoc
-
 pub dsa_grammar : IsGrammar (SpellsPair Algorithm.Dsa) dsa_steps_at
 dsa_grammar = same_grammar (pair_grammar Algorithm.Dsa) dsa_steps
 
 pub ecdsa_grammar : IsGrammar SpellsEcdsaPair ecdsa_steps_at
 ecdsa_grammar = same_grammar (grammar_with any_ecdsa_pair_reads) ecdsa_steps
-
-pub sk_ecdsa_grammar : IsGrammar (SpellsPair Algorithm.SkEcdsa) sk_ecdsa_steps_at
-sk_ecdsa_grammar = same_grammar (pair_grammar Algorithm.SkEcdsa) sk_ecdsa_steps
-
-pub sk_ed25519_grammar : IsGrammar (SpellsPair Algorithm.SkEd25519) sk_ed25519_steps_at
-sk_ed25519_grammar = same_grammar (pair_grammar Algorithm.SkEd25519) sk_ed25519_steps

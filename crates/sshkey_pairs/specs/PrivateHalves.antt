@@ -1,13 +1,11 @@
 -- What the private halves of pairs mean.
 use Rattle.std.specs.Prelude.{ℕ, List}
-use Rattle.sshkey_model.specs.KeyPairs.{RsaPrivate, SecurityPrivate}
+use Rattle.sshkey_model.specs.KeyPairs.{RsaPrivate}
 use Rattle.sshkey_base.specs.Mpint.{mpint_of}
 use Rattle.sshkey_pairs.specs.declared.dsa.DsaPrivateKey.{DsaPrivateKey}
 use Rattle.sshkey_pairs.specs.declared.ecdsa.EcdsaPrivateKey.{EcdsaPrivateKey}
 use Rattle.sshkey_pairs.specs.declared.ed25519.Ed25519PrivateKey.{Ed25519PrivateKey}
-use Rattle.sshkey_pairs.specs.declared.opaque.OpaquePrivateKeyBytes.{OpaquePrivateKeyBytes}
 use Rattle.sshkey_pairs.specs.declared.rsa.RsaPrivateKey.{RsaPrivateKey}
-use Rattle.sshkey_pairs.specs.declared.held.Held.{Held}
 
 abbrev pub dsa_private_of : DsaPrivateKey → List ℕ
 dsa_private_of k = mpint_of k.inner
@@ -19,11 +17,5 @@ ecdsa_private_of k = k.bytes
 abbrev pub ed25519_private_of : Ed25519PrivateKey → List ℕ
 ed25519_private_of k = k.bytes
 
-abbrev pub opaque_private_of : OpaquePrivateKeyBytes → List ℕ
-opaque_private_of k = k.bytes
-
 abbrev pub rsa_private_of : RsaPrivateKey → RsaPrivate
 rsa_private_of r = record { d = mpint_of r.d; iqmp = mpint_of r.iqmp; p = mpint_of r.p; q = mpint_of r.q }
-
-abbrev pub held_of : Held → SecurityPrivate
-held_of h = record { flags = h.flags; handle = h.key_handle; reserved = h.reserved }

@@ -4,10 +4,8 @@ ghost use Rattle.std.specs.Prelude.{◌≡◌, ◌<◌, ◌≤◌, suc};
 ghost use Rattle.sshkey_model.specs.KeyPairs.{is_natural, scalar_at};
 ghost use Rattle.sshkey_model.specs.Grammar.{value_at};
 ghost use Rattle.sshkey_model.specs.Reading.{bytes_at, checked_at};
-ghost use Rattle.sshkey_base.specs.Causes.{cause};
-ghost use Rattle.sshkey_base.specs.Reading.{GivesAlways};
 ghost use Rattle.sshkey_base.specs.Source.{Later};
-ghost use Rattle.sshkey_pairs.specs.FixedWidth.{fixed_from, fixed_at};
+ghost use Rattle.sshkey_pairs.specs.FixedWidth.{fixed_from, fixed_at, GivesBytes};
 
 use sshkey_base::{Error, Reader, Result, encoding, length_from};
 
@@ -17,7 +15,7 @@ use sshkey_base::{Error, Reader, Result, encoding, length_from};
 /// `FormatEncoding` for one more byte that does not begin with 00, and for fewer that are no such
 /// form; `TrailingData` for two more. Takes no memory.
 pub(crate) fn decode_fixed<const SIZE: usize, R: Reader>(reader: &mut R) -> Result<[u8; SIZE]>
-    ensures gives { GivesAlways (λ b. b) cause (value_at (scalar_at SIZE)) (R.source reader.old) result (R.source reader.new) }
+    ensures gives { GivesBytes (value_at (scalar_at SIZE)) R.source reader.old result reader.new }
     ensures later { Later (R.source reader.old) (R.source reader.new) }
 {
     read_fixed::<SIZE, R>(reader)
@@ -25,7 +23,7 @@ pub(crate) fn decode_fixed<const SIZE: usize, R: Reader>(reader: &mut R) -> Resu
 
 #[tactic(auto, using(sshkey_base::proofs::Steps::steps), unfolding(crate::specs::FixedWidth::fixed_at))]
 fn read_fixed<const SIZE: usize, R: Reader>(reader: &mut R) -> Result<[u8; SIZE]>
-    ensures gives { GivesAlways (λ b. b) cause (fixed_at SIZE) (R.source reader.old) result (R.source reader.new) }
+    ensures gives { GivesBytes (fixed_at SIZE) R.source reader.old result reader.new }
     ensures later { Later (R.source reader.old) (R.source reader.new) }
 {
     let len = length_from(reader)?;
@@ -47,7 +45,8 @@ fn read_fixed<const SIZE: usize, R: Reader>(reader: &mut R) -> Result<[u8; SIZE]
 #[tactic(auto, using(sshkey_base::proofs::Places::places))]
 fn digits_from<const SIZE: usize, R: Reader>(len: usize, reader: &mut R) -> Result<[u8; SIZE]>
     requires { len ≤ SIZE }
-    ensures gives { GivesAlways (λ b. b) cause (checked_at (fixed_from SIZE) (bytes_at len)) (R.source reader.old) result (R.source reader.new) }
+    ensures gives { GivesBytes (checked_at (fixed_from SIZE) (bytes_at len))
+        R.source reader.old result reader.new }
     ensures later { Later (R.source reader.old) (R.source reader.new) }
 {
     let mut number = [0u8; SIZE];
@@ -63,7 +62,8 @@ fn digits_from<const SIZE: usize, R: Reader>(len: usize, reader: &mut R) -> Resu
 /// The byte 00 and `SIZE` bytes.
 #[tactic(auto, using(sshkey_base::proofs::Places::places))]
 fn signed_from<const SIZE: usize, R: Reader>(reader: &mut R) -> Result<[u8; SIZE]>
-    ensures gives { GivesAlways (λ b. b) cause (checked_at (fixed_from SIZE) (bytes_at (suc SIZE))) (R.source reader.old) result (R.source reader.new) }
+    ensures gives { GivesBytes (checked_at (fixed_from SIZE) (bytes_at (suc SIZE)))
+        R.source reader.old result reader.new }
     ensures later { Later (R.source reader.old) (R.source reader.new) }
 {
     let mut sign = [0u8; 1];

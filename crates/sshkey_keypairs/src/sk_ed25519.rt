@@ -1,12 +1,13 @@
 //! Ed25519 pairs of security keys.
 
-ghost use Rattle.std.specs.Prelude.{◌≡◌, ◌≤◌, ◌+◌, ◌*◌, ◌^◌, [], length, IfOk, IsOk, ◌↔◌, IfErr};
+ghost use Rattle.std.specs.Prelude.{◌≡◌, ◌≤◌, ◌+◌, ◌*◌, ◌^◌, length, IfOk, IsOk, ◌↔◌, IfErr};
 ghost use Rattle.sshkey_base.specs.declared.error.Error.TheVariants as wide;
 ghost use Rattle.sshkey_base.specs.declared.encoding.Error.TheVariants as encoding;
 ghost use Rattle.sshkey_model.specs.KeyPairs.{KeyPair, pair, Plain};
 ghost use Rattle.sshkey_model.specs.Names.{SkEd25519 as AlgorithmSkEd25519};
-ghost use Rattle.sshkey_pairs.specs.PairReaders.{SpellsPair, sk_ed25519_steps_at, sk_ed25519_grammar};
-ghost use Rattle.sshkey_pairs.specs.Pairs.{sk_ed25519_pair_of, sk_ed25519_public, sk_ed25519_held};
+ghost use Rattle.sshkey_pairs.specs.PairReaders.{SpellsPair};
+ghost use Rattle.sshkey_keypairs.specs.SecurityPairs.{sk_ed25519_steps_at, sk_ed25519_grammar};
+ghost use Rattle.sshkey_keypairs.specs.SecurityPairs.{sk_ed25519_pair_of, sk_ed25519_public, sk_ed25519_held, held_anew};
 
 use crate::held::Held;
 use sshkey_base::{Decode, Encode, Error, Reader, Result, Writer, encode_both, encoding};
@@ -31,7 +32,7 @@ impl SkEd25519 {
     ) -> Result<SkEd25519>
         ensures exactly { IsOk result ↔ (length key_handle.items ≤ 255) }
         ensures public { IfOk result (λ k. sk_ed25519_public k ≡ public) }
-        ensures held { IfOk result (λ k. sk_ed25519_held k ≡ record { flags = flags; handle = key_handle.items; reserved = [] }) }
+        ensures held { IfOk result (λ k. sk_ed25519_held k ≡ held_anew flags key_handle.items) }
         ensures refused { IfErr result (λ e. e ≡ wide.Encoding encoding.Length) }
     {
         let held = Held::new(alloc, flags, key_handle)?;
@@ -61,9 +62,9 @@ impl SkEd25519 {
 }
 
 /// The public key, and what is kept of it.
-#[tactic(auto, using(sshkey_base::proofs::Steps::steps), unfolding(crate::specs::PairReaders::sk_ed25519_steps_at))]
+#[tactic(auto, using(sshkey_base::proofs::Steps::steps), unfolding(crate::specs::SecurityPairs::sk_ed25519_steps_at))]
 impl Decode for SkEd25519 {
-    ghost use Rattle.sshkey_pairs.specs.PairNeeds.{NeedsSkEd25519Pair};
+    ghost use Rattle.sshkey_keypairs.specs.SecurityPairs.{NeedsSkEd25519Pair};
 
     type Error = Error;
 

@@ -1,11 +1,11 @@
 //! What is kept of a key that a security key holds.
 
-ghost use Rattle.std.specs.Prelude.{◌≡◌, ◌≤◌, ◌+◌, ◌*◌, ◌^◌, [], length, IfOk, IsOk, ◌↔◌, IfErr};
+ghost use Rattle.std.specs.Prelude.{◌≡◌, ◌≤◌, ◌+◌, ◌*◌, ◌^◌, length, IfOk, IsOk, ◌↔◌, IfErr};
 ghost use Rattle.sshkey_base.specs.declared.error.Error.TheVariants as wide;
 ghost use Rattle.sshkey_base.specs.declared.encoding.Error.TheVariants as encoding;
 ghost use Rattle.sshkey_model.specs.KeyPairs.{SecurityPrivate, security_private};
-ghost use Rattle.sshkey_pairs.specs.PairReaders.{SpellsHeld, security_private_at, held_grammar};
-ghost use Rattle.sshkey_pairs.specs.PrivateHalves.{held_of};
+ghost use Rattle.sshkey_keypairs.specs.SecurityPairs.{SpellsHeld, security_private_at, held_grammar};
+ghost use Rattle.sshkey_keypairs.specs.SecurityPairs.{held_of, held_anew};
 
 use sshkey_base::{Bytes, Decode, Encode, Error, Reader, Result, Writer, encoding};
 use std::alloc::Global;
@@ -23,7 +23,7 @@ impl Held {
     /// 255 bytes.
     pub(crate) fn new(alloc: Global, flags: u8, key_handle: Vec<u8>) -> Result<Held>
         ensures exactly { IsOk result ↔ (length key_handle.items ≤ 255) }
-        ensures value { IfOk result (λ h. held_of h ≡ record { flags = flags; handle = key_handle.items; reserved = [] }) }
+        ensures value { IfOk result (λ h. held_of h ≡ held_anew flags key_handle.items) }
         ensures refused { IfErr result (λ e. e ≡ wide.Encoding encoding.Length) }
     {
         if key_handle.len() > 255 {
@@ -38,9 +38,9 @@ impl Held {
 }
 
 /// The flags, the key handle and the reserved bytes.
-#[tactic(auto, using(sshkey_base::proofs::Steps::steps), unfolding(crate::specs::PairReaders::security_private_at))]
+#[tactic(auto, using(sshkey_base::proofs::Steps::steps), unfolding(crate::specs::SecurityPairs::security_private_at))]
 impl Decode for Held {
-    ghost use Rattle.sshkey_pairs.specs.PairNeeds.{NeedsHeld};
+    ghost use Rattle.sshkey_keypairs.specs.SecurityPairs.{NeedsHeld};
 
     type Error = encoding::Error;
 

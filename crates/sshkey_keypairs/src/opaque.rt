@@ -7,8 +7,8 @@ ghost use Rattle.sshkey_model.specs.KeyPairs.{OpaquePair, pair, Plain};
 ghost use Rattle.sshkey_model.specs.Names.{algorithm_name};
 ghost use Rattle.sshkey_model.specs.Texts.{string};
 ghost use Rattle.sshkey_base.specs.Names.{algorithm_of};
-ghost use Rattle.sshkey_pairs.specs.Pairs.{opaque_pair_of};
-ghost use Rattle.sshkey_pairs.specs.PrivateHalves.{opaque_private_of};
+ghost use Rattle.sshkey_keypairs.specs.OpaquePairs.{opaque_pair_of};
+ghost use Rattle.sshkey_keypairs.specs.OpaquePairs.{opaque_private_of};
 
 use sshkey_base::{Algorithm, Bytes, Decode, Encode, Reader, Writer, encode_both, encoding};
 use sshkey_kinds::OpaquePublicKey;
@@ -81,7 +81,8 @@ pub struct OpaqueKeypair {
 impl OpaqueKeypair {
     /// The pair of that public key and these private bytes. Takes no memory.
     pub fn new(private_key: Vec<u8>, public: OpaquePublicKey) -> OpaqueKeypair
-        ensures value { opaque_pair_of result ≡ OpaquePair (algorithm_name (algorithm_of public.algorithm)) public.key private_key.items }
+        ensures value { opaque_pair_of result
+            ≡ OpaquePair (algorithm_name (algorithm_of public.algorithm)) public.key private_key.items }
         ensures public { result.public ≡ public }
     {
         OpaqueKeypair {

@@ -4,21 +4,14 @@ ghost use Rattle.std.specs.Prelude.{◌≡◌, ◌≤◌, ◌+◌, ◌*◌, ◌^
 ghost use Rattle.sshkey_base.specs.Causes.{cause};
 ghost use Rattle.sshkey_base.specs.Names.{algorithm_of, curve_of};
 ghost use Rattle.sshkey_base.specs.Needs.{Asks};
-ghost use Rattle.sshkey_base.specs.Reading.{Gives};
 ghost use Rattle.sshkey_base.specs.Source.{Later};
 ghost use Rattle.sshkey_keys.specs.Keys.{key_of};
-ghost use Rattle.sshkey_model.specs.Grammar.{value_at};
-ghost use Rattle.sshkey_model.specs.KeyPairs.{pair_at, xor_all, words};
+ghost use Rattle.sshkey_model.specs.KeyPairs.{xor_all, words};
 ghost use Rattle.sshkey_model.specs.Names.{Dsa, Ecdsa, Ed25519, Rsa, SkEcdsa, SkEd25519 as AlgorithmSkEd25519, Other, algorithm_name};
-ghost use Rattle.sshkey_pairs.specs.KeypairReaders.{some_at, steps_at};
-ghost use Rattle.sshkey_pairs.specs.Keypairs.{pair_of, keypair_parts, public_of, checkint_of};
-ghost use Rattle.sshkey_pairs.specs.PairNeeds.{NeedsPair};
+ghost use Rattle.sshkey_keypairs.specs.Keypairs.{pair_of, keypair_parts, public_of, checkint_of, GivesPair, GivesModelPair};
+ghost use Rattle.sshkey_keypairs.specs.KeypairNeeds.{NeedsPair};
 
-use crate::dsa::DsaKeypair;
-use crate::ecdsa::EcdsaKeypair;
-use crate::ed25519::Ed25519Keypair;
 use crate::opaque::{OpaqueKeypair, OpaquePrivateKeyBytes};
-use crate::rsa::RsaKeypair;
 use crate::sk_ecdsa::SkEcdsaSha2NistP256;
 use crate::sk_ed25519::SkEd25519;
 use sshkey_base::{
@@ -26,6 +19,7 @@ use sshkey_base::{
 };
 use sshkey_keys::KeyData;
 use sshkey_kinds::{EcdsaPublicKey, OpaquePublicKey, OpaquePublicKeyBytes};
+use sshkey_pairs::{DsaKeypair, EcdsaKeypair, Ed25519Keypair, RsaKeypair};
 use std::alloc::Global;
 
 /// A key pair of any kind, or one that is encrypted (OpenSSH, PROTOCOL.key).
@@ -59,9 +53,11 @@ impl KeypairData {
         reader: &mut R,
         algorithm: Algorithm,
     ) -> Result<KeypairData>
-        ensures gives { Gives pair_of cause (some_at (value_at (pair_at (algorithm_of algorithm)))) (R.source reader.old) result (R.source reader.new) }
+        ensures gives { GivesModelPair (algorithm_of algorithm)
+            R.source reader.old result reader.new }
         ensures later { Later (R.source reader.old) (R.source reader.new) }
-        ensures asks { Asks cause (NeedsPair (algorithm_of algorithm)) (R.source reader.old) result }
+        ensures asks { Asks cause (NeedsPair (algorithm_of algorithm))
+            (R.source reader.old) result }
     {
         pair_from(alloc, reader, algorithm)
     }
@@ -110,8 +106,8 @@ impl KeypairData {
 #[tactic(auto, using(sshkey_base::proofs::Steps::steps), unfolding(crate::specs::KeypairReaders::keypair_data_at))]
 impl Decode for KeypairData {
     ghost use Rattle.sshkey_model.specs.KeyPairs.{KeyPair};
-    ghost use Rattle.sshkey_pairs.specs.KeypairReaders.{SpellsKeypair, keypair_data_at, keypair_grammar};
-    ghost use Rattle.sshkey_pairs.specs.PairNeeds.{NeedsKeypair};
+    ghost use Rattle.sshkey_keypairs.specs.KeypairReaders.{SpellsKeypair, keypair_data_at, keypair_grammar};
+    ghost use Rattle.sshkey_keypairs.specs.KeypairNeeds.{NeedsKeypair};
 
     type Error = Error;
 
@@ -135,7 +131,7 @@ impl Decode for KeypairData {
 
 /// The pair under that algorithm.
 fn pair_from<R: Reader>(alloc: Global, reader: &mut R, algorithm: Algorithm) -> Result<KeypairData>
-    ensures gives { Gives pair_of cause (some_at (steps_at (algorithm_of algorithm))) (R.source reader.old) result (R.source reader.new) }
+    ensures gives { GivesPair (algorithm_of algorithm) R.source reader.old result reader.new }
     ensures later { Later (R.source reader.old) (R.source reader.new) }
     ensures asks { Asks cause (NeedsPair (algorithm_of algorithm)) (R.source reader.old) result }
 {
@@ -153,7 +149,7 @@ fn pair_from<R: Reader>(alloc: Global, reader: &mut R, algorithm: Algorithm) -> 
 /// A DSA pair.
 #[tactic(auto, using(sshkey_base::proofs::Steps::steps))]
 fn dsa_from<R: Reader>(alloc: Global, reader: &mut R) -> Result<KeypairData>
-    ensures gives { Gives pair_of cause (some_at (steps_at Dsa)) (R.source reader.old) result (R.source reader.new) }
+    ensures gives { GivesPair Dsa R.source reader.old result reader.new }
     ensures later { Later (R.source reader.old) (R.source reader.new) }
     ensures asks { Asks cause (NeedsPair Dsa) (R.source reader.old) result }
 {
@@ -164,7 +160,7 @@ fn dsa_from<R: Reader>(alloc: Global, reader: &mut R) -> Result<KeypairData>
 /// An ECDSA pair on that curve. `AlgorithmUnknown` for another curve, after the scalar was read.
 #[tactic(auto, using(sshkey_base::proofs::Steps::steps))]
 fn ecdsa_from<R: Reader>(alloc: Global, reader: &mut R, curve: EcdsaCurve) -> Result<KeypairData>
-    ensures gives { Gives pair_of cause (some_at (steps_at (Ecdsa (curve_of curve)))) (R.source reader.old) result (R.source reader.new) }
+    ensures gives { GivesPair (Ecdsa (curve_of curve)) R.source reader.old result reader.new }
     ensures later { Later (R.source reader.old) (R.source reader.new) }
     ensures asks { Asks cause (NeedsPair (Ecdsa (curve_of curve))) (R.source reader.old) result }
 {
@@ -178,7 +174,7 @@ fn ecdsa_from<R: Reader>(alloc: Global, reader: &mut R, curve: EcdsaCurve) -> Re
 /// An Ed25519 pair.
 #[tactic(auto, using(sshkey_base::proofs::Steps::steps))]
 fn ed25519_from<R: Reader>(alloc: Global, reader: &mut R) -> Result<KeypairData>
-    ensures gives { Gives pair_of cause (some_at (steps_at Ed25519)) (R.source reader.old) result (R.source reader.new) }
+    ensures gives { GivesPair Ed25519 R.source reader.old result reader.new }
     ensures later { Later (R.source reader.old) (R.source reader.new) }
     ensures asks { Asks cause (NeedsPair Ed25519) (R.source reader.old) result }
 {
@@ -189,7 +185,7 @@ fn ed25519_from<R: Reader>(alloc: Global, reader: &mut R) -> Result<KeypairData>
 /// An RSA pair.
 #[tactic(auto, using(sshkey_base::proofs::Steps::steps))]
 fn rsa_from<R: Reader>(alloc: Global, reader: &mut R) -> Result<KeypairData>
-    ensures gives { Gives pair_of cause (some_at (steps_at (Rsa None))) (R.source reader.old) result (R.source reader.new) }
+    ensures gives { GivesPair (Rsa None) R.source reader.old result reader.new }
     ensures later { Later (R.source reader.old) (R.source reader.new) }
     ensures asks { Asks cause (NeedsPair (Rsa None)) (R.source reader.old) result }
 {
@@ -200,7 +196,7 @@ fn rsa_from<R: Reader>(alloc: Global, reader: &mut R) -> Result<KeypairData>
 /// A P-256 pair of a security key.
 #[tactic(auto, using(sshkey_base::proofs::Steps::steps))]
 fn sk_ecdsa_from<R: Reader>(alloc: Global, reader: &mut R) -> Result<KeypairData>
-    ensures gives { Gives pair_of cause (some_at (steps_at SkEcdsa)) (R.source reader.old) result (R.source reader.new) }
+    ensures gives { GivesPair SkEcdsa R.source reader.old result reader.new }
     ensures later { Later (R.source reader.old) (R.source reader.new) }
     ensures asks { Asks cause (NeedsPair SkEcdsa) (R.source reader.old) result }
 {
@@ -211,7 +207,7 @@ fn sk_ecdsa_from<R: Reader>(alloc: Global, reader: &mut R) -> Result<KeypairData
 /// An Ed25519 pair of a security key.
 #[tactic(auto, using(sshkey_base::proofs::Steps::steps))]
 fn sk_ed25519_from<R: Reader>(alloc: Global, reader: &mut R) -> Result<KeypairData>
-    ensures gives { Gives pair_of cause (some_at (steps_at AlgorithmSkEd25519)) (R.source reader.old) result (R.source reader.new) }
+    ensures gives { GivesPair AlgorithmSkEd25519 R.source reader.old result reader.new }
     ensures later { Later (R.source reader.old) (R.source reader.new) }
     ensures asks { Asks cause (NeedsPair AlgorithmSkEd25519) (R.source reader.old) result }
 {
@@ -220,15 +216,17 @@ fn sk_ed25519_from<R: Reader>(alloc: Global, reader: &mut R) -> Result<KeypairDa
 }
 
 /// A pair under a private-use name.
-#[tactic(auto, using(sshkey_base::proofs::Steps::steps), unfolding(crate::specs::PairReaders::opaque_pair_at))]
+#[tactic(auto, using(sshkey_base::proofs::Steps::steps), unfolding(crate::specs::OpaquePairs::opaque_pair_at))]
 fn opaque_from<R: Reader>(
     alloc: Global,
     reader: &mut R,
     algorithm: Algorithm,
 ) -> Result<KeypairData>
-    ensures gives { Gives pair_of cause (some_at (steps_at (Other (algorithm_name (algorithm_of algorithm))))) (R.source reader.old) result (R.source reader.new) }
+    ensures gives { GivesPair (Other (algorithm_name (algorithm_of algorithm)))
+        R.source reader.old result reader.new }
     ensures later { Later (R.source reader.old) (R.source reader.new) }
-    ensures asks { Asks cause (NeedsPair (Other (algorithm_name (algorithm_of algorithm)))) (R.source reader.old) result }
+    ensures asks { Asks cause (NeedsPair (Other (algorithm_name (algorithm_of algorithm))))
+        (R.source reader.old) result }
 {
     let key = OpaquePublicKeyBytes::decode(alloc, reader)?;
     let private = OpaquePrivateKeyBytes::decode(alloc, reader)?;

@@ -7,7 +7,7 @@ use Rattle.sshkey_model.specs.KeyPairs.{KeyPair, pair_at}
 use Rattle.sshkey_base.specs.Causes.{Cause}
 use Rattle.sshkey_base.specs.Source.{Source}
 use Rattle.sshkey_base.specs.Reading.{Gives}
-use Rattle.sshkey_pairs.specs.KeypairReaders.{some_at, steps_at, same_steps}
+use Rattle.sshkey_keypairs.specs.KeypairReaders.{some_at, steps_at, same_steps}
 
 same_gives : {X Y E : Type 0} (means : X → Y) (cause : E → Cause) (read other : Front Y) (s t : Source) (r : Result X E) → ((b : List ℕ) → other b ≡ read b) → Gives means cause read s r t → Gives means cause other s r t
 same_gives means cause read other s t (Ok x) same h = record { value = same s.left ∙ h.value; missing = h.missing; outer = h.outer }

@@ -1,12 +1,13 @@
 //! P-256 pairs of security keys.
 
-ghost use Rattle.std.specs.Prelude.{◌≡◌, ◌≤◌, ◌+◌, ◌*◌, ◌^◌, [], length, IfOk, IsOk, ◌↔◌, IfErr};
+ghost use Rattle.std.specs.Prelude.{◌≡◌, ◌≤◌, ◌+◌, ◌*◌, ◌^◌, length, IfOk, IsOk, ◌↔◌, IfErr};
 ghost use Rattle.sshkey_base.specs.declared.error.Error.TheVariants as wide;
 ghost use Rattle.sshkey_base.specs.declared.encoding.Error.TheVariants as encoding;
 ghost use Rattle.sshkey_model.specs.KeyPairs.{KeyPair, pair, Plain};
 ghost use Rattle.sshkey_model.specs.Names.{SkEcdsa};
-ghost use Rattle.sshkey_pairs.specs.PairReaders.{SpellsPair, sk_ecdsa_steps_at, sk_ecdsa_grammar};
-ghost use Rattle.sshkey_pairs.specs.Pairs.{sk_ecdsa_pair_of, sk_ecdsa_public, sk_ecdsa_held};
+ghost use Rattle.sshkey_pairs.specs.PairReaders.{SpellsPair};
+ghost use Rattle.sshkey_keypairs.specs.SecurityPairs.{sk_ecdsa_steps_at, sk_ecdsa_grammar};
+ghost use Rattle.sshkey_keypairs.specs.SecurityPairs.{sk_ecdsa_pair_of, sk_ecdsa_public, sk_ecdsa_held, held_anew};
 
 use crate::held::Held;
 use sshkey_base::{Decode, Encode, Error, Reader, Result, Writer, encode_both, encoding};
@@ -31,7 +32,7 @@ impl SkEcdsaSha2NistP256 {
     ) -> Result<SkEcdsaSha2NistP256>
         ensures exactly { IsOk result ↔ (length key_handle.items ≤ 255) }
         ensures public { IfOk result (λ k. sk_ecdsa_public k ≡ public) }
-        ensures held { IfOk result (λ k. sk_ecdsa_held k ≡ record { flags = flags; handle = key_handle.items; reserved = [] }) }
+        ensures held { IfOk result (λ k. sk_ecdsa_held k ≡ held_anew flags key_handle.items) }
         ensures refused { IfErr result (λ e. e ≡ wide.Encoding encoding.Length) }
     {
         let held = Held::new(alloc, flags, key_handle)?;
@@ -61,9 +62,9 @@ impl SkEcdsaSha2NistP256 {
 }
 
 /// The public key, and what is kept of it.
-#[tactic(auto, using(sshkey_base::proofs::Steps::steps), unfolding(crate::specs::PairReaders::sk_ecdsa_steps_at))]
+#[tactic(auto, using(sshkey_base::proofs::Steps::steps), unfolding(crate::specs::SecurityPairs::sk_ecdsa_steps_at))]
 impl Decode for SkEcdsaSha2NistP256 {
-    ghost use Rattle.sshkey_pairs.specs.PairNeeds.{NeedsSkEcdsaPair};
+    ghost use Rattle.sshkey_keypairs.specs.SecurityPairs.{NeedsSkEcdsaPair};
 
     type Error = Error;
 

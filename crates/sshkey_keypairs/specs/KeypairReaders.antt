@@ -9,7 +9,8 @@ use Rattle.sshkey_model.proofs.CombinedReaders.{bind_ok, ok_is}
 use Rattle.sshkey_model.proofs.Grammars.{grammar_with, same_grammar}
 use Rattle.sshkey_model.proofs.KeyPairReaders.{keypair_reads}
 use Rattle.sshkey_base.specs.Labels.{label_at}
-use Rattle.sshkey_pairs.specs.PairReaders.{dsa_steps_at, dsa_steps, ecdsa_steps_at, ecdsa_steps, sk_ecdsa_steps_at, sk_ecdsa_steps, sk_ed25519_steps_at, sk_ed25519_steps}
+use Rattle.sshkey_pairs.specs.PairReaders.{dsa_steps_at, dsa_steps, ecdsa_steps_at, ecdsa_steps}
+use Rattle.sshkey_keypairs.specs.SecurityPairs.{sk_ecdsa_steps_at, sk_ecdsa_steps, sk_ed25519_steps_at, sk_ed25519_steps}
 
 -- the pair that was read, as one that is not encrypted
 abbrev pub some_at : {A : Type 0} → Front A → Front (Option A)

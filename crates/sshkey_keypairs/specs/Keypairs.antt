@@ -1,0 +1,55 @@
+-- What the pairs of all kinds mean.
+use Rattle.std.specs.Prelude.{ℕ, Option, Some, None, option_map, Result}
+use Rattle.sshkey_model.specs.Grammar.{value_at}
+use Rattle.sshkey_model.specs.Names.{Algorithm}
+use Rattle.sshkey_model.specs.Parts.{Parts, bytes}
+use Rattle.sshkey_model.specs.Keys.{Key}
+use Rattle.sshkey_model.specs.KeyPairs.{KeyPair, public_half, normal_keypair, derived_checkint, pair_at}
+use Rattle.sshkey_base.specs.declared.error.Error.{Error}
+use Rattle.sshkey_base.specs.Causes.{cause}
+use Rattle.sshkey_base.specs.Reading.{Gives}
+use Rattle.sshkey_base.specs.Source.{Source}
+use Rattle.sshkey_keypairs.specs.declared.keypair_data.KeypairData.{KeypairData}
+use Rattle.sshkey_keypairs.specs.declared.keypair_data.KeypairData.TheVariants as kinds
+use Rattle.sshkey_keypairs.specs.KeypairReaders.{some_at, steps_at}
+use Rattle.sshkey_pairs.specs.Pairs.{dsa_pair_of, rsa_pair_of, ecdsa_pair_of, ed25519_pair_of}
+use Rattle.sshkey_keypairs.specs.SecurityPairs.{sk_ecdsa_pair_of, sk_ed25519_pair_of}
+use Rattle.sshkey_keypairs.specs.OpaquePairs.{opaque_pair_of}
+
+-- the pair; of an encrypted one nothing is known
+abbrev pub pair_of : KeypairData → Option KeyPair
+pair_of (kinds.Dsa k) = Some (dsa_pair_of k)
+pair_of (kinds.Ecdsa k) = Some (ecdsa_pair_of k)
+pair_of (kinds.Ed25519 k) = Some (ed25519_pair_of k)
+pair_of (kinds.Encrypted c) = None
+pair_of (kinds.Rsa k) = Some (rsa_pair_of k)
+pair_of (kinds.SkEcdsaSha2NistP256 k) = Some (sk_ecdsa_pair_of k)
+pair_of (kinds.SkEd25519 k) = Some (sk_ed25519_pair_of k)
+pair_of (kinds.Other k) = Some (opaque_pair_of k)
+
+-- its normal form, or the ciphertext alone
+abbrev pub keypair_parts : KeypairData → Parts
+keypair_parts (kinds.Dsa k) = normal_keypair (dsa_pair_of k)
+keypair_parts (kinds.Ecdsa k) = normal_keypair (ecdsa_pair_of k)
+keypair_parts (kinds.Ed25519 k) = normal_keypair (ed25519_pair_of k)
+keypair_parts (kinds.Encrypted c) = bytes c.items
+keypair_parts (kinds.Rsa k) = normal_keypair (rsa_pair_of k)
+keypair_parts (kinds.SkEcdsaSha2NistP256 k) = normal_keypair (sk_ecdsa_pair_of k)
+keypair_parts (kinds.SkEd25519 k) = normal_keypair (sk_ed25519_pair_of k)
+keypair_parts (kinds.Other k) = normal_keypair (opaque_pair_of k)
+
+abbrev pub public_of : KeypairData → Option Key
+public_of k = option_map public_half (pair_of k)
+
+-- the derived one, and 0 where the pair is not known
+abbrev pub checkint_of : Option KeyPair → ℕ
+checkint_of (Some k) = derived_checkint k
+checkint_of None = 0
+
+-- what a call gives that reads a pair of that algorithm, behind its name
+abbrev pub GivesModelPair : {R : Type 0} → Algorithm → (R → Source) → R → Result KeypairData Error → R → Type 0
+GivesModelPair a source before result after = Gives pair_of cause (some_at (value_at (pair_at a))) (source before) result (source after)
+
+-- the same, step by step
+abbrev pub GivesPair : {R : Type 0} → Algorithm → (R → Source) → R → Result KeypairData Error → R → Type 0
+GivesPair a source before result after = Gives pair_of cause (some_at (steps_at a)) (source before) result (source after)

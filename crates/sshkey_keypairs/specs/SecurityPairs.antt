@@ -1,0 +1,102 @@
+-- What the pairs of security keys mean, and their readers, which take exactly the spellings.
+use Rattle.std.specs.Prelude.{◌≡◌, ℕ, List, [], Result, Ok, Err}
+use Rattle.std.specs.Int.{w8}
+use Rattle.sshkey_model.specs.Reading.{Fault, Length, ◌>>=◌, Front, number_at, string_at}
+use Rattle.sshkey_model.specs.Grammar.{IsGrammar, Spells, value_at}
+use Rattle.sshkey_model.specs.Names.{Algorithm}
+use Rattle.sshkey_model.specs.Keys.{Key, SkEcdsa, SkEd25519, sk_ecdsa_at, sk_ed25519_at}
+use Rattle.sshkey_model.specs.KeyPairs.{KeyPair, SkEcdsaPair, SkEd25519Pair, SecurityPrivate, security_private}
+use Rattle.sshkey_model.specs.Parts.{Any}
+use Rattle.sshkey_model.proofs.CombinedReaders.{bind_assoc}
+use Rattle.sshkey_model.proofs.Grammars.{grammar, same_grammar}
+use Rattle.sshkey_model.proofs.KeyPairReaders.{security_private_reads}
+use Rattle.sshkey_base.specs.Needs.{NoNeed, NeedsString, NeedsBoth}
+use Rattle.sshkey_kinds.specs.BodyNeeds.{NeedsSkEcdsa, NeedsSkEd25519}
+use Rattle.sshkey_kinds.specs.EcPoint.{point_of}
+use Rattle.sshkey_kinds.specs.Kinds.{sk_ecdsa_point, sk_ecdsa_application, sk_ed25519_key, sk_ed25519_application}
+use Rattle.sshkey_kinds.specs.declared.sk.SkEcdsaSha2NistP256 as public_ecdsa
+use Rattle.sshkey_kinds.specs.declared.sk.SkEd25519 as public_ed25519
+use Rattle.sshkey_pairs.specs.PairReaders.{SpellsPair, pair_grammar}
+use Rattle.sshkey_keypairs.specs.declared.held.Held.{Held}
+use Rattle.sshkey_keypairs.specs.declared.sk_ecdsa.SkEcdsaSha2NistP256.{SkEcdsaSha2NistP256}
+use Rattle.sshkey_keypairs.specs.declared.sk_ed25519.SkEd25519 as sk
+-- under names that an attribute of this crate can unfold
+unfoldable pub use Rattle.sshkey_model.specs.KeyPairs.{security_private_at, sk_ecdsa_pair_at, sk_ed25519_pair_at}
+
+-- ---- what is kept of a key that a security key holds
+
+abbrev pub held_of : Held → SecurityPrivate
+held_of h = record { flags = h.flags; handle = h.key_handle; reserved = h.reserved }
+
+-- of a new key, with no reserved bytes
+abbrev pub held_anew : ℕ → List ℕ → SecurityPrivate
+held_anew flags handle = record { flags = flags; handle = handle; reserved = [] }
+
+abbrev pub SpellsHeld : SecurityPrivate → List ℕ → Type 0
+SpellsHeld = Spells Any security_private
+
+pub held_grammar : IsGrammar SpellsHeld security_private_at
+held_grammar = grammar security_private_reads
+
+-- the key handle or the reserved bytes
+abbrev pub NeedsHeld : List ℕ → Type 0
+NeedsHeld = NeedsBoth NoNeed (number_at w8) (NeedsBoth NeedsString string_at NeedsString)
+
+-- ---- the pairs
+
+-- the public key of a security key, and what is kept of it
+abbrev pub sk_ecdsa_public : SkEcdsaSha2NistP256 → public_ecdsa.SkEcdsaSha2NistP256
+sk_ecdsa_public k = k.public
+
+abbrev pub sk_ecdsa_held : SkEcdsaSha2NistP256 → SecurityPrivate
+sk_ecdsa_held k = held_of k.held
+
+abbrev pub sk_ecdsa_pair_of : SkEcdsaSha2NistP256 → KeyPair
+sk_ecdsa_pair_of k = SkEcdsaPair (record { key = point_of (sk_ecdsa_point (sk_ecdsa_public k)); application = sk_ecdsa_application (sk_ecdsa_public k) }) (sk_ecdsa_held k)
+
+abbrev pub sk_ed25519_public : sk.SkEd25519 → public_ed25519.SkEd25519
+sk_ed25519_public k = k.public
+
+abbrev pub sk_ed25519_held : sk.SkEd25519 → SecurityPrivate
+sk_ed25519_held k = held_of k.held
+
+abbrev pub sk_ed25519_pair_of : sk.SkEd25519 → KeyPair
+sk_ed25519_pair_of k = SkEd25519Pair (record { key = (sk_ed25519_key (sk_ed25519_public k)).0; application = sk_ed25519_application (sk_ed25519_public k) }) (sk_ed25519_held k)
+
+-- ---- their readers
+
+-- what is kept of a key that a security key holds
+abbrev pub held_with : Key → SecurityPrivate → Result KeyPair Fault
+held_with (SkEcdsa k) r = Ok (SkEcdsaPair k r)
+held_with (SkEd25519 k) r = Ok (SkEd25519Pair k r)
+held_with _ r = Err Length
+
+abbrev pub held_behind : Key × List ℕ → Result (KeyPair × List ℕ) Fault
+held_behind k = security_private_at k.1 >>= λ r. held_with k.0 r.0 >>= λ p. Ok (p, r.1)
+
+unfoldable pub sk_ecdsa_steps_at : Front KeyPair
+sk_ecdsa_steps_at b = sk_ecdsa_at b >>= held_behind
+
+unfoldable pub sk_ed25519_steps_at : Front KeyPair
+sk_ed25519_steps_at b = sk_ed25519_at b >>= held_behind
+
+pub sk_ecdsa_steps : (b : List ℕ) → value_at sk_ecdsa_pair_at b ≡ sk_ecdsa_steps_at b
+unfolding sk_ecdsa_pair_at sk_ecdsa_steps_at sk_ecdsa_at
+sk_ecdsa_steps b = simp bind_assoc
+
+pub sk_ed25519_steps : (b : List ℕ) → value_at sk_ed25519_pair_at b ≡ sk_ed25519_steps_at b
+unfolding sk_ed25519_pair_at sk_ed25519_steps_at sk_ed25519_at
+sk_ed25519_steps b = simp bind_assoc
+
+pub sk_ecdsa_grammar : IsGrammar (SpellsPair Algorithm.SkEcdsa) sk_ecdsa_steps_at
+sk_ecdsa_grammar = same_grammar (pair_grammar Algorithm.SkEcdsa) sk_ecdsa_steps
+
+pub sk_ed25519_grammar : IsGrammar (SpellsPair Algorithm.SkEd25519) sk_ed25519_steps_at
+sk_ed25519_grammar = same_grammar (pair_grammar Algorithm.SkEd25519) sk_ed25519_steps
+
+-- the public key, or what is kept of it
+abbrev pub NeedsSkEcdsaPair : List ℕ → Type 0
+NeedsSkEcdsaPair = NeedsBoth NeedsSkEcdsa sk_ecdsa_at NeedsHeld
+
+abbrev pub NeedsSkEd25519Pair : List ℕ → Type 0
+NeedsSkEd25519Pair = NeedsBoth NeedsSkEd25519 sk_ed25519_at NeedsHeld
