@@ -1,1 +1,5 @@
 pub mod PaddedReaders
+pub mod InnerReaders
+pub mod KeyReaders
+pub mod KeyValues
+pub mod KeyForms

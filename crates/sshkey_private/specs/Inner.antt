@@ -1,21 +1,17 @@
 -- The private part of a key that is not encrypted, without its padding.
-use Rattle.std.specs.Prelude.{◌≡◌, ℕ, List, Option, Some, None, option_map, Bool, true, false, Result, Ok, Err, if◌then◌else◌}
+use Rattle.std.specs.Prelude.{ℕ, List, Option, Some, None, option_map, Result, Ok, Err, if◌then◌else◌}
 use Rattle.std.specs.Int.{w32}
 use Rattle.sshkey_model.specs.Reading.{Fault, PublicKey, ◌>>=◌, Front, number_at, checked_at}
 use Rattle.sshkey_model.specs.Texts.{text_at}
 use Rattle.sshkey_model.specs.Keys.{Key}
-use Rattle.sshkey_model.specs.KeyPairs.{KeyPair, public_half}
-use Rattle.sshkey_model.specs.PrivateKeys.{UnencryptedKey, key_eq, same_checkint}
+use Rattle.sshkey_model.specs.KeyPairs.{KeyPair}
+use Rattle.sshkey_model.specs.PrivateKeys.{UnencryptedKey, same_checkint}
 use Rattle.sshkey_base.specs.Needs.{NoNeed, NeedsString, NeedsBoth}
 use Rattle.sshkey_keypairs.specs.Keypairs.{pair_of}
 use Rattle.sshkey_keypairs.specs.KeypairReaders.{keypair_data_at}
 use Rattle.sshkey_keypairs.specs.KeypairNeeds.{NeedsKeypair}
-use Rattle.sshkey_private.specs.declared.inner.Inner.{Inner}
-
--- The public key is the public half of the pair; of an encrypted pair none is known.
-abbrev pub is_half : Option KeyPair → Key → Bool
-is_half (Some k) public = key_eq (public_half k) public
-is_half None public = false
+use Rattle.sshkey_private.specs.declared.part.Inner.{Inner}
+use Rattle.sshkey_private.specs.Halves.{is_half}
 
 abbrev pub unencrypted : ℕ → Option KeyPair → List ℕ → Option UnencryptedKey
 unencrypted checkint pair comment = option_map (λ k. record { checkint = checkint; pair = k; comment = comment }) pair

@@ -15,26 +15,18 @@ ghost use Rattle.sshkey_model.specs.KeyPairs.{public_half};
 ghost use Rattle.sshkey_model.specs.PrivateKeys.{key_eq, padded_from, same_checkint};
 ghost use Rattle.sshkey_model.specs.Reading.{box_at};
 ghost use Rattle.sshkey_pairs.specs.Pairs.{ecdsa_pair_of};
-ghost use Rattle.sshkey_private.specs.Inner.{inner_of, inner_at, is_half, checkint_at, half_of, pair_with_at, NeedsInner};
+ghost use Rattle.sshkey_private.specs.Halves.{is_half};
+ghost use Rattle.sshkey_private.specs.Inner.{inner_of, inner_at, checkint_at, half_of, pair_with_at, NeedsInner};
 ghost use Rattle.sshkey_private.specs.Paddings.{NeedsPadded};
 
 use crate::padded::end_padding;
+use crate::part::Inner;
 use sshkey_base::{Decode, Error, NestedReader, Reader, Result, Text, encoding};
 use sshkey_keypairs::KeypairData;
 use sshkey_keys::KeyData;
 use sshkey_kinds::EcdsaPublicKey;
 use sshkey_pairs::EcdsaKeypair;
 use std::alloc::Global;
-
-/// A checkint, a pair with its public key, and a comment.
-#[derive(Drop)]
-pub(crate) struct Inner {
-    pub(crate) checkint: u32,
-    pub(crate) public: KeyData,
-    pub(crate) pair: KeypairData,
-    pub(crate) comment: Text,
-    pub ghost half: { is_half (pair_of pair) (key_of public) ≡ true },
-}
 
 /// A string of the checkint, the pair and the comment, padded to a multiple of eight bytes.
 ///
