@@ -21,7 +21,7 @@ Pair = KeyPair × KeyPairChoices
 abbrev some_pair : Pair → Option KeyPair
 some_pair x = Some x.0
 
-abbrev Part : Type 0
+abbrev pub Part : Type 0
 Part = UnencryptedKey × KeyPairChoices
 
 abbrev pub some_part : Part → Option UnencryptedKey
@@ -32,10 +32,16 @@ some_part x = Some x.0
 abbrev with_head : Algorithm → (KeyPair × LeadingZeros) × List ℕ → Result (Pair × List ℕ) Fault
 with_head a k = Ok ((k.0.0, record { head = head_of a; zeros = k.0.1 }), k.1)
 
+abbrev bare : (KeyPair × LeadingZeros) × List ℕ → Result (KeyPair × List ℕ) Fault
+bare x = Ok (x.0.0, x.1)
+
+abbrev as_some : KeyPair × List ℕ → Result (Option KeyPair × List ℕ) Fault
+as_some x = Ok (Some x.0, x.1)
+
 named_same : (r : Result (Algorithm × List ℕ) Fault) → (r >>= λ n. some_at (value_at (pair_at n.0)) n.1) ≡ ((r >>= λ n. pair_at n.0 n.1 >>= with_head n.0) >>= on_value some_pair)
 named_same (Ok n) = go (pair_at n.0 n.1)
   where
-    go : (r : Result ((KeyPair × LeadingZeros) × List ℕ) Fault) → ((r >>= λ x. Ok (x.0.0, x.1)) >>= λ x. Ok (Some x.0, x.1)) ≡ ((r >>= with_head n.0) >>= on_value some_pair)
+    go : (r : Result ((KeyPair × LeadingZeros) × List ℕ) Fault) → ((r >>= bare) >>= as_some) ≡ ((r >>= with_head n.0) >>= on_value some_pair)
     go (Ok k) = refl
     go (Err e) = refl
 named_same (Err e) = refl

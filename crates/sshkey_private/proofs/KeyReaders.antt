@@ -8,7 +8,7 @@ use Rattle.sshkey_model.specs.Names.{algorithm_at}
 use Rattle.sshkey_model.specs.Keys.{Key, Head, key_at}
 use Rattle.sshkey_model.specs.KeyDerivation.{Cipher, NoCipher, cipher_at, tag_size, Kdf, NoKdf, Bcrypt, kdf_at}
 use Rattle.sshkey_model.specs.KeyPairs.{KeyPairChoices, plain_pair}
-use Rattle.sshkey_model.specs.PrivateKeys.{PrivateKey, Unencrypted, Encrypted, PrivateKeyChoices, IsPrivateKey, HasPrivateKeyPlaces, private_key, private_key_magic, private_part_at, padded_from, unencrypted_at, encrypted_at, content_at, private_key_at, may_precede, decoded_private_key_at}
+use Rattle.sshkey_model.specs.PrivateKeys.{UnencryptedKey, PrivateKey, Unencrypted, Encrypted, PrivateKeyChoices, IsPrivateKey, HasPrivateKeyPlaces, private_key, private_key_magic, private_part_at, padded_from, unencrypted_at, encrypted_at, content_at, private_key_at, may_precede, decoded_private_key_at}
 use Rattle.sshkey_model.proofs.CombinedReaders.{bind_assoc, bind_ok, ok_is}
 use Rattle.sshkey_model.proofs.PrivateKeyReaders.{whole_private_key_reads}
 use Rattle.sshkey_base.specs.Causes.{Cause, NoMemory, cause}
@@ -89,7 +89,7 @@ unencrypted_is : (public : Key) (outer : Head) (b : List ℕ) → (((unencrypted
 unfolding unencrypted_at
 unencrypted_is public outer b = go (box_at (padded_from (private_part_at public)) b)
   where
-    go : (r : Result _ Fault) → ((((r >>= λ part. Ok ((Unencrypted part.0.0, part.0.1), part.1)) >>= with_outer outer) >>= last) >>= bare) ≡ ((r >>= λ part. Ok ((Unencrypted part.0.0, part.0.1), part.1)) >>= λ x. Ok (x.0.0, x.1))
+    go : (r : Result ((UnencryptedKey × KeyPairChoices) × List ℕ) Fault) → ((((r >>= λ part. Ok ((Unencrypted part.0.0, part.0.1), part.1)) >>= with_outer outer) >>= last) >>= bare) ≡ ((r >>= λ part. Ok ((Unencrypted part.0.0, part.0.1), part.1)) >>= λ x. Ok (x.0.0, x.1))
     go (Ok part) = refl
     go (Err e) = refl
 

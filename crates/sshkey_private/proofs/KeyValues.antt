@@ -7,7 +7,7 @@ use Rattle.sshkey_model.specs.Grammar.{value_at}
 use Rattle.sshkey_model.specs.Keys.{Key}
 use Rattle.sshkey_model.specs.KeyDerivation.{Cipher, NoCipher, tag_size, Kdf, NoKdf, Bcrypt}
 use Rattle.sshkey_model.specs.KeyPairs.{KeyPair}
-use Rattle.sshkey_model.specs.PrivateKeys.{PrivateKey, Unencrypted, Encrypted, EncryptedKey, padded_from, private_part_at, unencrypted_at}
+use Rattle.sshkey_model.specs.PrivateKeys.{UnencryptedKey, PrivateKey, Unencrypted, Encrypted, EncryptedKey, padded_from, private_part_at, unencrypted_at}
 use Rattle.sshkey_model.proofs.CombinedReaders.{bind_ok, ok_is}
 use Rattle.sshkey_base.specs.Causes.{Cause, Faulty}
 use Rattle.sshkey_base.specs.Needs.{NeedsString}
@@ -27,7 +27,7 @@ pub of_inner : (o : Option KeyPair) (checkint : ℕ) (comment : List ℕ) (seale
 of_inner (Some k) checkint comment sealed public half = refl
 of_inner None checkint comment sealed public half = absurd cc
 
-module _ {X I : Type 0} (means : X → PrivateKey) (part : I → Option _) (public : Key) where
+module _ {X I : Type 0} (means : X → PrivateKey) (part : I → Option UnencryptedKey) (public : Key) where
   pub unencrypted_read : (s t : Source) (x : X) (i : I) → Reads part (box_at (padded_from (inner_at public))) s i t → Some (means x) ≡ option_map Unencrypted (part i) → Reads means (value_at (unencrypted_at public)) s x t
   unfolding unencrypted_at
   unencrypted_read s t x i h e =
@@ -87,7 +87,7 @@ no_derivation c NoKdf public m b none some = absurd (some refl)
 no_derivation c (Bcrypt o) public m b none some = rw none (record { fault = λ other sound. refl })
 
 pub plain_content : (c : Cipher) (k : Kdf) (public : Key) (b : List ℕ) → c ≡ NoCipher → k ≡ NoKdf → value_at (unencrypted_at public) b ≡ last_content_at c k public b
-plain_content c k public b none no = rw (none, no) refl
+plain_content c k public b none same = rw (none, same) refl
 
 pub needs_ciphertext : (c : Cipher) (k : Kdf) (public : Key) (b : List ℕ) → (c ≡ NoCipher → ⊥) → NeedsString b → NeedsContent c k public b
 needs_ciphertext NoCipher k public b some h = absurd (some refl)

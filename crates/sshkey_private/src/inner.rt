@@ -46,11 +46,11 @@ pub(crate) fn decode_inner<R: Reader>(
 {
     reader.read_prefixed(
         |part: &mut NestedReader<'_, R>| -> Result<Inner>
-            ensures gives { Gives inner_of cause (to_end (padded_from (inner_at (key_of public.entry))))
+            ensures gives { Gives inner_of cause (to_end (padded_from (inner_at (key_of public))))
                 (nested_source R.source part.old) result (nested_source R.source part.new) }
             ensures later { Later (nested_source R.source part.old)
                 (nested_source R.source part.new) }
-            ensures asks { Asks cause (NeedsPadded (NeedsInner (key_of public.entry)))
+            ensures asks { Asks cause (NeedsPadded (NeedsInner (key_of public)))
                 (nested_source R.source part.old) result }
         { padded_inner_from(alloc, part, public) },
     )
