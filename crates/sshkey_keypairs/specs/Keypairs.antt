@@ -1,5 +1,5 @@
 -- What the pairs of all kinds mean.
-use Rattle.std.specs.Prelude.{ℕ, Option, Some, None, option_map, Result}
+use Rattle.std.specs.Prelude.{ℕ, List, [], Option, Some, None, option_map, Result}
 use Rattle.sshkey_model.specs.Grammar.{value_at}
 use Rattle.sshkey_model.specs.Names.{Algorithm}
 use Rattle.sshkey_model.specs.Parts.{Parts, bytes}
@@ -44,6 +44,15 @@ abbrev pub algorithm_beside : KeypairData → Option Algorithm
 algorithm_beside (kinds.Encrypted c) = None
 algorithm_beside (kinds.Other k) = Some (algorithm_of k.public.algorithm)
 algorithm_beside k = option_map pair_algorithm (pair_of k)
+
+-- the ciphertext; a pair has none
+abbrev pub ciphertext_of : KeypairData → List ℕ
+ciphertext_of (kinds.Encrypted c) = c.items
+ciphertext_of k = []
+
+-- the pair and its algorithm, or the ciphertext
+abbrev pub pair_fields : KeypairData → Option KeyPair × (Option Algorithm × List ℕ)
+pair_fields k = (pair_of k, (algorithm_beside k, ciphertext_of k))
 
 -- the public half
 abbrev pub public_of : KeypairData → Option Key

@@ -3,9 +3,10 @@
 ghost use Rattle.std.specs.Fmt.{WritesOnOk};
 ghost use Rattle.std.specs.Prelude.{◌≡◌, ◌+◌, ◌*◌, ◌^◌, List, ℕ, IfOk, IfErr, codes};
 ghost use Rattle.sshkey_model.specs.KeyPairs.{KeyPair, pair, Plain};
+ghost use Rattle.sshkey_model.specs.Mpints.{mpint_at};
 ghost use Rattle.sshkey_model.specs.Names.{Dsa};
 ghost use Rattle.sshkey_model.specs.Texts.{string};
-ghost use Rattle.sshkey_base.specs.Mpint.{SpellsMpint, mpint_at, mpint_grammar, mpint_of};
+ghost use Rattle.sshkey_base.specs.Mpint.{SpellsMpint, mpint_grammar, mpint_of};
 ghost use Rattle.sshkey_pairs.specs.PairReaders.{SpellsPair, dsa_steps_at, dsa_grammar};
 ghost use Rattle.sshkey_pairs.specs.PrivateHalves.{dsa_private_of};
 
