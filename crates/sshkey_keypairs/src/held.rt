@@ -4,8 +4,7 @@ ghost use Rattle.std.specs.Prelude.{◌≡◌, ◌≤◌, ◌+◌, ◌*◌, ◌^
 ghost use Rattle.sshkey_base.specs.declared.error.Error.TheVariants as wide;
 ghost use Rattle.sshkey_base.specs.declared.encoding.Error.TheVariants as encoding;
 ghost use Rattle.sshkey_model.specs.KeyPairs.{SecurityPrivate, security_private};
-ghost use Rattle.sshkey_keypairs.specs.SecurityPairs.{SpellsHeld, security_private_at, held_grammar};
-ghost use Rattle.sshkey_keypairs.specs.SecurityPairs.{held_of, held_anew};
+ghost use Rattle.sshkey_keypairs.specs.SecurityPairs.{SpellsHeld, security_private_at, held_anew, held_grammar, held_of};
 
 use sshkey_base::{Bytes, Decode, Encode, Error, Reader, Result, Writer, encoding};
 use std::alloc::Global;

@@ -105,7 +105,8 @@ impl fmt::UpperHex for Ed25519PrivateKey {
 /// Shows no bytes.
 impl fmt::Debug for Ed25519PrivateKey {
     fn fmt<W: fmt::Write>(&self, f: &mut fmt::Formatter<W>) -> fmt::Result
-        ensures { WritesOnOk W.write_str_gives f.old result (codes "Ed25519PrivateKey { .. }") f.new }
+        ensures { WritesOnOk W.write_str_gives f.old result
+            (codes "Ed25519PrivateKey { .. }") f.new }
     {
         f.write_str("Ed25519PrivateKey { .. }")
     }
