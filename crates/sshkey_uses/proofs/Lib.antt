@@ -1,3 +1,4 @@
 mod Answered
+mod Logins
 mod Room
 mod SignedFiles

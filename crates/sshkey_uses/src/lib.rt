@@ -5,11 +5,13 @@
 #![tactic(auto)]
 
 mod host_key;
+mod login;
 mod normal_blob;
 mod signed;
 mod signed_file;
 
 pub use host_key::fingerprint_if_known;
+pub use login::let_in;
 pub use normal_blob::is_normal_blob;
 pub use signed::is_signed;
 pub use signed_file::accept_file;
