@@ -1,0 +1,6 @@
+pub mod PaddedReaders
+pub mod InnerReaders
+pub mod KeyReaders
+pub mod KeyValues
+pub mod KeyForms
+pub mod NewKeys
