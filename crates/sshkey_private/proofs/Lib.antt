@@ -4,3 +4,4 @@ pub mod KeyReaders
 pub mod KeyValues
 pub mod KeyForms
 pub mod NewKeys
+pub mod WrittenKeys

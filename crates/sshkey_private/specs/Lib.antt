@@ -7,3 +7,4 @@ pub mod PrivateKeyReaders
 pub mod Openings
 pub mod Forms
 pub mod PrivateKeys
+pub mod Written

@@ -39,3 +39,8 @@ is_encrypted (Encrypted k) = true
 abbrev pub GivesNew : Option KeyPair → List ℕ → Result PrivateKey Error → Type 0
 GivesNew (Some k) comment r = MatchResult r (λ x. private_of x ≡ new_private_key k comment) (λ e. e ≡ wide.Memory)
 GivesNew None comment r = IsErrAnd r (λ e. e ≡ wide.Encrypted)
+
+-- It has that comment. That of an encrypted key is no part of it.
+abbrev pub with_comment : List ℕ → model.PrivateKey → model.PrivateKey
+with_comment comment (Unencrypted k) = Unencrypted (record { checkint = k.checkint; pair = k.pair; comment = comment })
+with_comment comment (Encrypted k) = Encrypted k

@@ -5,11 +5,12 @@ ghost use Rattle.sshkey_keypairs.specs.Keypairs.{pair_of};
 ghost use Rattle.sshkey_private.specs.Forms.{has_form, sealed_of};
 
 mod read;
+mod write;
 
 use crate::cipher::Cipher;
 use crate::kdf::Kdf;
 use read::private_key_from;
-use sshkey_base::{Algorithm, HashAlg, Reader, Result};
+use sshkey_base::{Algorithm, HashAlg, Reader, Result, encode_vec};
 use sshkey_keypairs::KeypairData;
 use sshkey_keys::{Fingerprint, KeyData};
 use sshkey_public::PublicKey;
@@ -20,13 +21,20 @@ use std::alloc::Global;
 /// One that is not encrypted holds a pair, and its public key is the public half. Of an encrypted
 /// one the ciphertext is held, in whole blocks of its cipher, with a tag exactly where the cipher
 /// has one; nothing here encrypts or decrypts.
+///
+/// Two are equal where the ciphers, the derivations, the public keys with their comments, and the
+/// pairs or ciphertexts are: checkint and tag are left out. What is shown of one has no private
+/// byte, and leaves out the checkint too, which is made of them.
 #[derive(Drop)]
+#[derive_where(Debug, PartialEq, Eq)]
 pub struct PrivateKey {
     cipher: Cipher,
     kdf: Kdf,
+    #[derive_where(skip)]
     checkint: u32,
     public_key: PublicKey,
     key_data: KeypairData,
+    #[derive_where(skip)]
     tag: Option<[u8; 16]>,
     pub ghost form: { has_form (pair_of key_data) (sealed_of cipher kdf public_key key_data tag) ≡ true },
 }
@@ -39,13 +47,14 @@ impl PrivateKey {
     ghost use Rattle.sshkey_base.specs.Reading.{AcceptsWhole, Gives, GivesWhole};
     ghost use Rattle.sshkey_base.specs.Source.{Later, all_of};
     ghost use Rattle.sshkey_base.specs.declared.error.Error.TheVariants as wide;
+    ghost use Rattle.sshkey_keys.specs.Blobs.{MakesBlob};
     ghost use Rattle.sshkey_keys.specs.Fingerprints.{GivesFingerprint};
     ghost use Rattle.sshkey_keys.specs.Keys.{algorithm_beside};
-    ghost use Rattle.sshkey_model.specs.PrivateKeys.{key_cipher, key_kdf, public_key};
+    ghost use Rattle.sshkey_model.specs.PrivateKeys.{key_cipher, key_kdf, public_key, normal_private_key};
     ghost use Rattle.sshkey_model.specs.Reading.{whole};
     ghost use Rattle.sshkey_private.specs.Ciphers.{cipher_of, kdf_of};
     ghost use Rattle.sshkey_private.specs.PrivateKeyReaders.{SpellsPrivateKey, private_value_at, NeedsPrivateKey};
-    ghost use Rattle.sshkey_private.specs.PrivateKeys.{private_of, is_encrypted, data_of, outer_of, GivesNew};
+    ghost use Rattle.sshkey_private.specs.PrivateKeys.{private_of, is_encrypted, data_of, outer_of, with_comment, GivesNew};
     ghost use Rattle.sshkey_public.specs.PublicKeys.{public_of, comment_of, data_of as key_data_of};
 
     /// The private key of that pair, not encrypted, with that comment. Its checkint is the one that
@@ -115,6 +124,16 @@ impl PrivateKey {
         Ok(reader.finish(key)?)
     }
 
+    /// The bytes of the key's normal form, in memory of their own.
+    ///
+    /// Exactly where a part of the key is longer than 2^32 - 1 bytes, the answer is `Length`;
+    /// otherwise it is refused only when out of memory.
+    pub fn to_bytes(&self, alloc: Global) -> Result<Vec<u8>>
+        ensures { MakesBlob (normal_private_key (private_of self.now)) result }
+    {
+        Ok(encode_vec(alloc, self)?)
+    }
+
     /// Whether the key is encrypted.
     pub fn is_encrypted(&self) -> bool
         ensures { result ≡ is_encrypted (private_of self.now) }
@@ -179,6 +198,35 @@ impl PrivateKey {
         ensures { GivesFingerprint (hash_of hash_alg) (public_key (private_of self.now)) result }
     {
         self.public_key.fingerprint(alloc, hash_alg)
+    }
+
+    /// Gives the key another comment, which of an encrypted key is not written. Takes no memory.
+    pub fn set_comment(&mut self, comment: String)
+        ensures value { private_of self.new
+            ≡ with_comment (string_bytes comment) (private_of self.old) }
+        ensures key { key_data_of (outer_of self.new) ≡ key_data_of (outer_of self.old) }
+        ensures comment { comment_of (outer_of self.new) ≡ string_bytes comment }
+    {
+        self.public_key.set_comment(comment);
+    }
+
+    /// The same key and comment in memory of their own. Refused only when out of memory.
+    pub fn try_clone(&self, alloc: Global) -> Result<PrivateKey>
+        ensures value { IfOk result (λ k. private_of k ≡ private_of self.now) }
+        ensures algorithm { IfOk result (λ k. algorithm_beside (key_data_of (outer_of k))
+            ≡ algorithm_beside (key_data_of (outer_of self.now))) }
+        ensures comment { IfOk result
+            (λ k. comment_of (outer_of k) ≡ comment_of (outer_of self.now)) }
+        ensures refused { IfErr result (λ e. e ≡ wide.Memory) }
+    {
+        Ok(PrivateKey {
+            cipher: self.cipher,
+            kdf: self.kdf.try_clone(alloc)?,
+            checkint: self.checkint,
+            public_key: self.public_key.try_clone(alloc)?,
+            key_data: self.key_data.try_clone(alloc)?,
+            tag: self.tag,
+        })
     }
 }
 
