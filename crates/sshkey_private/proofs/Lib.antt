@@ -1,0 +1,7 @@
+pub mod PaddedReaders
+pub mod InnerReaders
+pub mod KeyReaders
+pub mod KeyValues
+pub mod KeyForms
+pub mod NewKeys
+pub mod WrittenKeys

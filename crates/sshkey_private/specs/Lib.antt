@@ -1,2 +1,10 @@
 pub mod Ciphers
+pub mod Paddings
 pub mod Needs
+pub mod Halves
+pub mod Inner
+pub mod PrivateKeyReaders
+pub mod Openings
+pub mod Forms
+pub mod PrivateKeys
+pub mod Written

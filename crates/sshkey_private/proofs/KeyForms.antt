@@ -1,0 +1,52 @@
+-- The form of a private key's fields.
+use Rattle.std.proofs.Common.{◌≡◌, ℕ, ◌%◌, List, length, true, ◌&&◌, not, Option, Some, None, refl, sym}
+use Rattle.std.proofs.lemmas.Bool.{and_parts, eq-eqb}
+use Rattle.sshkey_model.specs.KeyDerivation.{Cipher, NoCipher, Kdf, NoKdf, Bcrypt, block_size, tag_size}
+use Rattle.sshkey_model.specs.KeyPairs.{KeyPair, public_half}
+use Rattle.sshkey_model.specs.PrivateKeys.{EncryptedKey, key_eq, key_cipher, key_kdf, public_key}
+use Rattle.sshkey_model.proofs.PrivateKeyReaders.{same_key, key_itself}
+use Rattle.sshkey_private.specs.Forms.{is_no_cipher, is_no_kdf, has_form}
+use Rattle.sshkey_private.specs.Halves.{is_half}
+use Rattle.sshkey_private.specs.PrivateKeys.{of_pair}
+
+no_cipher : (c : Cipher) → is_no_cipher c ≡ true → c ≡ NoCipher
+no_cipher NoCipher is = refl
+no_cipher _ is = absurd cc
+
+no_kdf : (k : Kdf) → is_no_kdf k ≡ true → k ≡ NoKdf
+no_kdf NoKdf is = refl
+no_kdf (Bcrypt o) is = absurd cc
+
+some_cipher : (c : Cipher) → (c ≡ NoCipher → ⊥) → not (is_no_cipher c) ≡ true
+some_cipher NoCipher some = absurd (some refl)
+some_cipher _ some = refl
+
+-- with a pair there is no cipher, and the public key is its half
+pub plain_form : (k : KeyPair) (e : EncryptedKey) → has_form (Some k) e ≡ true → (e.cipher ≡ NoCipher) × (e.kdf ≡ NoKdf) × (public_half k ≡ e.public)
+plain_form k e h =
+    let a = and_parts (is_no_cipher e.cipher && is_no_kdf e.kdf) (key_eq (public_half k) e.public) h in
+    let b = and_parts (is_no_cipher e.cipher) (is_no_kdf e.kdf) a.0 in
+    (no_cipher e.cipher b.0, no_kdf e.kdf b.1, same_key (public_half k) e.public a.1)
+
+pub form_of_half : (o : Option KeyPair) (e : EncryptedKey) → e.cipher ≡ NoCipher → e.kdf ≡ NoKdf → is_half o e.public ≡ true → has_form o e ≡ true
+form_of_half (Some k) e c d half = rw (c, d, half) refl
+form_of_half None e c d half = absurd cc
+
+pub form_of_pair : (k : KeyPair) (e : EncryptedKey) → e.cipher ≡ NoCipher → e.kdf ≡ NoKdf → public_half k ≡ e.public → has_form (Some k) e ≡ true
+form_of_pair k e c d same = form_of_half (Some k) e c d (rw (← same) (key_itself (public_half k)))
+
+pub form_of_sealed : (e : EncryptedKey) → (e.cipher ≡ NoCipher → ⊥) → length e.ciphertext % block_size e.cipher ≡ 0 → length e.tag ≡ tag_size e.cipher → has_form None e ≡ true
+form_of_sealed e some whole tag = rw (some_cipher e.cipher some, eq-eqb _ _ whole, eq-eqb _ _ tag) refl
+
+module _ (n : ℕ) (comment : List ℕ) (e : EncryptedKey) where
+  pub cipher_is : (o : Option KeyPair) → has_form o e ≡ true → e.cipher ≡ key_cipher (of_pair o n comment e)
+  cipher_is (Some k) h = (plain_form k e h).0
+  cipher_is None h = refl
+
+  pub kdf_is : (o : Option KeyPair) → has_form o e ≡ true → e.kdf ≡ key_kdf (of_pair o n comment e)
+  kdf_is (Some k) h = (plain_form k e h).1
+  kdf_is None h = refl
+
+  pub public_is : (o : Option KeyPair) → has_form o e ≡ true → e.public ≡ public_key (of_pair o n comment e)
+  public_is (Some k) h = sym (plain_form k e h).2
+  public_is None h = refl

@@ -1,0 +1,182 @@
+-- A private key, step by step, is the model's without the choices of its spelling.
+use Rattle.std.proofs.Common.{◌≡◌, ℕ, List, [], ◌∷◌, length, Bool, true, false, cond, eqb, Result, Ok, Err, refl, sym, subst, ◌∙◌, arith}
+use Rattle.std.proofs.lemmas.Bool.{eqb-true}
+use Rattle.std.proofs.lemmas.List.{nil_from_length}
+use Rattle.std.proofs.lemmas.Result.{err_from_is_err_and}
+use Rattle.sshkey_model.specs.Reading.{Fault, TrailingKeyData, ◌>>=◌, Front, end_of, whole, box_at, bytes_at, literal_at}
+use Rattle.sshkey_model.specs.Grammar.{value_at}
+use Rattle.sshkey_model.specs.Names.{algorithm_at}
+use Rattle.sshkey_model.specs.Keys.{Key, Head, key_at}
+use Rattle.sshkey_model.specs.KeyDerivation.{Cipher, NoCipher, cipher_at, tag_size, Kdf, NoKdf, Bcrypt, kdf_at}
+use Rattle.sshkey_model.specs.KeyPairs.{KeyPairChoices, plain_pair}
+use Rattle.sshkey_model.specs.PrivateKeys.{UnencryptedKey, PrivateKey, Unencrypted, Encrypted, PrivateKeyChoices, private_key_magic, private_part_at, padded_from, unencrypted_at, encrypted_at, content_at, private_key_at, may_precede, decoded_private_key_at}
+use Rattle.sshkey_model.proofs.CombinedReaders.{bind_assoc, bind_ok, ok_is}
+use Rattle.sshkey_model.proofs.PrivateKeyReaders.{whole_private_key_reads}
+use Rattle.sshkey_base.specs.Causes.{Cause}
+use Rattle.sshkey_base.specs.Labels.{label_at}
+use Rattle.sshkey_base.specs.Source.{Source, announced_len}
+use Rattle.sshkey_base.specs.declared.encoding.Error as encoding
+use Rattle.sshkey_base.specs.declared.encoding.Error.TheVariants as encodings
+use Rattle.sshkey_base.specs.Reading.{Reads, ReadsAll, GivesWhole, AcceptsWhole}
+use Rattle.sshkey_base.proofs.MappedBoxes.{on_value, made, box_map}
+use Rattle.sshkey_keys.specs.Keys.{key_data_at}
+use Rattle.sshkey_private.specs.PrivateKeyReaders.{SpellsPrivateKey, private_value_at, Opening, one_at, opening_at, last_of, blocks_at, last_encrypted_at, last_content_at, steps_at}
+
+-- ---- the public key in its box
+
+abbrev Chosen : Type 0
+Chosen = Key × Head
+
+abbrev plain : Chosen → Key
+plain x = x.0
+
+key_is : (b : List ℕ) → key_data_at b ≡ (key_at b >>= on_value plain)
+unfolding key_data_at key_at algorithm_at label_at
+key_is b = simp bind_assoc
+
+key_end : (r : Result (Chosen × List ℕ) Fault) → ((r >>= on_value plain) >>= λ x. end_of x.0 x.1) ≡ ((r >>= λ x. end_of x.0 x.1) >>= made plain)
+key_end (Ok (x, [])) = refl
+key_end (Ok (x, (b ∷ rest))) = refl
+key_end (Err e) = refl
+
+key_whole : (b : List ℕ) → whole key_data_at b ≡ (whole key_at b >>= made plain)
+key_whole b = rw (key_is b) (key_end (key_at b))
+
+key_box : (b : List ℕ) → box_at (whole key_data_at) b ≡ (box_at (whole key_at) b >>= on_value plain)
+key_box b = box_map (whole key_at) (whole key_data_at) plain key_whole b
+
+-- ---- what stands before the private part
+
+abbrev Opened : Type 0
+Opened = Opening × Head
+
+abbrev opening : Opened → Opening
+opening x = x.0
+
+opened_at : Front Opened
+opened_at b = do
+  start ← literal_at private_key_magic b
+  c ← cipher_at start.1
+  k ← kdf_at c.1
+  one ← one_at k.1
+  public ← box_at (whole key_at) one.1
+  Ok ((record { cipher = c.0; kdf = k.0; public = public.0.0 }, public.0.1), public.1)
+
+opening_is : (b : List ℕ) → opening_at b ≡ (opened_at b >>= on_value opening)
+unfolding opening_at opened_at
+opening_is b = simp (bind_assoc, key_box)
+
+abbrev with_outer : Head → (PrivateKey × KeyPairChoices) × List ℕ → Result ((PrivateKey × PrivateKeyChoices) × List ℕ) Fault
+with_outer outer x = Ok ((x.0.0, record { outer = outer; pair = x.0.1 }), x.1)
+
+abbrev content_behind : Opened × List ℕ → Result ((PrivateKey × PrivateKeyChoices) × List ℕ) Fault
+content_behind h = content_at h.0.0.cipher h.0.0.kdf h.0.0.public h.1 >>= with_outer h.0.1
+
+private_is : (b : List ℕ) → private_key_at b ≡ (opened_at b >>= content_behind)
+unfolding private_key_at opened_at one_at
+private_is b = simp bind_assoc
+
+-- ---- the private part
+
+abbrev last : (PrivateKey × PrivateKeyChoices) × List ℕ → Result ((PrivateKey × PrivateKeyChoices) × List ℕ) Fault
+last x = cond (may_precede x.0.0 x.1) (Ok x) (Err (TrailingKeyData (length x.1)))
+
+abbrev bare : (PrivateKey × PrivateKeyChoices) × List ℕ → Result (PrivateKey × List ℕ) Fault
+bare x = Ok (x.0.0, x.1)
+
+last_same : (k : PrivateKey) (s : KeyPairChoices) (outer : Head) (rest : List ℕ) (may : Bool) → (cond may (with_outer outer ((k, s), rest)) (Err (TrailingKeyData (length rest))) >>= bare) ≡ cond may (Ok (k, rest)) (Err (TrailingKeyData (length rest)))
+last_same k s outer rest true = refl
+last_same k s outer rest false = refl
+
+abbrev pub as_unencrypted : (UnencryptedKey × KeyPairChoices) × List ℕ → Result ((PrivateKey × KeyPairChoices) × List ℕ) Fault
+as_unencrypted part = Ok ((Unencrypted part.0.0, part.0.1), part.1)
+
+abbrev pub bare_content : (PrivateKey × KeyPairChoices) × List ℕ → Result (PrivateKey × List ℕ) Fault
+bare_content x = Ok (x.0.0, x.1)
+
+unencrypted_is : (public : Key) (outer : Head) (b : List ℕ) → (((unencrypted_at public b >>= with_outer outer) >>= last) >>= bare) ≡ value_at (unencrypted_at public) b
+unfolding unencrypted_at
+unencrypted_is public outer b = go (box_at (padded_from (private_part_at public)) b)
+  where
+    go : (r : Result ((UnencryptedKey × KeyPairChoices) × List ℕ) Fault) → ((((r >>= as_unencrypted) >>= with_outer outer) >>= last) >>= bare) ≡ ((r >>= as_unencrypted) >>= bare_content)
+    go (Ok part) = refl
+    go (Err e) = refl
+
+encrypted_is : (c : Cipher) (k : Kdf) (public : Key) (outer : Head) (b : List ℕ) → (((encrypted_at c k public b >>= with_outer outer) >>= last) >>= bare) ≡ last_encrypted_at c k public b
+unfolding encrypted_at last_encrypted_at blocks_at
+encrypted_is c k public outer b = first _
+  where
+    key : List ℕ → List ℕ → PrivateKey
+    key ciphertext tag = Encrypted (record { cipher = c; kdf = k; public = public; ciphertext = ciphertext; tag = tag })
+
+    second : (ciphertext : List ℕ) (r : Result (List ℕ × List ℕ) Fault) → ((((r >>= λ tag. Ok ((key ciphertext tag.0, plain_pair), tag.1)) >>= with_outer outer) >>= last) >>= bare) ≡ (r >>= λ tag. last_of (key ciphertext tag.0, tag.1))
+    second ciphertext (Ok tag) = last_same (key ciphertext tag.0) plain_pair outer tag.1 (may_precede (key ciphertext tag.0) tag.1)
+    second ciphertext (Err e) = refl
+
+    first : (r : Result (List ℕ × List ℕ) Fault) → ((((r >>= λ t. bytes_at (tag_size c) t.1 >>= λ tag. Ok ((key t.0 tag.0, plain_pair), tag.1)) >>= with_outer outer) >>= last) >>= bare) ≡ (r >>= λ t. bytes_at (tag_size c) t.1 >>= λ tag. last_of (key t.0 tag.0, tag.1))
+    first (Ok t) = second t.0 (bytes_at (tag_size c) t.1)
+    first (Err e) = refl
+
+content_is : (c : Cipher) (k : Kdf) (public : Key) (outer : Head) (b : List ℕ) → (((content_at c k public b >>= with_outer outer) >>= last) >>= bare) ≡ last_content_at c k public b
+content_is NoCipher NoKdf public outer b = unencrypted_is public outer b
+content_is NoCipher (Bcrypt o) public outer b = refl
+content_is c k public outer b = encrypted_is c k public outer b
+
+-- under a cipher it is the encrypted one
+pub encrypted_content : (c : Cipher) (k : Kdf) (public : Key) (b : List ℕ) → (c ≡ NoCipher → ⊥) → last_encrypted_at c k public b ≡ last_content_at c k public b
+encrypted_content NoCipher k public b some = absurd (some refl)
+encrypted_content c k public b some = refl
+
+-- ---- all of it
+
+pub steps_are : (b : List ℕ) → steps_at b ≡ private_value_at b
+unfolding steps_at private_value_at decoded_private_key_at
+steps_are b = rw (opening_is b, private_is b) (sym (go (opened_at b)))
+  where
+    go : (r : Result (Opened × List ℕ) Fault) → (((r >>= content_behind) >>= last) >>= bare) ≡ ((r >>= on_value opening) >>= λ h. last_content_at h.0.cipher h.0.kdf h.0.public h.1)
+    go (Ok h) = content_is h.0.0.cipher h.0.0.kdf h.0.0.public h.0.1 h.1
+    go (Err e) = refl
+
+-- ---- from all the bytes
+
+whole_is : (b : List ℕ) → whole private_value_at b ≡ (whole decoded_private_key_at b >>= made {A = PrivateKey × PrivateKeyChoices} (λ x. x.0))
+unfolding private_value_at
+whole_is b = go (decoded_private_key_at b)
+  where
+    go : (r : Result ((PrivateKey × PrivateKeyChoices) × List ℕ) Fault) → ((r >>= bare) >>= λ x. end_of x.0 x.1) ≡ ((r >>= λ x. end_of x.0 x.1) >>= made (λ x. x.0))
+    go (Ok (x, [])) = refl
+    go (Ok (x, (b ∷ rest))) = refl
+    go (Err e) = refl
+
+taken : (b : List ℕ) (k : PrivateKey) → whole private_value_at b ≡ Ok k → SpellsPrivateKey k b
+taken b k e =
+    let x = bind_ok (whole decoded_private_key_at b) (made (λ x. x.0)) k (sym (whole_is b) ∙ e) in
+    let t = whole_private_key_reads.takes b x.0 x.1 in
+    subst (λ (z : PrivateKey). SpellsPrivateKey z b) (ok_is x.0.0 k x.2) (record { is = t.0.is; choices = x.0.1; place = t.0.place; fits = t.1; shape = t.2 })
+
+spelled_is : (b : List ℕ) (k : PrivateKey) → SpellsPrivateKey k b → whole private_value_at b ≡ Ok k
+spelled_is b k s = rw (whole_is b, s.shape, whole_private_key_reads.again (k, s.choices) (record { is = s.is; place = s.place }) s.fits) refl
+
+module _ {X E : Type 0} (means : X → PrivateKey) (cause_of : E → Cause) where
+  pub accepts_key : (s : Source) (r : Result X E) → GivesWhole means cause_of (whole private_value_at) s r → AcceptsWhole means SpellsPrivateKey cause_of s r
+  accepts_key s (Ok x) h = record { spelled = taken s.left (means x) h.value; sound = h.sound }
+  accepts_key s (Err e) h = λ other sound y spelled.
+      let refused = err_from_is_err_and (whole private_value_at s.left) (h.fault other sound) in
+      let is = spelled_is s.left y spelled in
+      let err = refused.1 in cc
+
+-- ---- behind the value
+
+module _ {X Y : Type 0} (means : X → Y) (read : Front Y) where
+  same_value : (b : Bool) (x y : X) (d : encoding.Error) → ◌≡◌ {A = Result X encoding.Error} (Ok y) (cond b (Ok x) (Err d)) → (b ≡ true) × (y ≡ x)
+  same_value true x y d is = (refl, cc)
+  same_value false x y d is = absurd cc
+
+  -- nothing stands behind what is finished
+  pub finished : (s t : Source) (x y : X) → Reads means read s x t → ◌≡◌ {A = Result X encoding.Error} (Ok y) (cond (eqb (announced_len t) 0) (Ok x) (Err (encodings.TrailingData (announced_len t)))) → ReadsAll means (whole read) s y
+  finished s t x y h is =
+      let same = same_value (eqb (announced_len t) 0) x y _ is in
+      let none : announced_len t ≡ 0 = eqb-true (announced_len t) 0 same.0 in
+      let missing : t.missing ≡ 0 = omega arith in
+      let left : t.left ≡ [] = nil_from_length t.left (omega arith) in
+      record { value = rw (h.value, left, same.1) refl; sound = sym h.missing ∙ missing }

@@ -1,0 +1,47 @@
+-- The private part of a key that is not encrypted, without its padding.
+use Rattle.std.specs.Prelude.{ℕ, List, Option, option_map, Result, Ok, Err, if◌then◌else◌}
+use Rattle.std.specs.Int.{w32}
+use Rattle.sshkey_model.specs.Reading.{Fault, PublicKey, ◌>>=◌, Front, number_at, checked_at}
+use Rattle.sshkey_model.specs.Texts.{text_at}
+use Rattle.sshkey_model.specs.Keys.{Key}
+use Rattle.sshkey_model.specs.KeyPairs.{KeyPair}
+use Rattle.sshkey_model.specs.PrivateKeys.{UnencryptedKey, same_checkint}
+use Rattle.sshkey_base.specs.Needs.{NoNeed, NeedsString, NeedsBoth}
+use Rattle.sshkey_keypairs.specs.Keypairs.{pair_of}
+use Rattle.sshkey_keypairs.specs.KeypairReaders.{keypair_data_at}
+use Rattle.sshkey_keypairs.specs.KeypairNeeds.{NeedsKeypair}
+use Rattle.sshkey_private.specs.declared.part.Inner.{Inner}
+use Rattle.sshkey_private.specs.Halves.{is_half}
+
+abbrev pub unencrypted : ℕ → Option KeyPair → List ℕ → Option UnencryptedKey
+unencrypted checkint pair comment = option_map (λ k. record { checkint = checkint; pair = k; comment = comment }) pair
+
+abbrev pub inner_of : Inner → Option UnencryptedKey
+inner_of p = unencrypted p.checkint (pair_of p.pair) p.comment
+
+-- ---- reading
+
+-- a checkint, and the same again
+unfoldable pub checkint_at : Front ℕ
+checkint_at b = do
+  checkint ← number_at w32 b
+  again ← checked_at (same_checkint checkint.0) (number_at w32) checkint.1
+  Ok (checkint.0, again.1)
+
+abbrev pub half_of : Key → Option KeyPair → Result (Option KeyPair) Fault
+half_of public k = if is_half k public then Ok k else Err PublicKey
+
+-- a pair whose public half is that key
+unfoldable pub pair_with_at : Key → Front (Option KeyPair)
+pair_with_at public = checked_at (half_of public) keypair_data_at
+
+unfoldable pub inner_at : Key → Front (Option UnencryptedKey)
+inner_at public b = do
+  checkint ← checkint_at b
+  pair ← pair_with_at public checkint.1
+  comment ← text_at pair.1
+  Ok (unencrypted checkint.0 pair.0 comment.0, comment.1)
+
+-- the pair or the comment
+abbrev pub NeedsInner : Key → List ℕ → Type 0
+NeedsInner public = NeedsBoth NoNeed checkint_at (NeedsBoth NeedsKeypair (pair_with_at public) NeedsString)

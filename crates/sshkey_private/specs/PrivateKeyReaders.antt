@@ -1,0 +1,83 @@
+-- The reader of private keys without the choices of their spelling, and the same step by step.
+use Rattle.std.specs.Prelude.{ℕ, List, Result, Ok, Err, if◌then◌else◌, length}
+use Rattle.std.specs.Int.{w32}
+use Rattle.sshkey_model.specs.Reading.{Fault, Crypto, TrailingKeyData, ◌>>=◌, Front, whole, box_at, string_at, number_at, bytes_at, checked_at, literal_at}
+use Rattle.sshkey_model.specs.Grammar.{SpellsWith, value_at}
+use Rattle.sshkey_model.specs.Keys.{Key}
+use Rattle.sshkey_model.specs.KeyDerivation.{Cipher, NoCipher, tag_size, cipher_at, Kdf, NoKdf, Bcrypt, kdf_at}
+use Rattle.sshkey_model.specs.PrivateKeys.{PrivateKey, Encrypted, IsPrivateKey, HasPrivateKeyPlaces, private_key, private_key_magic, blocks_from, unencrypted_at, one_key, may_precede, decoded_private_key_at}
+use Rattle.sshkey_base.specs.Needs.{NoNeed, NeedsString, NeedsBoxed, NeedsBoth, NeedsThen}
+use Rattle.sshkey_keys.specs.Keys.{key_data_at}
+use Rattle.sshkey_keys.specs.Needs.{NeedsKey}
+use Rattle.sshkey_private.specs.Inner.{NeedsInner}
+use Rattle.sshkey_private.specs.Needs.{NeedsKdf}
+use Rattle.sshkey_private.specs.Paddings.{NeedsPadded}
+-- under names that an attribute of this crate can unfold
+unfoldable pub use Rattle.sshkey_model.specs.Reading.{literal_at, bytes_at}
+unfoldable pub use Rattle.sshkey_model.specs.KeyDerivation.{cipher_at}
+
+-- the bytes spell the private key
+abbrev pub SpellsPrivateKey : PrivateKey → List ℕ → Type 0
+SpellsPrivateKey = SpellsWith IsPrivateKey HasPrivateKeyPlaces private_key
+
+-- a private key, behind which nothing may stand if it is encrypted
+unfoldable pub private_value_at : Front PrivateKey
+private_value_at = value_at decoded_private_key_at
+
+-- ---- what stands before the private part
+
+pub record Opening : Type 0 where
+  pub cipher : Cipher
+  pub kdf : Kdf
+  pub public : Key
+
+unfoldable pub one_at : Front ℕ
+one_at = checked_at one_key (number_at w32)
+
+unfoldable pub opening_at : Front Opening
+opening_at b = do
+  start ← literal_at private_key_magic b
+  c ← cipher_at start.1
+  k ← kdf_at c.1
+  one ← one_at k.1
+  public ← box_at (whole key_data_at) one.1
+  Ok (record { cipher = c.0; kdf = k.0; public = public.0 }, public.1)
+
+-- a name, what a derivation takes, or the key
+abbrev pub NeedsOpening : List ℕ → Type 0
+NeedsOpening = NeedsBoth NoNeed (literal_at private_key_magic) (NeedsBoth NeedsString cipher_at (NeedsBoth NeedsKdf kdf_at (NeedsBoth NoNeed one_at (NeedsBoxed NeedsKey))))
+
+-- ---- the private part
+
+-- nothing may stand behind an encrypted key
+abbrev pub last_of : PrivateKey × List ℕ → Result (PrivateKey × List ℕ) Fault
+last_of x = if may_precede x.0 x.1 then Ok x else Err (TrailingKeyData (length x.1))
+
+unfoldable pub blocks_at : Cipher → Front (List ℕ)
+blocks_at c = checked_at (blocks_from c) string_at
+
+unfoldable pub last_encrypted_at : Cipher → Kdf → Key → Front PrivateKey
+last_encrypted_at c k public b = do
+  ciphertext ← blocks_at c b
+  tag ← bytes_at (tag_size c) ciphertext.1
+  last_of (Encrypted (record { cipher = c; kdf = k; public = public; ciphertext = ciphertext.0; tag = tag.0 }), tag.1)
+
+abbrev pub last_content_at : Cipher → Kdf → Key → Front PrivateKey
+last_content_at NoCipher NoKdf public b = value_at (unencrypted_at public) b
+last_content_at NoCipher (Bcrypt o) public b = Err Crypto
+last_content_at c k public b = last_encrypted_at c k public b
+
+-- what the part of a key that is not encrypted needs, or the ciphertext
+abbrev pub NeedsContent : Cipher → Kdf → Key → List ℕ → Type 0
+NeedsContent NoCipher NoKdf public = NeedsBoxed (NeedsPadded (NeedsInner public))
+NeedsContent NoCipher (Bcrypt o) public = NoNeed
+NeedsContent c k public = NeedsString
+
+unfoldable pub steps_at : Front PrivateKey
+steps_at b = do
+  h ← opening_at b
+  last_content_at h.0.cipher h.0.kdf h.0.public h.1
+
+-- what stands before the private part, or that part
+abbrev pub NeedsPrivateKey : List ℕ → Type 0
+NeedsPrivateKey = NeedsThen NeedsOpening opening_at (λ h. NeedsContent h.cipher h.kdf h.public)

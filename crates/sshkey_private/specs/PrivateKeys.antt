@@ -1,0 +1,46 @@
+-- What a private key means.
+use Rattle.std.specs.Prelude.{◌≡◌, ℕ, List, Bool, true, false, Option, Some, None, Result, MatchResult, IsErrAnd}
+use Rattle.sshkey_model.specs.KeyPairs.{KeyPair}
+use Rattle.sshkey_model.specs.PrivateKeys as model
+use Rattle.sshkey_model.specs.PrivateKeys.{Unencrypted, Encrypted, EncryptedKey, new_private_key}
+use Rattle.sshkey_base.specs.declared.error.Error.{Error}
+use Rattle.sshkey_base.specs.declared.error.Error.TheVariants as wide
+use Rattle.sshkey_keypairs.specs.declared.keypair_data.KeypairData.{KeypairData}
+use Rattle.sshkey_keypairs.specs.Keypairs.{pair_of}
+use Rattle.sshkey_public.specs.declared.public_key.PublicKey.{PublicKey}
+use Rattle.sshkey_public.specs.PublicKeys.{comment_of}
+use Rattle.sshkey_private.specs.declared.private_key.PrivateKey.{PrivateKey}
+use Rattle.sshkey_private.specs.Forms.{sealed_of}
+
+-- a key that is not encrypted where there is a pair
+abbrev pub of_pair : Option KeyPair → ℕ → List ℕ → EncryptedKey → model.PrivateKey
+of_pair (Some k) checkint comment sealed = Unencrypted (record { checkint = checkint; pair = k; comment = comment })
+of_pair None checkint comment sealed = Encrypted sealed
+
+abbrev pub key_fields : PrivateKey → EncryptedKey
+key_fields k = sealed_of k.cipher k.kdf k.public_key k.key_data k.tag
+
+abbrev pub private_of : PrivateKey → model.PrivateKey
+private_of k = of_pair (pair_of k.key_data) k.checkint (comment_of k.public_key) (key_fields k)
+
+-- ---- what calls answer
+
+abbrev pub data_of : PrivateKey → KeypairData
+data_of k = k.key_data
+
+abbrev pub outer_of : PrivateKey → PublicKey
+outer_of k = k.public_key
+
+abbrev pub is_encrypted : model.PrivateKey → Bool
+is_encrypted (Unencrypted k) = false
+is_encrypted (Encrypted k) = true
+
+-- A pair gives its private key, unless memory runs out; an encrypted one is refused as such.
+abbrev pub GivesNew : Option KeyPair → List ℕ → Result PrivateKey Error → Type 0
+GivesNew (Some k) comment r = MatchResult r (λ x. private_of x ≡ new_private_key k comment) (λ e. e ≡ wide.Memory)
+GivesNew None comment r = IsErrAnd r (λ e. e ≡ wide.Encrypted)
+
+-- It has that comment. That of an encrypted key is no part of it.
+abbrev pub with_comment : List ℕ → model.PrivateKey → model.PrivateKey
+with_comment comment (Unencrypted k) = Unencrypted (record { checkint = k.checkint; pair = k.pair; comment = comment })
+with_comment comment (Encrypted k) = Encrypted k

@@ -1,0 +1,164 @@
+//! The private part of a key that is not encrypted.
+
+ghost use Rattle.std.specs.Prelude.{◌≡◌, true, IfOk};
+ghost use Rattle.sshkey_base.specs.Answers.{AnswersAlways};
+ghost use Rattle.sshkey_base.specs.Causes.{cause};
+ghost use Rattle.sshkey_base.specs.Needs.{Asks, NoNeed, NeedsBoxed};
+ghost use Rattle.sshkey_base.specs.Reading.{Gives, to_end};
+ghost use Rattle.sshkey_base.specs.Source.{Later};
+ghost use Rattle.sshkey_keypairs.specs.KeypairNeeds.{NeedsKeypair};
+ghost use Rattle.sshkey_keypairs.specs.Keypairs.{pair_of};
+ghost use Rattle.sshkey_keys.specs.Keys.{key_of};
+ghost use Rattle.sshkey_kinds.specs.EcdsaPublicKey.{ecdsa_key_of};
+ghost use Rattle.sshkey_model.specs.KeyPairs.{public_half};
+ghost use Rattle.sshkey_model.specs.PrivateKeys.{key_eq, padded_from, same_checkint};
+ghost use Rattle.sshkey_model.specs.Reading.{box_at};
+ghost use Rattle.sshkey_pairs.specs.Pairs.{ecdsa_pair_of};
+ghost use Rattle.sshkey_private.specs.Halves.{is_half};
+ghost use Rattle.sshkey_private.specs.Inner.{inner_of, inner_at, checkint_at, half_of, pair_with_at, NeedsInner};
+ghost use Rattle.sshkey_private.specs.Paddings.{NeedsPadded};
+
+use crate::padded::end_padding;
+use crate::part::Inner;
+use sshkey_base::{Decode, Error, Reader, Result, Text, encoding};
+use sshkey_keypairs::KeypairData;
+use sshkey_keys::KeyData;
+use sshkey_kinds::EcdsaPublicKey;
+use sshkey_pairs::EcdsaKeypair;
+use std::alloc::Global;
+
+/// A string of the checkint, the pair and the comment, padded to a multiple of eight bytes.
+///
+/// The faults are met in the order of the bytes: `Length` where they are no multiple of eight,
+/// `Crypto` where the checkint is not the same again, the refusals of the pair, `PublicKey` where
+/// its public half is not that key, the refusals of the comment, and those of the padding.
+#[tactic(auto, using(sshkey_base::proofs::Boxes::boxes))]
+pub(crate) fn decode_inner<R: Reader>(
+    alloc: Global,
+    reader: &mut R,
+    public: KeyData,
+) -> Result<Inner>
+    ensures gives { Gives inner_of cause (box_at (padded_from (inner_at (key_of public))))
+        (R.source reader.old) result (R.source reader.new) }
+    ensures later { Later (R.source reader.old) (R.source reader.new) }
+    ensures asks { Asks cause (NeedsBoxed (NeedsPadded (NeedsInner (key_of public))))
+        (R.source reader.old) result }
+{
+    reader.read_prefixed(|part| padded_inner_from(alloc, part, public))
+}
+
+/// The same up to the end of the reader, without the length before it.
+fn padded_inner_from<R: Reader>(alloc: Global, reader: &mut R, public: KeyData) -> Result<Inner>
+    ensures gives { Gives inner_of cause (to_end (padded_from (inner_at (key_of public))))
+        (R.source reader.old) result (R.source reader.new) }
+    ensures later { Later (R.source reader.old) (R.source reader.new) }
+    ensures asks { Asks cause (NeedsPadded (NeedsInner (key_of public)))
+        (R.source reader.old) result }
+{
+    if reader.remaining_len() % 8 != 0 {
+        return Err(Error::Encoding(encoding::Error::Length));
+    }
+    let inner = inner_from(alloc, reader, public)?;
+    end_padding(reader)?;
+    Ok(inner)
+}
+
+/// The checkint twice, the pair of that public key, and the comment.
+#[tactic(auto, using(sshkey_base::proofs::Steps::steps), unfolding(crate::specs::Inner::inner_at))]
+fn inner_from<R: Reader>(alloc: Global, reader: &mut R, public: KeyData) -> Result<Inner>
+    ensures gives { Gives inner_of cause (inner_at (key_of public))
+        (R.source reader.old) result (R.source reader.new) }
+    ensures later { Later (R.source reader.old) (R.source reader.new) }
+    ensures asks { Asks cause (NeedsInner (key_of public)) (R.source reader.old) result }
+{
+    let checkint = checkint_from(alloc, reader)?;
+    let pair = pair_from(alloc, reader, &public)?;
+    let comment = Text::decode(alloc, reader)?;
+    Ok(Inner {
+        checkint,
+        public,
+        pair,
+        comment,
+    })
+}
+
+/// A checkint, and the same again.
+#[tactic(auto, using(sshkey_base::proofs::Steps::steps), unfolding(crate::specs::Inner::checkint_at))]
+fn checkint_from<R: Reader>(alloc: Global, reader: &mut R) -> Result<u32>
+    ensures gives { Gives (λ n. n) cause checkint_at
+        (R.source reader.old) result (R.source reader.new) }
+    ensures later { Later (R.source reader.old) (R.source reader.new) }
+    ensures asks { Asks cause NoNeed (R.source reader.old) result }
+{
+    let checkint = u32::decode(alloc, reader)?;
+    let again = u32::decode(alloc, reader)?;
+    check_again(checkint, again)
+}
+
+/// The checkint again. Else `Crypto`.
+fn check_again(checkint: u32, again: u32) -> Result<u32>
+    ensures answers { AnswersAlways (λ n. n) cause (same_checkint checkint again) result }
+    ensures same { IfOk result (λ n. n ≡ checkint) }
+{
+    if again != checkint {
+        return Err(Error::Crypto);
+    }
+    Ok(again)
+}
+
+/// A pair whose public half is that key.
+#[tactic(auto, using(sshkey_base::proofs::Steps::steps), unfolding(crate::specs::Inner::pair_with_at))]
+fn pair_from<R: Reader>(alloc: Global, reader: &mut R, public: &KeyData) -> Result<KeypairData>
+    ensures gives { Gives pair_of cause (pair_with_at (key_of public.now))
+        (R.source reader.old) result (R.source reader.new) }
+    ensures later { Later (R.source reader.old) (R.source reader.new) }
+    ensures asks { Asks cause NeedsKeypair (R.source reader.old) result }
+    ensures half { IfOk result (λ k. is_half (pair_of k) (key_of public.now) ≡ true) }
+{
+    let pair = KeypairData::decode(alloc, reader)?;
+    check_half(pair, public)
+}
+
+/// The pair of that public key. Else `PublicKey`.
+fn check_half(pair: KeypairData, public: &KeyData) -> Result<KeypairData>
+    ensures answers { AnswersAlways pair_of cause
+        (half_of (key_of public.now) (pair_of pair)) result }
+    ensures half { IfOk result (λ k. is_half (pair_of k) (key_of public.now) ≡ true) }
+{
+    if !is_half(&pair, public) {
+        return Err(Error::PublicKey);
+    }
+    Ok(pair)
+}
+
+/// Whether the public key is the public half of the pair. Takes no memory.
+fn is_half(pair: &KeypairData, public: &KeyData) -> bool
+    ensures { result ≡ is_half (pair_of pair.now) (key_of public.now) }
+{
+    match (pair, public) {
+        (KeypairData::Dsa(pair), KeyData::Dsa(key)) => pair.public == *key,
+        (KeypairData::Ecdsa(pair), KeyData::Ecdsa(key)) => is_ecdsa_half(pair, key),
+        (KeypairData::Ed25519(pair), KeyData::Ed25519(key)) => pair.public == *key,
+        (KeypairData::Rsa(pair), KeyData::Rsa(key)) => pair.public == *key,
+        (KeypairData::SkEcdsaSha2NistP256(pair), KeyData::SkEcdsaSha2NistP256(key)) => {
+            *pair.public() == *key
+        }
+        (KeypairData::SkEd25519(pair), KeyData::SkEd25519(key)) => *pair.public() == *key,
+        (KeypairData::Other(pair), KeyData::Other(key)) => {
+            pair.public.algorithm.as_str() == key.algorithm.as_str() && pair.public.key == key.key
+        }
+        _ => false,
+    }
+}
+
+/// The same of ECDSA.
+fn is_ecdsa_half(pair: &EcdsaKeypair, public: &EcdsaPublicKey) -> bool
+    ensures { result ≡ key_eq (public_half (ecdsa_pair_of pair.now)) (ecdsa_key_of public.now) }
+{
+    match (pair, public) {
+        (EcdsaKeypair::NistP256 { public, .. }, EcdsaPublicKey::NistP256(key)) => public == key,
+        (EcdsaKeypair::NistP384 { public, .. }, EcdsaPublicKey::NistP384(key)) => public == key,
+        (EcdsaKeypair::NistP521 { public, .. }, EcdsaPublicKey::NistP521(key)) => public == key,
+        _ => false,
+    }
+}

@@ -1,0 +1,69 @@
+//! Padding to whole blocks.
+
+ghost use Rattle.std.specs.Prelude.{◌≡◌, ◌<◌, IfOk, length};
+ghost use Rattle.std.specs.Str.{bytes_eq};
+ghost use Rattle.sshkey_base.specs.Causes.{cause};
+ghost use Rattle.sshkey_base.specs.Needs.{Asks, NoNeed};
+ghost use Rattle.sshkey_base.specs.Reading.{Gives, to_end};
+ghost use Rattle.sshkey_base.specs.Sink.{Encodes};
+ghost use Rattle.sshkey_base.specs.Source.{IsSound, Later};
+ghost use Rattle.sshkey_model.specs.Parts.{bytes};
+ghost use Rattle.sshkey_model.specs.PrivateKeys.{rising, padded, padding};
+ghost use Rattle.sshkey_private.specs.Paddings.{padding_end};
+
+use crate::cipher::Cipher;
+use sshkey_base::{Encode, Error, Reader, Result, Writer, encoding};
+
+/// The bytes up to the end, which have to be padding: fewer than eight, 01, 02, 03 and so on.
+///
+/// `Length` for more of them, else `FormatEncoding` for other bytes. Takes no memory.
+#[tactic(auto, using(sshkey_base::proofs::Steps::steps))]
+pub(crate) fn end_padding<R: Reader>(reader: &mut R) -> Result<()>
+    ensures gives { Gives (λ u. u) cause (to_end padding_end)
+        (R.source reader.old) result (R.source reader.new) }
+    ensures later { Later (R.source reader.old) (R.source reader.new) }
+    ensures asks { Asks cause NoNeed (R.source reader.old) result }
+    ensures sound { IfOk result (λ _. IsSound (R.source reader.old)) }
+{
+    let len = reader.remaining_len();
+    if len >= 8 {
+        return Err(Error::Encoding(encoding::Error::Length));
+    }
+    let mut bytes = [0u8; 7];
+    let padding = &mut bytes[..len];
+    reader.read(padding)?;
+    if !is_rising(padding) {
+        return Err(Error::FormatEncoding);
+    }
+    Ok(())
+}
+
+/// Whether the bytes are 01, 02, 03 and so on.
+fn is_rising(bytes: &[u8]) -> bool
+    requires { length bytes.now < 8 }
+    ensures { result ≡ bytes_eq bytes.now (rising 1 (length bytes.now)) }
+{
+    let numbers: [u8; 7] = [1, 2, 3, 4, 5, 6, 7];
+    bytes == &numbers[..bytes.len()]
+}
+
+/// Writes the value, and behind it 01, 02, 03 and so on up to a multiple of eight bytes (OpenSSH,
+/// PROTOCOL.key).
+#[tactic(auto, using(sshkey_base::proofs::Writing::writing))]
+pub(crate) fn encode_padded<T: Encode, W: Writer>(value: &T, writer: &mut W) -> encoding::Result<()>
+    ensures { Encodes W.fault (padded (T.normal value.now))
+        (W.sink writer.old) result (W.sink writer.new) }
+{
+    let len = value.encoded_len()?;
+    value.encode(writer)?;
+    write_padding(len, writer)
+}
+
+/// Writes the padding behind so many bytes.
+fn write_padding<W: Writer>(len: usize, writer: &mut W) -> encoding::Result<()>
+    ensures { Encodes W.fault (bytes (padding len))
+        (W.sink writer.old) result (W.sink writer.new) }
+{
+    let numbers: [u8; 7] = [1, 2, 3, 4, 5, 6, 7];
+    writer.write(&numbers[..Cipher::None.padding_len(len)])
+}

@@ -1,0 +1,254 @@
+//! Private keys.
+
+ghost use Rattle.std.specs.Prelude.{◌≡◌, true};
+ghost use Rattle.sshkey_keypairs.specs.Keypairs.{pair_of};
+ghost use Rattle.sshkey_private.specs.Forms.{has_form, sealed_of};
+
+mod read;
+mod write;
+
+use crate::cipher::Cipher;
+use crate::kdf::Kdf;
+use read::private_key_from;
+use sshkey_base::{Algorithm, HashAlg, Reader, Result, encode_vec};
+use sshkey_keypairs::KeypairData;
+use sshkey_keys::{Fingerprint, KeyData};
+use sshkey_public::PublicKey;
+use std::alloc::Global;
+
+/// A private key and its public key, encrypted or not (OpenSSH, PROTOCOL.key).
+///
+/// One that is not encrypted holds a pair, and its public key is the public half. Of an encrypted
+/// one the ciphertext is held, in whole blocks of its cipher, with a tag exactly where the cipher
+/// has one; nothing here encrypts or decrypts.
+///
+/// Two are equal where the ciphers, the derivations, the public keys with their comments, and the
+/// pairs or ciphertexts are: checkint and tag are left out. What is shown of one has no private
+/// byte, and leaves out the checkint too, which is made of them.
+#[derive(Drop)]
+#[derive_where(Debug, PartialEq, Eq)]
+pub struct PrivateKey {
+    cipher: Cipher,
+    kdf: Kdf,
+    #[derive_where(skip)]
+    checkint: u32,
+    public_key: PublicKey,
+    key_data: KeypairData,
+    #[derive_where(skip)]
+    tag: Option<[u8; 16]>,
+    pub ghost form: { has_form (pair_of key_data) (sealed_of cipher kdf public_key key_data tag) ≡ true },
+}
+
+impl PrivateKey {
+    ghost use Rattle.std.specs.Prelude.{IfOk, IfErr, IsOk, [], string_bytes};
+    ghost use Rattle.sshkey_base.specs.Causes.{cause};
+    ghost use Rattle.sshkey_base.specs.Names.{IsFixed, algorithm_of, hash_of};
+    ghost use Rattle.sshkey_base.specs.Needs.{Asks};
+    ghost use Rattle.sshkey_base.specs.Reading.{AcceptsWhole, Gives, GivesWhole};
+    ghost use Rattle.sshkey_base.specs.Source.{Later, all_of};
+    ghost use Rattle.sshkey_base.specs.declared.error.Error.TheVariants as wide;
+    ghost use Rattle.sshkey_keys.specs.Blobs.{MakesBlob};
+    ghost use Rattle.sshkey_keys.specs.Fingerprints.{GivesFingerprint};
+    ghost use Rattle.sshkey_keys.specs.Keys.{algorithm_beside};
+    ghost use Rattle.sshkey_model.specs.PrivateKeys.{key_cipher, key_kdf, public_key, normal_private_key};
+    ghost use Rattle.sshkey_model.specs.Reading.{whole};
+    ghost use Rattle.sshkey_private.specs.Ciphers.{cipher_of, kdf_of};
+    ghost use Rattle.sshkey_private.specs.PrivateKeyReaders.{SpellsPrivateKey, private_value_at, NeedsPrivateKey};
+    ghost use Rattle.sshkey_private.specs.PrivateKeys.{private_of, is_encrypted, data_of, outer_of, with_comment, GivesNew};
+    ghost use Rattle.sshkey_public.specs.PublicKeys.{public_of, comment_of, data_of as key_data_of};
+
+    /// The private key of that pair, not encrypted, with that comment. Its checkint is the one that
+    /// is derived from the pair.
+    ///
+    /// `Encrypted` exactly for an encrypted pair; otherwise it is refused only when out of memory.
+    pub fn new(alloc: Global, key_data: KeypairData, comment: String) -> Result<PrivateKey>
+        ensures { GivesNew (pair_of key_data) (string_bytes comment) result }
+    {
+        let public = key_data.to_public(alloc)?;
+        let checkint = key_data.checkint();
+        Ok(PrivateKey {
+            cipher: Cipher::None,
+            kdf: Kdf::None,
+            checkint,
+            public_key: PublicKey::new(public, comment),
+            key_data,
+            tag: None,
+        })
+    }
+
+    /// The private key of that pair, not encrypted, with an empty comment.
+    ///
+    /// `Encrypted` exactly for an encrypted pair; otherwise it is refused only when out of memory.
+    pub fn from_keypair(alloc: Global, key_data: KeypairData) -> Result<PrivateKey>
+        ensures { GivesNew (pair_of key_data) [] result }
+    {
+        PrivateKey::new(alloc, key_data, String::new(alloc))
+    }
+
+    /// Reads a private key from the front, and leaves what follows it; nothing may follow an
+    /// encrypted one.
+    ///
+    /// It is what the plain reader gives of the bytes that are left. A sound source is refused with
+    /// the first fault from the left, or for memory that ran out, where a part that stands whole
+    /// needs some: `FormatEncoding` for other magic bytes, `Label` for names of no cipher or
+    /// derivation, the refusals of `Kdf`, `Length` for another number of keys than one, the
+    /// refusals of `KeyData`, `Crypto` for a key derivation without a cipher, `Length` for a part
+    /// that is no multiple of eight bytes, `Crypto` where the checkint is not the same again, the
+    /// refusals of `KeypairData`, `PublicKey` where the pair has another public half, `Length` for
+    /// eight bytes or more behind the comment, `FormatEncoding` for other padding, `Crypto` for a
+    /// ciphertext that is not whole blocks, and `TrailingData` with the number of bytes behind an
+    /// encrypted key. How a source with a fault is refused is open.
+    pub fn decode<R: Reader>(alloc: Global, reader: &mut R) -> Result<PrivateKey>
+        ensures gives { Gives private_of cause private_value_at
+            (R.source reader.old) result (R.source reader.new) }
+        ensures later { Later (R.source reader.old) (R.source reader.new) }
+        ensures asks { Asks cause NeedsPrivateKey (R.source reader.old) result }
+    {
+        private_key_from(alloc, reader)
+    }
+
+    /// Reads a private key that all the bytes spell.
+    ///
+    /// Out of memory aside, they are refused only where they spell none: with the refusals of
+    /// `decode`, or `Encoding(TrailingData)` with the number of bytes behind one that is not
+    /// encrypted. Out of memory is never answered where a stated length passes the bytes.
+    pub fn from_bytes(alloc: Global, bytes: &[u8]) -> Result<PrivateKey>
+        ensures gives { GivesWhole private_of cause (whole private_value_at)
+            (all_of bytes.now) result }
+        ensures accepts { AcceptsWhole private_of SpellsPrivateKey cause
+            (all_of bytes.now) result }
+        ensures asks { Asks cause NeedsPrivateKey (all_of bytes.now) result }
+    {
+        let mut reader = bytes;
+        let key = PrivateKey::decode(alloc, &mut reader)?;
+        Ok(reader.finish(key)?)
+    }
+
+    /// The bytes of the key's normal form, in memory of their own.
+    ///
+    /// Exactly where a part of the key is longer than 2^32 - 1 bytes, the answer is `Length`;
+    /// otherwise it is refused only when out of memory.
+    pub fn to_bytes(&self, alloc: Global) -> Result<Vec<u8>>
+        ensures { MakesBlob (normal_private_key (private_of self.now)) result }
+    {
+        Ok(encode_vec(alloc, self)?)
+    }
+
+    /// Whether the key is encrypted.
+    pub fn is_encrypted(&self) -> bool
+        ensures { result ≡ is_encrypted (private_of self.now) }
+    {
+        self.key_data.is_encrypted()
+    }
+
+    /// The cipher, none where the key is not encrypted.
+    pub fn cipher(&self) -> Cipher
+        ensures { cipher_of result ≡ key_cipher (private_of self.now) }
+    {
+        self.cipher
+    }
+
+    /// The key derivation, none where the key is not encrypted.
+    pub fn kdf(&self) -> &Kdf
+        ensures { kdf_of result.now ≡ key_kdf (private_of self.now) }
+    {
+        &self.kdf
+    }
+
+    /// The pair, or the ciphertext.
+    pub fn key_data(&self) -> &KeypairData
+        ensures { result.now ≡ data_of self.now }
+    {
+        &self.key_data
+    }
+
+    /// The public key, with the comment.
+    pub fn public_key(&self) -> &PublicKey
+        ensures value { public_of result.now ≡ public_key (private_of self.now) }
+        ensures same { result.now ≡ outer_of self.now }
+    {
+        &self.public_key
+    }
+
+    /// The comment. That of an encrypted key is not in its bytes, and empty where the key was read.
+    pub fn comment(&self) -> &str
+        ensures { result.now ≡ comment_of (outer_of self.now) }
+    {
+        self.public_key.comment()
+    }
+
+    /// The key's algorithm. That of an opaque key is the one that stands beside its bytes.
+    ///
+    /// Refused only when out of memory, and only under a private-use name.
+    pub fn algorithm(&self, alloc: Global) -> Result<Algorithm>
+        ensures ok { IfOk result (λ a. algorithm_of a
+            ≡ algorithm_beside (key_data_of (outer_of self.now))) }
+        ensures fixed { IsFixed (algorithm_beside (key_data_of (outer_of self.now)))
+            → IsOk result }
+        ensures err { IfErr result (λ e. e ≡ wide.Memory) }
+    {
+        self.public_key.algorithm(alloc)
+    }
+
+    /// The fingerprint of the public key by that hash: the digest of its normal form.
+    ///
+    /// Exactly where a part of the key is longer than 2^32 - 1 bytes, the answer is `Length`;
+    /// otherwise it is refused only when out of memory.
+    pub fn fingerprint(&self, alloc: Global, hash_alg: HashAlg) -> Result<Fingerprint>
+        ensures { GivesFingerprint (hash_of hash_alg) (public_key (private_of self.now)) result }
+    {
+        self.public_key.fingerprint(alloc, hash_alg)
+    }
+
+    /// Gives the key another comment, which of an encrypted key is not written. Takes no memory.
+    pub fn set_comment(&mut self, comment: String)
+        ensures value { private_of self.new
+            ≡ with_comment (string_bytes comment) (private_of self.old) }
+        ensures key { key_data_of (outer_of self.new) ≡ key_data_of (outer_of self.old) }
+        ensures comment { comment_of (outer_of self.new) ≡ string_bytes comment }
+    {
+        self.public_key.set_comment(comment);
+    }
+
+    /// The same key and comment in memory of their own. Refused only when out of memory.
+    pub fn try_clone(&self, alloc: Global) -> Result<PrivateKey>
+        ensures value { IfOk result (λ k. private_of k ≡ private_of self.now) }
+        ensures algorithm { IfOk result (λ k. algorithm_beside (key_data_of (outer_of k))
+            ≡ algorithm_beside (key_data_of (outer_of self.now))) }
+        ensures comment { IfOk result
+            (λ k. comment_of (outer_of k) ≡ comment_of (outer_of self.now)) }
+        ensures refused { IfErr result (λ e. e ≡ wide.Memory) }
+    {
+        Ok(PrivateKey {
+            cipher: self.cipher,
+            kdf: self.kdf.try_clone(alloc)?,
+            checkint: self.checkint,
+            public_key: self.public_key.try_clone(alloc)?,
+            key_data: self.key_data.try_clone(alloc)?,
+            tag: self.tag,
+        })
+    }
+}
+
+/// The public key, with the comment.
+impl From<PrivateKey> for PublicKey {
+    ghost use Rattle.sshkey_private.specs.PrivateKeys.{outer_of};
+
+    ghost from_gives = { λ key made. made ≡ outer_of key };
+
+    fn from(key: PrivateKey) -> PublicKey {
+        key.public_key
+    }
+}
+
+/// The public key, without the comment.
+impl From<PrivateKey> for KeyData {
+    ghost use Rattle.sshkey_private.specs.PrivateKeys.{outer_of};
+    ghost use Rattle.sshkey_public.specs.PublicKeys.{data_of as key_data_of};
+
+    ghost from_gives = { λ key made. made ≡ key_data_of (outer_of key) };
+
+    fn from(key: PrivateKey) -> KeyData {
+        KeyData::from(key.public_key)
+    }
+}

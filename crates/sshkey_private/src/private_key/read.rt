@@ -1,0 +1,124 @@
+//! How private keys are read.
+
+ghost use Rattle.std.specs.Prelude.{◌≡◌, Some, option_map};
+ghost use Rattle.sshkey_base.specs.Causes.{cause};
+ghost use Rattle.sshkey_base.specs.Needs.{Asks, NeedsBoxed, NeedsString};
+ghost use Rattle.sshkey_base.specs.Reading.{Gives};
+ghost use Rattle.sshkey_base.specs.Source.{Later};
+ghost use Rattle.sshkey_keys.specs.Keys.{key_of};
+ghost use Rattle.sshkey_model.specs.Grammar.{value_at};
+ghost use Rattle.sshkey_model.specs.KeyDerivation.{NoCipher};
+ghost use Rattle.sshkey_model.specs.PrivateKeys.{Unencrypted, unencrypted_at};
+ghost use Rattle.sshkey_private.specs.Ciphers.{cipher_of, kdf_of};
+ghost use Rattle.sshkey_private.specs.Inner.{NeedsInner, inner_of};
+ghost use Rattle.sshkey_private.specs.Paddings.{NeedsPadded};
+ghost use Rattle.sshkey_private.specs.PrivateKeyReaders.{steps_at, last_content_at, last_encrypted_at, NeedsContent, NeedsPrivateKey};
+ghost use Rattle.sshkey_private.specs.PrivateKeys.{private_of};
+
+use super::PrivateKey;
+use crate::cipher::Cipher;
+use crate::inner::decode_inner;
+use crate::kdf::Kdf;
+use crate::opening::{Opening, opening_from};
+use crate::part::Inner;
+use crate::sealed::{ciphertext_from, tag_from};
+use sshkey_base::{Error, Reader, Result};
+use sshkey_keypairs::KeypairData;
+use sshkey_keys::KeyData;
+use sshkey_public::PublicKey;
+use std::alloc::Global;
+
+/// A private key from the front; nothing may follow an encrypted one.
+#[tactic(auto, using(sshkey_base::proofs::Steps::steps), unfolding(crate::specs::PrivateKeyReaders::steps_at))]
+pub(super) fn private_key_from<R: Reader>(alloc: Global, reader: &mut R) -> Result<PrivateKey>
+    ensures gives { Gives private_of cause steps_at
+        (R.source reader.old) result (R.source reader.new) }
+    ensures later { Later (R.source reader.old) (R.source reader.new) }
+    ensures asks { Asks cause NeedsPrivateKey (R.source reader.old) result }
+{
+    let opening = opening_from(alloc, reader)?;
+    content_from(alloc, reader, opening)
+}
+
+/// The private part behind that opening. `Crypto` for a key derivation without a cipher.
+fn content_from<R: Reader>(alloc: Global, reader: &mut R, opening: Opening) -> Result<PrivateKey>
+    ensures gives { Gives private_of cause
+        (last_content_at (cipher_of opening.cipher) (kdf_of opening.kdf) (key_of opening.public))
+        (R.source reader.old) result (R.source reader.new) }
+    ensures later { Later (R.source reader.old) (R.source reader.new) }
+    ensures asks { Asks cause
+        (NeedsContent (cipher_of opening.cipher) (kdf_of opening.kdf) (key_of opening.public))
+        (R.source reader.old) result }
+{
+    if !opening.cipher.is_none() {
+        return encrypted_from(alloc, reader, opening);
+    }
+    if !opening.kdf.is_none() {
+        return Err(Error::Crypto);
+    }
+    unencrypted_from(alloc, reader, opening.public)
+}
+
+/// The private part of a key that is not encrypted, in its string.
+fn unencrypted_from<R: Reader>(alloc: Global, reader: &mut R, public: KeyData) -> Result<PrivateKey>
+    ensures gives { Gives private_of cause (value_at (unencrypted_at (key_of public)))
+        (R.source reader.old) result (R.source reader.new) }
+    ensures later { Later (R.source reader.old) (R.source reader.new) }
+    ensures asks { Asks cause (NeedsBoxed (NeedsPadded (NeedsInner (key_of public))))
+        (R.source reader.old) result }
+{
+    let inner = decode_inner(alloc, reader, public)?;
+    Ok(from_inner(inner))
+}
+
+/// The private key of that part.
+fn from_inner(inner: Inner) -> PrivateKey
+    ensures { Some (private_of result) ≡ option_map Unencrypted (inner_of inner) }
+{
+    let Inner {
+        checkint,
+        public,
+        pair,
+        comment,
+    } = inner;
+    PrivateKey {
+        cipher: Cipher::None,
+        kdf: Kdf::None,
+        checkint,
+        public_key: PublicKey::new(public, comment.into_string()),
+        key_data: pair,
+        tag: None,
+    }
+}
+
+/// A ciphertext in its string, and its tag, at the end of the reader. `TrailingData` for bytes
+/// behind them.
+#[tactic(auto, using(sshkey_base::proofs::Steps::steps), unfolding(crate::specs::PrivateKeyReaders::last_encrypted_at))]
+fn encrypted_from<R: Reader>(alloc: Global, reader: &mut R, opening: Opening) -> Result<PrivateKey>
+    requires { cipher_of opening.cipher ≡ NoCipher → ⊥ }
+    ensures gives { Gives private_of cause
+        (last_encrypted_at (cipher_of opening.cipher) (kdf_of opening.kdf) (key_of opening.public))
+        (R.source reader.old) result (R.source reader.new) }
+    ensures later { Later (R.source reader.old) (R.source reader.new) }
+    ensures asks { Asks cause NeedsString (R.source reader.old) result }
+{
+    let Opening {
+        cipher,
+        kdf,
+        public,
+    } = opening;
+    let ciphertext = ciphertext_from(alloc, reader, cipher)?;
+    let tag = tag_from(reader, cipher)?;
+    let remaining = reader.remaining_len();
+    if remaining > 0 {
+        return Err(Error::TrailingData { remaining });
+    }
+    Ok(PrivateKey {
+        cipher,
+        kdf,
+        checkint: 0,
+        public_key: PublicKey::from_key_data(alloc, public),
+        key_data: KeypairData::Encrypted(ciphertext),
+        tag,
+    })
+}

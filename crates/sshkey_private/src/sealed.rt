@@ -1,0 +1,61 @@
+//! The private part of an encrypted key.
+
+ghost use Rattle.std.specs.Prelude.{◌≡◌, ◌%◌, IfOk, length};
+ghost use Rattle.sshkey_base.specs.Answers.{AnswersAlways};
+ghost use Rattle.sshkey_base.specs.Causes.{cause};
+ghost use Rattle.sshkey_base.specs.Needs.{Asks, NoNeed, NeedsString};
+ghost use Rattle.sshkey_base.specs.Reading.{Gives};
+ghost use Rattle.sshkey_base.specs.Source.{Later};
+ghost use Rattle.sshkey_model.specs.KeyDerivation.{block_size, tag_size};
+ghost use Rattle.sshkey_model.specs.PrivateKeys.{blocks_from};
+ghost use Rattle.sshkey_model.specs.Reading.{bytes_at};
+ghost use Rattle.sshkey_private.specs.Ciphers.{cipher_of};
+ghost use Rattle.sshkey_private.specs.Paddings.{tag_bytes};
+ghost use Rattle.sshkey_private.specs.PrivateKeyReaders.{blocks_at};
+
+use crate::cipher::Cipher;
+use sshkey_base::{Decode, Error, Reader, Result, array_from};
+use std::alloc::Global;
+
+/// The string of a ciphertext of whole blocks. `Crypto` for another length.
+#[tactic(auto, using(sshkey_base::proofs::Steps::steps), unfolding(crate::specs::PrivateKeyReaders::blocks_at))]
+pub(crate) fn ciphertext_from<R: Reader>(
+    alloc: Global,
+    reader: &mut R,
+    cipher: Cipher,
+) -> Result<Vec<u8>>
+    ensures gives { Gives (λ v. v.items) cause (blocks_at (cipher_of cipher))
+        (R.source reader.old) result (R.source reader.new) }
+    ensures later { Later (R.source reader.old) (R.source reader.new) }
+    ensures asks { Asks cause NeedsString (R.source reader.old) result }
+    ensures whole { IfOk result (λ v. length v.items % block_size (cipher_of cipher) ≡ 0) }
+{
+    let ciphertext = Vec::<u8>::decode(alloc, reader)?;
+    check_blocks(ciphertext, cipher)
+}
+
+/// The ciphertext of whole blocks. Else `Crypto`.
+fn check_blocks(ciphertext: Vec<u8>, cipher: Cipher) -> Result<Vec<u8>>
+    ensures answers { AnswersAlways (λ v. v.items) cause
+        (blocks_from (cipher_of cipher) ciphertext.items) result }
+    ensures whole { IfOk result (λ v. length v.items % block_size (cipher_of cipher) ≡ 0) }
+{
+    if ciphertext.len() % cipher.block_size() != 0 {
+        return Err(Error::Crypto);
+    }
+    Ok(ciphertext)
+}
+
+/// The tag, where the cipher has one.
+pub(crate) fn tag_from<R: Reader>(reader: &mut R, cipher: Cipher) -> Result<Option<[u8; 16]>>
+    ensures gives { Gives tag_bytes cause (bytes_at (tag_size (cipher_of cipher)))
+        (R.source reader.old) result (R.source reader.new) }
+    ensures later { Later (R.source reader.old) (R.source reader.new) }
+    ensures asks { Asks cause NoNeed (R.source reader.old) result }
+    ensures size { IfOk result (λ t. length (tag_bytes t) ≡ tag_size (cipher_of cipher)) }
+{
+    if !cipher.has_tag() {
+        return Ok(None);
+    }
+    Ok(Some(array_from::<16, R>(reader)?))
+}
