@@ -7,6 +7,7 @@ mod bytes;
 mod keys;
 mod kinds;
 mod names;
+mod privates;
 mod questions;
 mod signatures;
 mod wire;

@@ -2,7 +2,7 @@
 
 use crate::bytes::{NO_LINE, part, parts, text};
 use crate::wire::shown;
-use crate::{keys, kinds, names, signatures, wire};
+use crate::{keys, kinds, names, privates, signatures, wire};
 use sshkey_base::{Algorithm, AlgorithmName, EcdsaCurve, Error, HashAlg, Mpint, Result};
 use sshkey_cert::Certificate;
 use sshkey_keys::{KeyData, Signature};
@@ -137,17 +137,20 @@ fn answer_of_keys(alloc: Global, question: &str, parts: &[Vec<u8>]) -> Result<St
         "signature-of-bytes" => signatures::made(alloc, parts),
         "ssh-signature" => wire::whole::<SshSig>(alloc, bytes),
         "rising-signatures" => wire::rising::<Signature>(alloc, parts),
-        _ => answer_of_certificates(alloc, question, bytes),
+        _ => answer_of_certificates(alloc, question, parts),
     }
 }
 
-fn answer_of_certificates(alloc: Global, question: &str, bytes: &[u8]) -> Result<String> {
+fn answer_of_certificates(alloc: Global, question: &str, parts: &[Vec<u8>]) -> Result<String> {
+    let bytes = part(parts, 0);
     match question {
         "options" => wire::whole::<OptionsMap>(alloc, bytes),
         "certificate-type" => wire::whole::<CertType>(alloc, bytes),
         "time" => wire::whole::<UnixTime>(alloc, bytes),
         "end-time" => wire::whole::<EndTime>(alloc, bytes),
         "certificate" => wire::whole::<Certificate>(alloc, bytes),
+        "private-key" => privates::whole(alloc, bytes),
+        "private-key-of-pair" => privates::of_pair(alloc, parts),
         _ => Err(NO_LINE),
     }
 }

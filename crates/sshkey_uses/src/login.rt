@@ -29,7 +29,14 @@ pub fn let_in<V: RawVerifier>(
         (fingerprints_of authorities.now) unix_timestamp line.now user.now) }
 {
     let certificate = Certificate::from_openssh(alloc, line)?;
-    check_login(alloc, &certificate, user, unix_timestamp, authorities, verifier)
+    check_login(
+        alloc,
+        &certificate,
+        user,
+        unix_timestamp,
+        authorities,
+        verifier,
+    )
 }
 
 /// The same of a certificate that was read.
