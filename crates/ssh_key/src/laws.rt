@@ -3,11 +3,15 @@
 
 pub use sshkey_base::laws::{one_front, read_back};
 pub use sshkey_cert::laws::compared_certificates;
-pub use sshkey_keypairs::laws::{equal_opaque_pairs, equal_sk_ecdsa_pairs, equal_sk_ed25519_pairs};
+pub use sshkey_keypairs::laws::{
+    equal_opaque_pairs, equal_pairs, equal_sk_ecdsa_pairs, equal_sk_ed25519_pairs,
+};
 pub use sshkey_keys::laws::{compared_fingerprints, compared_keys, compared_signatures};
 pub use sshkey_model::laws::lines::{lines_apart, one_certificate_line, one_key_line};
 pub use sshkey_model::laws::private::{
-    normal_keypairs, prefix_keypair, prefix_pair, read_back_keypair,
+    decode_private_key, normal_kdfs, normal_keypairs, normal_private_keys, prefix_kdf,
+    prefix_keypair, prefix_pair, prefix_private_key, read_back_kdf, read_back_keypair,
+    read_back_private_key,
 };
 pub use sshkey_model::laws::{
     apart, certificate_fields, normal_keys, normal_signatures, normal_ssh_signatures, prefix_body,
@@ -17,5 +21,7 @@ pub use sshkey_model::laws::{
     signed_fields,
 };
 pub use sshkey_options::laws::{compared_ends, compared_options, compared_times, compared_types};
-pub use sshkey_pairs::laws::{equal_dsa_pairs, equal_ed25519_pairs, equal_rsa_pairs};
+pub use sshkey_pairs::laws::{
+    equal_dsa_pairs, equal_ecdsa_pairs, equal_ed25519_pairs, equal_rsa_pairs,
+};
 pub use sshkey_public::laws::{compared_public_keys, compared_ssh_signatures};

@@ -1,4 +1,4 @@
-//! SSH keys and signatures: the one crate that a user names.
+//! SSH keys, certificates and signatures: the one crate that a user names.
 //!
 //! It holds no code of its own, and gives what the crates below it have under the module names of
 //! the Rust crate `ssh-key`.
@@ -13,5 +13,5 @@ pub mod public;
 pub use sshkey_base::{Algorithm, AlgorithmName, EcdsaCurve, Error, HashAlg, Mpint, Result};
 pub use sshkey_cert::Certificate;
 pub use sshkey_keys::{Fingerprint, RawVerifier, Signature, SigningKey};
-pub use sshkey_private::{Cipher, Kdf, KdfAlg};
+pub use sshkey_private::{Cipher, Kdf, KdfAlg, PrivateKey};
 pub use sshkey_public::{Base64Reader, Blob, PublicKey, SshSig, read_line, write_line};

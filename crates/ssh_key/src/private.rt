@@ -1,4 +1,4 @@
-//! Key pairs.
+//! Private keys, and the pairs that they hold.
 
 pub use sshkey_keypairs::{
     KeypairData, OpaqueKeypair, OpaqueKeypairBytes, OpaquePrivateKeyBytes, SkEcdsaSha2NistP256,
@@ -8,3 +8,5 @@ pub use sshkey_pairs::{
     DsaKeypair, DsaPrivateKey, EcdsaKeypair, EcdsaPrivateKey, Ed25519Keypair, Ed25519PrivateKey,
     RsaKeypair, RsaPrivateKey,
 };
+pub use sshkey_private::PrivateKey;
+pub use sshkey_public::SshSig;
