@@ -150,6 +150,8 @@ fn answer_of_certificates(alloc: Global, question: &str, parts: &[Vec<u8>]) -> R
         "end-time" => wire::whole::<EndTime>(alloc, bytes),
         "certificate" => wire::whole::<Certificate>(alloc, bytes),
         "private-key" => privates::whole(alloc, bytes),
+        "private-key-in-front" => privates::front(alloc, bytes),
+        "private-key-with-comment" => privates::commented(alloc, parts),
         "private-key-of-pair" => privates::of_pair(alloc, parts),
         _ => Err(NO_LINE),
     }
