@@ -8,3 +8,4 @@ pub mod Openings
 pub mod Forms
 pub mod PrivateKeys
 pub mod Written
+pub mod Comparisons

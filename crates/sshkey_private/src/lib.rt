@@ -5,6 +5,7 @@ mod cipher;
 mod inner;
 mod kdf;
 mod kdf_alg;
+pub mod laws;
 mod opening;
 mod padded;
 mod part;
