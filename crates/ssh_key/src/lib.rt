@@ -12,6 +12,7 @@ pub mod public;
 
 pub use sshkey_base::{Algorithm, AlgorithmName, EcdsaCurve, Error, HashAlg, Mpint, Result};
 pub use sshkey_cert::Certificate;
+pub use sshkey_ciphers::{Cipher, Kdf, KdfAlg};
 pub use sshkey_keys::{Fingerprint, RawVerifier, Signature, SigningKey};
-pub use sshkey_private::{Cipher, Kdf, KdfAlg, PrivateKey};
+pub use sshkey_private::PrivateKey;
 pub use sshkey_public::{Base64Reader, Blob, PublicKey, SshSig, read_line, write_line};

@@ -7,9 +7,9 @@ use Rattle.sshkey_keypairs.specs.declared.keypair_data.KeypairData.{KeypairData}
 use Rattle.sshkey_keypairs.specs.declared.keypair_data.KeypairData.TheVariants as kinds
 use Rattle.sshkey_public.specs.declared.public_key.PublicKey.{PublicKey}
 use Rattle.sshkey_public.specs.PublicKeys.{public_of}
-use Rattle.sshkey_private.specs.declared.cipher.Cipher as cipher
-use Rattle.sshkey_private.specs.declared.kdf.Kdf as kdf
-use Rattle.sshkey_private.specs.Ciphers.{cipher_of, kdf_of}
+use Rattle.sshkey_ciphers.specs.declared.cipher.Cipher as cipher
+use Rattle.sshkey_ciphers.specs.declared.kdf.Kdf as kdf
+use Rattle.sshkey_ciphers.specs.Ciphers.{cipher_of, kdf_of}
 use Rattle.sshkey_private.specs.Paddings.{tag_bytes}
 
 -- the ciphertext; a pair has none

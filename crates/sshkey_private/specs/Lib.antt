@@ -1,6 +1,4 @@
-pub mod Ciphers
 pub mod Paddings
-pub mod Needs
 pub mod Halves
 pub mod Inner
 pub mod PrivateKeyReaders

@@ -1,7 +1,7 @@
 -- What the opening of a private key means.
 use Rattle.sshkey_keys.specs.Keys.{key_of}
 use Rattle.sshkey_private.specs.declared.opening.Opening as code
-use Rattle.sshkey_private.specs.Ciphers.{cipher_of, kdf_of}
+use Rattle.sshkey_ciphers.specs.Ciphers.{cipher_of, kdf_of}
 use Rattle.sshkey_private.specs.PrivateKeyReaders.{Opening}
 
 abbrev pub opening_of : code.Opening → Opening

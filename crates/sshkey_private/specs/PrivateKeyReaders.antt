@@ -10,7 +10,7 @@ use Rattle.sshkey_base.specs.Needs.{NoNeed, NeedsString, NeedsBoxed, NeedsBoth, 
 use Rattle.sshkey_keys.specs.Keys.{key_data_at}
 use Rattle.sshkey_keys.specs.Needs.{NeedsKey}
 use Rattle.sshkey_private.specs.Inner.{NeedsInner}
-use Rattle.sshkey_private.specs.Needs.{NeedsKdf}
+use Rattle.sshkey_ciphers.specs.Needs.{NeedsKdf}
 use Rattle.sshkey_private.specs.Paddings.{NeedsPadded}
 -- under names that an attribute of this crate can unfold
 unfoldable pub use Rattle.sshkey_model.specs.Reading.{literal_at, bytes_at}

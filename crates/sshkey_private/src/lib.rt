@@ -1,10 +1,7 @@
-//! Private keys, and the ciphers and key derivations that they name (OpenSSH, PROTOCOL.key).
+//! Private keys (OpenSSH, PROTOCOL.key).
 #![tactic(auto)]
 
-mod cipher;
 mod inner;
-mod kdf;
-mod kdf_alg;
 pub mod laws;
 mod opening;
 mod padded;
@@ -12,7 +9,4 @@ mod part;
 mod private_key;
 mod sealed;
 
-pub use cipher::Cipher;
-pub use kdf::Kdf;
-pub use kdf_alg::KdfAlg;
 pub use private_key::PrivateKey;

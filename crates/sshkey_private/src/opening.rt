@@ -10,9 +10,8 @@ ghost use Rattle.sshkey_model.specs.Reading.{literal_at, literal_from};
 ghost use Rattle.sshkey_private.specs.Openings.{opening_of};
 ghost use Rattle.sshkey_private.specs.PrivateKeyReaders.{opening_at, one_at, NeedsOpening};
 
-use crate::cipher::Cipher;
-use crate::kdf::Kdf;
 use sshkey_base::{Decode, Error, Reader, Result, array_from, decode_boxed, encoding};
+use sshkey_ciphers::{Cipher, Kdf};
 use sshkey_keys::KeyData;
 use std::alloc::Global;
 
@@ -31,7 +30,7 @@ pub(crate) struct Opening {
 ///
 /// `FormatEncoding` for other bytes than the magic ones, `Label` for names of none, the refusals
 /// of `Kdf`, `Length` for another number of keys, and the refusals of `KeyData`.
-#[tactic(auto, using(sshkey_base::proofs::Steps::steps), unfolding(crate::specs::PrivateKeyReaders::opening_at, crate::specs::PrivateKeyReaders::cipher_at, crate::specs::Ciphers::label_at))]
+#[tactic(auto, using(sshkey_base::proofs::Steps::steps), unfolding(crate::specs::PrivateKeyReaders::opening_at, crate::specs::PrivateKeyReaders::cipher_at, sshkey_ciphers::specs::Ciphers::label_at))]
 pub(crate) fn opening_from<R: Reader>(alloc: Global, reader: &mut R) -> Result<Opening>
     ensures gives { Gives opening_of cause opening_at
         (R.source reader.old) result (R.source reader.new) }

@@ -11,8 +11,8 @@ ghost use Rattle.sshkey_model.specs.Parts.{bytes};
 ghost use Rattle.sshkey_model.specs.PrivateKeys.{rising, padded, padding};
 ghost use Rattle.sshkey_private.specs.Paddings.{padding_end};
 
-use crate::cipher::Cipher;
 use sshkey_base::{Encode, Error, Reader, Result, Writer, encoding};
+use sshkey_ciphers::Cipher;
 
 /// The bytes up to the end, which have to be padding: fewer than eight, 01, 02, 03 and so on.
 ///

@@ -7,10 +7,9 @@ ghost use Rattle.sshkey_private.specs.Forms.{has_form, sealed_of};
 mod read;
 mod write;
 
-use crate::cipher::Cipher;
-use crate::kdf::Kdf;
 use read::private_key_from;
 use sshkey_base::{Algorithm, HashAlg, Reader, Result, encode_vec};
+use sshkey_ciphers::{Cipher, Kdf};
 use sshkey_keypairs::KeypairData;
 use sshkey_keys::{Fingerprint, KeyData};
 use sshkey_public::PublicKey;
@@ -52,7 +51,7 @@ impl PrivateKey {
     ghost use Rattle.sshkey_keys.specs.Keys.{algorithm_beside};
     ghost use Rattle.sshkey_model.specs.PrivateKeys.{key_cipher, key_kdf, public_key, normal_private_key};
     ghost use Rattle.sshkey_model.specs.Reading.{whole};
-    ghost use Rattle.sshkey_private.specs.Ciphers.{cipher_of, kdf_of};
+    ghost use Rattle.sshkey_ciphers.specs.Ciphers.{cipher_of, kdf_of};
     ghost use Rattle.sshkey_private.specs.PrivateKeyReaders.{SpellsPrivateKey, private_value_at, NeedsPrivateKey};
     ghost use Rattle.sshkey_private.specs.PrivateKeys.{private_of, is_encrypted, data_of, outer_of, with_comment, GivesNew};
     ghost use Rattle.sshkey_public.specs.PublicKeys.{public_of, comment_of, data_of as key_data_of};

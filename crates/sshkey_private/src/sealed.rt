@@ -9,12 +9,12 @@ ghost use Rattle.sshkey_base.specs.Source.{Later};
 ghost use Rattle.sshkey_model.specs.KeyDerivation.{block_size, tag_size};
 ghost use Rattle.sshkey_model.specs.PrivateKeys.{blocks_from};
 ghost use Rattle.sshkey_model.specs.Reading.{bytes_at};
-ghost use Rattle.sshkey_private.specs.Ciphers.{cipher_of};
+ghost use Rattle.sshkey_ciphers.specs.Ciphers.{cipher_of};
 ghost use Rattle.sshkey_private.specs.Paddings.{tag_bytes};
 ghost use Rattle.sshkey_private.specs.PrivateKeyReaders.{blocks_at};
 
-use crate::cipher::Cipher;
 use sshkey_base::{Decode, Error, Reader, Result, array_from};
+use sshkey_ciphers::Cipher;
 use std::alloc::Global;
 
 /// The string of a ciphertext of whole blocks. `Crypto` for another length.

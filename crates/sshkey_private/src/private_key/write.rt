@@ -9,10 +9,10 @@ ghost use Rattle.sshkey_public.specs.PublicKeys.{comment_of};
 ghost use Rattle.sshkey_private.specs.Written.{part_parts, content_parts, halves_parts, key_parts};
 
 use super::PrivateKey;
-use crate::cipher::Cipher;
 use crate::opening::MAGIC;
 use crate::padded::encode_padded;
 use sshkey_base::{Encode, Writer, encode_string, encoding, string_len};
+use sshkey_ciphers::Cipher;
 use sshkey_keypairs::KeypairData;
 
 /// The magic bytes, cipher, key derivation, the number 1, the public key in a string, and the

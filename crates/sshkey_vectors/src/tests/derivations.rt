@@ -2,8 +2,8 @@
 
 use super::pairs::{bytes_of, is_written};
 use sshkey_base::{Error, Result, decode_whole};
+use sshkey_ciphers::{Cipher, Kdf, KdfAlg};
 use sshkey_doubles::Count;
-use sshkey_private::{Cipher, Kdf, KdfAlg};
 use std::alloc::Global;
 
 /// The name, and in a string 16 bytes of salt and 16 rounds, as an encrypted key has them.

@@ -1,6 +1,6 @@
 use Rattle.std.proofs.Common.{◌≡◌, sym, ◌∙◌, cond, Bool, ap}
 use Rattle.sshkey_model.specs.KeyDerivation.{tag_size}
-use Rattle.sshkey_private.specs.Ciphers.{cipher_of}
+use Rattle.sshkey_ciphers.specs.Ciphers.{cipher_of}
 use Rattle.sshkey_private.proofs.KeyValues.{no_tag}
 use Rattle.sshkey_private.proofs.sealed.tag_from.Goals as goal
 

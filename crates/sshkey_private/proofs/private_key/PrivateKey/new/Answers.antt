@@ -4,8 +4,8 @@ use Rattle.sshkey_base.specs.declared.error.Error.{Error}
 use Rattle.sshkey_keypairs.specs.Keypairs.{pair_of}
 use Rattle.sshkey_keys.specs.Keys.{key_of}
 use Rattle.sshkey_keys.specs.declared.key_data.KeyData.{KeyData}
-use Rattle.sshkey_private.specs.declared.cipher.Cipher.TheVariants as cipher
-use Rattle.sshkey_private.specs.declared.kdf.Kdf.TheVariants as kdf
+use Rattle.sshkey_ciphers.specs.declared.cipher.Cipher.TheVariants as cipher
+use Rattle.sshkey_ciphers.specs.declared.kdf.Kdf.TheVariants as kdf
 use Rattle.sshkey_private.specs.Forms.{sealed_of}
 use Rattle.sshkey_private.proofs.NewKeys.{form_of_new, none_made, some_made}
 use Rattle.sshkey_private.proofs.private_key.PrivateKey.new.Goals as goal

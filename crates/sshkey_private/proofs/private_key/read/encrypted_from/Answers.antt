@@ -1,5 +1,5 @@
 use Rattle.sshkey_keys.specs.Keys.{key_of}
-use Rattle.sshkey_private.specs.Ciphers.{cipher_of, kdf_of}
+use Rattle.sshkey_ciphers.specs.Ciphers.{cipher_of, kdf_of}
 use Rattle.sshkey_private.specs.Paddings.{tag_bytes}
 use Rattle.sshkey_private.proofs.KeyValues.{behind_refused}
 use Rattle.sshkey_private.proofs.private_key.read.encrypted_from.Goals as goal

@@ -11,8 +11,8 @@ ghost use Rattle.sshkey_base.specs.declared.error.Error.TheVariants as wide;
 ghost use Rattle.sshkey_model.specs.KeyDerivation.{Kdf as TheKdf, NoKdf, NoDerivation, BcryptDerivation, bcrypt_options_at, kdf_options_at, kdf, bcrypt_options, derivation};
 ghost use Rattle.sshkey_model.specs.Parts.{Any};
 ghost use Rattle.sshkey_model.specs.Reading.{box_at, whole};
-ghost use Rattle.sshkey_private.specs.Ciphers.{alg_of, kdf_of, options_of, kdf_with_salt, SpellsKdf, kdf_at, kdf_grammar, kdf_normal};
-ghost use Rattle.sshkey_private.specs.Needs.{NeedsKdf};
+ghost use Rattle.sshkey_ciphers.specs.Ciphers.{alg_of, kdf_of, options_of, kdf_with_salt, SpellsKdf, kdf_at, kdf_grammar, kdf_normal};
+ghost use Rattle.sshkey_ciphers.specs.Needs.{NeedsKdf};
 
 use crate::kdf_alg::KdfAlg;
 use rand_core::{CryptoRng, Rng};

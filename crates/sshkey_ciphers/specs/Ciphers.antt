@@ -9,13 +9,13 @@ use Rattle.sshkey_model.specs.KeyDerivation.{cipher_name, ciphers, kdf_name, kdf
 use Rattle.sshkey_model.proofs.Grammars.{grammar}
 use Rattle.sshkey_model.proofs.KeyDerivationReaders.{kdf_reads}
 pub use Rattle.sshkey_model.proofs.KeyDerivationReaders.{cipher_checks, kdf_algorithm_checks}
-use Rattle.sshkey_private.specs.declared.cipher.Cipher.{Cipher}
-use Rattle.sshkey_private.specs.declared.cipher.Cipher.TheVariants as cipher
-use Rattle.sshkey_private.specs.declared.kdf.Options.{Options}
-use Rattle.sshkey_private.specs.declared.kdf_alg.KdfAlg.{KdfAlg}
-use Rattle.sshkey_private.specs.declared.kdf_alg.KdfAlg.TheVariants as alg
-use Rattle.sshkey_private.specs.declared.kdf.Kdf.{Kdf}
-use Rattle.sshkey_private.specs.declared.kdf.Kdf.TheVariants as kdf
+use Rattle.sshkey_ciphers.specs.declared.cipher.Cipher.{Cipher}
+use Rattle.sshkey_ciphers.specs.declared.cipher.Cipher.TheVariants as cipher
+use Rattle.sshkey_ciphers.specs.declared.kdf.Options.{Options}
+use Rattle.sshkey_ciphers.specs.declared.kdf_alg.KdfAlg.{KdfAlg}
+use Rattle.sshkey_ciphers.specs.declared.kdf_alg.KdfAlg.TheVariants as alg
+use Rattle.sshkey_ciphers.specs.declared.kdf.Kdf.{Kdf}
+use Rattle.sshkey_ciphers.specs.declared.kdf.Kdf.TheVariants as kdf
 -- under names that an attribute of this crate can unfold
 unfoldable pub use Rattle.sshkey_model.specs.KeyDerivation.{kdf_at, kdf_algorithm_at, bcrypt_options_at}
 unfoldable pub use Rattle.sshkey_base.specs.Labels.{label_at}

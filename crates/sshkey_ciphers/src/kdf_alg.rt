@@ -7,7 +7,7 @@ ghost use Rattle.sshkey_base.specs.Labels.{LooksUp, LooksUpAlways};
 ghost use Rattle.sshkey_model.specs.KeyDerivation.{KdfAlgorithm, NoDerivation, BcryptDerivation, kdf_name};
 ghost use Rattle.sshkey_model.specs.Parts.{Any};
 ghost use Rattle.sshkey_model.specs.Reading as fault;
-ghost use Rattle.sshkey_private.specs.Ciphers.{alg_of, kdf_alg_from, kdf_algorithm_checks, kdf_alg_ascii, kdf_alg_refusals};
+ghost use Rattle.sshkey_ciphers.specs.Ciphers.{alg_of, kdf_alg_from, kdf_algorithm_checks, kdf_alg_ascii, kdf_alg_refusals};
 
 use sshkey_base::{Label, LabelError, Result, encoding};
 use std::alloc::Global;

@@ -1,7 +1,7 @@
 use Rattle.std.proofs.Common.{refl}
 use Rattle.sshkey_model.specs.KeyDerivation.{cipher_name, ciphers}
 use Rattle.sshkey_base.proofs.OtherNames.{named-none}
-use Rattle.sshkey_private.proofs.cipher.CipherFromStr.from_str.Goals as goal
+use Rattle.sshkey_ciphers.proofs.cipher.CipherFromStr.from_str.Goals as goal
 
 pub returns-in_default : goal.returns-in_default
 returns-in_default c =

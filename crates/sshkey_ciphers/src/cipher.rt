@@ -7,7 +7,7 @@ ghost use Rattle.sshkey_base.specs.Labels.{LooksUp, LooksUpAlways};
 ghost use Rattle.sshkey_model.specs.KeyDerivation.{Cipher as TheCipher, NoCipher, cipher_name, block_size, tag_size, padding_length};
 ghost use Rattle.sshkey_model.specs.Parts.{Any};
 ghost use Rattle.sshkey_model.specs.Reading as fault;
-ghost use Rattle.sshkey_private.specs.Ciphers.{cipher_of, cipher_from, cipher_checks, cipher_ascii, cipher_refusals};
+ghost use Rattle.sshkey_ciphers.specs.Ciphers.{cipher_of, cipher_from, cipher_checks, cipher_ascii, cipher_refusals};
 
 use sshkey_base::{Label, LabelError, Result, encoding};
 use std::alloc::Global;

@@ -1,0 +1,3 @@
+pub mod Ciphers
+pub mod Comparisons
+pub mod Needs

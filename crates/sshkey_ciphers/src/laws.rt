@@ -1,0 +1,26 @@
+//! Laws of ciphers and key derivations. They make no call: each is a fact about the definitions.
+
+ghost use Rattle.sshkey_base.specs.Comparisons.{IsEqualityOf, IsOrderOf};
+ghost use Rattle.sshkey_ciphers.specs.Ciphers.{cipher_of, alg_of, kdf_of};
+ghost use Rattle.sshkey_ciphers.specs.Comparisons.{cipher_key, kdf_alg_key};
+
+use crate::cipher::Cipher;
+use crate::kdf::Kdf;
+use crate::kdf_alg::KdfAlg;
+
+/// Two ciphers are equal exactly if they mean the same, and they are ordered as they are listed.
+pub fn compared_ciphers()
+    ensures equal { IsEqualityOf cipher_of ⟦<Cipher as PartialEq>⟧.eq }
+    ensures ordered { IsOrderOf cipher_key ⟦<Cipher as Ord>⟧.cmp }
+{}
+
+/// The same of the algorithms of key derivation.
+pub fn compared_kdf_algorithms()
+    ensures equal { IsEqualityOf alg_of ⟦<KdfAlg as PartialEq>⟧.eq }
+    ensures ordered { IsOrderOf kdf_alg_key ⟦<KdfAlg as Ord>⟧.cmp }
+{}
+
+/// Two key derivations are equal exactly if they mean the same.
+pub fn equal_kdfs()
+    ensures { IsEqualityOf kdf_of ⟦<Kdf as PartialEq>⟧.eq }
+{}
