@@ -3,6 +3,7 @@
 
 pub use sshkey_base::laws::{one_front, read_back};
 pub use sshkey_cert::laws::compared_certificates;
+pub use sshkey_ciphers::laws::{compared_ciphers, compared_kdf_algorithms, equal_kdfs};
 pub use sshkey_keypairs::laws::{
     equal_opaque_pairs, equal_pairs, equal_sk_ecdsa_pairs, equal_sk_ed25519_pairs,
 };
@@ -24,4 +25,5 @@ pub use sshkey_options::laws::{compared_ends, compared_options, compared_times, 
 pub use sshkey_pairs::laws::{
     equal_dsa_pairs, equal_ecdsa_pairs, equal_ed25519_pairs, equal_rsa_pairs,
 };
+pub use sshkey_private::laws::equal_private_keys;
 pub use sshkey_public::laws::{compared_public_keys, compared_ssh_signatures};
