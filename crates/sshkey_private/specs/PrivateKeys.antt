@@ -1,5 +1,5 @@
 -- What a private key means.
-use Rattle.std.specs.Prelude.{◌≡◌, ℕ, List, Bool, true, false, Option, Some, None, Result, MatchResult, IsErrAnd}
+use Rattle.std.specs.Prelude.{◌≡◌, ℕ, List, [], Bool, true, false, Option, Some, None, Result, MatchResult, IsErrAnd}
 use Rattle.sshkey_model.specs.KeyPairs.{KeyPair}
 use Rattle.sshkey_model.specs.PrivateKeys as model
 use Rattle.sshkey_model.specs.PrivateKeys.{Unencrypted, Encrypted, EncryptedKey, new_private_key}
@@ -34,6 +34,10 @@ outer_of k = k.public_key
 abbrev pub is_encrypted : model.PrivateKey → Bool
 is_encrypted (Unencrypted k) = false
 is_encrypted (Encrypted k) = true
+
+-- It has no comment that is not written: that of an encrypted key is empty.
+abbrev pub HasWrittenComment : PrivateKey → Type 0
+HasWrittenComment k = is_encrypted (private_of k) ≡ true → comment_of (outer_of k) ≡ []
 
 -- A pair gives its private key, unless memory runs out; an encrypted one is refused as such.
 abbrev pub GivesNew : Option KeyPair → List ℕ → Result PrivateKey Error → Type 0

@@ -1,18 +1,22 @@
 //! Laws of private keys: each stands for all values.
 
-ghost use Rattle.sshkey_private.specs.Comparisons.{IsEqualityBy};
+ghost use Rattle.sshkey_base.specs.Comparisons.{EqualMeanSame, IsEqualityAmong};
+ghost use Rattle.sshkey_private.specs.Comparisons.{IsBesideKey, seen};
 
 use crate::private_key::PrivateKey;
 use sshkey_ciphers::laws::{compared_ciphers, equal_kdfs};
-use sshkey_keypairs::KeypairData;
-use sshkey_public::PublicKey;
+use sshkey_keypairs::laws::equal_pairs;
+use sshkey_public::laws::compared_public_keys;
 
-/// Two private keys are equal exactly if their ciphers and derivations mean the same, their public
-/// keys and comments are equal, and their pairs or ciphertexts are. Checkint and tag are left out.
-pub fn equal_private_keys()
-    ensures { IsEqualityBy ⟦<PublicKey as PartialEq>⟧.eq ⟦<KeypairData as PartialEq>⟧.eq
-        ⟦<PrivateKey as PartialEq>⟧.eq }
+/// Two private keys that are equal have the same cipher and derivation, public keys that mean the
+/// same with one comment, and the same pair or ciphertext; two beside well-formed public keys are
+/// equal exactly if they have. Checkint and tag are left out.
+pub fn compared_private_keys()
+    ensures equal { IsEqualityAmong IsBesideKey seen ⟦<PrivateKey as PartialEq>⟧.eq }
+    ensures same { EqualMeanSame seen ⟦<PrivateKey as PartialEq>⟧.eq }
 {
     compared_ciphers();
     equal_kdfs();
+    compared_public_keys();
+    equal_pairs();
 }

@@ -53,7 +53,7 @@ impl PrivateKey {
     ghost use Rattle.sshkey_model.specs.Reading.{whole};
     ghost use Rattle.sshkey_ciphers.specs.Ciphers.{cipher_of, kdf_of};
     ghost use Rattle.sshkey_private.specs.PrivateKeyReaders.{SpellsPrivateKey, private_value_at, NeedsPrivateKey};
-    ghost use Rattle.sshkey_private.specs.PrivateKeys.{private_of, is_encrypted, data_of, outer_of, with_comment, GivesNew};
+    ghost use Rattle.sshkey_private.specs.PrivateKeys.{private_of, is_encrypted, data_of, outer_of, with_comment, HasWrittenComment, GivesNew};
     ghost use Rattle.sshkey_public.specs.PublicKeys.{public_of, comment_of, data_of as key_data_of};
 
     /// The private key of that pair, not encrypted, with that comment. Its checkint is the one that
@@ -85,7 +85,7 @@ impl PrivateKey {
     }
 
     /// Reads a private key from the front, and leaves what follows it; nothing may follow an
-    /// encrypted one.
+    /// encrypted one, whose comment is empty.
     ///
     /// It is what the plain reader gives of the bytes that are left. A sound source is refused with
     /// the first fault from the left, or for memory that ran out, where a part that stands whole
@@ -102,11 +102,12 @@ impl PrivateKey {
             (R.source reader.old) result (R.source reader.new) }
         ensures later { Later (R.source reader.old) (R.source reader.new) }
         ensures asks { Asks cause NeedsPrivateKey (R.source reader.old) result }
+        ensures comment { IfOk result HasWrittenComment }
     {
         private_key_from(alloc, reader)
     }
 
-    /// Reads a private key that all the bytes spell.
+    /// Reads a private key that all the bytes spell. The comment of an encrypted one is empty.
     ///
     /// Out of memory aside, they are refused only where they spell none: with the refusals of
     /// `decode`, or `Encoding(TrailingData)` with the number of bytes behind one that is not
@@ -117,6 +118,7 @@ impl PrivateKey {
         ensures accepts { AcceptsWhole private_of SpellsPrivateKey cause
             (all_of bytes.now) result }
         ensures asks { Asks cause NeedsPrivateKey (all_of bytes.now) result }
+        ensures comment { IfOk result HasWrittenComment }
     {
         let mut reader = bytes;
         let key = PrivateKey::decode(alloc, &mut reader)?;

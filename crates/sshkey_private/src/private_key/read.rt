@@ -1,6 +1,6 @@
 //! How private keys are read.
 
-ghost use Rattle.std.specs.Prelude.{◌≡◌, Some, option_map};
+ghost use Rattle.std.specs.Prelude.{◌≡◌, [], false, Some, option_map, IfOk};
 ghost use Rattle.sshkey_base.specs.Causes.{cause};
 ghost use Rattle.sshkey_base.specs.Needs.{Asks, NeedsBoxed, NeedsString};
 ghost use Rattle.sshkey_base.specs.Reading.{Gives};
@@ -13,7 +13,8 @@ ghost use Rattle.sshkey_ciphers.specs.Ciphers.{cipher_of, kdf_of};
 ghost use Rattle.sshkey_private.specs.Inner.{NeedsInner, inner_of};
 ghost use Rattle.sshkey_private.specs.Paddings.{NeedsPadded};
 ghost use Rattle.sshkey_private.specs.PrivateKeyReaders.{steps_at, last_content_at, last_encrypted_at, NeedsContent, NeedsPrivateKey};
-ghost use Rattle.sshkey_private.specs.PrivateKeys.{private_of};
+ghost use Rattle.sshkey_private.specs.PrivateKeys.{private_of, is_encrypted, outer_of, HasWrittenComment};
+ghost use Rattle.sshkey_public.specs.PublicKeys.{comment_of};
 
 use super::PrivateKey;
 use crate::inner::decode_inner;
@@ -34,6 +35,7 @@ pub(super) fn private_key_from<R: Reader>(alloc: Global, reader: &mut R) -> Resu
         (R.source reader.old) result (R.source reader.new) }
     ensures later { Later (R.source reader.old) (R.source reader.new) }
     ensures asks { Asks cause NeedsPrivateKey (R.source reader.old) result }
+    ensures comment { IfOk result HasWrittenComment }
 {
     let opening = opening_from(alloc, reader)?;
     content_from(alloc, reader, opening)
@@ -48,6 +50,7 @@ fn content_from<R: Reader>(alloc: Global, reader: &mut R, opening: Opening) -> R
     ensures asks { Asks cause
         (NeedsContent (cipher_of opening.cipher) (kdf_of opening.kdf) (key_of opening.public))
         (R.source reader.old) result }
+    ensures comment { IfOk result HasWrittenComment }
 {
     if !opening.cipher.is_none() {
         return encrypted_from(alloc, reader, opening);
@@ -65,6 +68,7 @@ fn unencrypted_from<R: Reader>(alloc: Global, reader: &mut R, public: KeyData) -
     ensures later { Later (R.source reader.old) (R.source reader.new) }
     ensures asks { Asks cause (NeedsBoxed (NeedsPadded (NeedsInner (key_of public))))
         (R.source reader.old) result }
+    ensures plain { IfOk result (λ k. is_encrypted (private_of k) ≡ false) }
 {
     let inner = decode_inner(alloc, reader, public)?;
     Ok(from_inner(inner))
@@ -100,6 +104,7 @@ fn encrypted_from<R: Reader>(alloc: Global, reader: &mut R, opening: Opening) ->
         (R.source reader.old) result (R.source reader.new) }
     ensures later { Later (R.source reader.old) (R.source reader.new) }
     ensures asks { Asks cause NeedsString (R.source reader.old) result }
+    ensures comment { IfOk result (λ k. comment_of (outer_of k) ≡ []) }
 {
     let Opening {
         cipher,
