@@ -5,6 +5,7 @@ use Rattle.sshkey_model.specs.KeyPairs.{KeyPair, public_half}
 use Rattle.sshkey_model.specs.PrivateKeys.{EncryptedKey, key_eq}
 use Rattle.sshkey_keypairs.specs.declared.keypair_data.KeypairData.{KeypairData}
 use Rattle.sshkey_keypairs.specs.declared.keypair_data.KeypairData.TheVariants as kinds
+use Rattle.sshkey_keypairs.specs.Keypairs.{pair_of}
 use Rattle.sshkey_public.specs.declared.public_key.PublicKey.{PublicKey}
 use Rattle.sshkey_public.specs.PublicKeys.{public_of}
 use Rattle.sshkey_ciphers.specs.declared.cipher.Cipher as cipher
@@ -33,3 +34,7 @@ is_no_kdf (Bcrypt o) = false
 abbrev pub has_form : Option KeyPair → EncryptedKey → Bool
 has_form (Some k) e = is_no_cipher e.cipher && is_no_kdf e.kdf && key_eq (public_half k) e.public
 has_form None e = not (is_no_cipher e.cipher) && (length e.ciphertext % block_size e.cipher == 0) && (length e.tag == tag_size e.cipher)
+
+-- the same of the fields
+abbrev pub are_formed : cipher.Cipher → kdf.Kdf → PublicKey → KeypairData → Option (List ℕ) → Bool
+are_formed c k public pair tag = has_form (pair_of pair) (sealed_of c k public pair tag)

@@ -1,8 +1,7 @@
 //! Private keys.
 
 ghost use Rattle.std.specs.Prelude.{◌≡◌, true};
-ghost use Rattle.sshkey_keypairs.specs.Keypairs.{pair_of};
-ghost use Rattle.sshkey_private.specs.Forms.{has_form, sealed_of};
+ghost use Rattle.sshkey_private.specs.Forms.{are_formed};
 
 mod read;
 mod write;
@@ -35,10 +34,11 @@ pub struct PrivateKey {
     key_data: KeypairData,
     #[derive_where(skip)]
     tag: Option<[u8; 16]>,
-    pub ghost form: { has_form (pair_of key_data) (sealed_of cipher kdf public_key key_data tag) ≡ true },
+    pub ghost form: { are_formed cipher kdf public_key key_data tag ≡ true },
 }
 
 impl PrivateKey {
+    ghost use Rattle.sshkey_keypairs.specs.Keypairs.{pair_of};
     ghost use Rattle.std.specs.Prelude.{IfOk, IfErr, IsOk, [], string_bytes};
     ghost use Rattle.sshkey_base.specs.Causes.{cause};
     ghost use Rattle.sshkey_base.specs.Names.{IsFixed, algorithm_of, hash_of};
