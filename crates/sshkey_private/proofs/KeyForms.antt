@@ -1,7 +1,7 @@
 -- The form of a private key's fields.
-use Rattle.std.proofs.Common.{◌≡◌, ℕ, ◌%◌, List, length, true, ◌&&◌, not, Option, Some, None, refl, sym}
-use Rattle.std.proofs.lemmas.Bool.{and_parts, eq-eqb}
-use Rattle.sshkey_model.specs.KeyDerivation.{Cipher, NoCipher, Kdf, NoKdf, Bcrypt, block_size, tag_size}
+use Rattle.std.proofs.Common.{◌≡◌, ℕ, List, true, ◌&&◌, Option, Some, None, refl, sym}
+use Rattle.std.proofs.lemmas.Bool.{and_parts}
+use Rattle.sshkey_model.specs.KeyDerivation.{Cipher, NoCipher, Kdf, NoKdf, Bcrypt}
 use Rattle.sshkey_model.specs.KeyPairs.{KeyPair, public_half}
 use Rattle.sshkey_model.specs.PrivateKeys.{EncryptedKey, key_eq, key_cipher, key_kdf, public_key}
 use Rattle.sshkey_model.proofs.PrivateKeyReaders.{same_key, key_itself}
@@ -17,10 +17,6 @@ no_kdf : (k : Kdf) → is_no_kdf k ≡ true → k ≡ NoKdf
 no_kdf NoKdf is = refl
 no_kdf (Bcrypt o) is = absurd cc
 
-some_cipher : (c : Cipher) → (c ≡ NoCipher → ⊥) → not (is_no_cipher c) ≡ true
-some_cipher NoCipher some = absurd (some refl)
-some_cipher _ some = refl
-
 -- with a pair there is no cipher, and the public key is its half
 pub plain_form : (k : KeyPair) (e : EncryptedKey) → has_form (Some k) e ≡ true → (e.cipher ≡ NoCipher) × (e.kdf ≡ NoKdf) × (public_half k ≡ e.public)
 plain_form k e h =
@@ -34,9 +30,6 @@ form_of_half None e c d half = absurd cc
 
 pub form_of_pair : (k : KeyPair) (e : EncryptedKey) → e.cipher ≡ NoCipher → e.kdf ≡ NoKdf → public_half k ≡ e.public → has_form (Some k) e ≡ true
 form_of_pair k e c d same = form_of_half (Some k) e c d (rw (← same) (key_itself (public_half k)))
-
-pub form_of_sealed : (e : EncryptedKey) → (e.cipher ≡ NoCipher → ⊥) → length e.ciphertext % block_size e.cipher ≡ 0 → length e.tag ≡ tag_size e.cipher → has_form None e ≡ true
-form_of_sealed e some whole tag = rw (some_cipher e.cipher some, eq-eqb _ _ whole, eq-eqb _ _ tag) refl
 
 module _ (n : ℕ) (comment : List ℕ) (e : EncryptedKey) where
   pub cipher_is : (o : Option KeyPair) → has_form o e ≡ true → e.cipher ≡ key_cipher (of_pair o n comment e)

@@ -122,11 +122,6 @@ content_is NoCipher NoKdf public outer b = unencrypted_is public outer b
 content_is NoCipher (Bcrypt o) public outer b = refl
 content_is c k public outer b = encrypted_is c k public outer b
 
--- under a cipher it is the encrypted one
-pub encrypted_content : (c : Cipher) (k : Kdf) (public : Key) (b : List ℕ) → (c ≡ NoCipher → ⊥) → last_encrypted_at c k public b ≡ last_content_at c k public b
-encrypted_content NoCipher k public b some = absurd (some refl)
-encrypted_content c k public b some = refl
-
 -- ---- all of it
 
 pub steps_are : (b : List ℕ) → steps_at b ≡ private_value_at b

@@ -1,32 +1,23 @@
 -- A private key of the parts that were read.
-use Rattle.std.proofs.Common.{◌≡◌, ℕ, ◌<◌, List, [], ◌∷◌, length, true, Option, Some, None, option_map, Result, Ok, Err, IsErrAnd, refl, sym, ap, ◌∙◌, arith}
+use Rattle.std.proofs.Common.{◌≡◌, ℕ, ◌<◌, List, [], ◌∷◌, length, Option, Some, None, option_map, Result, Ok, Err, IsErrAnd, refl, sym, ap, ◌∙◌, arith}
 use Rattle.std.proofs.lemmas.Bool.{le-ltb}
-use Rattle.std.proofs.lemmas.List.{nil_from_length}
-use Rattle.sshkey_model.specs.Reading.{Fault, Crypto, TrailingKeyData, ◌>>=◌, box_at, bytes_at}
+use Rattle.sshkey_model.specs.Reading.{Fault, TrailingKeyData, ◌>>=◌, box_at, bytes_at}
 use Rattle.sshkey_model.specs.Grammar.{value_at}
 use Rattle.sshkey_model.specs.Keys.{Key}
-use Rattle.sshkey_model.specs.KeyDerivation.{Cipher, NoCipher, tag_size, Kdf, NoKdf, Bcrypt}
-use Rattle.sshkey_model.specs.KeyPairs.{KeyPair}
-use Rattle.sshkey_model.specs.PrivateKeys.{UnencryptedKey, PrivateKey, Unencrypted, Encrypted, EncryptedKey, padded_from, private_part_at, unencrypted_at}
+use Rattle.sshkey_model.specs.KeyDerivation.{Cipher, tag_size, Kdf}
+use Rattle.sshkey_model.specs.PrivateKeys.{UnencryptedKey, PrivateKey, Unencrypted, Encrypted, padded_from, private_part_at, unencrypted_at}
 use Rattle.sshkey_model.proofs.CombinedReaders.{bind_ok, ok_is}
 use Rattle.sshkey_base.specs.Causes.{Cause, Faulty}
-use Rattle.sshkey_base.specs.Needs.{NeedsString}
 use Rattle.sshkey_base.specs.Source.{Source, announced_len}
 use Rattle.sshkey_base.specs.Reading.{Reads, IsRefused}
 use Rattle.sshkey_base.proofs.MappedBoxes.{on_value}
-use Rattle.sshkey_private.specs.Halves.{is_half}
-use Rattle.sshkey_private.specs.Inner.{unencrypted, inner_at}
+use Rattle.sshkey_private.specs.Inner.{inner_at}
 use Rattle.sshkey_private.specs.Paddings.{tag_bytes}
-use Rattle.sshkey_private.specs.PrivateKeys.{of_pair}
-use Rattle.sshkey_private.specs.PrivateKeyReaders.{blocks_at, last_of, last_encrypted_at, last_content_at, NeedsContent}
+use Rattle.sshkey_private.specs.PrivateKeyReaders.{blocks_at, last_of, last_encrypted_at}
 use Rattle.sshkey_private.proofs.InnerReaders.{Part, some_part, boxed_is}
 use Rattle.sshkey_private.proofs.KeyReaders.{as_unencrypted, bare_content}
 
 -- ---- not encrypted
-
-pub of_inner : (o : Option KeyPair) (checkint : ℕ) (comment : List ℕ) (sealed : EncryptedKey) (public : Key) → is_half o public ≡ true → Some (of_pair o checkint comment sealed) ≡ option_map Unencrypted (unencrypted checkint o comment)
-of_inner (Some k) checkint comment sealed public half = refl
-of_inner None checkint comment sealed public half = absurd cc
 
 module _ {X I : Type 0} (means : X → PrivateKey) (part : I → Option UnencryptedKey) (public : Key) where
   pub unencrypted_read : (s t : Source) (x : X) (i : I) → Reads part (box_at (padded_from (inner_at public))) s i t → Some (means x) ≡ option_map Unencrypted (part i) → Reads means (value_at (unencrypted_at public)) s x t
@@ -59,16 +50,6 @@ module _ {X Y : Type 0} (ciphertext : X → List ℕ) (tag : Y → List ℕ) (c 
   abbrev sealed : PrivateKey
   sealed = Encrypted (record { cipher = c; kdf = k; public = public; ciphertext = ciphertext x; tag = tag y })
 
-  pub encrypted_read : {Z : Type 0} (means : Z → PrivateKey) (z : Z) → announced_len u ≡ 0 → means z ≡ sealed → Reads means (last_encrypted_at c k public) s z u
-  unfolding last_encrypted_at
-  encrypted_read means z none e =
-      let left : u.left ≡ [] = nil_from_length u.left (omega (arith, none)) in
-      record {
-        value = rw (a.value, b.value, left) (λ j. Ok (sym e j, []));
-        missing = b.missing ∙ a.missing;
-        outer = b.outer ∙ a.outer;
-      }
-
   pub behind_refused : (n : ℕ) → n ≡ announced_len u → 0 < n → IsRefused s.missing (Faulty (TrailingKeyData n)) (last_encrypted_at c k public s.left)
   unfolding last_encrypted_at
   behind_refused n e some = record {
@@ -80,16 +61,3 @@ module _ {X Y : Type 0} (ciphertext : X → List ℕ) (tag : Y → List ℕ) (c 
       go : (rest : List ℕ) → length rest ≡ n → IsErrAnd (last_of (sealed, rest)) (λ f. Faulty (TrailingKeyData n) ≡ Faulty f)
       go [] len = absurd (omega arith)
       go (d ∷ rest) len = ap (λ (m : ℕ). Faulty (TrailingKeyData m)) (sym len)
-
--- ---- either
-
-pub no_derivation : (c : Cipher) (k : Kdf) (public : Key) (m : ℕ) (b : List ℕ) → c ≡ NoCipher → (k ≡ NoKdf → ⊥) → IsRefused m (Faulty Crypto) (last_content_at c k public b)
-no_derivation c NoKdf public m b none some = absurd (some refl)
-no_derivation c (Bcrypt o) public m b none some = rw none (record { fault = λ other sound. refl })
-
-pub plain_content : (c : Cipher) (k : Kdf) (public : Key) (b : List ℕ) → c ≡ NoCipher → k ≡ NoKdf → value_at (unencrypted_at public) b ≡ last_content_at c k public b
-plain_content c k public b none same = rw (none, same) refl
-
-pub needs_ciphertext : (c : Cipher) (k : Kdf) (public : Key) (b : List ℕ) → (c ≡ NoCipher → ⊥) → NeedsString b → NeedsContent c k public b
-needs_ciphertext NoCipher k public b some h = absurd (some refl)
-needs_ciphertext c k public b some h = h
