@@ -1,9 +1,8 @@
-//! Private keys.
+//! Private keys. Each function lets go of one key at the most.
 
 use crate::bytes::{part, text};
 use crate::wire::rest;
 use sshkey_base::{HashAlg, Result, decode_whole};
-use sshkey_keypairs::KeypairData;
 use sshkey_private::PrivateKey;
 use sshkey_public::PublicKey;
 use std::alloc::Global;
@@ -11,9 +10,13 @@ use std::alloc::Global;
 /// The line of the public key, and the cipher, of the private key that all the bytes spell.
 pub(crate) fn whole(alloc: Global, bytes: &[u8]) -> Result<String> {
     let key = PrivateKey::from_bytes(alloc, bytes)?;
+    shown(alloc, &key, bytes)
+}
+
+fn shown(alloc: Global, key: &PrivateKey, bytes: &[u8]) -> Result<String> {
     let line = key.public_key().to_openssh(alloc)?;
     let cipher = key.cipher();
-    let rest = rest(alloc, &key, bytes, 0)?;
+    let rest = rest(alloc, key, bytes, 0)?;
     Ok(format!(in alloc; "{line}, cipher {cipher}{rest}")?)
 }
 
@@ -22,44 +25,76 @@ pub(crate) fn whole(alloc: Global, bytes: &[u8]) -> Result<String> {
 pub(crate) fn front(alloc: Global, bytes: &[u8]) -> Result<String> {
     let mut left = bytes;
     let key = PrivateKey::decode(alloc, &mut left)?;
-    let told = told_of(alloc, &key)?;
-    Ok(format!(in alloc; "{told}, {} left", left.len())?)
+    told(alloc, &key, left.len())
 }
 
-fn told_of(alloc: Global, key: &PrivateKey) -> Result<String> {
-    let held = match (key.is_encrypted(), key.key_data().is_encrypted()) {
+fn told(alloc: Global, key: &PrivateKey, left: usize) -> Result<String> {
+    let held = held_by(key);
+    let derivation = key.kdf().algorithm();
+    let fingerprint = key.fingerprint(alloc, HashAlg::Sha256)?;
+    let algorithm = key.algorithm(alloc)?;
+    Ok(format!(in alloc; "{held}, {derivation}, {algorithm}, {fingerprint}, {left} left")?)
+}
+
+/// What it is said to hold.
+fn held_by(key: &PrivateKey) -> &'static str {
+    match (key.is_encrypted(), key.key_data().is_encrypted()) {
         (true, true) => "a ciphertext",
         (false, false) => "a pair",
         _ => "both",
-    };
-    let derivation = key.kdf().algorithm();
-    let algorithm = key.algorithm(alloc)?;
-    let fingerprint = key.fingerprint(alloc, HashAlg::Sha256)?;
-    Ok(format!(in alloc; "{held}, {derivation}, {algorithm}, {fingerprint}")?)
+    }
 }
 
 /// The comment of the private key that the first byte string spells, whether a copy with the comment
 /// that the second one is equals it, and the public line of that copy.
 pub(crate) fn commented(alloc: Global, parts: &[Vec<u8>]) -> Result<String> {
+    let comment = text(parts, 1)?;
     let key = PrivateKey::from_bytes(alloc, part(parts, 0))?;
-    let mut copy = key.try_clone(alloc)?;
-    copy.set_comment(String::from_str(alloc, text(parts, 1)?)?);
-    let word = if copy == key {
+    copied(alloc, &key, comment)
+}
+
+fn copied(alloc: Global, key: &PrivateKey, comment: &str) -> Result<String> {
+    let copy = with_comment(alloc, key, comment)?;
+    let word = if copy == *key {
         "equals"
     } else {
         "differs from"
     };
-    let line = PublicKey::from(copy).to_openssh(alloc)?;
+    let line = line_of(alloc, copy)?;
     Ok(format!(in alloc; "'{}' {word} {line}", key.comment())?)
+}
+
+/// A copy with that comment.
+fn with_comment(alloc: Global, key: &PrivateKey, comment: &str) -> Result<PrivateKey> {
+    let comment = String::from_str(alloc, comment)?;
+    let mut copy = key.try_clone(alloc)?;
+    copy.set_comment(comment);
+    Ok(copy)
+}
+
+fn line_of(alloc: Global, key: PrivateKey) -> Result<String> {
+    PublicKey::from(key).to_openssh(alloc)
 }
 
 /// The bytes of the private key that is made of a pair, which the first byte string spells, and of a
 /// comment, where there is one.
 pub(crate) fn of_pair(alloc: Global, parts: &[Vec<u8>]) -> Result<String> {
-    let pair: KeypairData = decode_whole(alloc, part(parts, 0))?;
     let key = match parts {
-        [_] => PrivateKey::from_keypair(alloc, pair)?,
-        _ => PrivateKey::new(alloc, pair, String::from_str(alloc, text(parts, 1)?)?)?,
+        [pair] => made(alloc, pair)?,
+        _ => made_with(alloc, part(parts, 0), text(parts, 1)?)?,
     };
+    written(alloc, &key)
+}
+
+fn made(alloc: Global, pair: &[u8]) -> Result<PrivateKey> {
+    PrivateKey::from_keypair(alloc, decode_whole(alloc, pair)?)
+}
+
+fn made_with(alloc: Global, pair: &[u8], comment: &str) -> Result<PrivateKey> {
+    let comment = String::from_str(alloc, comment)?;
+    PrivateKey::new(alloc, decode_whole(alloc, pair)?, comment)
+}
+
+fn written(alloc: Global, key: &PrivateKey) -> Result<String> {
     Ok(hex::encode(alloc, &key.to_bytes(alloc)?)?)
 }

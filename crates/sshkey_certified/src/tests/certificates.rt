@@ -1,6 +1,6 @@
 //! Certificates that OpenSSH made: read, written back and validated.
 
-use super::certified::{Certified, EACH, ED25519_USER, P256_HOST, P384_USER, RSA_SHA256};
+use super::certified::{Certified, each, ed25519_user, p256_host, p384_user, rsa_sha256};
 use base64::engine::general_purpose::STANDARD;
 use sshkey_base::{Algorithm, Error, HashAlg};
 use sshkey_cert::Certificate;
@@ -98,7 +98,7 @@ fn holds(alloc: Global, made: &Certified) -> bool {
 
 #[test]
 fn each_kind_is_read_and_written_back(rt: HostRuntime) {
-    assert!(rt; EACH.iter().all(|made| holds(rt.alloc(), made)));
+    assert!(rt; each().iter().all(|made| holds(rt.alloc(), made)));
 }
 
 /// The verifier that knows the certificate's signature of its first bytes.
@@ -145,30 +145,53 @@ fn is_valid_to(alloc: Global, certificate: &Certificate, secs: u64, only: &Only)
 
 #[test]
 fn each_is_signed_over_its_first_bytes(rt: HostRuntime) {
-    assert!(rt; EACH.iter().all(|made| is_known(rt.alloc(), made)));
+    assert!(rt; each().iter().all(|made| is_known(rt.alloc(), made)));
 }
 
-/// What a validation at that time answers, by a verifier that accepts all.
-fn answer_at(alloc: Global, made: &Certified, secs: u64) -> Option<Result<(), Error>> {
-    let certificate = read(alloc, made)?;
-    let authorities = authorities(alloc, &certificate)?;
-    Some(certificate.validate_at(alloc, secs, &authorities, &AcceptAll))
+/// A validation at that time answers that, by a verifier that accepts all.
+fn answers(alloc: Global, made: &Certified, secs: u64, wanted: Result<(), Error>) -> bool {
+    match read(alloc, made) {
+        Some(certificate) => judges(alloc, &certificate, secs, wanted),
+        None => false,
+    }
+}
+
+fn judges(alloc: Global, certificate: &Certificate, secs: u64, wanted: Result<(), Error>) -> bool {
+    match authorities(alloc, certificate) {
+        Some(given) => certificate.validate_at(alloc, secs, &given, &AcceptAll) == wanted,
+        None => false,
+    }
+}
+
+/// At that time it is valid.
+fn is_in_window(alloc: Global, made: &Certified, secs: u64) -> bool {
+    answers(alloc, made, secs, Ok(()))
+}
+
+/// At that time it is not.
+fn is_out_of_window(alloc: Global, made: &Certified, secs: u64) -> bool {
+    answers(alloc, made, secs, Err(Error::CertificateValidation))
+}
+
+/// There is no such time.
+fn is_no_time(alloc: Global, made: &Certified, secs: u64) -> bool {
+    answers(alloc, made, secs, Err(Error::Time))
 }
 
 #[test]
 fn a_window_has_both_its_ends(rt: HostRuntime) {
-    let invalid = || Some(Err(Error::CertificateValidation));
-    assert!(rt; answer_at(rt.alloc(), &ED25519_USER, 1_577_836_799) == invalid());
-    assert!(rt; answer_at(rt.alloc(), &ED25519_USER, 1_577_836_800) == Some(Ok(())));
-    assert!(rt; answer_at(rt.alloc(), &ED25519_USER, 1_893_455_999) == Some(Ok(())));
-    assert!(rt; answer_at(rt.alloc(), &ED25519_USER, 1_893_456_000) == invalid());
-    assert!(rt; answer_at(rt.alloc(), &ED25519_USER, MAX_SECS + 1) == Some(Err(Error::Time)));
+    let made = ed25519_user();
+    assert!(rt; is_out_of_window(rt.alloc(), &made, 1_577_836_799));
+    assert!(rt; is_in_window(rt.alloc(), &made, 1_577_836_800));
+    assert!(rt; is_in_window(rt.alloc(), &made, 1_893_455_999));
+    assert!(rt; is_out_of_window(rt.alloc(), &made, 1_893_456_000));
+    assert!(rt; is_no_time(rt.alloc(), &made, MAX_SECS + 1));
 }
 
 #[test]
 fn without_an_end_the_last_time_is_valid(rt: HostRuntime) {
-    assert!(rt; answer_at(rt.alloc(), &P256_HOST, MAX_SECS) == Some(Ok(())));
-    assert!(rt; answer_at(rt.alloc(), &P384_USER, MAX_SECS + 1) == Some(Err(Error::Time)));
+    assert!(rt; is_in_window(rt.alloc(), &p256_host(), MAX_SECS));
+    assert!(rt; is_no_time(rt.alloc(), &p384_user(), MAX_SECS + 1));
 }
 
 /// Without the SHA-256 fingerprint of its authority a certificate is not valid, nor where the
@@ -198,5 +221,5 @@ fn is_no(answer: Result<(), Error>) -> bool {
 
 #[test]
 fn other_authorities_are_refused(rt: HostRuntime) {
-    assert!(rt; is_refused(rt.alloc(), &RSA_SHA256));
+    assert!(rt; is_refused(rt.alloc(), &rsa_sha256()));
 }
