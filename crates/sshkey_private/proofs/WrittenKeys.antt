@@ -5,12 +5,12 @@ use Rattle.sshkey_model.specs.PrivateKeys.{EncryptedKey, private_key_magic, norm
 use Rattle.sshkey_model.specs.KeyDerivation.{padding_length}
 use Rattle.sshkey_keypairs.specs.declared.keypair_data.KeypairData.{KeypairData}
 use Rattle.sshkey_keypairs.specs.declared.keypair_data.KeypairData.TheVariants as kinds
-use Rattle.sshkey_keypairs.specs.Keypairs.{pair_of}
+use Rattle.sshkey_keypairs.specs.Keypairs.{ciphertext_of, pair_of}
 use Rattle.sshkey_keypairs.specs.PairKinds.{is_encrypted}
 use Rattle.sshkey_pairs.specs.Pairs.{dsa_pair_of, rsa_pair_of, ecdsa_pair_of, ed25519_pair_of}
 use Rattle.sshkey_keypairs.specs.SecurityPairs.{sk_ecdsa_pair_of, sk_ed25519_pair_of}
 use Rattle.sshkey_keypairs.specs.OpaquePairs.{opaque_pair_of}
-use Rattle.sshkey_private.specs.Forms.{ciphertext_of, has_form}
+use Rattle.sshkey_private.specs.Forms.{has_form}
 use Rattle.sshkey_private.specs.PrivateKeys.{of_pair}
 use Rattle.sshkey_private.specs.Written.{part_of, content_of, fields_written}
 use Rattle.sshkey_public.proofs.Measured.{Has}

@@ -1,22 +1,16 @@
 -- The form of a private key's fields.
-use Rattle.std.specs.Prelude.{ℕ, ◌%◌, List, [], length, Bool, true, false, ◌&&◌, not, ◌==◌, Option, Some, None}
+use Rattle.std.specs.Prelude.{ℕ, ◌%◌, List, length, Bool, true, false, ◌&&◌, not, ◌==◌, Option, Some, None}
 use Rattle.sshkey_model.specs.KeyDerivation.{Cipher, NoCipher, Kdf, NoKdf, Bcrypt, block_size, tag_size}
 use Rattle.sshkey_model.specs.KeyPairs.{KeyPair, public_half}
 use Rattle.sshkey_model.specs.PrivateKeys.{EncryptedKey, key_eq}
 use Rattle.sshkey_keypairs.specs.declared.keypair_data.KeypairData.{KeypairData}
-use Rattle.sshkey_keypairs.specs.declared.keypair_data.KeypairData.TheVariants as kinds
-use Rattle.sshkey_keypairs.specs.Keypairs.{pair_of}
+use Rattle.sshkey_keypairs.specs.Keypairs.{ciphertext_of, pair_of}
 use Rattle.sshkey_public.specs.declared.public_key.PublicKey.{PublicKey}
 use Rattle.sshkey_public.specs.PublicKeys.{public_of}
 use Rattle.sshkey_ciphers.specs.declared.cipher.Cipher as cipher
 use Rattle.sshkey_ciphers.specs.declared.kdf.Kdf as kdf
 use Rattle.sshkey_ciphers.specs.Ciphers.{cipher_of, kdf_of}
 use Rattle.sshkey_private.specs.Paddings.{tag_bytes}
-
--- the ciphertext; a pair has none
-abbrev pub ciphertext_of : KeypairData → List ℕ
-ciphertext_of (kinds.Encrypted c) = c.items
-ciphertext_of _ = []
 
 -- the fields as those of an encrypted key
 abbrev pub sealed_of : cipher.Cipher → kdf.Kdf → PublicKey → KeypairData → Option (List ℕ) → EncryptedKey
