@@ -6,7 +6,7 @@ use denote.Ref.{Bor}
 use Rattle.sshkey_model.specs.Parts.{bytes, ◌&◌, flat}
 use Rattle.sshkey_model.specs.Names.{Other, at_sign, cut, are_ascii, is_split, is_own_name}
 use Rattle.sshkey_model.specs.CertificateNames.{suffix, with_suffix, certificate_name}
-use Rattle.sshkey_model.proofs.CertificateNameReaders.{cut_parts, cut_left}
+use Rattle.sshkey_model.proofs.CertificateNameReaders.{cut_parts, cut_left, own_cut}
 use Rattle.sshkey_base.specs.AlgorithmName.{IsCutOf, AreParts, IsNoCertificateType, IsNoCertificateName, HasCertificateName, are_own_parts}
 use Rattle.sshkey_base.specs.Causes.{cause}
 use Rattle.sshkey_base.specs.declared.error.Error.{Error}
@@ -14,18 +14,10 @@ use Rattle.sshkey_base.specs.declared.error.Error.TheVariants as wide
 use Rattle.sshkey_base.specs.declared.encoding.Error.TheVariants as encoding
 use Rattle.sshkey_base.proofs.AtSigns.{cut-at, cut-suffixed}
 
-split_some : (o : Option (List ℕ × List ℕ)) → is_split o ≡ true → (p : List ℕ × List ℕ) × (o ≡ Some p)
-split_some None e = absurd cc
-split_some (Some p) e = (p, refl)
-
 -- a text without an at sign is no name
 pub not_split : (t : List ℕ) → cut t ≡ None → is_own_name t ≡ false
 unfolding is_own_name
 not_split t none = rw none (and_right (are_ascii t && nat_le (length t) 64) false refl)
-
-pub own_cut : (n : List ℕ) → is_own_name n ≡ true → (p : List ℕ × List ℕ) × (cut n ≡ Some p)
-unfolding is_own_name
-own_cut n own = split_some (cut n) (and_parts (are_ascii n && nat_le (length n) 64) (is_split (cut n)) own).1
 
 -- so such a name has two parts when it is cut
 pub cut_some : (n : List ℕ) (result : Option (Bor (List ℕ) × Bor (List ℕ))) → is_own_name n ≡ true → IsCutOf n result → IsSome result

@@ -13,12 +13,13 @@ use Rattle.sshkey_base.specs.Source.{Source}
 use Rattle.sshkey_base.specs.Reading.{Reads, IsRefused, Gives}
 use Rattle.sshkey_base.specs.Labels.{LooksUp, label_at}
 
-ascii : (b : List ℕ) → are_ascii b ≡ true → IsAscii b
+-- a test of each byte, and what it says
+pub ascii : (b : List ℕ) → are_ascii b ≡ true → IsAscii b
 ascii [] e i = omega arith
 ascii (c ∷ b) e zero = ltb-true c 0x80 (and_parts _ _ e).0
 ascii (c ∷ b) e (suc i) = ascii b (and_parts _ _ e).1 i
 
-same_bytes : (a b : List ℕ) → bytes a ≡ bytes b → a ≡ b
+pub same_bytes : (a b : List ℕ) → bytes a ≡ bytes b → a ≡ b
 same_bytes a b e = cc
 
 module _ {N : Type 0} {IsNamed : N → Type 0} {name : N → List ℕ} {named : Whole N} (checks : Checks Any bytes IsNamed (λ n. bytes (name n)) named) (spelled : (n : N) → IsNamed n → are_ascii (name n) ≡ true) (refusals : (t : List ℕ) (fault : Fault) → named t ≡ Err fault → fault ≡ Label) where

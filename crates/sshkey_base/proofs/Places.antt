@@ -7,6 +7,7 @@ use denote.Param.Members.{Once}
 use Rattle.sshkey_base.specs.declared.encoding.Error.{Error}
 use Rattle.sshkey_base.specs.Source.{Outer, Source, Later, Takes, Advances, announced_len, part}
 use Rattle.sshkey_base.specs.Nested.{PassesBy}
+use Rattle.sshkey_model.proofs.CombinedReaders.{are_bytes-append}
 use Rattle.sshkey_base.proofs.NestedSources.{part_advances}
 
 pub later_none : (s : Source) → Later s s
@@ -22,6 +23,14 @@ later_then s t u a b = record {
 
 pub later_advanced : (s t : Source) (bytes : List ℕ) → Advances s bytes t → Later s t
 later_advanced s t bytes a = record { passed = bytes; left = a.taken; missing = a.missing; outer = a.outer }
+
+pub advances_both : (s t u : Source) (a b : List ℕ) → Advances s a t → Advances t b u → Advances s (a ++ b) u
+advances_both s t u a b h k = record {
+  taken = h.taken ∙ ap (λ (l : List ℕ). a ++ l) k.taken ∙ sym (append_assoc a b u.left);
+  missing = k.missing ∙ h.missing;
+  outer = k.outer ∙ h.outer;
+  are = are_bytes-append a b h.are k.are;
+}
 
 pub ruleset places = (later_none, later_then)
 

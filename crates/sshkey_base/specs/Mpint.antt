@@ -3,13 +3,11 @@ use Rattle.std.specs.Prelude.{ℕ, List}
 use Rattle.sshkey_base.specs.declared.mpint.Mpint.{Mpint}
 use Rattle.sshkey_model.specs.Grammar.{IsGrammar, Spells}
 use Rattle.sshkey_model.specs.Texts.{string}
-use Rattle.sshkey_model.specs.Mpints.{IsMpint}
+use Rattle.sshkey_model.specs.Mpints.{IsMpint, mpint_at}
 use Rattle.sshkey_model.proofs.Grammars.{grammar}
 use Rattle.sshkey_model.proofs.MpintReaders.{mpint_reads}
 use Rattle.std.proofs.Common.{refl}
 use Rattle.sshkey_model.specs.Parts.{Fits, flat}
--- under a name that an attribute of this crate can unfold
-unfoldable pub use Rattle.sshkey_model.specs.Mpints.{mpint_at}
 
 -- its bytes
 abbrev pub mpint_of : Mpint → List ℕ

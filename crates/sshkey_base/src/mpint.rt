@@ -192,11 +192,12 @@ impl fmt::Display for Mpint {
 ///
 /// `Length` where the string passes what is left, which no memory is asked for, and
 /// `FormatEncoding` where its bytes are those of no number.
-#[tactic(auto, using(crate::proofs::Steps::steps), unfolding(crate::specs::Mpint::mpint_at))]
+#[tactic(auto, using(crate::proofs::Steps::steps), unfolding(sshkey_model::specs::Mpints::mpint_at))]
 impl Decode for Mpint {
     ghost use Rattle.std.specs.Prelude.{ℕ, List};
     ghost use Rattle.sshkey_base.specs.Causes.{cause};
-    ghost use Rattle.sshkey_base.specs.Mpint.{SpellsMpint, mpint_at, mpint_grammar, mpint_of};
+    ghost use Rattle.sshkey_base.specs.Mpint.{SpellsMpint, mpint_grammar, mpint_of};
+    ghost use Rattle.sshkey_model.specs.Mpints.{mpint_at};
     ghost use Rattle.sshkey_base.specs.Reading.{DecodesWide, LengthPast};
     ghost use Rattle.sshkey_base.specs.Needs.{Asks, NeedsString};
     ghost use Rattle.sshkey_base.specs.Source.{Later};

@@ -11,7 +11,7 @@ use Rattle.base64.proofs.EngineFacts.{decode_of-encode_of, decode_of_strict, enc
 use Rattle.sshkey_model.specs.Parts.{are_bytes}
 use Rattle.sshkey_model.proofs.CombinedReaders.{bytes_fit, are_bytes-append}
 use Rattle.sshkey_base.specs.Source.{Source, Advances, Later, TooFew, Takes, announced_len}
-use Rattle.sshkey_base.proofs.Places.{later_then, later_advanced}
+use Rattle.sshkey_base.proofs.Places.{later_then, later_advanced, advances_both}
 use Rattle.sshkey_base.specs.declared.encoding.Error.{Error}
 use Rattle.sshkey_base.specs.declared.encoding.Error.TheVariants as encoding
 use Rattle.sshkey_base64.specs.Words64.{announced, group, before, good, word_source, DecodesGroups, TakesBase64}
@@ -229,14 +229,6 @@ told_before s t a h = omega (arith, ap length h.taken, length-append a t.left, h
 pub nothing_taken : (s : Source) (bytes : List ℕ) → length bytes ≡ 0 → Advances s bytes s
 nothing_taken s [] e = record { taken = refl; missing = refl; outer = refl; are = refl }
 nothing_taken s (x ∷ bytes) e = absurd (omega arith)
-
-pub advances_both : (s t u : Source) (a b : List ℕ) → Advances s a t → Advances t b u → Advances s (a ++ b) u
-advances_both s t u a b h k = record {
-  taken = h.taken ∙ ap (λ (l : List ℕ). a ++ l) k.taken ∙ sym (append_assoc a b u.left);
-  missing = k.missing ∙ h.missing;
-  outer = k.outer ∙ h.outer;
-  are = are_bytes-append a b h.are k.are;
-}
 
 -- A fault was met in what was announced, so that the source has one.
 pub too_few : (s t : Source) (a b : List ℕ) (n : ℕ) (e : Error) → Advances s a t → length t.left < length b → length a + length b ≤ n → n ≤ announced_len s → TooFew s n e

@@ -14,15 +14,11 @@ use Rattle.sshkey_model.specs.Parts.{Parts, bytes, flat}
 use Rattle.sshkey_model.proofs.CertificateNameReaders.{cut_parts}
 use Rattle.sshkey_base.specs.Sink.{Sink, Written}
 use Rattle.sshkey_base.proofs.CertificateTypes.{certificate_name-cut}
+use Rattle.sshkey_base.proofs.Labels.{ascii}
 use Rattle.sshkey_base.proofs.Writing.{after_nothing}
 use Rattle.sshkey_public.proofs.Filling.{utf8_line}
 
 -- ---- names are texts
-
-ascii : (b : List ℕ) → are_ascii b ≡ true → IsAscii b
-ascii [] e i = omega arith
-ascii (c ∷ b) e zero = ltb-true c 0x80 (and_parts _ _ e).0
-ascii (c ∷ b) e (suc i) = ascii b (and_parts _ _ e).1 i
 
 ascii_text : (b : List ℕ) → are_ascii b ≡ true → IsUtf8 b
 ascii_text b e = IsUtf8-from_ascii b (ascii b e)

@@ -2,7 +2,7 @@
 use Rattle.std.proofs.Common.{◌≡◌, ℕ, suc, ◌≤◌, ◌-◌, Option, None, Some, Bool, true, false, cond, eqb, ltb, List, length, take, Result, Ok, Err, refl, sym, subst, ◌∙◌, arith}
 use Rattle.std.proofs.lemmas.Bool.{eqb-true, eq-eqb, ltb-true, lt-ltb, ltb-false, le-ltb}
 use Rattle.std.proofs.lemmas.List.{length-take}
-use Rattle.sshkey_model.specs.Parts.{bytes}
+use Rattle.sshkey_base.proofs.Labels.{same_bytes}
 use Rattle.sshkey_model.specs.Reading.{Fault, Length, ◌>>=◌, Whole, string_at}
 use Rattle.sshkey_model.specs.Names.{Algorithm}
 use Rattle.sshkey_model.specs.Mpints.{mpint_from, positive_part}
@@ -11,9 +11,6 @@ use Rattle.sshkey_model.specs.Signatures.{IsSignatureBlob, IsEcdsaBlob, without_
 use Rattle.sshkey_model.proofs.CombinedReaders.{bind_ok, passed, met, ok_is, done}
 use Rattle.sshkey_model.proofs.SignatureReaders.{ecdsa_blob_checks}
 use Rattle.sshkey_keys.specs.SignatureForms.{trailed_from, blob_from, is_taken, is_blob, or_none, positive_from, after_component, ecdsa_from}
-
-same_bytes : (a b : List ℕ) → bytes a ≡ bytes b → a ≡ b
-same_bytes a b e = cc
 
 -- ---- well-formed exactly where taken
 

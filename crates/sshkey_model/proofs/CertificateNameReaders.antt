@@ -60,13 +60,17 @@ unfolding cut
 suffix_before l r none = (cut_append l (at_sign ∷ r) ([], r) none refl ∙ ap (λ (z : List ℕ). Some (z, r)) (append-nil l), ap cut (append_assoc l suffix (at_sign ∷ r)) ∙ cut_append l (suffix ++ at_sign ∷ r) (suffix, r) none refl)
 
 -- an other name has two parts
-pub own_parts : (n : List ℕ) → is_other_name n ≡ true → (p : List ℕ × List ℕ) × (cut n ≡ Some p)
-unfolding is_other_name is_own_name
-own_parts n is = go (cut n) (and_parts (are_ascii n && nat_le (length n) 64) (is_split (cut n)) (and_parts (is_own_name n) (is_none (named algorithm_name algorithms n)) is).0).1
+pub own_cut : (n : List ℕ) → is_own_name n ≡ true → (p : List ℕ × List ℕ) × (cut n ≡ Some p)
+unfolding is_own_name
+own_cut n own = go (cut n) (and_parts (are_ascii n && nat_le (length n) 64) (is_split (cut n)) own).1
   where
     go : (o : Option (List ℕ × List ℕ)) → is_split o ≡ true → (p : List ℕ × List ℕ) × (o ≡ Some p)
     go None e = absurd cc
     go (Some p) e = (p, refl)
+
+pub own_parts : (n : List ℕ) → is_other_name n ≡ true → (p : List ℕ × List ℕ) × (cut n ≡ Some p)
+unfolding is_other_name
+own_parts n is = own_cut n (and_parts (is_own_name n) (is_none (named algorithm_name algorithms n)) is).0
 
 pub stripped_again : (l r n : List ℕ) → n ≡ l ++ at_sign ∷ r → is_other_name n ≡ true → without_suffix (Some (l ++ suffix, r)) ≡ Ok (Other n)
 stripped_again l r n e is =

@@ -77,10 +77,6 @@ passes : (b : Bool) (r : Refusal) (next : Option Refusal) → b ≡ true → nex
 passes true r next e h = h
 passes false r next e h = absurd cc
 
-and_both : (a b : Bool) → a ≡ true → b ≡ true → a && b ≡ true
-and_both true true e f = refl
-and_both _ _ e f = cc
-
 le-leb : (a b : ℕ) → a ≤ b → nat_le a b ≡ true
 le-leb a b h = search (rules, tests)
 
@@ -99,7 +95,7 @@ module _ (accepts : Question → Bool) (fingerprints : List Fingerprint) (t : �
       passes (is_signed accepts c) NotSigned _ v.signature
       (passes (is_given fingerprints c) OtherAuthority _ (found same_fingerprint fingerprints_decided _ _ v.authority)
       (passes (is_time t) NoTime _ (lt-ltb _ _ v.time)
-      (passes (is_within t c) OutOfWindow _ (and_both _ _ (le-leb _ _ v.after) (lt-ltb _ _ v.before)) refl)))
+      (passes (is_within t c) OutOfWindow _ (and_from _ _ (le-leb _ _ v.after) (lt-ltb _ _ v.before)) refl)))
 
   pub none_where_valid : (first_refusal accepts fingerprints t c ≡ None) ↔ IsValid accepts fingerprints t c
   none_where_valid = (valid_from, none_from)

@@ -10,6 +10,7 @@ use Rattle.sshkey_model.specs.Reading.{Fault, Length, FormatEncoding, TrailingDa
 use Rattle.sshkey_model.specs.Grammar.{value_at}
 use Rattle.sshkey_model.specs.KeyPairs.{LeadingZeros, Plain, WithoutZero, WithZero, is_high, is_natural, at_width, scalar_behind_zero, scalar_from, scalar_whole, scalar_at}
 use Rattle.sshkey_model.proofs.CombinedReaders.{done, bind_assoc, bind_same, are_bytes-append}
+use Rattle.sshkey_base.proofs.Places.{advances_both}
 use Rattle.sshkey_base.proofs.Steps.{few_refused, front_reads, refuses_first}
 use Rattle.sshkey_base.specs.declared.encoding.Error.{Error}
 use Rattle.sshkey_base.specs.declared.error.Error.{Error as WideError}
@@ -72,16 +73,8 @@ fixed_is size b = bind_assoc (number_at w32 b) (scalar_step size) bare ∙ bind_
 
 -- ---- reading
 
-advance_both : (s t u : Source) (a b : List ℕ) → Advances s a t → Advances t b u → Advances s (a ++ b) u
-advance_both s t u a b f g = record {
-  taken = f.taken ∙ ap (λ (z : List ℕ). a ++ z) g.taken ∙ sym (append_assoc a b u.left);
-  missing = g.missing ∙ f.missing;
-  outer = g.outer ∙ f.outer;
-  are = are_bytes-append a b f.are g.are;
-}
-
 pub both_read : (n : ℕ) (s t u : Source) (a b : List ℕ) → length a + length b ≡ n → Advances s a t → Advances t b u → Reads (λ x. x) (bytes_at n) s (a ++ b) u
-both_read n s t u a b len f g = front_reads n s u (a ++ b) (length-append a b ∙ len) (advance_both s t u a b f g)
+both_read n s t u a b len f g = front_reads n s u (a ++ b) (length-append a b ∙ len) (advances_both s t u a b f g)
 
 -- ---- 00 and so many bytes
 

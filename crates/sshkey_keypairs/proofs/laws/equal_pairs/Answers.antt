@@ -3,6 +3,7 @@ use Rattle.std.specs.Bool.{Decides}
 use Rattle.std.proofs.lemmas.Bool.{eqb-false}
 use Rattle.std.proofs.lemmas.Bool.Decides.{Decides-like}
 use Rattle.std.proofs.lemmas.Slice.Eq.{bytes_eq-Decides}
+use Rattle.sshkey_base.proofs.Comparisons.{apart_by}
 use Rattle.sshkey_model.specs.Names.{Algorithm, algorithm_name}
 use Rattle.sshkey_model.specs.KeyPairs.{KeyPair, DsaPair, EcdsaPair, Ed25519Pair, RsaPair, SkEcdsaPair, SkEd25519Pair, OpaquePair, pair_algorithm}
 use Rattle.sshkey_keypairs.specs.Keypairs.{pair_fields}
@@ -84,7 +85,7 @@ same_place (kinds.Other k) = refl
 
 -- pairs of two kinds are not the same
 apart : (k l : KeypairData) → nat_eq (kind_of k) (kind_of l) ≡ false → Decides false (pair_fields k ≡ pair_fields l)
-apart k l e = (λ never. absurd (true≢false (sym never)), λ same. absurd (eqb-false (kind_of k) (kind_of l) e (sym (same_place k) ∙ ap place same ∙ same_place l)))
+apart k l e = apart_by place (pair_fields k) (pair_fields l) (rw (same_place k, same_place l) e)
 
 pub returns : goal.returns
 returns c (kinds.Dsa x) (kinds.Dsa y) = own_decides _ _ _ (c.equal_dsa_pairs.ensures x y)

@@ -2,6 +2,7 @@ use Rattle.std.proofs.Common.{rules, refl, ap, sym, ◌≡◌, List, ℕ, false,
 use Rattle.std.specs.Bool.{Decides}
 use Rattle.std.proofs.lemmas.Bool.{eqb-false}
 use Rattle.std.proofs.lemmas.Bool.Decides.{Decides-like}
+use Rattle.sshkey_base.proofs.Comparisons.{apart_by}
 use Rattle.sshkey_model.specs.Keys.{Key, Dsa, Ecdsa, Ed25519, Rsa, SkEcdsa, SkEd25519, Opaque}
 use Rattle.sshkey_model.specs.Names.{Algorithm, Curve, algorithm_name}
 use Rattle.sshkey_base.specs.Names.{algorithm_of}
@@ -29,10 +30,6 @@ place (SkEcdsa k) = 4
 place (SkEd25519 k) = 5
 place (Opaque name k) = 6
 
--- keys of two kinds are not the same
-apart : (k l : Key) → nat_eq (place k) (place l) ≡ false → Decides false (k ≡ l)
-apart k l e = (λ never. absurd (true≢false (sym never)), λ same. absurd (eqb-false (place k) (place l) e (ap place same)))
-
 pub returns-clause-equal : goal.returns-clause-equal
 returns-clause-equal c (kinds.Dsa x) (kinds.Dsa y) is_x is_y = c.compared_dsa_keys.ensures.equal x y
 returns-clause-equal c (kinds.Ecdsa x) (kinds.Ecdsa y) is_x is_y =
@@ -43,7 +40,7 @@ returns-clause-equal c (kinds.SkEcdsaSha2NistP256 x) (kinds.SkEcdsaSha2NistP256 
 returns-clause-equal c (kinds.SkEd25519 x) (kinds.SkEd25519 y) is_x is_y = c.compared_sk_ed25519_keys.ensures.equal x y
 returns-clause-equal c (kinds.Other x) (kinds.Other y) is_x is_y =
     Decides-like _ (ap (λ (p : Algorithm × List ℕ). Opaque (algorithm_name p.0) p.1)) (λ e. let s = same_names _ _ _ _ e in both _ _ _ _ (same_name (algorithm_of x.algorithm) (algorithm_of y.algorithm) is_x.0 is_y.0 s.0) s.1) (c.compared_opaque_keys.ensures.equal x y)
-returns-clause-equal c x y is_x is_y = apart (key_of x) (key_of y) refl
+returns-clause-equal c x y is_x is_y = apart_by place (key_of x) (key_of y) refl
 
 pub returns-clause-same : goal.returns-clause-same
 returns-clause-same c (kinds.Dsa x) (kinds.Dsa y) is = (c.compared_dsa_keys.ensures.equal x y).0 is

@@ -3,6 +3,7 @@ use Rattle.std.specs.Bool.{Decides}
 use Rattle.std.proofs.lemmas.Bool.{eqb-false}
 use Rattle.std.proofs.lemmas.Bool.Decides.{Decides-and, Decides-like}
 use Rattle.std.proofs.lemmas.Slice.Eq.{bytes_eq-Decides}
+use Rattle.sshkey_base.proofs.Comparisons.{apart_by}
 use Rattle.sshkey_model.specs.Names.{Curve, Nistp256, Nistp384, Nistp521}
 use Rattle.sshkey_model.specs.KeyPairs.{KeyPair, EcdsaPair}
 use Rattle.sshkey_pairs.specs.Pairs.{ecdsa_pair_of}
@@ -22,12 +23,8 @@ place (EcdsaPair Nistp384 a r) = 2
 place (EcdsaPair Nistp521 a r) = 3
 place _ = 0
 
--- pairs on two curves are not the same
-apart : (k l : KeyPair) → nat_eq (place k) (place l) ≡ false → Decides false (k ≡ l)
-apart k l e = (λ never. absurd (true≢false (sym never)), λ same. absurd (eqb-false (place k) (place l) e (ap place same)))
-
 pub returns : goal.returns
 returns c (on.NistP256 p a) (on.NistP256 q b) = Decides-like _ (together Nistp256 _ _ _ _) (parts Nistp256 _ _ _ _) (Decides-and _ _ (bytes_eq-Decides _ _) (bytes_eq-Decides _ _))
 returns c (on.NistP384 p a) (on.NistP384 q b) = Decides-like _ (together Nistp384 _ _ _ _) (parts Nistp384 _ _ _ _) (Decides-and _ _ (bytes_eq-Decides _ _) (bytes_eq-Decides _ _))
 returns c (on.NistP521 p a) (on.NistP521 q b) = Decides-like _ (together Nistp521 _ _ _ _) (parts Nistp521 _ _ _ _) (Decides-and _ _ (bytes_eq-Decides _ _) (bytes_eq-Decides _ _))
-returns c x y = apart (ecdsa_pair_of x) (ecdsa_pair_of y) refl
+returns c x y = apart_by place (ecdsa_pair_of x) (ecdsa_pair_of y) refl
