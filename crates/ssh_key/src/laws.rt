@@ -26,4 +26,5 @@ pub use sshkey_pairs::laws::{
     equal_dsa_pairs, equal_ecdsa_pairs, equal_ed25519_pairs, equal_rsa_pairs,
 };
 pub use sshkey_private::laws::compared_private_keys;
-pub use sshkey_public::laws::{compared_public_keys, compared_ssh_signatures};
+pub use sshkey_public::laws::compared_public_keys;
+pub use sshkey_sshsig::laws::compared_ssh_signatures;

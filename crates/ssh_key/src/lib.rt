@@ -15,4 +15,5 @@ pub use sshkey_cert::Certificate;
 pub use sshkey_ciphers::{Cipher, Kdf, KdfAlg};
 pub use sshkey_keys::{Fingerprint, RawVerifier, Signature, SigningKey};
 pub use sshkey_private::PrivateKey;
-pub use sshkey_public::{Base64Reader, Blob, PublicKey, SshSig, read_line, write_line};
+pub use sshkey_public::{Base64Reader, Blob, PublicKey, read_line, write_line};
+pub use sshkey_sshsig::SshSig;

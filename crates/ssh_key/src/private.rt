@@ -9,4 +9,4 @@ pub use sshkey_pairs::{
     RsaKeypair, RsaPrivateKey,
 };
 pub use sshkey_private::PrivateKey;
-pub use sshkey_public::SshSig;
+pub use sshkey_sshsig::SshSig;

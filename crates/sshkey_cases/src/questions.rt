@@ -11,7 +11,7 @@ use sshkey_kinds::{
     SkEcdsaSha2NistP256, SkEd25519,
 };
 use sshkey_options::{CertType, EndTime, OptionsMap, UnixTime};
-use sshkey_public::SshSig;
+use sshkey_sshsig::SshSig;
 use sshkey_tool::run;
 use std::alloc::Global;
 

@@ -8,7 +8,7 @@ ghost use Rattle.sshkey_base.specs.Source.{Later};
 ghost use Rattle.sshkey_keys.specs.Keys.{key_of};
 ghost use Rattle.sshkey_model.specs.KeyPairs.{xor_all, words};
 ghost use Rattle.sshkey_model.specs.Names.{Dsa, Ecdsa, Ed25519, Rsa, SkEcdsa, SkEd25519 as AlgorithmSkEd25519, Other, algorithm_name};
-ghost use Rattle.sshkey_keypairs.specs.Keypairs.{pair_of, keypair_parts, public_of, algorithm_beside, checkint_of, GivesPair, GivesModelPair};
+ghost use Rattle.sshkey_keypairs.specs.Keypairs.{pair_fields, pair_of, keypair_parts, public_of, algorithm_beside, checkint_of, GivesPair, GivesModelPair};
 ghost use Rattle.sshkey_keypairs.specs.KeypairNeeds.{NeedsPair};
 ghost use Rattle.sshkey_keypairs.specs.PairKinds.{is_encrypted, is_opaque};
 
@@ -84,9 +84,11 @@ impl KeypairData {
         }
     }
 
-    /// The same pair in memory of its own. Refuses only when out of memory.
+    /// The same pair under the same algorithm, or the same ciphertext, in memory of its own. Refuses
+    /// only when out of memory.
     pub fn try_clone(&self, alloc: Global) -> Result<KeypairData>
         ensures value { IfOk result (λ k. pair_of k ≡ pair_of self.now) }
+        ensures fields { IfOk result (λ k. pair_fields k ≡ pair_fields self.now) }
         ensures written { IfOk result (λ k. keypair_parts k ≡ keypair_parts self.now) }
         ensures refused { IfErr result (λ e. e ≡ Error.Memory) }
     {

@@ -52,6 +52,7 @@ impl PrivateKey {
     ghost use Rattle.sshkey_model.specs.PrivateKeys.{key_cipher, key_kdf, public_key, normal_private_key};
     ghost use Rattle.sshkey_model.specs.Reading.{whole};
     ghost use Rattle.sshkey_ciphers.specs.Ciphers.{cipher_of, kdf_of};
+    ghost use Rattle.sshkey_private.specs.Comparisons.{seen};
     ghost use Rattle.sshkey_private.specs.PrivateKeyReaders.{SpellsPrivateKey, private_value_at, NeedsPrivateKey};
     ghost use Rattle.sshkey_private.specs.PrivateKeys.{private_of, is_encrypted, data_of, outer_of, with_comment, HasWrittenComment, GivesNew};
     ghost use Rattle.sshkey_public.specs.PublicKeys.{public_of, comment_of, data_of as key_data_of};
@@ -61,7 +62,8 @@ impl PrivateKey {
     ///
     /// `Encrypted` exactly for an encrypted pair; otherwise it is refused only when out of memory.
     pub fn new(alloc: Global, key_data: KeypairData, comment: String) -> Result<PrivateKey>
-        ensures { GivesNew (pair_of key_data) (string_bytes comment) result }
+        ensures value { GivesNew (pair_of key_data) (string_bytes comment) result }
+        ensures data { IfOk result (λ k. data_of k ≡ key_data) }
     {
         let public = key_data.to_public(alloc)?;
         let checkint = key_data.checkint();
@@ -79,7 +81,8 @@ impl PrivateKey {
     ///
     /// `Encrypted` exactly for an encrypted pair; otherwise it is refused only when out of memory.
     pub fn from_keypair(alloc: Global, key_data: KeypairData) -> Result<PrivateKey>
-        ensures { GivesNew (pair_of key_data) [] result }
+        ensures value { GivesNew (pair_of key_data) [] result }
+        ensures data { IfOk result (λ k. data_of k ≡ key_data) }
     {
         PrivateKey::new(alloc, key_data, String::new(alloc))
     }
@@ -207,6 +210,7 @@ impl PrivateKey {
             ≡ with_comment (string_bytes comment) (private_of self.old) }
         ensures key { key_data_of (outer_of self.new) ≡ key_data_of (outer_of self.old) }
         ensures comment { comment_of (outer_of self.new) ≡ string_bytes comment }
+        ensures data { data_of self.new ≡ data_of self.old }
     {
         self.public_key.set_comment(comment);
     }
@@ -218,6 +222,7 @@ impl PrivateKey {
             ≡ algorithm_beside (key_data_of (outer_of self.now))) }
         ensures comment { IfOk result
             (λ k. comment_of (outer_of k) ≡ comment_of (outer_of self.now)) }
+        ensures seen { IfOk result (λ k. seen k ≡ seen self.now) }
         ensures refused { IfErr result (λ e. e ≡ wide.Memory) }
     {
         Ok(PrivateKey {

@@ -2,5 +2,4 @@ pub mod Cuts
 pub mod ReadLines
 pub mod Filling
 pub mod WrittenLines
-pub mod Measured
 pub mod Verified

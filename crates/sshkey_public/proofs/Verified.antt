@@ -12,9 +12,10 @@ use Rattle.sshkey_base.specs.declared.error.Error.TheVariants.{Encoding, Memory}
 use Rattle.sshkey_keys.specs.Keys.{key_of}
 use Rattle.sshkey_keys.specs.Signatures.{signature_of}
 use Rattle.sshkey_keys.specs.Verdicts.{Refusal, NotAccepted, judged, verdict, unsupported_of, Says, Verifies}
-use Rattle.sshkey_public.specs.Signing.{signed_parts, JudgesSigned}
-use Rattle.sshkey_public.specs.SshSignatures.{ssh_signature_of, signer_of, given_of}
-use Rattle.sshkey_public.specs.declared.sshsig.SshSig.{SshSig}
+use Rattle.sshkey_public.specs.Judging.{JudgesSigned}
+use Rattle.sshkey_sshsig.specs.Signing.{signed_parts}
+use Rattle.sshkey_sshsig.specs.SshSignatures.{ssh_signature_of, signer_of, given_of}
+use Rattle.sshkey_sshsig.specs.declared.sshsig.SshSig.{SshSig}
 
 says_yes : (b : Bool) → ◌≡◌ {A = Result Unit Refusal} (if b then Ok tt else Err NotAccepted) (Ok tt) → b ≡ true
 says_yes true e = refl

@@ -1,13 +1,11 @@
--- What the equality and the order of public keys and SSH signatures go by.
+-- What the equality and the order of public keys go by.
 use Rattle.std.specs.Prelude.{◌≡◌, ℕ, List, [], ◌∷◌}
 use Rattle.std.specs.declared.cmp.Ordering.{Ordering}
 use Rattle.sshkey_model.specs.Keys.{Key}
 use Rattle.sshkey_base.specs.Comparisons.{bytes_cmp, parts_cmp, first_of}
 use Rattle.sshkey_keys.specs.Comparisons.{HasForm, key_parts}
 use Rattle.sshkey_public.specs.declared.public_key.PublicKey.{PublicKey}
-use Rattle.sshkey_public.specs.declared.sshsig.SshSig.{SshSig}
 use Rattle.sshkey_public.specs.PublicKeys.{data_of, comment_of, public_of}
-use Rattle.sshkey_public.specs.SshSignatures.{signer_of}
 
 -- It is of a well-formed key.
 abbrev pub IsOfKey : PublicKey → Type 0
@@ -21,7 +19,3 @@ content_of k = (public_of k, comment_of k)
 abbrev pub IsOrderOfPublicKeys : (PublicKey → PublicKey → Ordering) → Type 0
 IsOrderOfPublicKeys cmp = (x y : PublicKey) → cmp x y ≡ first_of
     (parts_cmp (key_parts (data_of x)) (key_parts (data_of y)) ∷ bytes_cmp (comment_of x) (comment_of y) ∷ [])
-
--- It is by a well-formed key.
-abbrev pub IsByKey : SshSig → Type 0
-IsByKey f = HasForm (signer_of f)

@@ -5,8 +5,5 @@ pub mod Lines
 pub mod Filling
 pub mod WritingLines
 pub mod PublicKeys
-pub mod SshSignatures
-pub mod SshSignatureReaders
-pub mod Needs
-pub mod Signing
+pub mod Judging
 pub mod Comparisons

@@ -1,4 +1,4 @@
-//! Key lines, public keys with their comments, and SSH signatures of messages.
+//! Key lines, and public keys with their comments.
 #![tactic(auto)]
 
 mod blob;
@@ -6,11 +6,9 @@ pub mod laws;
 mod line;
 mod line_writer;
 mod public_key;
-mod sshsig;
 mod words;
 
 pub use blob::Blob;
 pub use line::{read_line, write_line};
 pub use public_key::PublicKey;
 pub use sshkey_base64::Base64Reader;
-pub use sshsig::SshSig;

@@ -8,9 +8,9 @@ use Rattle.sshkey_model.specs.SignedMessages.{IsVerified}
 use Rattle.sshkey_model.specs.Verification.{Question}
 use Rattle.sshkey_public.specs.PublicKeys.{public_of, comment_of}
 use Rattle.sshkey_public.specs.declared.public_key.PublicKey.{PublicKey}
-use Rattle.sshkey_public.specs.declared.sshsig.SshSig.{SshSig}
-use Rattle.sshkey_public.specs.SshSignatures.{ssh_signature_of}
-use Rattle.sshkey_public.specs.SshSignatureReaders.{SpellsSshSignature}
+use Rattle.sshkey_sshsig.specs.declared.sshsig.SshSig.{SshSig}
+use Rattle.sshkey_sshsig.specs.SshSignatures.{ssh_signature_of}
+use Rattle.sshkey_sshsig.specs.SshSignatureReaders.{SpellsSshSignature}
 use Rattle.sshkey_uses.specs.SignedFiles.{IsSignedFile}
 
 -- three answers of yes make one

@@ -5,7 +5,7 @@ use Rattle.sshkey_model.specs.Lines.{IsKeyLine}
 use Rattle.sshkey_model.specs.SignedMessages.{IsVerified}
 use Rattle.sshkey_model.specs.SshSignatures.{SshSignature}
 use Rattle.sshkey_model.specs.Verification.{Question}
-use Rattle.sshkey_public.specs.SshSignatureReaders.{SpellsSshSignature}
+use Rattle.sshkey_sshsig.specs.SshSignatureReaders.{SpellsSshSignature}
 
 -- The text is the line of a key, and the bytes spell an SSH signature of the content that is verified under it.
 pub record IsSignedFile (accepts : Question → Bool) (text namespace content bytes : List ℕ) : Type 0 where

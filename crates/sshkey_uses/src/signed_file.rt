@@ -5,7 +5,8 @@ ghost use Rattle.sshkey_uses.specs.SignedFiles.{IsSignedFile};
 
 use sshkey_base::Result;
 use sshkey_keys::RawVerifier;
-use sshkey_public::{PublicKey, SshSig};
+use sshkey_public::PublicKey;
+use sshkey_sshsig::SshSig;
 use std::alloc::Global;
 
 /// Accepts what a file holds where the bytes spell an SSH signature of it, by the key in the line

@@ -5,14 +5,15 @@ ghost use Rattle.sshkey_base.specs.declared.error.Error.TheVariants as wide;
 ghost use Rattle.sshkey_keys.specs.Keys.{key_of};
 ghost use Rattle.sshkey_model.specs.SignedMessages.{IsVerified};
 ghost use Rattle.sshkey_public.specs.PublicKeys.{data_of, public_of};
-ghost use Rattle.sshkey_public.specs.Signing.{signed_parts, JudgesSigned};
-ghost use Rattle.sshkey_public.specs.SshSignatures.{ssh_signature_of, signer_of};
+ghost use Rattle.sshkey_public.specs.Judging.{JudgesSigned};
+ghost use Rattle.sshkey_sshsig.specs.Signing.{signed_parts};
+ghost use Rattle.sshkey_sshsig.specs.SshSignatures.{ssh_signature_of, signer_of};
 
 use super::PublicKey;
-use crate::sshsig::{SshSig, signed_bytes};
 use sshkey_base::{Error, Result};
 use sshkey_keys::laws::compared_keys;
 use sshkey_keys::{KeyData, RawVerifier};
+use sshkey_sshsig::SshSig;
 use std::alloc::Global;
 
 impl PublicKey {
@@ -65,13 +66,7 @@ fn judge<V: RawVerifier>(
     ensures { JudgesSigned (V.accepts verifier.now) signature.now
         (signed_parts signature.now message.now) result }
 {
-    let signed = signed_bytes(
-        alloc,
-        signature.namespace(),
-        signature.reserved(),
-        signature.hash_alg(),
-        message,
-    )?;
+    let signed = signature.signed_bytes(alloc, message)?;
     let key = signature.public_key();
     key.verify(alloc, &signed, signature.signature(), verifier)
 }

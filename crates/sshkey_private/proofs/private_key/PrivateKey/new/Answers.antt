@@ -13,8 +13,8 @@ use Rattle.sshkey_private.proofs.private_key.PrivateKey.new.Goals as goal
 same_error : (d e : Error) → ◌≡◌ {A = Result KeyData Error} (Err d) (Err e) → d ≡ e
 same_error d e same = cc
 
-pub returns-in_err-public : goal.returns-in_err-public
-returns-in_err-public c =
+pub returns-in_err-public-clause-value : goal.returns-in_err-public-clause-value
+returns-in_err-public-clause-value c =
     let p = err_from_is_err_and c.from_residual.result c.from_residual.ensures.1 in
     rw (p.1, p.2) (none_made c.args.key_data _ c.in_err-public.field-0.0 (λ is. same_error _ _ (c.in_err-public.ensures.encrypted is)) c.in_err-public.ensures.refused)
 
@@ -23,5 +23,5 @@ invariant_of-result c = record {
   form = form_of_new (pair_of c.args.key_data) (sealed_of cipher.None kdf.None c.new.result c.args.key_data None) refl refl (c.in_ok-public.ensures.value ∙ ap (λ (d : KeyData). Some (key_of d)) (sym c.new.ensures.key));
 }
 
-pub returns : goal.returns
-returns c = some_made (pair_of c.args.key_data) _ (key_of c.in_ok-public.public) _ c.in_ok-public.ensures.value refl c.checkint-checkint.ensures c.new.ensures.comment
+pub returns-clause-value : goal.returns-clause-value
+returns-clause-value c = some_made (pair_of c.args.key_data) _ (key_of c.in_ok-public.public) _ c.in_ok-public.ensures.value refl c.checkint-checkint.ensures c.new.ensures.comment

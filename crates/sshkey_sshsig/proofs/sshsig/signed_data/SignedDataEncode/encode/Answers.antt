@@ -1,0 +1,23 @@
+use Rattle.std.proofs.Common.{Ok, List, ℕ, subst}
+use Rattle.sshkey_base.proofs.PlainParts.{encodes_later}
+use Rattle.sshkey_base.proofs.Writing.{plain_bytes}
+use Rattle.sshkey_base.specs.Names.{hash_of}
+use Rattle.sshkey_base.specs.Sink.{Encodes}
+use Rattle.sshkey_model.specs.Names.{hash}
+use Rattle.sshkey_model.specs.Parts.{bytes, ◌&◌}
+use Rattle.sshkey_model.specs.SshSignatures.{signature_magic, signed_data}
+use Rattle.sshkey_model.specs.Texts.{string}
+use Rattle.sshkey_sshsig.proofs.sshsig.signed_data.SignedDataEncode.encode.Goals as goal
+
+pub returns : goal.returns
+returns g c =
+    let d = c.args.self.now in
+    let reserved = string d.reserved.now in
+    let name = hash (hash_of d.hash_alg) in
+    let digest = string d.digest.now in
+    let r = c.encode_string-3.result in
+    subst (λ (n : List ℕ). Encodes g.W.Writer.fault (signed_data n d.reserved.now (hash_of d.hash_alg) d.digest.now) (g.W.Writer.sink c.args.writer.now) r (g.W.Writer.sink c.encode_string-3.new.writer)) c.as_bytes.ensures.value
+    (encodes_later g.W.Writer.fault (bytes signature_magic) (string c.as_bytes.result.now & reserved & name & digest) _ _ _ r (plain_bytes g.W.Writer.fault signature_magic _ _ (Ok tt) c.in_ok-write.ensures)
+    (encodes_later g.W.Writer.fault (string c.as_bytes.result.now) (reserved & name & digest) _ _ _ r c.in_ok-encode_string.ensures
+    (encodes_later g.W.Writer.fault reserved (name & digest) _ _ _ r c.in_ok-encode_string-2.ensures
+    (encodes_later g.W.Writer.fault name digest _ _ _ r c.in_ok-encode.ensures c.encode_string-3.ensures))))

@@ -1,0 +1,47 @@
+-- What is signed in place of a message, and what signing answers.
+use Rattle.std.specs.Prelude.{◌≡◌, ◌⊎◌, ◌||◌, ℕ, List, [], Bool, Result, Ok, Err, true, false}
+use Rattle.sshkey_model.specs.Keys.{Key, key_algorithm}
+use Rattle.sshkey_model.specs.Parts.{Parts, flat, BoxesFit}
+use Rattle.sshkey_model.specs.SignedMessages.{signed_message, IsVerified}
+use Rattle.sshkey_model.specs.Verification.{Question}
+use Rattle.sshkey_base.specs.Names.{hash_of, algorithm_of}
+use Rattle.sshkey_base.specs.declared.algorithm.hash.HashAlg.{HashAlg}
+use Rattle.sshkey_base.specs.declared.encoding.Error.TheVariants.{Length}
+use Rattle.sshkey_base.specs.declared.error.Error.{Error}
+use Rattle.sshkey_base.specs.declared.error.Error.TheVariants.{AlgorithmUnsupported, Encoding, Memory}
+use Rattle.sshkey_keys.specs.KeyKinds.{is_sk_ecdsa, is_sk_ed25519}
+use Rattle.sshkey_sshsig.specs.declared.sshsig.SshSig.{SshSig}
+use Rattle.sshkey_sshsig.specs.SshSignatures.{ssh_signature_of}
+
+-- the parts that a signature of the message has signed
+abbrev pub signed_parts : SshSig → List ℕ → Parts
+signed_parts f message = signed_message (ssh_signature_of f).namespace (ssh_signature_of f).reserved (ssh_signature_of f).hash message
+
+-- a key that a security key holds
+abbrev pub is_security_key : Key → Bool
+is_security_key k = is_sk_ecdsa k || is_sk_ed25519 k
+
+-- It is an SSH signature of the message, in the namespace, with nothing reserved, that the verifier accepts under the key.
+pub record IsMade (accepts : Question → Bool) (k : Key) (n message : List ℕ) (h : HashAlg) (f : SshSig) : Type 0 where
+  pub verified : IsVerified accepts k n message (ssh_signature_of f)
+  pub version : (ssh_signature_of f).version ≡ 1
+  pub reserved : (ssh_signature_of f).reserved ≡ []
+  pub by : (ssh_signature_of f).hash ≡ hash_of h
+
+-- Why nothing was made: the parts do not fit, memory was refused, or the signer may refuse their bytes so.
+abbrev pub IsNotMade : (List ℕ → Error → Type 0) → Parts → Error → Type 0
+IsNotMade refuses parts e = ((BoxesFit parts → ⊥) × (e ≡ Encoding Length)) ⊎ (e ≡ Memory) ⊎ (BoxesFit parts × refuses (flat parts) e)
+
+abbrev pub MakesSigned : (Question → Bool) → (List ℕ → Error → Type 0) → Key → List ℕ → List ℕ → HashAlg → Result SshSig Error → Type 0
+MakesSigned accepts refuses k n message h (Ok f) = IsMade accepts k n message h f
+MakesSigned accepts refuses k n message h (Err e) = IsNotMade refuses (signed_message n [] (hash_of h) message) e
+
+-- The algorithm of such a key is named.
+abbrev pub IsNoSigner : Key → Error → Type 0
+IsNoSigner k (AlgorithmUnsupported a) = algorithm_of a ≡ key_algorithm k
+IsNoSigner k _ = ⊥
+
+-- whether the key signs
+abbrev pub ChecksSigner : Key → Result Unit Error → Type 0
+ChecksSigner k (Ok x) = is_security_key k ≡ false
+ChecksSigner k (Err e) = (is_security_key k ≡ true) × IsNoSigner k e

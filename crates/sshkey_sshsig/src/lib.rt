@@ -1,0 +1,7 @@
+//! SSH signatures of messages and files.
+#![tactic(auto)]
+
+pub mod laws;
+mod sshsig;
+
+pub use sshsig::SshSig;
