@@ -1,8 +1,10 @@
 -- A value that is read and then judged.
-use Rattle.std.proofs.Common.{◌≡◌, Result, Ok, Err, refl, ◌∙◌}
-use Rattle.sshkey_model.specs.Reading.{Fault, ◌>>=◌, Front, checked_at}
+use Rattle.std.proofs.Common.{◌≡◌, ℕ, List, Bool, true, false, not, Result, Ok, Err, refl, sym, ◌∙◌}
+use Rattle.std.proofs.lemmas.Bool.{not-true, not-false}
+use Rattle.std.specs.Prelude.{bytes_eq}
+use Rattle.sshkey_model.specs.Reading.{Fault, FormatEncoding, ◌>>=◌, Front, checked_at, literal_from}
 use Rattle.sshkey_base.specs.Answers.{AnswersAlways}
-use Rattle.sshkey_base.specs.Causes.{Cause}
+use Rattle.sshkey_base.specs.Causes.{Cause, Faulty}
 use Rattle.sshkey_base.specs.Source.{Source}
 use Rattle.sshkey_base.specs.Reading.{Reads, Gives}
 
@@ -26,3 +28,11 @@ answers_first first narrow means cause (Err f) next d e h same = same ∙ h
 pub answers_later : {A B C D E X : Type 0} (first : X → A) (narrow : D → Cause) (means : C → B) (cause : E → Cause) (found : Result A Fault) (next : A → Result B Fault) (x : X) (r : Result C E) → AnswersAlways first narrow found (Ok x) → AnswersAlways means cause (next (first x)) r → AnswersAlways means cause (found >>= next) r
 answers_later first narrow means cause (Ok a) next x r h g = rw h at g
 answers_later first narrow means cause (Err f) next x r h g = absurd h
+
+-- ---- bytes that have to be these very ones; whether they differ was asked
+
+pub other_bytes : {E : Type 0} (cause : E → Cause) (text b : List ℕ) (differ : Bool) (e : E) → differ ≡ true → differ ≡ not (bytes_eq b text) → cause e ≡ Faulty FormatEncoding → AnswersAlways {X = List ℕ} (λ x. x) cause (literal_from text b) (Err e)
+other_bytes cause text b differ e yes asked same = rw (not-true (bytes_eq b text) (sym asked ∙ yes)) same
+
+pub very_bytes : {E : Type 0} (cause : E → Cause) (text b : List ℕ) (differ : Bool) → differ ≡ false → differ ≡ not (bytes_eq b text) → AnswersAlways {X = List ℕ} (λ x. x) cause (literal_from text b) (Ok b)
+very_bytes cause text b differ no asked = rw (not-false (bytes_eq b text) (sym asked ∙ no)) refl
