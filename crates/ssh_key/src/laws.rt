@@ -1,10 +1,10 @@
 //! What holds of all values and all bytes: public functions without code, each with a law as its
 //! contract.
 //!
-//! `exact_*` say that a plain reader takes exactly the spellings of its kind; `prefix_*` that no
-//! spelling begins another; `normal_*` that normal forms determine values; `read_back_*` that what
-//! is written is read back; `*_fits` that what fits in one spelling fits in the normal one;
-//! `compared_*` and `equal_*` what `==` and `cmp` go by. The others say what their docs say.
+//! `readers::exact_*` say that a plain reader takes exactly the spellings of its kind; `prefix_*`
+//! that no spelling begins another; `normal_*` that normal forms determine values; `read_back_*`
+//! that what is written is read back; `*_fits` that what fits in one spelling fits in the normal
+//! one; `compared_*` and `equal_*` what `==` and `cmp` go by. The others say what their docs say.
 
 pub use sshkey_base::laws::compared_algorithm_names;
 pub use sshkey_base::laws::compared_algorithms;
@@ -18,11 +18,11 @@ pub use sshkey_cert::laws::compared_certificates;
 pub use sshkey_ciphers::laws::compared_ciphers;
 pub use sshkey_ciphers::laws::compared_kdf_algorithms;
 pub use sshkey_ciphers::laws::equal_kdfs;
+pub use sshkey_fingerprints::laws::compared_fingerprints;
 pub use sshkey_keypairs::laws::equal_opaque_pairs;
 pub use sshkey_keypairs::laws::equal_pairs;
 pub use sshkey_keypairs::laws::equal_sk_ecdsa_pairs;
 pub use sshkey_keypairs::laws::equal_sk_ed25519_pairs;
-pub use sshkey_keys::laws::compared_fingerprints;
 pub use sshkey_keys::laws::compared_keys;
 pub use sshkey_keys::laws::compared_signatures;
 pub use sshkey_kinds::laws::compared_dsa_keys;
@@ -93,33 +93,7 @@ pub use sshkey_model::laws::read_back_key;
 pub use sshkey_model::laws::read_back_options;
 pub use sshkey_model::laws::read_back_signature;
 pub use sshkey_model::laws::read_back_ssh_signature;
-pub use sshkey_model::laws::readers::exact_certificate;
-pub use sshkey_model::laws::readers::exact_certificate_name;
-pub use sshkey_model::laws::readers::exact_certificate_type;
-pub use sshkey_model::laws::readers::exact_cipher;
-pub use sshkey_model::laws::readers::exact_curve;
-pub use sshkey_model::laws::readers::exact_ecdsa;
-pub use sshkey_model::laws::readers::exact_ecdsa_pair;
-pub use sshkey_model::laws::readers::exact_end;
-pub use sshkey_model::laws::readers::exact_hash;
-pub use sshkey_model::laws::readers::exact_kdf;
-pub use sshkey_model::laws::readers::exact_kdf_name;
-pub use sshkey_model::laws::readers::exact_key;
-pub use sshkey_model::laws::readers::exact_keypair;
-pub use sshkey_model::laws::readers::exact_mpint;
-pub use sshkey_model::laws::readers::exact_name;
-pub use sshkey_model::laws::readers::exact_options;
-pub use sshkey_model::laws::readers::exact_pair;
-pub use sshkey_model::laws::readers::exact_point;
-pub use sshkey_model::laws::readers::exact_private_key;
-pub use sshkey_model::laws::readers::exact_rsa_private;
-pub use sshkey_model::laws::readers::exact_scalar;
-pub use sshkey_model::laws::readers::exact_signature;
-pub use sshkey_model::laws::readers::exact_signed_fields;
-pub use sshkey_model::laws::readers::exact_ssh_signature;
-pub use sshkey_model::laws::readers::exact_text;
-pub use sshkey_model::laws::readers::exact_texts;
-pub use sshkey_model::laws::readers::exact_time;
+pub use sshkey_model::laws::readers;
 pub use sshkey_model::laws::signed_fields;
 pub use sshkey_model::laws::signed_fields_fit;
 pub use sshkey_model::laws::ssh_signature_fits;

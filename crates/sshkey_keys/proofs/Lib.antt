@@ -3,6 +3,5 @@ pub mod OpaqueNames
 pub mod SignatureForms
 pub mod SplitStrings
 pub mod SignatureParts
-pub mod ShortKeys
 pub mod BoxedKeys
 pub mod Bodies

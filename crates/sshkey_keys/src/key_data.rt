@@ -22,11 +22,11 @@ mod from;
 mod kinds;
 mod name_string;
 
-use crate::fingerprint::Fingerprint;
 use sshkey_base::{
     Algorithm, Decode, EcdsaCurve, Encode, Error, HashAlg, NormalForm, Reader, Result, Writer,
     encoding, names, string_len,
 };
+use sshkey_fingerprints::Fingerprint;
 use sshkey_kinds::{
     DsaPublicKey, EcdsaPublicKey, Ed25519PublicKey, OpaquePublicKey, OpaquePublicKeyBytes,
     RsaPublicKey, SkEcdsaSha2NistP256, SkEd25519,

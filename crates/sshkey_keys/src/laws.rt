@@ -3,14 +3,12 @@
 ghost use Rattle.std.specs.Prelude.{◌≡◌, ◌++◌, ℕ, List};
 ghost use Rattle.sshkey_model.specs.Keys.{Key};
 ghost use Rattle.sshkey_model.specs.Signatures.{Signature as TheSignature};
-ghost use Rattle.sshkey_base.specs.Comparisons.{EqualMeanSame, IsEqualityAmong, IsEqualityOf, IsOrderOf, IsOrderByParts};
+ghost use Rattle.sshkey_base.specs.Comparisons.{EqualMeanSame, IsEqualityAmong, IsEqualityOf, IsOrderByParts};
 ghost use Rattle.sshkey_keys.specs.Comparisons.{HasForm, IsEqualityOfForms, key_parts};
-ghost use Rattle.sshkey_keys.specs.Fingerprints.{fingerprint_key};
 ghost use Rattle.sshkey_keys.specs.Keys.{SpellsKey, key_of};
 ghost use Rattle.sshkey_keys.specs.Signatures.{signature_of, signature_parts};
 ghost use Rattle.sshkey_keys.specs.SignatureReaders.{SpellsSignature};
 
-use crate::fingerprint::Fingerprint;
 use crate::key_data::KeyData;
 use crate::signature::Signature;
 use sshkey_kinds::laws;
@@ -20,13 +18,6 @@ use sshkey_model::laws::normal_keys;
 pub fn prefix_key()
     ensures { (k j : Key) (a b r q : List ℕ) → SpellsKey k a → SpellsKey j b → a ++ r ≡ b ++ q →
         (k ≡ j) × (a ≡ b) × (r ≡ q) }
-{}
-
-/// Two fingerprints are equal exactly if they are by one hash and have one digest. They are ordered
-/// by the hash, and then by the digest's bytes.
-pub fn compared_fingerprints()
-    ensures equal { IsEqualityOf (λ fingerprint. fingerprint) ⟦<Fingerprint as PartialEq>⟧.eq }
-    ensures ordered { IsOrderOf fingerprint_key ⟦<Fingerprint as Ord>⟧.cmp }
 {}
 
 /// Two keys that are equal mean the same. Two well-formed keys are equal exactly if they mean the

@@ -1,7 +1,6 @@
 //! Public keys and their fingerprints.
 #![tactic(auto)]
 
-mod fingerprint;
 mod key_data;
 pub mod laws;
 mod raw_verifier;
@@ -9,7 +8,7 @@ mod signature;
 mod signing_key;
 mod verify;
 
-pub use fingerprint::Fingerprint;
+pub use sshkey_fingerprints::Fingerprint;
 pub use key_data::KeyData;
 pub use raw_verifier::RawVerifier;
 pub use signature::Signature;

@@ -1,6 +1,6 @@
 use Rattle.std.specs.Prelude.{◌≡◌, ℕ, List, [], Bool, Result, Ok, Err, OnOk}
 use Rattle.sshkey_base.specs.declared.error.Error.{Error}
-use Rattle.sshkey_keys.specs.declared.fingerprint.Fingerprint as code
+use Rattle.sshkey_fingerprints.specs.declared.fingerprint.Fingerprint as code
 use Rattle.sshkey_model.specs.Certificates.{Certificate, User}
 use Rattle.sshkey_model.specs.Fingerprints.{Fingerprint}
 use Rattle.sshkey_model.specs.Lines.{IsCertificateLine}

@@ -4,10 +4,8 @@ ghost use Rattle.std.specs.Prelude.{◌≡◌, ◌↔◌, ◌++◌, IfErr, IfOk,
 ghost use Rattle.sshkey_base.specs.Names.{hash_of};
 ghost use Rattle.sshkey_model.specs.Fingerprints.{digest, fingerprint_prefix};
 ghost use Rattle.sshkey_model.specs.Names as model;
-ghost use Rattle.sshkey_keys.specs.Fingerprints.{algorithm_of, digest_of, shown, GivesFingerprint, IsShort};
-ghost use Rattle.sshkey_keys.specs.Keys.{key_of};
+ghost use Rattle.sshkey_fingerprints.specs.Fingerprints.{algorithm_of, digest_of, shown, AreShort, GivesDigest};
 
-use crate::key_data::KeyData;
 use base64::display::Base64Display;
 use base64::engine::general_purpose::STANDARD_NO_PAD;
 use sha2::{Digest, Sha256, Sha512};
@@ -32,13 +30,13 @@ pub enum Fingerprint {
 const SHORT_KEY_LEN: usize = 256;
 
 impl Fingerprint {
-    /// The digest by that hash of the key's normal form.
+    /// The digest by that hash of the key's normal form, which is what it writes.
     ///
     /// Exactly where a part of the key is longer than 2^32 - 1 bytes, the answer is `Length`;
     /// otherwise it is refused only when out of memory. A key of at most 256 bytes is never refused.
-    pub fn new(alloc: Global, hash_alg: HashAlg, key: &KeyData) -> Result<Fingerprint>
-        ensures gives { GivesFingerprint (hash_of hash_alg) (key_of key.now) result }
-        ensures short { IsShort (key_of key.now) → IsOk result }
+    pub fn new<K: Encode>(alloc: Global, hash_alg: HashAlg, key: &K) -> Result<Fingerprint>
+        ensures gives { GivesDigest (hash_of hash_alg) (K.normal key.now) result }
+        ensures short { AreShort (K.normal key.now) → IsOk result }
     {
         let mut room = [0u8; SHORT_KEY_LEN];
         let mut writer = SliceWriter::new(&mut room);
