@@ -32,7 +32,7 @@ answers_later first narrow means cause (Err f) next x r h g = absurd h
 -- ---- bytes that have to be these very ones; whether they differ was asked
 
 pub other_bytes : {E : Type 0} (cause : E → Cause) (text b : List ℕ) (differ : Bool) (e : E) → differ ≡ true → differ ≡ not (bytes_eq b text) → cause e ≡ Faulty FormatEncoding → AnswersAlways {X = List ℕ} (λ x. x) cause (literal_from text b) (Err e)
-other_bytes cause text b differ e yes asked same = rw (not-true (bytes_eq b text) (sym asked ∙ yes)) same
+other_bytes cause text b differ e they_do asked same = rw (not-true (bytes_eq b text) (sym asked ∙ they_do)) same
 
 pub very_bytes : {E : Type 0} (cause : E → Cause) (text b : List ℕ) (differ : Bool) → differ ≡ false → differ ≡ not (bytes_eq b text) → AnswersAlways {X = List ℕ} (λ x. x) cause (literal_from text b) (Ok b)
-very_bytes cause text b differ no asked = rw (not-false (bytes_eq b text) (sym asked ∙ no)) refl
+very_bytes cause text b differ they_do_not asked = rw (not-false (bytes_eq b text) (sym asked ∙ they_do_not)) refl

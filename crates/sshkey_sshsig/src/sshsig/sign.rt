@@ -54,10 +54,13 @@ impl SshSig {
 fn check_signer(key: &KeyData) -> Result<()>
     ensures { ChecksSigner (key_of key.now) result }
 {
-    let algorithm = match key {
-        KeyData::SkEcdsaSha2NistP256(_) => Algorithm::SkEcdsaSha2NistP256,
-        KeyData::SkEd25519(_) => Algorithm::SkEd25519,
-        _ => return Ok(()),
-    };
-    Err(Error::AlgorithmUnsupported { algorithm })
+    match key {
+        KeyData::SkEcdsaSha2NistP256(_) => Err(Error::AlgorithmUnsupported {
+            algorithm: Algorithm::SkEcdsaSha2NistP256,
+        }),
+        KeyData::SkEd25519(_) => Err(Error::AlgorithmUnsupported {
+            algorithm: Algorithm::SkEd25519,
+        }),
+        _ => Ok(()),
+    }
 }
