@@ -1,3 +1,4 @@
+use Rattle.std.proofs.Common.{refl, ◌∙◌}
 use Rattle.std.proofs.lemmas.Result.{err_from_is_err_and}
 use Rattle.sshkey_base.proofs.Steps.{refused_first, refused_later}
 use Rattle.sshkey_model.specs.Keys.{dsa_at}
@@ -20,3 +21,11 @@ unfolding dsa_at
 returns-in_err-y-clause-gives g c =
     let p = err_from_is_err_and c.from_residual-in_err-y.result c.from_residual-in_err-y.ensures.1 in
     rw (p.1, p.2) (refused_later _ _ _ _ _ _ _ c.in_ok-p.ensures.gives (refused_later _ _ _ _ _ _ _ c.in_ok-q.ensures.gives (refused_later _ _ _ _ _ _ _ c.in_ok-g.ensures.gives (refused_first _ _ _ _ c.in_err-y.ensures.gives))))
+
+pub returns-clause-gives : goal.returns-clause-gives
+unfolding dsa_at
+returns-clause-gives g c = record {
+  value = rw (c.in_ok-p.ensures.gives.value, c.in_ok-q.ensures.gives.value, c.in_ok-g.ensures.gives.value, c.in_ok-y.ensures.gives.value) refl;
+  missing = c.in_ok-y.ensures.gives.missing ∙ c.in_ok-g.ensures.gives.missing ∙ c.in_ok-q.ensures.gives.missing ∙ c.in_ok-p.ensures.gives.missing;
+  outer = c.in_ok-y.ensures.gives.outer ∙ c.in_ok-g.ensures.gives.outer ∙ c.in_ok-q.ensures.gives.outer ∙ c.in_ok-p.ensures.gives.outer;
+}
