@@ -1,1 +1,7 @@
 pub mod Fingerprints
+pub mod FingerprintTexts
+pub mod RandomArt
+pub mod Fields
+pub mod Walks
+pub mod Pictures
+pub mod ArtExample
