@@ -3,8 +3,6 @@ use Rattle.std.specs.Prelude.{◌==◌, ◌+◌, ◌-◌, ◌/◌, ◌%◌, ℕ,
 use Rattle.std.specs.Fmt.{char_count}
 use Rattle.std.specs.List.{count_by, flat_map, range_with_len}
 use Rattle.sshkey_model.specs.Names.{Hash, Sha256, Sha512}
-use Rattle.sshkey_fingerprints.specs.Fingerprints.{algorithm_of, digest_of}
-use Rattle.sshkey_fingerprints.specs.declared.fingerprint.Fingerprint.{Fingerprint}
 
 -- ---- the walk
 
@@ -78,5 +76,5 @@ unfoldable pub rows : List ℕ → List ℕ
 rows d = flat_map (row_line d) (range_with_len 0 9)
 
 -- The header, the nine rows, and the name of the hash; no line end behind it.
-unfoldable pub picture : List ℕ → Fingerprint → List ℕ
-picture header f = title header ++ (codes "\n" ++ (rows (digest_of f) ++ title (hash_label (algorithm_of f))))
+unfoldable pub picture : List ℕ → Hash → List ℕ → List ℕ
+picture header h d = title header ++ (codes "\n" ++ (rows d ++ title (hash_label h)))

@@ -2,7 +2,8 @@
 
 ghost use Rattle.std.specs.Prelude.{◌≡◌, IfErr, IfOk, Some, string_bytes};
 ghost use Rattle.std.specs.Fmt.{WritesOnOk};
-ghost use Rattle.sshkey_fingerprints.specs.RandomArt.{hash_label, picture, title};
+ghost use Rattle.sshkey_fingerprints.specs.RandomArt.{hash_label, title};
+ghost use Rattle.sshkey_fingerprints.specs.Arts.{art_of};
 ghost use Rattle.sshkey_fingerprints.specs.Fingerprints.{algorithm_of};
 ghost use Rattle.sshkey_fingerprints.specs.Pictures.{picture_of};
 
@@ -45,7 +46,7 @@ impl Fingerprint {
         header: &str,
         f: &mut fmt::Formatter<W>,
     ) -> fmt::Result
-        ensures { WritesOnOk W.write_str_gives f.old result (picture header.now self.now) f.new }
+        ensures { WritesOnOk W.write_str_gives f.old result (art_of header.now self.now) f.new }
     {
         let art = RandomArt::new(self.as_bytes());
         write_title(header, f)?;
@@ -56,7 +57,7 @@ impl Fingerprint {
     /// The fingerprint as random art under that header, as `ssh-keygen -lv` shows it: eleven lines,
     /// without a line end behind the last. Refused only when out of memory.
     pub fn to_randomart(&self, alloc: Global, header: &str) -> Result<String>
-        ensures art { IfOk result (λ art. string_bytes art ≡ picture header.now self.now) }
+        ensures art { IfOk result (λ art. string_bytes art ≡ art_of header.now self.now) }
         ensures refused { IfErr result (λ e. e ≡ Error.Memory) }
     {
         let picture = Picture {
