@@ -12,7 +12,7 @@ pub use sshkey_base::laws::{
 };
 pub use sshkey_cert::laws::compared_certificates;
 pub use sshkey_ciphers::laws::{compared_ciphers, compared_kdf_algorithms, equal_kdfs};
-pub use sshkey_fingerprints::laws::compared_fingerprints;
+pub use sshkey_fingerprints::laws::{compared_fingerprints, fingerprint_texts};
 pub use sshkey_keypairs::laws::{
     equal_opaque_pairs, equal_pairs, equal_sk_ecdsa_pairs, equal_sk_ed25519_pairs,
 };

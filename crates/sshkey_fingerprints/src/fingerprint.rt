@@ -6,6 +6,9 @@ ghost use Rattle.sshkey_model.specs.Fingerprints.{digest, fingerprint_prefix};
 ghost use Rattle.sshkey_model.specs.Names as model;
 ghost use Rattle.sshkey_fingerprints.specs.Fingerprints.{algorithm_of, digest_of, shown, AreShort, GivesDigest};
 
+mod picture;
+mod text;
+
 use base64::display::Base64Display;
 use base64::engine::general_purpose::STANDARD_NO_PAD;
 use sha2::{Digest, Sha256, Sha512};
