@@ -1,3 +1,4 @@
+use Rattle.std.proofs.Common.{refl, ◌∙◌}
 use Rattle.std.proofs.lemmas.Result.{err_from_is_err_and}
 use Rattle.sshkey_base.specs.Causes.{same_cause}
 use Rattle.sshkey_base.specs.Needs.{NoNeed, NeedsString, NeedsBoth}
@@ -25,3 +26,11 @@ returns-in_err-comment-clause-asks g c =
 
 pub returns-clause-later : goal.returns-clause-later
 returns-clause-later g c = later_then _ _ _ c.in_ok-checkint.ensures.later (later_then _ _ _ c.in_ok-pair.ensures.later c.in_ok-comment.ensures.later)
+
+pub returns-clause-gives : goal.returns-clause-gives
+unfolding inner_at
+returns-clause-gives g c = record {
+  value = rw (c.in_ok-checkint.ensures.gives.value, c.in_ok-pair.ensures.gives.value, c.in_ok-comment.ensures.gives.value) refl;
+  missing = c.in_ok-comment.ensures.gives.missing ∙ c.in_ok-pair.ensures.gives.missing ∙ c.in_ok-checkint.ensures.gives.missing;
+  outer = c.in_ok-comment.ensures.gives.outer ∙ c.in_ok-pair.ensures.gives.outer ∙ c.in_ok-checkint.ensures.gives.outer;
+}

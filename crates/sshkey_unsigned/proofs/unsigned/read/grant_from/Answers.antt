@@ -1,4 +1,4 @@
-use Rattle.std.proofs.Common.{◌∙◌, inl, inr}
+use Rattle.std.proofs.Common.{◌∙◌, inl, inr, refl}
 use Rattle.std.proofs.lemmas.Result.{err_from_is_err_and}
 use Rattle.sshkey_base.specs.Causes.{same_cause}
 use Rattle.sshkey_base.proofs.Places.{later_then}
@@ -41,3 +41,11 @@ pub returns-in_err-valid_principals-clause-asks : goal.returns-in_err-valid_prin
 returns-in_err-valid_principals-clause-asks g c =
     let p = err_from_is_err_and c.from_residual-in_err-valid_principals.result c.from_residual-in_err-valid_principals.ensures.1 in
     rw (p.1, p.2, same_cause c.in_err-valid_principals.field-0.0) (λ memory sound. inr (rw c.in_ok-serial.ensures.gives.value (inr (rw c.in_ok-cert_type.ensures.gives.value (inr (rw c.in_ok-key_id.ensures.gives.value (c.in_err-valid_principals.ensures.asks memory (c.in_ok-key_id.ensures.gives.missing ∙ (c.in_ok-cert_type.ensures.gives.missing ∙ (c.in_ok-serial.ensures.gives.missing ∙ sound))))))))))
+
+pub returns-clause-gives : goal.returns-clause-gives
+unfolding grant_at
+returns-clause-gives g c = record {
+  value = rw (c.in_ok-serial.ensures.gives.value, c.in_ok-cert_type.ensures.gives.value, c.in_ok-key_id.ensures.gives.value, c.in_ok-valid_principals.ensures.gives.value) refl;
+  missing = c.in_ok-valid_principals.ensures.gives.missing ∙ c.in_ok-key_id.ensures.gives.missing ∙ c.in_ok-cert_type.ensures.gives.missing ∙ c.in_ok-serial.ensures.gives.missing;
+  outer = c.in_ok-valid_principals.ensures.gives.outer ∙ c.in_ok-key_id.ensures.gives.outer ∙ c.in_ok-cert_type.ensures.gives.outer ∙ c.in_ok-serial.ensures.gives.outer;
+}

@@ -1,4 +1,4 @@
-use Rattle.std.proofs.Common.{◌∙◌, inr}
+use Rattle.std.proofs.Common.{◌∙◌, inr, refl}
 use Rattle.std.proofs.lemmas.Result.{err_from_is_err_and}
 use Rattle.sshkey_base.proofs.Steps.{refused_first, refused_later}
 use Rattle.sshkey_unsigned.specs.UnsignedReaders.{limits_at}
@@ -14,3 +14,11 @@ pub returns-in_err-extensions-clause-asks : goal.returns-in_err-extensions-claus
 returns-in_err-extensions-clause-asks g c =
     let p = err_from_is_err_and c.from_residual-in_err-extensions.result c.from_residual-in_err-extensions.ensures.1 in
     rw (p.1, p.2) (λ memory sound. inr (rw c.in_ok-critical_options.ensures.gives.value (c.in_err-extensions.ensures.asks memory (c.in_ok-critical_options.ensures.gives.missing ∙ sound))))
+
+pub returns-clause-gives : goal.returns-clause-gives
+unfolding limits_at
+returns-clause-gives g c = record {
+  value = rw (c.in_ok-critical_options.ensures.gives.value, c.in_ok-extensions.ensures.gives.value) refl;
+  missing = c.in_ok-extensions.ensures.gives.missing ∙ c.in_ok-critical_options.ensures.gives.missing;
+  outer = c.in_ok-extensions.ensures.gives.outer ∙ c.in_ok-critical_options.ensures.gives.outer;
+}

@@ -1,4 +1,4 @@
-use Rattle.std.proofs.Common.{◌∙◌, inl, inr}
+use Rattle.std.proofs.Common.{◌∙◌, inl, inr, refl}
 use Rattle.std.proofs.lemmas.Result.{err_from_is_err_and}
 use Rattle.sshkey_base.specs.Causes.{same_cause}
 use Rattle.sshkey_base.proofs.Steps.{refused_first, refused_later}
@@ -26,3 +26,11 @@ pub returns-in_err-key-clause-asks : goal.returns-in_err-key-clause-asks
 returns-in_err-key-clause-asks g c =
     let p = err_from_is_err_and c.from_residual-in_err-key.result c.from_residual-in_err-key.ensures.1 in
     rw (p.1, p.2) (λ memory sound. inr (rw c.in_ok-algorithm.ensures.gives.value (inr (rw c.in_ok-nonce.ensures.gives.value (c.in_err-key.ensures.asks memory (c.in_ok-nonce.ensures.gives.missing ∙ (c.in_ok-algorithm.ensures.gives.missing ∙ sound)))))))
+
+pub returns-clause-gives : goal.returns-clause-gives
+unfolding subject_at
+returns-clause-gives g c = record {
+  value = rw (c.in_ok-algorithm.ensures.gives.value, c.in_ok-nonce.ensures.gives.value, c.in_ok-key.ensures.gives.value) refl;
+  missing = c.in_ok-key.ensures.gives.missing ∙ c.in_ok-nonce.ensures.gives.missing ∙ c.in_ok-algorithm.ensures.gives.missing;
+  outer = c.in_ok-key.ensures.gives.outer ∙ c.in_ok-nonce.ensures.gives.outer ∙ c.in_ok-algorithm.ensures.gives.outer;
+}

@@ -1,4 +1,4 @@
-use Rattle.std.proofs.Common.{◌∙◌, inl, inr}
+use Rattle.std.proofs.Common.{◌∙◌, inl, inr, refl}
 use Rattle.std.proofs.lemmas.Result.{err_from_is_err_and}
 use Rattle.sshkey_base.proofs.Places.{later_then}
 use Rattle.sshkey_base.proofs.Steps.{refused_first, refused_later}
@@ -57,3 +57,11 @@ pub returns-in_err-reserved-clause-asks : goal.returns-in_err-reserved-clause-as
 returns-in_err-reserved-clause-asks g c =
     let p = err_from_is_err_and c.from_residual-in_err-reserved.result c.from_residual-in_err-reserved.ensures.1 in
     rw (p.1, p.2) (λ memory sound. inr (rw c.in_ok-nonce.ensures.gives.value (inr (rw c.in_ok-serial.ensures.gives.value (inr (rw c.in_ok-valid_after.ensures.gives.value (inr (rw c.in_ok-critical_options.ensures.gives.value (c.in_err-reserved.ensures.asks memory (c.in_ok-critical_options.ensures.gives.missing ∙ (c.in_ok-valid_after.ensures.gives.missing ∙ (c.in_ok-serial.ensures.gives.missing ∙ (c.in_ok-nonce.ensures.gives.missing ∙ sound)))))))))))))
+
+pub returns-clause-gives : goal.returns-clause-gives
+unfolding fields_at
+returns-clause-gives g c = record {
+  value = rw (c.in_ok-nonce.ensures.gives.value, c.in_ok-serial.ensures.gives.value, c.in_ok-valid_after.ensures.gives.value, c.in_ok-critical_options.ensures.gives.value, c.in_ok-reserved.ensures.gives.value) refl;
+  missing = c.in_ok-reserved.ensures.gives.missing ∙ c.in_ok-critical_options.ensures.gives.missing ∙ c.in_ok-valid_after.ensures.gives.missing ∙ c.in_ok-serial.ensures.gives.missing ∙ c.in_ok-nonce.ensures.gives.missing;
+  outer = c.in_ok-reserved.ensures.gives.outer ∙ c.in_ok-critical_options.ensures.gives.outer ∙ c.in_ok-valid_after.ensures.gives.outer ∙ c.in_ok-serial.ensures.gives.outer ∙ c.in_ok-nonce.ensures.gives.outer;
+}

@@ -1,4 +1,4 @@
-use Rattle.std.proofs.Common.{◌∙◌}
+use Rattle.std.proofs.Common.{◌∙◌, refl}
 use Rattle.std.proofs.lemmas.Result.{err_from_is_err_and}
 use Rattle.sshkey_base.proofs.Steps.{refused_first, refused_later}
 use Rattle.sshkey_unsigned.specs.UnsignedReaders.{window_at}
@@ -14,3 +14,11 @@ pub returns-in_err-valid_before-clause-asks : goal.returns-in_err-valid_before-c
 returns-in_err-valid_before-clause-asks g c =
     let p = err_from_is_err_and c.from_residual-in_err-valid_before.result c.from_residual-in_err-valid_before.ensures.1 in
     rw (p.1, p.2) (λ memory sound. c.in_err-valid_before.ensures.asks memory (c.in_ok-valid_after.ensures.gives.missing ∙ sound))
+
+pub returns-clause-gives : goal.returns-clause-gives
+unfolding window_at
+returns-clause-gives g c = record {
+  value = rw (c.in_ok-valid_after.ensures.gives.value, c.in_ok-valid_before.ensures.gives.value) refl;
+  missing = c.in_ok-valid_before.ensures.gives.missing ∙ c.in_ok-valid_after.ensures.gives.missing;
+  outer = c.in_ok-valid_before.ensures.gives.outer ∙ c.in_ok-valid_after.ensures.gives.outer;
+}

@@ -1,3 +1,4 @@
+use Rattle.std.proofs.Common.{refl, ◌∙◌}
 use Rattle.std.proofs.lemmas.Result.{err_from_is_err_and}
 use Rattle.sshkey_base.proofs.Steps.{refused_first, refused_later}
 use Rattle.sshkey_model.specs.Signatures.{signature_at}
@@ -14,3 +15,11 @@ returns-in_err-blob-clause-gives g c =
 
 pub invariant_of-result : goal.invariant_of-result
 invariant_of-result g c = record { form = tested _ _ c.in_ok-blob.ensures.form }
+
+pub returns-clause-gives : goal.returns-clause-gives
+unfolding signature_at algorithm_at label_at
+returns-clause-gives g c = record {
+  value = rw (c.in_ok-algorithm.ensures.gives.value, c.in_ok-blob.ensures.gives.value) refl;
+  missing = c.in_ok-blob.ensures.gives.missing ∙ c.in_ok-algorithm.ensures.gives.missing;
+  outer = c.in_ok-blob.ensures.gives.outer ∙ c.in_ok-algorithm.ensures.gives.outer;
+}
