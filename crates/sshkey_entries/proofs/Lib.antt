@@ -1,0 +1,4 @@
+pub mod Fronts
+pub mod Base64Words
+pub mod OneEntry
+pub mod OneHost
