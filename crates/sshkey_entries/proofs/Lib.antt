@@ -2,3 +2,4 @@ pub mod Fronts
 pub mod Base64Words
 pub mod OneEntry
 pub mod OneHost
+pub mod StrictReading
