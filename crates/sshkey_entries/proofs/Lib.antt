@@ -3,3 +3,4 @@ pub mod Base64Words
 pub mod OneEntry
 pub mod OneHost
 pub mod StrictReading
+pub mod Cuts

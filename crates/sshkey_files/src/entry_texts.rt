@@ -9,9 +9,12 @@ ghost use Rattle.sshkey_entries.specs.Entries.{is_hash, uncommented, entries};
 use std::marker::Model;
 use std::str::Lines;
 
-/// The entries of a text, each a part of it. Contracts see the list of those that are left.
+/// The entries of a text, each a part of it: its lines up to their first `#`, without the white
+/// space at their end, where something is left.
+///
+/// Contracts see the list of those that are left.
 #[derive(Drop)]
-pub(crate) struct EntryTexts<'a> {
+pub struct EntryTexts<'a> {
     lines: Lines<'a>,
 }
 
@@ -38,7 +41,8 @@ fn uncommented(line: &str) -> &str
 }
 
 impl<'a> EntryTexts<'a> {
-    pub(crate) fn new(text: &'a str) -> EntryTexts<'a>
+    /// The entries of a text. Takes no memory.
+    pub fn new(text: &'a str) -> EntryTexts<'a>
         ensures { result ≡ entries text.now }
     {
         EntryTexts {

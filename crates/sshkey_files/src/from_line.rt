@@ -11,7 +11,7 @@ use std::fs::{File, Files};
 use std::io;
 
 /// An entry of a file, which one line spells.
-pub(crate) trait FromLine: Drop + Sized {
+pub trait FromLine: Drop + Sized {
     /// What an entry means.
     ghost Meaning: { Type 0 };
 
@@ -27,8 +27,8 @@ pub(crate) trait FromLine: Drop + Sized {
         ensures { ReadsEntry means IsEntry line.now result };
 }
 
-/// All entries of a text. The fault of the first that has none.
-fn entries_of_text<E: FromLine>(alloc: Global, text: &str) -> Result<Vec<E>>
+/// All entries of a text, in order, or the refusal of the first line that is none.
+pub fn entries_of_text<E: FromLine>(alloc: Global, text: &str) -> Result<Vec<E>>
     ensures { ReadsEntries E.means E.IsEntry (entries text.now) result }
 {
     let mut found = Vec::new(alloc);
@@ -38,8 +38,11 @@ fn entries_of_text<E: FromLine>(alloc: Global, text: &str) -> Result<Vec<E>>
     Ok(found)
 }
 
-/// All entries of the text that a file holds.
-pub(crate) fn entries_of_file<R: Files, E: FromLine>(
+/// All entries of the text that a file holds, in order.
+///
+/// `Io` with the machine's fault where the file could not be read, `Io(InvalidData)` where it is
+/// not UTF-8, and else the refusals of `entries_of_text`.
+pub fn entries_of_file<R: Files, E: FromLine>(
     rt: &R,
     alloc: Global,
     path: &str,

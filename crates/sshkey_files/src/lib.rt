@@ -1,8 +1,8 @@
-//! Entry files: authorized_keys and known_hosts (sshd(8)).
+//! Entry files, whatever their entries are: authorized_keys and known_hosts stand on this.
 #![tactic(auto)]
 
-pub mod authorized_keys;
 mod entry_texts;
 mod from_line;
-pub mod known_hosts;
-pub mod laws;
+
+pub use entry_texts::EntryTexts;
+pub use from_line::{FromLine, entries_of_file, entries_of_text};
