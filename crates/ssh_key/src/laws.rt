@@ -1,13 +1,18 @@
 //! What holds of all values and all bytes: public functions without code, each with a law as its
 //! contract.
 
+pub use sshkey_authorized_keys::laws::{equal_authorized_keys, equal_config_opts};
 pub use sshkey_base::laws::{one_front, read_back};
 pub use sshkey_cert::laws::compared_certificates;
 pub use sshkey_ciphers::laws::{compared_ciphers, compared_kdf_algorithms, equal_kdfs};
+pub use sshkey_entries::laws::{
+    one_authorized_key, one_end, one_hosts, one_known_host, readings_apart, strict_is_read,
+};
 pub use sshkey_keypairs::laws::{
     equal_opaque_pairs, equal_pairs, equal_sk_ecdsa_pairs, equal_sk_ed25519_pairs,
 };
 pub use sshkey_keys::laws::{compared_fingerprints, compared_keys, compared_signatures};
+pub use sshkey_known_hosts::laws::{equal_hosts, equal_known_hosts, equal_markers};
 pub use sshkey_model::laws::lines::{lines_apart, one_certificate_line, one_key_line};
 pub use sshkey_model::laws::private::{
     decode_private_key, normal_kdfs, normal_keypairs, normal_private_keys, prefix_kdf,

@@ -14,7 +14,7 @@ pub fn equal_config_opts()
 
 /// Two entries that are equal mean the same, and two of well-formed keys are equal exactly if they
 /// do.
-pub fn equal_entries()
+pub fn equal_authorized_keys()
     ensures equal { IsEqualityAmong IsOfKey authorized_key_of ⟦<Entry as PartialEq>⟧.eq }
     ensures same { EqualMeanSame authorized_key_of ⟦<Entry as PartialEq>⟧.eq }
 {

@@ -21,7 +21,7 @@ pub fn equal_hosts()
 
 /// Two entries that are equal mean the same, and two of well-formed keys are equal exactly if they
 /// do.
-pub fn equal_entries()
+pub fn equal_known_hosts()
     ensures equal { IsEqualityAmong IsOfKey known_host_of ⟦<Entry as PartialEq>⟧.eq }
     ensures same { EqualMeanSame known_host_of ⟦<Entry as PartialEq>⟧.eq }
 {

@@ -8,7 +8,7 @@ use Rattle.sshkey_entries.specs.KnownHosts as known
 use Rattle.sshkey_entries.specs.KnownHosts.{Hosts, KnownHost}
 use Rattle.sshkey_known_hosts.specs.HostEntries.{known_host_of, marker_of}
 use Rattle.sshkey_known_hosts.specs.declared.marker.Marker.{Marker}
-use Rattle.sshkey_known_hosts.proofs.laws.equal_entries.Goals as goal
+use Rattle.sshkey_known_hosts.proofs.laws.equal_known_hosts.Goals as goal
 
 some_same : (m n : known.Marker) → Some m ≡ Some n → m ≡ n
 some_same m n e = cc
