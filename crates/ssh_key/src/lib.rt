@@ -4,16 +4,20 @@
 //! the Rust crate `ssh-key`.
 #![tactic(auto)]
 
+pub mod authorized_keys;
 pub mod certificate;
 pub mod encoding;
+pub mod known_hosts;
 pub mod laws;
 pub mod private;
 pub mod public;
 
+pub use sshkey_authorized_keys::AuthorizedKeys;
 pub use sshkey_base::{Algorithm, AlgorithmName, EcdsaCurve, Error, HashAlg, Mpint, Result};
 pub use sshkey_cert::Certificate;
 pub use sshkey_ciphers::{Cipher, Kdf, KdfAlg};
 pub use sshkey_keys::{Fingerprint, RawVerifier, Signature, SigningKey};
+pub use sshkey_known_hosts::KnownHosts;
 pub use sshkey_private::PrivateKey;
 pub use sshkey_public::{Base64Reader, Blob, PublicKey, read_line, write_line};
 pub use sshkey_sshsig::SshSig;

@@ -1,0 +1,3 @@
+//! known_hosts: which keys hosts have.
+
+pub use sshkey_known_hosts::{Entry, HostPatterns, KnownHosts, Marker};

@@ -1,0 +1,2 @@
+pub mod Dividers
+pub mod Options

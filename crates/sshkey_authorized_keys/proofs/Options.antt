@@ -1,0 +1,45 @@
+-- When a line is an entry of authorized_keys.
+use Rattle.std.proofs.Common.{◌≡◌, ◌≢◌, ◌⊎◌, ◌<◌, ℕ, List, count_by, None, Some, Result, Ok, Err, Bor, sym, ap, ◌∙◌, subst, arith, inl, inr}
+use Rattle.std.proofs.lemmas.Str.Pattern.{IsSplitOnceResult, split_after}
+use Rattle.sshkey_base.specs.Causes.{cause, NoMemory}
+use Rattle.sshkey_base.specs.declared.error.Error.{Error}
+use Rattle.sshkey_model.proofs.LineCuts.{IsWithout}
+use Rattle.sshkey_model.specs.Lines.{space, IsKeyLine}
+use Rattle.sshkey_files.specs.Answers.{ReadsEntry}
+use Rattle.sshkey_authorized_keys.specs.AuthorizedEntries.{authorized_key_of}
+use Rattle.sshkey_entries.specs.AuthorizedKeys.{AuthorizedKey, IsAuthorizedKey, HasOptions, is_space}
+use Rattle.sshkey_entries.specs.ConfigOptions.{AreOptions}
+use Rattle.sshkey_entries.proofs.OneEntry.{no_space}
+use Rattle.sshkey_authorized_keys.specs.OptionAnswers.{IsNotAllowed}
+use Rattle.sshkey_base.specs.declared.error.Error.TheVariants.{Memory}
+use Rattle.sshkey_entries.specs.AuthorizedKeys.{IsNoKeyLine}
+use Rattle.sshkey_authorized_keys.specs.declared.entry.Entry.{Entry}
+
+pub uncut : (line : List ℕ) → IsSplitOnceResult space line None → (a : AuthorizedKey) → HasOptions line a → ⊥
+uncut line none a h = split_after space line a.options h.rest None none (omega arith) h.is (no_space a.options h.options)
+
+module _ (line : List ℕ) (options rest : Bor (List ℕ)) (cut : IsSplitOnceResult space line (Some (options, rest))) where
+  same_parts : (a : AuthorizedKey) (h : HasOptions line a) → (options.now ≡ a.options) × (rest.now ≡ h.rest)
+  same_parts a h = split_after space line a.options h.rest (Some (options, rest)) cut (omega arith) h.is (no_space a.options h.options)
+
+  pub bad_options : (e : Error) → (AreOptions options.now × (e ≡ Memory)) ⊎ IsNotAllowed options.now e → cause e ≢ NoMemory → (a : AuthorizedKey) → HasOptions line a → ⊥
+  bad_options e why other a h = elim why [
+    | inl full ↦ other (ap cause full.1)
+    | inr not_allowed ↦ not_allowed.1 (subst AreOptions (sym (same_parts a h).0) h.options)
+  ]
+
+  pub bad_key : (e : Error) → (cause e ≢ NoMemory → IsNoKeyLine rest.now) → cause e ≢ NoMemory → (a : AuthorizedKey) → HasOptions line a → ⊥
+  bad_key e none other a h = none other a.key a.comment (subst (λ (r : List ℕ). IsKeyLine r a.key a.comment) (sym (same_parts a h).1) h.line)
+
+-- a line with fewer spaces is a key's line or nothing
+pub few_spaces : (line : List ℕ) → IsNoKeyLine line → count_by is_space line < 3 → (a : AuthorizedKey) → IsAuthorizedKey line a → ⊥
+few_spaces line none few a (inl alone) = none a.key a.comment alone.line
+few_spaces line none few a (inr h) = omega (arith, h.spaces)
+
+-- and one that is no key's line has options
+pub only_options : (line : List ℕ) (r : Result Entry Error) → IsNoKeyLine line → ReadsEntry authorized_key_of HasOptions line r → ReadsEntry authorized_key_of IsAuthorizedKey line r
+only_options line (Ok e) none h = inr h
+only_options line (Err e) none h = λ other a is. elim is [
+  | inl alone ↦ none a.key a.comment alone.line
+  | inr options ↦ h other a options
+]

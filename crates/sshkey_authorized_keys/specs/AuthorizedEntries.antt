@@ -1,0 +1,24 @@
+-- What an entry of authorized_keys means, and when a line is read behind options.
+use Rattle.std.specs.Prelude.{ℕ, List, ◌≤◌, count_by}
+use Rattle.sshkey_keys.specs.Comparisons.{HasForm}
+use Rattle.sshkey_public.specs.PublicKeys.{data_of, public_of, comment_of}
+use Rattle.sshkey_public.specs.declared.public_key.PublicKey.{PublicKey}
+use Rattle.sshkey_entries.specs.AuthorizedKeys.{AuthorizedKey, IsNoKeyLine, is_space}
+use Rattle.sshkey_authorized_keys.specs.declared.entry.Entry.{Entry}
+
+abbrev pub options_of : Entry → List ℕ
+options_of e = e.config_opts
+
+abbrev pub key_in : Entry → PublicKey
+key_in e = e.public_key
+
+abbrev pub authorized_key_of : Entry → AuthorizedKey
+authorized_key_of e = record { options = options_of e; key = public_of (key_in e); comment = comment_of (key_in e) }
+
+-- Its key is well-formed.
+abbrev pub IsOfKey : Entry → Type 0
+IsOfKey e = HasForm (data_of (key_in e))
+
+-- no key's line, and with three spaces or more
+abbrev pub NotAlone : List ℕ → Type 0
+NotAlone line = IsNoKeyLine line × (3 ≤ count_by is_space line)

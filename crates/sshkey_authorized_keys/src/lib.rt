@@ -1,0 +1,12 @@
+//! authorized_keys: who may log in (sshd(8), "AUTHORIZED_KEYS FILE FORMAT").
+#![tactic(auto)]
+
+mod authorized_keys;
+mod config_opts;
+mod entry;
+pub mod laws;
+mod strict;
+
+pub use authorized_keys::{AuthorizedKeys, StrictAuthorizedKeys};
+pub use config_opts::{ConfigOpts, ConfigOptsIter};
+pub use entry::Entry;

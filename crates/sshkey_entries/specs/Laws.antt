@@ -1,0 +1,20 @@
+-- What holds of all entries.
+use Rattle.std.specs.Prelude.{◌≡◌, ℕ, List}
+use Rattle.sshkey_entries.specs.AuthorizedKeys.{AuthorizedKey, IsAuthorizedKey, IsWithoutOptions, HasOptions}
+use Rattle.sshkey_entries.specs.StrictReading.{EndsOptions, IsReadStrictly}
+
+-- A line is one entry at most.
+abbrev pub EntriesDetermineValues : {Y : Type 0} → (List ℕ → Y → Type 0) → Type 0
+EntriesDetermineValues {Y} IsEntry = (entry : List ℕ) (a b : Y) → IsEntry entry a → IsEntry entry b → a ≡ b
+
+-- No line is read with options and without.
+abbrev pub ReadingsAreApart : Type 0
+ReadingsAreApart = (entry : List ℕ) (a b : AuthorizedKey) → IsWithoutOptions entry a → HasOptions entry b → ⊥
+
+-- The options of a line end at one place at most.
+abbrev pub OneEnd : Type 0
+OneEnd = (line : List ℕ) (p q : ℕ) → EndsOptions line p → EndsOptions line q → p ≡ q
+
+-- What is read strictly is read.
+abbrev pub StrictIsRead : Type 0
+StrictIsRead = (entry : List ℕ) (a : AuthorizedKey) → IsReadStrictly entry a → IsAuthorizedKey entry a

@@ -1,0 +1,9 @@
+pub mod Entries
+pub mod Items
+pub mod ConfigOptions
+pub mod AuthorizedKeys
+pub mod KnownHosts
+pub mod StrictReading
+pub mod Laws
+pub mod Computed
+pub mod Examples

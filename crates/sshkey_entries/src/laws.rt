@@ -1,0 +1,36 @@
+//! Laws over the definitions alone: each stands for all lines, and makes no call.
+
+ghost use Rattle.sshkey_entries.specs.AuthorizedKeys.{IsAuthorizedKey};
+ghost use Rattle.sshkey_entries.specs.KnownHosts.{IsHosts, IsKnownHost};
+ghost use Rattle.sshkey_entries.specs.Laws.{EntriesDetermineValues, OneEnd, ReadingsAreApart, StrictIsRead};
+
+/// A line is one entry of authorized_keys at most.
+pub fn one_authorized_key()
+    ensures { EntriesDetermineValues IsAuthorizedKey }
+{}
+
+/// No line is read with options and without: of the two ways to read a line with three spaces or
+/// more, one at most holds.
+pub fn readings_apart()
+    ensures { ReadingsAreApart }
+{}
+
+/// A text is one value of hosts at most.
+pub fn one_hosts()
+    ensures { EntriesDetermineValues IsHosts }
+{}
+
+/// A line is one entry of known_hosts at most.
+pub fn one_known_host()
+    ensures { EntriesDetermineValues IsKnownHost }
+{}
+
+/// OpenSSH ends the options of a line at one place at most.
+pub fn one_end()
+    ensures { OneEnd }
+{}
+
+/// What is read strictly is read, and as the same value.
+pub fn strict_is_read()
+    ensures { StrictIsRead }
+{}

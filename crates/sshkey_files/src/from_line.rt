@@ -1,0 +1,55 @@
+//! Entries that are read from lines.
+
+ghost use Rattle.std.specs.Prelude.{ℕ, List, IfOk};
+ghost use Rattle.sshkey_entries.specs.Entries.{entries};
+ghost use Rattle.sshkey_files.specs.Answers.{AreOfSomeText, ReadsEntries, ReadsEntry};
+
+use crate::entry_texts::EntryTexts;
+use sshkey_base::Result;
+use std::alloc::Global;
+use std::fs::{File, Files};
+use std::io;
+
+/// An entry of a file, which one line spells.
+pub trait FromLine: Drop + Sized {
+    /// What an entry means.
+    ghost Meaning: { Type 0 };
+
+    /// The meaning of an entry.
+    ghost means: { Self → Meaning };
+
+    /// The line spells the entry.
+    ghost IsEntry: { List ℕ → Meaning → Type 0 };
+
+    /// The entry of a line, as it stands. Out of memory aside, it is refused exactly where the
+    /// line is no entry.
+    fn from_line(alloc: Global, line: &str) -> Result<Self>
+        ensures { ReadsEntry means IsEntry line.now result };
+}
+
+/// All entries of a text, in order, or the refusal of the first line that is none.
+pub fn entries_of_text<E: FromLine>(alloc: Global, text: &str) -> Result<Vec<E>>
+    ensures { ReadsEntries E.means E.IsEntry (entries text.now) result }
+{
+    let mut found = Vec::new(alloc);
+    for line in EntryTexts::new(text) {
+        found.push(E::from_line(alloc, line)?)?;
+    }
+    Ok(found)
+}
+
+/// All entries of the text that a file holds, in order.
+///
+/// `Io` with the machine's fault where the file could not be read, `Io(InvalidData)` where it is
+/// not UTF-8, and else the refusals of `entries_of_text`.
+pub fn entries_of_file<R: Files, E: FromLine>(
+    rt: &R,
+    alloc: Global,
+    path: &str,
+) -> Result<Vec<E>>
+    ensures { IfOk result (AreOfSomeText E.means E.IsEntry) }
+{
+    let file = File::open(rt, path)?;
+    let text = io::read_to_string(alloc, file)?;
+    entries_of_text(alloc, text.as_str())
+}

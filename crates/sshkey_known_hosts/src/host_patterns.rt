@@ -1,0 +1,174 @@
+//! Hosts of lines of known_hosts.
+
+ghost use Rattle.std.specs.Prelude.{◌≡◌, ◌<◌, ◌∷◌, ◌++◌, length, IfOk, IfErr, OnOk, string_bytes};
+ghost use Rattle.std.specs.List.{join_with_byte};
+ghost use Rattle.sshkey_base.specs.declared.error.Error.TheVariants as wide;
+ghost use Rattle.sshkey_entries.specs.Items.{patterns};
+ghost use Rattle.sshkey_entries.specs.KnownHosts.{IsHosts, comma, hosts_text};
+ghost use Rattle.sshkey_files.specs.Answers.{ReadsEntry};
+ghost use Rattle.sshkey_known_hosts.specs.HostEntries.{hosts_of, ReadsHashed, ReadsPatterns, ReadsWord};
+
+use base64::DecodeAllocError;
+use base64::engine::general_purpose::STANDARD;
+use sshkey_base::{Bytes, Error, Result, Text, encoding};
+use std::alloc::Global;
+
+/// The hosts of a line (sshd(8), "SSH_KNOWN_HOSTS FILE FORMAT").
+#[derive(Debug, Drop, PartialEq, Eq)]
+pub enum HostPatterns {
+    /// Patterns of names.
+    Patterns(Vec<Text>),
+    /// The hash of a name, by HMAC-SHA1 under the salt.
+    HashedName {
+        /// The salt.
+        salt: Bytes,
+        /// The hash.
+        hash: [u8; 20],
+    },
+}
+
+impl HostPatterns {
+    /// The hosts of a text: behind `|1|` a salt and a hash in padded Base64 with a `|` between,
+    /// else patterns between commas, a last empty one left out.
+    ///
+    /// Out of memory aside, it is refused exactly where the text is none: `FormatEncoding` where it
+    /// is empty, or has no `|` behind the salt, `Base64` where a word is no canonical Base64, and
+    /// `Length` for a hash of other than 20 bytes.
+    pub fn from_text(alloc: Global, text: &str) -> Result<HostPatterns>
+        ensures { ReadsEntry hosts_of IsHosts text.now result }
+    {
+        if let Some(hashed) = text.strip_prefix("|1|") {
+            return HostPatterns::from_hashed(alloc, hashed);
+        }
+        if text.is_empty() {
+            return Err(Error::FormatEncoding);
+        }
+        Ok(HostPatterns::Patterns(patterns_of(alloc, text)?))
+    }
+
+    /// The salt and the hash behind the mark.
+    fn from_hashed(alloc: Global, text: &str) -> Result<HostPatterns>
+        ensures { ReadsHashed text.now result }
+    {
+        let Some((salt, hash)) = text.split_once('|') else {
+            return Err(Error::FormatEncoding);
+        };
+        let salt = decode_word(alloc, salt)?;
+        let hash = decode_word(alloc, hash)?;
+        let Ok(hash) = <[u8; 20]>::try_from(hash.as_slice()) else {
+            return Err(Error::Encoding(encoding::Error::Length));
+        };
+        Ok(HostPatterns::HashedName {
+            salt: Bytes::new(salt),
+            hash,
+        })
+    }
+
+    /// The hosts as they are written: patterns joined by commas, or the salt and the hash in Base64
+    /// behind `|1|`. Refused only when out of memory.
+    pub fn to_string(&self, alloc: Global) -> Result<String>
+        ensures text { IfOk result (λ s. string_bytes s ≡ hosts_text (hosts_of self.now)) }
+        ensures memory { IfErr result (λ e. e ≡ wide.Memory) }
+    {
+        let mut text = String::new(alloc);
+        self.push_to(&mut text)?;
+        Ok(text)
+    }
+
+    /// Adds the hosts as they are written. Refused only when out of memory.
+    pub(crate) fn push_to(&self, text: &mut String) -> Result<()>
+        ensures text { OnOk result
+            (string_bytes text.new ≡ string_bytes text.old ++ hosts_text (hosts_of self.now)) }
+        ensures memory { IfErr result (λ e. e ≡ wide.Memory) }
+    {
+        match self {
+            HostPatterns::Patterns(patterns) => push_joined(patterns, text),
+            HostPatterns::HashedName { salt, hash } => {
+                text.push_str("|1|")?;
+                STANDARD.encode_string(salt.as_slice(), text)?;
+                text.push('|')?;
+                STANDARD.encode_string(hash, text)?;
+                Ok(())
+            }
+        }
+    }
+
+    /// The same in memory of its own. Refused only when out of memory.
+    pub fn try_clone(&self, alloc: Global) -> Result<HostPatterns>
+        ensures value { IfOk result (λ h. hosts_of h ≡ hosts_of self.now) }
+        ensures memory { IfErr result (λ e. e ≡ wide.Memory) }
+    {
+        match self {
+            HostPatterns::Patterns(patterns) => {
+                Ok(HostPatterns::Patterns(copied(alloc, patterns)?))
+            }
+            HostPatterns::HashedName { salt, hash } => Ok(HostPatterns::HashedName {
+                salt: salt.try_clone(alloc)?,
+                hash: *hash,
+            }),
+        }
+    }
+}
+
+/// The bytes of a word in padded Base64, of which each has one word only.
+fn decode_word(alloc: Global, word: &str) -> Result<Vec<u8>>
+    ensures { ReadsWord word.now result }
+{
+    match STANDARD.decode(alloc, word.as_bytes()) {
+        Ok(bytes) => Ok(bytes),
+        Err(DecodeAllocError::OutOfMemory) => Err(Error::Memory),
+        Err(DecodeAllocError::DecodeError(_)) => Err(Error::Encoding(encoding::Error::Base64)),
+    }
+}
+
+/// A text up to its first comma, and what follows it.
+fn split_pattern(text: &str) -> (&str, &str)
+    requires { 0 < length text.now }
+    ensures { patterns text.now ≡ result.0.now ∷ patterns result.1.now }
+{
+    match text.split_once(',') {
+        Some((pattern, rest)) => (pattern, rest),
+        None => (text, ""),
+    }
+}
+
+/// The patterns between commas.
+fn patterns_of(alloc: Global, text: &str) -> Result<Vec<Text>>
+    ensures { ReadsPatterns text.now result }
+{
+    let mut found = Vec::new(alloc);
+    let mut rest = text;
+    'patterns: while !rest.is_empty() {
+        let (pattern, more) = split_pattern(rest);
+        found.push(Text::new(String::from_str(alloc, pattern)?))?;
+        rest = more;
+    }
+    Ok(found)
+}
+
+/// Adds the patterns, joined by commas.
+fn push_joined(patterns: &[Text], text: &mut String) -> Result<()>
+    ensures text { OnOk result
+        (string_bytes text.new ≡ string_bytes text.old ++ join_with_byte comma patterns.now) }
+    ensures memory { IfErr result (λ e. e ≡ wide.Memory) }
+{
+    for (index, pattern) in patterns.iter().enumerate() {
+        if index > 0 {
+            text.push(',')?;
+        }
+        text.push_str(pattern.as_str())?;
+    }
+    Ok(())
+}
+
+/// The texts in memory of their own.
+fn copied(alloc: Global, texts: &[Text]) -> Result<Vec<Text>>
+    ensures copy { IfOk result (λ v. v.items ≡ texts.now) }
+    ensures memory { IfErr result (λ e. e ≡ wide.Memory) }
+{
+    let mut copies = Vec::new(alloc);
+    for text in texts {
+        copies.push(text.try_clone(alloc)?)?;
+    }
+    Ok(copies)
+}

@@ -1,0 +1,71 @@
+//! The entries of a text or a file.
+
+ghost use Rattle.std.specs.Prelude.{◌≡◌, ℕ, List, IfOk};
+ghost use Rattle.std.specs.Iterator.{item_count};
+ghost use Rattle.sshkey_entries.specs.Entries.{entries};
+ghost use Rattle.sshkey_entries.specs.KnownHosts.{IsKnownHost};
+ghost use Rattle.sshkey_files.specs.Answers.{AreOfSomeText, ReadsEntry, YieldsAnswers};
+ghost use Rattle.sshkey_known_hosts.specs.HostEntries.{known_host_of};
+
+use crate::entry::Entry;
+use sshkey_base::Result;
+use sshkey_files::{EntryTexts, entries_of_file};
+use std::alloc::Global;
+use std::fs::Files;
+use std::marker::Model;
+
+/// The entries of a text: one answer for each, in order, which `Entry::from_line` gives.
+///
+/// An entry is a line up to its first `#`, without the white space at its end, where something is
+/// left. A line that is refused ends nothing: the next call answers the entry behind it. The text
+/// is borrowed, and what an entry keeps is copied.
+///
+/// Contracts see the list of the entries that are left.
+#[derive(Drop)]
+pub struct KnownHosts<'a> {
+    alloc: Global,
+    texts: EntryTexts<'a>,
+}
+
+impl<'a> Model for KnownHosts<'a> {
+    ghost Value = { List (List ℕ) };
+
+    ghost view = { λ s. s.texts };
+}
+
+impl<'a> KnownHosts<'a> {
+    /// The entries of a text. Takes no memory.
+    pub fn new(alloc: Global, text: &'a str) -> KnownHosts<'a>
+        ensures { result ≡ entries text.now }
+    {
+        KnownHosts {
+            alloc,
+            texts: EntryTexts::new(text),
+        }
+    }
+}
+
+impl KnownHosts<'_> {
+    /// All entries of the text that a file holds, in order.
+    ///
+    /// `Io` with the machine's fault where the file could not be read, `Io(InvalidData)` where it
+    /// is not UTF-8, and else the refusal of the first line that is no entry.
+    pub fn read_file<R: Files>(rt: &R, alloc: Global, path: &str) -> Result<Vec<Entry>>
+        ensures { IfOk result (AreOfSomeText known_host_of IsKnownHost) }
+    {
+        entries_of_file(rt, alloc, path)
+    }
+}
+
+impl<'a> Iterator for KnownHosts<'a> {
+    type Item = Result<Entry>;
+
+    ghost next_gives = { YieldsAnswers (ReadsEntry known_host_of IsKnownHost) };
+
+    ghost remaining = { item_count (λ left. left) };
+
+    fn next(&mut self) -> Option<Result<Entry>> {
+        let line = self.texts.next()?;
+        Some(Entry::from_line(self.alloc, line))
+    }
+}
