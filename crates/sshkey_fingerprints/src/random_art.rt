@@ -8,7 +8,7 @@ ghost use Rattle.sshkey_fingerprints.specs.RandomArt.{along, bar, next, start, s
 use std::fmt;
 
 /// How many columns the field has.
-pub(crate) const WIDTH: usize = 17;
+const WIDTH: usize = 17;
 
 /// How many rows.
 const HEIGHT: usize = 9;

@@ -2,7 +2,8 @@
 use Rattle.std.specs.Prelude.{◌≡◌, ◌≢◌, ◌⊎◌, ◌<◌, ℕ, List, [], ◌∷◌, ◌++◌, length, get_or, map, codes, Option, None, Some, IfSome, MatchOption}
 use Rattle.std.specs.Str.{IsUtf8}
 use denote.Ref.{Bor}
-use Rattle.sshkey_model.specs.Fingerprints.{fingerprint_text}
+use Rattle.sshkey_model.specs.Fingerprints.{fingerprint, fingerprint_text}
+use Rattle.sshkey_fingerprints.specs.RandomArt.{picture}
 use Rattle.sshkey_model.specs.Certificates.{Certificate}
 use Rattle.sshkey_model.specs.Keys.{Key}
 use Rattle.sshkey_model.specs.Lines.{IsKeyLine, key_line, key_name, IsCertificateLine, name_of_certificate, IsNoLine}
@@ -14,7 +15,7 @@ use Rattle.sshkey_tool.specs.Lines.{line_end, IsCertificateText}
 use Rattle.sshkey_tool.specs.declared.command.Command.{Command}
 use Rattle.sshkey_tool.specs.declared.command.Command.TheVariants as commands
 use Rattle.sshkey_tool.specs.declared.command.KeyCommand.{KeyCommand}
-use Rattle.sshkey_tool.specs.declared.command.KeyCommand.TheVariants.{Fingerprint, Normal}
+use Rattle.sshkey_tool.specs.declared.command.KeyCommand.TheVariants.{Art, Fingerprint, Normal}
 
 -- ---- the rows
 
@@ -25,6 +26,7 @@ texts words = map (λ w. w.now) words
 -- the words that ask for it
 abbrev pub command_words : Command → List (List ℕ)
 command_words (commands.Key Fingerprint) = codes "fingerprint" ∷ []
+command_words (commands.Key (Art header)) = codes "art" ∷ header.now ∷ []
 command_words (commands.Key Normal) = codes "normal" ∷ []
 command_words (commands.Certificate None) = codes "cert" ∷ []
 command_words (commands.Certificate (Some wanted)) = codes "cert" ∷ wanted.now ∷ []
@@ -32,6 +34,7 @@ command_words (commands.Certificate (Some wanted)) = codes "cert" ∷ wanted.now
 -- what is shown of a key and its comment
 abbrev pub key_text : KeyCommand → Key → List ℕ → List ℕ
 key_text Fingerprint k comment = fingerprint_text Sha256 k ++ line_end
+key_text (Art header) k comment = picture header.now Sha256 (fingerprint Sha256 k).digest ++ line_end
 key_text Normal k comment = key_line k comment ++ line_end
 
 -- The bytes are the line that the command asks for, and this text is shown of it.

@@ -6,7 +6,7 @@ ghost use Rattle.std.specs.Prelude.{◌∷◌, []};
 #[derive(Clone, Copy, Debug)]
 pub(crate) enum Command<'w> {
     /// Something about the key in a line.
-    Key(KeyCommand),
+    Key(KeyCommand<'w>),
     /// The fields of the certificate in a line, and whether it allows the principal, if one is
     /// wanted.
     Certificate(Option<&'w str>),
@@ -14,9 +14,11 @@ pub(crate) enum Command<'w> {
 
 /// What is shown of a key.
 #[derive(Clone, Copy, Debug)]
-pub(crate) enum KeyCommand {
+pub(crate) enum KeyCommand<'w> {
     /// Its fingerprint.
     Fingerprint,
+    /// Its fingerprint as a picture under that header.
+    Art(&'w str),
     /// The line as it is written of the key and its comment.
     Normal,
 }
@@ -30,7 +32,7 @@ impl<'w> Command<'w> {
     {
         match words {
             [word] => Command::from_word(word),
-            [word, principal] => Command::from_word_and_principal(word, principal),
+            [word, text] => Command::from_word_and_text(word, text),
             _ => None,
         }
     }
@@ -47,12 +49,13 @@ impl<'w> Command<'w> {
         }
     }
 
-    /// The command of that word and a principal.
-    fn from_word_and_principal(word: &str, principal: &'w str) -> Option<Command<'w>>
-        ensures { FindsCommand (word.now ∷ principal.now ∷ []) result }
+    /// The command of that word and a header or a principal.
+    fn from_word_and_text(word: &str, text: &'w str) -> Option<Command<'w>>
+        ensures { FindsCommand (word.now ∷ text.now ∷ []) result }
     {
         match word {
-            "cert" => Some(Command::Certificate(Some(principal))),
+            "art" => Some(Command::Key(KeyCommand::Art(text))),
+            "cert" => Some(Command::Certificate(Some(text))),
             _ => None,
         }
     }

@@ -63,11 +63,12 @@ fn answer<W: Write>(alloc: Global, outcome: &Result<String, Error>, output: &mut
 /// input is read then. 1 after `refused:` and the reason, where the input is not UTF-8 or is a line
 /// of no key, for `cert` of no certificate; where memory or the input failed; and where the output
 /// failed, which then holds only a beginning of what is shown. Else 0, after the SHA-256 fingerprint
-/// of the key for `fingerprint`, for `normal` after the line that is written of the key and its
-/// comment, and for `cert` after the fields of the certificate, a line each, and where a principal
-/// follows the word, a line that says whether the certificate allows it. Each line has a line end,
-/// and a reason is one line. A key id, a principal and an option stand as they are in the
-/// certificate, line ends and control characters too.
+/// of the key for `fingerprint`, for `art` after its random art under the header that follows the
+/// word, for `normal` after the line that is written of the key and its comment, and for `cert` after
+/// the fields of the certificate, a line each, and where a principal follows the word, a line that
+/// says whether the certificate allows it. Each line has a line end, and a reason is one line. A
+/// header, a key id, a principal and an option stand as they are, line ends and control characters
+/// too.
 ///
 /// What is shown or refused is the table's of all bytes of an input whose reader tells them
 /// (`remaining`); of another input no more is said than that the line is one of the command's. What

@@ -12,13 +12,19 @@ use std::io::Read;
 use std::str;
 
 /// What the command shows of a key with its comment.
-fn shown_of_key(alloc: Global, command: KeyCommand, key: &PublicKey) -> Result<String, Error>
-    ensures { ShowsKey command key.now result }
+fn shown_of_key(alloc: Global, command: KeyCommand<'_>, key: &PublicKey) -> Result<String, Error>
+    ensures { ShowsKey command.entry key.now result }
 {
     match command {
         KeyCommand::Fingerprint => {
             let fingerprint = key.fingerprint(alloc, HashAlg::Sha256)?;
             Ok(format!(in alloc; "{fingerprint}\n")?)
+        }
+        KeyCommand::Art(header) => {
+            let art = key
+                .fingerprint(alloc, HashAlg::Sha256)?
+                .to_randomart(alloc, header)?;
+            Ok(format!(in alloc; "{art}\n")?)
         }
         KeyCommand::Normal => {
             let line = key.to_openssh(alloc)?;
@@ -28,8 +34,8 @@ fn shown_of_key(alloc: Global, command: KeyCommand, key: &PublicKey) -> Result<S
 }
 
 /// The same of the key in a line.
-fn shown_of_key_line(alloc: Global, command: KeyCommand, text: &str) -> Result<String, Error>
-    ensures { ShowsText (commands.Key command) text.now result }
+fn shown_of_key_line(alloc: Global, command: KeyCommand<'_>, text: &str) -> Result<String, Error>
+    ensures { ShowsText (commands.Key command.entry) text.now result }
 {
     let key = PublicKey::from_openssh(alloc, text)?;
     shown_of_key(alloc, command, &key)
