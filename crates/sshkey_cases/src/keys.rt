@@ -48,6 +48,13 @@ pub(crate) fn fingerprints(alloc: Global, bytes: &[u8]) -> Result<String> {
     Ok(format!(in alloc; "{short} {long}")?)
 }
 
+/// The random art of the fingerprint with that text under a header, with `; ` between the lines.
+pub(crate) fn art(alloc: Global, parts: &[Vec<u8>]) -> Result<String> {
+    let fingerprint: Fingerprint = text(parts, 0)?.parse()?;
+    let art = fingerprint.to_randomart(alloc, text(parts, 1)?)?;
+    Ok(art.replace(alloc, '\n', "; ")?)
+}
+
 /// The fingerprint of the key whose algorithm the first byte string names, and whose body the second
 /// one begins with.
 pub(crate) fn named(alloc: Global, parts: &[Vec<u8>]) -> Result<String> {

@@ -5,7 +5,7 @@ use crate::wire::shown;
 use crate::{keys, kinds, names, privates, signatures, wire};
 use sshkey_base::{Algorithm, AlgorithmName, EcdsaCurve, Error, HashAlg, Mpint, Result};
 use sshkey_cert::Certificate;
-use sshkey_keys::{KeyData, Signature};
+use sshkey_keys::{Fingerprint, KeyData, Signature};
 use sshkey_kinds::{
     DsaPublicKey, EcdsaPublicKey, Ed25519PublicKey, OpaquePublicKeyBytes, RsaPublicKey,
     SkEcdsaSha2NistP256, SkEd25519,
@@ -72,6 +72,7 @@ fn answer(alloc: Global, question: &str, parts: &[Vec<u8>]) -> Result<String> {
         "positive" => wire::positive(alloc, bytes),
         "rising-mpints" => wire::rising::<Mpint>(alloc, parts),
         "line" => shown_by_program(alloc, &["fingerprint"], bytes),
+        "line-art" => shown_by_program(alloc, &["art", text(parts, 1)?], bytes),
         "normal" => shown_by_program(alloc, &["normal"], bytes),
         "cert" => certificate_by_program(alloc, parts),
         _ => answer_of_names(alloc, question, parts),
@@ -129,6 +130,8 @@ fn answer_of_keys(alloc: Global, question: &str, parts: &[Vec<u8>]) -> Result<St
         "key-in-front" => wire::kept::<KeyData>(alloc, bytes),
         "kind" => keys::name_and_kind(alloc, bytes),
         "fingerprints" => keys::fingerprints(alloc, bytes),
+        "fingerprint-text" => shown(alloc, text(parts, 0)?.parse::<Fingerprint>()),
+        "art" => keys::art(alloc, parts),
         "body-under" => keys::named(alloc, parts),
         "key-of-parts" => keys::made(alloc, parts),
         "rising-keys" => wire::rising::<KeyData>(alloc, parts),

@@ -93,6 +93,8 @@ fn other_words_are_judged_before_the_input(rt: HostRuntime) {
     assert!(rt; shows_usage(rt.alloc(), &[]));
     assert!(rt; shows_usage(rt.alloc(), &["Fingerprint"]));
     assert!(rt; shows_usage(rt.alloc(), &["fingerprint", "x"]));
+    assert!(rt; shows_usage(rt.alloc(), &["art"]));
+    assert!(rt; shows_usage(rt.alloc(), &["art", "x", "y"]));
 }
 
 /// An input that fails before that byte is refused in these words.
