@@ -1,5 +1,5 @@
 -- What is shown of the text, of the bytes and of the input.
-use Rattle.std.proofs.Common.{◌≡◌, ◌≢◌, ◌<◌, ◌≤◌, inl, inr, ◌⊎◌, ℕ, List, [], ◌∷◌, length, get_or, Bor, Option, None, Some, IfSome, Result, Ok, Err, String, subst, sym, arith, refl}
+use Rattle.std.proofs.Common.{Bool, true, false, ◌≡◌, ◌≢◌, ◌<◌, ◌≤◌, inl, inr, ◌⊎◌, ℕ, List, [], ◌∷◌, length, get_or, Bor, Option, None, Some, IfSome, Result, Ok, Err, String, subst, sym, arith, refl}
 use Rattle.std.specs.Prelude.{string_bytes}
 use Rattle.std.specs.Str.{IsUtf8}
 use Rattle.sshkey_base.specs.Causes.{cause, NoMemory}
@@ -13,12 +13,13 @@ use Rattle.sshkey_model.specs.Parts.{BoxesFit}
 use Rattle.sshkey_model.proofs.NormalKeysFit.{normal_boxes}
 use Rattle.sshkey_public.specs.PublicKeys.{public_of, comment_of}
 use Rattle.sshkey_public.specs.declared.public_key.PublicKey.{PublicKey}
-use Rattle.sshkey_tool.specs.Faults.{IsMachineFault}
-use Rattle.sshkey_tool.specs.Outcomes.{ShowsCertificate, ShowsKey, ShowsText, ShowsBytes, ShowsInput, WritesOutcome}
-use Rattle.sshkey_tool.specs.Table.{Shown, Refused, Asks, FindsCommand, IsOfLine, IsOfNoLine, IsRefused, IsShown, Runs, texts}
+use Rattle.sshkey_tool.specs.Faults.{IsMachineFault, Writes}
+use Rattle.sshkey_tool.specs.Outcomes.{ShowsCertificate, ShowsKey, ShowsText, ShowsLines, ShowsBytes, ShowsInput, WritesOutcome, IsOfText, lines_status}
+use Rattle.sshkey_tool.specs.Table.{Shown, Partly, Refused, Asks, FindsCommand, IsOfNoLine, IsRefused, Runs, texts}
 use Rattle.sshkey_tool.specs.declared.command.Command.{Command}
 use Rattle.sshkey_tool.specs.declared.command.Command.TheVariants as commands
 use Rattle.sshkey_tool.specs.declared.command.KeyCommand.{KeyCommand}
+use Rattle.sshkey_tool.specs.declared.shown_lines.ShownLines.{ShownLines}
 
 -- a refusal says that the machine failed, or what is wrong with the text
 pub refusal : {N : Type 0} (e : Error) → (cause e ≢ NoMemory → N) → IsMachineFault e ⊎ N
@@ -56,18 +57,24 @@ shows_certificate wanted text comment c (Err e) line h = elim h [
   | inr want ↦ inl (subst IsMachineFault (sym want) tt)
 ]
 
-pub text_of_bytes : {Z : Type 0} (c : Command) (text bytes : List ℕ) (r : Result (String Z) Error) → text ≡ bytes → IsUtf8 bytes → ShowsText c text r → ShowsBytes c bytes r
-text_of_bytes c text bytes (Ok s) same utf8 h = (utf8, subst (λ (t : List ℕ). IsOfLine c t (string_bytes s)) same h)
+pub text_of_bytes : (c : Command) (text bytes : List ℕ) (r : Result ShownLines Error) → text ≡ bytes → IsUtf8 bytes → ShowsLines c text r → ShowsBytes c bytes r
+text_of_bytes c text bytes (Ok s) same utf8 h = (utf8, subst (λ (t : List ℕ). IsOfText c s.refused t (string_bytes s.text)) same h)
 text_of_bytes c text bytes (Err e) same utf8 h = elim h [ inl fault ↦ inl fault | inr none ↦ inr (λ _. subst (IsOfNoLine c) same none) ]
 
-pub bytes_of_input : {Z : Type 0} (c : Command) (known : Option (List ℕ)) (bytes : List ℕ) (r : Result (String Z) Error) → IfSome known (λ all. bytes ≡ all) → ShowsBytes c bytes r → ShowsInput c known r
+pub bytes_of_input : (c : Command) (known : Option (List ℕ)) (bytes : List ℕ) (r : Result ShownLines Error) → IfSome known (λ all. bytes ≡ all) → ShowsBytes c bytes r → ShowsInput c known r
 bytes_of_input c None bytes (Ok s) all h = tt
-bytes_of_input c (Some xs) bytes (Ok s) all h = subst (λ (b : List ℕ). IsShown c (string_bytes s) b) all h
+bytes_of_input c (Some xs) bytes (Ok s) all h = subst (λ (b : List ℕ). IsUtf8 b × IsOfText c s.refused b (string_bytes s.text)) all h
 bytes_of_input c None bytes (Err e) all h = elim h [ inl fault ↦ inl fault | inr none ↦ inr tt ]
 bytes_of_input c (Some xs) bytes (Err e) all h = elim h [ inl fault ↦ inl fault | inr none ↦ inr (subst (IsRefused c) all none) ]
 
-pub runs : {Z : Type 0} (words : List (List ℕ)) (c : Command) (input old new : Option (List ℕ)) (status : ℕ) (r : Result (String Z) Error) → Asks words c → ShowsInput c input r → WritesOutcome r old new status → Runs words input old new status
-runs words c input old new status (Ok s) asks h w = elim w [ inl it ↦ inl (Shown (string_bytes s), (c, asks, h), it) | inr fault ↦ inr ((c, asks), fault) ]
+-- lines are an answer, whether one of them says a refusal or none
+answers : (words : List (List ℕ)) (c : Command) (input old new : Option (List ℕ)) (status : ℕ) (text : List ℕ) (refused : Bool) → Asks words c
+    → IfSome input (λ bytes. IsUtf8 bytes × IsOfText c refused bytes text) → Writes old new text (lines_status refused) status → Runs words input old new status
+answers words c input old new status text false asks h w = inl (Shown text, (c, asks, h), w)
+answers words c input old new status text true asks h w = inl (Partly text, (c, asks, h), w)
+
+pub runs : (words : List (List ℕ)) (c : Command) (input old new : Option (List ℕ)) (status : ℕ) (r : Result ShownLines Error) → Asks words c → ShowsInput c input r → WritesOutcome r old new status → Runs words input old new status
+runs words c input old new status (Ok s) asks h w = elim w [ inl it ↦ answers words c input old new status (string_bytes s.text) s.refused asks h it | inr fault ↦ inr ((c, asks), fault) ]
 runs words c input old new status (Err e) asks h w = elim w [
   | inl it ↦ elim h [ inl fault ↦ absurd (it.0 fault) | inr none ↦ inl (Refused it.1.0, (it.1.1, (c, asks, none)), it.1.2) ]
   | inr fault ↦ inr ((c, asks), fault)

@@ -1,4 +1,5 @@
 pub mod Faults
 pub mod Lines
+pub mod EntryLines
 pub mod Table
 pub mod Outcomes

@@ -1,5 +1,5 @@
--- What is shown of a certificate, line by line.
-use Rattle.std.specs.Prelude.{◌≡◌, ◌⊎◌, ◌==◌, ℕ, List, [], ◌∷◌, ◌++◌, map, codes, Option, None, Some, if◌then◌else◌, Result, IfOk, String, string_bytes}
+-- Lines, and what is shown of a certificate, line by line.
+use Rattle.std.specs.Prelude.{◌≡◌, ◌≢◌, ◌⊎◌, ◌<◌, ◌==◌, ℕ, length, get_or, List, [], ◌∷◌, ◌++◌, map, codes, Option, None, Some, if◌then◌else◌, Result, IfOk, String, string_bytes}
 use Rattle.std.specs.Fmt.{decimal}
 use denote.Ref.{Bor}
 use Rattle.sshkey_model.specs.Certificates.{Certificate, CertificateType, User, Host, forever}
@@ -9,6 +9,14 @@ use Rattle.sshkey_model.specs.Principals.{Allows}
 
 abbrev pub line_end : List ℕ
 line_end = 10 ∷ []
+
+-- a text of one line: no byte of it is a line end
+abbrev pub IsOneLine : List ℕ → Type 0
+IsOneLine text = (i : ℕ) → i < length text → get_or text i 0 ≢ 10
+
+-- what says that something is refused, and why
+abbrev pub refusal_line : List ℕ → List ℕ
+refusal_line why = codes "refused: " ++ why
 
 -- each line with its line end
 abbrev pub in_lines : List (List ℕ) → List ℕ

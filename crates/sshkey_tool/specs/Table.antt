@@ -1,5 +1,5 @@
 -- What the program writes, and its status, for each words and each input.
-use Rattle.std.specs.Prelude.{◌≡◌, ◌≢◌, ◌⊎◌, ◌<◌, ℕ, List, [], ◌∷◌, ◌++◌, length, get_or, map, codes, Option, None, Some, IfSome, MatchOption}
+use Rattle.std.specs.Prelude.{◌≡◌, ◌⊎◌, ℕ, List, [], ◌∷◌, ◌++◌, map, codes, Bool, true, false, Option, None, Some, IfSome, MatchOption}
 use Rattle.std.specs.Str.{IsUtf8}
 use denote.Ref.{Bor}
 use Rattle.sshkey_model.specs.Fingerprints.{fingerprint, fingerprint_text}
@@ -9,11 +9,16 @@ use Rattle.sshkey_model.specs.Keys.{Key}
 use Rattle.sshkey_model.specs.Lines.{IsKeyLine, key_line, key_name, IsCertificateLine, name_of_certificate, IsNoLine}
 use Rattle.sshkey_model.specs.Names.{Sha256}
 use Rattle.sshkey_cert.specs.CertificateReaders.{SpellsCertificate}
+use Rattle.sshkey_entries.specs.AuthorizedKeys.{IsAuthorizedKey, authorized_text}
+use Rattle.sshkey_entries.specs.KnownHosts.{IsKnownHost, known_text}
 use Rattle.sshkey_keys.specs.Keys.{SpellsKey}
 use Rattle.sshkey_tool.specs.Faults.{Writes}
-use Rattle.sshkey_tool.specs.Lines.{line_end, IsCertificateText}
+use Rattle.sshkey_tool.specs.EntryLines.{ShowsEntries}
+use Rattle.sshkey_tool.specs.Lines.{line_end, IsCertificateText, IsOneLine, refusal_line}
 use Rattle.sshkey_tool.specs.declared.command.Command.{Command}
 use Rattle.sshkey_tool.specs.declared.command.Command.TheVariants as commands
+use Rattle.sshkey_tool.specs.declared.command.EntryFile.{EntryFile}
+use Rattle.sshkey_tool.specs.declared.command.EntryFile.TheVariants.{AuthorizedKeys, KnownHosts}
 use Rattle.sshkey_tool.specs.declared.command.KeyCommand.{KeyCommand}
 use Rattle.sshkey_tool.specs.declared.command.KeyCommand.TheVariants.{Art, Fingerprint, Normal}
 
@@ -30,6 +35,8 @@ command_words (commands.Key (Art header)) = codes "art" ∷ header.now ∷ []
 command_words (commands.Key Normal) = codes "normal" ∷ []
 command_words (commands.Certificate None) = codes "cert" ∷ []
 command_words (commands.Certificate (Some wanted)) = codes "cert" ∷ wanted.now ∷ []
+command_words (commands.Entries AuthorizedKeys) = codes "keys" ∷ []
+command_words (commands.Entries KnownHosts) = codes "hosts" ∷ []
 
 -- what is shown of a key and its comment
 abbrev pub key_text : KeyCommand → Key → List ℕ → List ℕ
@@ -37,21 +44,37 @@ key_text Fingerprint k comment = fingerprint_text Sha256 k ++ line_end
 key_text (Art header) k comment = picture header.now Sha256 (fingerprint Sha256 k).digest ++ line_end
 key_text Normal k comment = key_line k comment ++ line_end
 
--- The bytes are the line that the command asks for, and this text is shown of it.
+-- The text is shown of the entries of the bytes, and some of them are refused or none.
+abbrev pub ShowsFile : EntryFile → List ℕ → List ℕ → Bool → Type 0
+ShowsFile AuthorizedKeys = ShowsEntries IsAuthorizedKey authorized_text
+ShowsFile KnownHosts = ShowsEntries IsKnownHost known_text
+
+-- The bytes are the line that the command asks for, or a file of its entries, and this text is shown of it.
 abbrev pub IsOfLine : Command → List ℕ → List ℕ → Type 0
 IsOfLine (commands.Key c) bytes text =
     (k : Key) × (comment : List ℕ) × IsKeyLine bytes k comment × (text ≡ key_text c k comment)
 IsOfLine (commands.Certificate wanted) bytes text =
     (c : Certificate) × (comment : List ℕ) × IsCertificateLine bytes c comment × IsCertificateText wanted c text
+IsOfLine (commands.Entries file) bytes text = ShowsFile file bytes text false
 
--- The bytes are no line of what the command asks for.
+-- The bytes are a file of which some entries are refused, and this text is shown of it.
+abbrev pub IsPartly : Command → List ℕ → List ℕ → Type 0
+IsPartly (commands.Entries file) bytes text = ShowsFile file bytes text true
+IsPartly _ bytes text = ⊥
+
+-- The bytes are no line of what the command asks for. Every text is a file.
 abbrev pub IsOfNoLine : Command → List ℕ → Type 0
 IsOfNoLine (commands.Key c) bytes = IsNoLine key_name SpellsKey bytes
 IsOfNoLine (commands.Certificate wanted) bytes = IsNoLine name_of_certificate SpellsCertificate bytes
+IsOfNoLine (commands.Entries file) bytes = ⊥
 
 -- The bytes are the line that is asked for, and the text is what is shown of it.
 abbrev pub IsShown : Command → List ℕ → List ℕ → Type 0
 IsShown c text bytes = IsUtf8 bytes × IsOfLine c bytes text
+
+-- The same of a file of which some entries are refused.
+abbrev pub IsShownPartly : Command → List ℕ → List ℕ → Type 0
+IsShownPartly c text bytes = IsUtf8 bytes × IsPartly c bytes text
 
 -- The bytes are no text, or a line of nothing that is asked for.
 abbrev pub IsRefused : Command → List ℕ → Type 0
@@ -59,23 +82,21 @@ IsRefused c bytes = IsUtf8 bytes → IsOfNoLine c bytes
 
 -- ---- the answers
 
--- How it is used; lines that are shown; or why the input is refused.
+-- How it is used; lines that are shown, of which some may be refusals; or why the input is refused.
 pub data Answer : Type 0 where
   Usage : Answer
-  Shown Refused : List ℕ → Answer
-
--- a text of one line: no byte of it is a line end
-abbrev pub IsOneLine : List ℕ → Type 0
-IsOneLine text = (i : ℕ) → i < length text → get_or text i 0 ≢ 10
+  Shown Partly Refused : List ℕ → Answer
 
 abbrev pub answer_line : Answer → List ℕ
 answer_line Usage = codes "usage: sshkey fingerprint | art <header> | normal | cert [principal] | keys | hosts" ++ line_end
 answer_line (Shown text) = text
-answer_line (Refused why) = codes "refused: " ++ (why ++ line_end)
+answer_line (Partly text) = text
+answer_line (Refused why) = refusal_line why ++ line_end
 
 abbrev pub status_of : Answer → ℕ
 status_of Usage = 2
 status_of (Shown text) = 0
+status_of (Partly text) = 1
 status_of (Refused why) = 1
 
 -- ---- the table
@@ -94,6 +115,7 @@ FindsCommand words found = MatchOption found (IsNoCommand words) (Asks words)
 abbrev pub IsAnswer : List (List ℕ) → Option (List ℕ) → Answer → Type 0
 IsAnswer words input Usage = IsNoCommand words
 IsAnswer words input (Shown text) = (c : Command) × Asks words c × IfSome input (IsShown c text)
+IsAnswer words input (Partly text) = (c : Command) × Asks words c × IfSome input (IsShownPartly c text)
 IsAnswer words input (Refused why) = IsOneLine why × ((c : Command) × Asks words c × IfSome input (IsRefused c))
 
 -- in place of the table's line: there was no memory, or the input could not be read

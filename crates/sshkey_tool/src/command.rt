@@ -10,6 +10,17 @@ pub(crate) enum Command<'w> {
     /// The fields of the certificate in a line, and whether it allows the principal, if one is
     /// wanted.
     Certificate(Option<&'w str>),
+    /// Each entry of a file.
+    Entries(EntryFile),
+}
+
+/// What a file holds entries of.
+#[derive(Clone, Copy, Debug)]
+pub(crate) enum EntryFile {
+    /// Keys that may log in.
+    AuthorizedKeys,
+    /// Keys of hosts.
+    KnownHosts,
 }
 
 /// What is shown of a key.
@@ -45,6 +56,8 @@ impl<'w> Command<'w> {
             "fingerprint" => Some(Command::Key(KeyCommand::Fingerprint)),
             "normal" => Some(Command::Key(KeyCommand::Normal)),
             "cert" => Some(Command::Certificate(None)),
+            "keys" => Some(Command::Entries(EntryFile::AuthorizedKeys)),
+            "hosts" => Some(Command::Entries(EntryFile::KnownHosts)),
             _ => None,
         }
     }

@@ -1,14 +1,16 @@
 //! The program.
 
-ghost use Rattle.std.specs.Prelude.{◌≡◌, IfOk, string_bytes};
-ghost use Rattle.sshkey_tool.specs.Outcomes.{WritesOutcome};
-ghost use Rattle.sshkey_tool.specs.Table.{Runs, IsNoCommand, IsRefusalLine, IsFirstLine, texts};
+ghost use Rattle.std.specs.Prelude.{◌≡◌};
+ghost use Rattle.sshkey_tool.specs.Outcomes.{WritesOutcome, lines_status};
+ghost use Rattle.sshkey_tool.specs.Table.{Runs, IsNoCommand, texts};
 
 use crate::command::Command;
 use crate::output::write_line;
+use crate::refusal::refused_line;
 use crate::shown::shown_of;
+use crate::shown_lines::ShownLines;
 use ssh_key::{Error, encoding};
-use std::alloc::{AllocError, Global};
+use std::alloc::Global;
 use std::io::{Read, Write};
 
 /// How the program is used.
@@ -21,31 +23,19 @@ const OUT_OF_MEMORY: [u8; 23] = *b"refused: out of memory\n";
 /// What is written where the input could not be read.
 const INPUT_FAULT: [u8; 19] = *b"refused: I/O error\n";
 
-/// The text up to its first line end.
-fn first_line(text: &str) -> &str
-    ensures { IsFirstLine text.now result.now }
+/// The status of lines, of which some may say a refusal.
+fn lines_status(refused: bool) -> u8
+    ensures { result ≡ lines_status refused }
 {
-    match text.split_once('\n') {
-        Some((line, _)) => line,
-        None => text,
-    }
-}
-
-/// The line that says why an input is refused: one line, whatever the error's text.
-fn refused_line(alloc: Global, error: &Error) -> Result<String, AllocError>
-    ensures { IfOk result (λ line. IsRefusalLine (string_bytes line)) }
-{
-    let reason = format!(in alloc; "{error}")?;
-    let line = first_line(reason.as_str());
-    format!(in alloc; "refused: {line}\n")
+    if refused { 1 } else { 0 }
 }
 
 /// Writes what is shown of an input, or why nothing is.
-fn answer<W: Write>(alloc: Global, outcome: &Result<String, Error>, output: &mut W) -> u8
+fn answer<W: Write>(alloc: Global, outcome: &Result<ShownLines, Error>, output: &mut W) -> u8
     ensures { WritesOutcome outcome.now (W.contents output.old) (W.contents output.new) result }
 {
     match outcome {
-        Ok(lines) => write_line(output, lines.as_bytes(), 0),
+        Ok(lines) => write_line(output, lines.text.as_bytes(), lines_status(lines.refused)),
         Err(Error::Memory | Error::Encoding(encoding::Error::Memory)) => {
             write_line(output, &OUT_OF_MEMORY, 1)
         }
@@ -66,7 +56,9 @@ fn answer<W: Write>(alloc: Global, outcome: &Result<String, Error>, output: &mut
 /// of the key for `fingerprint`, for `art` after its random art under the header that follows the
 /// word, for `normal` after the line that is written of the key and its comment, and for `cert` after
 /// the fields of the certificate, a line each, and where a principal follows the word, a line that
-/// says whether the certificate allows it. Each line has a line end, and a reason is one line. A
+/// says whether the certificate allows it. For `keys` and `hosts` the text of each entry of the file
+/// is written, or `refused:` and why the entry is none, and the status is 1 if one of them was
+/// refused; all of it is kept in memory first. Each line has a line end, and a reason is one line. A
 /// header, a key id, a principal and an option stand as they are, line ends and control characters
 /// too.
 ///

@@ -1,11 +1,13 @@
 //! What is shown of an input.
 
-ghost use Rattle.sshkey_tool.specs.Outcomes.{ShowsKey, ShowsText, ShowsBytes, ShowsInput};
+ghost use Rattle.sshkey_tool.specs.Outcomes.{ShowsKey, ShowsText, ShowsLines, ShowsBytes, ShowsInput};
 ghost use Rattle.sshkey_tool.specs.declared.command.Command.TheVariants as commands;
 
 use crate::certificate::shown_of_certificate;
 use crate::command::{Command, KeyCommand};
+use crate::entries::shown_of_entries;
 use crate::input::read_all;
+use crate::shown_lines::ShownLines;
 use ssh_key::{Certificate, Error, HashAlg, PublicKey};
 use std::alloc::Global;
 use std::io::Read;
@@ -54,17 +56,24 @@ fn shown_of_certificate_line(
 }
 
 /// What the command shows of a text.
-fn shown_of_text(alloc: Global, command: Command<'_>, text: &str) -> Result<String, Error>
-    ensures { ShowsText command.entry text.now result }
+fn shown_of_text(alloc: Global, command: Command<'_>, text: &str) -> Result<ShownLines, Error>
+    ensures { ShowsLines command.entry text.now result }
 {
     match command {
-        Command::Key(command) => shown_of_key_line(alloc, command, text),
-        Command::Certificate(wanted) => shown_of_certificate_line(alloc, wanted, text),
+        Command::Key(command) => {
+            let line = shown_of_key_line(alloc, command, text)?;
+            Ok(ShownLines::whole(line))
+        }
+        Command::Certificate(wanted) => {
+            let lines = shown_of_certificate_line(alloc, wanted, text)?;
+            Ok(ShownLines::whole(lines))
+        }
+        Command::Entries(file) => shown_of_entries(alloc, file, text),
     }
 }
 
 /// The same of bytes that may be a text.
-fn shown_of_bytes(alloc: Global, command: Command<'_>, bytes: &[u8]) -> Result<String, Error>
+fn shown_of_bytes(alloc: Global, command: Command<'_>, bytes: &[u8]) -> Result<ShownLines, Error>
     ensures { ShowsBytes command.entry bytes.now result }
 {
     let text = str::from_utf8(bytes)?;
@@ -76,7 +85,7 @@ pub(crate) fn shown_of<R: Read>(
     alloc: Global,
     command: Command<'_>,
     input: &mut R,
-) -> Result<String, Error>
+) -> Result<ShownLines, Error>
     ensures { ShowsInput command.entry (R.remaining input.old) result }
 {
     let bytes = read_all(alloc, input)?;

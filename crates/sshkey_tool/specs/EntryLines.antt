@@ -1,0 +1,18 @@
+-- What is shown of the entries of a file, line by line.
+use Rattle.std.specs.Prelude.{◌≡◌, ℕ, List, map, Bool, true, false}
+use Rattle.std.specs.List.{AllZip, list_any}
+use Rattle.sshkey_entries.specs.Entries.{entries}
+use Rattle.sshkey_files.specs.Answers.{IsNoEntry}
+use Rattle.sshkey_tool.specs.Lines.{IsOneLine, in_lines, refusal_line}
+
+-- The text of the entry; or that it is refused, and a reason of one line. The second half says whether it is.
+abbrev pub ShowsEntry : {Y : Type 0} → (List ℕ → Y → Type 0) → (Y → List ℕ) → List ℕ → List ℕ × Bool → Type 0
+ShowsEntry {Y} IsEntry text_of entry (line, false) = (y : Y) × IsEntry entry y × (line ≡ text_of y)
+ShowsEntry IsEntry text_of entry (line, true) = IsNoEntry IsEntry entry × ((why : List ℕ) × IsOneLine why × (line ≡ refusal_line why))
+
+-- A line for each entry of the text, in order, and whether one of them is refused.
+pub record ShowsEntries {Y : Type 0} (IsEntry : List ℕ → Y → Type 0) (text_of : Y → List ℕ) (text shown : List ℕ) (refused : Bool) : Type 0 where
+  pub lines : List (List ℕ × Bool)
+  pub each : AllZip (ShowsEntry IsEntry text_of) (entries text) lines
+  pub is : shown ≡ in_lines (map (λ l. l.0) lines)
+  pub some : refused ≡ list_any (λ l. l.1) lines
