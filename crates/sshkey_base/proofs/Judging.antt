@@ -4,8 +4,9 @@ use Rattle.std.proofs.lemmas.Bool.{not-true, not-false}
 use Rattle.std.specs.Prelude.{bytes_eq}
 use Rattle.sshkey_model.specs.Reading.{Fault, FormatEncoding, ◌>>=◌, Front, checked_at, literal_from}
 use Rattle.sshkey_base.specs.Answers.{AnswersAlways}
-use Rattle.sshkey_base.specs.Causes.{Cause, Faulty}
+use Rattle.sshkey_base.specs.Causes.{Cause, NoMemory, Faulty}
 use Rattle.sshkey_base.specs.Source.{Source}
+use Rattle.sshkey_base.specs.Needs.{Asks}
 use Rattle.sshkey_base.specs.Reading.{Reads, Gives}
 
 pub judged : {A B C X E : Type 0} (first : A → B) (means : X → C) (cause : E → Cause) (read : Front B) (judge : B → Result C Fault) (s t : Source) (x : A) (r : Result X E) → Reads first read s x t → AnswersAlways means cause (judge (first x)) r → Gives means cause (checked_at judge read) s r t
@@ -16,6 +17,12 @@ judged {A} {B} {C} {X} {E} first means cause read judge s t x r h answer = go (j
     go (Ok c) (Err d) e a = absurd a
     go (Err f) (Ok y) e a = absurd a
     go (Err f) (Err d) e a = record { fault = λ _ _. rw (h.value, e) a }
+
+-- a judgement asks for no memory
+pub judged_asks : {A B C X E : Type 0} (first : A → B) (means : X → C) (cause : E → Cause) (needs : List ℕ → Type 0) (read : Front B) (found : Result C Fault) (s t : Source) (x : A) (r : Result X E) → Reads first read s x t → AnswersAlways means cause found r → Asks cause needs s r
+judged_asks first means cause needs read found s t x (Ok y) h a = tt
+judged_asks first means cause needs read (Ok c) s t x (Err d) h a = absurd a
+judged_asks first means cause needs read (Err f) s t x (Err d) h a = λ memory sound. absurd cc
 
 -- ---- one judgement after another
 
