@@ -4,6 +4,7 @@
 #![tactic(auto)]
 
 mod bytes;
+mod entries;
 mod keys;
 mod kinds;
 mod names;

@@ -2,7 +2,7 @@
 
 use crate::bytes::{NO_LINE, part, parts, text};
 use crate::wire::shown;
-use crate::{keys, kinds, names, privates, signatures, wire};
+use crate::{entries, keys, kinds, names, privates, signatures, wire};
 use sshkey_base::{Algorithm, AlgorithmName, EcdsaCurve, Error, HashAlg, Mpint, Result};
 use sshkey_cert::Certificate;
 use sshkey_keys::{Fingerprint, KeyData, Signature};
@@ -156,6 +156,20 @@ fn answer_of_certificates(alloc: Global, question: &str, parts: &[Vec<u8>]) -> R
         "private-key-in-front" => privates::front(alloc, bytes),
         "private-key-with-comment" => privates::commented(alloc, parts),
         "private-key-of-pair" => privates::of_pair(alloc, parts),
+        _ => answer_of_entries(alloc, question, parts),
+    }
+}
+
+fn answer_of_entries(alloc: Global, question: &str, parts: &[Vec<u8>]) -> Result<String> {
+    match question {
+        "keys" => shown_by_program(alloc, &["keys"], part(parts, 0)),
+        "hosts" => shown_by_program(alloc, &["hosts"], part(parts, 0)),
+        "authorized-key" => entries::authorized(alloc, text(parts, 0)?),
+        "strict-keys" => entries::strict(alloc, text(parts, 0)?),
+        "config-options" => entries::options(alloc, text(parts, 0)?),
+        "known-host" => entries::host(alloc, text(parts, 0)?),
+        "host-patterns" => entries::hosts(alloc, text(parts, 0)?),
+        "marker" => entries::marker(alloc, text(parts, 0)?),
         _ => Err(NO_LINE),
     }
 }

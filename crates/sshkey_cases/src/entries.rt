@@ -1,0 +1,97 @@
+//! Questions about entry files and their parts.
+
+use sshkey_authorized_keys::{AuthorizedKeys, ConfigOpts};
+use sshkey_base::{Result, Text};
+use sshkey_known_hosts::{HostPatterns, Marker};
+use sshkey_public::PublicKey;
+use std::alloc::Global;
+
+/// The name of the key's algorithm and its comment, with ` | ` between.
+fn key_parts(alloc: Global, key: &PublicKey) -> Result<String> {
+    let name = key.key_data().algorithm_name();
+    let comment = key.comment();
+    Ok(format!(in alloc; "{name} | {comment}")?)
+}
+
+/// The parts of an entry of authorized_keys, with ` | ` between.
+pub(crate) fn authorized(alloc: Global, line: &str) -> Result<String> {
+    let entry = sshkey_authorized_keys::Entry::from_line(alloc, line)?;
+    let key = key_parts(alloc, entry.public_key())?;
+    let options = entry.config_opts();
+    Ok(format!(in alloc; "{options} | {key}")?)
+}
+
+/// The parts of an entry of known_hosts, with ` | ` between.
+pub(crate) fn host(alloc: Global, line: &str) -> Result<String> {
+    let entry = sshkey_known_hosts::Entry::from_line(alloc, line)?;
+    let key = key_parts(alloc, entry.public_key())?;
+    let hosts = entry.host_patterns().to_string(alloc)?;
+    match entry.marker() {
+        None => Ok(format!(in alloc; "no marker | {hosts} | {key}")?),
+        Some(marker) => Ok(format!(in alloc; "{marker} | {hosts} | {key}")?),
+    }
+}
+
+/// The text of an entry that is read strictly, or why it is refused.
+fn strictly(alloc: Global, entry: Result<sshkey_authorized_keys::Entry>) -> Result<String> {
+    let text = match entry {
+        Ok(entry) => entry.to_string(alloc),
+        Err(error) => Err(error),
+    };
+    match text {
+        Ok(text) => Ok(text),
+        Err(error) => Ok(format!(in alloc; "refused: {error}")?),
+    }
+}
+
+/// The entries of a text that is read strictly, with `; ` between.
+pub(crate) fn strict(alloc: Global, text: &str) -> Result<String> {
+    let mut shown = String::new(alloc);
+    for entry in AuthorizedKeys::strict(alloc, text) {
+        let line = strictly(alloc, entry)?;
+        if !shown.is_empty() {
+            shown.push_str("; ")?;
+        }
+        shown.push_str(&line)?;
+    }
+    Ok(shown)
+}
+
+/// How many items the options have, and the items.
+pub(crate) fn options(alloc: Global, text: &str) -> Result<String> {
+    let options = ConfigOpts::new(alloc, text)?;
+    let mut shown = format!(in alloc; "{}", options.iter().count())?;
+    for item in options.iter() {
+        shown.push_str(" | ")?;
+        shown.push_str(item)?;
+    }
+    Ok(shown)
+}
+
+/// How many patterns there are, and the patterns.
+fn patterns(alloc: Global, patterns: &[Text]) -> Result<String> {
+    let mut shown = format!(in alloc; "{}", patterns.len())?;
+    for pattern in patterns {
+        shown.push_str(" | ")?;
+        shown.push_str(pattern.as_str())?;
+    }
+    Ok(shown)
+}
+
+/// The patterns of hosts, or the salt and the hash in hexadecimal digits.
+pub(crate) fn hosts(alloc: Global, text: &str) -> Result<String> {
+    match HostPatterns::from_text(alloc, text)? {
+        HostPatterns::Patterns(found) => patterns(alloc, &found),
+        HostPatterns::HashedName { salt, hash } => {
+            let salt = hex::encode(alloc, salt.as_slice())?;
+            let hash = hex::encode(alloc, hash)?;
+            Ok(format!(in alloc; "salt {salt}, hash {hash}")?)
+        }
+    }
+}
+
+/// The marker of a text.
+pub(crate) fn marker(alloc: Global, text: &str) -> Result<String> {
+    let marker = text.parse::<Marker>()?;
+    Ok(format!(in alloc; "{marker}")?)
+}

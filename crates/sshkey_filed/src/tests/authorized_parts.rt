@@ -1,0 +1,106 @@
+//! Entries of authorized_keys and their parts.
+
+use sshkey_authorized_keys::{AuthorizedKeys, ConfigOpts, Entry};
+use sshkey_public::PublicKey;
+use std::alloc::Global;
+use std::convert::AsStr;
+
+const LINE: &str =
+    "no-pty ssh-ed25519 AAAAC3NzaC1lZDI1NTE5AAAAILM+rvN+ot98qgEN796jTiQfZfG1KaT0PtFDJ/XFSqti a";
+
+const KEY: &str =
+    "ssh-ed25519 AAAAC3NzaC1lZDI1NTE5AAAAILM+rvN+ot98qgEN796jTiQfZfG1KaT0PtFDJ/XFSqti a";
+
+/// The key is written as that line.
+fn is_key(alloc: Global, key: &PublicKey, line: &str) -> bool {
+    match key.to_openssh(alloc) {
+        Ok(text) => text.as_str() == line,
+        Err(_) => false,
+    }
+}
+
+/// The options of the line become `no-pty`.
+fn gives_options(alloc: Global) -> bool {
+    match Entry::from_line(alloc, LINE) {
+        Ok(entry) => AsStr::as_str(&ConfigOpts::from(entry)) == "no-pty",
+        Err(_) => false,
+    }
+}
+
+/// The key of the line becomes that of the other.
+fn gives_key(alloc: Global) -> bool {
+    match Entry::from_line(alloc, LINE) {
+        Ok(entry) => is_key(alloc, &PublicKey::from(entry), KEY),
+        Err(_) => false,
+    }
+}
+
+/// A copy of the entry equals it.
+fn equals_copy(alloc: Global, entry: &Entry) -> bool {
+    match entry.try_clone(alloc) {
+        Ok(copy) => copy == *entry,
+        Err(_) => false,
+    }
+}
+
+/// The entry of one line equals that of the other.
+fn is_equal(alloc: Global, left: &Entry, line: &str) -> bool {
+    match Entry::from_line(alloc, line) {
+        Ok(right) => *left == right,
+        Err(_) => false,
+    }
+}
+
+/// The entry of the key has no options, and is that of the key's line.
+fn has_no_options(alloc: Global, key: PublicKey) -> bool {
+    let entry = Entry::from_public_key(alloc, key);
+    entry.config_opts().is_empty() && is_equal(alloc, &entry, KEY)
+}
+
+fn key_has_no_options(alloc: Global) -> bool {
+    match PublicKey::from_openssh(alloc, KEY) {
+        Ok(key) => has_no_options(alloc, key),
+        Err(_) => false,
+    }
+}
+
+/// Equal to its copy, and to no entry without options.
+fn is_compared(alloc: Global) -> bool {
+    match Entry::from_line(alloc, LINE) {
+        Ok(entry) => equals_copy(alloc, &entry) && !is_equal(alloc, &entry, KEY),
+        Err(_) => false,
+    }
+}
+
+/// How many lines are read, and how many strictly.
+fn are_counted(alloc: Global, text: &str, read: usize, strictly: usize) -> bool {
+    AuthorizedKeys::new(alloc, text)
+        .filter(|answer| answer.is_ok())
+        .count()
+        == read
+        && AuthorizedKeys::strict(alloc, text)
+            .filter(|answer| answer.is_ok())
+            .count()
+            == strictly
+}
+
+#[test]
+fn an_entry_gives_its_parts(rt: HostRuntime) {
+    assert!(rt; gives_options(rt.alloc()));
+    assert!(rt; gives_key(rt.alloc()));
+}
+
+#[test]
+fn an_entry_of_a_key_has_no_options(rt: HostRuntime) {
+    assert!(rt; key_has_no_options(rt.alloc()));
+}
+
+#[test]
+fn entries_are_compared(rt: HostRuntime) {
+    assert!(rt; is_compared(rt.alloc()));
+}
+
+#[test]
+fn lines_are_answered_one_by_one(rt: HostRuntime) {
+    assert!(rt; are_counted(rt.alloc(), "key\nssh-ed25519 AAAAC3NzaC1lZDI1NTE5AAAAILM+rvN+ot98qgEN796jTiQfZfG1KaT0PtFDJ/XFSqti a\nkey\nc=\"x ssh-ed25519 AAAAC3NzaC1lZDI1NTE5AAAAILM+rvN+ot98qgEN796jTiQfZfG1KaT0PtFDJ/XFSqti y\" z\n", 2, 1));
+}
