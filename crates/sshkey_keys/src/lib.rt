@@ -8,8 +8,8 @@ mod signature;
 mod signing_key;
 mod verify;
 
-pub use sshkey_fingerprints::Fingerprint;
 pub use key_data::KeyData;
 pub use raw_verifier::RawVerifier;
 pub use signature::Signature;
 pub use signing_key::SigningKey;
+pub use sshkey_fingerprints::Fingerprint;

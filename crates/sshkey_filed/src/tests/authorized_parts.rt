@@ -102,5 +102,12 @@ fn entries_are_compared(rt: HostRuntime) {
 
 #[test]
 fn lines_are_answered_one_by_one(rt: HostRuntime) {
-    assert!(rt; are_counted(rt.alloc(), "key\nssh-ed25519 AAAAC3NzaC1lZDI1NTE5AAAAILM+rvN+ot98qgEN796jTiQfZfG1KaT0PtFDJ/XFSqti a\nkey\nc=\"x ssh-ed25519 AAAAC3NzaC1lZDI1NTE5AAAAILM+rvN+ot98qgEN796jTiQfZfG1KaT0PtFDJ/XFSqti y\" z\n", 2, 1));
+    assert!(rt;
+        are_counted(
+            rt.alloc(),
+            "key\nssh-ed25519 AAAAC3NzaC1lZDI1NTE5AAAAILM+rvN+ot98qgEN796jTiQfZfG1KaT0PtFDJ/XFSqti a\nkey\nc=\"x ssh-ed25519 AAAAC3NzaC1lZDI1NTE5AAAAILM+rvN+ot98qgEN796jTiQfZfG1KaT0PtFDJ/XFSqti y\" z\n",
+            2,
+            1
+        )
+    );
 }

@@ -5,7 +5,8 @@ use sshkey_public::PublicKey;
 use std::alloc::Global;
 use std::convert::AsStr;
 
-const LINE: &str = "@revoked a,b ssh-ed25519 AAAAC3NzaC1lZDI1NTE5AAAAILM+rvN+ot98qgEN796jTiQfZfG1KaT0PtFDJ/XFSqti c";
+const LINE: &str =
+    "@revoked a,b ssh-ed25519 AAAAC3NzaC1lZDI1NTE5AAAAILM+rvN+ot98qgEN796jTiQfZfG1KaT0PtFDJ/XFSqti c";
 
 const OTHER: &str =
     "a,b ssh-ed25519 AAAAC3NzaC1lZDI1NTE5AAAAILM+rvN+ot98qgEN796jTiQfZfG1KaT0PtFDJ/XFSqti c";
