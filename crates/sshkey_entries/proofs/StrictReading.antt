@@ -1,5 +1,5 @@
 -- Whether OpenSSH ends the options of a line where they are cut here.
-use Rattle.std.proofs.Common.{◌≡◌, ℕ, ◌+◌, ◌<◌, ◌≤◌, List, [], ◌∷◌, ◌++◌, length, count_by, slice_index, Bool, true, false, not, cond, map-id, sym, ap, subst, ◌∙◌, refl, arith, inl, inr, add-one, add-zero}
+use Rattle.std.proofs.Common.{◌≡◌, ℕ, ◌+◌, ◌<◌, ◌≤◌, List, [], ◌∷◌, ◌++◌, length, count_by, slice_index, Bool, true, false, not, cond, map-id, sym, ap, ◌∙◌, refl, arith, inl, inr, add-one, add-zero}
 use Rattle.std.specs.List.{range_with_len}
 use Rattle.std.proofs.Common.{tests}
 use Rattle.std.proofs.lemmas.List.{length-append, get_or_append_left}
@@ -10,7 +10,7 @@ use Rattle.sshkey_model.specs.Lines.{space}
 use Rattle.sshkey_entries.specs.AuthorizedKeys.{AuthorizedKey, IsAuthorizedKey}
 use Rattle.sshkey_entries.specs.ConfigOptions.{AreOptions, is_option_character}
 use Rattle.sshkey_entries.specs.Items.{is_odd}
-use Rattle.sshkey_entries.specs.StrictReading.{is_blank, is_mark, is_inside, EndsOptions, IsReadStrictly}
+use Rattle.sshkey_entries.specs.StrictReading.{is_blank, is_mark, is_inside, IsReadStrictly}
 use Rattle.sshkey_entries.proofs.OneEntry.{one_entry}
 
 -- ---- places inside quotes

@@ -1,5 +1,5 @@
 -- How a text is cut at commas, outside quotes or wherever they stand.
-use Rattle.std.specs.Prelude.{ℕ, zero, suc, List, [], ◌∷◌, map, take, length, count_by, Bool, true, false, not, ◌&&◌, ◌==◌, if◌then◌else◌}
+use Rattle.std.specs.Prelude.{ℕ, zero, suc, List, [], ◌∷◌, map, take, length, count_by, Bool, false, not, ◌&&◌, ◌==◌, if◌then◌else◌}
 use Rattle.std.specs.List.{slice_split, enumerate_from}
 
 abbrev pub is_comma : ℕ → Bool

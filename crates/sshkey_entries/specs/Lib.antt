@@ -7,3 +7,4 @@ pub mod StrictReading
 pub mod Laws
 pub mod Computed
 pub mod Examples
+pub mod EntryExamples

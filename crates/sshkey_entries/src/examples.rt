@@ -1,6 +1,7 @@
 //! Worked examples of the definitions, on both sides of each edge.
 #![tactic(auto, unfolding(crate::specs::Computed::trim_end, crate::specs::Computed::chars, crate::specs::Computed::encode_utf8, crate::specs::Computed::encode_symbols, crate::specs::Entries::uncommented, crate::specs::Items::is_odd, crate::specs::Items::is_quoted, crate::specs::Items::items, crate::specs::Items::patterns, crate::specs::StrictReading::is_inside))]
 
+ghost use Rattle.sshkey_entries.specs.EntryExamples.{HashedHosts, Marked, Options, Strict};
 ghost use Rattle.sshkey_entries.specs.Examples.{Lines, Cuts, Items, Patterns, Characters, HashedName, Quoted};
 
 /// Lines of a text.
@@ -36,4 +37,24 @@ pub fn hashed_name()
 /// Places inside quotes.
 pub fn quoted()
     ensures { Quoted }
+{}
+
+/// Lines of authorized_keys, with options and without.
+pub fn option_lines()
+    ensures { Options }
+{}
+
+/// Lines whose options end inside quotes, and outside.
+pub fn strict_lines()
+    ensures { Strict }
+{}
+
+/// Lines of known_hosts, with markers and without.
+pub fn marked_lines()
+    ensures { Marked }
+{}
+
+/// Hashed names, and the sizes of their hashes.
+pub fn hashed_hosts()
+    ensures { HashedHosts }
 {}

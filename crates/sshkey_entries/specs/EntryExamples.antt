@@ -1,0 +1,61 @@
+-- Worked examples: entries, over the line of a small RSA key.
+use Rattle.std.specs.Prelude.{◌≡◌, ℕ, List, [], ◌∷◌, ◌++◌, Option, None, Some, codes}
+use Rattle.sshkey_model.specs.HexText.{hex}
+use Rattle.sshkey_model.specs.KeyExamples.{rsa_key}
+use Rattle.sshkey_model.specs.LineExamples.{rsa_line}
+use Rattle.sshkey_entries.specs.AuthorizedKeys.{AuthorizedKey, IsAuthorizedKey, authorized_text}
+use Rattle.sshkey_entries.specs.KnownHosts.{Marker, Revoked, Patterns, HashedName, IsHosts, KnownHost, IsKnownHost, known_text}
+use Rattle.sshkey_entries.specs.StrictReading.{IsReadStrictly}
+
+abbrev pub authorized : List ℕ → List ℕ → AuthorizedKey
+authorized options comment = record { options = options; key = rsa_key; comment = comment }
+
+abbrev pub IsNone : {Y : Type 0} → (List ℕ → Y → Type 0) → List ℕ → Type 0
+IsNone {Y} IsEntry line = (y : Y) → IsEntry line y → ⊥
+
+-- Options need a comment behind the key, or at least a space; without, the line is a key's or nothing.
+abbrev pub Options : Type 0
+Options = IsAuthorizedKey rsa_line (authorized [] [])
+    × IsAuthorizedKey (rsa_line ++ codes " me") (authorized [] (codes "me"))
+    × IsAuthorizedKey (codes "no-pty " ++ rsa_line ++ codes " me") (authorized (codes "no-pty") (codes "me"))
+    × IsAuthorizedKey (codes "no-pty " ++ rsa_line ++ codes " ") (authorized (codes "no-pty") [])
+    × IsNone IsAuthorizedKey (codes "no-pty " ++ rsa_line)
+    × IsNone IsAuthorizedKey (codes "key")
+    × (authorized_text (authorized (codes "no-pty") (codes "me")) ≡ codes "no-pty " ++ rsa_line ++ codes " me")
+    × (authorized_text (authorized [] []) ≡ rsa_line)
+
+-- a key inside quotes, and another that OpenSSH reads
+abbrev pub quoted_line : List ℕ
+quoted_line = codes "c=\"x " ++ rsa_line ++ codes " y\" ssh-rsa B z"
+
+-- The options of the quoted line end inside quotes: it is read, and not strictly.
+abbrev pub Strict : Type 0
+Strict = IsAuthorizedKey quoted_line (authorized (codes "c=\"x") (codes "y\" ssh-rsa B z"))
+    × IsNone IsReadStrictly quoted_line
+    × IsReadStrictly (codes "c=\"x\" " ++ rsa_line ++ codes " me") (authorized (codes "c=\"x\"") (codes "me"))
+    × IsReadStrictly (rsa_line ++ codes " me") (authorized [] (codes "me"))
+
+abbrev pub host : Option Marker → KnownHost
+host m = record { marker = m; hosts = Patterns (codes "h" ∷ []); key = rsa_key; comment = [] }
+
+-- Another marker is none, a marker stands at the front alone, and hosts are some text.
+abbrev pub Marked : Type 0
+Marked = IsKnownHost (codes "h " ++ rsa_line) (host None)
+    × IsKnownHost (codes "@revoked h " ++ rsa_line) (host (Some Revoked))
+    × IsNone IsKnownHost (codes "@gibberish h " ++ rsa_line)
+    × IsNone IsKnownHost (codes "h @revoked " ++ rsa_line)
+    × IsNone IsKnownHost (codes " " ++ rsa_line)
+    × (known_text (host (Some Revoked)) ≡ codes "@revoked h " ++ rsa_line)
+    × (known_text (host None) ≡ codes "h " ++ rsa_line)
+
+abbrev pub salt : List ℕ
+salt = hex "25f29374187bacd6d7915010091a78390a0f7e62"
+
+abbrev pub hash : List ℕ
+hash = hex "512102af74967f52543ec9ace40a9f0f941fc643"
+
+-- A hash has 20 bytes, and hosts are some text.
+abbrev pub HashedHosts : Type 0
+HashedHosts = IsHosts (codes "|1|JfKTdBh7rNbXkVAQCRp4OQoPfmI=|USECr3SWf1JUPsms5AqfD5QfxkM=") (HashedName salt hash)
+    × IsNone IsHosts (codes "|1|AAAA|AAAAAAAAAAAAAAAAAAAAAAAAAA==")
+    × IsNone IsHosts []
