@@ -42,11 +42,7 @@ pub fn entries_of_text<E: FromLine>(alloc: Global, text: &str) -> Result<Vec<E>>
 ///
 /// `Io` with the machine's fault where the file could not be read, `Io(InvalidData)` where it is
 /// not UTF-8, and else the refusals of `entries_of_text`.
-pub fn entries_of_file<R: Files, E: FromLine>(
-    rt: &R,
-    alloc: Global,
-    path: &str,
-) -> Result<Vec<E>>
+pub fn entries_of_file<R: Files, E: FromLine>(rt: &R, alloc: Global, path: &str) -> Result<Vec<E>>
     ensures { IfOk result (AreOfSomeText E.means E.IsEntry) }
 {
     let file = File::open(rt, path)?;
