@@ -1,9 +1,8 @@
 -- When a line is an entry of authorized_keys.
-use Rattle.std.proofs.Common.{◌≡◌, ◌≢◌, ◌⊎◌, ◌<◌, ℕ, List, count_by, None, Some, Result, Ok, Err, Bor, sym, ap, ◌∙◌, subst, arith, inl, inr}
+use Rattle.std.proofs.Common.{◌≡◌, ◌≢◌, ◌⊎◌, ◌<◌, ℕ, List, count_by, None, Some, Result, Ok, Err, Bor, sym, ap, subst, arith, inl, inr}
 use Rattle.std.proofs.lemmas.Str.Pattern.{IsSplitOnceResult, split_after}
 use Rattle.sshkey_base.specs.Causes.{cause, NoMemory}
 use Rattle.sshkey_base.specs.declared.error.Error.{Error}
-use Rattle.sshkey_model.proofs.LineCuts.{IsWithout}
 use Rattle.sshkey_model.specs.Lines.{space, IsKeyLine}
 use Rattle.sshkey_files.specs.Answers.{ReadsEntry}
 use Rattle.sshkey_authorized_keys.specs.AuthorizedEntries.{authorized_key_of}

@@ -1,5 +1,5 @@
 -- When a text is that of hosts.
-use Rattle.std.proofs.Common.{◌≡◌, ◌≢◌, ◌<◌, ℕ, List, [], ◌∷◌, ◌++◌, length, drop, None, Some, Bor, sym, ap, ◌∙◌, refl, arith, ap₂}
+use Rattle.std.proofs.Common.{◌≡◌, ◌≢◌, ◌<◌, ℕ, List, [], ◌∷◌, ◌++◌, length, drop, None, Some, Bor, sym, ap, ◌∙◌, refl, arith}
 use Rattle.std.specs.List.{slice_split, before_first, after_first}
 use Rattle.std.proofs.lemmas.Str.Pattern.{IsSplitOnceResult, split_after, split_parts, split_once_first}
 use Rattle.std.proofs.lemmas.List.Splits.{slice_split_none, slice_split_first, length-slice_split}
@@ -7,7 +7,6 @@ use Rattle.std.proofs.lemmas.List.Elements.{All-from_get_or}
 use Rattle.std.proofs.Common.{ne_eqb, eqb-true, Bool, true, false, ◌==◌}
 use Rattle.base64.specs.Engines.{standard}
 use Rattle.base64.specs.GeneralPurpose.{encode_of, IsBytes}
-use Rattle.sshkey_model.proofs.LineCuts.{IsWithout}
 use Rattle.sshkey_model.proofs.Base64Words.{one_blob}
 use Rattle.sshkey_entries.specs.Items.{patterns, without_empty_last, is_comma}
 use Rattle.sshkey_entries.specs.KnownHosts.{Hosts, HashedName, Patterns, IsHosts, IsHashedName, hashed_mark, hashed_text, bar}

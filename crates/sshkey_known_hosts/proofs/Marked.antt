@@ -1,5 +1,5 @@
 -- When a line is an entry of known_hosts.
-use Rattle.std.proofs.Common.{◌≡◌, ◌≢◌, ℕ, List, ◌∷◌, ◌++◌, drop, slice_index, Option, None, Some, Bor, sym, ap, ◌∙◌, subst, refl, arith}
+use Rattle.std.proofs.Common.{◌≡◌, ◌≢◌, ℕ, List, ◌∷◌, ◌++◌, Option, None, Some, Bor, sym, subst, arith}
 use Rattle.std.proofs.lemmas.Str.Pattern.{IsSplitOnceResult, split_after, split_parts}
 use Rattle.sshkey_base.specs.Causes.{cause, NoMemory}
 use Rattle.sshkey_base.specs.declared.error.Error.{Error}
@@ -7,7 +7,7 @@ use Rattle.sshkey_model.specs.Keys.{Key}
 use Rattle.sshkey_model.specs.Lines.{space, IsKeyLine}
 use Rattle.sshkey_entries.proofs.OneHost.{one_marker}
 use Rattle.sshkey_entries.specs.AuthorizedKeys.{IsNoKeyLine}
-use Rattle.sshkey_entries.specs.KnownHosts.{Marker, CertAuthority, Revoked, marker_text, Hosts, IsHosts, KnownHost, IsMarked, IsKnownHost, at_sign}
+use Rattle.sshkey_entries.specs.KnownHosts.{Marker, Hosts, IsHosts, KnownHost, IsMarked, IsKnownHost}
 
 module _ (entry : List ℕ) (m : Option Marker) (unmarked : List ℕ) (marked : IsMarked m entry unmarked) where
   behind : (h : KnownHost) (k : IsKnownHost entry h) → unmarked ≡ k.hosts_part ++ (space ∷ k.rest)
