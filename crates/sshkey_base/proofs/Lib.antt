@@ -21,5 +21,6 @@ pub mod Judging
 pub mod WrittenLists
 pub mod ReadLists
 pub mod MappedBoxes
+pub mod Measured
 pub mod ShortStrings
 pub mod Comparisons

@@ -13,7 +13,7 @@ use Rattle.sshkey_keypairs.specs.OpaquePairs.{opaque_pair_of}
 use Rattle.sshkey_private.specs.Forms.{has_form}
 use Rattle.sshkey_private.specs.PrivateKeys.{of_pair}
 use Rattle.sshkey_private.specs.Written.{part_of, content_of, fields_written}
-use Rattle.sshkey_public.proofs.Measured.{Has}
+use Rattle.sshkey_base.proofs.Measured.{Has}
 use Rattle.sshkey_private.proofs.KeyForms.{plain_form}
 
 module _ (checkint : ℕ) (comment : List ℕ) (e : EncryptedKey) where
