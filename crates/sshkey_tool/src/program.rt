@@ -31,11 +31,7 @@ fn lines_status(refused: bool) -> u8
 }
 
 /// Writes what is shown of an input, or why nothing is.
-fn answer<W: Write>(
-    alloc: Global,
-    outcome: &Result<ShownLines, Error>,
-    output: &mut W,
-) -> u8
+fn answer<W: Write>(alloc: Global, outcome: &Result<ShownLines, Error>, output: &mut W) -> u8
     ensures { WritesOutcome outcome.now (W.contents output.old) (W.contents output.new) result }
 {
     match outcome {

@@ -67,11 +67,7 @@ fn shown_of_text(alloc: Global, command: Command<'_>, text: &str) -> Result<Show
 }
 
 /// The same of bytes that may be a text.
-fn shown_of_bytes(
-    alloc: Global,
-    command: Command<'_>,
-    bytes: &[u8],
-) -> Result<ShownLines, Error>
+fn shown_of_bytes(alloc: Global, command: Command<'_>, bytes: &[u8]) -> Result<ShownLines, Error>
     ensures { ShowsBytes command.entry bytes.now result }
 {
     let text = str::from_utf8(bytes)?;

@@ -112,7 +112,8 @@ fn entries_are_compared(rt: HostRuntime) {
     assert!(rt; is_compared(rt.alloc()));
 }
 
-const LINES: &str = "key\nssh-ed25519 AAAAC3NzaC1lZDI1NTE5AAAAILM+rvN+ot98qgEN796jTiQfZfG1KaT0PtFDJ/XFSqti a\n#\nkey\nc=\"x ssh-ed25519 AAAAC3NzaC1lZDI1NTE5AAAAILM+rvN+ot98qgEN796jTiQfZfG1KaT0PtFDJ/XFSqti y\" z\n";
+const LINES: &str =
+    "key\nssh-ed25519 AAAAC3NzaC1lZDI1NTE5AAAAILM+rvN+ot98qgEN796jTiQfZfG1KaT0PtFDJ/XFSqti a\n#\nkey\nc=\"x ssh-ed25519 AAAAC3NzaC1lZDI1NTE5AAAAILM+rvN+ot98qgEN796jTiQfZfG1KaT0PtFDJ/XFSqti y\" z\n";
 
 #[test]
 fn lines_are_answered_one_by_one(rt: HostRuntime) {

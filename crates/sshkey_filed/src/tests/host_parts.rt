@@ -5,7 +5,8 @@ use sshkey_public::PublicKey;
 use std::alloc::Global;
 use std::convert::AsStr;
 
-const LINE: &str = "@revoked a,b ssh-ed25519 AAAAC3NzaC1lZDI1NTE5AAAAILM+rvN+ot98qgEN796jTiQfZfG1KaT0PtFDJ/XFSqti c";
+const LINE: &str =
+    "@revoked a,b ssh-ed25519 AAAAC3NzaC1lZDI1NTE5AAAAILM+rvN+ot98qgEN796jTiQfZfG1KaT0PtFDJ/XFSqti c";
 
 const OTHER: &str =
     "a,b ssh-ed25519 AAAAC3NzaC1lZDI1NTE5AAAAILM+rvN+ot98qgEN796jTiQfZfG1KaT0PtFDJ/XFSqti c";
@@ -122,6 +123,7 @@ fn are_read(alloc: Global, text: &str, wanted: &[bool]) -> bool {
 
 #[test]
 fn lines_are_answered_one_by_one(rt: HostRuntime) {
-    let text = "@gibberish h k\n\nh ssh-ed25519 AAAAC3NzaC1lZDI1NTE5AAAAILM+rvN+ot98qgEN796jTiQfZfG1KaT0PtFDJ/XFSqti\nh k";
+    let text =
+        "@gibberish h k\n\nh ssh-ed25519 AAAAC3NzaC1lZDI1NTE5AAAAILM+rvN+ot98qgEN796jTiQfZfG1KaT0PtFDJ/XFSqti\nh k";
     assert!(rt; are_read(rt.alloc(), text, &[false, true, false]));
 }
