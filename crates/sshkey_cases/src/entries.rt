@@ -57,23 +57,29 @@ pub(crate) fn strict(alloc: Global, text: &str) -> Result<String> {
     Ok(shown)
 }
 
-/// How many items the options have, and the items.
+/// Adds an item in brackets.
+fn add_item(shown: &mut String, item: &str) -> Result<()> {
+    shown.push('[')?;
+    shown.push_str(item)?;
+    shown.push(']')?;
+    Ok(())
+}
+
+/// The items of options, each in brackets.
 pub(crate) fn options(alloc: Global, text: &str) -> Result<String> {
     let options = ConfigOpts::new(alloc, text)?;
-    let mut shown = format!(in alloc; "{}", options.iter().count())?;
+    let mut shown = String::new(alloc);
     for item in options.iter() {
-        shown.push_str(" | ")?;
-        shown.push_str(item)?;
+        add_item(&mut shown, item)?;
     }
     Ok(shown)
 }
 
-/// How many patterns there are, and the patterns.
+/// The patterns of hosts, each in brackets.
 fn patterns(alloc: Global, patterns: &[Text]) -> Result<String> {
-    let mut shown = format!(in alloc; "{}", patterns.len())?;
+    let mut shown = String::new(alloc);
     for pattern in patterns {
-        shown.push_str(" | ")?;
-        shown.push_str(pattern.as_str())?;
+        add_item(&mut shown, pattern.as_str())?;
     }
     Ok(shown)
 }

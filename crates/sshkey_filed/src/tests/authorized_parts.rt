@@ -72,16 +72,28 @@ fn is_compared(alloc: Global) -> bool {
     }
 }
 
-/// How many lines are read, and how many strictly.
-fn are_counted(alloc: Global, text: &str, read: usize, strictly: usize) -> bool {
-    AuthorizedKeys::new(alloc, text)
-        .filter(|answer| answer.is_ok())
-        .count()
-        == read
-        && AuthorizedKeys::strict(alloc, text)
-            .filter(|answer| answer.is_ok())
-            .count()
-            == strictly
+/// Which entries of the text are read.
+fn are_read(alloc: Global, text: &str, wanted: &[bool]) -> bool {
+    let mut count: usize = 0;
+    for answer in AuthorizedKeys::new(alloc, text) {
+        if wanted.get(count).copied() != Some(answer.is_ok()) {
+            return false;
+        }
+        count = count.saturating_add(1);
+    }
+    count == wanted.len()
+}
+
+/// Which of them are read strictly.
+fn are_read_strictly(alloc: Global, text: &str, wanted: &[bool]) -> bool {
+    let mut count: usize = 0;
+    for answer in AuthorizedKeys::strict(alloc, text) {
+        if wanted.get(count).copied() != Some(answer.is_ok()) {
+            return false;
+        }
+        count = count.saturating_add(1);
+    }
+    count == wanted.len()
 }
 
 #[test]
@@ -100,14 +112,11 @@ fn entries_are_compared(rt: HostRuntime) {
     assert!(rt; is_compared(rt.alloc()));
 }
 
+const LINES: &str =
+    "key\nssh-ed25519 AAAAC3NzaC1lZDI1NTE5AAAAILM+rvN+ot98qgEN796jTiQfZfG1KaT0PtFDJ/XFSqti a\n#\nkey\nc=\"x ssh-ed25519 AAAAC3NzaC1lZDI1NTE5AAAAILM+rvN+ot98qgEN796jTiQfZfG1KaT0PtFDJ/XFSqti y\" z\n";
+
 #[test]
 fn lines_are_answered_one_by_one(rt: HostRuntime) {
-    assert!(rt;
-        are_counted(
-            rt.alloc(),
-            "key\nssh-ed25519 AAAAC3NzaC1lZDI1NTE5AAAAILM+rvN+ot98qgEN796jTiQfZfG1KaT0PtFDJ/XFSqti a\nkey\nc=\"x ssh-ed25519 AAAAC3NzaC1lZDI1NTE5AAAAILM+rvN+ot98qgEN796jTiQfZfG1KaT0PtFDJ/XFSqti y\" z\n",
-            2,
-            1
-        )
-    );
+    assert!(rt; are_read(rt.alloc(), LINES, &[false, true, false, true]));
+    assert!(rt; are_read_strictly(rt.alloc(), LINES, &[false, true, false, false]));
 }
