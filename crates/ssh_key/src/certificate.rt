@@ -3,4 +3,5 @@
 pub use sshkey_base::certificate::Field;
 pub use sshkey_builder::Builder;
 pub use sshkey_cert::Certificate;
-pub use sshkey_options::{CertType, FOREVER, MAX_SECS, OptionsMap, UnixTime};
+pub use sshkey_options::{CertType, EndTime, FOREVER, MAX_SECS, OptionsMap, UnixTime};
+pub use sshkey_unsigned::Unsigned;

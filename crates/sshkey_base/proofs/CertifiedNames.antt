@@ -16,7 +16,8 @@ use Rattle.sshkey_base.specs.Labels.{label_at}
 use Rattle.sshkey_base.specs.Reading.{Reads, IsRefused}
 use Rattle.sshkey_base.specs.Source.{Source}
 use Rattle.sshkey_base.proofs.Labels.{text_refused}
-use Rattle.sshkey_base.specs.AlgorithmName.{HasCertificateName}
+use Rattle.sshkey_base.specs.AlgorithmName.{HasCertificateName, JudgesCertified}
+use Rattle.sshkey_base.specs.Answers.{Judges}
 use Rattle.sshkey_base.proofs.AtSigns.{cut-at, cut-suffixed}
 use Rattle.sshkey_base.proofs.CertificateTypes.{parts_of, are_parts, are_ascii-append, certificate_name-cut}
 
@@ -87,6 +88,10 @@ unknown_is t (Err fault) none is = ap (λ (f : Fault). Err f) is
 
 pub certified_unknown : (t : List ℕ) → named certificate_name certified t ≡ None → ((n : List ℕ) → is_own_name n ≡ true → certificate_name (Other n) ≢ t) → certified_from t ≡ Err Label
 certified_unknown t fresh none = unknown_is t (certified_from t) none (certified_is t fresh)
+
+pub certified_judged : {E : Type 0} (cause : E → Cause) (t : List ℕ) (r : Result (Unit {0}) E) → named certificate_name certified t ≡ None → JudgesCertified cause t r → Judges cause (certified_from t) r
+certified_judged cause t (Ok x) fresh h = rw (certified_other t h.0 fresh h.1) refl
+certified_judged cause t (Err e) fresh h = rw (certified_unknown t fresh h.none) h.label
 
 -- ---- names in certificates as labels
 

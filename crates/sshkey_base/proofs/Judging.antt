@@ -4,7 +4,7 @@ use Rattle.std.proofs.lemmas.Bool.{not-true, not-false}
 use Rattle.std.specs.Prelude.{bytes_eq}
 use Rattle.sshkey_model.specs.Reading.{Fault, FormatEncoding, ◌>>=◌, Front, checked_at, literal_from}
 use Rattle.sshkey_base.specs.Answers.{AnswersAlways}
-use Rattle.sshkey_base.specs.Causes.{Cause, NoMemory, Faulty}
+use Rattle.sshkey_base.specs.Causes.{Cause, Faulty}
 use Rattle.sshkey_base.specs.Source.{Source}
 use Rattle.sshkey_base.specs.Needs.{Asks}
 use Rattle.sshkey_base.specs.Reading.{Reads, Gives}

@@ -10,7 +10,7 @@ use Rattle.sshkey_base.specs.Causes.{Cause, NoMemory, cause}
 use Rattle.sshkey_base.specs.Labels.{LooksUp}
 use Rattle.sshkey_base.specs.declared.encoding.Error as narrow
 use Rattle.sshkey_base.specs.declared.encoding.Error.TheVariants as encoding
-use Rattle.sshkey_base.specs.Answers.{IsUnknown, Names}
+use Rattle.sshkey_base.specs.Answers.{IsUnknown, Judges, Names}
 use Rattle.sshkey_base.specs.AlgorithmName.{own_name_from}
 
 -- a text that differs from each name of a table
@@ -68,3 +68,12 @@ looked_up means t e (Ok x) is none met = absurd is
 looked_up means t e (Err x) is none met = λ some.
     let unknown = met (λ memory. some (is ∙ memory)) in
     (unknown_from t none unknown.0, is ∙ unknown.1)
+
+-- ---- calls that only judge
+
+pub own_judged : {E : Type 0} (cause : E → Cause) (t : List ℕ) (r : Result (Unit {0}) E) → named algorithm_name algorithms t ≡ None → Judges cause (own_name_from t) r → Judges cause (algorithm_from t) r
+own_judged cause t r none h =
+    elim (chosen (is_own_name t) (Ok t) (Err Label) (own_name_from t) refl) [
+      | inl yes_ ↦ let own = sym yes_.1 in rw (other_from t t none own) (rw own at h)
+      | inr no_ ↦ let own = sym no_.1 in rw (unknown_from t none own) (rw own at h)
+    ]

@@ -29,6 +29,11 @@ abbrev pub NamesCertified : {E : Type 0} → (E → Cause) → List ℕ → Resu
 NamesCertified cause t (Ok n) = HasCertificateName t n
 NamesCertified cause t (Err e) = cause e ≢ NoMemory → IsNoCertificateName t (cause e)
 
+-- The text is the name of some name in a certificate, or of none and the error says so.
+abbrev pub JudgesCertified : {E : Type 0} → (E → Cause) → List ℕ → Result (Unit {0}) E → Type 0
+JudgesCertified cause t (Ok _) = (n : List ℕ) × HasCertificateName t n
+JudgesCertified cause t (Err e) = IsNoCertificateName t (cause e)
+
 -- The text was cut at its first at sign, if it has one.
 abbrev pub IsCutOf : List ℕ → Option (Bor (List ℕ) × Bor (List ℕ)) → Type 0
 IsCutOf t None = cut t ≡ None
@@ -42,6 +47,11 @@ pub record AreParts (t l r : List ℕ) : Type 0 where
 -- What stands before the first at sign of a name, and behind it.
 abbrev pub are_own_parts : List ℕ → List ℕ → Bool
 are_own_parts l r = are_ascii l && are_ascii r && nat_lt (length l + length r) 64 && is_split (Some (l, r))
+
+-- What stands before and behind the at sign of the name that has this name in a certificate, if one has.
+abbrev pub AreCertifiedParts : List ℕ → Option (Bor (List ℕ) × Bor (List ℕ)) → Type 0
+AreCertifiedParts t None = IsNoCertificateType t
+AreCertifiedParts t (Some p) = HasCertificateName t (p.0.now ++ at_sign ∷ p.1.now)
 
 abbrev pub IsWithoutSuffix : List ℕ → Option (Bor (List ℕ) × Bor (List ℕ)) → Type 0
 IsWithoutSuffix t None = (l r : List ℕ) → AreParts t l r → ⊥

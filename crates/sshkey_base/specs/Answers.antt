@@ -1,5 +1,5 @@
 -- What a call answers that judges all that it is given, or finds what a text names.
-use Rattle.std.specs.Prelude.{◌≡◌, Result, Ok, Err, IsOkAnd, IsErrAnd, MatchResult, ◌≢◌}
+use Rattle.std.specs.Prelude.{◌≡◌, Result, Ok, Err, IsOkAnd, IsErrAnd, MatchResult, ◌≢◌, IsOk}
 use Rattle.sshkey_model.specs.Reading.{Fault, Label}
 use Rattle.sshkey_base.specs.Causes.{Cause, NoMemory, Faulty}
 
@@ -12,6 +12,11 @@ Answers means cause (Err fault) r = IsErrAnd r (λ e. cause e ≡ Faulty fault)
 abbrev pub AnswersAlways : {X Y E : Type 0} → (X → Y) → (E → Cause) → Result Y Fault → Result X E → Type 0
 AnswersAlways means cause (Ok y) r = IsOkAnd r (λ x. means x ≡ y)
 AnswersAlways means cause (Err fault) r = IsErrAnd r (λ e. cause e ≡ Faulty fault)
+
+-- The same of a call that only judges.
+abbrev pub Judges : {Y E : Type 0} → (E → Cause) → Result Y Fault → Result (Unit {0}) E → Type 0
+Judges cause (Ok y) r = IsOk r
+Judges cause (Err fault) r = IsErrAnd r (λ e. cause e ≡ Faulty fault)
 
 -- ---- names
 

@@ -8,7 +8,7 @@ ghost use Rattle.sshkey_base.specs.Causes.{cause};
 ghost use Rattle.sshkey_base.specs.Names.{IsFixed, is_ecdsa, is_rsa, algorithm_of};
 ghost use Rattle.sshkey_base.specs.LabelLaws.{algorithm_checks, algorithm_ascii, algorithm_refusals};
 ghost use Rattle.sshkey_base.specs.Labels.{LooksUp};
-ghost use Rattle.sshkey_base.specs.Answers.{Names};
+ghost use Rattle.sshkey_base.specs.Answers.{Judges, Names};
 ghost use Rattle.sshkey_base.specs.declared.encoding.Error.TheVariants as encoding;
 
 mod certificate_type;
@@ -68,6 +68,24 @@ impl Algorithm {
         match fixed(name) {
             Some(algorithm) => Ok(algorithm),
             None => Ok(Algorithm::Other(AlgorithmName::new(alloc, name)?)),
+        }
+    }
+
+    /// The algorithm with that fixed name; `None` for any other text. Takes no memory.
+    pub fn fixed(name: &str) -> Option<Algorithm>
+        ensures { option_map algorithm_of result ≡ named algorithm_name algorithms name.now }
+    {
+        fixed(name)
+    }
+
+    /// Whether it is the name of an algorithm: Ok exactly where `new` with enough memory is, else
+    /// `Label`. Takes no memory.
+    pub fn check(name: &str) -> Result<()>
+        ensures { Judges cause (algorithm_from name.now) result }
+    {
+        match fixed(name) {
+            Some(_) => Ok(()),
+            None => AlgorithmName::check(name),
         }
     }
 

@@ -34,9 +34,21 @@ pub struct Mpint {
 
 impl Mpint {
     ghost use Rattle.sshkey_model.specs.Mpints.{mpint_from, positive_part};
-    ghost use Rattle.sshkey_base.specs.Answers.{Answers, AnswersAlways};
+    ghost use Rattle.sshkey_base.specs.Answers.{Answers, AnswersAlways, Judges};
     ghost use Rattle.sshkey_base.specs.Causes.{cause};
     ghost use Rattle.sshkey_base.specs.Mpint.{mpint_of};
+
+    /// Whether the bytes are those of a number, in two's complement: Ok exactly where `from_bytes`
+    /// with enough memory is, else `FormatEncoding`. Takes no memory.
+    pub fn check(bytes: &[u8]) -> Result<()>
+        ensures { Judges cause (mpint_from bytes.now) result }
+    {
+        if is_mpint(bytes) {
+            Ok(())
+        } else {
+            Err(Error::FormatEncoding)
+        }
+    }
 
     /// The number that has these bytes, in two's complement.
     ///

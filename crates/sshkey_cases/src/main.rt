@@ -11,6 +11,7 @@ mod names;
 mod privates;
 mod questions;
 mod signatures;
+mod slices;
 mod wire;
 
 use std::io::{self, BufRead, BufReader, Write};

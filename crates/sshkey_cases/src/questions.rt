@@ -2,7 +2,7 @@
 
 use crate::bytes::{NO_LINE, part, parts, text};
 use crate::wire::shown;
-use crate::{entries, keys, kinds, names, privates, signatures, wire};
+use crate::{entries, keys, kinds, names, privates, signatures, slices, wire};
 use sshkey_base::{Algorithm, AlgorithmName, EcdsaCurve, Error, HashAlg, Mpint, Result};
 use sshkey_cert::Certificate;
 use sshkey_keys::{Fingerprint, KeyData, Signature};
@@ -140,6 +140,19 @@ fn answer_of_keys(alloc: Global, question: &str, parts: &[Vec<u8>]) -> Result<St
         "signature-of-bytes" => signatures::made(alloc, parts),
         "ssh-signature" => wire::whole::<SshSig>(alloc, bytes),
         "rising-signatures" => wire::rising::<Signature>(alloc, parts),
+        _ => answer_of_slices(alloc, question, parts),
+    }
+}
+
+fn answer_of_slices(alloc: Global, question: &str, parts: &[Vec<u8>]) -> Result<String> {
+    let bytes = part(parts, 0);
+    match question {
+        "key-slice" => slices::key(alloc, bytes),
+        "fingerprints-slice" => slices::fingerprints(alloc, bytes),
+        "signature-slice" => slices::signature(alloc, bytes),
+        "body-slice" => slices::body(alloc, parts),
+        "texts-slice" => slices::texts(alloc, bytes),
+        "options-slice" => slices::options(alloc, bytes),
         _ => answer_of_certificates(alloc, question, parts),
     }
 }

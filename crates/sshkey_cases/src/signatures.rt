@@ -17,7 +17,7 @@ pub(crate) fn front(alloc: Global, bytes: &[u8]) -> Result<String> {
 
 /// The name of the algorithm, how many bytes are the signature's own, and whether the bytes begin
 /// with what is written of it.
-fn shown(alloc: Global, signature: &Signature, bytes: &[u8]) -> Result<String> {
+pub(crate) fn shown(alloc: Global, signature: &Signature, bytes: &[u8]) -> Result<String> {
     let written = signature.to_bytes(alloc)?;
     let own = signature.as_bytes();
     let is_same = bytes.starts_with(&written) && written.ends_with(own);

@@ -1,84 +1,32 @@
 -- The worked examples of entries hold.
-use Rattle.std.proofs.Common.{◌≡◌, ◌≢◌, ℕ, zero, suc, ◌<◌, ◌≤◌, Bool, true, false, not, eqb, ◌&&◌, List, [], ◌∷◌, ◌++◌, length, drop, count_by, Option, None, Some, Result, Ok, Err, inl, inr, refl, sym, ap, subst, ◌∙◌, arith, append-nil, eq-eqb}
+use Rattle.std.proofs.Common.{◌≡◌, ◌≢◌, ℕ, ◌<◌, ◌≤◌, true, List, [], ◌∷◌, ◌++◌, length, drop, count_by, Option, None, Some, inl, inr, refl, sym, ap, subst, ◌∙◌, arith, append-nil}
 use Rattle.std.specs.Prelude.{codes, slice_index}
 use Rattle.std.specs.Str.{trim_end, is_utf8, chars}
 use Rattle.std.specs.Char.{encode_utf8}
-use Rattle.std.proofs.lemmas.Bool.{and_parts}
 use Rattle.base64.specs.Rfc4648.{encode_symbols}
 use Rattle.base64.specs.Decode.{groups_error, scan_steps}
 use Rattle.base64.specs.Engines.{standard}
-use Rattle.base64.specs.GeneralPurpose.{encode_of, decode_of}
-use Rattle.base64.specs.declared.decode.DecodeError.{DecodeError}
-use Rattle.base64.proofs.EngineFacts.{decode_of-encode_of}
-use Rattle.sshkey_model.specs.Grammar.{SpellsWith}
+use Rattle.base64.specs.GeneralPurpose.{encode_of}
 use Rattle.sshkey_model.specs.HexText.{hex}
-use Rattle.sshkey_model.specs.Keys.{IsKey, HasKeyPlaces, key}
 use Rattle.sshkey_model.specs.KeyExamples.{rsa_key}
 use Rattle.sshkey_model.specs.LineExamples.{rsa_word, rsa_line}
 use Rattle.sshkey_model.specs.Parts.{flat}
-use Rattle.sshkey_model.specs.Lines.{space, after_space, joined, is_word_character, HasWordCharacters, key_name, IsKeyLine}
+use Rattle.sshkey_model.specs.Lines.{space, joined, IsKeyLine}
 use Rattle.sshkey_model.proofs.Base64Words.{one_blob}
-use Rattle.sshkey_model.proofs.Blobs.{key_blobs}
 use Rattle.sshkey_model.proofs.CombinedReaders.{bytes_fit}
-use Rattle.sshkey_model.proofs.LineCuts.{IsWithout, IsCut, one_front, seam_space, without_space}
+use Rattle.sshkey_model.proofs.LineCuts.{one_front}
 use Rattle.sshkey_model.proofs.LineExamples.{line_ends}
-use Rattle.sshkey_model.proofs.Lines.{no_blob, no_cut}
+use Rattle.sshkey_model.proofs.LineTests.{all_characters, each, lacks, cut, no_base64, one_word, no_character}
 use Rattle.sshkey_entries.specs.AuthorizedKeys.{IsNoKeyLine, IsAuthorizedKey, HasOptions, is_space}
 use Rattle.sshkey_entries.specs.ConfigOptions.{is_option_character}
 use Rattle.sshkey_entries.specs.EntryExamples.{Options, Strict, Marked, HashedHosts, authorized, host, hash, salt, IsNone, quoted_line}
 use Rattle.sshkey_entries.specs.Items.{is_odd, patterns}
 use Rattle.sshkey_entries.specs.KnownHosts.{Marker, CertAuthority, Revoked, Hosts, HashedName, Patterns, IsHosts, IsMarked, IsKnownHost, at_sign, bar}
 use Rattle.sshkey_entries.specs.StrictReading.{is_inside}
-use Rattle.sshkey_entries.proofs.Fronts as fronts
 use Rattle.sshkey_entries.proofs.OneHost.{bar_not}
 use Rattle.sshkey_entries.proofs.StrictReading.{plain, not_plain}
 
--- ---- tests of texts
-
-abbrev all_characters : (ℕ → Bool) → List ℕ → Bool
-all_characters p [] = true
-all_characters p (c ∷ cs) = p c && all_characters p cs
-
-each : (p : ℕ → Bool) (text : List ℕ) → all_characters p text ≡ true → (i : ℕ) → i < length text → p (slice_index text i) ≡ true
-each p [] e i lt = absurd (omega arith)
-each p (c ∷ cs) e zero lt = (and_parts (p c) (all_characters p cs) e).0
-each p (c ∷ cs) e (suc i) lt = each p cs (and_parts (p c) (all_characters p cs) e).1 i (omega arith)
-
-lacks : (other : ℕ) (text : List ℕ) → all_characters (λ c. not (eqb c other)) text ≡ true → IsWithout other text
-lacks other text e = λ i lt h. cc (sym (ap (λ (c : ℕ). not (eqb c other)) h ∙ itself other) ∙ each (λ c. not (eqb c other)) text e i lt)
-  where
-    itself : (c : ℕ) → not (eqb c c) ≡ false
-    itself c = ap not (eq-eqb c c refl)
-
-abbrev is_other : ℕ → Bool
-is_other c = not (eqb c space)
-
-without : (text : List ℕ) → all_characters is_other text ≡ true → IsWithout space text
-without = lacks space
-
--- ---- lines of a key, and of none
-
-abbrev fails : Result (List ℕ) DecodeError → Bool
-fails (Ok b) = false
-fails (Err e) = true
-
-cut : (text f w m : List ℕ) → trim_end text ≡ joined f w m → 0 < length f → 0 < length w → all_characters is_word_character f ≡ true → all_characters is_other w ≡ true → IsCut text f w m
-cut text f w m e some_first some_word first word = record { is = e; some_first = some_first; some_word = some_word; characters = each is_word_character f first; one_word = without w word }
-
--- its second word is not Base64
-no_base64 : (text f w m : List ℕ) → IsCut text f w m → fails (decode_of standard w) ≡ true → IsNoKeyLine text
-no_base64 text f w m parts e = no_blob key_name (SpellsWith IsKey HasKeyPlaces key) key_blobs text f w m parts (λ blob fits word. cc (sym e ∙ ap fails (ap (decode_of standard) word ∙ decode_of-encode_of standard blob refl fits)))
-
--- it has no space
-one_word : (text : List ℕ) → all_characters is_other (trim_end text) ≡ true → IsNoKeyLine text
-one_word text e = no_cut key_name (SpellsWith IsKey HasKeyPlaces key) text (λ f w m parts. seam_space (trim_end text) f (w ++ after_space m) (without (trim_end text) e) parts.is)
-
--- its first word has a character that none has
-no_character : (text first rest : List ℕ) (i : ℕ) → all_characters is_other first ≡ true → trim_end text ≡ first ++ (space ∷ rest) → i < length first → is_word_character (slice_index first i) ≡ false → IsNoKeyLine text
-no_character text first rest i clean e lt other = no_cut key_name (SpellsWith IsKey HasKeyPlaces key) text (λ f w m parts.
-    let front = one_front f first (w ++ after_space m) rest (without_space f parts.characters) (without first clean) (sym parts.is ∙ e) in
-    let named : is_word_character (slice_index first i) ≡ true = subst HasWordCharacters front.0 parts.characters i lt in
-    cc (sym other ∙ named))
+-- ---- lines of a key
 
 -- the key with another comment
 with_comment : (text m : List ℕ) → is_utf8 text ≡ true → trim_end text ≡ joined (codes "ssh-rsa") rsa_word m → IsKeyLine text rsa_key m
@@ -146,7 +94,7 @@ known m entry is = record {
   hosts_part = codes "h";
   rest = rsa_line;
   is = is;
-  one_word = without (codes "h") refl;
+  one_word = lacks space (codes "h") refl;
   hosts = record {
     some = omega arith;
     not_hashed = λ r. let first : 0x68 ≡ 0x7c = ap (λ (l : List ℕ). slice_index l 0) r.1 in absurd (omega (arith, first));
@@ -176,13 +124,13 @@ unmarked (Some Revoked) text rest other is = absurd (other (ap (λ (l : List ℕ
 no_late_marker : IsNone IsKnownHost (codes "h @revoked " ++ rsa_line)
 unfolding is_utf8 trim_end chars encode_utf8 groups_error scan_steps
 no_late_marker h k =
-    let front = one_front (codes "h") k.hosts_part (codes "@revoked " ++ rsa_line) k.rest (without (codes "h") refl) k.one_word (unmarked h.marker _ _ (λ e. cc e) k.is) in
+    let front = one_front space (codes "h") k.hosts_part (codes "@revoked " ++ rsa_line) k.rest (lacks space (codes "h") refl) k.one_word (unmarked h.marker _ _ (λ e. cc e) k.is) in
     let none : IsNoKeyLine (codes "@revoked " ++ rsa_line) = no_base64 _ (codes "@revoked") (codes "ssh-rsa") rsa_word (cut _ _ _ _ refl (omega arith) (omega arith) refl refl) refl in
     none h.key h.comment (subst (λ (l : List ℕ). IsKeyLine l h.key h.comment) (sym front.1) k.line)
 
 no_empty_hosts : IsNone IsKnownHost (codes " " ++ rsa_line)
 no_empty_hosts h k =
-    let front = one_front [] k.hosts_part rsa_line k.rest (λ i lt. absurd (omega arith)) k.one_word (unmarked h.marker _ _ (λ e. cc e) k.is) in
+    let front = one_front space [] k.hosts_part rsa_line k.rest (λ i lt. absurd (omega arith)) k.one_word (unmarked h.marker _ _ (λ e. cc e) k.is) in
     no_hosts h.hosts (subst (λ (l : List ℕ). IsHosts l h.hosts) (sym front.0) k.hosts)
 
 pub marked : Marked
@@ -206,7 +154,7 @@ no_short_hash : (h : Hosts) → IsHosts (codes "|1|AAAA|AAAAAAAAAAAAAAAAAAAAAAAA
 unfolding encode_symbols
 no_short_hash (Patterns ps) is = is.not_hashed (codes "AAAA|AAAAAAAAAAAAAAAAAAAAAAAAAA==", refl)
 no_short_hash (HashedName s h) is =
-    let words = fronts.one_front bar (codes "AAAA") (encode_of standard s) (codes "AAAAAAAAAAAAAAAAAAAAAAAAAA==") (encode_of standard h) (lacks bar (codes "AAAA") refl) (bar_not s) (ap (drop 3) is.is) in
+    let words = one_front bar (codes "AAAA") (encode_of standard s) (codes "AAAAAAAAAAAAAAAAAAAAAAAAAA==") (encode_of standard h) (lacks bar (codes "AAAA") refl) (bar_not s) (ap (drop 3) is.is) in
     let short : encode_of standard short_hash ≡ codes "AAAAAAAAAAAAAAAAAAAAAAAAAA==" = refl in
     let same : h ≡ short_hash = one_blob h short_hash is.hash_bytes (bytes_fit short_hash refl) (sym (short ∙ words.1)) in
     omega (arith, ap length same, is.hash_len)

@@ -1,5 +1,3 @@
-pub mod Fronts
-pub mod Base64Words
 pub mod OneEntry
 pub mod OneHost
 pub mod StrictReading

@@ -5,12 +5,11 @@ use Rattle.sshkey_model.specs.Grammar.{SpellsWith}
 use Rattle.sshkey_model.specs.Keys.{Key, IsKey, HasKeyPlaces, key}
 use Rattle.sshkey_model.specs.Lines.{space, key_name, IsKeyLine}
 use Rattle.sshkey_model.proofs.Blobs.{key_blobs}
-use Rattle.sshkey_model.proofs.LineCuts.{IsWithout}
+use Rattle.sshkey_model.proofs.LineCuts.{IsWithout, one_front}
 use Rattle.sshkey_model.proofs.Lines.{one_line}
 use Rattle.sshkey_entries.specs.AuthorizedKeys.{AuthorizedKey, IsAuthorizedKey, IsWithoutOptions, HasOptions}
 use Rattle.sshkey_entries.specs.ConfigOptions.{AreOptions, is_option_character}
 use Rattle.sshkey_entries.specs.StrictReading.{EndsOptions, IsReadStrictly}
-use Rattle.sshkey_entries.proofs.Fronts.{one_front}
 
 -- options hold no space
 pub no_space : (options : List ℕ) → AreOptions options → IsWithout space options

@@ -3,16 +3,14 @@ use Rattle.std.proofs.Common.{◌≡◌, ℕ, List, ◌∷◌, ◌++◌, drop, s
 use Rattle.base64.specs.Engines.{standard}
 use Rattle.base64.specs.GeneralPurpose.{encode_of}
 use Rattle.sshkey_model.specs.Lines.{space, IsKeyLine}
-use Rattle.sshkey_model.proofs.Base64Words.{one_blob}
-use Rattle.sshkey_model.proofs.LineCuts.{IsWithout}
+use Rattle.sshkey_model.proofs.Base64Words.{one_blob, word_lacks}
+use Rattle.sshkey_model.proofs.LineCuts.{IsWithout, one_front}
 use Rattle.sshkey_entries.specs.KnownHosts.{Marker, CertAuthority, Revoked, marker_text, Hosts, HashedName, Patterns, IsHosts, KnownHost, IsMarked, IsKnownHost, at_sign, bar}
-use Rattle.sshkey_entries.proofs.Base64Words.{word_lacks}
-use Rattle.sshkey_entries.proofs.Fronts.{one_front}
 use Rattle.sshkey_entries.proofs.OneEntry.{one_key_line}
 
 -- a word in Base64 holds no bar
 pub bar_not : (b : List ℕ) → IsWithout bar (encode_of standard b)
-bar_not = word_lacks bar (λ e. cc e) (λ e. cc e) refl
+bar_not = word_lacks bar refl refl refl
 
 pub one_hosts : (text : List ℕ) (x y : Hosts) → IsHosts text x → IsHosts text y → x ≡ y
 one_hosts text (Patterns ps) (Patterns qs) a b = ap Patterns (a.are ∙ sym b.are)

@@ -7,7 +7,7 @@ use Rattle.sshkey_model.specs.Parts.{are_bytes, number, flat}
 use Rattle.sshkey_model.specs.Reading.{Fault, Length, bytes_at, number_at, string_at}
 use Rattle.sshkey_model.proofs.CombinedReaders.{number_reads, wide32}
 
-are_front : (a b : List ℕ) → are_bytes (a ++ b) ≡ true → are_bytes a ≡ true
+pub are_front : (a b : List ℕ) → are_bytes (a ++ b) ≡ true → are_bytes a ≡ true
 are_front [] b e = refl
 are_front (x ∷ a) b e = let p = and_parts (ltb x 256) (are_bytes (a ++ b)) e in rw (p.0, are_front a b p.1) refl
 

@@ -10,6 +10,6 @@ mod verify;
 
 pub use key_data::KeyData;
 pub use raw_verifier::RawVerifier;
-pub use signature::Signature;
+pub use signature::{Signature, check_string, has_trailer};
 pub use signing_key::SigningKey;
 pub use sshkey_fingerprints::Fingerprint;

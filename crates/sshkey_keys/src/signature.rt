@@ -11,6 +11,7 @@ mod wire;
 
 use form::check_blob;
 pub(crate) use form::split_trailer;
+pub use form::{check_string, has_trailer};
 use sshkey_base::{Algorithm, Bytes, Result};
 
 /// A signature: its algorithm, and the bytes that are well-formed for it (RFC 4253, section 6.6).

@@ -1,5 +1,5 @@
 -- A word in Base64 is ASCII without white space, and is that of one blob.
-use Rattle.std.proofs.Common.{◌≡◌, ℕ, zero, suc, ◌<◌, ◌+◌, ◌*◌, ◌/◌, ◌%◌, List, [], ◌∷◌, length, sym, ap, ◌∙◌, refl, arith, slice_index, Result, Ok, true, Bool, not, ◌&&◌, replicate}
+use Rattle.std.proofs.Common.{◌≡◌, ℕ, zero, suc, ◌<◌, ◌+◌, ◌*◌, ◌/◌, ◌%◌, List, [], ◌∷◌, length, sym, ap, ◌∙◌, refl, arith, slice_index, Result, Ok, true, Bool, not, eqb, ◌&&◌, replicate, eq-eqb}
 use Rattle.std.specs.List.{All}
 use Rattle.std.proofs.lemmas.Bool.{and_parts}
 use Rattle.std.proofs.lemmas.List.{length-append}
@@ -15,6 +15,50 @@ use Rattle.sshkey_model.proofs.LineCuts.{IsWithout}
 use Rattle.std.specs.Prelude.{nat_lt}
 use Rattle.std.specs.Char.{is_whitespace}
 
+-- a character of the table, or the padding
+module _ (is_good : ℕ → Bool) where
+  abbrev Good : ℕ → Type 0
+  Good c = is_good c ≡ true
+
+  -- each symbol of a table
+  abbrev Symbols : List ℕ → Type 0
+  Symbols t = (i : ℕ) → Good (slice_index t i)
+
+  good_one : (t : List ℕ) (i : ℕ) → Symbols t → All Good (slice_index t i ∷ [])
+  good_one t i h = All-cons Good (slice_index t i) [] (h i) (All-nil Good)
+
+  good_two : (t : List ℕ) (i j : ℕ) → Symbols t → All Good (slice_index t i ∷ slice_index t j ∷ [])
+  good_two t i j h = All-cons Good (slice_index t i) (slice_index t j ∷ []) (h i) (good_one t j h)
+
+  good_three : (t : List ℕ) (i j k : ℕ) → Symbols t → All Good (slice_index t i ∷ slice_index t j ∷ slice_index t k ∷ [])
+  good_three t i j k h = All-cons Good (slice_index t i) (slice_index t j ∷ slice_index t k ∷ []) (h i) (good_two t j k h)
+
+  good_four : (t : List ℕ) (i j k l : ℕ) → Symbols t → All Good (slice_index t i ∷ slice_index t j ∷ slice_index t k ∷ slice_index t l ∷ [])
+  good_four t i j k l h = All-cons Good (slice_index t i) (slice_index t j ∷ slice_index t k ∷ slice_index t l ∷ []) (h i) (good_three t j k l h)
+
+  symbols_good : (t m : List ℕ) → Symbols t → All Good (encode_symbols t m)
+  unfolding encode_symbols
+  symbols_good t [] h = All-nil Good
+  symbols_good t (a ∷ []) h = good_two t (a / 4) (a % 4 * 16) h
+  symbols_good t (a ∷ b ∷ []) h = good_three t (a / 4) (a % 4 * 16 + b / 16) (b % 16 * 4) h
+  symbols_good t (a ∷ b ∷ c ∷ rest) h =
+      All-append Good (encode_group t a b c) (encode_symbols t rest)
+      (good_four t (a / 4) (a % 4 * 16 + b / 16) (b % 16 * 4 + c / 64) (c % 64) h)
+      (symbols_good t rest h)
+
+  abbrev are_good : List ℕ → Bool
+  are_good [] = true
+  are_good (c ∷ cs) = is_good c && are_good cs
+
+  -- beyond the table the index gives 0
+  each_good : (t : List ℕ) → is_good 0 ≡ true → are_good t ≡ true → Symbols t
+  each_good [] beyond e i = beyond
+  each_good (c ∷ cs) beyond e zero = (and_parts (is_good c) (are_good cs) e).0
+  each_good (c ∷ cs) beyond e (suc i) = each_good cs beyond (and_parts (is_good c) (are_good cs) e).1 i
+
+  word_good : is_good 0 ≡ true → is_good 61 ≡ true → are_good standard.encode_table ≡ true → (b : List ℕ) → All Good (encode_of standard b)
+  word_good beyond padding table b = All-append Good (encode_symbols standard.encode_table b) (replicate (padding_len (length b)) 61) (symbols_good standard.encode_table b (each_good standard.encode_table beyond table)) (All-replicate Good (padding_len (length b)) 61 padding)
+
 -- ASCII, and no white space
 abbrev pub is_dark : ℕ → Bool
 is_dark c = nat_lt c 0x80 && not (is_whitespace c)
@@ -22,53 +66,18 @@ is_dark c = nat_lt c 0x80 && not (is_whitespace c)
 abbrev pub IsDark : ℕ → Type 0
 IsDark c = is_dark c ≡ true
 
--- each symbol of a table
-abbrev Symbols : List ℕ → Type 0
-Symbols t = (i : ℕ) → IsDark (slice_index t i)
-
-dark_one : (t : List ℕ) (i : ℕ) → Symbols t → All IsDark (slice_index t i ∷ [])
-dark_one t i h = All-cons IsDark (slice_index t i) [] (h i) (All-nil IsDark)
-
-dark_two : (t : List ℕ) (i j : ℕ) → Symbols t → All IsDark (slice_index t i ∷ slice_index t j ∷ [])
-dark_two t i j h = All-cons IsDark (slice_index t i) (slice_index t j ∷ []) (h i) (dark_one t j h)
-
-dark_three : (t : List ℕ) (i j k : ℕ) → Symbols t → All IsDark (slice_index t i ∷ slice_index t j ∷ slice_index t k ∷ [])
-dark_three t i j k h = All-cons IsDark (slice_index t i) (slice_index t j ∷ slice_index t k ∷ []) (h i) (dark_two t j k h)
-
-dark_four : (t : List ℕ) (i j k l : ℕ) → Symbols t → All IsDark (slice_index t i ∷ slice_index t j ∷ slice_index t k ∷ slice_index t l ∷ [])
-dark_four t i j k l h = All-cons IsDark (slice_index t i) (slice_index t j ∷ slice_index t k ∷ slice_index t l ∷ []) (h i) (dark_three t j k l h)
-
-symbols_dark : (t m : List ℕ) → Symbols t → All IsDark (encode_symbols t m)
-unfolding encode_symbols
-symbols_dark t [] h = All-nil IsDark
-symbols_dark t (a ∷ []) h = dark_two t (a / 4) (a % 4 * 16) h
-symbols_dark t (a ∷ b ∷ []) h = dark_three t (a / 4) (a % 4 * 16 + b / 16) (b % 16 * 4) h
-symbols_dark t (a ∷ b ∷ c ∷ rest) h =
-    All-append IsDark (encode_group t a b c) (encode_symbols t rest)
-    (dark_four t (a / 4) (a % 4 * 16 + b / 16) (b % 16 * 4 + c / 64) (c % 64) h)
-    (symbols_dark t rest h)
-
-abbrev are_dark : List ℕ → Bool
-are_dark [] = true
-are_dark (c ∷ cs) = is_dark c && are_dark cs
-
--- beyond the table the index gives 0, which is no white space
-each_dark : (t : List ℕ) → are_dark t ≡ true → Symbols t
-each_dark [] e i = refl
-each_dark (c ∷ cs) e zero = (and_parts (is_dark c) (are_dark cs) e).0
-each_dark (c ∷ cs) e (suc i) = each_dark cs (and_parts (is_dark c) (are_dark cs) e).1 i
-
-table_dark : Symbols standard.encode_table
-table_dark = each_dark standard.encode_table refl
-
 pub word_dark : (b : List ℕ) → All IsDark (encode_of standard b)
-word_dark b = All-append IsDark (encode_symbols standard.encode_table b) (replicate (padding_len (length b)) 61) (symbols_dark standard.encode_table b table_dark) padding
-  where
-    padding : All IsDark (replicate (padding_len (length b)) 61)
-    padding = All-replicate IsDark (padding_len (length b)) 61 refl
+word_dark = word_good is_dark refl refl refl
+
+-- a character that is neither 0, nor a symbol, nor the padding stands in no word
+abbrev pub is_other_than : ℕ → ℕ → Bool
+is_other_than other c = not (eqb c other)
+
+pub word_lacks : (other : ℕ) → is_other_than other 0 ≡ true → is_other_than other 61 ≡ true → are_good (is_other_than other) standard.encode_table ≡ true → (b : List ℕ) → IsWithout other (encode_of standard b)
+word_lacks other beyond padding table b = λ i lt e. cc (sym (All-get_or (Good (is_other_than other)) (encode_of standard b) i 0 lt (word_good (is_other_than other) beyond padding table b)) ∙ ap not (eq-eqb _ other e))
 
 pub word_not : (b : List ℕ) → IsWithout space (encode_of standard b)
-word_not b = λ i lt e. cc (sym (ap is_dark e) ∙ All-get_or IsDark (encode_of standard b) i 0 lt (word_dark b))
+word_not = word_lacks space refl refl refl
 
 pub some_word : (b : List ℕ) → 0 < length b → 0 < length (encode_of standard b)
 some_word b some = omega (arith, length-append (encode_symbols standard.encode_table b) (replicate (padding_len (length b)) 61), length-encode_symbols standard.encode_table b)

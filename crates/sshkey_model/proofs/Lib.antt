@@ -23,6 +23,7 @@ pub mod Lines
 pub mod Blobs
 pub mod WrittenLines
 pub mod LinesApart
+pub mod LineTests
 pub mod LineExamples
 pub mod PrivateExamples
 pub mod NormalKeysFit

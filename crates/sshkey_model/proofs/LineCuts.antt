@@ -30,25 +30,25 @@ seam_space text xs ys h e =
 later : (c b : ℕ) (bs : List ℕ) → IsWithout c (b ∷ bs) → IsWithout c bs
 later c b bs h = λ i lt. h (suc i) (omega arith)
 
--- what stands before the first space, and behind it
-pub one_front : (a b x y : List ℕ) → IsWithout space a → IsWithout space b → a ++ (space ∷ x) ≡ b ++ (space ∷ y) → (a ≡ b) × (x ≡ y)
-one_front [] [] x y _ _ e = (refl, cc e)
-one_front [] (b ∷ bs) x y _ without e = let here : b ≡ space = cc e in absurd (without 0 (omega arith) here)
-one_front (a ∷ as') [] x y without _ e = let here : a ≡ space = cc e in absurd (without 0 (omega arith) here)
-one_front (a ∷ as') (b ∷ bs) x y h k e =
+-- what stands before the first such character, and behind it
+pub one_front : (c : ℕ) (a b x y : List ℕ) → IsWithout c a → IsWithout c b → a ++ (c ∷ x) ≡ b ++ (c ∷ y) → (a ≡ b) × (x ≡ y)
+one_front c [] [] x y _ _ e = (refl, cc e)
+one_front c [] (b ∷ bs) x y _ without e = let here : b ≡ c = cc e in absurd (without 0 (omega arith) here)
+one_front c (a ∷ as') [] x y without _ e = let here : a ≡ c = cc e in absurd (without 0 (omega arith) here)
+one_front c (a ∷ as') (b ∷ bs) x y h k e =
     let here : a ≡ b = cc e in
-    let rest : as' ++ (space ∷ x) ≡ bs ++ (space ∷ y) = cc e in
-    let more = one_front as' bs x y (later space a as' h) (later space b bs k) rest in
-    (ap (λ (c : ℕ). c ∷ as') here ∙ ap (λ (l : List ℕ). b ∷ l) more.0, more.1)
+    let rest : as' ++ (c ∷ x) ≡ bs ++ (c ∷ y) = cc e in
+    let more = one_front c as' bs x y (later c a as' h) (later c b bs k) rest in
+    (ap (λ (d : ℕ). d ∷ as') here ∙ ap (λ (l : List ℕ). b ∷ l) more.0, more.1)
 
 one_word : (a b x y : List ℕ) → IsWithout space a → IsWithout space b → a ++ after_space x ≡ b ++ after_space y → (a ≡ b) × (x ≡ y)
 one_word a b [] [] h k e = (sym (append-nil a) ∙ e ∙ append-nil b, refl)
 one_word a b [] (c ∷ y) h k e = absurd (seam_space a b (c ∷ y) h (sym (append-nil a) ∙ e))
 one_word a b (c ∷ x) [] h k e = absurd (seam_space b a (c ∷ x) k (sym (append-nil b) ∙ sym e))
-one_word a b (c ∷ x) (d ∷ y) h k e = one_front a b (c ∷ x) (d ∷ y) h k e
+one_word a b (c ∷ x) (d ∷ y) h k e = one_front space a b (c ∷ x) (d ∷ y) h k e
 
 pub one_cut : (text f w m first word comment : List ℕ) → IsCut text f w m → IsCut text first word comment → (f ≡ first) × (w ≡ word) × (m ≡ comment)
 one_cut text f w m first word comment a b =
-    let front = one_front f first (w ++ after_space m) (word ++ after_space comment) (without_space f a.characters) (without_space first b.characters) (sym a.is ∙ b.is) in
+    let front = one_front space f first (w ++ after_space m) (word ++ after_space comment) (without_space f a.characters) (without_space first b.characters) (sym a.is ∙ b.is) in
     let back = one_word w word m comment a.one_word b.one_word front.1 in
     (front.0, back.0, back.1)

@@ -1,54 +1,28 @@
 -- The worked examples of lines hold.
-use Rattle.std.proofs.Common.{◌≡◌, ℕ, zero, suc, ◌<◌, Bool, true, false, not, eqb, ◌&&◌, List, [], ◌∷◌, ◌++◌, length, get_or, Result, Ok, Err, refl, sym, ap, ◌∙◌, subst, arith, append-nil}
+use Rattle.std.proofs.Common.{◌≡◌, ℕ, ◌<◌, true, false, not, List, [], ◌∷◌, ◌++◌, length, get_or, Ok, refl, sym, ap, ◌∙◌, arith, append-nil}
 use Rattle.std.specs.Prelude.{codes}
 use Rattle.std.specs.Str.{trim_end, is_utf8, chars}
 use Rattle.std.specs.Char.{encode_utf8}
-use Rattle.std.proofs.lemmas.Bool.{and_parts}
 use Rattle.base64.specs.Rfc4648.{encode_symbols}
 use Rattle.base64.specs.Decode.{groups_error, scan_steps}
 use Rattle.base64.specs.Engines.{standard}
-use Rattle.base64.specs.GeneralPurpose.{encode_of, decode_of}
-use Rattle.base64.specs.declared.decode.DecodeError.{DecodeError}
-use Rattle.base64.proofs.EngineFacts.{decode_of-encode_of}
+use Rattle.base64.specs.GeneralPurpose.{encode_of}
 use Rattle.sshkey_model.specs.HexText.{hex}
 use Rattle.sshkey_model.specs.Parts.{flat}
 use Rattle.sshkey_model.specs.Reading.{string_at, number_at, bytes_at}
-use Rattle.sshkey_model.specs.Grammar.{SpellsWith}
 use Rattle.sshkey_model.specs.Names.{named, algorithm_at}
 use Rattle.sshkey_model.specs.Mpints.{mpint_at}
-use Rattle.sshkey_model.specs.Keys.{Key, Head, Plain, Head256, IsKey, HasKeyPlaces, key, rsa_at, key_at}
-use Rattle.sshkey_model.specs.Lines.{space, after_space, joined, is_word_character, HasWordCharacters, key_name, IsKeyLine}
+use Rattle.sshkey_model.specs.Keys.{Key, Head, Plain, Head256, key, rsa_at, key_at}
+use Rattle.sshkey_model.specs.Lines.{space, after_space, joined, key_name, IsKeyLine}
 use Rattle.sshkey_model.specs.KeyExamples.{rsa_key, rsa_bytes, rsa_256_bytes}
 use Rattle.sshkey_model.specs.LineExamples.{IsNoKeyLine, rsa_word, rsa_line, padded_key, LineEnds, NoTexts, Spaces, LastBits, FirstWords}
 use Rattle.sshkey_model.proofs.CombinedReaders.{bytes_fit}
 use Rattle.sshkey_model.proofs.KeyReaders.{key_reads}
-use Rattle.sshkey_model.proofs.LineCuts.{IsWithout, IsCut, one_front, without_space, seam_space}
-use Rattle.sshkey_model.proofs.Lines.{no_cut, no_blob, other_first}
+use Rattle.sshkey_model.proofs.LineCuts.{IsWithout, IsCut, one_front, without_space}
+use Rattle.sshkey_model.proofs.Lines.{no_cut, other_first}
 use Rattle.sshkey_model.proofs.Lines as lines
 use Rattle.sshkey_model.proofs.Blobs.{key_blobs}
-
-abbrev SpellsKey : Key → List ℕ → Type 0
-SpellsKey = SpellsWith IsKey HasKeyPlaces key
-
--- ---- tests of words
-
-abbrev all_characters : List ℕ → Bool
-all_characters [] = true
-all_characters (c ∷ cs) = is_word_character c && all_characters cs
-
-characters : (word : List ℕ) → all_characters word ≡ true → HasWordCharacters word
-characters [] e i lt = absurd (omega arith)
-characters (c ∷ cs) e zero lt = (and_parts (is_word_character c) (all_characters cs) e).0
-characters (c ∷ cs) e (suc i) lt = characters cs (and_parts (is_word_character c) (all_characters cs) e).1 i (omega arith)
-
-abbrev no_space : List ℕ → Bool
-no_space [] = true
-no_space (c ∷ cs) = not (eqb c space) && no_space cs
-
-without : (word : List ℕ) → no_space word ≡ true → IsWithout space word
-without [] e i lt = absurd (omega arith)
-without (c ∷ cs) e zero lt = λ h. cc (sym (ap (λ (x : ℕ). not (eqb x space) && no_space cs) h) ∙ e)
-without (c ∷ cs) e (suc i) lt = without cs (and_parts (not (eqb c space)) (no_space cs) e).1 i (omega arith)
+use Rattle.sshkey_model.proofs.LineTests.{SpellsKey, all_characters, lacks, is_no_space, cut, no_base64, one_word, no_character}
 
 -- ---- what is a line, and what is none
 
@@ -58,9 +32,6 @@ spells blob k h e =
     let t = key_reads.takes blob (k, h) [] e in
     record { is = t.0.is; choices = h; place = t.0.place; fits = t.1; shape = t.2 ∙ append-nil (flat (key k h)) }
 
-cut : (text f w m : List ℕ) → trim_end text ≡ joined f w m → 0 < length f → 0 < length w → all_characters f ≡ true → no_space w ≡ true → IsCut text f w m
-cut text f w m e some_first some_word first word = record { is = e; some_first = some_first; some_word = some_word; characters = characters f first; one_word = without w word }
-
 -- the line of a key
 is_key : (text w m blob : List ℕ) (k : Key) → is_utf8 text ≡ true → IsCut text (key_name k) w m → w ≡ encode_of standard blob → SpellsKey k blob → IsKeyLine text k m
 is_key text w m blob k utf8 parts word spelled = lines.is_line key_name SpellsKey key_blobs text (key_name k) w m blob k utf8 parts word spelled refl
@@ -69,26 +40,11 @@ is_key text w m blob k utf8 parts word spelled = lines.is_line key_name SpellsKe
 no_text : (text : List ℕ) → is_utf8 text ≡ false → IsNoKeyLine text
 no_text text e k m line = cc (sym e ∙ line.line.utf8)
 
-abbrev Decoded : Type 0
-Decoded = Result (List ℕ) DecodeError
-
-abbrev fails : Decoded → Bool
-fails (Ok b) = false
-fails (Err e) = true
-
--- not Base64
-no_base64 : (text f w m : List ℕ) → IsCut text f w m → fails (decode_of standard w) ≡ true → IsNoKeyLine text
-no_base64 text f w m parts e = no_blob key_name SpellsKey key_blobs text f w m parts (λ blob fits word. cc (sym e ∙ ap fails (ap (decode_of standard) word ∙ decode_of-encode_of standard blob refl fits)))
-
 -- another first word
 other_word : (text f w m blob : List ℕ) (k : Key) → IsCut text f w m → w ≡ encode_of standard blob → SpellsKey k blob → (f ≡ key_name k → ⊥) → IsNoKeyLine text
 other_word text f w m blob k parts word spelled other = other_first key_name SpellsKey key_blobs text f w m blob k parts word (bytes_fit blob (key_blobs.bytes k blob spelled)) spelled other
 
 -- ---- words that are missing
-
--- no space
-one_word : (text : List ℕ) → no_space (trim_end text) ≡ true → IsNoKeyLine text
-one_word text e = no_cut key_name SpellsKey text (λ f w m parts. seam_space (trim_end text) f (w ++ after_space m) (without (trim_end text) e) parts.is)
 
 -- a space in front of a word
 spaced : (w rest : List ℕ) → 0 < length w → IsWithout space w → (after : List ℕ) → w ++ after ≡ space ∷ rest → ⊥
@@ -98,9 +54,9 @@ spaced (c ∷ cs) rest some h after e = h 0 (omega arith) (let first : c ≡ spa
 leading : (text rest : List ℕ) → trim_end text ≡ space ∷ rest → IsNoKeyLine text
 leading text rest e = no_cut key_name SpellsKey text (λ f w m parts. spaced f rest parts.some_first (without_space f parts.characters) (space ∷ (w ++ after_space m)) (sym parts.is ∙ e))
 
-doubled : (text first rest : List ℕ) → no_space first ≡ true → trim_end text ≡ first ++ (space ∷ (space ∷ rest)) → IsNoKeyLine text
+doubled : (text first rest : List ℕ) → all_characters is_no_space first ≡ true → trim_end text ≡ first ++ (space ∷ (space ∷ rest)) → IsNoKeyLine text
 doubled text first rest clean e = no_cut key_name SpellsKey text (λ f w m parts.
-    let front = one_front f first (w ++ after_space m) (space ∷ rest) (without_space f parts.characters) (without first clean) (sym parts.is ∙ e) in
+    let front = one_front space f first (w ++ after_space m) (space ∷ rest) (without_space f parts.characters) (lacks space first clean) (sym parts.is ∙ e) in
     spaced w rest parts.some_word parts.one_word (after_space m) front.1)
 
 -- ---- the examples
@@ -168,13 +124,6 @@ last_bits = (
 
 abbrev hashed_word : List ℕ
 hashed_word = codes "AAAADHJzYS1zaGEyLTI1NgAAAAMBAAEAAAACAP8="
-
--- the first word has a character that none has
-no_character : (text first rest : List ℕ) (i : ℕ) → no_space first ≡ true → trim_end text ≡ first ++ (space ∷ rest) → i < length first → is_word_character (get_or first i 0) ≡ false → IsNoKeyLine text
-no_character text first rest i clean e lt other = no_cut key_name SpellsKey text (λ f w m parts.
-    let front = one_front f first (w ++ after_space m) rest (without_space f parts.characters) (without first clean) (sym parts.is ∙ e) in
-    let named_ : is_word_character (get_or first i 0) ≡ true = subst HasWordCharacters front.0 parts.characters i lt in
-    cc (sym other ∙ named_))
 
 pub first_words : FirstWords
 unfolding is_utf8 trim_end chars encode_utf8 encode_symbols

@@ -1,12 +1,12 @@
 -- Options are read as they are spelled.
 use Rattle.std.proofs.Common.{◌≡◌, ℕ, ◌<◌, Option, Some, None, true, List, [], ◌∷◌, length, Result, Ok, refl, ap, subst, ◌∙◌, arith}
 use Rattle.std.proofs.lemmas.Str.{is_utf8-from_IsUtf8, IsUtf8-nil}
-use Rattle.sshkey_model.specs.Parts.{Parts, box, ◌&◌, each, flat, Fits, InRange, BoxesFit}
-use Rattle.sshkey_model.specs.Reading.{Fault, FormatEncoding, ◌>>=◌, whole, IsChain}
+use Rattle.sshkey_model.specs.Parts.{Parts, ◌&◌, each, flat, Fits, InRange, BoxesFit}
+use Rattle.sshkey_model.specs.Reading.{Fault, FormatEncoding, ◌>>=◌, whole, checked_whole, list_whole, IsChain}
 use Rattle.sshkey_model.specs.Grammar.{IsSpelled, spelled}
 use Rattle.sshkey_model.specs.Texts.{string, IsText, text_at}
 use Rattle.sshkey_model.specs.Options.{CertificateOption, Nesting, Plain, Nested, option_value, option, each_option, options, is_after, Rises, AreOptions, HasNesting, HasOptionPlaces, nesting_of, option_value_from, option_before, option_at, firsts, seconds, options_at}
-use Rattle.sshkey_model.proofs.CombinedReaders.{bind_assoc, bind_ok, ok_is, ReadsFront, ReadsWhole, whole_reads, box_reads, then_reads, checked_reads, to_form, kept, list_reads, same_front}
+use Rattle.sshkey_model.proofs.CombinedReaders.{bind_assoc, bind_ok, ok_is, ReadsFront, ReadsWhole, whole_reads, box_reads, then_reads, Checks, checked_reads, checked_whole_reads, boxed_checks, to_form, kept, list_reads, same_front}
 use Rattle.sshkey_model.proofs.TextReaders.{text_reads}
 
 pub no_text : IsText []
@@ -60,7 +60,7 @@ Pair = CertificateOption × Nesting
 abbrev Follows : Option Pair → Pair → Type 0
 Follows before x = ((IsText x.0.name × IsText x.0.value) × HasNesting x.0.value x.1) × (is_after (option_before before) x.0 ≡ true)
 
-option_reads : (before : Option Pair) → ReadsFront (Follows before) (λ x. option x.0 x.1) (option_at before)
+pub option_reads : (before : Option Pair) → ReadsFront (Follows before) (λ x. option x.0 x.1) (option_at before)
 unfolding option_at IsOptionValue
 option_reads before = same_front (checked_reads (kept (λ x. is_after (option_before before) x.0) FormatEncoding) (checked_reads (to_form
     (λ a. (record { name = a.0; value = a.1.0 }, a.1.1)) (λ a h. (((h.0, h.1.0), h.1.1), refl)) (λ x h. ((x.0.name, (x.0.value, x.1)), (h.0.0, (h.0.1, h.1)), refl, refl)))
@@ -100,17 +100,27 @@ option_shows x = omega arith
 same_pair : (os ps : List CertificateOption) (ns ms : List Nesting) → os ≡ ps → ns ≡ ms → ◌≡◌ {A = List CertificateOption × List Nesting} (os, ns) (ps, ms)
 same_pair os ps ns ms e f = cc
 
-same_options : (os ps : List CertificateOption) (ns ms : List Nesting) → os ≡ ps → ns ≡ ms → options os ns ≡ options ps ms
+same_options : (os ps : List CertificateOption) (ns ms : List Nesting) → os ≡ ps → ns ≡ ms → each_option os ns ≡ each_option ps ms
 same_options os ps ns ms e f = cc
+
+abbrev apart : List Pair → Result (List CertificateOption × List Nesting) Fault
+apart xs = Ok (firsts xs, seconds xs)
+
+apart_checks : Checks (IsChain Follows None) (each (λ x. option x.0 x.1)) (IsSpelled AreOptions HasOptionPlaces) (spelled each_option) apart
+apart_checks = to_form (λ xs. (firsts xs, seconds xs)) (λ xs h. (let p = apart_chain None xs h in record { is = p.0; place = p.1 }, apart_parts xs)) back
+  where
+    back : (x : List CertificateOption × List Nesting) → IsSpelled AreOptions HasOptionPlaces x → (xs : List Pair) × IsChain Follows None xs × ((firsts xs, seconds xs) ≡ x) × (each (λ (y : Pair). option y.0 y.1) xs ≡ spelled each_option x)
+    back x h =
+        let p = paired_again x.0 x.1 h.place in
+        (paired x.0 x.1, paired_chain None x.0 x.1 h.is h.place, same_pair _ _ _ _ p.0 p.1, apart_parts (paired x.0 x.1) ∙ same_options _ _ _ _ p.0 p.1)
+
+pairs_read : ReadsWhole (IsChain Follows None) (each (λ x. option x.0 x.1)) (list_whole option_at)
+pairs_read = list_reads option_reads option_shows None
+
+-- what stands in the box
+pub option_list_reads : ReadsWhole (IsSpelled AreOptions HasOptionPlaces) (spelled each_option) (checked_whole apart (list_whole option_at))
+option_list_reads = checked_whole_reads apart_checks pairs_read
 
 pub options_reads : ReadsFront (IsSpelled AreOptions HasOptionPlaces) (spelled options) options_at
 unfolding options_at
-options_reads = checked_reads (to_form (λ xs. (firsts xs, seconds xs)) (λ xs h. (let p = apart_chain None xs h in record { is = p.0; place = p.1 }, ap (λ (p : Parts). box p) (apart_parts xs))) back) (box_reads (list_reads option_reads (λ x. shows x) None))
-  where
-    shows : (x : Pair) → 0 < length (flat (option x.0 x.1))
-    shows x = option_shows x
-
-    back : (x : List CertificateOption × List Nesting) → IsSpelled AreOptions HasOptionPlaces x → (xs : List Pair) × IsChain Follows None xs × ((firsts xs, seconds xs) ≡ x) × (box (each (λ (y : Pair). option y.0 y.1) xs) ≡ spelled options x)
-    back x h =
-        let p = paired_again x.0 x.1 h.place in
-        (paired x.0 x.1, paired_chain None x.0 x.1 h.is h.place, same_pair _ _ _ _ p.0 p.1, ap (λ (q : Parts). box q) (apart_parts (paired x.0 x.1)) ∙ same_options _ _ _ _ p.0 p.1)
+options_reads = checked_reads (boxed_checks apart_checks) (box_reads pairs_read)

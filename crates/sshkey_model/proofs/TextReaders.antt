@@ -2,10 +2,10 @@
 use Rattle.std.proofs.Common.{◌<◌, List, [], ◌∷◌, length, Option, None, Some, arith}
 use Rattle.std.specs.Str.{is_utf8}
 use Rattle.std.specs.List.{AllByRecursion}
-use Rattle.sshkey_model.specs.Parts.{Parts, bytes, box, flat}
-use Rattle.sshkey_model.specs.Reading.{CharacterEncoding, IsChain}
+use Rattle.sshkey_model.specs.Parts.{Parts, bytes, box, each, flat}
+use Rattle.sshkey_model.specs.Reading.{CharacterEncoding, list_whole, IsChain}
 use Rattle.sshkey_model.specs.Texts.{string, IsText, text_at, texts, texts_at}
-use Rattle.sshkey_model.proofs.CombinedReaders.{ReadsFront, checked_string_reads, kept_bytes, box_reads, list_reads, as_whole_form}
+use Rattle.sshkey_model.proofs.CombinedReaders.{ReadsFront, ReadsWhole, checked_string_reads, kept_bytes, box_reads, list_reads, as_whole_form}
 
 pub text_reads : ReadsFront IsText string text_at
 unfolding text_at
@@ -26,6 +26,10 @@ unfolding IsChain
 all_chain Is before [] h = tt
 all_chain Is before (x ∷ xs) h = (h.0, all_chain Is (Some x) xs h.1)
 
+-- what stands in the box
+pub text_list_reads : ReadsWhole (AllByRecursion IsText) (each string) (list_whole (λ before. text_at))
+text_list_reads = as_whole_form (chain_all IsText None) (all_chain IsText None) (list_reads (λ _. text_reads) (λ t. box_shows (bytes t)) None)
+
 pub texts_reads : ReadsFront (AllByRecursion IsText) (texts) texts_at
 unfolding texts_at
-texts_reads = box_reads (as_whole_form (chain_all IsText None) (all_chain IsText None) (list_reads (λ _. text_reads) (λ t. box_shows (bytes t)) None))
+texts_reads = box_reads text_list_reads

@@ -1,6 +1,7 @@
--- What is shown of the text, of the bytes and of the input.
+-- What is shown of a text, and what the program answers.
 use Rattle.std.proofs.Common.{Bool, true, false, ◌≡◌, ◌≢◌, ◌<◌, ◌≤◌, inl, inr, ◌⊎◌, ℕ, List, [], ◌∷◌, length, get_or, Bor, Option, None, Some, IfSome, Result, Ok, Err, String, subst, sym, arith, refl}
 use Rattle.std.specs.Prelude.{string_bytes}
+use Rattle.std.specs.Io.KnownBytes.{Appends}
 use Rattle.std.specs.Str.{IsUtf8}
 use Rattle.sshkey_base.specs.Causes.{cause, NoMemory}
 use Rattle.sshkey_base.specs.declared.encoding.Error.TheVariants as encoding
@@ -13,13 +14,13 @@ use Rattle.sshkey_model.specs.Parts.{BoxesFit}
 use Rattle.sshkey_model.proofs.NormalKeysFit.{normal_boxes}
 use Rattle.sshkey_public.specs.PublicKeys.{public_of, comment_of}
 use Rattle.sshkey_public.specs.declared.public_key.PublicKey.{PublicKey}
-use Rattle.sshkey_tool.specs.Faults.{IsMachineFault, Writes}
-use Rattle.sshkey_tool.specs.Outcomes.{ShowsCertificate, ShowsKey, ShowsText, ShowsLines, ShowsBytes, ShowsInput, WritesOutcome, IsOfText, lines_status}
-use Rattle.sshkey_tool.specs.Table.{Shown, Partly, Refused, Asks, FindsCommand, IsOfNoLine, IsRefused, Runs, texts}
+use Rattle.sshkey_tool.specs.Faults.{IsMachineFault}
+use Rattle.sshkey_tool.specs.Outcomes.{ShowsCertificate, ShowsKey, ShowsText, WritesOutcome, WritesRefusal, WritesEntries, entries_status}
+use Rattle.sshkey_tool.specs.Table.{Shown, Partly, Refused, Asks, FindsCommand, IsCutShort, IsOfLine, IsOfNoLine, IsPartly, IsRefused, IsShown, IsShownPartly, Runs, ShowsFile, texts}
 use Rattle.sshkey_tool.specs.declared.command.Command.{Command}
 use Rattle.sshkey_tool.specs.declared.command.Command.TheVariants as commands
+use Rattle.sshkey_tool.specs.declared.command.EntryFile.{EntryFile}
 use Rattle.sshkey_tool.specs.declared.command.KeyCommand.{KeyCommand}
-use Rattle.sshkey_tool.specs.declared.shown_lines.ShownLines.{ShownLines}
 
 -- a refusal says that the machine failed, or what is wrong with the text
 pub refusal : {N : Type 0} (e : Error) → (cause e ≢ NoMemory → N) → IsMachineFault e ⊎ N
@@ -57,27 +58,60 @@ shows_certificate wanted text comment c (Err e) line h = elim h [
   | inr want ↦ inl (subst IsMachineFault (sym want) tt)
 ]
 
-pub text_of_bytes : (c : Command) (text bytes : List ℕ) (r : Result ShownLines Error) → text ≡ bytes → IsUtf8 bytes → ShowsLines c text r → ShowsBytes c bytes r
-text_of_bytes c text bytes (Ok s) same utf8 h = (utf8, subst (λ (t : List ℕ). IsOfText c s.refused t (string_bytes s.text)) same h)
-text_of_bytes c text bytes (Err e) same utf8 h = elim h [ inl fault ↦ inl fault | inr none ↦ inr (λ _. subst (IsOfNoLine c) same none) ]
+-- ---- inputs
 
-pub bytes_of_input : (c : Command) (known : Option (List ℕ)) (bytes : List ℕ) (r : Result ShownLines Error) → IfSome known (λ all. bytes ≡ all) → ShowsBytes c bytes r → ShowsInput c known r
-bytes_of_input c None bytes (Ok s) all h = tt
-bytes_of_input c (Some xs) bytes (Ok s) all h = subst (λ (b : List ℕ). IsUtf8 b × IsOfText c s.refused b (string_bytes s.text)) all h
-bytes_of_input c None bytes (Err e) all h = elim h [ inl fault ↦ inl fault | inr none ↦ inr tt ]
-bytes_of_input c (Some xs) bytes (Err e) all h = elim h [ inl fault ↦ inl fault | inr none ↦ inr (subst (IsRefused c) all none) ]
+-- the text that the bytes of the input are
+pub text_of_input : (known : Option (List ℕ)) (text : List ℕ) → IsUtf8 text → IfSome known (λ bytes. text ≡ bytes) → IfSome known (λ bytes. IsUtf8 bytes × (text ≡ bytes))
+text_of_input None text utf8 all = tt
+text_of_input (Some bytes) text utf8 all = (subst IsUtf8 all utf8, all)
 
--- lines are an answer, whether one of them says a refusal or none
-answers : (words : List (List ℕ)) (c : Command) (input old new : Option (List ℕ)) (status : ℕ) (text : List ℕ) (refused : Bool) → Asks words c
-    → IfSome input (λ bytes. IsUtf8 bytes × IsOfText c refused bytes text) → Writes old new text (lines_status refused) status → Runs words input old new status
-answers words c input old new status text false asks h w = inl (Shown text, (c, asks, h), w)
-answers words c input old new status text true asks h w = inl (Partly text, (c, asks, h), w)
+-- a text that is shown of the input
+pub shown_of_input : (c : Command) (known : Option (List ℕ)) (text : List ℕ) (shown : List ℕ) → IfSome known (λ bytes. IsUtf8 bytes × (text ≡ bytes)) → IsOfLine c text shown → IfSome known (IsShown c shown)
+shown_of_input c None text shown is h = tt
+shown_of_input c (Some bytes) text shown is h = (is.0, subst (λ (t : List ℕ). IsOfLine c t shown) is.1 h)
 
-pub runs : (words : List (List ℕ)) (c : Command) (input old new : Option (List ℕ)) (status : ℕ) (r : Result ShownLines Error) → Asks words c → ShowsInput c input r → WritesOutcome r old new status → Runs words input old new status
-runs words c input old new status (Ok s) asks h w = elim w [ inl it ↦ answers words c input old new status (string_bytes s.text) s.refused asks h it | inr fault ↦ inr ((c, asks), fault) ]
-runs words c input old new status (Err e) asks h w = elim w [
+partly_of_input : (c : Command) (known : Option (List ℕ)) (text : List ℕ) (shown : List ℕ) → IfSome known (λ bytes. IsUtf8 bytes × (text ≡ bytes)) → IsPartly c text shown → IfSome known (IsShownPartly c shown)
+partly_of_input c None text shown is h = tt
+partly_of_input c (Some bytes) text shown is h = (is.0, subst (λ (t : List ℕ). IsPartly c t shown) is.1 h)
+
+refused_of_input : (c : Command) (known : Option (List ℕ)) (text : List ℕ) → IfSome known (λ bytes. IsUtf8 bytes × (text ≡ bytes)) → IsOfNoLine c text → IfSome known (IsRefused c)
+refused_of_input c None text is h = tt
+refused_of_input c (Some bytes) text is h = λ _. subst (IsOfNoLine c) is.1 h
+
+no_text : (c : Command) (known : Option (List ℕ)) → IfSome known (λ bytes. IsUtf8 bytes → ⊥) → IfSome known (IsRefused c)
+no_text c None none = tt
+no_text c (Some bytes) none = λ utf8. absurd (none utf8)
+
+cut_of_input : (file : EntryFile) (known : Option (List ℕ)) (text : List ℕ) (old new : Option (List ℕ)) (status : ℕ) → IfSome known (λ bytes. IsUtf8 bytes × (text ≡ bytes)) → IsCutShort file (Some text) old new status → IfSome known IsUtf8 × IsCutShort file known old new status
+cut_of_input file None text old new status is h = (tt, record { shown = h.shown; left = h.left; are = tt; between = h.between; written = h.written; rest = h.rest })
+cut_of_input file (Some bytes) text old new status is h = (is.0, subst (λ (t : List ℕ). IsCutShort file (Some t) old new status) is.1 h)
+
+-- ---- runs
+
+refusal_runs : (words : List (List ℕ)) (c : Command) (input old new : Option (List ℕ)) (status : ℕ) (e : Error) → Asks words c → IsMachineFault e ⊎ IfSome input (IsRefused c) → WritesRefusal e old new status → Runs words input old new status
+refusal_runs words c input old new status e asks h w = elim w [
   | inl it ↦ elim h [ inl fault ↦ absurd (it.0 fault) | inr none ↦ inl (Refused it.1.0, (it.1.1, (c, asks, none)), it.1.2) ]
-  | inr fault ↦ inr ((c, asks), fault)
+  | inr fault ↦ inr (inl ((c, asks), fault))
+]
+
+-- the input is no text, or could not be read
+pub unread_runs : (words : List (List ℕ)) (c : Command) (input old new : Option (List ℕ)) (status : ℕ) (e : Error) → Asks words c → IsMachineFault e ⊎ IfSome input (λ bytes. IsUtf8 bytes → ⊥) → WritesRefusal e old new status → Runs words input old new status
+unread_runs words c input old new status e asks h w = refusal_runs words c input old new status e asks (elim h [ inl fault ↦ inl fault | inr none ↦ inr (no_text c input none) ]) w
+
+-- what stands in a line
+pub line_runs : {Z : Type 0} (words : List (List ℕ)) (c : Command) (input old new : Option (List ℕ)) (status : ℕ) (text : List ℕ) (r : Result (String Z) Error) → Asks words c → IfSome input (λ bytes. IsUtf8 bytes × (text ≡ bytes)) → ShowsText c text r → WritesOutcome r old new status → Runs words input old new status
+line_runs words c input old new status text (Ok s) asks is h w = inl (Shown (string_bytes s), (c, asks, shown_of_input c input text (string_bytes s) is h), w)
+line_runs words c input old new status text (Err e) asks is h w = refusal_runs words c input old new status e asks (elim h [ inl fault ↦ inl fault | inr none ↦ inr (refused_of_input c input text is none) ]) w
+
+whole_runs : (words : List (List ℕ)) (file : EntryFile) (input old new : Option (List ℕ)) (status : ℕ) (text shown : List ℕ) (refused : Bool) → Asks words (commands.Entries file) → IfSome input (λ bytes. IsUtf8 bytes × (text ≡ bytes)) → ShowsFile file text shown refused → Appends old new shown → status ≡ entries_status refused → Runs words input old new status
+whole_runs words file input old new status text shown false asks is h w e = inl (Shown shown, (commands.Entries file, asks, shown_of_input (commands.Entries file) input text shown is h), inl (w, e))
+whole_runs words file input old new status text shown true asks is h w e = inl (Partly shown, (commands.Entries file, asks, partly_of_input (commands.Entries file) input text shown is h), inl (w, e))
+
+-- a file
+pub file_runs : (words : List (List ℕ)) (file : EntryFile) (input old new : Option (List ℕ)) (status : ℕ) (text : List ℕ) → Asks words (commands.Entries file) → IfSome input (λ bytes. IsUtf8 bytes × (text ≡ bytes)) → WritesEntries file text old new status → Runs words input old new status
+file_runs words file input old new status text asks is w = elim w [
+  | inl all ↦ whole_runs words file input old new status text all.shown all.refused asks is all.shows all.written all.is
+  | inr cut ↦ (let known = cut_of_input file input text old new status is cut in inr (inr (file, asks, known.0, known.1)))
 ]
 
 -- ---- the words

@@ -1,7 +1,9 @@
 -- What is shown of the entries of a file.
-use Rattle.std.proofs.Common.{◌≡◌, ◌≢◌, ◌⊎◌, ℕ, List, [], ◌∷◌, ◌++◌, map, Bool, true, false, ◌||◌, inl, inr, Result, Ok, Err, String, sym, ap, subst, ◌∙◌, append-nil}
+use Rattle.std.proofs.Common.{◌≡◌, ◌≢◌, ◌⊎◌, ℕ, List, [], ◌∷◌, ◌++◌, map, Bool, true, false, ◌||◌, inl, inr, Option, Result, Ok, Err, String, refl, sym, ap, subst, ◌∙◌, append-nil}
 use Rattle.std.specs.Prelude.{string_bytes}
+use Rattle.std.specs.Io.KnownBytes.{Appends}
 use Rattle.std.specs.List.{AllZip, list_any}
+use Rattle.std.proofs.KnownBytes.{Appends-nil, Appends-trans}
 use Rattle.std.proofs.lemmas.List.{map-append}
 use Rattle.std.proofs.lemmas.List.Folds.{list_any-append}
 use Rattle.sshkey_model.specs.Keys.{Key, normal_key}
@@ -15,10 +17,11 @@ use Rattle.sshkey_entries.specs.Entries.{entries}
 use Rattle.sshkey_entries.specs.KnownHosts.{KnownHost, IsKnownHost, known_text}
 use Rattle.sshkey_files.specs.MadeTexts.{MakesEntry}
 use Rattle.sshkey_files.proofs.AnswerLists.{answered_more}
-use Rattle.sshkey_tool.specs.EntryLines.{ShowsEntries}
-use Rattle.sshkey_tool.specs.Lines.{IsOneLine, in_lines, line_end, refusal_line}
-use Rattle.sshkey_tool.specs.Outcomes.{WritesEntry, WritesEntryOf, ShowsEntryOf}
-use Rattle.sshkey_tool.specs.Table.{IsRefusalLine, ShowsFile}
+use Rattle.sshkey_tool.specs.EntryLines.{ShowsEntries, ShowsEntry, ShowsFirst}
+use Rattle.sshkey_tool.specs.Faults.{IsBegun, IsMachineFault, WritesLine}
+use Rattle.sshkey_tool.specs.Lines.{in_lines, line_end, refusal_line}
+use Rattle.sshkey_tool.specs.Outcomes.{WritesEntry, WritesEntryOf, WritesEntries, WritesRefusal, entries_status}
+use Rattle.sshkey_tool.specs.Table.{IsRefusalLine, ShowsFile, ShowsFileEntry, ShowsFileFirst}
 use Rattle.sshkey_tool.specs.declared.command.EntryFile.{EntryFile}
 use Rattle.sshkey_tool.specs.declared.command.EntryFile.TheVariants.{AuthorizedKeys, KnownHosts}
 use Rattle.sshkey_tool.proofs.Lines.{lines_append}
@@ -47,7 +50,7 @@ writes_host line a r is h = writes IsKnownHost known_text line a a.key r is (key
 -- ---- its line
 
 abbrev pub IsLine : EntryFile → List ℕ → List ℕ → Bool → Type 0
-IsLine file entry text refused = (line : List ℕ) × ShowsEntryOf file entry (line, refused) × (text ≡ line ++ line_end)
+IsLine file entry text refused = (line : List ℕ) × ShowsFileEntry file entry (line, refused) × (text ≡ line ++ line_end)
 
 pub text_line : {Z : Type 0} (file : EntryFile) (entry text : List ℕ) (s : String Z) → WritesEntryOf file entry (Ok s) → text ≡ string_bytes s ++ line_end → IsLine file entry text false
 text_line AuthorizedKeys entry text s h is = (string_bytes s, h, is)
@@ -59,34 +62,111 @@ refusal Z KnownHosts entry text e h other r = (refusal_line r.0, (h other, (r.0,
 
 -- ---- all lines
 
--- Of all entries, those that are not left were shown.
-pub record SoFar (file : EntryFile) (all left : List (List ℕ)) (text : List ℕ) (refused : Bool) : Type 0 where
-  pub before : List (List ℕ)
-  pub is : all ≡ before ++ left
-  pub lines : List (List ℕ × Bool)
-  pub each : AllZip (ShowsEntryOf file) before lines
-  pub shown : text ≡ in_lines (map (λ l. l.0) lines)
-  pub some : refused ≡ list_any (λ l. l.1) lines
+-- none is shown yet
+pub nothing_yet : (file : EntryFile) (text : List ℕ) → ShowsFileFirst file text (entries text) [] false
+nothing_yet AuthorizedKeys text = record { first = []; are = refl; lines = []; each = tt; is = refl; some = refl }
+nothing_yet KnownHosts text = record { first = []; are = refl; lines = []; each = tt; is = refl; some = refl }
 
-pub one_more : (file : EntryFile) (all left rest : List (List ℕ)) (entry text now line : List ℕ) (refused also after : Bool) → SoFar file all left text refused → left ≡ entry ∷ rest → IsLine file entry line also → now ≡ text ++ line → after ≡ (refused || also) → SoFar file all rest now after
-one_more file all left rest entry text now line refused also after h first it grown said =
-    let more = answered_more (ShowsEntryOf file) all h.before left rest h.lines entry (it.0, also) h.is h.each first it.1 in
+next_of : {Y : Type 0} (IsEntry : List ℕ → Y → Type 0) (text_of : Y → List ℕ) (text : List ℕ) (left rest : List (List ℕ)) (entry shown line : List ℕ) (refused also : Bool) → ShowsFirst IsEntry text_of text left shown refused → left ≡ entry ∷ rest → ShowsEntry IsEntry text_of entry (line, also) → ShowsFirst IsEntry text_of text rest (shown ++ (line ++ line_end)) (refused || also)
+next_of IsEntry text_of text left rest entry shown line refused also h next it =
+    let more = answered_more (ShowsEntry IsEntry text_of) (entries text) h.first left rest h.lines entry (line, also) h.are h.each next it in
     record {
-      before = more.0;
-      is = more.1;
-      lines = h.lines ++ ((it.0, also) ∷ []);
+      first = more.0;
+      are = more.1;
+      lines = h.lines ++ ((line, also) ∷ []);
       each = more.2;
-      shown = grown ∙ (λ j. h.shown j ++ it.2 j) ∙ ap (λ (l : List ℕ). in_lines (map (λ l. l.0) h.lines) ++ (it.0 ++ l)) (sym (append-nil line_end)) ∙ sym (lines_append (map (λ l. l.0) h.lines) (it.0 ∷ [])) ∙ ap in_lines (sym (map-append (λ (l : List ℕ × Bool). l.0) h.lines ((it.0, also) ∷ [])));
-      some = said ∙ (λ j. h.some j || also) ∙ last also ∙ sym (list_any-append (λ (l : List ℕ × Bool). l.1) h.lines ((it.0, also) ∷ []));
+      is = ap (λ (l : List ℕ). l ++ (line ++ line_end)) h.is ∙ ap (λ (l : List ℕ). in_lines (map (λ l. l.0) h.lines) ++ (line ++ l)) (sym (append-nil line_end)) ∙ sym (lines_append (map (λ l. l.0) h.lines) (line ∷ [])) ∙ ap in_lines (sym (map-append (λ (l : List ℕ × Bool). l.0) h.lines ((line, also) ∷ [])));
+      some = (λ j. h.some j || also) ∙ last also ∙ sym (list_any-append (λ (l : List ℕ × Bool). l.1) h.lines ((line, also) ∷ []));
     }
   where
     last : (b : Bool) → (list_any (λ l. l.1) h.lines || b) ≡ (list_any (λ l. l.1) h.lines || (b || false))
     last true = λ j. list_any (λ l. l.1) h.lines || true
     last false = λ j. list_any (λ l. l.1) h.lines || false
 
-each_of : {X : Type 0} (R : List ℕ → X → Type 0) (before all : List (List ℕ)) (xs : List X) → all ≡ before → AllZip R before xs → AllZip R all xs
-each_of R before all xs same h = subst (λ (l : List (List ℕ)). AllZip R l xs) (sym same) h
+-- one entry more
+pub one_more : (file : EntryFile) (text : List ℕ) (left rest : List (List ℕ)) (entry shown line : List ℕ) (refused also : Bool) → ShowsFileFirst file text left shown refused → left ≡ entry ∷ rest → ShowsFileEntry file entry (line, also) → ShowsFileFirst file text rest (shown ++ (line ++ line_end)) (refused || also)
+one_more AuthorizedKeys = next_of IsAuthorizedKey authorized_text
+one_more KnownHosts = next_of IsKnownHost known_text
 
-pub shows_file : (file : EntryFile) (text shown : List ℕ) (refused : Bool) → SoFar file (entries text) [] shown refused → ShowsFile file text shown refused
-shows_file AuthorizedKeys text shown refused h = record { lines = h.lines; each = each_of (ShowsEntryOf AuthorizedKeys) h.before (entries text) h.lines (h.is ∙ append-nil h.before) h.each; is = h.shown; some = h.some }
-shows_file KnownHosts text shown refused h = record { lines = h.lines; each = each_of (ShowsEntryOf KnownHosts) h.before (entries text) h.lines (h.is ∙ append-nil h.before) h.each; is = h.shown; some = h.some }
+all_of : {Y : Type 0} (IsEntry : List ℕ → Y → Type 0) (text_of : Y → List ℕ) (text shown : List ℕ) (refused : Bool) → ShowsFirst IsEntry text_of text [] shown refused → ShowsEntries IsEntry text_of text shown refused
+all_of IsEntry text_of text shown refused h = record {
+  lines = h.lines;
+  each = subst (λ (l : List (List ℕ)). AllZip (ShowsEntry IsEntry text_of) l h.lines) (sym (h.are ∙ append-nil h.first)) h.each;
+  is = h.is;
+  some = h.some;
+}
+
+-- none is left
+pub all_shown : (file : EntryFile) (text shown : List ℕ) (refused : Bool) → ShowsFileFirst file text [] shown refused → ShowsFile file text shown refused
+all_shown AuthorizedKeys = all_of IsAuthorizedKey authorized_text
+all_shown KnownHosts = all_of IsKnownHost known_text
+
+-- ---- what is written
+
+-- what was written of the first entries
+pub record WrittenSoFar (file : EntryFile) (text : List ℕ) (left : List (List ℕ)) (old now : Option (List ℕ)) (status : ℕ) : Type 0 where
+  pub shown : List ℕ
+  pub refused : Bool
+  pub shows : ShowsFileFirst file text left shown refused
+  pub written : Appends old now shown
+  pub is : status ≡ entries_status refused
+
+pub nothing_written : (file : EntryFile) (text : List ℕ) (old : Option (List ℕ)) → WrittenSoFar file text (entries text) old old 0
+nothing_written file text old = record { shown = []; refused = false; shows = nothing_yet file text; written = Appends-nil old; is = refl }
+
+one_is : (refused : Bool) → 1 ≡ entries_status (refused || true)
+one_is true = refl
+one_is false = refl
+
+same_is : (refused : Bool) → entries_status refused ≡ entries_status (refused || false)
+same_is true = refl
+same_is false = refl
+
+-- the status behind one line more
+abbrev pub IsMoreStatus : Bool → ℕ → ℕ → Type 0
+IsMoreStatus also status after = ((also ≡ true) × (after ≡ 1)) ⊎ ((also ≡ false) × (after ≡ status))
+
+more_status : (refused also : Bool) (status after : ℕ) → status ≡ entries_status refused → IsMoreStatus also status after → after ≡ entries_status (refused || also)
+more_status refused also status after is said = elim said [
+  | inl one ↦ one.1 ∙ one_is refused ∙ ap (λ (b : Bool). entries_status (refused || b)) (sym one.0)
+  | inr same ↦ same.1 ∙ is ∙ same_is refused ∙ ap (λ (b : Bool). entries_status (refused || b)) (sym same.0)
+]
+
+pub writes_more : (file : EntryFile) (text : List ℕ) (left rest : List (List ℕ)) (entry line : List ℕ) (also : Bool) (old now new : Option (List ℕ)) (status after : ℕ) → WrittenSoFar file text left old now status → left ≡ entry ∷ rest → IsLine file entry line also → Appends now new line → IsMoreStatus also status after → WrittenSoFar file text rest old new after
+writes_more file text left rest entry line also old now new status after h next it w said = record {
+  shown = h.shown ++ (it.0 ++ line_end);
+  refused = h.refused || also;
+  shows = one_more file text left rest entry h.shown it.0 h.refused also h.shows next it.1;
+  written = subst (λ (l : List ℕ). Appends old new (h.shown ++ l)) it.2 (Appends-trans old now new h.shown line h.written w);
+  is = more_status h.refused also status after h.is said;
+}
+
+pub whole_line : (old new : Option (List ℕ)) (bytes line : List ℕ) (whole : Bool) → whole ≡ true → bytes ≡ line → WritesLine old new bytes whole → Appends old new line
+whole_line old new bytes line whole is same w = subst (Appends old new) same (rw is at w)
+
+pub all_written : (file : EntryFile) (text : List ℕ) (left : List (List ℕ)) (old new : Option (List ℕ)) (status : ℕ) → WrittenSoFar file text left old new status → left ≡ [] → WritesEntries file text old new status
+all_written file text left old new status h none = inl (record {
+  shown = h.shown;
+  refused = h.refused;
+  shows = all_shown file text h.shown h.refused (subst (λ (l : List (List ℕ)). ShowsFileFirst file text l h.shown h.refused) none h.shows);
+  written = h.written;
+  is = h.is;
+})
+
+-- the output failed
+pub cut_line : (file : EntryFile) (text : List ℕ) (left rest : List (List ℕ)) (entry line : List ℕ) (also : Bool) (old now new : Option (List ℕ)) (status : ℕ) → WrittenSoFar file text left old now status → left ≡ entry ∷ rest → IsLine file entry line also → IsBegun now new line → WritesEntries file text old new 1
+cut_line file text left rest entry line also old now new status h next it begun = inr (record {
+  shown = h.shown;
+  left = left;
+  are = (h.refused, h.shows);
+  between = now;
+  written = h.written;
+  rest = inl (record { entry = entry; line = it.0; rest = rest; refused = also; next = next; shows = it.1; begun = subst (IsBegun now new) it.2 begun; one = refl });
+})
+
+-- memory ran out
+pub cut_entries : (file : EntryFile) (text : List ℕ) (left : List (List ℕ)) (old now new : Option (List ℕ)) (before status : ℕ) (e : Error) → WrittenSoFar file text left old now before → IsMachineFault e → WritesRefusal e now new status → WritesEntries file text old new status
+cut_entries file text left old now new before status e h fault w = elim w [
+  | inl why ↦ absurd (why.0 fault)
+  | inr line ↦ inr (record { shown = h.shown; left = left; are = (h.refused, h.shows); between = now; written = h.written; rest = inr line })
+]

@@ -1,5 +1,5 @@
 -- What is shown of the entries of a file, line by line.
-use Rattle.std.specs.Prelude.{◌≡◌, ℕ, List, map, Bool, true, false}
+use Rattle.std.specs.Prelude.{◌≡◌, ℕ, List, ◌++◌, map, Bool, true, false}
 use Rattle.std.specs.List.{AllZip, list_any}
 use Rattle.sshkey_entries.specs.Entries.{entries}
 use Rattle.sshkey_files.specs.Answers.{IsNoEntry}
@@ -14,5 +14,14 @@ ShowsEntry IsEntry text_of entry (line, true) = IsNoEntry IsEntry entry × ((why
 pub record ShowsEntries {Y : Type 0} (IsEntry : List ℕ → Y → Type 0) (text_of : Y → List ℕ) (text shown : List ℕ) (refused : Bool) : Type 0 where
   pub lines : List (List ℕ × Bool)
   pub each : AllZip (ShowsEntry IsEntry text_of) (entries text) lines
+  pub is : shown ≡ in_lines (map (λ l. l.0) lines)
+  pub some : refused ≡ list_any (λ l. l.1) lines
+
+-- A line for each of the first entries of the text, in order, and whether one of them is refused; these entries are left.
+pub record ShowsFirst {Y : Type 0} (IsEntry : List ℕ → Y → Type 0) (text_of : Y → List ℕ) (text : List ℕ) (left : List (List ℕ)) (shown : List ℕ) (refused : Bool) : Type 0 where
+  pub first : List (List ℕ)
+  pub are : entries text ≡ first ++ left
+  pub lines : List (List ℕ × Bool)
+  pub each : AllZip (ShowsEntry IsEntry text_of) first lines
   pub is : shown ≡ in_lines (map (λ l. l.0) lines)
   pub some : refused ≡ list_any (λ l. l.1) lines

@@ -1,5 +1,6 @@
--- What is shown of a text, of bytes or of an input.
-use Rattle.std.specs.Prelude.{◌≡◌, ◌≢◌, ◌⊎◌, ℕ, List, [], ◌++◌, Bool, true, false, Option, IfSome, Result, Ok, Err, String, string_bytes}
+-- What is shown of a text, and what is written of it.
+use Rattle.std.specs.Prelude.{◌≡◌, ◌≢◌, ◌⊎◌, ℕ, List, [], ◌++◌, Bool, true, false, Option, Some, IfSome, Result, Ok, Err, String, string_bytes}
+use Rattle.std.specs.Io.KnownBytes.{Appends}
 use Rattle.std.specs.Str.{IsUtf8}
 use denote.Ref.{Bor}
 use Rattle.sshkey_base.specs.Causes.{cause, NoMemory}
@@ -16,14 +17,13 @@ use Rattle.sshkey_files.specs.Answers.{IsNoEntry}
 use Rattle.sshkey_public.specs.PublicKeys.{public_of, comment_of}
 use Rattle.sshkey_public.specs.declared.public_key.PublicKey.{PublicKey}
 use Rattle.sshkey_tool.specs.Faults.{IsMachineFault, Writes}
-use Rattle.sshkey_tool.specs.EntryLines.{ShowsEntry}
 use Rattle.sshkey_tool.specs.Lines.{IsCertificateText, IsOneLine, line_end}
-use Rattle.sshkey_tool.specs.Table.{Refused, answer_line, key_text, WritesFault, IsOfLine, IsOfNoLine, IsPartly, IsRefused, IsRefusalLine, ShowsFile}
+use Rattle.sshkey_tool.specs.Table.{Refused, answer_line, key_text, WritesFault, IsCutShort, IsOfLine, IsOfNoLine, IsRefusalLine, ShowsFile, ShowsFileEntry}
 use Rattle.sshkey_tool.specs.declared.command.Command.{Command}
 use Rattle.sshkey_tool.specs.declared.command.EntryFile.{EntryFile}
 use Rattle.sshkey_tool.specs.declared.command.EntryFile.TheVariants.{AuthorizedKeys, KnownHosts}
 use Rattle.sshkey_tool.specs.declared.command.KeyCommand.{KeyCommand}
-use Rattle.sshkey_tool.specs.declared.shown_lines.ShownLines.{ShownLines}
+use Rattle.sshkey_tool.specs.declared.entries.ShownEntry.{ShownEntry}
 
 -- A part of the key is too long to be written, and that is `Length`; or memory ran out.
 abbrev pub IsNotWritten : Key → Error → Type 0
@@ -60,53 +60,45 @@ abbrev pub WritesEntryOf : {Z : Type 0} → EntryFile → List ℕ → Result (S
 WritesEntryOf AuthorizedKeys = WritesEntry IsAuthorizedKey authorized_text
 WritesEntryOf KnownHosts = WritesEntry IsKnownHost known_text
 
-abbrev pub ShowsEntryOf : EntryFile → List ℕ → List ℕ × Bool → Type 0
-ShowsEntryOf AuthorizedKeys = ShowsEntry IsAuthorizedKey authorized_text
-ShowsEntryOf KnownHosts = ShowsEntry IsKnownHost known_text
-
 -- The line that says why; or memory ran out.
 abbrev pub RefusesEntry : {Z : Type 0} → Error → Result (String Z) Error → Type 0
 RefusesEntry error (Ok s) = (cause error ≢ NoMemory) × IsRefusalLine (string_bytes s)
 RefusesEntry error (Err e) = IsMachineFault e
 
 -- the line of an entry with its line end, and whether it is refused; or the machine failed
-abbrev pub ShowsEntryLine : EntryFile → List ℕ → Result ShownLines Error → Type 0
-ShowsEntryLine file entry (Ok s) = (line : List ℕ) × ShowsEntryOf file entry (line, s.refused) × (string_bytes s.text ≡ line ++ line_end)
+abbrev pub ShowsEntryLine : EntryFile → List ℕ → Result ShownEntry Error → Type 0
+ShowsEntryLine file entry (Ok s) = (line : List ℕ) × ShowsFileEntry file entry (line, s.refused) × (string_bytes s.line ≡ line ++ line_end)
 ShowsEntryLine file entry (Err e) = IsMachineFault e
 
--- the lines of all entries of the text; or the machine failed
-abbrev pub ShowsFileLines : EntryFile → List ℕ → Result ShownLines Error → Type 0
-ShowsFileLines file text (Ok s) = ShowsFile file text (string_bytes s.text) s.refused
-ShowsFileLines file text (Err e) = IsMachineFault e
+-- the status of lines, of which some may be refused
+abbrev pub entries_status : Bool → ℕ
+entries_status false = 0
+entries_status true = 1
 
--- ---- what is shown of any input
+-- The lines of all entries of the text are written, with their status.
+pub record WritesFile (file : EntryFile) (text : List ℕ) (old new : Option (List ℕ)) (status : ℕ) : Type 0 where
+  pub shown : List ℕ
+  pub refused : Bool
+  pub shows : ShowsFile file text shown refused
+  pub written : Appends old new shown
+  pub is : status ≡ entries_status refused
 
--- The text is shown, with refusals in it or without.
-abbrev pub IsOfText : Command → Bool → List ℕ → List ℕ → Type 0
-IsOfText c false bytes text = IsOfLine c bytes text
-IsOfText c true bytes text = IsPartly c bytes text
+-- So it is, or the machine failed before their end.
+abbrev pub WritesEntries : EntryFile → List ℕ → Option (List ℕ) → Option (List ℕ) → ℕ → Type 0
+WritesEntries file text old new status = WritesFile file text old new status ⊎ IsCutShort file (Some text) old new status
 
--- Lines are shown of the text; or it is a line of nothing that is asked for, or the machine failed.
-abbrev pub ShowsLines : Command → List ℕ → Result ShownLines Error → Type 0
-ShowsLines c text (Ok s) = IsOfText c s.refused text (string_bytes s.text)
-ShowsLines c text (Err e) = IsMachineFault e ⊎ IsOfNoLine c text
+-- ---- any input
 
--- the same of bytes that may be a text
-abbrev pub ShowsBytes : Command → List ℕ → Result ShownLines Error → Type 0
-ShowsBytes c bytes (Ok s) = IsUtf8 bytes × IsOfText c s.refused bytes (string_bytes s.text)
-ShowsBytes c bytes (Err e) = IsMachineFault e ⊎ IsRefused c bytes
+-- The text is all that the input has left; or that is no text, or the machine failed.
+abbrev pub ReadsText : {Z : Type 0} → Option (List ℕ) → Result (String Z) Error → Type 0
+ReadsText known (Ok s) = IfSome known (λ bytes. string_bytes s ≡ bytes)
+ReadsText known (Err e) = IsMachineFault e ⊎ IfSome known (λ bytes. IsUtf8 bytes → ⊥)
 
--- the same of an input, where its bytes are known
-abbrev pub ShowsInput : Command → Option (List ℕ) → Result ShownLines Error → Type 0
-ShowsInput c known (Ok s) = IfSome known (λ bytes. IsUtf8 bytes × IsOfText c s.refused bytes (string_bytes s.text))
-ShowsInput c known (Err e) = IsMachineFault e ⊎ IfSome known (IsRefused c)
+-- A reason of one line is written with status 1, or in its place that the machine failed.
+abbrev pub WritesRefusal : Error → Option (List ℕ) → Option (List ℕ) → ℕ → Type 0
+WritesRefusal e old new status = ((IsMachineFault e → ⊥) × ((why : List ℕ) × IsOneLine why × Writes old new (answer_line (Refused why)) 1 status)) ⊎ WritesFault old new status
 
--- the status of lines
-abbrev pub lines_status : Bool → ℕ
-lines_status false = 0
-lines_status true = 1
-
--- What is written for it: the lines with their status, a reason of one line with status 1, or in place of both that the machine failed.
-abbrev pub WritesOutcome : Result ShownLines Error → Option (List ℕ) → Option (List ℕ) → ℕ → Type 0
-WritesOutcome (Ok s) old new status = Writes old new (string_bytes s.text) (lines_status s.refused) status ⊎ WritesFault old new status
-WritesOutcome (Err e) old new status = ((IsMachineFault e → ⊥) × ((why : List ℕ) × IsOneLine why × Writes old new (answer_line (Refused why)) 1 status)) ⊎ WritesFault old new status
+-- What is shown is written with status 0, or why nothing is.
+abbrev pub WritesOutcome : {Z : Type 0} → Result (String Z) Error → Option (List ℕ) → Option (List ℕ) → ℕ → Type 0
+WritesOutcome (Ok s) old new status = Writes old new (string_bytes s) 0 status
+WritesOutcome (Err e) old new status = WritesRefusal e old new status

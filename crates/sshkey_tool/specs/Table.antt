@@ -1,5 +1,6 @@
 -- What the program writes, and its status, for each words and each input.
 use Rattle.std.specs.Prelude.{◌≡◌, ◌⊎◌, ℕ, List, [], ◌∷◌, ◌++◌, map, codes, Bool, true, false, Option, None, Some, IfSome, MatchOption}
+use Rattle.std.specs.Io.KnownBytes.{Appends}
 use Rattle.std.specs.Str.{IsUtf8}
 use denote.Ref.{Bor}
 use Rattle.sshkey_model.specs.Fingerprints.{fingerprint, fingerprint_text}
@@ -12,8 +13,8 @@ use Rattle.sshkey_cert.specs.CertificateReaders.{SpellsCertificate}
 use Rattle.sshkey_entries.specs.AuthorizedKeys.{IsAuthorizedKey, authorized_text}
 use Rattle.sshkey_entries.specs.KnownHosts.{IsKnownHost, known_text}
 use Rattle.sshkey_keys.specs.Keys.{SpellsKey}
-use Rattle.sshkey_tool.specs.Faults.{Writes}
-use Rattle.sshkey_tool.specs.EntryLines.{ShowsEntries}
+use Rattle.sshkey_tool.specs.Faults.{IsBegun, Writes}
+use Rattle.sshkey_tool.specs.EntryLines.{ShowsEntries, ShowsEntry, ShowsFirst}
 use Rattle.sshkey_tool.specs.Lines.{line_end, IsCertificateText, IsOneLine, refusal_line}
 use Rattle.sshkey_tool.specs.declared.command.Command.{Command}
 use Rattle.sshkey_tool.specs.declared.command.Command.TheVariants as commands
@@ -48,6 +49,16 @@ key_text Normal k comment = key_line k comment ++ line_end
 abbrev pub ShowsFile : EntryFile → List ℕ → List ℕ → Bool → Type 0
 ShowsFile AuthorizedKeys = ShowsEntries IsAuthorizedKey authorized_text
 ShowsFile KnownHosts = ShowsEntries IsKnownHost known_text
+
+-- the same of its first entries, before those that are left
+abbrev pub ShowsFileFirst : EntryFile → List ℕ → List (List ℕ) → List ℕ → Bool → Type 0
+ShowsFileFirst AuthorizedKeys = ShowsFirst IsAuthorizedKey authorized_text
+ShowsFileFirst KnownHosts = ShowsFirst IsKnownHost known_text
+
+-- the line of one entry, and whether it is refused
+abbrev pub ShowsFileEntry : EntryFile → List ℕ → List ℕ × Bool → Type 0
+ShowsFileEntry AuthorizedKeys = ShowsEntry IsAuthorizedKey authorized_text
+ShowsFileEntry KnownHosts = ShowsEntry IsKnownHost known_text
 
 -- The bytes are the line that the command asks for, or a file of its entries, and this text is shown of it.
 abbrev pub IsOfLine : Command → List ℕ → List ℕ → Type 0
@@ -126,11 +137,36 @@ IsFaultLine line = (line ≡ answer_line (Refused (codes "out of memory"))) ⊎ 
 abbrev pub WritesFault : Option (List ℕ) → Option (List ℕ) → ℕ → Type 0
 WritesFault old new status = (line : List ℕ) × IsFaultLine line × Writes old new line 1 status
 
--- The table's line is written with its status, or that of a fault.
+-- These are the lines of the first entries of the bytes, before those that are left.
+abbrev pub AreFirstLines : EntryFile → List (List ℕ) → List ℕ → List ℕ → Type 0
+AreFirstLines file left shown bytes = (refused : Bool) × ShowsFileFirst file bytes left shown refused
+
+-- The output failed within the line of an entry, and that is not whole.
+pub record FailsWithin (file : EntryFile) (left : List (List ℕ)) (old new : Option (List ℕ)) (status : ℕ) : Type 0 where
+  pub entry : List ℕ
+  pub line : List ℕ
+  pub rest : List (List ℕ)
+  pub refused : Bool
+  pub next : left ≡ entry ∷ rest
+  pub shows : ShowsFileEntry file entry (line, refused)
+  pub begun : IsBegun old new (line ++ line_end)
+  pub one : status ≡ 1
+
+-- Behind the lines of the first entries the output failed, or the line of a fault is written.
+pub record IsCutShort (file : EntryFile) (input old new : Option (List ℕ)) (status : ℕ) : Type 0 where
+  pub shown : List ℕ
+  pub left : List (List ℕ)
+  pub are : IfSome input (AreFirstLines file left shown)
+  pub between : Option (List ℕ)
+  pub written : Appends old between shown
+  pub rest : FailsWithin file left between new status ⊎ WritesFault between new status
+
+-- The table's line is written with its status, or that of a fault. What is shown of a file is written as it is made.
 abbrev pub Runs : List (List ℕ) → Option (List ℕ) → Option (List ℕ) → Option (List ℕ) → ℕ → Type 0
 Runs words input old new status =
     ((a : Answer) × IsAnswer words input a × Writes old new (answer_line a) (status_of a) status)
     ⊎ (((c : Command) × Asks words c) × WritesFault old new status)
+    ⊎ ((file : EntryFile) × Asks words (commands.Entries file) × IfSome input IsUtf8 × IsCutShort file input old new status)
 
 -- an error's line, one line alone
 abbrev pub IsRefusalLine : List ℕ → Type 0

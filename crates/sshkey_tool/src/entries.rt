@@ -1,15 +1,16 @@
-//! What is shown of the entries of a file.
+//! What is shown of the entries of a file, and written.
 
 ghost use Rattle.sshkey_entries.specs.AuthorizedKeys.{IsAuthorizedKey, authorized_text};
 ghost use Rattle.sshkey_entries.specs.KnownHosts.{IsKnownHost, known_text};
-ghost use Rattle.sshkey_tool.specs.Outcomes.{RefusesEntry, ShowsEntryLine, ShowsFileLines, WritesEntry, WritesEntryOf};
+ghost use Rattle.sshkey_tool.specs.Outcomes.{RefusesEntry, ShowsEntryLine, WritesEntries, WritesEntry, WritesEntryOf};
 
 use crate::command::EntryFile;
-use crate::refusal::refused_line;
-use crate::shown_lines::ShownLines;
+use crate::output::is_written;
+use crate::refusal::{refuse, refused_line};
 use ssh_key::{Error, authorized_keys, encoding, known_hosts};
 use sshkey_files::EntryTexts;
 use std::alloc::Global;
+use std::io::Write;
 
 /// The text of an entry of authorized_keys.
 fn authorized_text(alloc: Global, line: &str) -> Result<String, Error>
@@ -47,39 +48,53 @@ fn refused_entry(alloc: Global, error: &Error) -> Result<String, Error>
     }
 }
 
+/// What is shown of an entry.
+#[derive(Debug, Drop)]
+struct ShownEntry {
+    /// A line with its line end.
+    line: String,
+    /// Whether it says a refusal.
+    refused: bool,
+}
+
 /// The line of an entry: its text, or why it is refused.
-fn entry_line(alloc: Global, file: EntryFile, line: &str) -> Result<ShownLines, Error>
+fn entry_line(alloc: Global, file: EntryFile, line: &str) -> Result<ShownEntry, Error>
     ensures { ShowsEntryLine file line.now result }
 {
     match entry_text(alloc, file, line) {
-        Ok(text) => Ok(ShownLines {
-            text: format!(in alloc; "{text}\n")?,
+        Ok(text) => Ok(ShownEntry {
+            line: format!(in alloc; "{text}\n")?,
             refused: false,
         }),
-        Err(error) => Ok(ShownLines {
-            text: refused_entry(alloc, &error)?,
+        Err(error) => Ok(ShownEntry {
+            line: refused_entry(alloc, &error)?,
             refused: true,
         }),
     }
 }
 
-/// The lines of all entries of a text. They are kept in memory until all are made.
-pub(crate) fn shown_of_entries(
+/// Writes the line of each entry of a text, one after the other, and says by a status whether one of
+/// them is refused. The first line that can't be made or written is the end.
+pub(crate) fn write_entries<W: Write>(
     alloc: Global,
     file: EntryFile,
     text: &str,
-) -> Result<ShownLines, Error>
-    ensures { ShowsFileLines file text.now result }
+    output: &mut W,
+) -> u8
+    ensures { WritesEntries file text.now (W.contents output.old) (W.contents output.new) result }
 {
-    let mut lines = String::new(alloc);
-    let mut refused = false;
+    let mut status = 0;
     for entry in EntryTexts::new(text) {
-        let shown = entry_line(alloc, file, entry)?;
-        lines.push_str(shown.text.as_str())?;
-        refused = refused || shown.refused;
+        let shown = match entry_line(alloc, file, entry) {
+            Ok(shown) => shown,
+            Err(error) => return refuse(alloc, &error, output),
+        };
+        if !is_written(output, shown.line.as_bytes()) {
+            return 1;
+        }
+        if shown.refused {
+            status = 1;
+        }
     }
-    Ok(ShownLines {
-        text: lines,
-        refused,
-    })
+    status
 }

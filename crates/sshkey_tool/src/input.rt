@@ -2,8 +2,9 @@
 
 ghost use Rattle.std.specs.Prelude.{◌≡◌, IfOk, IfErr, IfSome};
 ghost use Rattle.sshkey_tool.specs.Faults.{IsMachineFault};
+ghost use Rattle.sshkey_tool.specs.Outcomes.{ReadsText};
 
-use ssh_key::Error;
+use ssh_key::{Error, encoding};
 use std::alloc::Global;
 use std::io::{ErrorKind, Read};
 
@@ -33,4 +34,15 @@ pub(crate) fn read_all<R: Read>(alloc: Global, input: &mut R) -> Result<Vec<u8>,
         }
     }
     Err(Error::Io(ErrorKind::Other))
+}
+
+/// The same as a text, and `CharacterEncoding` where it is none.
+pub(crate) fn read_text<R: Read>(alloc: Global, input: &mut R) -> Result<String, Error>
+    ensures { ReadsText (R.remaining input.old) result }
+{
+    let bytes = read_all(alloc, input)?;
+    match String::from_utf8(bytes) {
+        Ok(text) => Ok(text),
+        Err(_) => Err(Error::Encoding(encoding::Error::CharacterEncoding)),
+    }
 }

@@ -9,6 +9,5 @@ mod output;
 mod program;
 mod refusal;
 mod shown;
-mod shown_lines;
 
 pub use program::run;

@@ -8,7 +8,7 @@ use std::io::{ErrorKind, Write};
 const MOST_WRITES: u64 = 0x1_0000_0000;
 
 /// Writes a line whole, or a beginning of it, and says whether it is whole.
-fn is_written<W: Write>(output: &mut W, line: &[u8]) -> bool
+pub(crate) fn is_written<W: Write>(output: &mut W, line: &[u8]) -> bool
     ensures { WritesLine (W.contents output.old) (W.contents output.new) line.now result }
 {
     let mut written = 0;

@@ -1,15 +1,16 @@
 //! The program.
 
 ghost use Rattle.std.specs.Prelude.{◌≡◌};
-ghost use Rattle.sshkey_tool.specs.Outcomes.{WritesOutcome, lines_status};
+ghost use Rattle.sshkey_tool.specs.Outcomes.{WritesOutcome};
 ghost use Rattle.sshkey_tool.specs.Table.{Runs, IsNoCommand, texts};
 
 use crate::command::Command;
+use crate::entries::write_entries;
+use crate::input::read_text;
 use crate::output::write_line;
-use crate::refusal::refused_line;
-use crate::shown::shown_of;
-use crate::shown_lines::ShownLines;
-use ssh_key::{Error, encoding};
+use crate::refusal::refuse;
+use crate::shown::{shown_of_certificate_line, shown_of_key_line};
+use ssh_key::Error;
 use std::alloc::Global;
 use std::io::{Read, Write};
 
@@ -17,33 +18,13 @@ use std::io::{Read, Write};
 const USAGE: [u8; 84] =
     *b"usage: sshkey fingerprint | art <header> | normal | cert [principal] | keys | hosts\n";
 
-/// What is written where memory ran out.
-const OUT_OF_MEMORY: [u8; 23] = *b"refused: out of memory\n";
-
-/// What is written where the input could not be read.
-const INPUT_FAULT: [u8; 19] = *b"refused: I/O error\n";
-
-/// The status of lines, of which some may say a refusal.
-fn lines_status(refused: bool) -> u8
-    ensures { result ≡ lines_status refused }
-{
-    if refused { 1 } else { 0 }
-}
-
 /// Writes what is shown of an input, or why nothing is.
-fn answer<W: Write>(alloc: Global, outcome: &Result<ShownLines, Error>, output: &mut W) -> u8
+fn answer<W: Write>(alloc: Global, outcome: &Result<String, Error>, output: &mut W) -> u8
     ensures { WritesOutcome outcome.now (W.contents output.old) (W.contents output.new) result }
 {
     match outcome {
-        Ok(lines) => write_line(output, lines.text.as_bytes(), lines_status(lines.refused)),
-        Err(Error::Memory | Error::Encoding(encoding::Error::Memory)) => {
-            write_line(output, &OUT_OF_MEMORY, 1)
-        }
-        Err(Error::Io(_)) => write_line(output, &INPUT_FAULT, 1),
-        Err(error) => match refused_line(alloc, error) {
-            Ok(line) => write_line(output, line.as_bytes(), 1),
-            Err(_) => write_line(output, &OUT_OF_MEMORY, 1),
-        },
+        Ok(text) => write_line(output, text.as_bytes(), 0),
+        Err(error) => refuse(alloc, error, output),
     }
 }
 
@@ -57,10 +38,9 @@ fn answer<W: Write>(alloc: Global, outcome: &Result<ShownLines, Error>, output: 
 /// word, for `normal` after the line that is written of the key and its comment, and for `cert` after
 /// the fields of the certificate, a line each, and where a principal follows the word, a line that
 /// says whether the certificate allows it. For `keys` and `hosts` the text of each entry of the file
-/// is written, or `refused:` and why the entry is none, and the status is 1 if one of them was
-/// refused; all of it is kept in memory first. Each line has a line end, and a reason is one line. A
-/// header, a key id, a principal and an option stand as they are, line ends and control characters
-/// too.
+/// is written, or `refused:` and why the entry is none, each before the next is read, and the status
+/// is 1 if one of them was refused. Each line has a line end, and a reason is one line. A header, a
+/// key id, a principal and an option stand as they are, line ends and control characters too.
 ///
 /// What is shown or refused is the table's of all bytes of an input whose reader tells them
 /// (`remaining`); of another input no more is said than that the line is one of the command's. What
@@ -73,6 +53,19 @@ pub fn run<R: Read, W: Write>(alloc: Global, words: &[&str], input: &mut R, outp
     let Some(command) = Command::from_words(words) else {
         return write_line(output, &USAGE, 2);
     };
-    let outcome = shown_of(alloc, command, input);
-    answer(alloc, &outcome, output)
+    let text = match read_text(alloc, input) {
+        Ok(text) => text,
+        Err(error) => return refuse(alloc, &error, output),
+    };
+    match command {
+        Command::Key(command) => {
+            let outcome = shown_of_key_line(alloc, command, &text);
+            answer(alloc, &outcome, output)
+        }
+        Command::Certificate(wanted) => {
+            let outcome = shown_of_certificate_line(alloc, wanted, &text);
+            answer(alloc, &outcome, output)
+        }
+        Command::Entries(file) => write_entries(alloc, file, &text, output),
+    }
 }

@@ -1,17 +1,12 @@
-//! What is shown of an input.
+//! What is shown of a line.
 
-ghost use Rattle.sshkey_tool.specs.Outcomes.{ShowsKey, ShowsText, ShowsLines, ShowsBytes, ShowsInput};
+ghost use Rattle.sshkey_tool.specs.Outcomes.{ShowsKey, ShowsText};
 ghost use Rattle.sshkey_tool.specs.declared.command.Command.TheVariants as commands;
 
 use crate::certificate::shown_of_certificate;
-use crate::command::{Command, KeyCommand};
-use crate::entries::shown_of_entries;
-use crate::input::read_all;
-use crate::shown_lines::ShownLines;
+use crate::command::KeyCommand;
 use ssh_key::{Certificate, Error, HashAlg, PublicKey};
 use std::alloc::Global;
-use std::io::Read;
-use std::str;
 
 /// What the command shows of a key with its comment.
 fn shown_of_key(alloc: Global, command: KeyCommand<'_>, key: &PublicKey) -> Result<String, Error>
@@ -36,7 +31,11 @@ fn shown_of_key(alloc: Global, command: KeyCommand<'_>, key: &PublicKey) -> Resu
 }
 
 /// The same of the key in a line.
-fn shown_of_key_line(alloc: Global, command: KeyCommand<'_>, text: &str) -> Result<String, Error>
+pub(crate) fn shown_of_key_line(
+    alloc: Global,
+    command: KeyCommand<'_>,
+    text: &str,
+) -> Result<String, Error>
     ensures { ShowsText (commands.Key command.entry) text.now result }
 {
     let key = PublicKey::from_openssh(alloc, text)?;
@@ -44,7 +43,7 @@ fn shown_of_key_line(alloc: Global, command: KeyCommand<'_>, text: &str) -> Resu
 }
 
 /// What is shown of the certificate in a line.
-fn shown_of_certificate_line(
+pub(crate) fn shown_of_certificate_line(
     alloc: Global,
     wanted: Option<&str>,
     text: &str,
@@ -53,41 +52,4 @@ fn shown_of_certificate_line(
 {
     let certificate = Certificate::from_openssh(alloc, text)?;
     shown_of_certificate(alloc, wanted, &certificate)
-}
-
-/// What the command shows of a text.
-fn shown_of_text(alloc: Global, command: Command<'_>, text: &str) -> Result<ShownLines, Error>
-    ensures { ShowsLines command.entry text.now result }
-{
-    match command {
-        Command::Key(command) => {
-            let line = shown_of_key_line(alloc, command, text)?;
-            Ok(ShownLines::whole(line))
-        }
-        Command::Certificate(wanted) => {
-            let lines = shown_of_certificate_line(alloc, wanted, text)?;
-            Ok(ShownLines::whole(lines))
-        }
-        Command::Entries(file) => shown_of_entries(alloc, file, text),
-    }
-}
-
-/// The same of bytes that may be a text.
-fn shown_of_bytes(alloc: Global, command: Command<'_>, bytes: &[u8]) -> Result<ShownLines, Error>
-    ensures { ShowsBytes command.entry bytes.now result }
-{
-    let text = str::from_utf8(bytes)?;
-    shown_of_text(alloc, command, text)
-}
-
-/// The same of all that the input has left.
-pub(crate) fn shown_of<R: Read>(
-    alloc: Global,
-    command: Command<'_>,
-    input: &mut R,
-) -> Result<ShownLines, Error>
-    ensures { ShowsInput command.entry (R.remaining input.old) result }
-{
-    let bytes = read_all(alloc, input)?;
-    shown_of_bytes(alloc, command, &bytes)
 }

@@ -10,7 +10,7 @@ ghost use Rattle.sshkey_model.specs.Reading as fault;
 ghost use Rattle.sshkey_base.specs.Reading.{AcceptsFront, DecodesWide, LengthPast};
 ghost use Rattle.sshkey_base.specs.Causes.{cause};
 ghost use Rattle.sshkey_base.specs.Names.{IsFixed, algorithm_of};
-ghost use Rattle.sshkey_base.specs.Answers.{Names};
+ghost use Rattle.sshkey_base.specs.Answers.{Judges, Names};
 ghost use Rattle.sshkey_base.specs.Needs.{Asks, NeedsString};
 ghost use Rattle.sshkey_base.specs.Source.{Later};
 ghost use Rattle.sshkey_base.specs.Sink.{Encodes};
@@ -44,6 +44,25 @@ impl Algorithm {
                 let name = AlgorithmName::from_certificate_type(alloc, name)?;
                 Ok(Algorithm::Other(name))
             }
+        }
+    }
+
+    /// The algorithm with that fixed name in a certificate (PROTOCOL.certkeys), an RSA algorithm
+    /// without a hash; `None` for any other text. Takes no memory.
+    pub fn fixed_certificate(name: &str) -> Option<Algorithm>
+        ensures { option_map algorithm_of result ≡ named certificate_name certified name.now }
+    {
+        fixed_in_certificate(name)
+    }
+
+    /// Whether it is the name of an algorithm in a certificate (PROTOCOL.certkeys): Ok exactly where
+    /// `new_certificate` with enough memory is, else `Label`. Takes no memory.
+    pub fn check_certificate(name: &str) -> Result<()>
+        ensures { Judges cause (certified_from name.now) result }
+    {
+        match fixed_in_certificate(name) {
+            Some(_) => Ok(()),
+            None => AlgorithmName::check_certificate_type(name),
         }
     }
 

@@ -12,8 +12,8 @@ ghost use Rattle.sshkey_model.specs.Names.{Other, are_ascii, at_sign, is_own_nam
 ghost use Rattle.sshkey_model.specs.Parts.{bytes, ◌&◌};
 ghost use Rattle.sshkey_base.specs.Causes.{cause};
 ghost use Rattle.sshkey_base.specs.Labels.{LooksUp};
-ghost use Rattle.sshkey_base.specs.Answers.{Names};
-ghost use Rattle.sshkey_base.specs.AlgorithmName.{own_name_from, NamesCertified, IsNoCertificateType, IsCutOf, IsWithoutSuffix, are_own_parts};
+ghost use Rattle.sshkey_base.specs.Answers.{Judges, Names};
+ghost use Rattle.sshkey_base.specs.AlgorithmName.{own_name_from, NamesCertified, JudgesCertified, IsNoCertificateType, IsCutOf, IsWithoutSuffix, AreCertifiedParts, are_own_parts};
 ghost use Rattle.sshkey_base.specs.Sink.{Encodes};
 ghost use Rattle.sshkey_base.specs.declared.encoding.Error.TheVariants as encoding;
 
@@ -120,15 +120,32 @@ impl AlgorithmName {
         ensures refused { IsNoCertificateType text.now →
             result ≡ Err (Error.Encoding encoding.Label) }
     {
-        let Some((name, domain)) = without_suffix(text) else {
+        let Some((name, domain)) = certified_parts(text) else {
             return Err(Error::from(LabelError));
         };
-        if !are_own_parts(name, domain) {
-            return Err(Error::from(LabelError));
-        }
         Ok(AlgorithmName {
             text: format!(in alloc; "{name}@{domain}")?,
         })
+    }
+
+    // Whether it is a private-use name.
+    pub(crate) fn check(text: &str) -> Result<()>
+        ensures { Judges cause (own_name_from text.now) result }
+    {
+        if !is_own_name(text) {
+            return Err(Error::from(LabelError));
+        }
+        Ok(())
+    }
+
+    // Whether it is the certificate type of such a name.
+    pub(crate) fn check_certificate_type(text: &str) -> Result<()>
+        ensures { JudgesCertified cause text.now result }
+    {
+        if certified_parts(text).is_none() {
+            return Err(Error::from(LabelError));
+        }
+        Ok(())
     }
 
     /// A name with the same bytes. It is refused only when out of memory.
@@ -175,6 +192,17 @@ fn is_ascii(text: &str) -> bool
     ensures { result ≡ are_ascii text.now }
 {
     text.is_ascii()
+}
+
+// The two parts of the name whose certificate type is that text.
+fn certified_parts(text: &str) -> Option<(&str, &str)>
+    ensures { AreCertifiedParts text.now result }
+{
+    let (name, domain) = without_suffix(text)?;
+    if !are_own_parts(name, domain) {
+        return None;
+    }
+    Some((name, domain))
 }
 
 // The two parts of a certificate type, without the suffix of the first.

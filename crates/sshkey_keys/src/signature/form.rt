@@ -28,9 +28,10 @@ pub(crate) fn check_blob(algorithm: &Algorithm, bytes: &[u8]) -> Result<()>
     check_string(algorithm, split_trailer(bytes).0)
 }
 
-/// Whether flags and a counter stand behind the string, as in the signatures of security keys.
+/// Whether the flags and the counter, five bytes, stand behind the string, as in the signatures of
+/// security keys (PROTOCOL.u2f).
 #[inline(always)]
-pub(crate) fn has_trailer(algorithm: &Algorithm) -> bool
+pub fn has_trailer(algorithm: &Algorithm) -> bool
     ensures { result ≡ has_trailer (algorithm_of algorithm.now) }
 {
     matches!(
@@ -39,9 +40,14 @@ pub(crate) fn has_trailer(algorithm: &Algorithm) -> bool
     )
 }
 
-/// Whether the bytes are those that stand in the string of a signature by the algorithm.
+/// Whether the bytes are those that stand in the string of a signature by the algorithm, without
+/// the flags and the counter of a security key.
+///
+/// `Length` for too few or too many, and for `ssh-rsa`, under which there are no signatures;
+/// `FormatEncoding` and `Crypto` for what is no positive number of an ECDSA signature. Takes no
+/// memory.
 #[inline(always)]
-pub(crate) fn check_string(algorithm: &Algorithm, bytes: &[u8]) -> Result<()>
+pub fn check_string(algorithm: &Algorithm, bytes: &[u8]) -> Result<()>
     ensures { AnswersAlways (λ _. bytes.now) cause
         (string_from (algorithm_of algorithm.now) bytes.now) result }
 {

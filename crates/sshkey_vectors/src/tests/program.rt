@@ -10,6 +10,12 @@ const LINE: &[u8] =
 
 const SHOWN: &[u8] = b"SHA256:UCUiLr7Pjs9wFFJMDByLgc3NrtdU344OgUM45wZPcIQ\n";
 
+const ENTRIES: &[u8] =
+    b"ssh-ed25519 AAAAC3NzaC1lZDI1NTE5AAAAILM+rvN+ot98qgEN796jTiQfZfG1KaT0PtFDJ/XFSqti a\n\nkey\nssh-ed25519 AAAAC3NzaC1lZDI1NTE5AAAAILM+rvN+ot98qgEN796jTiQfZfG1KaT0PtFDJ/XFSqti b # c";
+
+const ENTRIES_SHOWN: &[u8] =
+    b"ssh-ed25519 AAAAC3NzaC1lZDI1NTE5AAAAILM+rvN+ot98qgEN796jTiQfZfG1KaT0PtFDJ/XFSqti a\nrefused: format encoding error\nssh-ed25519 AAAAC3NzaC1lZDI1NTE5AAAAILM+rvN+ot98qgEN796jTiQfZfG1KaT0PtFDJ/XFSqti b\n";
+
 const USAGE: &[u8] =
     b"usage: sshkey fingerprint | art <header> | normal | cert [principal] | keys | hosts\n";
 
@@ -153,14 +159,15 @@ fn with_room(alloc: Global, room: usize, is_full: bool) -> Narrow {
 /// An output with room for less than the text holds its beginning, and the status is 1.
 fn holds_a_beginning(
     alloc: Global,
-    words: &[&str],
+    word: &str,
+    input: &[u8],
     text: &[u8],
     room: usize,
     is_full: bool,
 ) -> bool {
-    let mut left = LINE;
+    let mut left = input;
     let mut output = with_room(alloc, room, is_full);
-    let status = run(alloc, words, &mut left, &mut output);
+    let status = run(alloc, &[word], &mut left, &mut output);
     let taken = output.taken.as_slice();
     status == 1 && taken.len() == room && text.starts_with(taken)
 }
@@ -168,15 +175,20 @@ fn holds_a_beginning(
 #[test]
 fn an_output_that_fails_holds_a_beginning(rt: HostRuntime) {
     let alloc = rt.alloc();
-    for (words, text) in [(FINGERPRINT, SHOWN), (["other"], USAGE)] {
+    let rows = [
+        ("fingerprint", LINE, SHOWN),
+        ("other", LINE, USAGE),
+        ("keys", ENTRIES, ENTRIES_SHOWN),
+    ];
+    for (word, input, text) in rows {
         for room in 0..text.len() {
             assert!(rt;
-                holds_a_beginning(alloc, &words, text, room, false),
-                "{room}"
+                holds_a_beginning(alloc, word, input, text, room, false),
+                "{word} {room}"
             );
             assert!(rt;
-                holds_a_beginning(alloc, &words, text, room, true),
-                "{room}"
+                holds_a_beginning(alloc, word, input, text, room, true),
+                "{word} {room}"
             );
         }
     }

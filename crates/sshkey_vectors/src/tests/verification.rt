@@ -4,6 +4,7 @@ use super::openssh::{EACH, Made};
 use sshkey_base::{Algorithm, Error, decode_whole};
 use sshkey_doubles::{AcceptAll, Fixed, Only, RefuseAll};
 use sshkey_keys::{KeyData, Signature, SigningKey};
+use sshkey_keys_ref::{KeyDataRef, SignatureRef};
 use sshkey_kinds::{Ed25519PublicKey, OpaquePublicKey, SkEd25519};
 use std::alloc::Global;
 
@@ -76,6 +77,30 @@ fn is_signature(alloc: Global, key: &KeyData, made: &Made) -> bool {
     }
 }
 
+/// Who knows the signature accepts its slice under the slice of its key, for what was signed alone.
+fn is_accepted_as_slice(alloc: Global, key: &KeyDataRef<'_>, made: &Made) -> bool {
+    let Ok(signature) = SignatureRef::from_bytes(made.signature) else {
+        return false;
+    };
+    match knower(alloc, made) {
+        Ok(only) => {
+            key.accepts(alloc, made.signed, &signature, &only)
+                .is_ok_and(|yes| yes)
+                && key
+                    .accepts(alloc, b"message", &signature, &only)
+                    .is_ok_and(|yes| !yes)
+        }
+        Err(_) => false,
+    }
+}
+
+fn is_known_as_slice(alloc: Global, made: &Made) -> bool {
+    match KeyDataRef::from_bytes(made.key) {
+        Ok(key) => key.as_bytes() == made.key && is_accepted_as_slice(alloc, &key, made),
+        Err(_) => false,
+    }
+}
+
 fn is_known(alloc: Global, made: &Made) -> bool {
     match decode_whole::<KeyData, &[u8]>(alloc, made.key) {
         Ok(key) => is_signature(alloc, &key, made),
@@ -90,6 +115,11 @@ fn is_known(alloc: Global, made: &Made) -> bool {
 fn a_verifier_is_asked_what_was_signed(rt: HostRuntime) {
     for made in EACH {
         assert!(rt; is_known(rt.alloc(), made), "{}", made.name);
+        assert!(rt;
+            is_known_as_slice(rt.alloc(), made),
+            "{} as a slice",
+            made.name
+        );
     }
 }
 

@@ -1,9 +1,33 @@
 use Rattle.std.proofs.Common.{◌∙◌, inl, inr, refl}
 use Rattle.std.proofs.lemmas.Result.{err_from_is_err_and}
 use Rattle.sshkey_base.specs.Causes.{same_cause}
+use Rattle.sshkey_base.proofs.Places.{later_then}
 use Rattle.sshkey_base.proofs.Steps.{refused_first, refused_later}
 use Rattle.sshkey_unsigned.specs.UnsignedReaders.{subject_at}
 use Rattle.sshkey_unsigned.proofs.unsigned.read.subject_from.Goals as goal
+
+pub returns-in_err-algorithm-clause-gives : goal.returns-in_err-algorithm-clause-gives
+unfolding subject_at
+returns-in_err-algorithm-clause-gives g c =
+    let p = err_from_is_err_and c.from_residual.result c.from_residual.ensures.1 in
+    rw (p.1, p.2) (refused_first _ _ _ _ c.in_err-algorithm.ensures.gives)
+
+pub returns-in_err-algorithm-clause-asks : goal.returns-in_err-algorithm-clause-asks
+returns-in_err-algorithm-clause-asks g c =
+    let p = err_from_is_err_and c.from_residual.result c.from_residual.ensures.1 in
+    rw (p.1, p.2) (λ memory sound. inl (c.in_err-algorithm.ensures.asks memory sound))
+
+pub returns-in_err-algorithm-clause-later : goal.returns-in_err-algorithm-clause-later
+returns-in_err-algorithm-clause-later g c = c.in_err-algorithm.ensures.later
+
+pub returns-in_err-nonce-clause-later : goal.returns-in_err-nonce-clause-later
+returns-in_err-nonce-clause-later g c = later_then _ _ _ c.in_ok-algorithm.ensures.later c.in_err-nonce.ensures.later
+
+pub returns-in_err-key-clause-later : goal.returns-in_err-key-clause-later
+returns-in_err-key-clause-later g c = later_then _ _ _ c.in_ok-algorithm.ensures.later (later_then _ _ _ c.in_ok-nonce.ensures.later c.in_err-key.ensures.later)
+
+pub returns-clause-later : goal.returns-clause-later
+returns-clause-later g c = later_then _ _ _ c.in_ok-algorithm.ensures.later (later_then _ _ _ c.in_ok-nonce.ensures.later c.in_ok-key.ensures.later)
 
 pub returns-in_err-key-clause-gives : goal.returns-in_err-key-clause-gives
 unfolding subject_at

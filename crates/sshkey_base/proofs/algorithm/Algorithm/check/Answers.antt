@@ -1,0 +1,11 @@
+use Rattle.std.proofs.Common.{sym, refl}
+use Rattle.sshkey_base.specs.Causes.{cause}
+use Rattle.sshkey_base.proofs.OtherNames.{own_judged}
+use Rattle.sshkey_base.proofs.algorithm.Algorithm.check.Goals as goal
+use Rattle.sshkey_base.proofs.algorithm.Algorithm.check.Goals.{in-Some, in-None}
+
+pub returns : goal.returns
+returns c = elim c.match-fixed.branch [
+  | in-Some w ↦ rw (w.result-is, ← c.fixed.ensures, w.in-Some.is) refl
+  | in-None w ↦ rw w.result-is (own_judged cause c.args.name.now _ (rw w.in-None.is at (sym c.fixed.ensures)) w.check.ensures)
+]

@@ -1,0 +1,130 @@
+-- What the verifier is asked about a key and a signature that are slices.
+use Rattle.std.proofs.Common.{◌≡◌, ℕ, ◌≤◌, ◌-◌, List, [], ◌++◌, length, take, drop, append-nil, replicate, ◌+◌, Bool, true, false, Some, None, Result, Ok, Err, IfOk, refl, sym, ap, subst, arith, ◌∙◌}
+use Rattle.std.specs.Int.{w32, to_be_bytes}
+use Rattle.std.proofs.lemmas.List.{take-append-drop, length-append, drop_at, drop-drop, take_at}
+use Rattle.std.proofs.lemmas.Slice.{take-put_mid, drop-put_mid}
+use borrow.Rule.Slice.PartMut.{put_mid}
+use Rattle.sshkey_model.specs.Parts.{flat}
+use Rattle.sshkey_model.specs.Reading.{Fault}
+use Rattle.sshkey_model.specs.Names.{Hash, Algorithm, algorithm_from, algorithm_at}
+use Rattle.sshkey_model.specs.Keys.{Key, Dsa, Ecdsa, Ed25519, Rsa, SkEcdsa, SkEd25519, Opaque}
+use Rattle.sshkey_model.specs.Signatures.{Signature, IsSignatureBlob, signature_at, signature_blob, signature_blob_at, without_trailer, trailer}
+use Rattle.sshkey_model.specs.Verification.{Question, question, is_yes}
+use Rattle.sshkey_model.proofs.CombinedReaders.{bind_ok, ok_is}
+use Rattle.sshkey_model.proofs.SignatureReaders.{signature_blob_reads}
+use Rattle.sshkey_base.specs.Labels.{label_at}
+use Rattle.sshkey_base.proofs.Accepted.{spelled_whole}
+use Rattle.sshkey_keys.specs.KeyKinds.{is_dsa, is_rsa, is_opaque}
+use Rattle.sshkey_keys.specs.KeyReaders.{key_grammar}
+use Rattle.sshkey_keys.specs.SignatureReaders.{SpellsSignature, signature_grammar}
+use Rattle.sshkey_keys_ref.specs.Dispatch.{Dispatches, DispatchesBytes, DispatchesKey, DispatchesKind, Answered, IsBlobIn, signature_by}
+use Rattle.sshkey_keys_ref.proofs.PlainHeads.{broken, whole_is}
+
+-- ---- the bytes of a signature
+
+behind_four : (x t b : List ℕ) → b ≡ (to_be_bytes w32 (length x) ++ x) ++ t → (4 ≤ length b) × (drop 4 b ≡ x ++ t)
+behind_four x t b e = rw e (omega (arith, length-append (to_be_bytes w32 (length x) ++ x) t, length-append (to_be_bytes w32 (length x)) x), refl)
+
+string_behind : (x b : List ℕ) → b ≡ (to_be_bytes w32 (length x) ++ x) ++ [] → (4 ≤ length b) × (drop 4 b ≡ x)
+string_behind x b e = let h = behind_four x [] b e in (h.0, h.1 ∙ append-nil x)
+
+trailed_behind : (x b : List ℕ) → b ≡ ((to_be_bytes w32 (length (without_trailer x)) ++ without_trailer x) ++ trailer x) ++ [] → (4 ≤ length b) × (drop 4 b ≡ x)
+trailed_behind x b e =
+    let h = behind_four (without_trailer x) (trailer x) b (e ∙ append-nil ((to_be_bytes w32 (length (without_trailer x)) ++ without_trailer x) ++ trailer x)) in
+    (h.0, h.1 ∙ take-append-drop (length x - 5) x)
+
+pub blob_behind : (a : Algorithm) (b x : List ℕ) → signature_blob_at a b ≡ Ok (x, []) → (4 ≤ length b) × (drop 4 b ≡ x)
+unfolding flat
+blob_behind a b x e = go a (((signature_blob_reads a).takes b x [] e).2)
+  where
+    go : (a : Algorithm) → b ≡ flat (signature_blob a x) ++ [] → (4 ≤ length b) × (drop 4 b ≡ x)
+    go Algorithm.Dsa e = string_behind x b e
+    go (Algorithm.Ecdsa c) e = string_behind x b e
+    go Algorithm.Ed25519 e = string_behind x b e
+    go (Algorithm.Rsa h) e = string_behind x b e
+    go Algorithm.SkEcdsa e = trailed_behind x b e
+    go Algorithm.SkEd25519 e = trailed_behind x b e
+    go (Algorithm.Other n) e = string_behind x b e
+
+-- ---- from parts to the whole
+
+pub dispatched : {E : Type 0} (accepts : Question → Bool) (key m s behind blob : List ℕ) (a : Algorithm) (r : Result Bool E) → label_at algorithm_from s ≡ Ok (a, behind) → IsBlobIn behind blob → DispatchesKey accepts key m a blob r → DispatchesBytes accepts key m s r
+unfolding signature_at algorithm_at label_at
+dispatched accepts key m s behind blob a r named holds answered k g ks gs =
+    let read = whole_is signature_at s g (spelled_whole signature_grammar s g gs) in
+    let x = bind_ok (signature_blob_at a behind) (λ y. Ok (signature_by a y.0, y.1)) (g, []) (rw named at read) in
+    let both = ok_is (signature_by a x.0.0, x.0.1) (g, []) x.2 in
+    let is : signature_by a x.0.0 ≡ g = ap (λ (z : Signature × List ℕ). z.0) both in
+    let ends : x.0.1 ≡ [] = ap (λ (z : Signature × List ℕ). z.1) both in
+    let blob_is : blob ≡ x.0.0 = holds a x.0.0 (x.1 ∙ ap (λ (l : List ℕ). Ok (x.0.0, l)) ends) in
+    let same : signature_by a blob ≡ g = ap (signature_by a) blob_is ∙ is in
+    let well = subst (λ (z : Signature). IsSignatureBlob z.algorithm z.blob) (sym same) gs.is.1 in
+    subst (λ (z : Signature). Dispatches accepts k m z r) same (answered k (spelled_whole key_grammar key k ks) well)
+
+pub no_signature : {X : Type 0} (s : List ℕ) (f : Fault) (g : Signature) → label_at algorithm_from s ≡ Err f → SpellsSignature g s → X
+unfolding signature_at algorithm_at label_at
+no_signature s f g e gs = absurd (broken (algorithm_at s) _ (g, []) f e (whole_is signature_at s g (spelled_whole signature_grammar s g gs)))
+
+-- ---- keys that are made in memory
+
+pub dsa_asked : {E : Type 0} (accepts : Question → Bool) (key m blob : List ℕ) (r : Result Bool E) → Answered accepts key m (signature_by Algorithm.Dsa blob) r → DispatchesKind (λ k. is_dsa k ≡ true) accepts key m (signature_by Algorithm.Dsa blob) r
+dsa_asked {E} accepts key m blob r h k e is = go k r (h k e) is
+  where
+    go : (k : Key) (r : Result Bool E) → IfOk r (λ x. x ≡ accepts (record { algorithm = Algorithm.Dsa; key = k; message = m; blob = blob })) → is_dsa k ≡ true → Dispatches accepts k m (signature_by Algorithm.Dsa blob) r
+    go (Dsa d) (Ok x) h is = h
+    go (Dsa d) (Err e) h is = λ none. absurd (cc none)
+    go (Ecdsa c point) r h is = absurd (cc is)
+    go (Ed25519 d) r h is = absurd (cc is)
+    go (Rsa d) r h is = absurd (cc is)
+    go (SkEcdsa d) r h is = absurd (cc is)
+    go (SkEd25519 d) r h is = absurd (cc is)
+    go (Opaque n d) r h is = absurd (cc is)
+
+pub rsa_asked : {E : Type 0} (accepts : Question → Bool) (a : Algorithm) (hash : Hash) (key m blob : List ℕ) (r : Result Bool E) → a ≡ Algorithm.Rsa (Some hash) → Answered accepts key m (signature_by a blob) r → DispatchesKind (λ k. is_rsa k ≡ true) accepts key m (signature_by a blob) r
+rsa_asked {E} accepts a hash key m blob r under h k e is = rw under (go k r (rw under at (h k e)) is)
+  where
+    go : (k : Key) (r : Result Bool E) → IfOk r (λ x. x ≡ accepts (record { algorithm = Algorithm.Rsa (Some hash); key = k; message = m; blob = blob })) → is_rsa k ≡ true → Dispatches accepts k m (signature_by (Algorithm.Rsa (Some hash)) blob) r
+    go (Rsa d) (Ok x) h is = h
+    go (Rsa d) (Err e) h is = λ none. absurd (cc none)
+    go (Dsa d) r h is = absurd (cc is)
+    go (Ecdsa c point) r h is = absurd (cc is)
+    go (Ed25519 d) r h is = absurd (cc is)
+    go (SkEcdsa d) r h is = absurd (cc is)
+    go (SkEd25519 d) r h is = absurd (cc is)
+    go (Opaque n d) r h is = absurd (cc is)
+
+-- nothing is asked under a private-use name
+pub never_asked : (accepts : Question → Bool) (a : Algorithm) (k : Key) (m blob : List ℕ) → is_opaque k ≡ true → false ≡ is_yes accepts (question k m (signature_by a blob))
+never_asked accepts a (Opaque n d) m blob is = under a
+  where
+    under : (a : Algorithm) → false ≡ is_yes accepts (question (Opaque n d) m (signature_by a blob))
+    under Algorithm.Dsa = refl
+    under (Algorithm.Ecdsa c) = refl
+    under Algorithm.Ed25519 = refl
+    under (Algorithm.Rsa None) = refl
+    under (Algorithm.Rsa (Some h)) = refl
+    under Algorithm.SkEcdsa = refl
+    under Algorithm.SkEd25519 = refl
+    under (Algorithm.Other name) = refl
+never_asked accepts a (Dsa d) m blob is = absurd (cc is)
+never_asked accepts a (Ecdsa c point) m blob is = absurd (cc is)
+never_asked accepts a (Ed25519 d) m blob is = absurd (cc is)
+never_asked accepts a (Rsa d) m blob is = absurd (cc is)
+never_asked accepts a (SkEcdsa d) m blob is = absurd (cc is)
+never_asked accepts a (SkEd25519 d) m blob is = absurd (cc is)
+
+-- ---- two parts, written one behind the other
+
+put_behind : (a z b : List ℕ) (n m : ℕ) → length a ≡ n → length b ≡ m → m ≤ length z → put_mid n m (a ++ z) b ≡ (a ++ b) ++ drop m z
+put_behind a z b n m a-len b-len le =
+    let all : List ℕ = put_mid n m (a ++ z) b in
+    let within : n ≤ length (a ++ z) = omega (arith, length-append a z) in
+    let front : take (n + m) all ≡ a ++ b = take-put_mid n m (a ++ z) b (n + m) (omega arith) within ∙ ap (λ (w : List ℕ). w ++ b) (take_at a z n a-len) in
+    let behind : drop (n + m) all ≡ drop m z = drop-put_mid n m (a ++ z) b (n + m) (omega arith) within b-len ∙ sym (drop-drop m n (a ++ z)) ∙ ap (drop m) (drop_at a z n a-len) in
+    sym (take-append-drop (n + m) all) ∙ rw (front, behind) refl
+
+pub flagged_parts : (a t : List ℕ) → length a ≡ 32 → length t ≡ 5 → put_mid 32 5 (a ++ replicate 5 0) t ≡ a ++ t
+flagged_parts a t a-len t-len = put_behind a (replicate 5 0) t 32 5 a-len t-len (omega arith) ∙ append-nil (a ++ t)
+
+pub signed_parts : (a b : List ℕ) → length a ≡ 37 → length b ≡ 32 → put_mid 37 32 (a ++ replicate 32 0) b ≡ a ++ b
+signed_parts a b a-len b-len = put_behind a (replicate 32 0) b 37 32 a-len b-len (omega arith) ∙ append-nil (a ++ b)

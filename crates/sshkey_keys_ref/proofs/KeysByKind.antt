@@ -1,0 +1,57 @@
+-- The kind of a key that bytes spell, and what it is made of.
+use Rattle.std.proofs.Common.{◌≡◌, ℕ, List, [], true, inl, inr, Result, Ok, Err, refl, sym, ap, ◌∙◌}
+use Rattle.sshkey_model.specs.Reading.{Fault, AlgorithmUnknown, whole}
+use Rattle.sshkey_model.specs.Names.{Curve, Algorithm, algorithm_from}
+use Rattle.sshkey_model.specs.Keys.{Key, Dsa, Ecdsa, Ed25519, Rsa, SkEcdsa, SkEd25519, Opaque, key_algorithm, unhashed, body_at, any_ecdsa_at, ecdsa_at, has_curve, wanted_curve}
+use Rattle.sshkey_model.proofs.CombinedReaders.{bind_ok, ok_is, chosen}
+use Rattle.sshkey_model.proofs.KeyReaders.{body_reads}
+use Rattle.sshkey_base.specs.Labels.{label_at}
+use Rattle.sshkey_keys.specs.KeyKinds.{is_dsa}
+use Rattle.sshkey_keys.specs.Keys.{key_data_at}
+use Rattle.sshkey_keys_ref.proofs.PlainHeads.{broken, whole_is}
+
+-- a reader gives one value
+pub same_value : {Y : Type 0} (r : Result (Y × List ℕ) Fault) (x y : Y) (p q : List ℕ) → r ≡ Ok (x, p) → r ≡ Ok (y, q) → y ≡ x
+same_value {Y} r x y p q e d = ap (λ (z : Y × List ℕ). z.0) (ok_is (y, q) (x, p) (sym d ∙ e))
+
+pub never : {Y X : Type 0} (r : Result Y Fault) (f : Fault) (y : Y) → r ≡ Err f → r ≡ Ok y → X
+never r f y e d = absurd (cc (e, d))
+
+pub of_dsa : (k : Key) → key_algorithm k ≡ Algorithm.Dsa → is_dsa k ≡ true
+of_dsa (Dsa k) e = refl
+of_dsa (Ecdsa c point) e = absurd cc
+of_dsa (Ed25519 k) e = absurd cc
+of_dsa (Rsa k) e = absurd cc
+of_dsa (SkEcdsa k) e = absurd cc
+of_dsa (SkEd25519 k) e = absurd cc
+of_dsa (Opaque n k) e = absurd cc
+
+-- a body is one of its algorithm
+pub body_algorithm : (a : Algorithm) (b rest : List ℕ) (k : Key) → body_at a b ≡ Ok (k, rest) → key_algorithm k ≡ unhashed a
+body_algorithm a b rest k e = ((body_reads a).takes b k rest e).0.0
+
+-- of whichever curve it is wanted
+pub ecdsa_found : (c : Curve) (b p q : List ℕ) (x k : Key) → any_ecdsa_at b ≡ Ok (x, p) → ecdsa_at c b ≡ Ok (k, q) → k ≡ x
+unfolding ecdsa_at
+ecdsa_found c b p q x k e d =
+    let y = bind_ok (wanted_curve (λ (z : Key). z) c x) (λ z. Ok (z, p)) (k, q) (rw e at d) in
+    let is : k ≡ y.0 = ap (λ (z : Key × List ℕ). z.0) (ok_is (k, q) (y.0, p) (sym y.2)) in
+    elim (chosen (has_curve c x) (Ok x) (Err AlgorithmUnknown) (Ok y.0) y.1) [
+      | inl yes_ ↦ is ∙ sym (ok_is x y.0 yes_.1)
+      | inr no_ ↦ absurd (cc no_.1)
+    ]
+
+pub ecdsa_refused : {X : Type 0} (c : Curve) (b q : List ℕ) (f : Fault) (k : Key) → any_ecdsa_at b ≡ Err f → ecdsa_at c b ≡ Ok (k, q) → X
+unfolding ecdsa_at
+ecdsa_refused c b q f k e d = absurd (broken (any_ecdsa_at b) _ (k, q) f e d)
+
+-- the body of a key that is read to its end
+pub body_behind : (b rest : List ℕ) (a : Algorithm) (k : Key) → label_at algorithm_from b ≡ Ok (a, rest) → whole key_data_at b ≡ Ok k → body_at a rest ≡ Ok (k, [])
+unfolding key_data_at
+body_behind b rest a k named e =
+    let x = bind_ok (body_at a rest) (λ key. Ok (key.0, key.1)) (k, []) (rw named at (whole_is key_data_at b k e)) in
+    x.1 ∙ x.2
+
+pub no_body : {X : Type 0} (b : List ℕ) (f : Fault) (k : Key) → label_at algorithm_from b ≡ Err f → whole key_data_at b ≡ Ok k → X
+unfolding key_data_at
+no_body b f k e d = absurd (broken (label_at algorithm_from b) _ (k, []) f e (whole_is key_data_at b k d))

@@ -1,0 +1,87 @@
+-- Bodies that a walk over a slice takes.
+use Rattle.std.proofs.Common.{◌≡◌, ◌≢◌, ℕ, ◌-◌, List, ◌∷◌, ◌++◌, length, take, drop, bytes_eq, inl, inr, Option, Some, None, Result, Ok, Err, IfErr, true, refl, sym, ap, ◌∙◌}
+use denote.Ref.{Bor}
+use Rattle.sshkey_model.specs.Reading.{Fault, Label, Front, Whole, string_at, bytes_at, checked_at}
+use Rattle.sshkey_model.specs.Names.{Algorithm, named, at_sign, cut, is_other_name, algorithm_or}
+use Rattle.sshkey_model.specs.CertificateNames.{certificate_name, certified, certified_from, certified_or, without_suffix, suffix}
+use Rattle.sshkey_model.specs.Keys.{Opaque, body_at}
+use Rattle.sshkey_base.specs.Answers.{Judges, Answers, AnswersAlways}
+use Rattle.sshkey_base.specs.Causes.{Cause, NoMemory, Faulty, Other as OtherCause}
+use Rattle.sshkey_base.specs.Reading.{Reads, GivesWhole}
+use Rattle.sshkey_base.proofs.Steps.{refuses_first}
+use Rattle.sshkey_model.proofs.CombinedReaders.{chosen}
+use Rattle.sshkey_base.specs.Source.{all_of}
+use Rattle.sshkey_model.specs.Names.{algorithm_from}
+use Rattle.sshkey_model.specs.Signatures.{signature_at, signature_blob_at, trailed_at}
+use Rattle.sshkey_model.specs.Names.{algorithm_at}
+use Rattle.sshkey_base.specs.Labels.{label_at}
+use Rattle.sshkey_keys_ref.specs.Taking.{Skips, is_taken}
+use Rattle.sshkey_keys_ref.specs.CertifiedBodies.{certified_body_at}
+
+pub skips_opaque : {E : Type 0} (cause : E → Cause) (n b : List ℕ) (r : Result (Bor (List ℕ)) E) → Skips cause string_at b r → Skips cause (body_at (Algorithm.Other n)) b r
+skips_opaque cause n b (Ok rest) h = (Opaque n h.0, rw h.1 refl)
+skips_opaque cause n b (Err e) h = refuses_first 0 (cause e) (string_at b) (λ k. Ok (Opaque n k.0, k.1)) h
+
+-- the name tells an algorithm
+pub skips_under : {E : Type 0} (cause : E → Cause) (name b : List ℕ) (a : Algorithm) (r : Result (Bor (List ℕ)) E) → certified_from name ≡ Ok a → Skips cause (body_at a) b r → Skips cause (certified_body_at name) b r
+skips_under cause name b a (Ok rest) is h = (h.0, rw is h.1)
+skips_under cause name b a (Err e) is h = rw is h
+
+stripped : (o : Option (List ℕ × List ℕ)) (a : Algorithm) → without_suffix o ≡ Ok a → (n : List ℕ) × (a ≡ Algorithm.Other n)
+stripped None a e = absurd (cc e)
+stripped (Some p) a e =
+    let bare = take (length p.0 - 9) p.0 ++ at_sign ∷ p.1 in
+    elim (chosen (bytes_eq (drop (length p.0 - 9) p.0) suffix) (algorithm_or None bare) (Err Label) (Ok a) e) [
+      | inl yes_ ↦ elim (chosen (is_other_name bare) (Ok (Algorithm.Other bare)) (Err Label) (Ok a) yes_.1) [
+        | inl other ↦ (bare, cc other.1)
+        | inr no_ ↦ absurd (cc no_.1)
+      ]
+      | inr no_ ↦ absurd (cc no_.1)
+    ]
+
+pub skips_other : {D E : Type 0} (narrow : D → Cause) (cause : E → Cause) (name b : List ℕ) (r : Result (Bor (List ℕ)) E) → named certificate_name certified name ≡ None → Judges narrow (certified_from name) (Ok tt) → Skips cause string_at b r → Skips cause (certified_body_at name) b r
+skips_other narrow cause name b r none judged h = go (certified_from name) refl judged
+  where
+    go : (found : Result Algorithm Fault) → certified_from name ≡ found → Judges narrow found (Ok tt) → Skips cause (certified_body_at name) b r
+    go (Ok a) e j =
+        let o = stripped (cut name) a (ap (λ (o : Option Algorithm). certified_or o name) (sym none) ∙ e) in
+        skips_under cause name b a r e (rw o.1 (skips_opaque cause o.0 b r h))
+    go (Err f) e j = absurd j
+
+-- ---- what was taken once is taken again
+
+only_memory : (c : Cause) → (c ≢ NoMemory → ⊥) → c ≡ NoMemory
+only_memory NoMemory h = refl
+only_memory (Faulty f) h = absurd (h (λ e. cc e))
+only_memory OtherCause h = absurd (h (λ e. cc e))
+
+pub taken_again : {X Y E : Type 0} (means : X → Y) (cause : E → Cause) (read : Whole Y) (b : List ℕ) (r : Result X E) → is_taken (read b) ≡ true → GivesWhole means cause read (all_of b) r → Answers means cause (read b) r × IfErr r (λ e. cause e ≡ NoMemory)
+taken_again means cause read b (Ok x) is h = (rw h.value refl, tt)
+taken_again {X} {Y} {E} means cause read b (Err e) is h = go (read b) refl is
+  where
+    go : (found : Result Y Fault) → read b ≡ found → is_taken found ≡ true → Answers {X = X} means cause (read b) (Err e) × (cause e ≡ NoMemory)
+    go (Ok y) is t =
+        let memory = only_memory (cause e) (λ other. rw is at (h.fault other refl)) in
+        (rw is memory, memory)
+    go (Err f) is t = absurd cc
+
+-- ---- signatures
+
+pub skips_checked : {A Y Z X D : Type 0} (first : A → Y) (read : Front Y) (judge : Y → Result Z Fault) (means : X → Z) (narrow : D → Cause) (b rest : List ℕ) (x : A) (u : X) → Reads first read (all_of b) x (all_of rest) → AnswersAlways {E = D} means narrow (judge (first x)) (Ok u) → (z : Z) × (checked_at judge read b ≡ Ok (z, rest))
+skips_checked first read judge means narrow b rest x u h judged = go (judge (first x)) refl judged
+  where
+    go : (found : Result _ Fault) → judge (first x) ≡ found → AnswersAlways means narrow found (Ok u) → (z : _) × (checked_at judge read b ≡ Ok (z, rest))
+    go (Ok z) e j = (z, rw (h.value, e) refl)
+    go (Err f) e j = absurd j
+
+pub skips_trailed : {A B X D : Type 0} (first : A → List ℕ) (second : B → List ℕ) (judge : Whole (List ℕ)) (means : X → List ℕ) (narrow : D → Cause) (b behind rest : List ℕ) (x : A) (t : B) (u : X) → Reads first string_at (all_of b) x (all_of behind) → Reads second (bytes_at 5) (all_of behind) t (all_of rest) → AnswersAlways {E = D} means narrow (judge (first x)) (Ok u) → (z : List ℕ) × (trailed_at judge b ≡ Ok (z, rest))
+skips_trailed first second judge means narrow b behind rest x t u h k judged = go (judge (first x)) refl judged
+  where
+    go : (found : Result (List ℕ) Fault) → judge (first x) ≡ found → AnswersAlways means narrow found (Ok u) → (z : List ℕ) × (trailed_at judge b ≡ Ok (z, rest))
+    go (Ok z) e j = (z ++ second t, rw (h.value, k.value, e) refl)
+    go (Err f) e j = absurd j
+
+pub skips_signature : {E X : Type 0} (cause : E → Cause) (means : X → Algorithm) (b rest : List ℕ) (x : X) (r : Result (Bor (List ℕ)) E) → Reads means (label_at algorithm_from) (all_of b) x (all_of rest) → Skips cause (signature_blob_at (means x)) rest r → Skips cause signature_at b r
+unfolding signature_at algorithm_at label_at
+skips_signature cause means b rest x (Ok out) h k = (record { algorithm = means x; blob = k.0 }, rw (h.value, k.1) refl)
+skips_signature cause means b rest x (Err e) h k = record { met = k.met; is = rw (h.value, k.is) refl; same = k.same }

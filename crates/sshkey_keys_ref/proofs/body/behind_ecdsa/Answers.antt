@@ -1,0 +1,8 @@
+use Rattle.std.proofs.Common.{refl}
+use Rattle.sshkey_kinds.specs.EcdsaPublicKey.{ecdsa_key_of}
+use Rattle.sshkey_model.specs.Keys.{ecdsa_at}
+use Rattle.sshkey_keys_ref.proofs.body.behind_ecdsa.Goals as goal
+
+pub returns : goal.returns
+unfolding ecdsa_at
+returns c = (ecdsa_key_of c.in_ok-key.key, rw (c.in_ok-key.ensures.value, ← c.is_on.ensures, c.if-not-is_on.false) refl)

@@ -1,0 +1,9 @@
+use Rattle.sshkey_base.specs.Causes.{cause}
+use Rattle.sshkey_model.specs.Points.{point_from}
+use Rattle.sshkey_model.specs.Reading.{string_at}
+use Rattle.sshkey_kinds.specs.EcdsaPublicKey.{ecdsa_of}
+use Rattle.sshkey_keys_ref.proofs.Walking.{judged_always}
+use Rattle.sshkey_keys_ref.proofs.kinds.take_point.Goals as goal
+
+pub returns : goal.returns
+returns c = judged_always (λ b. b.now) ecdsa_of cause string_at point_from _ _ _ _ c.in_ok-string.ensures c.point_of.ensures

@@ -1,0 +1,40 @@
+-- What is answered about a key and a signature that are slices.
+use Rattle.std.specs.Prelude.{◌≡◌, ◌≢◌, ℕ, List, [], Bool, None, Result, Ok, Err, IfOk}
+use Rattle.sshkey_model.specs.Keys.{Key}
+use Rattle.sshkey_model.specs.Names.{Algorithm}
+use Rattle.sshkey_model.specs.Reading.{whole}
+use Rattle.sshkey_model.specs.Signatures.{Signature, IsSignatureBlob, signature_blob_at}
+use Rattle.sshkey_model.specs.Verification.{Question, question, is_yes}
+use Rattle.sshkey_keys.specs.Keys.{SpellsKey, key_data_at}
+use Rattle.sshkey_keys.specs.SignatureReaders.{SpellsSignature}
+
+-- What the verifier answers, if it is asked, and else no. Memory is out only where it is asked.
+abbrev pub Dispatches : {E : Type 0} → (Question → Bool) → Key → List ℕ → Signature → Result Bool E → Type 0
+Dispatches accepts k message g (Ok answer) = answer ≡ is_yes accepts (question k message g)
+Dispatches accepts k message g (Err e) = question k message g ≢ None
+
+-- The same of the key and the signature that the bytes spell.
+abbrev pub DispatchesBytes : {E : Type 0} → (Question → Bool) → List ℕ → List ℕ → List ℕ → Result Bool E → Type 0
+DispatchesBytes accepts key message signature r = (k : Key) (g : Signature) → SpellsKey k key → SpellsSignature g signature → Dispatches accepts k message g r
+
+-- ---- steps
+
+-- the signature by that algorithm with these bytes
+abbrev pub signature_by : Algorithm → List ℕ → Signature
+signature_by a blob = record { algorithm = a; blob = blob }
+
+-- The same of the key that the bytes spell, and a signature whose bytes are well-formed.
+abbrev pub DispatchesKey : {E : Type 0} → (Question → Bool) → List ℕ → List ℕ → Algorithm → List ℕ → Result Bool E → Type 0
+DispatchesKey accepts key message a blob r = (k : Key) → whole key_data_at key ≡ Ok k → IsSignatureBlob a blob → Dispatches accepts k message (signature_by a blob) r
+
+-- The same of those keys alone.
+abbrev pub DispatchesKind : {E : Type 0} → (Key → Type 0) → (Question → Bool) → List ℕ → List ℕ → Signature → Result Bool E → Type 0
+DispatchesKind Is accepts key message g r = (k : Key) → whole key_data_at key ≡ Ok k → Is k → Dispatches accepts k message g r
+
+-- The verifier's answer about a signature by this algorithm under the key that the bytes spell.
+abbrev pub Answered : {E : Type 0} → (Question → Bool) → List ℕ → List ℕ → Signature → Result Bool E → Type 0
+Answered accepts key message g r = (k : Key) → whole key_data_at key ≡ Ok k → IfOk r (λ answer. answer ≡ accepts (record { algorithm = g.algorithm; key = k; message = message; blob = g.blob }))
+
+-- These bytes stand behind the length of a string.
+abbrev pub IsBlobIn : List ℕ → List ℕ → Type 0
+IsBlobIn b blob = (a : Algorithm) (expected : List ℕ) → signature_blob_at a b ≡ Ok (expected, []) → blob ≡ expected

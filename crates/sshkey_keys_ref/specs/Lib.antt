@@ -1,0 +1,10 @@
+pub mod Taking
+pub mod Kinds
+pub mod NameRef
+pub mod CertifiedBodies
+pub mod NormalBytes
+pub mod KeyFingerprints
+pub mod KeyDataRef
+pub mod KeyRef
+pub mod Dispatch
+pub mod SignatureRef

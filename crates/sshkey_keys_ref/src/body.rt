@@ -1,0 +1,108 @@
+//! What stands behind the name of a key's algorithm: its body.
+
+ghost use Rattle.std.specs.Prelude.{◌≡◌, IfErr};
+ghost use Rattle.sshkey_base.specs.Causes.{cause};
+ghost use Rattle.sshkey_base.specs.Names.{algorithm_of, curve_of};
+ghost use Rattle.sshkey_model.specs.Keys.{body_at};
+ghost use Rattle.sshkey_model.specs.Names as model;
+ghost use Rattle.sshkey_model.specs.Reading.{string_at};
+ghost use Rattle.sshkey_keys_ref.specs.CertifiedBodies.{SpellsCertifiedBody, TakesBody, certified_body_at};
+ghost use Rattle.sshkey_keys_ref.specs.NameRef.{named_of};
+ghost use Rattle.sshkey_keys_ref.specs.Taking.{Skips, PassesFront, CutsFront};
+
+use crate::kinds::{DsaRef, RsaRef, SkEcdsaRef, SkEd25519Ref};
+use crate::name_ref::NameRef;
+use crate::walk::{Take, behind};
+use sshkey_base::{Algorithm, EcdsaCurve, Error, Result};
+use sshkey_kinds::{EcdsaPublicKey, Ed25519PublicKey};
+
+/// Takes the front that is the body of a public key under that name in a certificate
+/// (PROTOCOL.certkeys), and leaves what follows it. Takes no memory.
+///
+/// The bytes taken are these very bytes, and spell the body of a key under the algorithm of that
+/// name. `Label` where it is no such name, and otherwise the fault that `KeyData::decode_as`
+/// answers under the algorithm: only where no front is such a body. After a refusal the slice is as
+/// it was.
+pub fn take_body<'a>(certificate_name: &str, bytes: &mut &'a [u8]) -> Result<&'a [u8]>
+    ensures front { TakesBody cause certificate_name.now bytes.old.now result bytes.new.now }
+    ensures spelled { CutsFront (SpellsCertifiedBody certificate_name.now)
+        bytes.old.now result bytes.new.now }
+    ensures unchanged { IfErr result (λ _. bytes.new ≡ bytes.old) }
+{
+    let all = *bytes;
+    let rest = behind_body(certificate_name, all)?;
+    *bytes = rest;
+    Ok(&all[..all.len() - rest.len()])
+}
+
+/// What stands behind the body of a public key under that name in a certificate
+/// (PROTOCOL.certkeys). Takes no memory.
+///
+/// A front of the bytes spells the body of a key under the algorithm of that name, and this is the
+/// rest. `Label` where it is no such name, and otherwise the fault that `KeyData::decode_as`
+/// answers under the algorithm: only where no front is such a body.
+pub fn behind_body<'a>(certificate_name: &str, bytes: &'a [u8]) -> Result<&'a [u8]>
+    ensures rest { Skips cause (certified_body_at certificate_name.now) bytes.now result }
+    ensures spelled { PassesFront (SpellsCertifiedBody certificate_name.now) bytes.now result }
+{
+    behind_certified(certificate_name, bytes)
+}
+
+/// What stands behind a body under that name in a certificate.
+fn behind_certified<'a>(name: &str, bytes: &'a [u8]) -> Result<&'a [u8]>
+    ensures { Skips cause (certified_body_at name.now) bytes.now result }
+{
+    match Algorithm::fixed_certificate(name) {
+        Some(algorithm) => behind_kind(&algorithm, bytes),
+        None => {
+            Algorithm::check_certificate(name)?;
+            behind_string(bytes)
+        }
+    }
+}
+
+/// What stands behind the body of a key whose name is that.
+pub(crate) fn behind_named<'a>(name: &NameRef<'_>, bytes: &'a [u8]) -> Result<&'a [u8]>
+    ensures { Skips cause (body_at (named_of name.now)) bytes.now result }
+{
+    match name {
+        NameRef::Fixed(algorithm) => behind_kind(algorithm, bytes),
+        NameRef::Other(_) => behind_string(bytes),
+    }
+}
+
+/// What stands behind the body of a key of that algorithm.
+#[tactic(auto, unfolding(sshkey_kinds::specs::Bodies::ed25519_body_at))]
+fn behind_kind<'a>(algorithm: &Algorithm, bytes: &'a [u8]) -> Result<&'a [u8]>
+    ensures { Skips cause (body_at (algorithm_of algorithm.now)) bytes.now result }
+{
+    match algorithm {
+        Algorithm::Dsa => behind::<DsaRef<'a>>(bytes),
+        Algorithm::Ecdsa { curve } => behind_ecdsa(*curve, bytes),
+        Algorithm::Ed25519 => behind::<Ed25519PublicKey>(bytes),
+        Algorithm::Rsa { hash: _ } => behind::<RsaRef<'a>>(bytes),
+        Algorithm::SkEcdsaSha2NistP256 => behind::<SkEcdsaRef<'a>>(bytes),
+        Algorithm::SkEd25519 => behind::<SkEd25519Ref<'a>>(bytes),
+        Algorithm::Other(_) => behind_string(bytes),
+    }
+}
+
+/// What stands behind an ECDSA key of that curve. `AlgorithmUnknown` for another curve.
+#[tactic(auto, using(crate::proofs::Walking::walking), unfolding(sshkey_model::specs::Keys::ecdsa_at))]
+fn behind_ecdsa<'a>(curve: EcdsaCurve, bytes: &'a [u8]) -> Result<&'a [u8]>
+    ensures { Skips cause (body_at (model.Ecdsa (curve_of curve))) bytes.now result }
+{
+    let mut rest = bytes;
+    let key = EcdsaPublicKey::take(&mut rest)?;
+    if !key.is_on(curve) {
+        return Err(Error::AlgorithmUnknown);
+    }
+    Ok(rest)
+}
+
+/// What stands behind a string.
+fn behind_string(bytes: &[u8]) -> Result<&[u8]>
+    ensures { Skips cause string_at bytes.now result }
+{
+    Ok(behind::<&[u8]>(bytes)?)
+}

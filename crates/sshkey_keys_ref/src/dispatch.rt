@@ -1,0 +1,279 @@
+//! Which question the caller's verifier is asked about a signature, without a copy of either.
+
+ghost use Rattle.std.specs.Prelude.{◌≡◌, ◌≤◌, ◌++◌, true, length};
+ghost use Rattle.sha2.specs.Sha256.{sha256};
+ghost use Rattle.sshkey_base.specs.Names.{algorithm_of};
+ghost use Rattle.sshkey_model.specs.Signatures.{IsSignatureBlob, without_trailer, trailer};
+ghost use Rattle.sshkey_kinds.specs.EcdsaPublicKey.{ecdsa_key_of};
+ghost use Rattle.sshkey_kinds.specs.Kinds.{ed25519_of};
+ghost use Rattle.sshkey_keys.specs.KeyKinds.{is_dsa, is_rsa};
+ghost use Rattle.sshkey_keys_ref.specs.Dispatch.{Answered, Dispatches, DispatchesBytes, DispatchesKey, DispatchesKind, IsBlobIn, signature_by};
+ghost use Rattle.sshkey_keys_ref.specs.KeyDataRef.{key_bytes};
+ghost use Rattle.sshkey_keys_ref.specs.Kinds.{sk_ecdsa_of, sk_ed25519_of};
+ghost use Rattle.sshkey_keys_ref.specs.NameRef.{named_of};
+ghost use Rattle.sshkey_keys_ref.specs.SignatureRef.{signature_bytes};
+
+use crate::key_data_ref::KeyDataRef;
+use crate::key_ref::{KeyRef, key_in};
+use crate::kinds::{SkEcdsaRef, SkEd25519Ref};
+use crate::name_ref::{NameRef, take_name};
+use crate::signature_ref::SignatureRef;
+use sha2::{Digest, Sha256};
+use sshkey_base::{Algorithm, EcdsaCurve};
+use sshkey_keys::{KeyData, RawVerifier};
+use sshkey_kinds::{EcdsaPublicKey, Ed25519PublicKey};
+use std::alloc::{AllocError, Global};
+
+impl KeyDataRef<'_> {
+    /// Whether the verifier is asked about a signature of the message under this key, and says yes:
+    /// where `KeyData::verify` of the same key and signature is Ok.
+    ///
+    /// It is asked under DSA, Ed25519 and RSA with a hash for keys of these kinds, and under ECDSA
+    /// for a key on the same curve: about the message and the signature's bytes. For a security
+    /// key and its algorithm it is asked under the plain algorithm and the plain key within: about
+    /// the SHA-256 digest of the application, the flags and the counter, and the digest of the
+    /// message (PROTOCOL.u2f), and the bytes before flags and counter. It is asked nothing else.
+    ///
+    /// It is refused only when out of memory, and only where the verifier is asked. Memory is taken
+    /// for a DSA or an RSA key, and else only by the verifier.
+    pub fn accepts<V: RawVerifier>(
+        &self,
+        alloc: Global,
+        message: &[u8],
+        signature: &SignatureRef<'_>,
+        verifier: &V,
+    ) -> std::result::Result<bool, AllocError>
+        ensures { DispatchesBytes (V.accepts verifier.now) (key_bytes self.now) message.now
+            (signature_bytes signature.now) result }
+    {
+        let mut behind_name = signature.as_bytes();
+        match take_name(&mut behind_name) {
+            Ok(name) => self.ask_named(alloc, message, &name, blob_in(behind_name), verifier),
+            Err(_) => Ok(false),
+        }
+    }
+
+    /// The answer about a signature by the algorithm of that name.
+    fn ask_named<V: RawVerifier>(
+        &self,
+        alloc: Global,
+        message: &[u8],
+        name: &NameRef<'_>,
+        blob: &[u8],
+        verifier: &V,
+    ) -> std::result::Result<bool, AllocError>
+        ensures { DispatchesKey (V.accepts verifier.now) (key_bytes self.now) message.now
+            (named_of name.now) blob.now result }
+    {
+        match name {
+            NameRef::Fixed(algorithm) => self.ask(alloc, message, algorithm, blob, verifier),
+            NameRef::Other(_) => Ok(false),
+        }
+    }
+
+    /// The answer about a signature by that algorithm.
+    fn ask<V: RawVerifier>(
+        &self,
+        alloc: Global,
+        message: &[u8],
+        algorithm: &Algorithm,
+        blob: &[u8],
+        verifier: &V,
+    ) -> std::result::Result<bool, AllocError>
+        ensures { DispatchesKey (V.accepts verifier.now) (key_bytes self.now) message.now
+            (algorithm_of algorithm.now) blob.now result }
+    {
+        match key_in(self.as_bytes()) {
+            KeyRef::Dsa => self.ask_dsa(alloc, message, algorithm, blob, verifier),
+            KeyRef::Ecdsa(key) => ask_ecdsa(key, message, algorithm, blob, verifier),
+            KeyRef::Ed25519(key) => ask_ed25519(key, message, algorithm, blob, verifier),
+            KeyRef::Rsa => self.ask_rsa(alloc, message, algorithm, blob, verifier),
+            KeyRef::SkEcdsa(key) => ask_sk_ecdsa(&key, message, algorithm, blob, verifier),
+            KeyRef::SkEd25519(key) => ask_sk_ed25519(&key, message, algorithm, blob, verifier),
+            KeyRef::Other => Ok(false),
+        }
+    }
+
+    /// The answer of a DSA key.
+    fn ask_dsa<V: RawVerifier>(
+        &self,
+        alloc: Global,
+        message: &[u8],
+        algorithm: &Algorithm,
+        blob: &[u8],
+        verifier: &V,
+    ) -> std::result::Result<bool, AllocError>
+        ensures { DispatchesKind (λ k. is_dsa k ≡ true) (V.accepts verifier.now)
+            (key_bytes self.now) message.now
+            (signature_by (algorithm_of algorithm.now) blob.now) result }
+    {
+        match algorithm {
+            Algorithm::Dsa => self.ask_in_memory(alloc, message, algorithm, blob, verifier),
+            _ => Ok(false),
+        }
+    }
+
+    /// The answer of an RSA key.
+    fn ask_rsa<V: RawVerifier>(
+        &self,
+        alloc: Global,
+        message: &[u8],
+        algorithm: &Algorithm,
+        blob: &[u8],
+        verifier: &V,
+    ) -> std::result::Result<bool, AllocError>
+        ensures { DispatchesKind (λ k. is_rsa k ≡ true) (V.accepts verifier.now)
+            (key_bytes self.now) message.now
+            (signature_by (algorithm_of algorithm.now) blob.now) result }
+    {
+        match algorithm {
+            Algorithm::Rsa { hash: Some(_) } => {
+                self.ask_in_memory(alloc, message, algorithm, blob, verifier)
+            }
+            _ => Ok(false),
+        }
+    }
+
+    /// The verifier's answer, for which the key is made in memory of its own.
+    fn ask_in_memory<V: RawVerifier>(
+        &self,
+        alloc: Global,
+        message: &[u8],
+        algorithm: &Algorithm,
+        blob: &[u8],
+        verifier: &V,
+    ) -> std::result::Result<bool, AllocError>
+        ensures { Answered (V.accepts verifier.now) (key_bytes self.now) message.now
+            (signature_by (algorithm_of algorithm.now) blob.now) result }
+    {
+        match self.to_key_data(alloc) {
+            Ok(key) => verifier.verify(algorithm, &key, message, blob),
+            Err(_) => Err(AllocError),
+        }
+    }
+}
+
+/// The bytes of a signature, which stand behind the length of their string.
+fn blob_in(bytes: &[u8]) -> &[u8]
+    ensures { IsBlobIn bytes.now result.now }
+{
+    match bytes {
+        [_, _, _, _, blob @ ..] => blob,
+        _ => bytes,
+    }
+}
+
+/// The answer of an ECDSA key.
+fn ask_ecdsa<V: RawVerifier>(
+    key: EcdsaPublicKey,
+    message: &[u8],
+    algorithm: &Algorithm,
+    blob: &[u8],
+    verifier: &V,
+) -> std::result::Result<bool, AllocError>
+    ensures { Dispatches (V.accepts verifier.now) (ecdsa_key_of key) message.now
+        (signature_by (algorithm_of algorithm.now) blob.now) result }
+{
+    match algorithm {
+        Algorithm::Ecdsa { curve } if key.is_on(*curve) => {
+            verifier.verify(algorithm, &KeyData::Ecdsa(key), message, blob)
+        }
+        _ => Ok(false),
+    }
+}
+
+/// The answer of an Ed25519 key.
+fn ask_ed25519<V: RawVerifier>(
+    key: Ed25519PublicKey,
+    message: &[u8],
+    algorithm: &Algorithm,
+    blob: &[u8],
+    verifier: &V,
+) -> std::result::Result<bool, AllocError>
+    ensures { Dispatches (V.accepts verifier.now) (ed25519_of key) message.now
+        (signature_by (algorithm_of algorithm.now) blob.now) result }
+{
+    match algorithm {
+        Algorithm::Ed25519 => verifier.verify(algorithm, &KeyData::Ed25519(key), message, blob),
+        _ => Ok(false),
+    }
+}
+
+/// The answer of a P-256 key that a security key holds.
+fn ask_sk_ecdsa<V: RawVerifier>(
+    key: &SkEcdsaRef<'_>,
+    message: &[u8],
+    algorithm: &Algorithm,
+    blob: &[u8],
+    verifier: &V,
+) -> std::result::Result<bool, AllocError>
+    ensures { IsSignatureBlob (algorithm_of algorithm.now) blob.now →
+        Dispatches (V.accepts verifier.now) (sk_ecdsa_of key.now) message.now
+        (signature_by (algorithm_of algorithm.now) blob.now) result }
+{
+    if !matches!(algorithm, Algorithm::SkEcdsaSha2NistP256) {
+        return Ok(false);
+    }
+    let (string, trailer) = split_trailer(blob);
+    let curve = EcdsaCurve::NistP256;
+    let plain = KeyData::Ecdsa(EcdsaPublicKey::NistP256(key.key));
+    let signed = security_key_message(key.application, trailer, message);
+    verifier.verify(&Algorithm::Ecdsa { curve }, &plain, &signed, string)
+}
+
+/// The answer of an Ed25519 key that a security key holds.
+fn ask_sk_ed25519<V: RawVerifier>(
+    key: &SkEd25519Ref<'_>,
+    message: &[u8],
+    algorithm: &Algorithm,
+    blob: &[u8],
+    verifier: &V,
+) -> std::result::Result<bool, AllocError>
+    ensures { IsSignatureBlob (algorithm_of algorithm.now) blob.now →
+        Dispatches (V.accepts verifier.now)
+        (sk_ed25519_of key.now) message.now (signature_by (algorithm_of algorithm.now) blob.now)
+        result }
+{
+    if !matches!(algorithm, Algorithm::SkEd25519) {
+        return Ok(false);
+    }
+    let (string, trailer) = split_trailer(blob);
+    let plain = KeyData::Ed25519(Ed25519PublicKey(key.key));
+    let signed = security_key_message(key.application, trailer, message);
+    verifier.verify(&Algorithm::Ed25519, &plain, &signed, string)
+}
+
+/// What stands in the string, and the flags and the counter, five bytes, behind it.
+fn split_trailer(blob: &[u8]) -> (&[u8], [u8; 5])
+    ensures string { 5 ≤ length blob.now → result.0.now ≡ without_trailer blob.now }
+    ensures trailer { 5 ≤ length blob.now → result.1 ≡ trailer blob.now }
+{
+    match blob {
+        [string @ .., flags, a, b, c, d] => (string, [*flags, *a, *b, *c, *d]),
+        _ => (blob, [0; 5]),
+    }
+}
+
+/// What a security key signs in place of the message (PROTOCOL.u2f): the digest of the application,
+/// flags and counter, and the digest of the message.
+fn security_key_message(application: &str, trailer: [u8; 5], message: &[u8]) -> [u8; 69]
+    ensures { result ≡ sha256 application.now ++ trailer ++ sha256 message.now }
+{
+    let front = application_and_trailer(application, trailer);
+    let digest: [u8; 32] = Sha256::digest(message);
+    let mut signed = [0u8; 69];
+    signed[..37].copy_from_slice(&front);
+    signed[37..].copy_from_slice(&digest);
+    signed
+}
+
+/// The digest of the application, flags and counter.
+fn application_and_trailer(application: &str, trailer: [u8; 5]) -> [u8; 37]
+    ensures { result ≡ sha256 application.now ++ trailer }
+{
+    let digest: [u8; 32] = Sha256::digest(application);
+    let mut bytes = [0u8; 37];
+    bytes[..32].copy_from_slice(&digest);
+    bytes[32..].copy_from_slice(&trailer);
+    bytes
+}

@@ -1,0 +1,159 @@
+//! Public keys that are the bytes that spell them.
+
+ghost use Rattle.std.specs.Prelude.{◌≡◌, true, IfErr};
+ghost use Rattle.sshkey_base.specs.Answers.{Judges};
+ghost use Rattle.sshkey_base.specs.Causes.{NoMemory, cause};
+ghost use Rattle.sshkey_base.specs.Names.{algorithm_of as named_algorithm, hash_of};
+ghost use Rattle.sshkey_fingerprints.specs.Fingerprints.{algorithm_of, digest_of};
+ghost use Rattle.sshkey_model.specs.Fingerprints.{digest};
+ghost use Rattle.sshkey_model.specs.Reading.{whole};
+ghost use Rattle.sshkey_keys.specs.Keys.{SpellsKey, key_data_at};
+ghost use Rattle.sshkey_keys_ref.specs.KeyFingerprints.{GivesFingerprintOf};
+ghost use Rattle.sshkey_keys_ref.specs.NormalBytes.{GivesNormal, HasPlainHead, is_hashed};
+ghost use Rattle.sshkey_keys_ref.specs.NameRef.{named_of};
+ghost use Rattle.sshkey_keys_ref.specs.Taking.{AcceptsAll, Skips, is_taken};
+
+use crate::body::behind_named;
+use crate::name_ref::{NameRef, take_name};
+use sha2::{Digest, Sha256, Sha512};
+use sshkey_base::{Algorithm, Error, HashAlg, Result, decode_whole, encoding};
+use sshkey_fingerprints::Fingerprint;
+use sshkey_keys::KeyData;
+use std::alloc::Global;
+
+/// A public key as the bytes that spell it: the name of its algorithm, and what that algorithm's
+/// keys are made of (RFC 4253, section 6.6). It takes no memory.
+///
+/// Contracts see it as these bytes, by `key_bytes`, and keep that they spell a key.
+#[derive(Clone, Copy, Debug)]
+pub struct KeyDataRef<'a> {
+    bytes: &'a [u8],
+    pub ghost form: { is_taken (whole key_data_at bytes.now) ≡ true },
+}
+
+impl<'a> KeyDataRef<'a> {
+    ghost use Rattle.sshkey_base.specs.Answers.{Answers};
+    ghost use Rattle.sshkey_keys.specs.Keys.{key_of};
+    ghost use Rattle.sshkey_keys_ref.specs.KeyDataRef.{key_bytes};
+    ghost use Rattle.sshkey_keys_ref.specs.Taking.{Keeps};
+
+    /// The key that all the bytes together spell, read once from left to right. Takes no memory.
+    ///
+    /// It accepts what `KeyData::from_bytes` with enough memory accepts, and refuses the rest with
+    /// the same faults: `TrailingData` with the number of bytes behind a key, `Label` for a name of
+    /// no algorithm, `Length` for a stated length that passes the bytes, and the faults of the
+    /// kind.
+    pub fn from_bytes(bytes: &'a [u8]) -> Result<KeyDataRef<'a>>
+        ensures keeps { Keeps key_bytes cause (whole key_data_at bytes.now) bytes.now result }
+        ensures accepts { AcceptsAll SpellsKey bytes.now result }
+    {
+        check_key(bytes)?;
+        Ok(KeyDataRef { bytes })
+    }
+
+    /// The bytes that the key was read from.
+    pub fn as_bytes(&self) -> &'a [u8]
+        ensures bytes { result.now ≡ key_bytes self.now }
+        ensures form { is_taken (whole key_data_at result.now) ≡ true }
+    {
+        self.bytes
+    }
+
+    /// The bytes that the key was read from where they are its normal form, which is what
+    /// `KeyData::to_bytes` makes and fingerprints digest. Takes no memory.
+    ///
+    /// `None` exactly for an RSA key under another name than `ssh-rsa` (RFC 8332, section 3): then
+    /// its bytes are not the normal form.
+    pub fn normal_bytes(&self) -> Option<&'a [u8]>
+        ensures { GivesNormal (key_bytes self.now) result }
+    {
+        if !is_headed_plainly(self.bytes) {
+            return None;
+        }
+        Some(self.bytes)
+    }
+
+    /// The key in memory of its own. Refused only when out of memory.
+    pub fn to_key_data(&self, alloc: Global) -> Result<KeyData>
+        ensures value { Answers key_of cause (whole key_data_at (key_bytes self.now)) result }
+        ensures memory { IfErr result (λ e. cause e ≡ NoMemory) }
+    {
+        decode_whole(alloc, self.bytes)
+    }
+
+    /// The fingerprint by that hash: the digest of the key's normal form.
+    ///
+    /// Where the bytes that the key was read from are the normal form, they are digested as they
+    /// stand. Memory is taken only for an RSA key under another name than `ssh-rsa`, and it is
+    /// refused only when out of memory.
+    pub fn fingerprint(&self, alloc: Global, hash_alg: HashAlg) -> Result<Fingerprint>
+        ensures { GivesFingerprintOf cause (hash_of hash_alg) (key_bytes self.now) result }
+    {
+        match self.normal_bytes() {
+            Some(bytes) => Ok(digest_of(hash_alg, bytes)),
+            None => self.to_key_data(alloc)?.fingerprint(alloc, hash_alg),
+        }
+    }
+}
+
+/// The digest of the bytes.
+fn digest_of(hash_alg: HashAlg, bytes: &[u8]) -> Fingerprint
+    ensures by { algorithm_of result ≡ hash_of hash_alg }
+    ensures digest { digest_of result ≡ digest (hash_of hash_alg) bytes.now }
+{
+    match hash_alg {
+        HashAlg::Sha256 => Fingerprint::Sha256(Sha256::digest(bytes)),
+        HashAlg::Sha512 => Fingerprint::Sha512(Sha512::digest(bytes)),
+    }
+}
+
+/// Whether all the bytes together spell a key.
+fn check_key(bytes: &[u8]) -> Result<()>
+    ensures { Judges cause (whole key_data_at bytes.now) result }
+{
+    let rest = behind_key(bytes)?;
+    if !rest.is_empty() {
+        return Err(Error::Encoding(encoding::Error::TrailingData {
+            remaining: rest.len(),
+        }));
+    }
+    Ok(())
+}
+
+/// What stands behind a key.
+#[tactic(auto, using(crate::proofs::Walking::walking), unfolding(sshkey_keys::specs::Keys::key_data_at))]
+fn behind_key(bytes: &[u8]) -> Result<&[u8]>
+    ensures { Skips cause key_data_at bytes.now result }
+{
+    let mut rest = bytes;
+    let name = take_name(&mut rest)?;
+    behind_named(&name, rest)
+}
+
+/// Whether the name before a key is the one that is written.
+fn is_headed_plainly(bytes: &[u8]) -> bool
+    ensures { HasPlainHead bytes.now result }
+{
+    let mut rest = bytes;
+    match take_name(&mut rest) {
+        Ok(name) => !is_hashed(&name),
+        Err(_) => true,
+    }
+}
+
+/// Whether it is the name of RSA with a hash.
+fn is_hashed(name: &NameRef<'_>) -> bool
+    ensures { result ≡ is_hashed (named_of name.now) }
+{
+    match name {
+        NameRef::Fixed(algorithm) => is_rsa_with_hash(algorithm),
+        NameRef::Other(_) => false,
+    }
+}
+
+/// Whether it is RSA with a hash.
+fn is_rsa_with_hash(algorithm: &Algorithm) -> bool
+    ensures { result ≡ is_hashed (named_algorithm algorithm.now) }
+{
+    matches!(algorithm, Algorithm::Rsa { hash: Some(_) })
+}

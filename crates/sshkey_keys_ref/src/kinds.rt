@@ -1,0 +1,231 @@
+//! The bodies of keys, kind by kind (RFC 4253, section 6.6; RFC 5656, section 3.1; RFC 8709,
+//! section 4; PROTOCOL.u2f).
+
+ghost use Rattle.sshkey_base.specs.Answers.{AnswersAlways};
+ghost use Rattle.sshkey_base.specs.Causes.{cause};
+ghost use Rattle.sshkey_base.specs.Labels.{label_at};
+ghost use Rattle.sshkey_base.specs.Names.{curve_of};
+ghost use Rattle.sshkey_model.specs.Keys.{Key, rsa_at, dsa_at, any_ecdsa_at, sk_ecdsa_at, sk_ed25519_at};
+ghost use Rattle.sshkey_model.specs.Names.{curve_from};
+ghost use Rattle.sshkey_model.specs.Points.{point_from, p256_point_from};
+ghost use Rattle.sshkey_model.specs.Reading.{string_at, checked_at};
+ghost use Rattle.sshkey_kinds.specs.Bodies.{ed25519_body_at};
+ghost use Rattle.sshkey_kinds.specs.EcPoint.{point_of};
+ghost use Rattle.sshkey_kinds.specs.EcdsaPublicKey.{ecdsa_of, ecdsa_key_of};
+ghost use Rattle.sshkey_kinds.specs.Kinds.{ed25519_of};
+ghost use Rattle.sshkey_keys_ref.specs.Taking.{Takes};
+
+use crate::leaves::{MpintRef, boxed_array_from};
+use crate::walk::Take;
+use sshkey_base::{EcdsaCurve, Error, Result, encoding};
+use sshkey_kinds::{EcPoint, EcdsaNistP256PublicKey, EcdsaPublicKey, Ed25519PublicKey};
+use std::str;
+
+/// An RSA key.
+#[derive(Clone, Copy)]
+pub(crate) struct RsaRef<'a> {
+    pub e: MpintRef<'a>,
+    pub n: MpintRef<'a>,
+}
+
+#[tactic(auto, using(crate::proofs::Walking::walking), unfolding(sshkey_model::specs::Keys::rsa_at))]
+impl<'a> Take<'a> for RsaRef<'a> {
+    ghost use Rattle.sshkey_keys_ref.specs.Kinds.{rsa_of};
+
+    type Error = Error;
+
+    ghost Meaning = { Key };
+
+    ghost meant = { rsa_of };
+
+    ghost parse = { rsa_at };
+
+    fn take(bytes: &mut &'a [u8]) -> Result<RsaRef<'a>> {
+        let e = MpintRef::take(bytes)?;
+        let n = MpintRef::take(bytes)?;
+        Ok(RsaRef { e, n })
+    }
+}
+
+/// A DSA key.
+#[derive(Clone, Copy)]
+pub(crate) struct DsaRef<'a> {
+    pub p: MpintRef<'a>,
+    pub q: MpintRef<'a>,
+    pub g: MpintRef<'a>,
+    pub y: MpintRef<'a>,
+}
+
+#[tactic(auto, using(crate::proofs::Walking::walking), unfolding(sshkey_model::specs::Keys::dsa_at))]
+impl<'a> Take<'a> for DsaRef<'a> {
+    ghost use Rattle.sshkey_keys_ref.specs.Kinds.{dsa_of};
+
+    type Error = Error;
+
+    ghost Meaning = { Key };
+
+    ghost meant = { dsa_of };
+
+    ghost parse = { dsa_at };
+
+    fn take(bytes: &mut &'a [u8]) -> Result<DsaRef<'a>> {
+        let p = MpintRef::take(bytes)?;
+        let q = MpintRef::take(bytes)?;
+        let g = MpintRef::take(bytes)?;
+        let y = MpintRef::take(bytes)?;
+        Ok(DsaRef { p, q, g, y })
+    }
+}
+
+/// The bytes of an Ed25519 key.
+#[tactic(auto, using(crate::proofs::Walking::walking), unfolding(sshkey_kinds::specs::Bodies::ed25519_body_at, sshkey_model::specs::Keys::ed25519_at))]
+impl<'a> Take<'a> for Ed25519PublicKey {
+    type Error = Error;
+
+    ghost Meaning = { Key };
+
+    ghost meant = { ed25519_of };
+
+    ghost parse = { ed25519_body_at };
+
+    fn take(bytes: &mut &'a [u8]) -> Result<Ed25519PublicKey> {
+        let key = boxed_array_from::<32, &[u8]>(bytes)?;
+        Ok(Ed25519PublicKey(key))
+    }
+}
+
+/// The name of a curve.
+#[tactic(auto, using(crate::proofs::Walking::walking), unfolding(sshkey_base::specs::Labels::label_at))]
+fn take_curve(bytes: &mut &[u8]) -> Result<EcdsaCurve>
+    ensures { Takes curve_of cause (label_at curve_from) bytes.old.now result bytes.new.now }
+{
+    let string = <&[u8]>::take(bytes)?;
+    curve_in(string)
+}
+
+/// The curve that the bytes name, and `Label` where they name none.
+fn curve_in(string: &[u8]) -> Result<EcdsaCurve>
+    ensures { AnswersAlways curve_of cause (curve_from string.now) result }
+{
+    match str::from_utf8(string) {
+        Ok(text) => EcdsaCurve::new(text),
+        Err(_) => Err(Error::Encoding(encoding::Error::Label)),
+    }
+}
+
+/// The name of a curve and a point of it.
+#[tactic(auto, using(crate::proofs::Walking::walking), unfolding(sshkey_model::specs::Keys::any_ecdsa_at, sshkey_model::specs::Names::curve_at, sshkey_base::specs::Labels::label_at))]
+impl<'a> Take<'a> for EcdsaPublicKey {
+    type Error = Error;
+
+    ghost Meaning = { Key };
+
+    ghost meant = { ecdsa_key_of };
+
+    ghost parse = { any_ecdsa_at };
+
+    fn take(bytes: &mut &'a [u8]) -> Result<EcdsaPublicKey> {
+        let stated = take_curve(bytes)?;
+        let key = take_point(bytes)?;
+        if !key.is_on(stated) {
+            return Err(Error::AlgorithmUnknown);
+        }
+        Ok(key)
+    }
+}
+
+/// A point string of any of the curves.
+#[tactic(auto, using(crate::proofs::Walking::walking))]
+fn take_point(bytes: &mut &[u8]) -> Result<EcdsaPublicKey>
+    ensures { Takes ecdsa_of cause (checked_at point_from string_at)
+        bytes.old.now result bytes.new.now }
+{
+    let string = <&[u8]>::take(bytes)?;
+    point_of(string)
+}
+
+/// The key of that point string. `Length` where it is longer than any of the curves.
+fn point_of(string: &[u8]) -> Result<EcdsaPublicKey>
+    ensures { AnswersAlways ecdsa_of cause (point_from string.now) result }
+{
+    if string.len() > 133 {
+        return Err(Error::Encoding(encoding::Error::Length));
+    }
+    EcdsaPublicKey::from_sec1_bytes(string)
+}
+
+/// A P-256 key that a security key holds.
+#[derive(Clone, Copy)]
+pub(crate) struct SkEcdsaRef<'a> {
+    pub key: EcdsaNistP256PublicKey,
+    pub application: &'a str,
+}
+
+#[tactic(auto, using(crate::proofs::Walking::walking), unfolding(sshkey_model::specs::Keys::sk_ecdsa_at, sshkey_model::specs::Names::curve_at, sshkey_base::specs::Labels::label_at))]
+impl<'a> Take<'a> for SkEcdsaRef<'a> {
+    ghost use Rattle.sshkey_keys_ref.specs.Kinds.{sk_ecdsa_of};
+
+    type Error = Error;
+
+    ghost Meaning = { Key };
+
+    ghost meant = { sk_ecdsa_of };
+
+    ghost parse = { sk_ecdsa_at };
+
+    fn take(bytes: &mut &'a [u8]) -> Result<SkEcdsaRef<'a>> {
+        let stated = take_curve(bytes)?;
+        if !matches!(stated, EcdsaCurve::NistP256) {
+            return Err(Error::Crypto);
+        }
+        let key = take_p256_point(bytes)?;
+        let application = <&'a str>::take(bytes)?;
+        Ok(SkEcdsaRef { key, application })
+    }
+}
+
+/// A point string of P-256.
+#[tactic(auto, using(crate::proofs::Walking::walking))]
+fn take_p256_point(bytes: &mut &[u8]) -> Result<EcdsaNistP256PublicKey>
+    ensures { Takes point_of cause (checked_at p256_point_from string_at)
+        bytes.old.now result bytes.new.now }
+{
+    let string = <&[u8]>::take(bytes)?;
+    p256_point_of(string)
+}
+
+/// The point of that point string. `Length` where it is longer than any.
+fn p256_point_of(string: &[u8]) -> Result<EcdsaNistP256PublicKey>
+    ensures { AnswersAlways point_of cause (p256_point_from string.now) result }
+{
+    if string.len() > 65 {
+        return Err(Error::Encoding(encoding::Error::Length));
+    }
+    EcPoint::from_bytes(string)
+}
+
+/// An Ed25519 key that a security key holds.
+#[derive(Clone, Copy)]
+pub(crate) struct SkEd25519Ref<'a> {
+    pub key: [u8; 32],
+    pub application: &'a str,
+}
+
+#[tactic(auto, using(crate::proofs::Walking::walking), unfolding(sshkey_model::specs::Keys::sk_ed25519_at, sshkey_model::specs::Keys::ed25519_at))]
+impl<'a> Take<'a> for SkEd25519Ref<'a> {
+    ghost use Rattle.sshkey_keys_ref.specs.Kinds.{sk_ed25519_of};
+
+    type Error = Error;
+
+    ghost Meaning = { Key };
+
+    ghost meant = { sk_ed25519_of };
+
+    ghost parse = { sk_ed25519_at };
+
+    fn take(bytes: &mut &'a [u8]) -> Result<SkEd25519Ref<'a>> {
+        let key = boxed_array_from::<32, &[u8]>(bytes)?;
+        let application = <&'a str>::take(bytes)?;
+        Ok(SkEd25519Ref { key, application })
+    }
+}

@@ -1,0 +1,7 @@
+pub mod Fronts
+pub mod ListSteps
+pub mod TextSteps
+pub mod OptionItems
+pub mod OptionSteps
+pub mod OptionLists
+pub mod PlainOptions

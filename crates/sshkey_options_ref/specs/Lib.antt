@@ -1,0 +1,5 @@
+pub mod Taking
+pub mod TextLists
+pub mod OptionLists
+pub mod SpelledOptions
+pub mod Views

@@ -1,0 +1,44 @@
+-- Options that stand in bytes, one behind the other (PROTOCOL.certkeys).
+use Rattle.std.specs.Prelude.{ℕ, List, [], ◌∷◌, Bool, true, false, Ok}
+use denote.Ref.{Bor}
+use Rattle.sshkey_model.specs.Parts.{flat}
+use Rattle.sshkey_model.specs.Grammar.{SpellsAs}
+use Rattle.sshkey_model.specs.Options.{CertificateOption, Nesting, Plain, Nested, AreOptions, HasOptionPlaces, each_option, options, plain_nestings, option_at, firsts, seconds}
+use Rattle.sshkey_model.specs.Reading.{◌>>=◌, Whole, list_whole}
+use Rattle.sshkey_options_ref.specs.Taking.{listed}
+
+-- the bytes are those of the options, each empty value as its choice says
+abbrev pub SpellsEachOption : List CertificateOption × List Nesting → List ℕ → Type 0
+SpellsEachOption = SpellsAs AreOptions HasOptionPlaces each_option
+
+-- the same in a string
+abbrev pub SpellsOptionString : List CertificateOption × List Nesting → List ℕ → Type 0
+SpellsOptionString = SpellsAs AreOptions HasOptionPlaces options
+
+-- the options in the bytes
+unfoldable pub options_in : List ℕ → List CertificateOption
+options_in b = firsts (listed (list_whole option_at b))
+
+-- how each of them is spelled
+unfoldable pub nestings_in : List ℕ → List Nesting
+nestings_in b = seconds (listed (list_whole option_at b))
+
+-- whether none is nested
+abbrev pub are_plain : List Nesting → Bool
+are_plain [] = true
+are_plain (Plain ∷ ns) = are_plain ns
+are_plain (Nested ∷ ns) = false
+
+-- the bytes of the options, none nested: their normal form
+abbrev pub plain_bytes : List CertificateOption → List ℕ
+plain_bytes os = flat (each_option os (plain_nestings os))
+
+-- a name and a value
+abbrev pub option_of : Bor (List ℕ) × Bor (List ℕ) → CertificateOption
+option_of p = record { name = p.0.now; value = p.1.now }
+
+-- whether all are plain, if the bytes are options
+abbrev pub plainness_from : Whole Bool
+plainness_from b = do
+  xs ← list_whole option_at b
+  Ok (are_plain (seconds xs))

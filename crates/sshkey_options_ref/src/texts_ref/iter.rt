@@ -1,0 +1,58 @@
+//! Texts, one after the other.
+
+ghost use Rattle.std.specs.Prelude.{◌≡◌, ℕ, List, true};
+ghost use Rattle.std.specs.Iterator.{YieldsFirstRef, item_count};
+ghost use Rattle.sshkey_base.specs.TextLists.{text_list_at};
+ghost use Rattle.sshkey_options_ref.specs.Taking.{is_taken};
+ghost use Rattle.sshkey_options_ref.specs.TextLists.{texts_in};
+
+use super::first_text;
+use std::marker::Model;
+use std::str;
+
+/// The texts of a `TextsRef`, each as a part of its bytes. Each call asks anew whether the bytes of
+/// one text are UTF-8.
+///
+/// Contracts see the list of those that are left.
+#[derive(Debug, Clone, Drop)]
+pub struct Texts<'a> {
+    rest: &'a [u8],
+}
+
+impl<'a> Model for Texts<'a> {
+    ghost Value = { List (List ℕ) };
+
+    ghost view = { λ s. texts_in s.rest.now };
+
+    ghost invariant = { λ s. is_taken (text_list_at s.rest.now) ≡ true };
+}
+
+impl<'a> Texts<'a> {
+    /// The texts in the bytes.
+    pub(super) fn new(rest: &'a [u8]) -> Texts<'a>
+        requires { is_taken (text_list_at rest.now) ≡ true }
+        ensures { result ≡ texts_in rest.now }
+    {
+        Texts { rest }
+    }
+}
+
+impl<'a> Iterator for Texts<'a> {
+    type Item = &'a str;
+
+    ghost next_gives = { YieldsFirstRef (λ left. left) };
+
+    ghost remaining = { item_count (λ left. left) };
+
+    fn next(&mut self) -> Option<&'a str> {
+        if self.rest.is_empty() {
+            return None;
+        }
+        let (text, rest) = first_text(self.rest);
+        self.rest = rest;
+        match str::from_utf8(text) {
+            Ok(text) => Some(text),
+            Err(_) => unreachable!(),
+        }
+    }
+}
