@@ -23,7 +23,10 @@ pub(crate) fn authorized(alloc: Global, line: &str) -> Result<String> {
 
 /// The parts of an entry of known_hosts, with ` | ` between.
 pub(crate) fn host(alloc: Global, line: &str) -> Result<String> {
-    let entry = sshkey_known_hosts::Entry::from_line(alloc, line)?;
+    host_parts(alloc, &sshkey_known_hosts::Entry::from_line(alloc, line)?)
+}
+
+fn host_parts(alloc: Global, entry: &sshkey_known_hosts::Entry) -> Result<String> {
     let key = key_parts(alloc, entry.public_key())?;
     let hosts = entry.host_patterns().to_string(alloc)?;
     match entry.marker() {

@@ -12,11 +12,20 @@ use std::alloc::Global;
 /// The name and the kind of the key that all the bytes spell, and how many bytes stand behind the
 /// name where it is written, of a copy of the key.
 pub(crate) fn name_and_kind(alloc: Global, bytes: &[u8]) -> Result<String> {
+    said(alloc, &copied(alloc, bytes)?)
+}
+
+/// A copy of the key that all the bytes spell. It has a function of its own, since the ways out of
+/// one that lets go of two keys are as many as the pairs of their kinds.
+fn copied(alloc: Global, bytes: &[u8]) -> Result<KeyData> {
     let read: KeyData = decode_whole(alloc, bytes)?;
-    let key = read.try_clone(alloc)?;
+    Ok(read.try_clone(alloc)?)
+}
+
+fn said(alloc: Global, key: &KeyData) -> Result<String> {
     let name = key.algorithm_name();
     let len = key.encoded_key_data_len()?;
-    Ok(format!(in alloc; "{name}, {}, {len} bytes", kind_of(&key))?)
+    Ok(format!(in alloc; "{name}, {}, {len} bytes", kind_of(key))?)
 }
 
 /// The kind of which the key is said to be, and as which it is seen.

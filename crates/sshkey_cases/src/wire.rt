@@ -14,21 +14,36 @@ pub(crate) fn rest<T: Encode>(
     bytes: &[u8],
     left: usize,
 ) -> Result<String> {
-    let written = encode_vec(alloc, value)?;
     let (read, _) = bytes.split_at(bytes.len().saturating_sub(left));
-    let len = value.encoded_len()?;
-    let mut text = String::new(alloc);
-    if left > 0 {
-        text.push_str(&format!(in alloc; ", {left} left")?)?;
+    let behind = behind(alloc, left)?;
+    let written = written(alloc, value, read)?;
+    Ok(format!(in alloc; "{behind}{written}")?)
+}
+
+fn behind(alloc: Global, left: usize) -> Result<String> {
+    match left {
+        0 => Ok(String::new(alloc)),
+        _ => Ok(format!(in alloc; ", {left} left")?),
     }
-    if written.as_slice() != read {
-        text.push_str(", written as ")?;
-        text.push_str(&hex::encode(alloc, &written)?)?;
+}
+
+/// What is written of a value that was read from these bytes, where it is not these, and how many
+/// bytes it is said to have, where these are not as many as are written.
+fn written<T: Encode>(alloc: Global, value: &T, read: &[u8]) -> Result<String> {
+    let written = encode_vec(alloc, value)?;
+    let counted = counted(alloc, written.len(), value.encoded_len()?)?;
+    if written.as_slice() == read {
+        return Ok(counted);
     }
-    if written.len() != len {
-        text.push_str(&format!(in alloc; ", of {len} bytes")?)?;
+    let digits = hex::encode(alloc, &written)?;
+    Ok(format!(in alloc; ", written as {digits}{counted}")?)
+}
+
+fn counted(alloc: Global, written: usize, len: usize) -> Result<String> {
+    if written == len {
+        return Ok(String::new(alloc));
     }
-    Ok(text)
+    Ok(format!(in alloc; ", of {len} bytes")?)
 }
 
 /// The value at the front of the bytes, as it is shown.
