@@ -1,0 +1,5 @@
+pub mod Boxed
+pub mod Cutting
+pub mod Subjects
+pub mod Fields
+pub mod Certificates

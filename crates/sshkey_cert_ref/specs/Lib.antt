@@ -1,0 +1,4 @@
+pub mod Taking
+pub mod Parts
+pub mod Spelled
+pub mod CertificateRef

@@ -1,0 +1,68 @@
+-- Which slices are the parts of which certificate.
+use Rattle.std.specs.Prelude.{◌≡◌, ℕ, List, Ok}
+use denote.Ref.{Bor}
+use Rattle.sshkey_model.specs.CertificateNames.{certificate_name, certified_from}
+use Rattle.sshkey_model.specs.Certificates.{CertificateType, SignedFields, CertificateChoices}
+use Rattle.sshkey_model.specs.Grammar.{spelled}
+use Rattle.sshkey_model.specs.Keys.{Key, Head, key_algorithm, body, key}
+use Rattle.sshkey_model.specs.Names.{Algorithm}
+use Rattle.sshkey_model.specs.Options.{CertificateOption, Nesting}
+use Rattle.sshkey_model.specs.Parts.{flat}
+use Rattle.sshkey_model.specs.Signatures.{Signature, signature}
+use Rattle.sshkey_keys_ref.specs.KeyDataRef.{key_bytes}
+use Rattle.sshkey_keys_ref.specs.SignatureRef.{signature_bytes}
+use Rattle.sshkey_keys_ref.specs.declared.key_data_ref.KeyDataRef.{KeyDataRef}
+use Rattle.sshkey_keys_ref.specs.declared.signature_ref.SignatureRef.{SignatureRef}
+use Rattle.sshkey_options.specs.CertTypes.{type_of}
+use Rattle.sshkey_options.specs.Times.{time_of, end_of}
+use Rattle.sshkey_options.specs.declared.cert_type.CertType.{CertType}
+use Rattle.sshkey_options_ref.specs.Views.{texts_of, spelled_options_of}
+use Rattle.sshkey_options_ref.specs.declared.options_ref.OptionsRef.{OptionsRef}
+use Rattle.sshkey_options_ref.specs.declared.texts_ref.TextsRef.{TextsRef}
+use Rattle.sshkey_cert_ref.specs.declared.parts.Parts.{Parts}
+
+-- the name tells that algorithm in certificates
+abbrev pub IsName : Bor (List ℕ) → Algorithm → Type 0
+IsName name a = certified_from name.now ≡ Ok a
+
+-- the bytes are those of the key, its name spelled as the choice says
+abbrev pub IsKeyIn : KeyDataRef → Key × Head → Type 0
+IsKeyIn r x = key_bytes r ≡ flat (spelled key x)
+
+abbrev pub IsSignatureIn : SignatureRef → Signature → Type 0
+IsSignatureIn r g = signature_bytes r ≡ flat (signature g)
+
+-- Each part is the one of the certificate, spelled as the choices say.
+pub record AreParts (p : Parts) (x : SignedFields × CertificateChoices) : Type 0 where
+  pub name : p.name.now ≡ certificate_name (key_algorithm x.0.key)
+  pub nonce : p.nonce.now ≡ x.0.nonce
+  pub key : p.key.now ≡ flat (body x.0.key)
+  pub serial : p.serial ≡ x.0.serial
+  pub cert_type : type_of p.cert_type ≡ x.0.certificate_type
+  pub key_id : p.key_id.now ≡ x.0.key_id
+  pub valid_principals : texts_of p.valid_principals ≡ x.0.valid_principals
+  pub valid_after : time_of p.valid_after ≡ x.0.valid_after
+  pub valid_before : end_of p.valid_before ≡ x.0.valid_before
+  pub critical_options : spelled_options_of p.critical_options ≡ (x.0.critical_options, x.1.critical_options)
+  pub extensions : spelled_options_of p.extensions ≡ (x.0.extensions, x.1.extensions)
+  pub reserved : p.reserved.now ≡ x.0.reserved
+  pub signature_key : IsKeyIn p.signature_key (x.0.signature_key, x.1.signature_key)
+
+-- ---- part by part
+
+-- the name, the nonce, and the bytes of the key's body
+pub record AreSubject (p : Bor (List ℕ) × Bor (List ℕ) × Bor (List ℕ)) (x : List ℕ × Key) : Type 0 where
+  pub name : p.0.now ≡ certificate_name (key_algorithm x.1)
+  pub nonce : p.1.now ≡ x.0
+  pub key : p.2.now ≡ flat (body x.1)
+
+abbrev pub grant_of : ℕ × CertType × Bor (List ℕ) × TextsRef → ℕ × CertificateType × List ℕ × List (List ℕ)
+grant_of p = (p.0, type_of p.1, p.2.now, texts_of p.3)
+
+abbrev pub limits_of : OptionsRef × OptionsRef → (List CertificateOption × List Nesting) × (List CertificateOption × List Nesting)
+limits_of p = (spelled_options_of p.0, spelled_options_of p.1)
+
+-- the reserved bytes, and the bytes of the key that signed
+pub record AreAuthority (p : Bor (List ℕ) × KeyDataRef) (x : List ℕ × (Key × Head)) : Type 0 where
+  pub reserved : p.0.now ≡ x.0
+  pub signature_key : IsKeyIn p.1 x.1

@@ -1,0 +1,36 @@
+//! The parts of a certificate before its signature.
+
+use sshkey_keys_ref::KeyDataRef;
+use sshkey_options::{CertType, EndTime, UnixTime};
+use sshkey_options_ref::{OptionsRef, TextsRef};
+
+/// All of a certificate before its signature, as parts of its bytes.
+#[derive(Clone, Copy, Debug)]
+pub(crate) struct Parts<'a> {
+    /// The name of the algorithm, in the form that it has in certificates.
+    pub name: &'a str,
+    /// Bytes that nobody can foretell.
+    pub nonce: &'a [u8],
+    /// The body of the certified key.
+    pub key: &'a [u8],
+    /// The serial number.
+    pub serial: u64,
+    /// Whether it is of a user or of a host.
+    pub cert_type: CertType,
+    /// A text that names the key.
+    pub key_id: &'a str,
+    /// The users or hosts that it is good for; none are all.
+    pub valid_principals: TextsRef<'a>,
+    /// The first second of the window.
+    pub valid_after: UnixTime,
+    /// The second behind the window, or that there is none.
+    pub valid_before: EndTime,
+    /// The options that a reader has to know.
+    pub critical_options: OptionsRef<'a>,
+    /// The options that a reader may ignore.
+    pub extensions: OptionsRef<'a>,
+    /// Bytes that have no meaning yet.
+    pub reserved: &'a [u8],
+    /// The key that signs.
+    pub signature_key: KeyDataRef<'a>,
+}
