@@ -11,7 +11,7 @@ use Rattle.sshkey_model.proofs.CombinedReaders.{whole_reads}
 use Rattle.sshkey_base.specs.Causes.{Cause}
 use Rattle.sshkey_base.specs.Reading.{Refuses, NoSpelling}
 use Rattle.sshkey_options_ref.specs.Taking.{Keeps, is_taken}
-use Rattle.sshkey_cert_ref.specs.CertificateRef.{SpellsCertificate}
+use Rattle.sshkey_cert.specs.CertificateReaders.{SpellsCertificate}
 use Rattle.sshkey_cert_ref.specs.Spelled.{spelled_in}
 
 -- ---- the fields, and then the signature

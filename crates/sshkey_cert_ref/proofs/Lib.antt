@@ -3,3 +3,5 @@ pub mod Cutting
 pub mod Subjects
 pub mod Fields
 pub mod Certificates
+pub mod Spellings
+pub mod Answered

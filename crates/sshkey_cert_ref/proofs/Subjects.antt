@@ -20,7 +20,7 @@ pub refused_body : (name b : List ℕ) (a : Algorithm) (c : Cause) → certified
 refused_body name b a c named h = rw named at h
 
 -- in a certificate no name has a hash
-certified_plain : (a : Algorithm) → IsCertified a → a ≡ unhashed a
+pub certified_plain : (a : Algorithm) → IsCertified a → a ≡ unhashed a
 certified_plain (Rsa None) is = refl
 certified_plain (Rsa (Some h)) is = absurd is
 certified_plain _ is = refl

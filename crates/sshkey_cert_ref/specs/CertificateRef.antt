@@ -1,7 +1,6 @@
 -- What contracts see of a certificate that is a slice.
 use Rattle.std.specs.Prelude.{ℕ, List}
-use Rattle.sshkey_model.specs.Certificates.{Certificate, CertificateChoices, IsCertificate, HasCertificatePlaces, certificate}
-use Rattle.sshkey_model.specs.Grammar.{SpellsWith}
+use Rattle.sshkey_model.specs.Certificates.{Certificate, CertificateChoices}
 use Rattle.sshkey_cert_ref.specs.Spelled.{spelled_in}
 use Rattle.sshkey_cert_ref.specs.declared.certificate_ref.CertificateRef.{CertificateRef}
 
@@ -16,7 +15,3 @@ certificate_of r = (spelled_in r.bytes.now).0
 -- the choices of its spelling
 abbrev pub choices_of : CertificateRef → CertificateChoices
 choices_of r = (spelled_in r.bytes.now).1
-
--- the bytes spell the certificate
-abbrev pub SpellsCertificate : Certificate → List ℕ → Type 0
-SpellsCertificate = SpellsWith IsCertificate HasCertificatePlaces certificate

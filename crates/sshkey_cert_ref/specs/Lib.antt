@@ -2,3 +2,4 @@ pub mod Taking
 pub mod Parts
 pub mod Spelled
 pub mod CertificateRef
+pub mod Validity

@@ -13,6 +13,9 @@ ghost use Rattle.sshkey_cert_ref.specs.Spelled.{fields_in, spelled_in};
 ghost use Rattle.sshkey_cert_ref.specs.Taking.{Takes};
 
 mod fields;
+mod owned;
+mod signed;
+mod validity;
 
 use crate::leaves::split_signature;
 use crate::parts::Parts;
@@ -40,7 +43,8 @@ pub struct CertificateRef<'a> {
 
 impl<'a> CertificateRef<'a> {
     ghost use Rattle.sshkey_options_ref.specs.Taking.{AcceptsAll, Keeps};
-    ghost use Rattle.sshkey_cert_ref.specs.CertificateRef.{SpellsCertificate, certificate_bytes, certificate_of};
+    ghost use Rattle.sshkey_cert.specs.CertificateReaders.{SpellsCertificate};
+    ghost use Rattle.sshkey_cert_ref.specs.CertificateRef.{certificate_bytes, certificate_of};
 
     /// The certificate that all the bytes together spell, read once from left to right. Takes no
     /// memory.

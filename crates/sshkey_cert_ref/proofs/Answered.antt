@@ -1,0 +1,47 @@
+-- What is answered about bytes that are known to be taken.
+use Rattle.std.proofs.Common.{◌≡◌, ◌≢◌, ◌⊎◌, ℕ, List, Bool, true, false, Result, Ok, Err, IfOk, IfErr, refl, sym, ap, ◌∙◌}
+use Rattle.std.specs.Prelude.{Contains, []}
+use Rattle.sshkey_model.specs.Reading.{Front, Whole}
+use Rattle.sshkey_model.specs.Refusals.{allows}
+use Rattle.sshkey_model.proofs.CombinedReaders.{ok_is}
+use Rattle.sshkey_model.proofs.Refusals.{allowed, allows_it}
+use Rattle.sshkey_base.specs.Answers.{Answers}
+use Rattle.sshkey_base.specs.Causes.{Cause, NoMemory, Faulty, Other}
+use Rattle.sshkey_base.specs.Reading.{Gives, GivesWhole}
+use Rattle.sshkey_base.specs.Source.{Source, all_of}
+
+pub only_memory : (c : Cause) → (c ≢ NoMemory → ⊥) → c ≡ NoMemory
+only_memory NoMemory h = refl
+only_memory (Faulty f) h = absurd (h (λ e. cc e))
+only_memory Other h = absurd (h (λ e. cc e))
+
+module _ {X Y E : Type 0} (means : X → Y) (cause : E → Cause) where
+  -- the value that the bytes spell, or memory was out
+  abbrev pub GivesThis : Y → Result X E → Type 0
+  GivesThis y r = IfOk r (λ x. means x ≡ y) × IfErr r (λ e. cause e ≡ NoMemory)
+
+  pub given_front : (read : Front Y) (b rest : List ℕ) (y : Y) (r : Result X E) (t : Source) → read b ≡ Ok (y, rest) → Gives means cause read (all_of b) r t → GivesThis y r
+  given_front read b rest y (Ok x) t is h =
+      let both : (means x, t.left) ≡ (y, rest) = ok_is (means x, t.left) (y, rest) (sym h.value ∙ is) in
+      (ap (λ (p : Y × List ℕ). p.0) both, tt)
+  given_front read b rest y (Err e) t is h = (tt, only_memory (cause e) (λ other. rw is at (h.fault other refl)))
+
+  pub given_whole : (read : Whole Y) (b : List ℕ) (y : Y) (r : Result X E) → read b ≡ Ok y → GivesWhole means cause read (all_of b) r → GivesThis y r
+  given_whole read b y (Ok x) is h = (ok_is (means x) y (sym h.value ∙ is), tt)
+  given_whole read b y (Err e) is h = (tt, only_memory (cause e) (λ other. rw is at (h.fault other refl)))
+
+  pub answered : (found : Result Y _) (y : Y) (r : Result X E) → found ≡ Ok y → Answers means cause found r → IfOk r (λ x. means x ≡ y)
+  answered found y (Ok x) is h = rw is at h
+  answered found y (Err e) is h = tt
+
+-- ---- principals
+
+pub not_allowed : (b : Bool) (ps : List (List ℕ)) (wanted : List ℕ) → b ≡ false → ((ps ≡ []) ⊎ Contains ps wanted → b ≡ true) → allows ps wanted ≡ false
+not_allowed b ps wanted no_ h = go (allows ps wanted) refl
+  where
+    go : (found : Bool) → allows ps wanted ≡ found → found ≡ false
+    go false e = refl
+    go true e = let yes_ = h (allowed ps wanted e) in absurd (cc (no_, yes_))
+
+pub is_allowed : (b : Bool) (ps : List (List ℕ)) (wanted : List ℕ) → b ≡ true → (b ≡ true → (ps ≡ []) ⊎ Contains ps wanted) → allows ps wanted ≡ true
+is_allowed b ps wanted yes_ h = allows_it ps wanted (h yes_)

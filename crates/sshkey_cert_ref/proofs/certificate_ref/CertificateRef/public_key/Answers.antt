@@ -1,0 +1,36 @@
+use Rattle.std.proofs.Common.{◌≡◌, Ok, sym, ◌∙◌, ap}
+use Rattle.std.proofs.lemmas.Result.{err_from_is_err_and}
+use Rattle.sshkey_base.specs.Causes.{cause}
+use Rattle.sshkey_base.specs.Names.{algorithm_of}
+use Rattle.sshkey_keys.specs.Keys.{key_of}
+use Rattle.sshkey_model.specs.Keys.{body_at, key_algorithm}
+use Rattle.sshkey_model.specs.Names.{Algorithm}
+use Rattle.sshkey_model.proofs.CombinedReaders.{ok_is}
+use Rattle.sshkey_cert_ref.specs.Spelled.{spelled_in}
+use Rattle.sshkey_cert_ref.proofs.Answered.{only_memory, given_front}
+use Rattle.sshkey_cert_ref.proofs.Certificates.{spelled_by}
+use Rattle.sshkey_cert_ref.proofs.Spellings.{name_is, body_is}
+use Rattle.sshkey_cert_ref.proofs.certificate_ref.CertificateRef.public_key.Goals as goal
+
+pub returns-in_err-algorithm-clause-memory : goal.returns-in_err-algorithm-clause-memory
+returns-in_err-algorithm-clause-memory c =
+    let r = c.args.self.now in
+    let p = err_from_is_err_and c.from_residual.result c.from_residual.ensures.1 in
+    let is = name_is r.bytes.now (spelled_in r.bytes.now) (spelled_by r.bytes.now r.form) _ r.fields.name in
+    rw (p.1, p.2) (only_memory (cause c.in_err-algorithm.field-0.0) (λ other. let none = (c.in_err-algorithm.ensures.gives other).none in absurd (cc (is, none))))
+
+pub returns-clause-value : goal.returns-clause-value
+returns-clause-value c =
+    let r = c.args.self.now in
+    let s = spelled_by r.bytes.now r.form in
+    let is = name_is r.bytes.now (spelled_in r.bytes.now) s _ r.fields.name in
+    let same = ok_is (algorithm_of c.in_ok-algorithm.algorithm) _ (sym c.in_ok-algorithm.ensures.gives ∙ is) in
+    (given_front key_of cause (body_at (algorithm_of c.in_ok-algorithm.algorithm)) _ _ _ c.decode_as.result _ (ap (λ (a : Algorithm). body_at a r.parts.key.now) same ∙ body_is r.bytes.now (spelled_in r.bytes.now) s _ r.fields.key) c.decode_as.ensures.gives).0
+
+pub returns-clause-memory : goal.returns-clause-memory
+returns-clause-memory c =
+    let r = c.args.self.now in
+    let s = spelled_by r.bytes.now r.form in
+    let is = name_is r.bytes.now (spelled_in r.bytes.now) s _ r.fields.name in
+    let same = ok_is (algorithm_of c.in_ok-algorithm.algorithm) _ (sym c.in_ok-algorithm.ensures.gives ∙ is) in
+    (given_front key_of cause (body_at (algorithm_of c.in_ok-algorithm.algorithm)) _ _ _ c.decode_as.result _ (ap (λ (a : Algorithm). body_at a r.parts.key.now) same ∙ body_is r.bytes.now (spelled_in r.bytes.now) s _ r.fields.key) c.decode_as.ensures.gives).1

@@ -1,0 +1,12 @@
+use Rattle.sshkey_base.specs.Causes.{cause}
+use Rattle.sshkey_keys.specs.Keys.{key_of}
+use Rattle.sshkey_cert_ref.specs.Spelled.{spelled_in}
+use Rattle.sshkey_cert_ref.proofs.Answered.{answered}
+use Rattle.sshkey_cert_ref.proofs.Certificates.{spelled_by}
+use Rattle.sshkey_cert_ref.proofs.Spellings.{signer_is}
+use Rattle.sshkey_cert_ref.proofs.certificate_ref.CertificateRef.signature_key.Goals as goal
+
+pub returns-clause-value : goal.returns-clause-value
+returns-clause-value c =
+    let r = c.args.self.now in
+    answered key_of cause _ _ c.to_key_data.result (signer_is r.bytes.now (spelled_in r.bytes.now) (spelled_by r.bytes.now r.form) _ r.fields.signature_key) c.to_key_data.ensures.value

@@ -1,0 +1,202 @@
+//! When a certificate is valid.
+
+ghost use Rattle.std.specs.List.{list_any};
+ghost use Rattle.std.specs.Prelude.{◌≡◌, ◌↔◌, IsTrue, IfOk, IfErr, OnOk, None};
+ghost use Rattle.sshkey_base.specs.declared.error.Error.TheVariants as wide;
+ghost use Rattle.sshkey_cert.specs.Validity.{Tells, fingerprints_of, has_digest};
+ghost use Rattle.sshkey_keys.specs.Fingerprints.{IsFingerprint};
+ghost use Rattle.sshkey_model.specs.Certificates.{normal_to_be_signed};
+ghost use Rattle.sshkey_model.specs.Fingerprints.{same_fingerprint};
+ghost use Rattle.sshkey_model.specs.Names.{Sha256};
+ghost use Rattle.sshkey_model.specs.Parts.{flat};
+ghost use Rattle.sshkey_model.specs.Principals.{Allows};
+ghost use Rattle.sshkey_model.specs.Refusals.{NotSigned, first_refusal, is_signed, is_within, unless};
+ghost use Rattle.sshkey_cert_ref.specs.CertificateRef.{certificate_of};
+ghost use Rattle.sshkey_cert_ref.specs.Validity.{IsSigned, IsUnsigned, Judges, JudgesFor};
+
+use super::CertificateRef;
+use sshkey_base::certificate::Field;
+use sshkey_base::{Error, HashAlg, Result};
+use sshkey_fingerprints::Fingerprint;
+use sshkey_keys::RawVerifier;
+use sshkey_options::MAX_SECS;
+use std::alloc::Global;
+
+impl CertificateRef<'_> {
+    /// Asks the verifier about the signature over all other fields, in their normal form: where
+    /// `signed_bytes` is Some about that very slice, and else about bytes that are made anew.
+    ///
+    /// Out of memory aside: Ok exactly where `KeyData::verify` under the signature key accepts it,
+    /// else `CertificateValidation`. Where `signed_bytes` is Some, memory is taken only for a DSA
+    /// or an RSA key and by the verifier.
+    pub fn verify_signature<V: RawVerifier>(&self, alloc: Global, verifier: &V) -> Result<()>
+        ensures accepted { OnOk result
+            (IsSigned (V.accepts verifier.now) (certificate_of self.now)) }
+        ensures refused { IfErr result
+            (IsUnsigned (V.accepts verifier.now) (certificate_of self.now)) }
+    {
+        match self.signed_bytes() {
+            Some(signed) => self.verify_slice(alloc, signed, verifier),
+            None => self.verify_in_memory(alloc, verifier),
+        }
+    }
+
+    /// Whether the certificate is valid at that time, in seconds since 1970, for an authority with
+    /// one of the fingerprints. Only SHA-256 ones count.
+    ///
+    /// Out of memory aside, Ok exactly where it is valid; else the first of these:
+    /// `CertificateValidation` for the signature, `CertificateValidation` where no fingerprint is
+    /// the signature key's, `Time` for a time above 2^63 - 1, `CertificateValidation` for a time
+    /// before `valid_after`, or not before `valid_before`. It takes memory where `verify_signature`
+    /// does, and for an RSA signature key under another name than `ssh-rsa`.
+    pub fn validate_at<V: RawVerifier>(
+        &self,
+        alloc: Global,
+        unix_timestamp: u64,
+        fingerprints: &[Fingerprint],
+        verifier: &V,
+    ) -> Result<()>
+        ensures { Judges (V.accepts verifier.now) fingerprints.now unix_timestamp
+            (certificate_of self.now) result }
+    {
+        self.judge_at(alloc, unix_timestamp, fingerprints, verifier)
+    }
+
+    /// Whether the certificate lists no principals, which allows all of them, or lists that very
+    /// text. Takes no memory.
+    pub fn allows_principal(&self, wanted: &str) -> bool
+        ensures { IsTrue result ↔ Allows (certificate_of self.now) wanted.now }
+    {
+        let principals = self.valid_principals();
+        principals.is_empty() || principals.contains(wanted)
+    }
+
+    /// Whether the certificate is valid as `validate_at` has it, and allows the wanted principal.
+    ///
+    /// Out of memory aside, Ok exactly where it is; else the refusal of `validate_at`, and last
+    /// `CertificateFieldInvalid` for the principal.
+    pub fn validate_principal_at<V: RawVerifier>(
+        &self,
+        alloc: Global,
+        unix_timestamp: u64,
+        wanted: &str,
+        fingerprints: &[Fingerprint],
+        verifier: &V,
+    ) -> Result<()>
+        ensures { JudgesFor (V.accepts verifier.now) fingerprints.now unix_timestamp wanted.now
+            (certificate_of self.now) result }
+    {
+        self.judge_at(alloc, unix_timestamp, fingerprints, verifier)?;
+        if !self.allows_principal(wanted) {
+            return Err(Error::CertificateFieldInvalid(Field::ValidPrincipals));
+        }
+        Ok(())
+    }
+
+    /// What is wrong with the certificate first.
+    fn judge_at<V: RawVerifier>(
+        &self,
+        alloc: Global,
+        unix_timestamp: u64,
+        fingerprints: &[Fingerprint],
+        verifier: &V,
+    ) -> Result<()>
+        ensures { Tells (first_refusal (V.accepts verifier.now) (fingerprints_of fingerprints.now)
+            unix_timestamp (certificate_of self.now)) result }
+    {
+        self.ask(alloc, verifier)?;
+        let authority = self.authority(alloc)?;
+        if !is_given(fingerprints, authority.as_bytes()) {
+            return Err(Error::CertificateValidation);
+        }
+        if unix_timestamp > MAX_SECS {
+            return Err(Error::Time);
+        }
+        if !self.is_within(unix_timestamp) {
+            return Err(Error::CertificateValidation);
+        }
+        Ok(())
+    }
+
+    /// What is wrong with the signature.
+    fn ask<V: RawVerifier>(&self, alloc: Global, verifier: &V) -> Result<()>
+        ensures { Tells (unless (is_signed (V.accepts verifier.now) (certificate_of self.now))
+            NotSigned None) result }
+    {
+        self.verify_signature(alloc, verifier)
+    }
+
+    /// Asks the verifier about the signature over these bytes.
+    fn verify_slice<V: RawVerifier>(&self, alloc: Global, signed: &[u8], verifier: &V) -> Result<()>
+        requires { signed.now ≡ flat (normal_to_be_signed (certificate_of self.now).signed) }
+        ensures accepted { OnOk result
+            (IsSigned (V.accepts verifier.now) (certificate_of self.now)) }
+        ensures refused { IfErr result
+            (IsUnsigned (V.accepts verifier.now) (certificate_of self.now)) }
+    {
+        let key = self.parts.signature_key;
+        if !key.accepts(alloc, signed, &self.signature, verifier)? {
+            return Err(Error::CertificateValidation);
+        }
+        Ok(())
+    }
+
+    /// Asks the verifier about the signature over bytes that are made anew.
+    fn verify_in_memory<V: RawVerifier>(&self, alloc: Global, verifier: &V) -> Result<()>
+        ensures accepted { OnOk result
+            (IsSigned (V.accepts verifier.now) (certificate_of self.now)) }
+        ensures refused { IfErr result
+            (IsUnsigned (V.accepts verifier.now) (certificate_of self.now)) }
+    {
+        match self.to_certificate(alloc) {
+            Ok(certificate) => certificate.verify_signature(alloc, verifier),
+            Err(_) => Err(Error::Memory),
+        }
+    }
+
+    /// The SHA-256 fingerprint of the key that signed. Refused only when out of memory.
+    fn authority(&self, alloc: Global) -> Result<Fingerprint>
+        ensures fingerprint { IfOk result
+            (IsFingerprint Sha256 (certificate_of self.now).signed.signature_key) }
+        ensures memory { IfErr result (λ e. e ≡ wide.Memory) }
+    {
+        match self.parts.signature_key.fingerprint(alloc, HashAlg::Sha256) {
+            Ok(fingerprint) => Ok(fingerprint),
+            Err(_) => Err(Error::Memory),
+        }
+    }
+
+    /// Whether the time is one from `valid_after` on and before `valid_before`.
+    fn is_within(&self, secs: u64) -> bool
+        ensures { result ≡ is_within secs (certificate_of self.now) }
+    {
+        self.valid_after() <= secs && secs < self.valid_before()
+    }
+}
+
+/// Whether one of the fingerprints is by SHA-256 and has that digest.
+#[tactic(auto, using(sshkey_cert::proofs::Given::given_is))]
+fn is_given(fingerprints: &[Fingerprint], digest: &[u8]) -> bool
+    ensures { result ≡ list_any (same_fingerprint (record { hash = Sha256; digest = digest.now }))
+        (fingerprints_of fingerprints.now) }
+{
+    any_has(fingerprints, digest)
+}
+
+fn any_has(fingerprints: &[Fingerprint], digest: &[u8]) -> bool
+    ensures { result ≡ list_any (has_digest digest.now) fingerprints.now }
+{
+    fingerprints
+        .iter()
+        .any(|fingerprint| has_digest(fingerprint, digest))
+}
+
+/// Whether the fingerprint is by SHA-256 and has that digest.
+fn has_digest(fingerprint: &Fingerprint, digest: &[u8]) -> bool
+    ensures { result ≡ has_digest digest.now fingerprint.now }
+{
+    match fingerprint {
+        Fingerprint::Sha256(given) => digest == given.as_slice(),
+        Fingerprint::Sha512(_) => false,
+    }
+}
