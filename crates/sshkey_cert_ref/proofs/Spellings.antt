@@ -2,12 +2,11 @@
 use Rattle.std.proofs.Common.{◌≡◌, ◌↔◌, ℕ, List, [], ◌++◌, append-nil, Option, Some, None, is_some, true, Ok, refl, sym, ap, ◌∙◌}
 use denote.Ref.{Bor}
 use Rattle.sshkey_model.specs.CertificateNames.{certificate_name, certified_from}
-use Rattle.sshkey_model.specs.Certificates.{Certificate, CertificateChoices, certificate, plain_certificate, to_be_signed}
-use Rattle.sshkey_model.specs.Keys.{Key, Head, Plain, IsKey, HasKeyPlaces, key_algorithm, key, body, body_at, normal_key}
-use Rattle.sshkey_model.specs.Names.{Algorithm}
+use Rattle.sshkey_model.specs.Certificates.{Certificate, CertificateChoices, certificate, to_be_signed}
+use Rattle.sshkey_model.specs.Keys.{Key, Head, Plain, key_algorithm, key, body, body_at}
 use Rattle.sshkey_model.specs.Parts.{InRange, BoxesFit, Fits, box, flat}
 use Rattle.sshkey_model.specs.Reading.{whole}
-use Rattle.sshkey_model.specs.Signatures.{Signature, signature, signature_at}
+use Rattle.sshkey_model.specs.Signatures.{signature, signature_at}
 use Rattle.sshkey_model.proofs.CertificateNameReaders.{certified_again}
 use Rattle.sshkey_model.proofs.CombinedReaders.{ok_is, prefix}
 use Rattle.sshkey_model.proofs.KeyReaders.{key_reads, body_reads}

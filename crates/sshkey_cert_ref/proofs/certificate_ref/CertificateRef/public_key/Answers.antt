@@ -1,9 +1,9 @@
-use Rattle.std.proofs.Common.{◌≡◌, Ok, sym, ◌∙◌, ap}
+use Rattle.std.proofs.Common.{sym, ◌∙◌, ap}
 use Rattle.std.proofs.lemmas.Result.{err_from_is_err_and}
 use Rattle.sshkey_base.specs.Causes.{cause}
 use Rattle.sshkey_base.specs.Names.{algorithm_of}
 use Rattle.sshkey_keys.specs.Keys.{key_of}
-use Rattle.sshkey_model.specs.Keys.{body_at, key_algorithm}
+use Rattle.sshkey_model.specs.Keys.{body_at}
 use Rattle.sshkey_model.specs.Names.{Algorithm}
 use Rattle.sshkey_model.proofs.CombinedReaders.{ok_is}
 use Rattle.sshkey_cert_ref.specs.Spelled.{spelled_in}

@@ -1,5 +1,4 @@
 use Rattle.std.proofs.Common.{◌≡◌, true, false, refl, sym, ◌∙◌}
-use Rattle.sshkey_model.specs.Verification.{is_yes, question}
 use Rattle.sshkey_cert_ref.specs.Spelled.{spelled_in}
 use Rattle.sshkey_cert_ref.proofs.Certificates.{spelled_by}
 use Rattle.sshkey_cert_ref.proofs.Spellings.{signer_spells, signature_spells}
