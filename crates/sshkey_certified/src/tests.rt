@@ -5,3 +5,4 @@ mod certificates;
 mod certified;
 mod hashed_authorities;
 mod issued;
+mod slices;

@@ -10,12 +10,12 @@ use sshkey_options::{MAX_SECS, OptionsMap};
 use std::alloc::Global;
 
 /// The bytes of a certificate.
-fn blob_of(alloc: Global, made: &Certified) -> Option<Vec<u8>> {
+pub(super) fn blob_of(alloc: Global, made: &Certified) -> Option<Vec<u8>> {
     STANDARD.decode(alloc, made.base64.as_bytes()).ok()
 }
 
 /// A certificate, read.
-fn read(alloc: Global, made: &Certified) -> Option<Certificate> {
+pub(super) fn read(alloc: Global, made: &Certified) -> Option<Certificate> {
     Certificate::from_bytes(alloc, &blob_of(alloc, made)?).ok()
 }
 
@@ -85,15 +85,19 @@ fn is_written_back(alloc: Global, certificate: &Certificate, made: &Certified) -
     }
 }
 
-/// A certificate is read with these fields, and written back.
+/// The certificate has these fields, and is written back.
+pub(super) fn is_as_made(alloc: Global, certificate: &Certificate, made: &Certified) -> bool {
+    has_fields(certificate, made)
+        && has_lists(certificate, made)
+        && has_keys(alloc, certificate, made)
+        && is_written_back(alloc, certificate, made)
+}
+
 fn holds(alloc: Global, made: &Certified) -> bool {
-    let Some(certificate) = read(alloc, made) else {
-        return false;
-    };
-    has_fields(&certificate, made)
-        && has_lists(&certificate, made)
-        && has_keys(alloc, &certificate, made)
-        && is_written_back(alloc, &certificate, made)
+    match read(alloc, made) {
+        Some(certificate) => is_as_made(alloc, &certificate, made),
+        None => false,
+    }
 }
 
 #[test]
@@ -111,7 +115,7 @@ pub(super) fn knower(alloc: Global, certificate: &Certificate, made: &Certified)
 }
 
 /// The SHA-256 fingerprint of the key that signed, and the SHA-512 one.
-fn authorities(alloc: Global, certificate: &Certificate) -> Option<[Fingerprint; 2]> {
+pub(super) fn authorities(alloc: Global, certificate: &Certificate) -> Option<[Fingerprint; 2]> {
     let key = certificate.signature_key();
     let sha256 = key.fingerprint(alloc, HashAlg::Sha256).ok()?;
     let sha512 = key.fingerprint(alloc, HashAlg::Sha512).ok()?;

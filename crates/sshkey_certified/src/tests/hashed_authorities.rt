@@ -4,6 +4,7 @@ use super::certificates::knower;
 use super::certified::{Certified, rsa_sha256, rsa_sha512};
 use base64::engine::general_purpose::STANDARD;
 use sshkey_cert::Certificate;
+use sshkey_cert_ref::CertificateRef;
 use std::alloc::Global;
 
 /// `rsa_sha256`, where the key that signed stands under `rsa-sha2-256`. A script changed the name
@@ -42,4 +43,46 @@ fn is_known_as(alloc: Global, base64: &str, other: &Certified) -> bool {
 fn it_is_verified_over_its_normal_form(rt: HostRuntime) {
     assert!(rt; is_known_as(rt.alloc(), under_sha256(), &rsa_sha256()));
     assert!(rt; is_known_as(rt.alloc(), under_sha512(), &rsa_sha512()));
+}
+
+fn is_slice_verified_as(
+    alloc: Global,
+    slice: &CertificateRef<'_>,
+    owned: &Certificate,
+    other: &Certified,
+) -> bool {
+    match knower(alloc, owned, other) {
+        Some(only) => slice.verify_signature(alloc, &only) == Ok(()),
+        None => false,
+    }
+}
+
+/// The bytes are a certificate that was not signed over a part of them, and is accepted likewise.
+fn is_verified_in(alloc: Global, bytes: &[u8], owned: &Certificate, other: &Certified) -> bool {
+    match CertificateRef::from_bytes(bytes) {
+        Ok(slice) => {
+            slice.signed_bytes().is_none() && is_slice_verified_as(alloc, &slice, owned, other)
+        }
+        Err(_) => false,
+    }
+}
+
+fn is_known_in(alloc: Global, bytes: &[u8], base64: &str, other: &Certified) -> bool {
+    match renamed(alloc, base64) {
+        Some(owned) => is_verified_in(alloc, bytes, &owned, other),
+        None => false,
+    }
+}
+
+fn is_slice_known_as(alloc: Global, base64: &str, other: &Certified) -> bool {
+    match STANDARD.decode(alloc, base64.as_bytes()) {
+        Ok(bytes) => is_known_in(alloc, &bytes, base64, other),
+        Err(_) => false,
+    }
+}
+
+#[test]
+fn a_slice_is_verified_over_the_normal_form(rt: HostRuntime) {
+    assert!(rt; is_slice_known_as(rt.alloc(), under_sha256(), &rsa_sha256()));
+    assert!(rt; is_slice_known_as(rt.alloc(), under_sha512(), &rsa_sha512()));
 }
