@@ -23,9 +23,9 @@ fn has_fields(certificate: &CertificateRef<'_>, made: &Certified) -> bool {
         && certificate.reserved().is_empty()
 }
 
-/// The options are these, in their order.
-fn are_options(options: OptionsRef<'_>, wanted: &[(&str, &str)]) -> bool {
-    options.iter().count() == wanted.len()
+/// These options are among them, and where these are none, none are.
+fn has_options(options: OptionsRef<'_>, wanted: &[(&str, &str)]) -> bool {
+    options.is_empty() == wanted.is_empty()
         && wanted
             .iter()
             .all(|option| options.get(option.0) == Some(option.1))
@@ -38,8 +38,8 @@ fn has_lists(certificate: &CertificateRef<'_>, made: &Certified) -> bool {
         .all(|principal| certificate.allows_principal(principal))
         && certificate.allows_principal("nobody") == made.principals.is_empty()
         && certificate.valid_principals().is_empty() == made.principals.is_empty()
-        && are_options(certificate.critical_options(), made.critical)
-        && are_options(certificate.extensions(), made.extensions)
+        && has_options(certificate.critical_options(), made.critical)
+        && has_options(certificate.extensions(), made.extensions)
 }
 
 /// It is signed over so many of its first bytes.
