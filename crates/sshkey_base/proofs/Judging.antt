@@ -1,10 +1,10 @@
 -- A value that is read and then judged.
-use Rattle.std.proofs.Common.{◌≡◌, ℕ, List, Bool, true, false, not, Result, Ok, Err, refl, sym, ◌∙◌}
+use Rattle.std.proofs.Common.{◌≡◌, ◌≢◌, ℕ, List, Bool, true, false, not, Result, Ok, Err, refl, sym, ◌∙◌}
 use Rattle.std.proofs.lemmas.Bool.{not-true, not-false}
 use Rattle.std.specs.Prelude.{bytes_eq}
 use Rattle.sshkey_model.specs.Reading.{Fault, FormatEncoding, ◌>>=◌, Front, checked_at, literal_from}
 use Rattle.sshkey_base.specs.Answers.{AnswersAlways}
-use Rattle.sshkey_base.specs.Causes.{Cause, Faulty}
+use Rattle.sshkey_base.specs.Causes.{Cause, NoMemory, Faulty, Other}
 use Rattle.sshkey_base.specs.Source.{Source}
 use Rattle.sshkey_base.specs.Needs.{Asks}
 use Rattle.sshkey_base.specs.Reading.{Reads, Gives}
@@ -17,6 +17,12 @@ judged {A} {B} {C} {X} {E} first means cause read judge s t x r h answer = go (j
     go (Ok c) (Err d) e a = absurd a
     go (Err f) (Ok y) e a = absurd a
     go (Err f) (Err d) e a = record { fault = λ _ _. rw (h.value, e) a }
+
+-- what refuses what is taken is that memory was out
+pub only_memory : (c : Cause) → (c ≢ NoMemory → ⊥) → c ≡ NoMemory
+only_memory NoMemory h = refl
+only_memory (Faulty f) h = absurd (h (λ e. cc e))
+only_memory Other h = absurd (h (λ e. cc e))
 
 -- a judgement asks for no memory
 pub judged_asks : {A B C X E : Type 0} (first : A → B) (means : X → C) (cause : E → Cause) (needs : List ℕ → Type 0) (read : Front B) (found : Result C Fault) (s t : Source) (x : A) (r : Result X E) → Reads first read s x t → AnswersAlways means cause found r → Asks cause needs s r

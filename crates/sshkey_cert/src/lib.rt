@@ -4,4 +4,4 @@
 mod certificate;
 pub mod laws;
 
-pub use certificate::Certificate;
+pub use certificate::{Certificate, is_given};

@@ -1,19 +1,15 @@
 -- What is answered about bytes that are known to be taken.
-use Rattle.std.proofs.Common.{◌≡◌, ◌≢◌, ◌⊎◌, ℕ, List, Bool, true, false, Result, Ok, Err, IfOk, IfErr, refl, sym, ap, ◌∙◌}
+use Rattle.std.proofs.Common.{◌≡◌, ◌⊎◌, ℕ, List, Bool, true, false, Result, Ok, Err, IfOk, IfErr, refl, sym, ap, ◌∙◌}
 use Rattle.std.specs.Prelude.{Contains, []}
 use Rattle.sshkey_model.specs.Reading.{Front, Whole}
 use Rattle.sshkey_model.specs.Refusals.{allows}
 use Rattle.sshkey_model.proofs.CombinedReaders.{ok_is}
 use Rattle.sshkey_model.proofs.Refusals.{allowed, allows_it}
 use Rattle.sshkey_base.specs.Answers.{Answers}
-use Rattle.sshkey_base.specs.Causes.{Cause, NoMemory, Faulty, Other}
+use Rattle.sshkey_base.specs.Causes.{Cause, NoMemory}
 use Rattle.sshkey_base.specs.Reading.{Gives, GivesWhole}
 use Rattle.sshkey_base.specs.Source.{Source, all_of}
-
-pub only_memory : (c : Cause) → (c ≢ NoMemory → ⊥) → c ≡ NoMemory
-only_memory NoMemory h = refl
-only_memory (Faulty f) h = absurd (h (λ e. cc e))
-only_memory Other h = absurd (h (λ e. cc e))
+use Rattle.sshkey_base.proofs.Judging.{only_memory}
 
 module _ {X Y E : Type 0} (means : X → Y) (cause : E → Cause) where
   -- the value that the bytes spell, or memory was out

@@ -1,56 +1,25 @@
--- Names, keys and signatures in strings.
-use Rattle.std.proofs.Common.{◌≡◌, ℕ, List, [], ◌∷◌, true, Result, Ok, Err, refl, sym, ap, ◌∙◌}
-use Rattle.sshkey_model.specs.Parts.{are_bytes, flat}
-use Rattle.sshkey_model.specs.Reading.{Fault, ◌>>=◌, Whole, end_of, whole, string_at, box_at}
+-- Keys and signatures that fill their strings.
+use Rattle.std.proofs.Common.{◌≡◌, ℕ, List, Result, Ok, Err, refl, sym, ap, ◌∙◌}
+use Rattle.sshkey_model.specs.Parts.{flat}
+use Rattle.sshkey_model.specs.Reading.{Fault, ◌>>=◌, whole}
 use Rattle.sshkey_model.specs.Grammar.{spelled}
 use Rattle.sshkey_model.specs.Keys.{Key, Head, key, key_at}
-use Rattle.sshkey_model.specs.Names.{algorithm_at}
 use Rattle.sshkey_model.specs.Signatures.{Signature, signature, signature_at}
-use Rattle.sshkey_model.proofs.CombinedReaders.{bind_ok, bind_assoc, whole_reads}
+use Rattle.sshkey_model.proofs.CombinedReaders.{bind_ok, whole_reads}
 use Rattle.sshkey_model.proofs.KeyReaders.{key_reads}
 use Rattle.sshkey_model.proofs.SignatureReaders.{signature_reads}
 use Rattle.sshkey_base.specs.Causes.{Cause, Faulty}
-use Rattle.sshkey_base.specs.Labels.{label_at}
 use Rattle.sshkey_base.specs.Reading.{Refuses}
-use Rattle.sshkey_base.proofs.MappedBoxes.{made, on_value}
+use Rattle.sshkey_base.proofs.MappedBoxes.{made}
 use Rattle.sshkey_keys.specs.Keys.{key_data_at}
-use Rattle.sshkey_keys_ref.specs.Taking.{Keeps}
-use Rattle.sshkey_options_ref.proofs.Fronts.{box_string}
-
--- ---- what is in a string
-
-pub box_taken : {Y : Type 0} (read : Whole Y) (b s rest : List ℕ) (y : Y) → are_bytes b ≡ true → string_at b ≡ Ok (s, rest) → read s ≡ Ok y → box_at read b ≡ Ok (y, rest)
-box_taken read b s rest y are e f = box_string read b are ∙ rw (e, f) refl
-
-pub box_refused : {Y : Type 0} (read : Whole Y) (b : List ℕ) (fault : Fault) → are_bytes b ≡ true → string_at b ≡ Err fault → box_at read b ≡ Err fault
-box_refused read b fault are e = box_string read b are ∙ rw e refl
-
-pub box_judged : {Y : Type 0} (read : Whole Y) (b s rest : List ℕ) (fault : Fault) → are_bytes b ≡ true → string_at b ≡ Ok (s, rest) → read s ≡ Err fault → box_at read b ≡ Err fault
-box_judged read b s rest fault are e f = box_string read b are ∙ rw (e, f) refl
-
--- ---- keys
+use Rattle.sshkey_keys.proofs.BoxedKeys.{plain, key_whole}
+use Rattle.sshkey_slices.specs.Slices.{Keeps}
 
 abbrev refused : {A : Type 0} → Fault → Result A Fault
 refused f = Err f
 
 err_is : {A : Type 0} (f g : Fault) → refused {A = A} f ≡ refused g → f ≡ g
 err_is f g e = cc
-
--- the key that was read, without the name at its head
-abbrev plain : Key × Head → Key
-plain x = x.0
-
-key_is : (b : List ℕ) → key_data_at b ≡ (key_at b >>= on_value plain)
-unfolding key_data_at key_at algorithm_at label_at
-key_is b = simp bind_assoc
-
-key_end : (r : Result ((Key × Head) × List ℕ) Fault) → ((r >>= on_value plain) >>= λ x. end_of x.0 x.1) ≡ ((r >>= λ x. end_of x.0 x.1) >>= made plain)
-key_end (Ok (x, [])) = refl
-key_end (Ok (x, (b ∷ rest))) = refl
-key_end (Err e) = refl
-
-key_whole : (b : List ℕ) → whole key_data_at b ≡ (whole key_at b >>= made plain)
-key_whole b = rw (key_is b) (key_end (key_at b))
 
 module _ {X E : Type 0} (bytes_of : X → List ℕ) (cause : E → Cause) (b : List ℕ) where
   pub key_kept : (x : X) → Keeps bytes_of cause (whole key_data_at b) b (Ok x) → (k : Key × Head) × (bytes_of x ≡ flat (spelled key k)) × (whole key_at b ≡ Ok k)

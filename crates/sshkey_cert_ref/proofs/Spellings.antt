@@ -8,6 +8,7 @@ use Rattle.sshkey_model.specs.Parts.{InRange, BoxesFit, Fits, box, flat}
 use Rattle.sshkey_model.specs.Reading.{whole}
 use Rattle.sshkey_model.specs.Signatures.{signature, signature_at}
 use Rattle.sshkey_model.proofs.CertificateNameReaders.{certified_again}
+use Rattle.sshkey_model.proofs.CertificateReaders.{certified_plain}
 use Rattle.sshkey_model.proofs.CombinedReaders.{ok_is, prefix}
 use Rattle.sshkey_model.proofs.KeyReaders.{key_reads, body_reads}
 use Rattle.sshkey_model.proofs.NormalFits.{key_fits}
@@ -17,7 +18,6 @@ use Rattle.sshkey_keys.specs.Keys.{SpellsKey, key_data_at}
 use Rattle.sshkey_keys.specs.SignatureReaders.{SpellsSignature, signature_grammar}
 use Rattle.sshkey_keys_ref.specs.NormalBytes.{GivesNormal}
 use Rattle.sshkey_cert_ref.proofs.Certificates.{IsSpelledBy}
-use Rattle.sshkey_cert_ref.proofs.Subjects.{certified_plain}
 
 signer_fits : (c : Certificate) (s : CertificateChoices) → Fits (certificate c s) → Fits (key c.signed.signature_key s.signature_key)
 unfolding InRange BoxesFit

@@ -1,11 +1,12 @@
 -- The certified key under its name.
-use Rattle.std.proofs.Common.{◌≡◌, ℕ, List, ◌++◌, Some, None, Ok, refl, sym, ap, ◌∙◌}
+use Rattle.std.proofs.Common.{◌≡◌, ℕ, List, ◌++◌, Ok, refl, sym, ap, ◌∙◌}
 use Rattle.std.proofs.lemmas.List.{append_cancel_right}
-use Rattle.sshkey_model.specs.CertificateNames.{IsCertified, certificate_name, certified_from}
-use Rattle.sshkey_model.specs.Keys.{Key, key_algorithm, body, body_at, unhashed}
-use Rattle.sshkey_model.specs.Names.{Algorithm, Rsa}
+use Rattle.sshkey_model.specs.CertificateNames.{certificate_name, certified_from}
+use Rattle.sshkey_model.specs.Keys.{Key, key_algorithm, body, body_at}
+use Rattle.sshkey_model.specs.Names.{Algorithm}
 use Rattle.sshkey_model.specs.Parts.{flat}
 use Rattle.sshkey_model.proofs.CertificateNameReaders.{certified_checks}
+use Rattle.sshkey_model.proofs.CertificateReaders.{certified_plain}
 use Rattle.sshkey_model.proofs.KeyReaders.{body_reads}
 use Rattle.sshkey_base.specs.Causes.{Cause}
 use Rattle.sshkey_base.specs.Reading.{Refuses}
@@ -19,13 +20,7 @@ certified_body name b rest a k named taken = rw named at taken
 pub refused_body : (name b : List ℕ) (a : Algorithm) (c : Cause) → certified_from name ≡ Ok a → Refuses 0 c (certified_body_at name b) → Refuses 0 c (body_at a b)
 refused_body name b a c named h = rw named at h
 
--- in a certificate no name has a hash
-pub certified_plain : (a : Algorithm) → IsCertified a → a ≡ unhashed a
-certified_plain (Rsa None) is = refl
-certified_plain (Rsa (Some h)) is = absurd is
-certified_plain _ is = refl
-
--- so the name is that of the key's algorithm
+-- in a certificate no name has a hash, so the name is that of the key's algorithm
 pub named_key : (name b rest : List ℕ) (a : Algorithm) (k : Key) → certified_from name ≡ Ok a → body_at a b ≡ Ok (k, rest) → name ≡ certificate_name (key_algorithm k)
 named_key name b rest a k named taken =
     let is = certified_checks.takes name a tt named in

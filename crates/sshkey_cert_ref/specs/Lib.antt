@@ -2,4 +2,3 @@ pub mod Taking
 pub mod Parts
 pub mod Spelled
 pub mod CertificateRef
-pub mod Validity

@@ -1,9 +1,10 @@
 -- The certificate that bytes spell (PROTOCOL.certkeys).
-use Rattle.std.specs.Prelude.{ℕ, List, [], Result, Ok, Err}
+use Rattle.std.specs.Prelude.{ℕ, List, []}
 use Rattle.sshkey_model.specs.Certificates.{Certificate, CertificateChoices, SignedFields, User, certificate_at}
 use Rattle.sshkey_model.specs.Keys.{Opaque, Plain}
 use Rattle.sshkey_model.specs.Names.{Dsa}
-use Rattle.sshkey_model.specs.Reading.{Fault, whole}
+use Rattle.sshkey_model.specs.Reading.{whole}
+use Rattle.sshkey_slices.specs.Slices.{found_or}
 
 -- what stands for the certificate of bytes that spell none
 abbrev pub no_certificate : Certificate
@@ -14,10 +15,6 @@ no_certificate = record {
 
 abbrev pub no_choices : CertificateChoices
 no_choices = record { critical_options = []; extensions = []; signature_key = Plain }
-
-abbrev pub found_or : {Y : Type 0} → Y → Result Y Fault → Y
-found_or none (Ok y) = y
-found_or none (Err fault) = none
 
 -- the certificate that all the bytes spell, and the choices of its spelling
 unfoldable pub spelled_in : List ℕ → Certificate × CertificateChoices

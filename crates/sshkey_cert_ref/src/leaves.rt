@@ -9,14 +9,14 @@ ghost use Rattle.sshkey_model.specs.Reading.{box_at, whole};
 ghost use Rattle.sshkey_model.specs.Signatures.{signature_at};
 ghost use Rattle.sshkey_options.specs.CertTypes.{type_of};
 ghost use Rattle.sshkey_options.specs.Times.{time_of, end_of};
-ghost use Rattle.sshkey_options_ref.specs.Taking.{Splits};
+ghost use Rattle.sshkey_slices.specs.Slices.{Splits};
 ghost use Rattle.sshkey_cert_ref.specs.Parts.{IsName, IsKeyIn, IsSignatureIn};
 ghost use Rattle.sshkey_cert_ref.specs.Taking.{Cuts, Takes};
 
 use sshkey_base::{Algorithm, Error, Result, encoding};
 use sshkey_keys_ref::{KeyDataRef, SignatureRef};
 use sshkey_options::{CertType, EndTime, UnixTime};
-use sshkey_options_ref::{split_string, split_u32, split_u64};
+use sshkey_slices::{split_string, split_u32, split_u64};
 use std::convert::TryFrom;
 use std::str;
 

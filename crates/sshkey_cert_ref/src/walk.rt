@@ -3,7 +3,7 @@
 ghost use Rattle.std.specs.Prelude.{◌≡◌};
 ghost use Rattle.sshkey_base.specs.Causes.{cause};
 ghost use Rattle.sshkey_model.specs.Certificates.{signed_fields_at};
-ghost use Rattle.sshkey_options_ref.specs.Taking.{Splits};
+ghost use Rattle.sshkey_slices.specs.Slices.{Splits};
 ghost use Rattle.sshkey_unsigned.specs.UnsignedReaders.{subject_at, grant_at, window_at};
 ghost use Rattle.sshkey_unsigned.specs.UnsignedValues.{window_of};
 ghost use Rattle.sshkey_cert_ref.specs.Parts.{AreParts, AreSubject, AreAuthority, grant_of, limits_of};
@@ -14,7 +14,8 @@ use crate::parts::Parts;
 use sshkey_base::Result;
 use sshkey_keys_ref::{KeyDataRef, take_body};
 use sshkey_options::{CertType, EndTime, UnixTime};
-use sshkey_options_ref::{OptionsRef, TextsRef, split_string, split_text, split_u64};
+use sshkey_options_ref::{OptionsRef, TextsRef};
+use sshkey_slices::{split_string, split_text, split_u64};
 
 /// All fields before the signature, and what stands behind them.
 pub(crate) fn split_parts(bytes: &[u8]) -> Result<(Parts<'_>, &[u8])>

@@ -21,7 +21,7 @@ key_end (Ok (x, [])) = refl
 key_end (Ok (x, (b ∷ rest))) = refl
 key_end (Err e) = refl
 
-key_whole : (b : List ℕ) → whole key_data_at b ≡ (whole key_at b >>= made plain)
+pub key_whole : (b : List ℕ) → whole key_data_at b ≡ (whole key_at b >>= made plain)
 key_whole b = rw (key_is b) (key_end (key_at b))
 
 pub key_box : (b : List ℕ) → box_at (whole key_data_at) b ≡ (box_at (whole key_at) b >>= on_value plain)

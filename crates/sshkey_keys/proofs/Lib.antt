@@ -1,7 +1,6 @@
 pub mod OwnAlgorithms
 pub mod OpaqueNames
 pub mod SignatureForms
-pub mod SplitStrings
 pub mod SignatureParts
 pub mod BoxedKeys
 pub mod Bodies

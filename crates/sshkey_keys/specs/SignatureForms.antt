@@ -5,6 +5,7 @@ use Rattle.sshkey_model.specs.Names.{Nistp256, Algorithm}
 use Rattle.sshkey_model.specs.Mpints.{mpint_from, positive_part}
 use Rattle.sshkey_model.specs.Points.{field_size}
 use Rattle.sshkey_model.specs.Signatures.{Signature, without_trailer, ecdsa_blob_from, sized_from, some_from, none_from}
+use Rattle.sshkey_slices.specs.Slices.{is_taken}
 
 -- Flags and a counter stand behind the string.
 abbrev pub has_trailer : Algorithm → Bool
@@ -29,10 +30,6 @@ trailed_from judge b = if nat_lt (length b) 5 then Err Length else (judge (witho
 
 abbrev pub blob_from : Algorithm → Whole (List ℕ)
 blob_from a b = if has_trailer a then trailed_from (string_from a) b else string_from a b
-
-abbrev pub is_taken : {A : Type 0} → Result A Fault → Bool
-is_taken (Ok x) = true
-is_taken (Err f) = false
 
 -- the same as `IsSignatureBlob`, as a test
 abbrev pub is_blob : Algorithm → List ℕ → Bool

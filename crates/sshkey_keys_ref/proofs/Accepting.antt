@@ -11,17 +11,18 @@ use Rattle.sshkey_base.specs.Answers.{Judges}
 use Rattle.sshkey_base.specs.Causes.{Cause}
 use Rattle.sshkey_base.proofs.Accepted.{whole_spelled, spelled_whole}
 use Rattle.sshkey_keys.specs.KeyReaders.{body_grammar}
-use Rattle.sshkey_keys_ref.specs.Taking.{Skips, PassesFront, AcceptsAll}
+use Rattle.sshkey_slices.specs.Slices.{AcceptsSome}
+use Rattle.sshkey_keys_ref.specs.Taking.{Skips, PassesFront}
 use Rattle.sshkey_keys_ref.specs.CertifiedBodies.{SpellsCertifiedBody, certified_body_at}
 
 pub passed : {Y E : Type 0} {Spells : Y → List ℕ → Type 0} {read : Front Y} → IsGrammar Spells read → (cause : E → Cause) (b : List ℕ) (r : Result (Bor (List ℕ)) E) → Skips cause read b r → PassesFront Spells b r
 passed g cause b (Ok rest) h = let t = g.takes b h.0 rest.now h.1 in record { value = h.0; front = t.0; spelled = t.1; all = t.2 }
 passed g cause b (Err e) h = none_spelled g b h.met h.is
 
-pub judged : {Y E : Type 0} {Spells : Y → List ℕ → Type 0} {read : Front Y} → IsGrammar Spells read → (cause : E → Cause) (b : List ℕ) (r : Result (Unit {0}) E) → Judges cause (whole read b) r → AcceptsAll Spells b r
+pub judged : {Y E : Type 0} {Spells : Y → List ℕ → Type 0} {read : Front Y} → IsGrammar Spells read → (cause : E → Cause) (b : List ℕ) (r : Result (Unit {0}) E) → Judges cause (whole read b) r → AcceptsSome Spells b r
 judged {Y} {E} {Spells} {read} g cause b r h = go (whole read b) r refl h
   where
-    go : (found : Result Y Fault) (r : Result (Unit {0}) E) → whole read b ≡ found → Judges cause found r → AcceptsAll Spells b r
+    go : (found : Result Y Fault) (r : Result (Unit {0}) E) → whole read b ≡ found → Judges cause found r → AcceptsSome Spells b r
     go (Ok y) (Ok x) e k = (y, whole_spelled g b y e)
     go (Ok y) (Err c) e k = absurd (cc k)
     go (Err f) (Ok x) e k = absurd k

@@ -1,13 +1,14 @@
 -- Bodies that a walk over a slice takes.
-use Rattle.std.proofs.Common.{◌≡◌, ◌≢◌, ℕ, ◌-◌, List, ◌∷◌, ◌++◌, length, take, drop, bytes_eq, inl, inr, Option, Some, None, Result, Ok, Err, IfErr, true, refl, sym, ap, ◌∙◌}
+use Rattle.std.proofs.Common.{◌≡◌, ℕ, ◌-◌, List, ◌∷◌, ◌++◌, length, take, drop, bytes_eq, inl, inr, Option, Some, None, Result, Ok, Err, IfErr, true, refl, sym, ap, ◌∙◌}
 use denote.Ref.{Bor}
 use Rattle.sshkey_model.specs.Reading.{Fault, Label, Front, Whole, string_at, bytes_at, checked_at}
 use Rattle.sshkey_model.specs.Names.{Algorithm, named, at_sign, cut, is_other_name, algorithm_or}
 use Rattle.sshkey_model.specs.CertificateNames.{certificate_name, certified, certified_from, certified_or, without_suffix, suffix}
 use Rattle.sshkey_model.specs.Keys.{Opaque, body_at}
 use Rattle.sshkey_base.specs.Answers.{Judges, Answers, AnswersAlways}
-use Rattle.sshkey_base.specs.Causes.{Cause, NoMemory, Faulty, Other as OtherCause}
+use Rattle.sshkey_base.specs.Causes.{Cause, NoMemory}
 use Rattle.sshkey_base.specs.Reading.{Reads, GivesWhole}
+use Rattle.sshkey_base.proofs.Judging.{only_memory}
 use Rattle.sshkey_base.proofs.Steps.{refuses_first}
 use Rattle.sshkey_model.proofs.CombinedReaders.{chosen}
 use Rattle.sshkey_base.specs.Source.{all_of}
@@ -15,7 +16,8 @@ use Rattle.sshkey_model.specs.Names.{algorithm_from}
 use Rattle.sshkey_model.specs.Signatures.{signature_at, signature_blob_at, trailed_at}
 use Rattle.sshkey_model.specs.Names.{algorithm_at}
 use Rattle.sshkey_base.specs.Labels.{label_at}
-use Rattle.sshkey_keys_ref.specs.Taking.{Skips, is_taken}
+use Rattle.sshkey_slices.specs.Slices.{is_taken}
+use Rattle.sshkey_keys_ref.specs.Taking.{Skips}
 use Rattle.sshkey_keys_ref.specs.CertifiedBodies.{certified_body_at}
 
 pub skips_opaque : {E : Type 0} (cause : E → Cause) (n b : List ℕ) (r : Result (Bor (List ℕ)) E) → Skips cause string_at b r → Skips cause (body_at (Algorithm.Other n)) b r
@@ -49,11 +51,6 @@ skips_other narrow cause name b r none judged h = go (certified_from name) refl 
     go (Err f) e j = absurd j
 
 -- ---- what was taken once is taken again
-
-only_memory : (c : Cause) → (c ≢ NoMemory → ⊥) → c ≡ NoMemory
-only_memory NoMemory h = refl
-only_memory (Faulty f) h = absurd (h (λ e. cc e))
-only_memory OtherCause h = absurd (h (λ e. cc e))
 
 pub taken_again : {X Y E : Type 0} (means : X → Y) (cause : E → Cause) (read : Whole Y) (b : List ℕ) (r : Result X E) → is_taken (read b) ≡ true → GivesWhole means cause read (all_of b) r → Answers means cause (read b) r × IfErr r (λ e. cause e ≡ NoMemory)
 taken_again means cause read b (Ok x) is h = (rw h.value refl, tt)

@@ -5,7 +5,6 @@ use Rattle.sshkey_model.specs.Reading.{Fault, Front}
 use Rattle.sshkey_base.specs.Causes.{Cause, Faulty}
 use Rattle.sshkey_base.specs.Reading.{Refuses, GivesAlways, NoFront, NoSpelling}
 use Rattle.sshkey_base.specs.Source.{all_of}
-pub use Rattle.sshkey_keys.specs.SignatureForms.{is_taken}
 
 -- What the plain reader gives of the bytes, and the rest is left.
 abbrev pub Takes : {X Y E : Type 0} → (X → Y) → (E → Cause) → Front Y → List ℕ → Result X E → List ℕ → Type 0
@@ -15,11 +14,6 @@ Takes means cause read b r rest = GivesAlways means cause read (all_of b) r (all
 abbrev pub Skips : {Y E : Type 0} → (E → Cause) → Front Y → List ℕ → Result (Bor (List ℕ)) E → Type 0
 Skips {Y} cause read b (Ok rest) = (y : Y) × (read b ≡ Ok (y, rest.now))
 Skips cause read b (Err e) = Refuses 0 (cause e) (read b)
-
--- All the bytes, if the plain reader takes them, and else its fault.
-abbrev pub Keeps : {X Y E : Type 0} → (X → List ℕ) → (E → Cause) → Result Y Fault → List ℕ → Result X E → Type 0
-Keeps bytes_of cause (Ok y) b r = IsOkAnd r (λ x. bytes_of x ≡ b)
-Keeps bytes_of cause (Err fault) b r = IsErrAnd r (λ e. cause e ≡ Faulty fault)
 
 -- The value that the plain reader gives, and none where it gives none.
 abbrev pub Finds : {X Y : Type 0} → (X → Y) → Front Y → List ℕ → Option X → Type 0
@@ -50,8 +44,3 @@ pub record IsFrontOf {Y : Type 0} (Spells : Y → List ℕ → Type 0) (b front 
 abbrev pub CutsFront : {Y E : Type 0} → (Y → List ℕ → Type 0) → List ℕ → Result (Bor (List ℕ)) E → List ℕ → Type 0
 CutsFront Spells b (Ok front) rest = IsFrontOf Spells b front.now rest
 CutsFront Spells b (Err e) rest = NoFront Spells b
-
--- All the bytes together spell some value, or a refusal where they spell none.
-abbrev pub AcceptsAll : {X Y E : Type 0} → (Y → List ℕ → Type 0) → List ℕ → Result X E → Type 0
-AcceptsAll {Y = Y} Spells b (Ok x) = (y : Y) × Spells y b
-AcceptsAll Spells b (Err e) = NoSpelling Spells b

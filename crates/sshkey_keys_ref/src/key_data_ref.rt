@@ -11,7 +11,8 @@ ghost use Rattle.sshkey_keys.specs.Keys.{SpellsKey, key_data_at};
 ghost use Rattle.sshkey_keys_ref.specs.KeyFingerprints.{GivesFingerprintOf};
 ghost use Rattle.sshkey_keys_ref.specs.NormalBytes.{GivesNormal, HasPlainHead, is_hashed};
 ghost use Rattle.sshkey_keys_ref.specs.NameRef.{named_of};
-ghost use Rattle.sshkey_keys_ref.specs.Taking.{AcceptsAll, Skips, is_taken};
+ghost use Rattle.sshkey_keys_ref.specs.Taking.{Skips};
+ghost use Rattle.sshkey_slices.specs.Slices.{AcceptsSome, is_taken};
 
 use crate::body::behind_named;
 use crate::name_ref::{NameRef, take_name};
@@ -35,7 +36,7 @@ impl<'a> KeyDataRef<'a> {
     ghost use Rattle.sshkey_base.specs.Answers.{Answers};
     ghost use Rattle.sshkey_keys.specs.Keys.{key_of};
     ghost use Rattle.sshkey_keys_ref.specs.KeyDataRef.{key_bytes};
-    ghost use Rattle.sshkey_keys_ref.specs.Taking.{Keeps};
+    ghost use Rattle.sshkey_slices.specs.Slices.{Keeps};
 
     /// The key that all the bytes together spell, read once from left to right. Takes no memory.
     ///
@@ -45,7 +46,7 @@ impl<'a> KeyDataRef<'a> {
     /// kind.
     pub fn from_bytes(bytes: &'a [u8]) -> Result<KeyDataRef<'a>>
         ensures keeps { Keeps key_bytes cause (whole key_data_at bytes.now) bytes.now result }
-        ensures accepts { AcceptsAll SpellsKey bytes.now result }
+        ensures accepts { AcceptsSome SpellsKey bytes.now result }
     {
         check_key(bytes)?;
         Ok(KeyDataRef { bytes })

@@ -21,6 +21,12 @@ use sshkey_base::{EcdsaCurve, Error, Result, encoding};
 use sshkey_kinds::{EcPoint, EcdsaNistP256PublicKey, EcdsaPublicKey, Ed25519PublicKey};
 use std::str;
 
+/// The bytes of a point of P-521, the longest of the curves' (SEC 1, section 2.3.3).
+const P521_POINT_LEN: usize = 133;
+
+/// The bytes of a point of P-256.
+const P256_POINT_LEN: usize = 65;
+
 /// An RSA key.
 #[derive(Clone, Copy)]
 pub(crate) struct RsaRef<'a> {
@@ -148,7 +154,7 @@ fn take_point(bytes: &mut &[u8]) -> Result<EcdsaPublicKey>
 fn point_of(string: &[u8]) -> Result<EcdsaPublicKey>
     ensures { AnswersAlways ecdsa_of cause (point_from string.now) result }
 {
-    if string.len() > 133 {
+    if string.len() > P521_POINT_LEN {
         return Err(Error::Encoding(encoding::Error::Length));
     }
     EcdsaPublicKey::from_sec1_bytes(string)
@@ -198,7 +204,7 @@ fn take_p256_point(bytes: &mut &[u8]) -> Result<EcdsaNistP256PublicKey>
 fn p256_point_of(string: &[u8]) -> Result<EcdsaNistP256PublicKey>
     ensures { AnswersAlways point_of cause (p256_point_from string.now) result }
 {
-    if string.len() > 65 {
+    if string.len() > P256_POINT_LEN {
         return Err(Error::Encoding(encoding::Error::Length));
     }
     EcPoint::from_bytes(string)

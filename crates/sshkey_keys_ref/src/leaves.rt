@@ -1,21 +1,18 @@
 //! The parts that keys are made of.
 
 ghost use Rattle.std.specs.Prelude.{ℕ, List};
-ghost use Rattle.sshkey_base.specs.Answers.{AnswersAlways};
-ghost use Rattle.sshkey_base.specs.Causes.{encoding_cause};
 ghost use Rattle.sshkey_base.specs.Nested.{nested_source};
 ghost use Rattle.sshkey_base.specs.Reading.{DecodesAlways};
 ghost use Rattle.sshkey_base.specs.Source.{Later};
 ghost use Rattle.sshkey_model.specs.Mpints.{mpint_at};
 ghost use Rattle.sshkey_model.specs.Reading.{bytes_at, string_at, box_at, whole};
-ghost use Rattle.sshkey_model.specs.Texts.{text_at, text_from};
+ghost use Rattle.sshkey_model.specs.Texts.{text_at};
 
-use crate::walk::{Take, take_bytes};
-use sshkey_base::{Error, Mpint, NestedReader, Reader, Result, array_from, encoding, length_from};
-use std::str;
+use crate::walk::Take;
+use sshkey_base::{Error, Mpint, NestedReader, Reader, Result, array_from, encoding};
+use sshkey_slices::{split_string, split_text};
 
 /// A string of any bytes (RFC 4251, section 5).
-#[tactic(auto, using(crate::proofs::Walking::walking), unfolding(sshkey_model::specs::Reading::string_at))]
 impl<'a> Take<'a> for &'a [u8] {
     type Error = encoding::Error;
 
@@ -26,13 +23,13 @@ impl<'a> Take<'a> for &'a [u8] {
     ghost parse = { string_at };
 
     fn take(bytes: &mut &'a [u8]) -> encoding::Result<&'a [u8]> {
-        let len = length_from(bytes)?;
-        take_bytes(len, bytes)
+        let (string, rest) = split_string(*bytes)?;
+        *bytes = rest;
+        Ok(string)
     }
 }
 
 /// A string whose bytes are UTF-8.
-#[tactic(auto, using(crate::proofs::Walking::walking), unfolding(sshkey_model::specs::Texts::text_at))]
 impl<'a> Take<'a> for &'a str {
     type Error = encoding::Error;
 
@@ -43,18 +40,9 @@ impl<'a> Take<'a> for &'a str {
     ghost parse = { text_at };
 
     fn take(bytes: &mut &'a [u8]) -> encoding::Result<&'a str> {
-        let string = <&'a [u8]>::take(bytes)?;
-        text_of(string)
-    }
-}
-
-/// The text of the bytes. `CharacterEncoding` where they are not UTF-8.
-fn text_of(bytes: &[u8]) -> encoding::Result<&str>
-    ensures { AnswersAlways (λ t. t.now) encoding_cause (text_from bytes.now) result }
-{
-    match str::from_utf8(bytes) {
-        Ok(text) => Ok(text),
-        Err(_) => Err(encoding::Error::CharacterEncoding),
+        let (text, rest) = split_text(*bytes)?;
+        *bytes = rest;
+        Ok(text)
     }
 }
 

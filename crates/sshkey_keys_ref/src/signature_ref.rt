@@ -8,7 +8,8 @@ ghost use Rattle.sshkey_model.specs.Signatures.{signature_at, signature_blob_at,
 ghost use Rattle.sshkey_keys.specs.SignatureForms.{string_from, has_trailer};
 ghost use Rattle.sshkey_keys.specs.SignatureReaders.{SpellsSignature};
 ghost use Rattle.sshkey_keys_ref.specs.NameRef.{named_of};
-ghost use Rattle.sshkey_keys_ref.specs.Taking.{AcceptsAll, Skips, is_taken};
+ghost use Rattle.sshkey_keys_ref.specs.Taking.{Skips};
+ghost use Rattle.sshkey_slices.specs.Slices.{AcceptsSome, is_taken};
 
 use crate::name_ref::{NameRef, take_name};
 use crate::walk::{Take, take_bytes};
@@ -31,7 +32,7 @@ impl<'a> SignatureRef<'a> {
     ghost use Rattle.sshkey_base.specs.Answers.{Answers};
     ghost use Rattle.sshkey_keys.specs.Signatures.{signature_of};
     ghost use Rattle.sshkey_keys_ref.specs.SignatureRef.{signature_bytes};
-    ghost use Rattle.sshkey_keys_ref.specs.Taking.{Keeps};
+    ghost use Rattle.sshkey_slices.specs.Slices.{Keeps};
 
     /// The signature that all the bytes together spell, read once from left to right. Takes no
     /// memory.
@@ -43,7 +44,7 @@ impl<'a> SignatureRef<'a> {
     pub fn from_bytes(bytes: &'a [u8]) -> Result<SignatureRef<'a>>
         ensures keeps { Keeps signature_bytes cause (whole signature_at bytes.now)
             bytes.now result }
-        ensures accepts { AcceptsAll SpellsSignature bytes.now result }
+        ensures accepts { AcceptsSome SpellsSignature bytes.now result }
     {
         check_signature(bytes)?;
         Ok(SignatureRef { bytes })

@@ -1,11 +1,11 @@
 //! The walk over a slice: values that are taken from its front, without memory.
 
 ghost use Rattle.sshkey_model.specs.Reading.{Front, bytes_at};
-ghost use Rattle.sshkey_base.specs.Answers.{AnswersAlways};
 ghost use Rattle.sshkey_base.specs.Causes.{encoding_cause};
 ghost use Rattle.sshkey_keys_ref.specs.Taking.{Takes, Skips};
 
 use sshkey_base::{Refusal, encoding};
+use sshkey_slices::split_bytes;
 
 /// A value that is made of parts of the bytes that it is read from, and takes no memory.
 ///
@@ -45,15 +45,4 @@ pub(crate) fn take_bytes<'a>(len: usize, bytes: &mut &'a [u8]) -> encoding::Resu
     let (front, rest) = split_bytes(len, *bytes)?;
     *bytes = rest;
     Ok(front)
-}
-
-/// The next `len` bytes, and those behind them. `Length` where fewer are left.
-fn split_bytes(len: usize, bytes: &[u8]) -> encoding::Result<(&[u8], &[u8])>
-    ensures { AnswersAlways (λ parts. (parts.0.now, parts.1.now)) encoding_cause
-        (bytes_at len bytes.now) result }
-{
-    if bytes.len() < len {
-        return Err(encoding::Error::Length);
-    }
-    Ok(bytes.split_at(len))
 }

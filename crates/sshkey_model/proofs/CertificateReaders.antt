@@ -43,7 +43,7 @@ unfolding end_at
 end_reads = as_front_form (λ t h. h.1) (λ t h. (tt, h)) (checked_reads (kept is_end Time) (number_reads w64 wide64))
 
 -- in a certificate no name has a hash
-certified_plain : (a : Algorithm) → IsCertified a → a ≡ unhashed a
+pub certified_plain : (a : Algorithm) → IsCertified a → a ≡ unhashed a
 certified_plain (Rsa None) is = refl
 certified_plain (Rsa (Some h)) is = absurd is
 certified_plain _ is = refl

@@ -1,4 +1,3 @@
-pub mod Fronts
 pub mod ListSteps
 pub mod TextSteps
 pub mod OptionItems

@@ -8,14 +8,10 @@ use Rattle.sshkey_base.specs.Causes.{NoMemory, Faulty}
 use Rattle.sshkey_base.specs.Reading.{to_end}
 use Rattle.std.specs.Prelude.{◌≢◌, IsErrAnd}
 use Rattle.sshkey_base.proofs.ReadLists.{Collects, collects_refused, collects_end}
-use Rattle.sshkey_options_ref.specs.Taking.{is_taken, listed}
+use Rattle.sshkey_slices.specs.Slices.{is_taken, found_or}
+use Rattle.sshkey_slices.proofs.Fronts.{taken_value}
 
--- the value that was taken
-pub taken_value : {Y : Type 0} (r : Result Y Fault) → is_taken r ≡ true → (y : Y) × (r ≡ Ok y)
-taken_value (Ok y) e = (y, refl)
-taken_value (Err f) e = absurd cc
-
-taken_is : {Y : Type 0} (r : Result (List Y) Fault) (xs : List Y) → r ≡ Ok xs → (listed r ≡ xs) × (is_taken r ≡ true)
+taken_is : {Y : Type 0} (r : Result (List Y) Fault) (xs : List Y) → r ≡ Ok xs → (found_or [] r ≡ xs) × (is_taken r ≡ true)
 taken_is r xs e = rw e (refl, refl)
 
 module _ {A : Type 0} (item : Option A → Front A) (less : (before : Option A) (b : List ℕ) (x : A) (rest : List ℕ) → item before b ≡ Ok (x, rest) → length rest < length b) (weaker : (before : A) (b : List ℕ) (y : A × List ℕ) → item (Some before) b ≡ Ok y → item None b ≡ Ok y) where
@@ -72,7 +68,7 @@ module _ {A : Type 0} (item : Option A → Front A) (less : (before : Option A) 
   -- The first value of some bytes: the others stand behind it.
   pub record IsFirst (b : List ℕ) (first : A) (behind : List ℕ) : Type 0 where
     pub read : item None b ≡ Ok (first, behind)
-    pub all : listed (list_whole item b) ≡ first ∷ listed (list_whole item behind)
+    pub all : found_or [] (list_whole item b) ≡ first ∷ found_or [] (list_whole item behind)
     pub later : is_taken (list_whole item behind) ≡ true
     pub shorter : length behind < length b
 
@@ -85,18 +81,18 @@ module _ {A : Type 0} (item : Option A → Front A) (less : (before : Option A) 
         s.behind,
         record {
           read = s.read;
-          all = ap listed xs.1 ∙ s.all ∙ ap (λ (ys : List A). s.first ∷ ys) (sym rest.0);
+          all = ap (found_or []) xs.1 ∙ s.all ∙ ap (λ (ys : List A). s.first ∷ ys) (sym rest.0);
           later = rest.1;
           shorter = less None b s.first s.behind s.read;
         },
       )
 
-no_values : {A : Type 0} (item : Option A → Front A) → listed (list_whole item []) ≡ []
+no_values : {A : Type 0} (item : Option A → Front A) → found_or [] (list_whole item []) ≡ []
 unfolding list_within
 no_values item = refl
 
 -- none is left exactly where the list is empty
-pub empty_list : {A : Type 0} (item : Option A → Front A) (b : List ℕ) → length b ≡ 0 → listed (list_whole item b) ≡ []
+pub empty_list : {A : Type 0} (item : Option A → Front A) (b : List ℕ) → length b ≡ 0 → found_or [] (list_whole item b) ≡ []
 empty_list item b none = rw (nil_from_length b none) (no_values item)
 
 -- ---- a walk to the end

@@ -15,8 +15,8 @@ use Rattle.sshkey_base.specs.Causes.{cause, encoding_cause}
 use Rattle.sshkey_base.proofs.Boxes.{some_behind}
 use Rattle.sshkey_options_ref.specs.declared.options_ref.item.SpelledOption.{SpelledOption}
 use Rattle.sshkey_options_ref.specs.SpelledOptions.{nesting, value_pair_of, pair_of}
-use Rattle.sshkey_options_ref.specs.Taking.{Splits}
-use Rattle.sshkey_options_ref.proofs.Fronts.{answers_ok, answers_err}
+use Rattle.sshkey_slices.specs.Slices.{Splits}
+use Rattle.sshkey_slices.proofs.Fronts.{answers_ok, answers_err}
 
 -- a text, or its refusal
 abbrev Text : List ℕ → Result (Bor (List ℕ) × Bor (List ℕ)) Error → Type 0

@@ -1,5 +1,5 @@
 -- Lists of options in the words of the grammar.
-use Rattle.std.proofs.Common.{◌≡◌, ℕ, List, Bool, true, Result, Ok, Err, refl, sym, ap, ◌∙◌, subst}
+use Rattle.std.proofs.Common.{◌≡◌, ℕ, List, [], Bool, true, Result, Ok, Err, refl, sym, ap, ◌∙◌, subst}
 use Rattle.sshkey_model.specs.Parts.{are_bytes}
 use Rattle.sshkey_model.specs.Reading.{Fault, ◌>>=◌, Whole, checked_at, string_at, list_whole}
 use Rattle.sshkey_model.specs.Options.{CertificateOption, Nesting, option_at, firsts, seconds, options_at}
@@ -12,9 +12,8 @@ use Rattle.sshkey_base.proofs.MappedBoxes.{with_rest, on_value, made}
 use Rattle.sshkey_options_ref.specs.declared.options_ref.OptionsRef.{OptionsRef}
 use Rattle.sshkey_options_ref.specs.OptionLists.{SpellsEachOption, options_in, nestings_in, are_plain, plainness_from}
 use Rattle.sshkey_options_ref.specs.Views.{bytes_of_options, spelled_options_of}
-use Rattle.sshkey_options_ref.specs.Taking.{Keeps, is_taken, listed}
-use Rattle.sshkey_options_ref.proofs.Fronts.{box_string, answers_err}
-use Rattle.sshkey_options_ref.proofs.ListSteps.{taken_value}
+use Rattle.sshkey_slices.specs.Slices.{Keeps, is_taken, found_or}
+use Rattle.sshkey_slices.proofs.Fronts.{box_string, answers_err, taken_value}
 
 abbrev Pair : Type 0
 Pair = CertificateOption × Nesting
@@ -35,7 +34,7 @@ options_spelled b taken =
     let t = taken_value (list_whole option_at b) taken in
     let s = option_list_reads.takes b (firsts t.0, seconds t.0) (both_lists b t.0 t.1) in
     let all : SpellsEachOption (two_lists t.0) b = record { is = s.0; fits = s.1; shape = s.2 } in
-    subst (λ (xs : List Pair). SpellsEachOption (two_lists xs) b) (sym (ap listed t.1)) all
+    subst (λ (xs : List Pair). SpellsEachOption (two_lists xs) b) (sym (ap (found_or []) t.1)) all
 
 not_both : (b : List ℕ) (xs : List Pair) (f : Fault) → list_whole option_at b ≡ Ok xs → plainness_from b ≡ Err f → ⊥
 not_both b xs f e refused = let r = rw e at refused in cc

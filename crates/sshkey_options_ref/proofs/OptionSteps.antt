@@ -15,8 +15,8 @@ use Rattle.sshkey_base.proofs.ReadLists.{Collects, collects_more, leaves_less}
 use Rattle.sshkey_options_ref.specs.declared.options_ref.item.SpelledOption.{SpelledOption}
 use Rattle.sshkey_options_ref.specs.OptionLists.{options_in, are_plain, plainness_from}
 use Rattle.sshkey_options_ref.specs.SpelledOptions.{pair_of, nesting}
-use Rattle.sshkey_options_ref.specs.Taking.{Splits, is_taken}
-use Rattle.sshkey_options_ref.proofs.Fronts.{answers_ok, answers_err}
+use Rattle.sshkey_slices.specs.Slices.{Splits, is_taken}
+use Rattle.sshkey_slices.proofs.Fronts.{answers_ok, answers_err}
 use Rattle.sshkey_options_ref.proofs.ListSteps.{first_of, empty_list, all_refused, all_taken}
 
 abbrev Pair : Type 0

@@ -15,12 +15,12 @@ use Rattle.sshkey_base.specs.Source.{all_of}
 use Rattle.sshkey_base.specs.TextLists.{text_list_at}
 use Rattle.sshkey_base.proofs.ReadLists.{Collects, collects_more, leaves_less}
 use Rattle.sshkey_options_ref.specs.TextLists.{SpellsEachText, texts_in}
-use Rattle.sshkey_options_ref.specs.Taking.{Splits, Keeps, is_taken}
+use Rattle.sshkey_slices.specs.Slices.{Splits, Keeps, is_taken}
 use Rattle.sshkey_options_ref.specs.Views.{bytes_of_texts, texts_of}
 use Rattle.sshkey_options_ref.specs.declared.texts_ref.TextsRef.{TextsRef}
 use Rattle.sshkey_base.proofs.MappedBoxes.{with_rest}
-use Rattle.sshkey_options_ref.proofs.Fronts.{answers_ok, answers_err}
-use Rattle.sshkey_options_ref.proofs.ListSteps.{taken_value, first_of, empty_list, all_refused, all_taken}
+use Rattle.sshkey_slices.proofs.Fronts.{answers_ok, answers_err, taken_value}
+use Rattle.sshkey_options_ref.proofs.ListSteps.{first_of, empty_list, all_refused, all_taken}
 
 pub text_less : (before : Option (List ℕ)) (b x rest : List ℕ) → text_at b ≡ Ok (x, rest) → length rest < length b
 text_less before b x rest e = leaves_less text_reads (λ t. box_shows (bytes t)) b x rest e

@@ -1,4 +1,3 @@
-pub mod Taking
 pub mod TextLists
 pub mod OptionLists
 pub mod SpelledOptions

@@ -5,7 +5,7 @@ use Rattle.sshkey_model.specs.Parts.{flat}
 use Rattle.sshkey_model.specs.Grammar.{SpellsAs}
 use Rattle.sshkey_model.specs.Options.{CertificateOption, Nesting, Plain, Nested, AreOptions, HasOptionPlaces, each_option, options, plain_nestings, option_at, firsts, seconds}
 use Rattle.sshkey_model.specs.Reading.{◌>>=◌, Whole, list_whole}
-use Rattle.sshkey_options_ref.specs.Taking.{listed}
+use Rattle.sshkey_slices.specs.Slices.{found_or}
 
 -- the bytes are those of the options, each empty value as its choice says
 abbrev pub SpellsEachOption : List CertificateOption × List Nesting → List ℕ → Type 0
@@ -17,11 +17,11 @@ SpellsOptionString = SpellsAs AreOptions HasOptionPlaces options
 
 -- the options in the bytes
 unfoldable pub options_in : List ℕ → List CertificateOption
-options_in b = firsts (listed (list_whole option_at b))
+options_in b = firsts (found_or [] (list_whole option_at b))
 
 -- how each of them is spelled
 unfoldable pub nestings_in : List ℕ → List Nesting
-nestings_in b = seconds (listed (list_whole option_at b))
+nestings_in b = seconds (found_or [] (list_whole option_at b))
 
 -- whether none is nested
 abbrev pub are_plain : List Nesting → Bool

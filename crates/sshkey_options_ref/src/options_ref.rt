@@ -6,14 +6,14 @@ ghost use Rattle.sshkey_model.specs.Options.{option_at};
 ghost use Rattle.sshkey_model.specs.Reading.{list_whole};
 ghost use Rattle.sshkey_base.specs.Answers.{AnswersAlways};
 ghost use Rattle.sshkey_base.specs.Causes.{cause};
-ghost use Rattle.sshkey_options_ref.specs.Taking.{is_taken};
+ghost use Rattle.sshkey_slices.specs.Slices.{is_taken};
 ghost use Rattle.sshkey_options_ref.specs.OptionLists.{are_plain, nestings_in, options_in, plainness_from};
 ghost use Rattle.sshkey_options_ref.specs.SpelledOptions.{pair_of};
 
 mod item;
 mod iter;
 
-use crate::front::split_string;
+use sshkey_slices::split_string;
 use item::{SpelledOption, split_option};
 pub use iter::Options;
 use sshkey_base::Result;
@@ -31,7 +31,7 @@ pub struct OptionsRef<'a> {
 
 impl<'a> OptionsRef<'a> {
     ghost use Rattle.sshkey_model.specs.Options.{AreOptions, options_at, plain_nestings};
-    ghost use Rattle.sshkey_options_ref.specs.Taking.{AcceptsAll, AcceptsSplit, Keeps, Splits};
+    ghost use Rattle.sshkey_slices.specs.Slices.{AcceptsAll, AcceptsSplit, Keeps, Splits};
     ghost use Rattle.sshkey_options_ref.specs.OptionLists.{SpellsEachOption, SpellsOptionString, plain_bytes};
     ghost use Rattle.sshkey_options_ref.specs.Views.{bytes_of_options, options_of, nestings_of, spelled_options_of};
 

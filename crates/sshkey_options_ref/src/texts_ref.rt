@@ -6,12 +6,12 @@ ghost use Rattle.sshkey_model.specs.Texts.{IsText};
 ghost use Rattle.sshkey_base.specs.Answers.{Judges};
 ghost use Rattle.sshkey_base.specs.Causes.{encoding_cause};
 ghost use Rattle.sshkey_base.specs.TextLists.{text_list_at};
-ghost use Rattle.sshkey_options_ref.specs.Taking.{is_taken};
+ghost use Rattle.sshkey_slices.specs.Slices.{is_taken};
 ghost use Rattle.sshkey_options_ref.specs.TextLists.{texts_in};
 
 mod iter;
 
-use crate::front::{split_string, split_text};
+use sshkey_slices::{split_string, split_text};
 pub use iter::Texts;
 use sshkey_base::encoding::Result;
 
@@ -26,7 +26,7 @@ pub struct TextsRef<'a> {
 impl<'a> TextsRef<'a> {
     ghost use Rattle.sshkey_model.specs.Texts.{texts_at};
     ghost use Rattle.sshkey_base.specs.TextLists.{SpellsTexts};
-    ghost use Rattle.sshkey_options_ref.specs.Taking.{AcceptsAll, AcceptsSplit, Keeps, Splits};
+    ghost use Rattle.sshkey_slices.specs.Slices.{AcceptsAll, AcceptsSplit, Keeps, Splits};
     ghost use Rattle.sshkey_options_ref.specs.TextLists.{SpellsEachText};
     ghost use Rattle.sshkey_options_ref.specs.Views.{bytes_of_texts, texts_of};
 

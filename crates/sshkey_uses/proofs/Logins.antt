@@ -11,7 +11,7 @@ use Rattle.sshkey_cert.specs.declared.certificate.Certificate as cert
 use Rattle.sshkey_uses.specs.Logins.{IsLogin, LetsIn}
 
 -- answers of yes make one
-pub lets_in : (accepts : Question → Bool) (given : List code.Fingerprint) (t : ℕ) (user : List ℕ) (c : cert.Certificate) → (certificate_of c).signed.certificate_type ≡ User → (certificate_of c).signed.critical_options ≡ [] → (r : Result (Unit {0}) Error) → JudgesFor accepts given t user c r → OnOk r (LetsIn accepts (fingerprints_of given) t user (certificate_of c))
+pub lets_in : (accepts : Question → Bool) (given : List code.Fingerprint) (t : ℕ) (user : List ℕ) (c : cert.Certificate) → (certificate_of c).signed.certificate_type ≡ User → (certificate_of c).signed.critical_options ≡ [] → (r : Result (Unit {0}) Error) → JudgesFor accepts given t user (certificate_of c) r → OnOk r (LetsIn accepts (fingerprints_of given) t user (certificate_of c))
 lets_in accepts given t user c users none (Ok u) valid = record { for_users = users; no_options = none; valid = valid }
 lets_in accepts given t user c users none (Err e) valid = tt
 

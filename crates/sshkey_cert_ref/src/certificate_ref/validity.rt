@@ -1,22 +1,20 @@
 //! When a certificate is valid.
 
-ghost use Rattle.std.specs.List.{list_any};
 ghost use Rattle.std.specs.Prelude.{◌≡◌, ◌↔◌, IsTrue, IfOk, IfErr, OnOk, None};
 ghost use Rattle.sshkey_base.specs.declared.error.Error.TheVariants as wide;
-ghost use Rattle.sshkey_cert.specs.Validity.{Tells, fingerprints_of, has_digest};
+ghost use Rattle.sshkey_cert.specs.Validity.{IsSigned, IsUnsigned, Judges, JudgesFor, Tells, fingerprints_of};
 ghost use Rattle.sshkey_keys.specs.Fingerprints.{IsFingerprint};
 ghost use Rattle.sshkey_model.specs.Certificates.{normal_to_be_signed};
-ghost use Rattle.sshkey_model.specs.Fingerprints.{same_fingerprint};
 ghost use Rattle.sshkey_model.specs.Names.{Sha256};
 ghost use Rattle.sshkey_model.specs.Parts.{flat};
 ghost use Rattle.sshkey_model.specs.Principals.{Allows};
 ghost use Rattle.sshkey_model.specs.Refusals.{NotSigned, first_refusal, is_signed, is_within, unless};
 ghost use Rattle.sshkey_cert_ref.specs.CertificateRef.{certificate_of};
-ghost use Rattle.sshkey_cert_ref.specs.Validity.{IsSigned, IsUnsigned, Judges, JudgesFor};
 
 use super::CertificateRef;
 use sshkey_base::certificate::Field;
 use sshkey_base::{Error, HashAlg, Result};
+use sshkey_cert::is_given;
 use sshkey_fingerprints::Fingerprint;
 use sshkey_keys::RawVerifier;
 use sshkey_options::MAX_SECS;
@@ -171,32 +169,5 @@ impl CertificateRef<'_> {
         ensures { result ≡ is_within secs (certificate_of self.now) }
     {
         self.valid_after() <= secs && secs < self.valid_before()
-    }
-}
-
-/// Whether one of the fingerprints is by SHA-256 and has that digest.
-#[tactic(auto, using(sshkey_cert::proofs::Given::given_is))]
-fn is_given(fingerprints: &[Fingerprint], digest: &[u8]) -> bool
-    ensures { result ≡ list_any (same_fingerprint (record { hash = Sha256; digest = digest.now }))
-        (fingerprints_of fingerprints.now) }
-{
-    any_has(fingerprints, digest)
-}
-
-fn any_has(fingerprints: &[Fingerprint], digest: &[u8]) -> bool
-    ensures { result ≡ list_any (has_digest digest.now) fingerprints.now }
-{
-    fingerprints
-        .iter()
-        .any(|fingerprint| has_digest(fingerprint, digest))
-}
-
-/// Whether the fingerprint is by SHA-256 and has that digest.
-fn has_digest(fingerprint: &Fingerprint, digest: &[u8]) -> bool
-    ensures { result ≡ has_digest digest.now fingerprint.now }
-{
-    match fingerprint {
-        Fingerprint::Sha256(given) => digest == given.as_slice(),
-        Fingerprint::Sha512(_) => false,
     }
 }

@@ -2,13 +2,13 @@
 
 ghost use Rattle.std.specs.Prelude.{◌≡◌};
 ghost use Rattle.sshkey_base.specs.Answers.{AnswersAlways};
-ghost use Rattle.sshkey_base.specs.Causes.{cause, encoding_cause};
+ghost use Rattle.sshkey_base.specs.Causes.{cause};
 ghost use Rattle.sshkey_base.specs.Names.{algorithm_of};
-ghost use Rattle.sshkey_model.specs.Reading.{string_at};
 ghost use Rattle.sshkey_model.specs.Signatures.{sized_from, without_trailer, trailer, ecdsa_blob_from};
 ghost use Rattle.sshkey_keys.specs.SignatureForms.{has_trailer, string_from, blob_from, positive_from, after_component};
 
-use sshkey_base::{Algorithm, EcdsaCurve, Error, Result, encoding, length_from};
+use sshkey_base::{Algorithm, EcdsaCurve, Error, Result, encoding};
+use sshkey_slices::split_string;
 
 /// How many bytes stand behind a security key's signature: one of flags, four of a counter.
 pub(crate) const TRAILER_LEN: usize = 5;
@@ -123,17 +123,4 @@ fn positive_part(number: &[u8]) -> Result<&[u8]>
         [first, ..] if *first < 0x80 => Ok(number),
         _ => Err(Error::Crypto),
     }
-}
-
-/// The bytes that a length of four bytes before them counts, and what stands behind them.
-fn split_string(bytes: &[u8]) -> encoding::Result<(&[u8], &[u8])>
-    ensures { AnswersAlways (λ parts. (parts.0.now, parts.1.now)) encoding_cause
-        (string_at bytes.now) result }
-{
-    let mut behind = bytes;
-    let len = length_from(&mut behind)?;
-    if behind.len() < len {
-        return Err(encoding::Error::Length);
-    }
-    Ok(behind.split_at(len))
 }

@@ -5,7 +5,7 @@ use Rattle.sshkey_model.specs.Reading.{number_at}
 use Rattle.sshkey_base.specs.Causes.{cause, encoding_cause, same_cause}
 use Rattle.sshkey_options.specs.Leaves.{end_from}
 use Rattle.sshkey_options.specs.Times.{end_of}
-use Rattle.sshkey_options_ref.proofs.Fronts.{split_refused, judge_refused, judge_taken}
+use Rattle.sshkey_slices.proofs.Fronts.{split_refused, judge_refused, judge_taken}
 use Rattle.std.proofs.Common.{refl}
 use Rattle.sshkey_cert_ref.proofs.leaves.split_end.Goals as goal
 

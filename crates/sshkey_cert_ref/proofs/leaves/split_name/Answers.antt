@@ -3,7 +3,7 @@ use Rattle.std.proofs.lemmas.Result.{err_from_is_err_and}
 use Rattle.sshkey_model.specs.CertificateNames.{certificate_algorithm_at}
 use Rattle.sshkey_model.specs.Reading.{string_at}
 use Rattle.sshkey_base.specs.Causes.{cause, encoding_cause, same_cause}
-use Rattle.sshkey_options_ref.proofs.Fronts.{answers_ok}
+use Rattle.sshkey_slices.proofs.Fronts.{answers_ok}
 use Rattle.sshkey_cert_ref.proofs.Cutting.{refused_first}
 use Rattle.sshkey_cert_ref.proofs.leaves.split_name.Goals as goal
 

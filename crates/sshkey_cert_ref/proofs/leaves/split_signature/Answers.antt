@@ -1,29 +1,24 @@
-use Rattle.std.proofs.Common.{arith, ◌∙◌}
+use Rattle.std.proofs.Common.{arith}
 use Rattle.std.proofs.lemmas.Result.{err_from_is_err_and}
-use Rattle.sshkey_model.specs.Reading.{string_at, whole}
+use Rattle.sshkey_model.specs.Reading.{whole}
 use Rattle.sshkey_model.specs.Signatures.{signature_at}
-use Rattle.sshkey_keys_ref.specs.SignatureRef.{signature_bytes}
 use Rattle.sshkey_model.proofs.CombinedReaders.{fit_bytes}
 use Rattle.sshkey_base.specs.Causes.{cause, encoding_cause, same_cause}
-use Rattle.sshkey_options_ref.proofs.Fronts.{answers_ok, answers_err}
-use Rattle.sshkey_cert_ref.proofs.Boxed.{box_taken, box_refused, box_judged, signature_kept, signature_refused}
+use Rattle.sshkey_keys_ref.specs.SignatureRef.{signature_bytes}
+use Rattle.sshkey_slices.proofs.Fronts.{string_refused, value_refused, value_taken}
+use Rattle.sshkey_cert_ref.specs.Parts.{IsSignatureIn}
+use Rattle.sshkey_cert_ref.proofs.Boxed.{signature_kept, signature_refused}
 use Rattle.sshkey_cert_ref.proofs.leaves.split_signature.Goals as goal
 
 pub returns-in_err-string : goal.returns-in_err-string
 returns-in_err-string c =
     let p = err_from_is_err_and c.from_residual.result c.from_residual.ensures.1 in
-    let f = answers_err _ encoding_cause (string_at c.args.bytes.now) _ c.in_err-string.ensures.gives in
-    rw (p.1, p.2) (record { met = f.0; is = box_refused (whole signature_at) c.args.bytes.now _ (fit_bytes c.args.bytes.now (λ i. omega (arith, c.type_inv.bytes i))) f.1; same = λ _. same_cause c.in_err-string.field-0.0 ∙ f.2 })
+    rw (p.1, p.2) (string_refused IsSignatureIn encoding_cause cause (whole signature_at) c.args.bytes.now (fit_bytes c.args.bytes.now (λ i. omega (arith, c.type_inv.bytes i))) _ _ c.in_err-string.ensures.gives (same_cause c.in_err-string.field-0.0))
 
 pub returns-in_err-from_bytes : goal.returns-in_err-from_bytes
 returns-in_err-from_bytes c =
     let p = err_from_is_err_and c.from_residual-in_err-from_bytes.result c.from_residual-in_err-from_bytes.ensures.1 in
-    let e = answers_ok _ encoding_cause (string_at c.args.bytes.now) _ c.in_ok-string.ensures.gives in
-    let h = signature_refused signature_bytes cause _ _ c.in_err-from_bytes.ensures.keeps in
-    rw (p.1, p.2) (record { met = h.met; is = box_judged (whole signature_at) c.args.bytes.now _ _ _ (fit_bytes c.args.bytes.now (λ i. omega (arith, c.type_inv.bytes i))) e h.is; same = h.same })
+    rw (p.1, p.2) (value_refused IsSignatureIn encoding_cause cause (whole signature_at) c.args.bytes.now (fit_bytes c.args.bytes.now (λ i. omega (arith, c.type_inv.bytes i))) _ _ c.in_ok-string.ensures.gives (signature_refused signature_bytes cause _ _ c.in_err-from_bytes.ensures.keeps))
 
 pub returns : goal.returns
-returns c =
-    let e = answers_ok _ encoding_cause (string_at c.args.bytes.now) _ c.in_ok-string.ensures.gives in
-    let h = signature_kept signature_bytes cause _ _ c.in_ok-from_bytes.ensures.keeps in
-    (h.0, h.1, box_taken (whole signature_at) c.args.bytes.now _ _ _ (fit_bytes c.args.bytes.now (λ i. omega (arith, c.type_inv.bytes i))) e h.2)
+returns c = value_taken IsSignatureIn encoding_cause cause (whole signature_at) c.args.bytes.now (fit_bytes c.args.bytes.now (λ i. omega (arith, c.type_inv.bytes i))) _ _ c.in_ok-string.ensures.gives (signature_kept signature_bytes cause _ _ c.in_ok-from_bytes.ensures.keeps)

@@ -4,7 +4,7 @@ use Rattle.sshkey_base.specs.Causes.{cause, encoding_cause, same_cause}
 use Rattle.sshkey_base.proofs.Steps.{refuses_first}
 use Rattle.sshkey_model.specs.Keys.{key_at}
 use Rattle.sshkey_model.specs.Reading.{box_at, whole, string_at}
-use Rattle.sshkey_options_ref.proofs.Fronts.{answers_ok}
+use Rattle.sshkey_slices.proofs.Fronts.{answers_ok}
 use Rattle.sshkey_cert_ref.specs.Taking.{authority_at}
 use Rattle.sshkey_cert_ref.proofs.Cutting.{refused_first}
 use Rattle.sshkey_cert_ref.proofs.walk.split_authority.Goals as goal

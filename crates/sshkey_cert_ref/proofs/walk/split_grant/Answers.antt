@@ -6,7 +6,7 @@ use Rattle.sshkey_base.proofs.Judging.{answers_first}
 use Rattle.sshkey_model.specs.Certificates.{type_at}
 use Rattle.sshkey_model.specs.Reading.{number_at}
 use Rattle.sshkey_model.specs.Texts.{text_at, texts_at}
-use Rattle.sshkey_options_ref.proofs.Fronts.{answers_ok}
+use Rattle.sshkey_slices.proofs.Fronts.{answers_ok}
 use Rattle.sshkey_unsigned.specs.UnsignedReaders.{grant_at}
 use Rattle.sshkey_cert_ref.proofs.walk.split_grant.Goals as goal
 

@@ -3,7 +3,7 @@ use Rattle.std.proofs.lemmas.Result.{err_from_is_err_and}
 use Rattle.sshkey_base.specs.Causes.{cause}
 use Rattle.sshkey_base.proofs.Judging.{answers_first}
 use Rattle.sshkey_model.specs.Options.{options_at}
-use Rattle.sshkey_options_ref.proofs.Fronts.{answers_ok}
+use Rattle.sshkey_slices.proofs.Fronts.{answers_ok}
 use Rattle.sshkey_cert_ref.specs.Taking.{limits_at}
 use Rattle.sshkey_cert_ref.proofs.walk.split_limits.Goals as goal
 

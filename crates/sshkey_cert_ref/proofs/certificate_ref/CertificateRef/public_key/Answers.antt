@@ -7,7 +7,8 @@ use Rattle.sshkey_model.specs.Keys.{body_at}
 use Rattle.sshkey_model.specs.Names.{Algorithm}
 use Rattle.sshkey_model.proofs.CombinedReaders.{ok_is}
 use Rattle.sshkey_cert_ref.specs.Spelled.{spelled_in}
-use Rattle.sshkey_cert_ref.proofs.Answered.{only_memory, given_front}
+use Rattle.sshkey_base.proofs.Judging.{only_memory}
+use Rattle.sshkey_cert_ref.proofs.Answered.{given_front}
 use Rattle.sshkey_cert_ref.proofs.Certificates.{spelled_by}
 use Rattle.sshkey_cert_ref.proofs.Spellings.{name_is, body_is}
 use Rattle.sshkey_cert_ref.proofs.certificate_ref.CertificateRef.public_key.Goals as goal

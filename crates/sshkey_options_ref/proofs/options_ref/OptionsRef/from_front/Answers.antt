@@ -6,7 +6,7 @@ use Rattle.sshkey_model.proofs.Grammars.{grammar}
 use Rattle.sshkey_model.proofs.OptionReaders.{options_reads}
 use Rattle.sshkey_base.specs.Causes.{cause, encoding_cause, same_cause}
 use Rattle.sshkey_options_ref.specs.Views.{spelled_options_of}
-use Rattle.sshkey_options_ref.proofs.Fronts.{split_spelled, split_refused, judge_refused, judge_taken}
+use Rattle.sshkey_slices.proofs.Fronts.{split_spelled, split_refused, judge_refused, judge_taken}
 use Rattle.sshkey_options_ref.proofs.OptionLists.{spelled_from, options_string, kept_options, options_not_kept}
 use Rattle.sshkey_options_ref.proofs.options_ref.OptionsRef.from_front.Goals as goal
 

@@ -5,7 +5,7 @@ use Rattle.sshkey_model.specs.Options.{option_value_from}
 use Rattle.sshkey_model.proofs.CombinedReaders.{fit_bytes}
 use Rattle.sshkey_base.specs.Causes.{encoding_cause}
 use Rattle.sshkey_options_ref.specs.SpelledOptions.{value_pair_of}
-use Rattle.sshkey_options_ref.proofs.Fronts.{box_string, split_refused, judge_refused, judge_taken}
+use Rattle.sshkey_slices.proofs.Fronts.{box_string, split_refused, judge_refused, judge_taken}
 use Rattle.sshkey_options_ref.proofs.options_ref.item.split_value.Goals as goal
 
 pub returns-in_err-string : goal.returns-in_err-string

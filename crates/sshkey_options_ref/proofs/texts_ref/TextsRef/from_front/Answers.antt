@@ -6,7 +6,7 @@ use Rattle.sshkey_model.proofs.CombinedReaders.{fit_bytes}
 use Rattle.sshkey_base.specs.Causes.{encoding_cause}
 use Rattle.sshkey_base.specs.TextLists.{text_list_at, texts_grammar}
 use Rattle.sshkey_options_ref.specs.Views.{texts_of}
-use Rattle.sshkey_options_ref.proofs.Fronts.{split_spelled, box_string, split_refused, judge_refused, judge_taken, refused_kept}
+use Rattle.sshkey_slices.proofs.Fronts.{split_spelled, box_string, split_refused, judge_refused, judge_taken, refused_kept}
 use Rattle.sshkey_options_ref.proofs.TextSteps.{kept_texts}
 use Rattle.sshkey_options_ref.proofs.texts_ref.TextsRef.from_front.Goals as goal
 

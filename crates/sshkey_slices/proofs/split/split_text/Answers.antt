@@ -4,8 +4,8 @@ use Rattle.sshkey_model.specs.Reading.{string_at}
 use Rattle.sshkey_model.specs.Texts.{text_at, text_from}
 use Rattle.sshkey_base.specs.Causes.{encoding_cause}
 use Rattle.sshkey_base.specs.Texts.{text_grammar}
-use Rattle.sshkey_options_ref.proofs.Fronts.{split_spelled, split_refused, judge_refused, judge_taken}
-use Rattle.sshkey_options_ref.proofs.front.split_text.Goals as goal
+use Rattle.sshkey_slices.proofs.Fronts.{split_spelled, split_refused, judge_refused, judge_taken}
+use Rattle.sshkey_slices.proofs.split.split_text.Goals as goal
 
 pub returns-in_err-string-clause-gives : goal.returns-in_err-string-clause-gives
 unfolding text_at

@@ -2,8 +2,8 @@ use Rattle.std.proofs.Common.{refl}
 use Rattle.std.proofs.lemmas.Result.{err_from_is_err_and}
 use Rattle.sshkey_base.specs.Leaves.{string_grammar}
 use Rattle.sshkey_base.specs.Causes.{encoding_cause}
-use Rattle.sshkey_options_ref.proofs.Fronts.{split_spelled, no_length, string_is}
-use Rattle.sshkey_options_ref.proofs.front.split_string.Goals as goal
+use Rattle.sshkey_slices.proofs.Fronts.{split_spelled, no_length, string_is}
+use Rattle.sshkey_slices.proofs.split.split_string.Goals as goal
 
 pub returns-in_err-len-clause-gives : goal.returns-in_err-len-clause-gives
 returns-in_err-len-clause-gives c =

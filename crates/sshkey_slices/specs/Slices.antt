@@ -1,5 +1,5 @@
 -- What a call gives that takes values off the front of a slice, or keeps all of it.
-use Rattle.std.specs.Prelude.{◌≡◌, ℕ, List, [], ◌++◌, Bool, true, false, Result, Ok, Err, IsOkAnd, IsErrAnd}
+use Rattle.std.specs.Prelude.{◌≡◌, ℕ, List, ◌++◌, Bool, true, false, Result, Ok, Err, IsOkAnd, IsErrAnd}
 use denote.Ref.{Bor}
 use Rattle.sshkey_model.specs.Reading.{Fault, Front}
 use Rattle.sshkey_base.specs.Answers.{AnswersAlways}
@@ -15,14 +15,15 @@ abbrev pub Keeps : {X Y E : Type 0} → (X → List ℕ) → (E → Cause) → R
 Keeps bytes_of cause (Ok y) b r = IsOkAnd r (λ x. bytes_of x ≡ b)
 Keeps bytes_of cause (Err fault) b r = IsErrAnd r (λ e. cause e ≡ Faulty fault)
 
+-- whether the reader takes them
 abbrev pub is_taken : {Y : Type 0} → Result Y Fault → Bool
 is_taken (Ok y) = true
 is_taken (Err fault) = false
 
--- the values, if the bytes are a list of some
-abbrev pub listed : {Y : Type 0} → Result (List Y) Fault → List Y
-listed (Ok xs) = xs
-listed (Err fault) = []
+-- the value that the reader gives, and the other where it gives none
+abbrev pub found_or : {Y : Type 0} → Y → Result Y Fault → Y
+found_or none (Ok y) = y
+found_or none (Err fault) = none
 
 -- ---- in the words of the grammar
 
@@ -41,3 +42,8 @@ AcceptsSplit means Spells b (Err e) = NoFront Spells b
 abbrev pub AcceptsAll : {X Y E : Type 0} → (X → Y) → (Y → List ℕ → Type 0) → List ℕ → Result X E → Type 0
 AcceptsAll means Spells b (Ok x) = Spells (means x) b
 AcceptsAll means Spells b (Err e) = NoSpelling Spells b
+
+-- All the bytes together spell some value, and where they are refused they spell none.
+abbrev pub AcceptsSome : {X Y E : Type 0} → (Y → List ℕ → Type 0) → List ℕ → Result X E → Type 0
+AcceptsSome {Y = Y} Spells b (Ok x) = (y : Y) × Spells y b
+AcceptsSome Spells b (Err e) = NoSpelling Spells b

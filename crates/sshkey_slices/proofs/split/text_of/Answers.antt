@@ -1,6 +1,6 @@
 use Rattle.std.proofs.Common.{refl}
 use Rattle.sshkey_base.proofs.Utf8.{text_from-IsUtf8, text_from-not}
-use Rattle.sshkey_options_ref.proofs.front.text_of.Goals as goal
+use Rattle.sshkey_slices.proofs.split.text_of.Goals as goal
 
 pub returns-in-Ok : goal.returns-in-Ok
 returns-in-Ok c = rw (text_from-IsUtf8 c.args.bytes.now c.in-Ok.ensures.cases.1) c.in-Ok.ensures.cases.0

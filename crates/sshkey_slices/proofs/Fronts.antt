@@ -1,5 +1,5 @@
 -- Values that are cut off the front of a slice.
-use Rattle.std.proofs.Common.{◌≡◌, ℕ, ◌≤◌, ◌<◌, true, List, [], ◌∷◌, ◌++◌, length, ltb, take, drop, Result, Ok, Err, refl, sym, subst, inl, inr, lt-ltb}
+use Rattle.std.proofs.Common.{◌≡◌, ℕ, ◌≤◌, ◌<◌, true, List, [], ◌∷◌, ◌++◌, length, ltb, take, drop, Result, Ok, Err, refl, sym, ◌∙◌, subst, inl, inr, lt-ltb}
 use Rattle.std.proofs.lemmas.Bool.{le-ltb, cases_lt, and_parts}
 use Rattle.std.proofs.lemmas.List.{take-append-drop}
 use Rattle.std.specs.Int.{Width, w32, byte_len, from_be_bytes}
@@ -11,8 +11,9 @@ use Rattle.sshkey_model.specs.Grammar.{IsGrammar}
 use Rattle.sshkey_model.proofs.Grammars.{none_spelled}
 use Rattle.sshkey_base.specs.Answers.{AnswersAlways}
 use Rattle.sshkey_base.specs.Causes.{Cause, Faulty}
+use Rattle.sshkey_base.specs.Reading.{Refuses}
 use Rattle.sshkey_base.proofs.Judging.{answers_first, answers_later}
-use Rattle.sshkey_options_ref.specs.Taking.{Splits, Keeps, AcceptsSplit}
+use Rattle.sshkey_slices.specs.Slices.{Splits, Keeps, is_taken, AcceptsSplit}
 
 -- ---- what an answer says of the plain reader
 
@@ -23,6 +24,11 @@ answers_ok means cause (Err f) x h = absurd h
 pub answers_err : {X Y E : Type 0} (means : X → Y) (cause : E → Cause) (found : Result Y Fault) (e : E) → AnswersAlways means cause found (Err e) → (f : Fault) × (found ≡ Err f) × (cause e ≡ Faulty f)
 answers_err means cause (Ok y) e h = absurd h
 answers_err means cause (Err f) e h = (f, refl, h)
+
+-- the value that was taken
+pub taken_value : {Y : Type 0} (r : Result Y Fault) → is_taken r ≡ true → (y : Y) × (r ≡ Ok y)
+taken_value (Ok y) e = (y, refl)
+taken_value (Err f) e = absurd cc
 
 -- ---- bytes
 
@@ -78,6 +84,39 @@ box_string {Y} read b are = go (number_at w32 b) refl
       | inl few ↦ rw (e, string_is b n.1 n.0 e, too_few n.0 n.1 few, lt-ltb (length n.1) n.0 few) refl
       | inr enough ↦ rw (e, string_is b n.1 n.0 e, cut_off n.0 n.1 (behind n.0 n.1 e) enough, le-ltb (length n.1) n.0 enough) refl
     ]
+
+-- ---- what stands in a string is read
+
+box_refused : {Y : Type 0} (read : Whole Y) (b : List ℕ) (fault : Fault) → are_bytes b ≡ true → string_at b ≡ Err fault → box_at read b ≡ Err fault
+box_refused read b fault are e = box_string read b are ∙ rw e refl
+
+box_judged : {Y : Type 0} (read : Whole Y) (b s rest : List ℕ) (fault : Fault) → are_bytes b ≡ true → string_at b ≡ Ok (s, rest) → read s ≡ Err fault → box_at read b ≡ Err fault
+box_judged read b s rest fault are e f = box_string read b are ∙ rw (e, f) refl
+
+box_taken : {Y : Type 0} (read : Whole Y) (b s rest : List ℕ) (y : Y) → are_bytes b ≡ true → string_at b ≡ Ok (s, rest) → read s ≡ Ok y → box_at read b ≡ Ok (y, rest)
+box_taken read b s rest y are e f = box_string read b are ∙ rw (e, f) refl
+
+module _ {X Y D E : Type 0} (BelongsTo : X → Y → Type 0) (narrow : D → Cause) (cause : E → Cause) (read : Whole Y) (b : List ℕ) (are : are_bytes b ≡ true) where
+  abbrev CutString : Result (Bor (List ℕ) × Bor (List ℕ)) D → Type 0
+  CutString r = Splits (λ s. s.now) narrow string_at b r
+
+  -- there is no string
+  pub string_refused : (d : D) (e : E) → CutString (Err d) → cause e ≡ narrow d → Refuses 0 (cause e) (box_at read b)
+  string_refused d e h same =
+      let f = answers_err (λ (p : Bor (List ℕ) × Bor (List ℕ)). (p.0.now, p.1.now)) narrow (string_at b) d h in
+      record { met = f.0; is = box_refused read b f.0 are f.1; same = λ _. same ∙ f.2 }
+
+  -- it is not the string of a value
+  pub value_refused : (p : Bor (List ℕ) × Bor (List ℕ)) (e : E) → CutString (Ok p) → Refuses 0 (cause e) (read p.0.now) → Refuses 0 (cause e) (box_at read b)
+  value_refused p e h refused =
+      let is = answers_ok (λ (q : Bor (List ℕ) × Bor (List ℕ)). (q.0.now, q.1.now)) narrow (string_at b) p h in
+      record { met = refused.met; is = box_judged read b p.0.now p.1.now refused.met are is refused.is; same = refused.same }
+
+  -- the value, and what stands behind its string
+  pub value_taken : (p : Bor (List ℕ) × Bor (List ℕ)) (x : X) → CutString (Ok p) → ((y : Y) × BelongsTo x y × (read p.0.now ≡ Ok y)) → (y : Y) × BelongsTo x y × (box_at read b ≡ Ok (y, p.1.now))
+  value_taken p x h taken =
+      let is = answers_ok (λ (q : Bor (List ℕ) × Bor (List ℕ)). (q.0.now, q.1.now)) narrow (string_at b) p h in
+      (taken.0, taken.1, box_taken read b p.0.now p.1.now taken.0 are is taken.2)
 
 -- ---- what was cut off is judged
 

@@ -7,7 +7,7 @@ ghost use Rattle.sshkey_base.specs.Answers.{AnswersAlways};
 ghost use Rattle.sshkey_base.specs.Causes.{encoding_cause};
 ghost use Rattle.sshkey_base.specs.Leaves.{SpellsNumber32, SpellsNumber64, SpellsString};
 ghost use Rattle.sshkey_base.specs.Texts.{SpellsText};
-ghost use Rattle.sshkey_options_ref.specs.Taking.{AcceptsSplit, Splits};
+ghost use Rattle.sshkey_slices.specs.Slices.{AcceptsSplit, Splits};
 
 use sshkey_base::encoding::{Error, Result};
 use sshkey_base::{array_from, length_from};
@@ -36,7 +36,7 @@ pub fn split_u64(bytes: &[u8]) -> Result<(u64, &[u8])>
 }
 
 /// The next `len` bytes, and what stands behind them. `Length` where fewer are left.
-fn split_bytes(len: usize, bytes: &[u8]) -> Result<(&[u8], &[u8])>
+pub fn split_bytes(len: usize, bytes: &[u8]) -> Result<(&[u8], &[u8])>
     ensures { Splits (λ b. b.now) encoding_cause (bytes_at len) bytes.now result }
 {
     if bytes.len() < len {

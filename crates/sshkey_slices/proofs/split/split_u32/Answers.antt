@@ -3,8 +3,8 @@ use Rattle.std.proofs.lemmas.Result.{err_from_is_err_and}
 use Rattle.std.specs.Int.{w32}
 use Rattle.sshkey_base.specs.Leaves.{number32_grammar}
 use Rattle.sshkey_base.specs.Causes.{encoding_cause}
-use Rattle.sshkey_options_ref.proofs.Fronts.{split_spelled, number_refused, number_is}
-use Rattle.sshkey_options_ref.proofs.front.split_u32.Goals as goal
+use Rattle.sshkey_slices.proofs.Fronts.{split_spelled, number_refused, number_is}
+use Rattle.sshkey_slices.proofs.split.split_u32.Goals as goal
 
 pub returns-in_err-number-clause-gives : goal.returns-in_err-number-clause-gives
 returns-in_err-number-clause-gives c =

@@ -1,7 +1,7 @@
 use Rattle.std.proofs.Common.{arith, refl}
 use Rattle.sshkey_model.proofs.CombinedReaders.{fit_bytes}
-use Rattle.sshkey_options_ref.proofs.Fronts.{too_few, cut_off}
-use Rattle.sshkey_options_ref.proofs.front.split_bytes.Goals as goal
+use Rattle.sshkey_slices.proofs.Fronts.{too_few, cut_off}
+use Rattle.sshkey_slices.proofs.split.split_bytes.Goals as goal
 
 pub returns-then-bytes-len : goal.returns-then-bytes-len
 returns-then-bytes-len c = rw (too_few c.args.len c.args.bytes.now (omega arith)) refl
