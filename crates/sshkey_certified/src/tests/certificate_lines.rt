@@ -14,7 +14,7 @@ pub(super) fn stored() -> &'static str {
 }
 
 /// The name of the certificate's key in certificates.
-fn certificate_name(name: &str) -> &'static str {
+pub(super) fn certificate_name(name: &str) -> &'static str {
     match name {
         "ssh-ed25519" => "ssh-ed25519-cert-v01@openssh.com",
         "ecdsa-sha2-nistp256" => "ecdsa-sha2-nistp256-cert-v01@openssh.com",

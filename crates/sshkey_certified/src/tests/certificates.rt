@@ -3,7 +3,7 @@
 use super::certified::{Certified, each, ed25519_user, p256_host, p384_user, rsa_sha256};
 use base64::engine::general_purpose::STANDARD;
 use sshkey_base::{Algorithm, Error, HashAlg};
-use sshkey_cert::Certificate;
+use sshkey_cert::{Certificate, is_given};
 use sshkey_doubles::{AcceptAll, Only, RefuseAll};
 use sshkey_keys::{Fingerprint, KeyData};
 use sshkey_options::{MAX_SECS, OptionsMap};
@@ -53,7 +53,7 @@ fn has_lists(certificate: &Certificate, made: &Certified) -> bool {
 }
 
 /// The text of the key's SHA-256 fingerprint is this.
-fn is_shown(alloc: Global, key: &KeyData, wanted: &str) -> bool {
+pub(super) fn is_shown(alloc: Global, key: &KeyData, wanted: &str) -> bool {
     match key.fingerprint(alloc, HashAlg::Sha256) {
         Ok(fingerprint) => shows(alloc, &fingerprint, wanted),
         Err(_) => false,
@@ -226,4 +226,28 @@ fn is_no(answer: Result<(), Error>) -> bool {
 #[test]
 fn other_authorities_are_refused(rt: HostRuntime) {
     assert!(rt; is_refused(rt.alloc(), &rsa_sha256()));
+}
+
+/// The SHA-256 digest counts, the SHA-512 one never does.
+fn one_digest_counts(alloc: Global, certificate: &Certificate) -> bool {
+    match authorities(alloc, certificate) {
+        Some(given) => {
+            is_given(&given, given[0].as_bytes())
+                && !is_given(&given, given[1].as_bytes())
+                && !is_given(&given[1..], given[0].as_bytes())
+        }
+        None => false,
+    }
+}
+
+fn digest_is_given(alloc: Global, made: &Certified) -> bool {
+    match read(alloc, made) {
+        Some(certificate) => one_digest_counts(alloc, &certificate),
+        None => false,
+    }
+}
+
+#[test]
+fn an_authority_is_given_by_sha256(rt: HostRuntime) {
+    assert!(rt; digest_is_given(rt.alloc(), &ed25519_user()));
 }

@@ -1,19 +1,21 @@
 //! Certificates that are slices of their bytes.
 
-use super::certificate_lines::stored;
-use super::certificates::{authorities, blob_of, is_as_made, knower, read};
+use super::certificate_lines::{certificate_name, stored};
+use super::certificates::{authorities, blob_of, is_as_made, is_shown, knower, read};
 use super::certified::{Certified, each};
 use base64::engine::general_purpose::STANDARD;
 use sshkey_base::{Error, encoding};
 use sshkey_cert::Certificate;
 use sshkey_cert_ref::CertificateRef;
 use sshkey_doubles::{Only, RefuseAll};
+use sshkey_keys::Fingerprint;
 use sshkey_options_ref::OptionsRef;
 use std::alloc::Global;
 
 /// The certificate has these plain fields.
 fn has_fields(certificate: &CertificateRef<'_>, made: &Certified) -> bool {
-    certificate.cert_type().is_host() == made.is_host
+    certificate.certificate_name() == certificate_name(made.name)
+        && certificate.cert_type().is_host() == made.is_host
         && certificate.serial() == made.serial
         && certificate.key_id() == made.key_id
         && certificate.valid_after() == made.valid_after
@@ -50,6 +52,33 @@ fn is_signed_over(certificate: &CertificateRef<'_>, len: usize) -> bool {
     }
 }
 
+/// The certified key, in memory of its own.
+fn is_of_key(alloc: Global, certificate: &CertificateRef<'_>, made: &Certified) -> bool {
+    match certificate.public_key(alloc) {
+        Ok(key) => is_shown(alloc, &key, made.key),
+        Err(_) => false,
+    }
+}
+
+/// The key that signed, in memory of its own.
+fn is_by_authority(alloc: Global, certificate: &CertificateRef<'_>, made: &Certified) -> bool {
+    match certificate.signature_key(alloc) {
+        Ok(key) => is_shown(alloc, &key, made.authority),
+        Err(_) => false,
+    }
+}
+
+/// The signature, in memory of its own: the last bytes of all.
+fn is_signed(alloc: Global, certificate: &CertificateRef<'_>, made: &Certified) -> bool {
+    match certificate.signature(alloc) {
+        Ok(signature) => {
+            signature.algorithm().as_str() == made.algorithm
+                && certificate.as_bytes().ends_with(signature.as_bytes())
+        }
+        Err(_) => false,
+    }
+}
+
 /// The same certificate stands in memory of its own.
 fn is_owned(alloc: Global, certificate: &CertificateRef<'_>, made: &Certified) -> bool {
     match certificate.to_certificate(alloc) {
@@ -58,13 +87,22 @@ fn is_owned(alloc: Global, certificate: &CertificateRef<'_>, made: &Certified) -
     }
 }
 
+/// Its parts in memory of their own are as made.
+fn has_owned_parts(alloc: Global, certificate: &CertificateRef<'_>, made: &Certified) -> bool {
+    is_of_key(alloc, certificate, made)
+        && is_by_authority(alloc, certificate, made)
+        && is_signed(alloc, certificate, made)
+        && is_owned(alloc, certificate, made)
+}
+
 fn is_as_made_in(alloc: Global, bytes: &[u8], made: &Certified) -> bool {
     match CertificateRef::from_bytes(bytes) {
         Ok(certificate) => {
             has_fields(&certificate, made)
                 && has_lists(&certificate, made)
                 && is_signed_over(&certificate, made.signed)
-                && is_owned(alloc, &certificate, made)
+                && certificate.as_bytes() == bytes
+                && has_owned_parts(alloc, &certificate, made)
         }
         Err(_) => false,
     }
@@ -80,6 +118,33 @@ fn holds(alloc: Global, made: &Certified) -> bool {
 #[test]
 fn each_slice_has_the_fields(rt: HostRuntime) {
     assert!(rt; each().iter().all(|made| holds(rt.alloc(), made)));
+}
+
+/// The slice is valid for each of its principals, and for nobody else where it lists some.
+fn allows_its_principals(
+    alloc: Global,
+    slice: &CertificateRef<'_>,
+    given: &[Fingerprint],
+    knower: &Only,
+) -> bool {
+    slice
+        .valid_principals()
+        .iter()
+        .all(|principal| is_valid_for(alloc, slice, principal, given, knower))
+        && is_valid_for(alloc, slice, "nobody", given, knower)
+            == slice.valid_principals().is_empty()
+}
+
+fn is_valid_for(
+    alloc: Global,
+    slice: &CertificateRef<'_>,
+    wanted: &str,
+    given: &[Fingerprint],
+    knower: &Only,
+) -> bool {
+    slice
+        .validate_principal_at(alloc, slice.valid_after(), wanted, given, knower)
+        .is_ok()
 }
 
 /// Who knows the signature finds the slice valid at that second, and nobody else does.
@@ -98,6 +163,7 @@ fn is_valid_by(
                 && slice
                     .validate_at(alloc, slice.valid_before(), &given, knower)
                     .is_err()
+                && allows_its_principals(alloc, slice, &given, knower)
         }
         None => false,
     }
