@@ -1,4 +1,5 @@
 mod Answered
+mod HostCertificates
 mod Logins
 mod Room
 mod SignedFiles

@@ -4,12 +4,14 @@
 //! on. Copy them.
 #![tactic(auto)]
 
+mod host_certificate;
 mod host_key;
 mod login;
 mod normal_blob;
 mod signed;
 mod signed_file;
 
+pub use host_certificate::check_host;
 pub use host_key::fingerprint_if_known;
 pub use login::let_in;
 pub use normal_blob::is_normal_blob;

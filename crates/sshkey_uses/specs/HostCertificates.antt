@@ -1,0 +1,15 @@
+-- What whoever connects to a host learns.
+use Rattle.std.specs.Prelude.{◌≡◌, ℕ, List, [], Bool}
+use Rattle.sshkey_model.specs.Certificates.{Certificate, Host}
+use Rattle.sshkey_model.specs.Fingerprints.{Fingerprint}
+use Rattle.sshkey_model.specs.Principals.{IsValidFor}
+use Rattle.sshkey_model.specs.Verification.{Question}
+use Rattle.sshkey_cert.specs.CertificateReaders.{SpellsCertificate}
+
+-- The bytes spell a certificate for hosts, without critical options, that is valid at that time for the host.
+pub record IsCertifiedHost (accepts : Question → Bool) (authorities : List Fingerprint) (t : ℕ) (shown host : List ℕ) : Type 0 where
+  pub certificate : Certificate
+  pub spelled : SpellsCertificate certificate shown
+  pub for_hosts : certificate.signed.certificate_type ≡ Host
+  pub no_options : certificate.signed.critical_options ≡ []
+  pub valid : IsValidFor accepts authorities t host certificate
