@@ -64,37 +64,35 @@ refusal Z KnownHosts entry text e h other r = (refusal_line r.0, (h other, (r.0,
 
 -- none is shown yet
 pub nothing_yet : (file : EntryFile) (text : List ℕ) → ShowsFileFirst file text (entries text) [] false
-nothing_yet AuthorizedKeys text = record { first = []; are = refl; lines = []; each = tt; is = refl; some = refl }
-nothing_yet KnownHosts text = record { first = []; are = refl; lines = []; each = tt; is = refl; some = refl }
+nothing_yet AuthorizedKeys text = record { first = []; are = refl; shows = record { lines = []; each = tt; is = refl; some = refl } }
+nothing_yet KnownHosts text = record { first = []; are = refl; shows = record { lines = []; each = tt; is = refl; some = refl } }
 
 next_of : {Y : Type 0} (IsEntry : List ℕ → Y → Type 0) (text_of : Y → List ℕ) (text : List ℕ) (left rest : List (List ℕ)) (entry shown line : List ℕ) (refused also : Bool) → ShowsFirst IsEntry text_of text left shown refused → left ≡ entry ∷ rest → ShowsEntry IsEntry text_of entry (line, also) → ShowsFirst IsEntry text_of text rest (shown ++ (line ++ line_end)) (refused || also)
 next_of IsEntry text_of text left rest entry shown line refused also h next it =
-    let more = answered_more (ShowsEntry IsEntry text_of) (entries text) h.first left rest h.lines entry (line, also) h.are h.each next it in
+    let s = h.shows in
+    let more = answered_more (ShowsEntry IsEntry text_of) (entries text) h.first left rest s.lines entry (line, also) h.are s.each next it in
     record {
       first = more.0;
       are = more.1;
-      lines = h.lines ++ ((line, also) ∷ []);
-      each = more.2;
-      is = ap (λ (l : List ℕ). l ++ (line ++ line_end)) h.is ∙ ap (λ (l : List ℕ). in_lines (map (λ l. l.0) h.lines) ++ (line ++ l)) (sym (append-nil line_end)) ∙ sym (lines_append (map (λ l. l.0) h.lines) (line ∷ [])) ∙ ap in_lines (sym (map-append (λ (l : List ℕ × Bool). l.0) h.lines ((line, also) ∷ [])));
-      some = (λ j. h.some j || also) ∙ last also ∙ sym (list_any-append (λ (l : List ℕ × Bool). l.1) h.lines ((line, also) ∷ []));
+      shows = record {
+        lines = s.lines ++ ((line, also) ∷ []);
+        each = more.2;
+        is = ap (λ (l : List ℕ). l ++ (line ++ line_end)) s.is ∙ ap (λ (l : List ℕ). in_lines (map (λ l. l.0) s.lines) ++ (line ++ l)) (sym (append-nil line_end)) ∙ sym (lines_append (map (λ l. l.0) s.lines) (line ∷ [])) ∙ ap in_lines (sym (map-append (λ (l : List ℕ × Bool). l.0) s.lines ((line, also) ∷ [])));
+        some = (λ j. s.some j || also) ∙ last also ∙ sym (list_any-append (λ (l : List ℕ × Bool). l.1) s.lines ((line, also) ∷ []));
+      };
     }
   where
-    last : (b : Bool) → (list_any (λ l. l.1) h.lines || b) ≡ (list_any (λ l. l.1) h.lines || (b || false))
-    last true = λ j. list_any (λ l. l.1) h.lines || true
-    last false = λ j. list_any (λ l. l.1) h.lines || false
+    last : (b : Bool) → (list_any (λ l. l.1) h.shows.lines || b) ≡ (list_any (λ l. l.1) h.shows.lines || (b || false))
+    last true = λ j. list_any (λ l. l.1) h.shows.lines || true
+    last false = λ j. list_any (λ l. l.1) h.shows.lines || false
 
 -- one entry more
 pub one_more : (file : EntryFile) (text : List ℕ) (left rest : List (List ℕ)) (entry shown line : List ℕ) (refused also : Bool) → ShowsFileFirst file text left shown refused → left ≡ entry ∷ rest → ShowsFileEntry file entry (line, also) → ShowsFileFirst file text rest (shown ++ (line ++ line_end)) (refused || also)
 one_more AuthorizedKeys = next_of IsAuthorizedKey authorized_text
 one_more KnownHosts = next_of IsKnownHost known_text
 
-all_of : {Y : Type 0} (IsEntry : List ℕ → Y → Type 0) (text_of : Y → List ℕ) (text shown : List ℕ) (refused : Bool) → ShowsFirst IsEntry text_of text [] shown refused → ShowsEntries IsEntry text_of text shown refused
-all_of IsEntry text_of text shown refused h = record {
-  lines = h.lines;
-  each = subst (λ (l : List (List ℕ)). AllZip (ShowsEntry IsEntry text_of) l h.lines) (sym (h.are ∙ append-nil h.first)) h.each;
-  is = h.is;
-  some = h.some;
-}
+all_of : {Y : Type 0} (IsEntry : List ℕ → Y → Type 0) (text_of : Y → List ℕ) (text shown : List ℕ) (refused : Bool) → ShowsFirst IsEntry text_of text [] shown refused → ShowsEntries IsEntry text_of (entries text) shown refused
+all_of IsEntry text_of text shown refused h = subst (λ (l : List (List ℕ)). ShowsEntries IsEntry text_of l shown refused) (sym (h.are ∙ append-nil h.first)) h.shows
 
 -- none is left
 pub all_shown : (file : EntryFile) (text shown : List ℕ) (refused : Bool) → ShowsFileFirst file text [] shown refused → ShowsFile file text shown refused

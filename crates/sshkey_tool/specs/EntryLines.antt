@@ -10,18 +10,15 @@ abbrev pub ShowsEntry : {Y : Type 0} → (List ℕ → Y → Type 0) → (Y → 
 ShowsEntry {Y} IsEntry text_of entry (line, false) = (y : Y) × IsEntry entry y × (line ≡ text_of y)
 ShowsEntry IsEntry text_of entry (line, true) = IsNoEntry IsEntry entry × ((why : List ℕ) × IsOneLine why × (line ≡ refusal_line why))
 
--- A line for each entry of the text, in order, and whether one of them is refused.
-pub record ShowsEntries {Y : Type 0} (IsEntry : List ℕ → Y → Type 0) (text_of : Y → List ℕ) (text shown : List ℕ) (refused : Bool) : Type 0 where
+-- A line for each of the entries, in order, and whether one of them is refused.
+pub record ShowsEntries {Y : Type 0} (IsEntry : List ℕ → Y → Type 0) (text_of : Y → List ℕ) (given : List (List ℕ)) (shown : List ℕ) (refused : Bool) : Type 0 where
   pub lines : List (List ℕ × Bool)
-  pub each : AllZip (ShowsEntry IsEntry text_of) (entries text) lines
+  pub each : AllZip (ShowsEntry IsEntry text_of) given lines
   pub is : shown ≡ in_lines (map (λ l. l.0) lines)
   pub some : refused ≡ list_any (λ l. l.1) lines
 
--- A line for each of the first entries of the text, in order, and whether one of them is refused; these entries are left.
+-- The same of the first entries of the text, before those that are left.
 pub record ShowsFirst {Y : Type 0} (IsEntry : List ℕ → Y → Type 0) (text_of : Y → List ℕ) (text : List ℕ) (left : List (List ℕ)) (shown : List ℕ) (refused : Bool) : Type 0 where
   pub first : List (List ℕ)
   pub are : entries text ≡ first ++ left
-  pub lines : List (List ℕ × Bool)
-  pub each : AllZip (ShowsEntry IsEntry text_of) first lines
-  pub is : shown ≡ in_lines (map (λ l. l.0) lines)
-  pub some : refused ≡ list_any (λ l. l.1) lines
+  pub shows : ShowsEntries IsEntry text_of first shown refused

@@ -11,6 +11,7 @@ use Rattle.sshkey_model.specs.Lines.{IsKeyLine, key_line, key_name, IsCertificat
 use Rattle.sshkey_model.specs.Names.{Sha256}
 use Rattle.sshkey_cert.specs.CertificateReaders.{SpellsCertificate}
 use Rattle.sshkey_entries.specs.AuthorizedKeys.{IsAuthorizedKey, authorized_text}
+use Rattle.sshkey_entries.specs.Entries.{entries}
 use Rattle.sshkey_entries.specs.KnownHosts.{IsKnownHost, known_text}
 use Rattle.sshkey_keys.specs.Keys.{SpellsKey}
 use Rattle.sshkey_tool.specs.Faults.{IsBegun, Writes}
@@ -47,8 +48,8 @@ key_text Normal k comment = key_line k comment ++ line_end
 
 -- The text is shown of the entries of the bytes, and some of them are refused or none.
 abbrev pub ShowsFile : EntryFile → List ℕ → List ℕ → Bool → Type 0
-ShowsFile AuthorizedKeys = ShowsEntries IsAuthorizedKey authorized_text
-ShowsFile KnownHosts = ShowsEntries IsKnownHost known_text
+ShowsFile AuthorizedKeys text = ShowsEntries IsAuthorizedKey authorized_text (entries text)
+ShowsFile KnownHosts text = ShowsEntries IsKnownHost known_text (entries text)
 
 -- the same of its first entries, before those that are left
 abbrev pub ShowsFileFirst : EntryFile → List ℕ → List (List ℕ) → List ℕ → Bool → Type 0
