@@ -13,10 +13,10 @@ ghost use Rattle.sshkey_options_ref.specs.SpelledOptions.{pair_of};
 mod item;
 mod iter;
 
-use sshkey_slices::split_string;
 use item::{SpelledOption, split_option};
 pub use iter::Options;
 use sshkey_base::Result;
+use sshkey_slices::split_string;
 
 /// Options of a certificate (PROTOCOL.certkeys): bytes that spell them, one behind the other. Each
 /// is the string of a name, and a string that is empty or holds one text; the names rise, by bytes.

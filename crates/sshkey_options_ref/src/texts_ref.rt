@@ -11,9 +11,9 @@ ghost use Rattle.sshkey_options_ref.specs.TextLists.{texts_in};
 
 mod iter;
 
-use sshkey_slices::{split_string, split_text};
 pub use iter::Texts;
 use sshkey_base::encoding::Result;
+use sshkey_slices::{split_string, split_text};
 
 /// A list of texts: bytes that spell them, each as a string, one behind the other (RFC 4251,
 /// section 5). So the valid principals of a certificate stand in their string (PROTOCOL.certkeys).

@@ -127,12 +127,9 @@ fn allows_its_principals(
     given: &[Fingerprint],
     knower: &Only,
 ) -> bool {
-    slice
-        .valid_principals()
-        .iter()
-        .all(|principal| is_valid_for(alloc, slice, principal, given, knower))
-        && is_valid_for(alloc, slice, "nobody", given, knower)
-            == slice.valid_principals().is_empty()
+    slice.valid_principals().iter().all(|principal| is_valid_for(
+        alloc, slice, principal, given, knower,
+    )) && is_valid_for(alloc, slice, "nobody", given, knower) == slice.valid_principals().is_empty()
 }
 
 fn is_valid_for(

@@ -9,8 +9,8 @@ ghost use Rattle.sshkey_base.specs.Causes.{cause, encoding_cause};
 ghost use Rattle.sshkey_options_ref.specs.SpelledOptions.{pair_of, value_pair_of};
 ghost use Rattle.sshkey_slices.specs.Slices.{Splits};
 
-use sshkey_slices::{split_string, split_text};
 use sshkey_base::{Error, Result, encoding};
+use sshkey_slices::{split_string, split_text};
 
 /// An option as it is spelled: its value may be an empty text in its string, in place of nothing.
 #[derive(Clone, Copy)]
