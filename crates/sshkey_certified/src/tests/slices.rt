@@ -127,9 +127,11 @@ fn allows_its_principals(
     given: &[Fingerprint],
     knower: &Only,
 ) -> bool {
-    slice.valid_principals().iter().all(|principal| is_valid_for(
-        alloc, slice, principal, given, knower,
-    )) && is_valid_for(alloc, slice, "nobody", given, knower) == slice.valid_principals().is_empty()
+    let principals = slice.valid_principals();
+    is_valid_for(alloc, slice, "nobody", given, knower) == principals.is_empty()
+        && principals
+            .iter()
+            .all(|wanted| is_valid_for(alloc, slice, wanted, given, knower))
 }
 
 fn is_valid_for(
