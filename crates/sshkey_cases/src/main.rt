@@ -5,6 +5,7 @@
 
 mod bytes;
 mod entries;
+mod faulty;
 mod keys;
 mod kinds;
 mod names;

@@ -2,7 +2,7 @@
 
 use crate::bytes::{NO_LINE, part, parts, text};
 use crate::wire::shown;
-use crate::{entries, keys, kinds, names, privates, signatures, slices, wire};
+use crate::{entries, faulty, keys, kinds, names, privates, signatures, slices, wire};
 use sshkey_base::{Algorithm, AlgorithmName, EcdsaCurve, Error, HashAlg, Mpint, Result};
 use sshkey_cert::Certificate;
 use sshkey_keys::{Fingerprint, KeyData, Signature};
@@ -21,6 +21,10 @@ pub(crate) fn answer_line(alloc: Global, line: &str) -> Result<String> {
     if question == "beginnings" {
         let (question, words) = words.split_once(' ').unwrap_or((words, ""));
         return beginnings(alloc, question, part(&parts(alloc, words)?, 0));
+    }
+    if question == "faulty" {
+        let (kind, words) = words.split_once(' ').unwrap_or((words, ""));
+        return faulty::value(alloc, kind, part(&parts(alloc, words)?, 0));
     }
     answer(alloc, question, &parts(alloc, words)?)
 }
@@ -153,6 +157,7 @@ fn answer_of_slices(alloc: Global, question: &str, parts: &[Vec<u8>]) -> Result<
         "body-slice" => slices::body(alloc, parts),
         "texts-slice" => slices::texts(alloc, bytes),
         "options-slice" => slices::options(alloc, bytes),
+        "certificate-slice" => slices::certificate(alloc, bytes),
         _ => answer_of_certificates(alloc, question, parts),
     }
 }

@@ -1,9 +1,10 @@
-//! Keys, signatures and lists that are slices of their input. A key and a signature are answered as
-//! their owned values are.
+//! Keys, signatures, certificates and lists that are slices of their input. A key, a signature and a
+//! certificate are answered as their owned values are.
 
 use crate::bytes::{part, text};
 use crate::signatures;
 use sshkey_base::{HashAlg, Result, encode_vec};
+use sshkey_cert_ref::CertificateRef;
 use sshkey_keys_ref::{KeyDataRef, SignatureRef, take_body};
 use sshkey_options_ref::{OptionsRef, TextsRef};
 use std::alloc::Global;
@@ -35,6 +36,21 @@ pub(crate) fn fingerprints(alloc: Global, bytes: &[u8]) -> Result<String> {
 pub(crate) fn signature(alloc: Global, bytes: &[u8]) -> Result<String> {
     let signature = SignatureRef::from_bytes(bytes)?;
     signatures::shown(alloc, &signature.to_signature(alloc)?, signature.as_bytes())
+}
+
+/// Whether all the bytes are a certificate, and what is written of it, where these are other bytes.
+pub(crate) fn certificate(alloc: Global, bytes: &[u8]) -> Result<String> {
+    let certificate = CertificateRef::from_bytes(bytes)?;
+    match certificate.signed_bytes() {
+        Some(_) => Ok(String::from_str(alloc, "read")?),
+        None => spelled_anew(alloc, &certificate),
+    }
+}
+
+fn spelled_anew(alloc: Global, certificate: &CertificateRef<'_>) -> Result<String> {
+    let written = encode_vec(alloc, &certificate.to_certificate(alloc)?)?;
+    let digits = hex::encode(alloc, &written)?;
+    Ok(format!(in alloc; "read, written as {digits}")?)
 }
 
 /// How many bytes are the body of a key under the name that the first byte string is, at the front

@@ -1,9 +1,8 @@
 //! Readers: slices, parts of them, and a source that has a fault of its own behind its bytes.
 
-ghost use Rattle.std.specs.Prelude.{◌≡◌, ◌+◌, ◌<◌, ◌^◌, length, []};
-
 use sshkey_base::encoding::{Error, Result};
 use sshkey_base::{Algorithm, Bytes, Decode, NestedReader, Reader, ShortBytes, decode_whole};
+use sshkey_doubles::Faulty;
 use std::alloc::Global;
 
 /// The name `ssh-ed25519` as a string.
@@ -50,47 +49,10 @@ fn bytes_that_are_lent(rt: HostRuntime) {
     assert!(rt; left.is_finished() && left.finish(4) == Ok(4));
 }
 
-/// Some bytes, and a fault in place of those that are missing.
-#[derive(Clone, Copy)]
-struct Faulty<'s> {
-    bytes: &'s [u8],
-    missing: usize,
-    ghost fits: { length bytes.now + missing < 2 ^ 64 },
-}
-
-#[tactic(auto, using(sshkey_base::proofs::NestedSources::part_advances))]
-impl Reader for Faulty<'_> {
-    ghost source = { λ s. record { left = s.bytes.now; missing = s.missing; outer = [] } };
-
-    fn read(&mut self, buffer: &mut [u8]) -> Result<()> {
-        let mut rest = self.bytes;
-        match rest.read(buffer) {
-            Ok(()) => {
-                self.bytes = rest;
-                Ok(())
-            }
-            Err(error) => {
-                if self.missing == 0 {
-                    Err(error)
-                } else {
-                    Err(Error::Base64)
-                }
-            }
-        }
-    }
-
-    fn remaining_len(&self) -> usize {
-        self.bytes.len() + self.missing
-    }
-}
-
 /// The first `len` bytes of the name, and behind them a fault in place of the next `missing`.
 fn cut_short(len: u8, missing: u8) -> Faulty<'static> {
     let len = NAME.len().min(len as usize);
-    Faulty {
-        bytes: &NAME[..len],
-        missing: missing as usize,
-    }
+    Faulty::new(&NAME[..len], missing as u32)
 }
 
 /// Neither the algorithm nor the string is all of that source.

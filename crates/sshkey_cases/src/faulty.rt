@@ -1,0 +1,107 @@
+//! Values from sources that break off.
+
+use crate::bytes::NO_LINE;
+use sshkey_base::{Algorithm, Decode, Error, Mpint, Reader, Result, encoding};
+use sshkey_cert::Certificate;
+use sshkey_doubles::Faulty;
+use sshkey_keys::{KeyData, Signature};
+use sshkey_options::OptionsMap;
+use sshkey_private::PrivateKey;
+use sshkey_sshsig::SshSig;
+use std::alloc::Global;
+
+/// How many bytes are missing behind all the bytes of a value.
+const BEHIND: u32 = 16;
+
+/// At how many of the bytes a value of that kind is refused where its source breaks off in front of
+/// them, or at which it is not.
+pub(crate) fn value(alloc: Global, kind: &str, bytes: &[u8]) -> Result<String> {
+    match kind {
+        "algorithm" => each::<Algorithm>(alloc, bytes),
+        "mpint" => each::<Mpint>(alloc, bytes),
+        "list" => each::<Vec<String>>(alloc, bytes),
+        "key" => each::<KeyData>(alloc, bytes),
+        "signature" => each::<Signature>(alloc, bytes),
+        "options" => each::<OptionsMap>(alloc, bytes),
+        "certificate" => each::<Certificate>(alloc, bytes),
+        "ssh-signature" => each::<SshSig>(alloc, bytes),
+        "private-key" => each_of_private(alloc, bytes),
+        _ => Err(NO_LINE),
+    }
+}
+
+/// The source of the first `len` bytes, which lacks the others.
+fn cut(bytes: &[u8], len: usize) -> Faulty<'_> {
+    let missing = u32::try_from(bytes.len().saturating_sub(len)).unwrap_or(u32::MAX);
+    Faulty::new(bytes.get(..len).unwrap_or(bytes), missing)
+}
+
+fn each<T>(alloc: Global, bytes: &[u8]) -> Result<String>
+where
+    T: Decode + Drop,
+    Error: From<T::Error>,
+{
+    for len in 0..bytes.len() {
+        let mut source = cut(bytes, len);
+        let refusal = refusal::<T>(alloc, &mut source);
+        if !is_by_source(refusal, &source, bytes)? {
+            return otherwise(alloc, len);
+        }
+    }
+    let mut source = Faulty::new(bytes, BEHIND);
+    let refusal = refusal::<T>(alloc, &mut source);
+    all(alloc, refusal, &source, bytes)
+}
+
+/// The refusal of the value in front of a source.
+fn refusal<T>(alloc: Global, source: &mut Faulty<'_>) -> Option<Error>
+where
+    T: Decode + Drop,
+    Error: From<T::Error>,
+{
+    match T::decode(alloc, source) {
+        Ok(_) => None,
+        Err(error) => Some(Error::from(error)),
+    }
+}
+
+/// As `each`, for private keys.
+fn each_of_private(alloc: Global, bytes: &[u8]) -> Result<String> {
+    for len in 0..bytes.len() {
+        let mut source = cut(bytes, len);
+        let refusal = PrivateKey::decode(alloc, &mut source).err();
+        if !is_by_source(refusal, &source, bytes)? {
+            return otherwise(alloc, len);
+        }
+    }
+    let mut source = Faulty::new(bytes, BEHIND);
+    let refusal = PrivateKey::decode(alloc, &mut source).err();
+    all(alloc, refusal, &source, bytes)
+}
+
+/// Whether the refusal is the fault of the source, which is no longer than the bytes. Refused when
+/// out of memory alone.
+fn is_by_source(refusal: Option<Error>, source: &Faulty<'_>, bytes: &[u8]) -> Result<bool> {
+    match refusal {
+        Some(Error::Memory) => Err(Error::Memory),
+        Some(Error::Encoding(encoding::Error::Base64)) => Ok(source.remaining_len() <= bytes.len()),
+        _ => Ok(false),
+    }
+}
+
+fn otherwise(alloc: Global, len: usize) -> Result<String> {
+    Ok(format!(in alloc; "not refused by the source at {len}")?)
+}
+
+/// The answer where each beginning was refused. Behind it stands what becomes of all the bytes,
+/// where these are refused, or where not all that is missing is left.
+fn all(alloc: Global, refusal: Option<Error>, source: &Faulty<'_>, bytes: &[u8]) -> Result<String> {
+    let count = bytes.len();
+    let left = source.remaining_len();
+    match refusal {
+        Some(Error::Memory) => Err(Error::Memory),
+        Some(error) => Ok(format!(in alloc; "refused at each of {count}, then: {error}")?),
+        None if left == BEHIND as usize => Ok(format!(in alloc; "refused at each of {count}")?),
+        None => Ok(format!(in alloc; "refused at each of {count}, then {left} left")?),
+    }
+}
