@@ -3,6 +3,7 @@
 //! written as they are. The questions stand in the file `stdin`, and with their answers in `stdout`.
 #![tactic(auto)]
 
+mod again;
 mod bytes;
 mod entries;
 mod faulty;

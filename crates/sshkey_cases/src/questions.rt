@@ -2,7 +2,7 @@
 
 use crate::bytes::{NO_LINE, part, parts, text};
 use crate::wire::shown;
-use crate::{entries, faulty, keys, kinds, names, privates, signatures, slices, wire};
+use crate::{again, entries, faulty, keys, kinds, names, privates, signatures, slices, wire};
 use sshkey_base::{Algorithm, AlgorithmName, EcdsaCurve, Error, HashAlg, Mpint, Result};
 use sshkey_cert::Certificate;
 use sshkey_keys::{Fingerprint, KeyData, Signature};
@@ -166,6 +166,7 @@ fn answer_of_certificates(alloc: Global, question: &str, parts: &[Vec<u8>]) -> R
     let bytes = part(parts, 0);
     match question {
         "options" => wire::whole::<OptionsMap>(alloc, bytes),
+        "insert" => again::insert(alloc, parts),
         "certificate-type" => wire::whole::<CertType>(alloc, bytes),
         "time" => wire::whole::<UnixTime>(alloc, bytes),
         "end-time" => wire::whole::<EndTime>(alloc, bytes),
@@ -182,6 +183,8 @@ fn answer_of_entries(alloc: Global, question: &str, parts: &[Vec<u8>]) -> Result
     match question {
         "keys" => shown_by_program(alloc, &["keys"], part(parts, 0)),
         "hosts" => shown_by_program(alloc, &["hosts"], part(parts, 0)),
+        "each-key" => again::each_key(alloc, text(parts, 0)?),
+        "each-host" => again::each_host(alloc, text(parts, 0)?),
         "authorized-key" => entries::authorized(alloc, text(parts, 0)?),
         "strict-keys" => entries::strict(alloc, text(parts, 0)?),
         "config-options" => entries::options(alloc, text(parts, 0)?),
