@@ -17,8 +17,8 @@ impl<'s> Faulty<'s> {
     /// The source that has these bytes, and lacks so many behind them. Where it lacks none, a read
     /// past the bytes is refused as that of a slice.
     pub fn new(bytes: &'s [u8], missing: u32) -> Faulty<'s>
-        ensures bytes { result.bytes ≡ bytes }
-        ensures missing { result.missing ≡ missing }
+        ensures { ⟦<Faulty<'s> as Reader>⟧.source result
+            ≡ record { left = bytes.now; missing = missing; outer = [] } }
     {
         Faulty {
             bytes,

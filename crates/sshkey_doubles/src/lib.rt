@@ -1,9 +1,9 @@
-//! Verifiers, a signer, a generator and a source with a fault, for tests. No cryptography is in
+//! Verifiers, signers, a generator and a source with a fault, for tests. No cryptography is in
 //! them.
 #![tactic(auto)]
 
 mod doubles;
 mod faulty;
 
-pub use doubles::{AcceptAll, Count, Fixed, Only, RefuseAll};
+pub use doubles::{Absent, AcceptAll, Count, Fixed, Only, OutOfMemory, RefuseAll};
 pub use faulty::Faulty;

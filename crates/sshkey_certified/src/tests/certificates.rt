@@ -4,7 +4,7 @@ use super::certified::{Certified, each, ed25519_user, p256_host, p384_user, rsa_
 use base64::engine::general_purpose::STANDARD;
 use sshkey_base::{Algorithm, Error, HashAlg};
 use sshkey_cert::{Certificate, is_given};
-use sshkey_doubles::{AcceptAll, Only, RefuseAll};
+use sshkey_doubles::{AcceptAll, Only, OutOfMemory, RefuseAll};
 use sshkey_keys::{Fingerprint, KeyData};
 use sshkey_options::{MAX_SECS, OptionsMap};
 use std::alloc::Global;
@@ -250,4 +250,27 @@ fn digest_is_given(alloc: Global, made: &Certified) -> bool {
 #[test]
 fn an_authority_is_given_by_sha256(rt: HostRuntime) {
     assert!(rt; digest_is_given(rt.alloc(), &ed25519_user()));
+}
+
+/// A verifier that is out of memory has no answer.
+fn is_unanswered(alloc: Global, certificate: &Certificate) -> bool {
+    match authorities(alloc, certificate) {
+        Some(given) => {
+            let at = certificate.valid_after();
+            certificate.validate_at(alloc, at, &given, &OutOfMemory) == Err(Error::Memory)
+        }
+        None => false,
+    }
+}
+
+fn stays_unanswered(alloc: Global, made: &Certified) -> bool {
+    match read(alloc, made) {
+        Some(certificate) => is_unanswered(alloc, &certificate),
+        None => false,
+    }
+}
+
+#[test]
+fn a_verifier_out_of_memory(rt: HostRuntime) {
+    assert!(rt; stays_unanswered(rt.alloc(), &ed25519_user()));
 }

@@ -7,7 +7,7 @@ use base64::engine::general_purpose::STANDARD;
 use sshkey_base::{Error, encoding};
 use sshkey_cert::Certificate;
 use sshkey_cert_ref::CertificateRef;
-use sshkey_doubles::{Only, RefuseAll};
+use sshkey_doubles::{Only, OutOfMemory, RefuseAll};
 use sshkey_keys::Fingerprint;
 use sshkey_options_ref::OptionsRef;
 use std::alloc::Global;
@@ -158,6 +158,7 @@ fn is_valid_by(
             let at = slice.valid_after();
             slice.validate_at(alloc, at, &given, knower).is_ok()
                 && slice.validate_at(alloc, at, &given, &RefuseAll).is_err()
+                && slice.validate_at(alloc, at, &given, &OutOfMemory) == Err(Error::Memory)
                 && slice.validate_at(alloc, at, &given[1..], knower).is_err()
                 && slice
                     .validate_at(alloc, slice.valid_before(), &given, knower)

@@ -3,7 +3,7 @@
 use super::signed_files::{MESSAGE, SIGNED, SIGNED_FILES, SignedFile};
 use ssh_key::public::{Ed25519PublicKey, KeyData, SkEd25519};
 use ssh_key::{Algorithm, Error, HashAlg, PublicKey, Result, Signature, SshSig};
-use sshkey_doubles::{AcceptAll, Fixed, Only, RefuseAll};
+use sshkey_doubles::{Absent, AcceptAll, Fixed, Only, OutOfMemory, RefuseAll};
 use std::alloc::Global;
 
 /// An Ed25519 key.
@@ -214,4 +214,27 @@ fn files_that_openssh_signed_are_verified(rt: HostRuntime) {
     for file in &SIGNED_FILES {
         assert!(rt; holds(rt.alloc(), file), "{}", file.algorithm);
     }
+}
+
+/// A signer that refuses makes no signature, and its error is handed on.
+fn is_handed_on(alloc: Global) -> bool {
+    let signer = Absent::new(KeyData::from(Ed25519PublicKey(K)));
+    SshSig::sign(alloc, &signer, "file", HashAlg::Sha256, b"").err() == Some(Error::Crypto)
+}
+
+/// A verifier that is out of memory has no answer.
+fn is_unanswered(alloc: Global, key: &PublicKey) -> bool {
+    match made(alloc, "file") {
+        Ok(signature) => {
+            key.verify(alloc, "file", b"", &signature, &OutOfMemory) == Err(Error::Memory)
+        }
+        Err(_) => false,
+    }
+}
+
+#[test]
+fn signers_and_verifiers_that_fail(rt: HostRuntime) {
+    let alloc = rt.alloc();
+    assert!(rt; is_handed_on(alloc));
+    assert!(rt; is_unanswered(alloc, &key_of(alloc, K)));
 }
