@@ -21,4 +21,4 @@ returns-in_err-from_bytes c =
     rw (p.1, p.2) (value_refused IsKeyIn encoding_cause cause (whole key_at) c.args.bytes.now (fit_bytes c.args.bytes.now (λ i. omega (arith, c.type_inv.bytes i))) _ _ c.in_ok-string.ensures.gives (key_refused key_bytes cause _ _ c.in_err-from_bytes.ensures.keeps))
 
 pub returns : goal.returns
-returns c = value_taken IsKeyIn encoding_cause cause (whole key_at) c.args.bytes.now (fit_bytes c.args.bytes.now (λ i. omega (arith, c.type_inv.bytes i))) _ _ c.in_ok-string.ensures.gives (key_kept key_bytes cause _ _ c.in_ok-from_bytes.ensures.keeps)
+returns c = value_taken IsKeyIn encoding_cause cause (whole key_at) c.args.bytes.now (fit_bytes c.args.bytes.now (λ i. omega (arith, c.type_inv.bytes i))) _ c.in_ok-from_bytes.field-0 c.in_ok-string.ensures.gives (key_kept key_bytes cause _ c.in_ok-from_bytes.field-0 c.in_ok-from_bytes.ensures.keeps)
