@@ -1,5 +1,6 @@
 pub mod PaddedReaders
 pub mod InnerReaders
+pub mod ReadHalves
 pub mod KeyReaders
 pub mod KeyValues
 pub mod KeyForms

@@ -36,23 +36,23 @@ use std::alloc::Global;
 pub(crate) fn decode_inner<R: Reader>(
     alloc: Global,
     reader: &mut R,
-    public: KeyData,
+    public: &KeyData,
 ) -> Result<Inner>
-    ensures gives { Gives inner_of cause (box_at (padded_from (inner_at (key_of public))))
+    ensures gives { Gives inner_of cause (box_at (padded_from (inner_at (key_of public.now))))
         (R.source reader.old) result (R.source reader.new) }
     ensures later { Later (R.source reader.old) (R.source reader.new) }
-    ensures asks { Asks cause (NeedsBoxed (NeedsPadded (NeedsInner (key_of public))))
+    ensures asks { Asks cause (NeedsBoxed (NeedsPadded (NeedsInner (key_of public.now))))
         (R.source reader.old) result }
 {
     reader.read_prefixed(|part| padded_inner_from(alloc, part, public))
 }
 
 /// The same up to the end of the reader, without the length before it.
-fn padded_inner_from<R: Reader>(alloc: Global, reader: &mut R, public: KeyData) -> Result<Inner>
-    ensures gives { Gives inner_of cause (to_end (padded_from (inner_at (key_of public))))
+fn padded_inner_from<R: Reader>(alloc: Global, reader: &mut R, public: &KeyData) -> Result<Inner>
+    ensures gives { Gives inner_of cause (to_end (padded_from (inner_at (key_of public.now))))
         (R.source reader.old) result (R.source reader.new) }
     ensures later { Later (R.source reader.old) (R.source reader.new) }
-    ensures asks { Asks cause (NeedsPadded (NeedsInner (key_of public)))
+    ensures asks { Asks cause (NeedsPadded (NeedsInner (key_of public.now)))
         (R.source reader.old) result }
 {
     if reader.remaining_len() % 8 != 0 {
@@ -65,18 +65,17 @@ fn padded_inner_from<R: Reader>(alloc: Global, reader: &mut R, public: KeyData) 
 
 /// The checkint twice, the pair of that public key, and the comment.
 #[tactic(auto, using(sshkey_base::proofs::Steps::steps), unfolding(crate::specs::Inner::inner_at))]
-fn inner_from<R: Reader>(alloc: Global, reader: &mut R, public: KeyData) -> Result<Inner>
-    ensures gives { Gives inner_of cause (inner_at (key_of public))
+fn inner_from<R: Reader>(alloc: Global, reader: &mut R, public: &KeyData) -> Result<Inner>
+    ensures gives { Gives inner_of cause (inner_at (key_of public.now))
         (R.source reader.old) result (R.source reader.new) }
     ensures later { Later (R.source reader.old) (R.source reader.new) }
-    ensures asks { Asks cause (NeedsInner (key_of public)) (R.source reader.old) result }
+    ensures asks { Asks cause (NeedsInner (key_of public.now)) (R.source reader.old) result }
 {
     let checkint = checkint_from(alloc, reader)?;
-    let pair = pair_from(alloc, reader, &public)?;
+    let pair = pair_from(alloc, reader, public)?;
     let comment = Text::decode(alloc, reader)?;
     Ok(Inner {
         checkint,
-        public,
         pair,
         comment,
     })

@@ -1,15 +1,17 @@
 //! How private keys are read.
 
-ghost use Rattle.std.specs.Prelude.{◌≡◌, [], false, Some, option_map, IfOk};
+ghost use Rattle.std.specs.Prelude.{◌≡◌, [], false, true, Some, option_map, IfOk};
 ghost use Rattle.sshkey_base.specs.Causes.{cause};
 ghost use Rattle.sshkey_base.specs.Needs.{Asks, NeedsBoxed, NeedsString};
 ghost use Rattle.sshkey_base.specs.Reading.{Gives};
 ghost use Rattle.sshkey_base.specs.Source.{Later};
+ghost use Rattle.sshkey_keypairs.specs.Keypairs.{pair_of};
 ghost use Rattle.sshkey_keys.specs.Keys.{key_of};
 ghost use Rattle.sshkey_model.specs.Grammar.{value_at};
 ghost use Rattle.sshkey_model.specs.KeyDerivation.{NoCipher};
 ghost use Rattle.sshkey_model.specs.PrivateKeys.{Unencrypted, unencrypted_at};
 ghost use Rattle.sshkey_ciphers.specs.Ciphers.{cipher_of, kdf_of};
+ghost use Rattle.sshkey_private.specs.Halves.{is_half};
 ghost use Rattle.sshkey_private.specs.Inner.{NeedsInner, inner_of};
 ghost use Rattle.sshkey_private.specs.Paddings.{NeedsPadded};
 ghost use Rattle.sshkey_private.specs.PrivateKeyReaders.{steps_at, last_content_at, last_encrypted_at, NeedsContent, NeedsPrivateKey};
@@ -70,17 +72,17 @@ fn unencrypted_from<R: Reader>(alloc: Global, reader: &mut R, public: KeyData) -
         (R.source reader.old) result }
     ensures plain { IfOk result (λ k. is_encrypted (private_of k) ≡ false) }
 {
-    let inner = decode_inner(alloc, reader, public)?;
-    Ok(from_inner(inner))
+    let inner = decode_inner(alloc, reader, &public)?;
+    Ok(from_inner(inner, public))
 }
 
-/// The private key of that part.
-fn from_inner(inner: Inner) -> PrivateKey
+/// The private key of that part and its public key.
+fn from_inner(inner: Inner, public: KeyData) -> PrivateKey
+    requires { is_half (pair_of inner.pair) (key_of public) ≡ true }
     ensures { Some (private_of result) ≡ option_map Unencrypted (inner_of inner) }
 {
     let Inner {
         checkint,
-        public,
         pair,
         comment,
     } = inner;

@@ -11,5 +11,5 @@ use Rattle.sshkey_private.proofs.inner.decode_inner.Goals as goal
 
 pub returns-clause-gives : goal.returns-clause-gives
 returns-clause-gives g c =
-    let read = padded_from (inner_at (key_of c.args.public)) in
+    let read = padded_from (inner_at (key_of c.args.public.now)) in
     same_gives inner_of cause (box_at (whole (to_end read))) (box_at read) _ _ _ (box_to_end read) (prefixed_gives _ _ _ _ _ inner_of (to_end read) (search rules) (search rules) _ _ _ c.read_prefixed.ensures.calls)

@@ -22,7 +22,7 @@ returns-in_err-comment-clause-later g c = later_then _ _ _ c.in_ok-checkint.ensu
 pub returns-in_err-comment-clause-asks : goal.returns-in_err-comment-clause-asks
 returns-in_err-comment-clause-asks g c =
     let p = err_from_is_err_and c.from_residual-in_err-comment.result c.from_residual-in_err-comment.ensures.1 in
-    rw (p.1, p.2, same_cause c.in_err-comment.field-0.0) (asks_later (λ n. n) NoNeed (λ n. NeedsBoth NeedsKeypair (pair_with_at (key_of c.args.public)) NeedsString) checkint_at _ _ _ _ c.in_ok-checkint.ensures.gives (asks_later pair_of NeedsKeypair (λ k. NeedsString) (pair_with_at (key_of c.args.public)) _ _ _ _ c.in_ok-pair.ensures.gives c.in_err-comment.ensures.asks))
+    rw (p.1, p.2, same_cause c.in_err-comment.field-0.0) (asks_later (λ n. n) NoNeed (λ n. NeedsBoth NeedsKeypair (pair_with_at (key_of c.args.public.now)) NeedsString) checkint_at _ _ _ _ c.in_ok-checkint.ensures.gives (asks_later pair_of NeedsKeypair (λ k. NeedsString) (pair_with_at (key_of c.args.public.now)) _ _ _ _ c.in_ok-pair.ensures.gives c.in_err-comment.ensures.asks))
 
 pub returns-clause-later : goal.returns-clause-later
 returns-clause-later g c = later_then _ _ _ c.in_ok-checkint.ensures.later (later_then _ _ _ c.in_ok-pair.ensures.later c.in_ok-comment.ensures.later)

@@ -1,4 +1,4 @@
-use Rattle.std.proofs.Common.{◌≡◌, ◌≢◌, ◌%◌, length, refl, rules, eq-eqb}
+use Rattle.std.proofs.Common.{◌≡◌, ◌%◌, length, refl, rules, eq-eqb}
 use Rattle.std.proofs.lemmas.Bool.{ne_eqb}
 use Rattle.sshkey_model.specs.KeyDerivation.{block_size}
 use Rattle.sshkey_ciphers.specs.Ciphers.{cipher_of}
