@@ -7,13 +7,16 @@ mod again;
 mod bytes;
 mod entries;
 mod faulty;
+mod issued;
 mod keys;
 mod kinds;
 mod names;
+mod narrow;
 mod privates;
 mod questions;
 mod signatures;
 mod slices;
+mod validity;
 mod wire;
 
 use std::io::{self, BufRead, BufReader, Write};

@@ -2,7 +2,10 @@
 
 use crate::bytes::{NO_LINE, part, parts, text};
 use crate::wire::shown;
-use crate::{again, entries, faulty, keys, kinds, names, privates, signatures, slices, wire};
+use crate::{
+    again, entries, faulty, issued, keys, kinds, names, narrow, privates, signatures, slices,
+    validity, wire,
+};
 use sshkey_base::{Algorithm, AlgorithmName, EcdsaCurve, Error, HashAlg, Mpint, Result};
 use sshkey_cert::Certificate;
 use sshkey_keys::{Fingerprint, KeyData, Signature};
@@ -18,15 +21,13 @@ use std::alloc::Global;
 /// The answer to a line: a question and the byte strings that it is about.
 pub(crate) fn answer_line(alloc: Global, line: &str) -> Result<String> {
     let (question, words) = line.split_once(' ').unwrap_or((line, ""));
-    if question == "beginnings" {
-        let (question, words) = words.split_once(' ').unwrap_or((words, ""));
-        return beginnings(alloc, question, part(&parts(alloc, words)?, 0));
+    let (kind, behind) = words.split_once(' ').unwrap_or((words, ""));
+    match question {
+        "beginnings" => beginnings(alloc, kind, part(&parts(alloc, behind)?, 0)),
+        "faulty" => faulty::value(alloc, kind, part(&parts(alloc, behind)?, 0)),
+        "narrow" => narrow::value(alloc, kind, part(&parts(alloc, behind)?, 0)),
+        _ => answer(alloc, question, &parts(alloc, words)?),
     }
-    if question == "faulty" {
-        let (kind, words) = words.split_once(' ').unwrap_or((words, ""));
-        return faulty::value(alloc, kind, part(&parts(alloc, words)?, 0));
-    }
-    answer(alloc, question, &parts(alloc, words)?)
 }
 
 /// The answers to a question about each beginning of the bytes, from none of them to all.
@@ -158,6 +159,7 @@ fn answer_of_slices(alloc: Global, question: &str, parts: &[Vec<u8>]) -> Result<
         "texts-slice" => slices::texts(alloc, bytes),
         "options-slice" => slices::options(alloc, bytes),
         "certificate-slice" => slices::certificate(alloc, bytes),
+        "validity-slice" => validity::slice(alloc, parts),
         _ => answer_of_certificates(alloc, question, parts),
     }
 }
@@ -171,6 +173,8 @@ fn answer_of_certificates(alloc: Global, question: &str, parts: &[Vec<u8>]) -> R
         "time" => wire::whole::<UnixTime>(alloc, bytes),
         "end-time" => wire::whole::<EndTime>(alloc, bytes),
         "certificate" => wire::whole::<Certificate>(alloc, bytes),
+        "issued" => issued::certificate(alloc, parts),
+        "validity" => validity::owned(alloc, parts),
         "private-key" => privates::whole(alloc, bytes),
         "private-key-in-front" => privates::front(alloc, bytes),
         "private-key-with-comment" => privates::commented(alloc, parts),
