@@ -5,7 +5,7 @@ use sshkey_base::certificate::Field;
 use sshkey_base::{Error, HashAlg};
 use sshkey_builder::Builder;
 use sshkey_cert::Certificate;
-use sshkey_doubles::{AcceptAll, Count, Fixed, RefuseAll};
+use sshkey_doubles::{Absent, AcceptAll, Count, Fixed, RefuseAll};
 use sshkey_keys::{Fingerprint, KeyData};
 use sshkey_kinds::Ed25519PublicKey;
 use sshkey_options::{FOREVER, MAX_SECS};
@@ -39,11 +39,21 @@ fn builder(alloc: Global, valid_after: u64, valid_before: u64) -> Result<Builder
     Builder::new(alloc, nonce, KEY, valid_after, valid_before)
 }
 
+/// The same builder for all principals.
+fn for_all(builder: Builder) -> Result<Builder, Error> {
+    let mut builder = builder;
+    builder.all_principals_valid()?;
+    Ok(builder)
+}
+
+/// What `Fixed` signs of the builder.
+fn signed(alloc: Global, builder: Builder) -> Result<Certificate, Error> {
+    builder.sign(alloc, &signer())
+}
+
 /// The certificate of the first lines.
 fn issued(alloc: Global) -> Result<Certificate, Error> {
-    let mut builder = builder(alloc, 10, 20)?;
-    builder.all_principals_valid()?;
-    builder.sign(alloc, &signer())
+    signed(alloc, for_all(builder(alloc, 10, 20)?)?)
 }
 
 fn is_written(alloc: Global, certificate: &Certificate, blob: &[u8]) -> bool {
@@ -78,6 +88,16 @@ fn issued_is_spelled(alloc: Global) -> bool {
 #[test]
 fn one_is_issued_down_to_the_byte(rt: HostRuntime) {
     assert!(rt; issued_is_spelled(rt.alloc()));
+}
+
+/// What a signer that refuses makes of the builder of the first lines.
+fn by_absent_signer(alloc: Global) -> Result<Certificate, Error> {
+    for_all(builder(alloc, 10, 20)?)?.sign(alloc, &Absent::new(KEY))
+}
+
+#[test]
+fn a_signer_that_refuses_is_handed_on(rt: HostRuntime) {
+    assert!(rt; by_absent_signer(rt.alloc()).err() == Some(Error::Crypto));
 }
 
 /// What a validation at that time answers, for the fingerprint of `KEY` by that hash.
@@ -130,9 +150,10 @@ fn other_judges_refuse_it(rt: HostRuntime) {
 /// The same certificate without an end.
 fn endless(alloc: Global) -> Result<Certificate, Error> {
     let nonce = Vec::from_slice(alloc, &[1])?;
-    let mut builder = Builder::new_forever(alloc, nonce, KEY, 10)?;
-    builder.all_principals_valid()?;
-    builder.sign(alloc, &signer())
+    signed(
+        alloc,
+        for_all(Builder::new_forever(alloc, nonce, KEY, 10)?)?,
+    )
 }
 
 fn is_endless(alloc: Global) -> bool {
@@ -155,11 +176,15 @@ fn without_an_end(rt: HostRuntime) {
     assert!(rt; endless_at(rt.alloc(), MAX_SECS + 1) == Err(Error::Time));
 }
 
-/// A certificate for `a` alone.
-fn issued_to_one(alloc: Global) -> Result<Certificate, Error> {
-    let mut builder = builder(alloc, 10, 20)?;
+/// The same builder for `a` alone.
+fn for_one(alloc: Global, builder: Builder) -> Result<Builder, Error> {
+    let mut builder = builder;
     builder.valid_principal(String::from_str(alloc, "a")?)?;
-    builder.sign(alloc, &signer())
+    Ok(builder)
+}
+
+fn issued_to_one(alloc: Global) -> Result<Certificate, Error> {
+    signed(alloc, for_one(alloc, builder(alloc, 10, 20)?)?)
 }
 
 /// What its validation for a wanted principal answers.
@@ -227,12 +252,15 @@ fn a_builder_is_told_once_and_told_whom(rt: HostRuntime) {
     assert!(rt; is_unnamed(rt.alloc()));
 }
 
+/// A builder whose nonce the generator draws.
+fn drawn(alloc: Global, count: &mut Count) -> Result<Builder, Error> {
+    Builder::new_with_random_nonce(alloc, count, KEY, 10, 20)
+}
+
 /// A drawn nonce is these bytes, and the generator goes on with that number.
 fn is_drawn(alloc: Global, nonce: &[u8; 16], next: u64) -> Result<bool, Error> {
     let mut count = Count::new();
-    let mut builder = Builder::new_with_random_nonce(alloc, &mut count, KEY, 10, 20)?;
-    builder.all_principals_valid()?;
-    let certificate = builder.sign(alloc, &signer())?;
+    let certificate = signed(alloc, for_all(drawn(alloc, &mut count)?)?)?;
     Ok(certificate.nonce() == nonce.as_slice() && count.next_u64() == next)
 }
 

@@ -49,6 +49,20 @@ fn a_missing_file_is_not_found(rt: HostRuntime) {
     assert!(rt; found == Some(Error::Io(ErrorKind::NotFound)));
 }
 
+/// The fault that is met where the key of the line is written.
+fn fault_of_writing<R: Files>(rt: &R, alloc: Global, path: &str) -> Option<Error> {
+    match PublicKey::from_openssh(alloc, LINE) {
+        Ok(key) => key.write_openssh_file(rt, alloc, path).err(),
+        Err(_) => None,
+    }
+}
+
+#[test]
+fn a_file_in_no_folder_is_not_written(rt: HostRuntime) {
+    let met = fault_of_writing(&rt, rt.alloc(), "no_such_folder/key.pub");
+    assert!(rt; met == Some(Error::Io(ErrorKind::NotFound)));
+}
+
 #[test]
 fn a_file_that_is_no_text_is_refused(rt: HostRuntime) {
     assert!(rt; fs::write(&rt, "no_text.pub", b"\xff").is_ok());

@@ -2,7 +2,7 @@
 
 use super::openssh::{EACH, Made};
 use sshkey_base::{Algorithm, Error, decode_whole};
-use sshkey_doubles::{AcceptAll, Fixed, Only, RefuseAll};
+use sshkey_doubles::{AcceptAll, Fixed, Only, OutOfMemory, RefuseAll};
 use sshkey_keys::{KeyData, Signature, SigningKey};
 use sshkey_keys_ref::{KeyDataRef, SignatureRef};
 use sshkey_kinds::{Ed25519PublicKey, OpaquePublicKey, SkEd25519};
@@ -89,6 +89,9 @@ fn is_accepted_as_slice(alloc: Global, key: &KeyDataRef<'_>, made: &Made) -> boo
                 && key
                     .accepts(alloc, b"message", &signature, &only)
                     .is_ok_and(|yes| !yes)
+                && key
+                    .accepts(alloc, made.signed, &signature, &OutOfMemory)
+                    .is_err()
         }
         Err(_) => false,
     }
@@ -152,7 +155,8 @@ fn a_private_use_key_is_unsupported(rt: HostRuntime) {
     assert!(rt; answer == Ok(true));
 }
 
-/// The signature is 64 bytes 00 by Ed25519, which the signer's own verifier alone accepts.
+/// The signature is 64 bytes 00 by Ed25519, which the signer's own verifier alone accepts. One that
+/// is out of memory has no answer.
 fn is_of_signer(alloc: Global, signer: &Fixed, message: &[u8], signature: &Signature) -> bool {
     let key = signer.public_key();
     *key == KeyData::Ed25519(KEY)
@@ -160,6 +164,7 @@ fn is_of_signer(alloc: Global, signer: &Fixed, message: &[u8], signature: &Signa
         && signature.as_bytes() == [0; 64].as_slice()
         && key.verify(alloc, message, signature, signer.raw()) == Ok(())
         && key.verify(alloc, message, signature, &RefuseAll) == Err(Error::Crypto)
+        && key.verify(alloc, message, signature, &OutOfMemory) == Err(Error::Memory)
 }
 
 /// What `Fixed` signs is such a signature.
