@@ -16,13 +16,16 @@ impl SshSig {
         ensures same { IfOk result (λ f. ssh_signature_of f ≡ ssh_signature_of self.now) }
         ensures refused { IfErr result (λ e. e ≡ Error.Memory) }
     {
+        let namespace = self.namespace.try_clone(alloc)?;
+        let reserved = self.reserved.try_clone(alloc)?;
+        let signature = self.signature.try_clone(alloc)?;
         Ok(SshSig {
             version: self.version,
             public_key: self.public_key.try_clone(alloc)?,
-            namespace: self.namespace.try_clone(alloc)?,
-            reserved: self.reserved.try_clone(alloc)?,
+            namespace,
+            reserved,
             hash_alg: self.hash_alg,
-            signature: self.signature.try_clone(alloc)?,
+            signature,
         })
     }
 
