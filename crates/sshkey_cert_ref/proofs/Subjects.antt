@@ -1,5 +1,5 @@
 -- The certified key under its name.
-use Rattle.std.proofs.Common.{◌≡◌, ℕ, List, ◌++◌, Ok, refl, sym, ap, ◌∙◌}
+use Rattle.std.proofs.Common.{◌≡◌, ℕ, List, ◌++◌, Ok, sym, ap, ◌∙◌}
 use Rattle.std.proofs.lemmas.List.{append_cancel_right}
 use Rattle.sshkey_model.specs.CertificateNames.{certificate_name, certified_from}
 use Rattle.sshkey_model.specs.Keys.{Key, key_algorithm, body, body_at}

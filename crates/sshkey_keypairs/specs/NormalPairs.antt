@@ -1,5 +1,5 @@
 -- The normal form of a pair is one of its spellings.
-use Rattle.std.proofs.Common.{◌≡◌, ℕ, Option, Some, None, List, refl}
+use Rattle.std.proofs.Common.{Option, Some, None, refl}
 use Rattle.sshkey_model.specs.Parts.{flat, Fits}
 use Rattle.sshkey_model.specs.Grammar.{SpellsWith}
 use Rattle.sshkey_model.specs.KeyPairs.{KeyPair, IsKeyPair, HasKeyPairPlaces, keypair, plain_pair, normal_keypair}

@@ -1,9 +1,9 @@
 -- What a call gives that takes values off the front of a slice, without memory.
-use Rattle.std.specs.Prelude.{◌≡◌, ℕ, List, ◌++◌, Option, Some, None, Result, Ok, Err, IsOkAnd, IsErrAnd}
+use Rattle.std.specs.Prelude.{◌≡◌, ℕ, List, ◌++◌, Option, Some, None, Result, Ok, Err}
 use denote.Ref.{Bor}
 use Rattle.sshkey_model.specs.Reading.{Fault, Front}
-use Rattle.sshkey_base.specs.Causes.{Cause, Faulty}
-use Rattle.sshkey_base.specs.Reading.{Refuses, GivesAlways, NoFront, NoSpelling}
+use Rattle.sshkey_base.specs.Causes.{Cause}
+use Rattle.sshkey_base.specs.Reading.{Refuses, GivesAlways, NoFront}
 use Rattle.sshkey_base.specs.Source.{all_of}
 
 -- What the plain reader gives of the bytes, and the rest is left.

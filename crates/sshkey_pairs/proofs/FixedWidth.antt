@@ -1,5 +1,5 @@
 -- Numbers at a fixed width are read as the model reads scalars.
-use Rattle.std.proofs.Common.{◌≡◌, ◌≢◌, replicate, append-nil, eqb, slice_index, ℕ, suc, ◌-◌, ◌<◌, ◌≤◌, Bool, true, false, cond, ltb, List, [], ◌∷◌, ◌++◌, length, take, drop, Result, Ok, Err, refl, sym, ap, ◌∙◌, arith, ◌+◌, append_assoc}
+use Rattle.std.proofs.Common.{◌≡◌, ◌≢◌, replicate, append-nil, eqb, slice_index, ℕ, suc, ◌-◌, ◌<◌, ◌≤◌, Bool, true, false, cond, ltb, List, [], ◌∷◌, ◌++◌, length, take, drop, Result, Ok, Err, refl, sym, ap, ◌∙◌, arith, ◌+◌}
 use Rattle.std.specs.Int.{w32}
 use Rattle.std.proofs.lemmas.Bool.{le-ltb, lt-ltb, ltb-false, eq-eqb, ne_eqb}
 use Rattle.std.proofs.lemmas.List.{length-take, length-drop, length-append, length-replicate, take-replicate, take-append-drop, nil_from_length}
@@ -9,7 +9,7 @@ use Rattle.sshkey_model.specs.Parts.{are_bytes}
 use Rattle.sshkey_model.specs.Reading.{Fault, Length, FormatEncoding, TrailingData, ◌>>=◌, Front, all_from, number_at, bytes_at, box_at, checked_at, checked_whole}
 use Rattle.sshkey_model.specs.Grammar.{value_at}
 use Rattle.sshkey_model.specs.KeyPairs.{LeadingZeros, Plain, WithoutZero, WithZero, is_high, is_natural, at_width, scalar_behind_zero, scalar_from, scalar_whole, scalar_at}
-use Rattle.sshkey_model.proofs.CombinedReaders.{done, bind_assoc, bind_same, are_bytes-append}
+use Rattle.sshkey_model.proofs.CombinedReaders.{done, bind_assoc, bind_same}
 use Rattle.sshkey_base.proofs.Places.{advances_both}
 use Rattle.sshkey_base.proofs.Steps.{few_refused, front_reads, refuses_first}
 use Rattle.sshkey_base.specs.declared.encoding.Error.{Error}

@@ -1,6 +1,5 @@
 use Rattle.std.specs.Prelude.{ℕ, List, Bool, Result, Ok, Err, OnOk}
 use Rattle.sshkey_base.specs.declared.error.Error.{Error}
-use Rattle.sshkey_base.specs.Causes.{cause}
 use Rattle.sshkey_base.specs.Reading.{SpelledWhole}
 use Rattle.sshkey_base.specs.Source.{all_of}
 use Rattle.sshkey_model.specs.Lines.{IsKeyLine}

@@ -1,6 +1,5 @@
-use Rattle.std.proofs.Common.{◌≡◌, ap, sym, refl, List, ℕ, [], Bool, Option, Some, None, false, true≢false, nat_eq, ◌∙◌}
+use Rattle.std.proofs.Common.{◌≡◌, ap, refl, List, ℕ, [], Bool, Option, Some, None, false, nat_eq}
 use Rattle.std.specs.Bool.{Decides}
-use Rattle.std.proofs.lemmas.Bool.{eqb-false}
 use Rattle.std.proofs.lemmas.Bool.Decides.{Decides-like}
 use Rattle.std.proofs.lemmas.Slice.Eq.{bytes_eq-Decides}
 use Rattle.sshkey_base.proofs.Comparisons.{apart_by}

@@ -1,4 +1,4 @@
-use Rattle.std.proofs.Common.{◌≡◌, ℕ, List, Vec, String, Global, bytes_eq, refl, sym, ap, ◌∙◌}
+use Rattle.std.proofs.Common.{◌≡◌, Vec, String, Global, bytes_eq, refl, sym, ap, ◌∙◌}
 use Rattle.std.specs.Bool.{Decides}
 use Rattle.std.specs.Cmp.Lexicographic.{pointwise}
 use Rattle.std.specs.Cmp.{unsigned_Decides}
@@ -9,7 +9,6 @@ use Rattle.std.proofs.lemmas.Slice.Eq.{bytes_eq-Decides, slice_eq-Decides}
 use Rattle.sshkey_model.specs.Certificates.{SignedFields}
 use Rattle.sshkey_base.specs.TextLists.{texts_of}
 use Rattle.sshkey_base.specs.Comparisons.{bytes_cmp}
-use Rattle.sshkey_unsigned.specs.declared.unsigned.Unsigned.{Unsigned}
 use Rattle.sshkey_unsigned.specs.UnsignedValues.{unsigned_of}
 use Rattle.sshkey_base.proofs.Comparisons.{both, after, last_of_all}
 use Rattle.sshkey_unsigned.proofs.laws.compared_signed_fields.Goals as goal
