@@ -66,9 +66,9 @@ pub returns-clause-gives : goal.returns-clause-gives
 unfolding sk_ecdsa_at curve_at label_at
 returns-clause-gives g c = elim c.match-matches.branch [
   | in-NistP256 w ↦ record {
-      value = rw (c.in_ok-stated.ensures.gives.value, w.in-NistP256.is, c.in_ok-ec_point.ensures.gives.value, c.in_ok-application.ensures.gives.value) refl;
-      missing = c.in_ok-application.ensures.gives.missing ∙ c.in_ok-ec_point.ensures.gives.missing ∙ c.in_ok-stated.ensures.gives.missing;
-      outer = c.in_ok-application.ensures.gives.outer ∙ c.in_ok-ec_point.ensures.gives.outer ∙ c.in_ok-stated.ensures.gives.outer;
-    }
+    value = rw (c.in_ok-stated.ensures.gives.value, w.in-NistP256.is, c.in_ok-ec_point.ensures.gives.value, c.in_ok-application.ensures.gives.value) refl;
+    missing = c.in_ok-application.ensures.gives.missing ∙ c.in_ok-ec_point.ensures.gives.missing ∙ c.in_ok-stated.ensures.gives.missing;
+    outer = c.in_ok-application.ensures.gives.outer ∙ c.in_ok-ec_point.ensures.gives.outer ∙ c.in_ok-stated.ensures.gives.outer;
+  }
   | in_default w ↦ absurd (let f = c.if-not-matches.false in let m = w.matches-is in cc)
 ]
