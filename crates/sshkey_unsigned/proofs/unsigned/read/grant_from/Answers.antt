@@ -49,3 +49,26 @@ returns-clause-gives g c = record {
   missing = c.in_ok-valid_principals.ensures.gives.missing ∙ c.in_ok-key_id.ensures.gives.missing ∙ c.in_ok-cert_type.ensures.gives.missing ∙ c.in_ok-serial.ensures.gives.missing;
   outer = c.in_ok-valid_principals.ensures.gives.outer ∙ c.in_ok-key_id.ensures.gives.outer ∙ c.in_ok-cert_type.ensures.gives.outer ∙ c.in_ok-serial.ensures.gives.outer;
 }
+
+pub returns-in_err-serial-clause-gives : goal.returns-in_err-serial-clause-gives
+unfolding grant_at
+returns-in_err-serial-clause-gives g c =
+    let p = err_from_is_err_and c.from_residual.result c.from_residual.ensures.1 in
+    rw (p.1, p.2, same_cause) (refused_first _ _ _ _ c.in_err-serial.ensures.gives)
+
+pub returns-in_err-serial-clause-asks : goal.returns-in_err-serial-clause-asks
+returns-in_err-serial-clause-asks g c =
+    let p = err_from_is_err_and c.from_residual.result c.from_residual.ensures.1 in
+    rw (p.1, p.2, same_cause) (λ memory sound. inl (c.in_err-serial.ensures.asks memory sound))
+
+pub returns-in_err-serial-clause-later : goal.returns-in_err-serial-clause-later
+returns-in_err-serial-clause-later g c = c.in_err-serial.ensures.later
+
+pub returns-in_err-cert_type-clause-later : goal.returns-in_err-cert_type-clause-later
+returns-in_err-cert_type-clause-later g c = later_then _ _ _ c.in_ok-serial.ensures.later c.in_err-cert_type.ensures.later
+
+pub returns-in_err-key_id-clause-later : goal.returns-in_err-key_id-clause-later
+returns-in_err-key_id-clause-later g c = later_then _ _ _ c.in_ok-serial.ensures.later (later_then _ _ _ c.in_ok-cert_type.ensures.later c.in_err-key_id.ensures.later)
+
+pub returns-clause-later : goal.returns-clause-later
+returns-clause-later g c = later_then _ _ _ c.in_ok-serial.ensures.later (later_then _ _ _ c.in_ok-cert_type.ensures.later (later_then _ _ _ c.in_ok-key_id.ensures.later c.in_ok-valid_principals.ensures.later))
