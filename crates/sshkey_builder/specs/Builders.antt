@@ -1,6 +1,6 @@
 -- What a builder holds, and what its calls answer.
-use Rattle.std.specs.Prelude.{◌≡◌, ◌≢◌, Option, Some, None, option_map, Result, Ok, Err}
-use Rattle.sshkey_model.specs.Drafts.{Draft, DraftField, SerialField, KindField, KeyIdField, PrincipalsField, AfterField, BeforeField, CriticalField, ExtensionsField, CommentField, Step, after_step}
+use Rattle.std.specs.Prelude.{◌≡◌, ◌≢◌, ℕ, Option, Some, None, option_map, Result, Ok, Err}
+use Rattle.sshkey_model.specs.Drafts.{Draft, DraftField, SerialField, KindField, KeyIdField, PrincipalsField, AfterField, BeforeField, CriticalField, ExtensionsField, CommentField, Step, after_step, bad_window}
 use Rattle.sshkey_base.specs.TextLists.{texts_of}
 use Rattle.sshkey_base.specs.declared.certificate.field.Field.{Field}
 use Rattle.sshkey_base.specs.declared.certificate.field.Field.TheVariants as field
@@ -9,6 +9,8 @@ use Rattle.sshkey_base.specs.declared.error.Error.TheVariants as wide
 use Rattle.sshkey_keys.specs.Keys.{key_of}
 use Rattle.sshkey_options.specs.CertTypes.{type_of}
 use Rattle.sshkey_options.specs.OptionMaps.{options_of}
+use Rattle.sshkey_options.specs.declared.end_time.EndTime.{EndTime}
+use Rattle.sshkey_options.specs.declared.unix_time.UnixTime.{UnixTime}
 use Rattle.sshkey_options.specs.Times.{time_of, end_of}
 use Rattle.sshkey_builder.specs.declared.builder.Builder.{Builder}
 
@@ -78,6 +80,11 @@ ChainsAlways held s b (Ok r) = after_step s (draft_of b) ≡ Ok (draft_of (held 
 ChainsAlways held s b (Err e) = RefusesAlways (after_step s (draft_of b)) e
 
 -- ---- beginnings
+
+-- both times, unless one is bad
+abbrev pub IsWindow : ℕ → ℕ → Result (UnixTime × EndTime) Error → Type 0
+IsWindow valid_after valid_before (Ok w) = (bad_window valid_after valid_before ≡ None) × (time_of w.0 ≡ valid_after) × (end_of w.1 ≡ valid_before)
+IsWindow valid_after valid_before (Err e) = option_map field_error (bad_window valid_after valid_before) ≡ Some e
 
 -- The draft is begun, unless a time is bad.
 abbrev pub Begins : Option DraftField → Draft → Result Builder Error → Type 0

@@ -8,7 +8,7 @@ ghost use Rattle.sshkey_model.specs.Drafts.{Serial, Kind, KeyId, Comment, Princi
 ghost use Rattle.sshkey_options.specs.CertTypes.{type_of};
 ghost use Rattle.sshkey_options.specs.OptionMaps.{option_of};
 ghost use Rattle.sshkey_options.specs.Times.{end_of, time_of};
-ghost use Rattle.sshkey_builder.specs.Builders.{draft_of, Begins, BeginsInMemory, Chains, ChainsAlways};
+ghost use Rattle.sshkey_builder.specs.Builders.{draft_of, IsWindow, Begins, BeginsInMemory, Chains, ChainsAlways};
 
 mod set;
 mod sign;
@@ -59,16 +59,7 @@ impl Builder {
         ensures { Begins (bad_window valid_after valid_before)
             (begun nonce.items (key_of public_key) valid_after valid_before) result }
     {
-        let Ok(valid_after) = UnixTime::new(valid_after) else {
-            return Err(Error::CertificateFieldInvalid(Field::ValidAfter));
-        };
-        let Ok(valid_before) = UnixTime::new(valid_before) else {
-            return Err(Error::CertificateFieldInvalid(Field::ValidBefore));
-        };
-        if valid_before.secs() < valid_after.secs() {
-            return Err(Error::CertificateFieldInvalid(Field::ValidBefore));
-        }
-        let valid_before = EndTime::from(valid_before);
+        let (valid_after, valid_before) = window(valid_after, valid_before)?;
         Ok(Builder::begun(alloc, nonce, public_key, valid_after, valid_before))
     }
 
@@ -214,4 +205,21 @@ impl Builder {
         self.add_extension(name, value)?;
         Ok(self)
     }
+}
+
+/// Both times of a window. `CertificateFieldInvalid` of the first that is above 2^63 - 1, or of
+/// `valid_before` where that is before `valid_after`.
+fn window(valid_after: u64, valid_before: u64) -> Result<(UnixTime, EndTime)>
+    ensures { IsWindow valid_after valid_before result }
+{
+    let Ok(valid_after) = UnixTime::new(valid_after) else {
+        return Err(Error::CertificateFieldInvalid(Field::ValidAfter));
+    };
+    let Ok(valid_before) = UnixTime::new(valid_before) else {
+        return Err(Error::CertificateFieldInvalid(Field::ValidBefore));
+    };
+    if valid_before.secs() < valid_after.secs() {
+        return Err(Error::CertificateFieldInvalid(Field::ValidBefore));
+    }
+    Ok((valid_after, EndTime::from(valid_before)))
 }

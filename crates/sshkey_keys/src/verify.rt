@@ -120,9 +120,9 @@ fn ask_sk_ecdsa<V: RawVerifier>(
         (question_under SkEcdsa (sk_ecdsa_of key.now) message.now (signature_of signature.now))) }
 {
     let curve = EcdsaCurve::NistP256;
-    let plain = KeyData::Ecdsa(EcdsaPublicKey::NistP256(*key.ec_point()));
     let (blob, trailer) = split_trailer(signature.as_bytes());
     let signed = security_key_message(alloc, key.application(), trailer, message)?;
+    let plain = KeyData::Ecdsa(EcdsaPublicKey::NistP256(*key.ec_point()));
     verifier.verify(&Algorithm::Ecdsa { curve }, &plain, &signed, blob)
 }
 
@@ -138,9 +138,9 @@ fn ask_sk_ed25519<V: RawVerifier>(
         (question_under AlgorithmSkEd25519 (sk_ed25519_of key.now)
         message.now (signature_of signature.now))) }
 {
-    let plain = KeyData::Ed25519(*key.public_key());
     let (blob, trailer) = split_trailer(signature.as_bytes());
     let signed = security_key_message(alloc, key.application(), trailer, message)?;
+    let plain = KeyData::Ed25519(*key.public_key());
     verifier.verify(&Algorithm::Ed25519, &plain, &signed, blob)
 }
 

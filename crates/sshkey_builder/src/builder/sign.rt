@@ -1,6 +1,6 @@
 //! How what a builder holds is signed.
 
-ghost use Rattle.std.specs.Prelude.{◌≡◌, [], Err, IfOk, IfErr, IsSome, IsNone, IsErrOf, IsOkUnless, ◌↔◌};
+ghost use Rattle.std.specs.Prelude.{◌≡◌, [], Err, IfOk, IfErr, IsSome, IsNone};
 ghost use Rattle.sshkey_keys.specs.Keys.{key_of};
 ghost use Rattle.sshkey_model.specs.Drafts.{IsSignedDraft, IsValidThrough, drafted, or_default};
 ghost use Rattle.sshkey_model.specs.Fingerprints.{fingerprint};
@@ -45,17 +45,16 @@ impl Builder {
             return Err(Error::CertificateFieldInvalid(Field::ValidPrincipals));
         }
         let signature_key = signing_key.public_key().try_clone(alloc)?;
-        let (unsigned, comment) = self.fields(alloc, signature_key)?;
+        let (unsigned, comment) = self.fields(alloc, signature_key);
         Certificate::sign(alloc, unsigned, signing_key, comment)
     }
 
-    /// The fields, with the defaults for those that were not set, and the comment.
-    fn fields(self, alloc: Global, signature_key: KeyData) -> Result<(Unsigned, Text)>
-        ensures unnamed { IsErrOf result no_principals ↔ IsNone (draft_of self).valid_principals }
-        ensures only { IsOkUnless result no_principals }
-        ensures fields { IfOk result
-            (λ made. unsigned_of made.0 ≡ drafted (draft_of self) (key_of signature_key)) }
-        ensures comment { IfOk result (λ made. made.1 ≡ or_default [] (draft_of self).comment) }
+    /// The fields, with the defaults for those that were not set, and the comment. The principals
+    /// were named.
+    fn fields(self, alloc: Global, signature_key: KeyData) -> (Unsigned, Text)
+        requires { IsSome self.valid_principals }
+        ensures fields { unsigned_of result.0 ≡ drafted (draft_of self) (key_of signature_key) }
+        ensures comment { result.1 ≡ or_default [] (draft_of self).comment }
     {
         let Builder {
             alloc: _,
@@ -71,16 +70,13 @@ impl Builder {
             extensions,
             comment,
         } = self;
-        let Some(valid_principals) = valid_principals else {
-            return Err(Error::CertificateFieldInvalid(Field::ValidPrincipals));
-        };
         let unsigned = Unsigned {
             nonce,
             public_key,
             serial: serial.unwrap_or(0),
             cert_type: cert_type.unwrap_or(CertType::User),
             key_id: or_empty(alloc, key_id),
-            valid_principals,
+            valid_principals: valid_principals.unwrap(),
             valid_after,
             valid_before,
             critical_options,
@@ -88,7 +84,7 @@ impl Builder {
             reserved: Bytes::new(Vec::new(alloc)),
             signature_key,
         };
-        Ok((unsigned, or_empty(alloc, comment)))
+        (unsigned, or_empty(alloc, comment))
     }
 }
 
