@@ -8,6 +8,8 @@ use sshkey_doubles::{AcceptAll, Only, OutOfMemory, RefuseAll};
 use sshkey_keys::{Fingerprint, KeyData};
 use sshkey_options::{MAX_SECS, OptionsMap};
 use std::alloc::Global;
+use std::fs::Files;
+use std::io::ErrorKind;
 
 /// The bytes of a certificate.
 pub(super) fn blob_of(alloc: Global, made: &Certified) -> Option<Vec<u8>> {
@@ -273,4 +275,14 @@ fn stays_unanswered(alloc: Global, made: &Certified) -> bool {
 #[test]
 fn a_verifier_out_of_memory(rt: HostRuntime) {
     assert!(rt; stays_unanswered(rt.alloc(), &ed25519_user()));
+}
+
+/// No file of that name is found.
+fn is_missing<R: Files>(rt: &R, alloc: Global, path: &str) -> bool {
+    Certificate::read_file(rt, alloc, path).err() == Some(Error::Io(ErrorKind::NotFound))
+}
+
+#[test]
+fn a_missing_file_is_not_found(rt: HostRuntime) {
+    assert!(rt; is_missing(&rt, rt.alloc(), "no-such-cert.pub"));
 }

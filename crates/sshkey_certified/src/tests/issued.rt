@@ -1,11 +1,10 @@
 //! Certificates that a builder makes: their bytes, their windows, and what a builder refuses.
 
-use rand_core::Rng;
 use sshkey_base::certificate::Field;
 use sshkey_base::{Error, HashAlg};
 use sshkey_builder::Builder;
 use sshkey_cert::Certificate;
-use sshkey_doubles::{Absent, AcceptAll, Count, Fixed, RefuseAll};
+use sshkey_doubles::{Absent, AcceptAll, Fixed, RefuseAll};
 use sshkey_keys::{Fingerprint, KeyData};
 use sshkey_kinds::Ed25519PublicKey;
 use sshkey_options::{FOREVER, MAX_SECS};
@@ -100,6 +99,11 @@ fn a_signer_that_refuses_is_handed_on(rt: HostRuntime) {
     assert!(rt; by_absent_signer(rt.alloc()).err() == Some(Error::Crypto));
 }
 
+/// The fingerprint of `KEY`.
+fn fingerprint(alloc: Global, hash_alg: HashAlg) -> Result<Fingerprint, Error> {
+    KEY.fingerprint(alloc, hash_alg)
+}
+
 /// What a validation at that time answers, for the fingerprint of `KEY` by that hash.
 fn judged(
     alloc: Global,
@@ -107,13 +111,23 @@ fn judged(
     hash_alg: HashAlg,
     secs: u64,
 ) -> Result<(), Error> {
-    let given = [KEY.fingerprint(alloc, hash_alg)?];
+    let given = [fingerprint(alloc, hash_alg)?];
     certificate.validate_at(alloc, secs, &given, &AcceptAll)
+}
+
+/// What it answers of a certificate that was made here. It alone lets go of one.
+fn judged_once(
+    alloc: Global,
+    made: Result<Certificate, Error>,
+    hash_alg: HashAlg,
+    secs: u64,
+) -> Result<(), Error> {
+    judged(alloc, &made?, hash_alg, secs)
 }
 
 /// What the issued certificate's validation at that time answers.
 fn answer_at(alloc: Global, secs: u64) -> Result<(), Error> {
-    judged(alloc, &issued(alloc)?, HashAlg::Sha256, secs)
+    judged_once(alloc, issued(alloc), HashAlg::Sha256, secs)
 }
 
 #[test]
@@ -127,7 +141,7 @@ fn its_window_has_both_its_ends(rt: HostRuntime) {
 
 /// What a validation by a verifier that refuses all answers.
 fn refused(alloc: Global, certificate: &Certificate, secs: u64) -> Result<(), Error> {
-    let given = [KEY.fingerprint(alloc, HashAlg::Sha256)?];
+    let given = [fingerprint(alloc, HashAlg::Sha256)?];
     certificate.validate_at(alloc, secs, &given, &RefuseAll)
 }
 
@@ -137,7 +151,7 @@ fn refused_at(alloc: Global, secs: u64) -> Result<(), Error> {
 
 /// What one for another fingerprint answers.
 fn for_sha512(alloc: Global) -> Result<(), Error> {
-    judged(alloc, &issued(alloc)?, HashAlg::Sha512, 10)
+    judged_once(alloc, issued(alloc), HashAlg::Sha512, 10)
 }
 
 #[test]
@@ -164,7 +178,7 @@ fn is_endless(alloc: Global) -> bool {
 }
 
 fn endless_at(alloc: Global, secs: u64) -> Result<(), Error> {
-    judged(alloc, &endless(alloc)?, HashAlg::Sha256, secs)
+    judged_once(alloc, endless(alloc), HashAlg::Sha256, secs)
 }
 
 #[test]
@@ -194,7 +208,7 @@ fn wanted_of(
     secs: u64,
     wanted: &str,
 ) -> Result<(), Error> {
-    let given = [KEY.fingerprint(alloc, HashAlg::Sha256)?];
+    let given = [fingerprint(alloc, HashAlg::Sha256)?];
     certificate.validate_principal_at(alloc, secs, wanted, &given, &AcceptAll)
 }
 
@@ -229,7 +243,10 @@ fn bad_windows_are_refused(rt: HostRuntime) {
 
 /// What a second serial number answers.
 fn second_serial(alloc: Global) -> Result<(), Error> {
-    let mut builder = builder(alloc, 10, 20)?;
+    told_twice(&mut builder(alloc, 10, 20)?)
+}
+
+fn told_twice(builder: &mut Builder) -> Result<(), Error> {
     builder.serial(1)?;
     builder.set_serial(2)
 }
@@ -240,32 +257,11 @@ fn unnamed(alloc: Global) -> Result<Certificate, Error> {
 }
 
 fn is_unnamed(alloc: Global) -> bool {
-    match unnamed(alloc) {
-        Ok(_) => false,
-        Err(error) => error == Error::CertificateFieldInvalid(Field::ValidPrincipals),
-    }
+    unnamed(alloc).err() == Some(Error::CertificateFieldInvalid(Field::ValidPrincipals))
 }
 
 #[test]
 fn a_builder_is_told_once_and_told_whom(rt: HostRuntime) {
     assert!(rt; second_serial(rt.alloc()) == Err(Error::CertificateFieldInvalid(Field::Serial)));
     assert!(rt; is_unnamed(rt.alloc()));
-}
-
-/// A builder whose nonce the generator draws.
-fn drawn(alloc: Global, count: &mut Count) -> Result<Builder, Error> {
-    Builder::new_with_random_nonce(alloc, count, KEY, 10, 20)
-}
-
-/// A drawn nonce is these bytes, and the generator goes on with that number.
-fn is_drawn(alloc: Global, nonce: &[u8; 16], next: u64) -> Result<bool, Error> {
-    let mut count = Count::new();
-    let certificate = signed(alloc, for_all(drawn(alloc, &mut count)?)?)?;
-    Ok(certificate.nonce() == nonce.as_slice() && count.next_u64() == next)
-}
-
-#[test]
-fn a_random_nonce_is_the_next_16_bytes(rt: HostRuntime) {
-    let nonce = b"\x00\x01\x02\x03\x04\x05\x06\x07\x08\x09\x0a\x0b\x0c\x0d\x0e\x0f";
-    assert!(rt; is_drawn(rt.alloc(), nonce, 0x1716_1514_1312_1110) == Ok(true));
 }

@@ -1,8 +1,7 @@
 //! Certificates that are slices of their bytes.
 
-use super::certificate_lines::{certificate_name, stored};
 use super::certificates::{authorities, blob_of, is_as_made, is_shown, knower, read};
-use super::certified::{Certified, each};
+use super::certified::{Certified, certificate_name, each, stored};
 use base64::engine::general_purpose::STANDARD;
 use sshkey_base::{Error, encoding};
 use sshkey_cert::Certificate;

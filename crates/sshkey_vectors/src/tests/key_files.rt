@@ -8,39 +8,9 @@ use std::io::ErrorKind;
 const LINE: &str =
     "ssh-ed25519 AAAAC3NzaC1lZDI1NTE5AAAAILM+rvN+ot98qgEN796jTiQfZfG1KaT0PtFDJ/XFSqti user@example.com";
 
-/// Writes the key of the line into the file.
-fn is_written<R: Files>(rt: &R, alloc: Global, path: &str) -> bool {
-    match PublicKey::from_openssh(alloc, LINE) {
-        Ok(key) => key.write_openssh_file(rt, alloc, path).is_ok(),
-        Err(_) => false,
-    }
-}
-
-/// The key in the file is that of the line.
-fn is_read<R: Files>(rt: &R, alloc: Global, path: &str) -> bool {
-    match PublicKey::read_openssh_file(rt, alloc, path) {
-        Ok(key) => is_of_line(alloc, &key),
-        Err(_) => false,
-    }
-}
-
-fn is_of_line(alloc: Global, key: &PublicKey) -> bool {
-    match PublicKey::from_openssh(alloc, LINE) {
-        Ok(wanted) => *key == wanted,
-        Err(_) => false,
-    }
-}
-
 /// The fault that is met where the file is read.
 fn fault<R: Files>(rt: &R, alloc: Global, path: &str) -> Option<Error> {
     PublicKey::read_openssh_file(rt, alloc, path).err()
-}
-
-#[test]
-fn a_written_file_is_read_back(rt: HostRuntime) {
-    assert!(rt; is_written(&rt, rt.alloc(), "written_key.pub"));
-    assert!(rt; is_read(&rt, rt.alloc(), "written_key.pub"));
-    assert!(rt; fs::remove_file(&rt, "written_key.pub").is_ok());
 }
 
 #[test]
