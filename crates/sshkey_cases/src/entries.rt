@@ -15,7 +15,13 @@ fn key_parts(alloc: Global, key: &PublicKey) -> Result<String> {
 
 /// The parts of an entry of authorized_keys, with ` | ` between.
 pub(crate) fn authorized(alloc: Global, line: &str) -> Result<String> {
-    let entry = sshkey_authorized_keys::Entry::from_line(alloc, line)?;
+    authorized_parts(
+        alloc,
+        &sshkey_authorized_keys::Entry::from_line(alloc, line)?,
+    )
+}
+
+fn authorized_parts(alloc: Global, entry: &sshkey_authorized_keys::Entry) -> Result<String> {
     let key = key_parts(alloc, entry.public_key())?;
     let options = entry.config_opts();
     Ok(format!(in alloc; "{options} | {key}")?)

@@ -19,9 +19,21 @@ pub(crate) fn certificate(alloc: Global, parts: &[Vec<u8>]) -> Result<String> {
     signed(alloc, builder, key, refused)
 }
 
-fn signed(alloc: Global, builder: Builder, key: Ed25519PublicKey, refused: bool) -> Result<String> {
-    let certificate = builder.sign(alloc, &Fixed::new(key))?;
+/// What is written of the builder's certificate, signed by that key, behind whether memory was
+/// refused.
+pub(crate) fn signed(
+    alloc: Global,
+    builder: Builder,
+    key: Ed25519PublicKey,
+    refused: bool,
+) -> Result<String> {
+    let certificate = signed_by(alloc, builder, key)?;
     written(alloc, &certificate, refused)
+}
+
+fn signed_by(alloc: Global, builder: Builder, key: Ed25519PublicKey) -> Result<Certificate> {
+    let signer = Fixed::new(key);
+    builder.sign(alloc, &signer)
 }
 
 fn begun(alloc: Global, key: Ed25519PublicKey) -> Result<Builder> {

@@ -52,7 +52,11 @@ fn kind_of(key: &KeyData) -> &'static str {
 /// The fingerprints of the key that all the bytes spell.
 pub(crate) fn fingerprints(alloc: Global, bytes: &[u8]) -> Result<String> {
     let key: KeyData = decode_whole(alloc, bytes)?;
-    let short = Fingerprint::new(alloc, HashAlg::Sha256, &key)?;
+    both_fingerprints(alloc, &key)
+}
+
+fn both_fingerprints(alloc: Global, key: &KeyData) -> Result<String> {
+    let short = Fingerprint::new(alloc, HashAlg::Sha256, key)?;
     let long = key.fingerprint(alloc, HashAlg::Sha512)?;
     Ok(format!(in alloc; "{short} {long}")?)
 }

@@ -5,11 +5,16 @@
 
 mod again;
 mod bytes;
+mod certificates;
+mod copies;
+mod drawn;
 mod entries;
 mod faulty;
+mod files;
 mod issued;
 mod keys;
 mod kinds;
+mod messages;
 mod names;
 mod narrow;
 mod privates;
@@ -30,7 +35,7 @@ fn main(rt: HostRuntime) -> io::Result<()> {
             writeln!(output, "{line}")?;
             continue;
         }
-        match questions::answer_line(alloc, &line) {
+        match questions::answer_line(&rt, alloc, &line) {
             Ok(answer) => writeln!(output, "{line} = {answer}")?,
             Err(error) => writeln!(output, "{line} = {error}")?,
         }

@@ -24,7 +24,7 @@ pub(crate) fn value(alloc: Global, kind: &str, bytes: &[u8]) -> Result<String> {
         "options" => read::<OptionsMap>(alloc, bytes),
         "certificate" => read::<Certificate>(alloc, bytes),
         "ssh-signature" => read::<SshSig>(alloc, bytes),
-        "private-key" => each_room(alloc, &PrivateKey::from_bytes(alloc, bytes)?),
+        "private-key" => private_key(alloc, bytes),
         _ => Err(NO_LINE),
     }
 }
@@ -36,6 +36,10 @@ where
 {
     let value: T = decode_whole(alloc, bytes)?;
     each_room(alloc, &value)
+}
+
+fn private_key(alloc: Global, bytes: &[u8]) -> Result<String> {
+    each_room(alloc, &PrivateKey::from_bytes(alloc, bytes)?)
 }
 
 fn each_room<T: Encode>(alloc: Global, value: &T) -> Result<String> {

@@ -79,11 +79,15 @@ fn line_of(alloc: Global, key: PrivateKey) -> Result<String> {
 /// The bytes of the private key that is made of a pair, which the first byte string spells, and of a
 /// comment, where there is one.
 pub(crate) fn of_pair(alloc: Global, parts: &[Vec<u8>]) -> Result<String> {
-    let key = match parts {
-        [pair] => made(alloc, pair)?,
-        _ => made_with(alloc, part(parts, 0), text(parts, 1)?)?,
-    };
+    let key = key_of_pair(alloc, parts)?;
     written(alloc, &key)
+}
+
+fn key_of_pair(alloc: Global, parts: &[Vec<u8>]) -> Result<PrivateKey> {
+    match parts {
+        [pair] => made(alloc, pair),
+        _ => made_with(alloc, part(parts, 0), text(parts, 1)?),
+    }
 }
 
 fn made(alloc: Global, pair: &[u8]) -> Result<PrivateKey> {

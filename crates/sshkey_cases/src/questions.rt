@@ -3,8 +3,8 @@
 use crate::bytes::{NO_LINE, part, parts, text};
 use crate::wire::shown;
 use crate::{
-    again, entries, faulty, issued, keys, kinds, names, narrow, privates, signatures, slices,
-    validity, wire,
+    again, certificates, copies, drawn, entries, faulty, files, issued, keys, kinds, messages,
+    names, narrow, privates, signatures, slices, validity, wire,
 };
 use sshkey_base::{Algorithm, AlgorithmName, EcdsaCurve, Error, HashAlg, Mpint, Result};
 use sshkey_cert::Certificate;
@@ -17,14 +17,17 @@ use sshkey_options::{CertType, EndTime, OptionsMap, UnixTime};
 use sshkey_sshsig::SshSig;
 use sshkey_tool::run;
 use std::alloc::Global;
+use std::fs::Files;
 
 /// The answer to a line: a question and the byte strings that it is about.
-pub(crate) fn answer_line(alloc: Global, line: &str) -> Result<String> {
+pub(crate) fn answer_line<R: Files>(rt: &R, alloc: Global, line: &str) -> Result<String> {
     let (question, words) = line.split_once(' ').unwrap_or((line, ""));
     let (kind, behind) = words.split_once(' ').unwrap_or((words, ""));
     match question {
         "beginnings" => beginnings(alloc, kind, part(&parts(alloc, behind)?, 0)),
+        "copy" => copies::value(alloc, kind, &parts(alloc, behind)?),
         "faulty" => faulty::value(alloc, kind, part(&parts(alloc, behind)?, 0)),
+        "file" => files::value(rt, alloc, kind, &parts(alloc, behind)?),
         "narrow" => narrow::value(alloc, kind, part(&parts(alloc, behind)?, 0)),
         _ => answer(alloc, question, &parts(alloc, words)?),
     }
@@ -143,8 +146,22 @@ fn answer_of_keys(alloc: Global, question: &str, parts: &[Vec<u8>]) -> Result<St
         "signature" => signatures::whole(alloc, bytes),
         "signature-in-front" => signatures::front(alloc, bytes),
         "signature-of-bytes" => signatures::made(alloc, parts),
-        "ssh-signature" => wire::whole::<SshSig>(alloc, bytes),
         "rising-signatures" => wire::rising::<Signature>(alloc, parts),
+        _ => answer_of_messages(alloc, question, parts),
+    }
+}
+
+fn answer_of_messages(alloc: Global, question: &str, parts: &[Vec<u8>]) -> Result<String> {
+    let bytes = part(parts, 0);
+    match question {
+        "ssh-signature" => wire::whole::<SshSig>(alloc, bytes),
+        "signed-data" => messages::data(alloc, parts),
+        "signed-bytes" => messages::bytes(alloc, parts),
+        "ssh-signature-made" => messages::made(alloc, parts),
+        "verified" => messages::verified(alloc, parts),
+        "public-key" => certificates::public_key(alloc, bytes),
+        "drawn-derivation" => drawn::derivation(alloc, text(parts, 0)?),
+        "drawn-certificate" => drawn::certificate(alloc, bytes),
         _ => answer_of_slices(alloc, question, parts),
     }
 }
@@ -159,6 +176,7 @@ fn answer_of_slices(alloc: Global, question: &str, parts: &[Vec<u8>]) -> Result<
         "texts-slice" => slices::texts(alloc, bytes),
         "options-slice" => slices::options(alloc, bytes),
         "certificate-slice" => slices::certificate(alloc, bytes),
+        "certificate-parts" => certificates::parts(alloc, bytes),
         "validity-slice" => validity::slice(alloc, parts),
         _ => answer_of_certificates(alloc, question, parts),
     }
@@ -173,6 +191,8 @@ fn answer_of_certificates(alloc: Global, question: &str, parts: &[Vec<u8>]) -> R
         "time" => wire::whole::<UnixTime>(alloc, bytes),
         "end-time" => wire::whole::<EndTime>(alloc, bytes),
         "certificate" => wire::whole::<Certificate>(alloc, bytes),
+        "certificate-line" => certificates::line(alloc, text(parts, 0)?),
+        "options-of-pairs" => certificates::options(alloc, parts),
         "issued" => issued::certificate(alloc, parts),
         "validity" => validity::owned(alloc, parts),
         "private-key" => privates::whole(alloc, bytes),

@@ -48,9 +48,14 @@ pub(crate) fn certificate(alloc: Global, bytes: &[u8]) -> Result<String> {
 }
 
 fn spelled_anew(alloc: Global, certificate: &CertificateRef<'_>) -> Result<String> {
-    let written = encode_vec(alloc, &certificate.to_certificate(alloc)?)?;
+    let written = encoded(alloc, certificate)?;
     let digits = hex::encode(alloc, &written)?;
     Ok(format!(in alloc; "read, written as {digits}")?)
+}
+
+fn encoded(alloc: Global, certificate: &CertificateRef<'_>) -> Result<Vec<u8>> {
+    let certificate = certificate.to_certificate(alloc)?;
+    certificate.to_bytes(alloc)
 }
 
 /// How many bytes are the body of a key under the name that the first byte string is, at the front
