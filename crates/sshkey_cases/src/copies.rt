@@ -16,19 +16,19 @@ use std::alloc::Global;
 pub(crate) fn value(alloc: Global, kind: &str, parts: &[Vec<u8>]) -> Result<String> {
     let bytes = part(parts, 0);
     match kind {
-        "algorithm" => digits(alloc, &algorithm(alloc, text(parts, 0)?)?),
-        "key" => digits(alloc, &key(alloc, bytes)?),
-        "signature" => digits(alloc, &signature(alloc, bytes)?),
-        "ssh-signature" => digits(alloc, &ssh_signature(alloc, bytes)?),
-        "certificate" => digits(alloc, &certificate(alloc, bytes)?),
-        "pair" => digits(alloc, &pair(alloc, bytes)?),
-        "private-key" => digits(alloc, &private_key(alloc, bytes)?),
+        "algorithm" => digits(alloc, algorithm(alloc, text(parts, 0)?)),
+        "key" => digits(alloc, key(alloc, bytes)),
+        "signature" => digits(alloc, signature(alloc, bytes)),
+        "ssh-signature" => digits(alloc, ssh_signature(alloc, bytes)),
+        "certificate" => digits(alloc, certificate(alloc, bytes)),
+        "pair" => digits(alloc, pair(alloc, bytes)),
+        "private-key" => digits(alloc, private_key(alloc, bytes)),
         _ => text_of_copy(alloc, kind, text(parts, 0)?),
     }
 }
 
-fn digits<T: Encode>(alloc: Global, copy: &T) -> Result<String> {
-    let written = encode_vec(alloc, copy)?;
+fn digits<T: Encode + Drop>(alloc: Global, copy: Result<T>) -> Result<String> {
+    let written = encode_vec(alloc, &copy?)?;
     Ok(hex::encode(alloc, &written)?)
 }
 
