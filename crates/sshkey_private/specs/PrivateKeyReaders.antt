@@ -56,6 +56,10 @@ last_of x = if may_precede x.0 x.1 then Ok x else Err (TrailingKeyData (length x
 unfoldable pub blocks_at : Cipher → Front (List ℕ)
 blocks_at c = checked_at (blocks_from c) string_at
 
+-- an encrypted key of these parts
+abbrev pub sealed_with : Cipher → Kdf → Key → List ℕ → List ℕ → PrivateKey
+sealed_with c k public ciphertext tag = Encrypted (record { cipher = c; kdf = k; public = public; ciphertext = ciphertext; tag = tag })
+
 unfoldable pub last_encrypted_at : Cipher → Kdf → Key → Front PrivateKey
 last_encrypted_at c k public b = do
   ciphertext ← blocks_at c b

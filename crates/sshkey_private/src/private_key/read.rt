@@ -1,6 +1,6 @@
 //! How private keys are read.
 
-ghost use Rattle.std.specs.Prelude.{◌≡◌, [], false, true, Some, option_map, IfOk};
+ghost use Rattle.std.specs.Prelude.{◌≡◌, ◌%◌, [], false, true, length, Some, option_map, IfOk};
 ghost use Rattle.sshkey_base.specs.Causes.{cause};
 ghost use Rattle.sshkey_base.specs.Needs.{Asks, NeedsBoxed, NeedsString};
 ghost use Rattle.sshkey_base.specs.Reading.{Gives};
@@ -8,13 +8,14 @@ ghost use Rattle.sshkey_base.specs.Source.{Later};
 ghost use Rattle.sshkey_keypairs.specs.Keypairs.{pair_of};
 ghost use Rattle.sshkey_keys.specs.Keys.{key_of};
 ghost use Rattle.sshkey_model.specs.Grammar.{value_at};
-ghost use Rattle.sshkey_model.specs.KeyDerivation.{NoCipher};
+ghost use Rattle.sshkey_model.specs.KeyDerivation.{Kdf as TheKdf, NoCipher, block_size, tag_size};
+ghost use Rattle.sshkey_model.specs.Keys.{Key};
 ghost use Rattle.sshkey_model.specs.PrivateKeys.{Unencrypted, unencrypted_at};
 ghost use Rattle.sshkey_ciphers.specs.Ciphers.{cipher_of, kdf_of};
 ghost use Rattle.sshkey_private.specs.Halves.{is_half};
 ghost use Rattle.sshkey_private.specs.Inner.{NeedsInner, inner_of};
-ghost use Rattle.sshkey_private.specs.Paddings.{NeedsPadded};
-ghost use Rattle.sshkey_private.specs.PrivateKeyReaders.{steps_at, last_content_at, last_encrypted_at, NeedsContent, NeedsPrivateKey};
+ghost use Rattle.sshkey_private.specs.Paddings.{NeedsPadded, tag_bytes};
+ghost use Rattle.sshkey_private.specs.PrivateKeyReaders.{steps_at, sealed_with, last_content_at, last_encrypted_at, NeedsContent, NeedsPrivateKey};
 ghost use Rattle.sshkey_private.specs.PrivateKeys.{private_of, is_encrypted, outer_of, HasWrittenComment};
 ghost use Rattle.sshkey_public.specs.PublicKeys.{comment_of};
 
@@ -96,9 +97,7 @@ fn from_inner(inner: Inner, public: KeyData) -> PrivateKey
     }
 }
 
-/// A ciphertext in its string, and its tag, at the end of the reader. `TrailingData` for bytes
-/// behind them.
-#[tactic(auto, using(sshkey_base::proofs::Steps::steps), unfolding(crate::specs::PrivateKeyReaders::last_encrypted_at))]
+/// The encrypted key of that opening, at the end of the reader.
 fn encrypted_from<R: Reader>(alloc: Global, reader: &mut R, opening: Opening) -> Result<PrivateKey>
     requires { cipher_of opening.cipher ≡ NoCipher → ⊥ }
     ensures gives { Gives private_of cause
@@ -108,17 +107,12 @@ fn encrypted_from<R: Reader>(alloc: Global, reader: &mut R, opening: Opening) ->
     ensures asks { Asks cause NeedsString (R.source reader.old) result }
     ensures comment { IfOk result (λ k. comment_of (outer_of k) ≡ []) }
 {
+    let (ciphertext, tag) = sealed_from(alloc, reader, opening.cipher)?;
     let Opening {
         cipher,
         kdf,
         public,
     } = opening;
-    let ciphertext = ciphertext_from(alloc, reader, cipher)?;
-    let tag = tag_from(reader, cipher)?;
-    let remaining = reader.remaining_len();
-    if remaining > 0 {
-        return Err(Error::TrailingData { remaining });
-    }
     Ok(PrivateKey {
         cipher,
         kdf,
@@ -127,4 +121,30 @@ fn encrypted_from<R: Reader>(alloc: Global, reader: &mut R, opening: Opening) ->
         key_data: KeypairData::Encrypted(ciphertext),
         tag,
     })
+}
+
+/// A ciphertext in its string, and its tag, at the end of the reader. `TrailingData` for bytes
+/// behind them.
+#[tactic(auto, using(sshkey_base::proofs::Steps::steps), unfolding(crate::specs::PrivateKeyReaders::last_encrypted_at))]
+fn sealed_from<R: Reader>(
+    alloc: Global,
+    reader: &mut R,
+    cipher: Cipher,
+) -> Result<(Vec<u8>, Option<[u8; 16]>)>
+    ensures gives { (k : TheKdf) → (public : Key) → Gives
+        (λ p. sealed_with (cipher_of cipher) k public p.0.items (tag_bytes p.1)) cause
+        (last_encrypted_at (cipher_of cipher) k public)
+        (R.source reader.old) result (R.source reader.new) }
+    ensures later { Later (R.source reader.old) (R.source reader.new) }
+    ensures asks { Asks cause NeedsString (R.source reader.old) result }
+    ensures whole { IfOk result (λ p. length p.0.items % block_size (cipher_of cipher) ≡ 0) }
+    ensures size { IfOk result (λ p. length (tag_bytes p.1) ≡ tag_size (cipher_of cipher)) }
+{
+    let ciphertext = ciphertext_from(alloc, reader, cipher)?;
+    let tag = tag_from(reader, cipher)?;
+    let remaining = reader.remaining_len();
+    if remaining > 0 {
+        return Err(Error::TrailingData { remaining });
+    }
+    Ok((ciphertext, tag))
 }
