@@ -26,10 +26,6 @@ NeedsLimits = NeedsBoth NeedsString options_value_at NeedsString
 abbrev pub NeedsAuthority : List ℕ → Type 0
 NeedsAuthority = NeedsBoth NeedsString string_at (NeedsBoxed NeedsKey)
 
--- one of those behind the subject; the times need none
-abbrev pub NeedsRest : List ℕ → Type 0
-NeedsRest = NeedsBoth NeedsGrant grant_at (NeedsBoth NoNeed window_at (NeedsBoth NeedsLimits limits_at NeedsAuthority))
-
--- one of all
+-- one of them; the times need none
 abbrev pub NeedsUnsigned : List ℕ → Type 0
-NeedsUnsigned = NeedsBoth NeedsSubject subject_at NeedsRest
+NeedsUnsigned = NeedsBoth NeedsSubject subject_at (NeedsBoth NeedsGrant grant_at (NeedsBoth NoNeed window_at (NeedsBoth NeedsLimits limits_at NeedsAuthority)))

@@ -59,19 +59,14 @@ authority_at b = do
   key ← box_at (whole key_data_at) reserved.1
   Ok ((reserved.0, key.0), key.1)
 
-unfoldable pub rest_at : Front ((ℕ × CertificateType × List ℕ × List (List ℕ)) × (ℕ × ℕ) × (List CertificateOption × List CertificateOption) × (List ℕ × Key))
-rest_at b = do
-  grant ← grant_at b
-  window ← window_at grant.1
-  limits ← limits_at window.1
-  authority ← authority_at limits.1
-  Ok ((grant.0, window.0, limits.0, authority.0), authority.1)
-
 unfoldable pub fields_at : Front SignedFields
 fields_at b = do
   subject ← subject_at b
-  rest ← rest_at subject.1
+  grant ← grant_at subject.1
+  window ← window_at grant.1
+  limits ← limits_at window.1
+  authority ← authority_at limits.1
   Ok (
-    record { nonce = subject.0.0; key = subject.0.1; serial = rest.0.0.0; certificate_type = rest.0.0.1; key_id = rest.0.0.2; valid_principals = rest.0.0.3; valid_after = rest.0.1.0; valid_before = rest.0.1.1; critical_options = rest.0.2.0; extensions = rest.0.2.1; reserved = rest.0.3.0; signature_key = rest.0.3.1 },
-    rest.1,
+    record { nonce = subject.0.0; key = subject.0.1; serial = grant.0.0; certificate_type = grant.0.1; key_id = grant.0.2; valid_principals = grant.0.3; valid_after = window.0.0; valid_before = window.0.1; critical_options = limits.0.0; extensions = limits.0.1; reserved = authority.0.0; signature_key = authority.0.1 },
+    authority.1,
   )

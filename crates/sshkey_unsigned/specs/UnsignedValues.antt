@@ -48,6 +48,3 @@ limits_of p = (options_of p.0, options_of p.1)
 
 abbrev pub authority_of : List ℕ × KeyData → List ℕ × Key
 authority_of p = (p.0, key_of p.1)
-
-abbrev pub rest_of : (ℕ × CertType × List ℕ × Vec (String Global) Global) × (UnixTime × EndTime) × (OptionsMap × OptionsMap) × (List ℕ × KeyData) → (ℕ × model.CertificateType × List ℕ × List (List ℕ)) × (ℕ × ℕ) × (List CertificateOption × List CertificateOption) × (List ℕ × Key)
-rest_of p = (grant_of p.0, window_of p.1, limits_of p.2, authority_of p.3)

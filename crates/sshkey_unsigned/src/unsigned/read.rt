@@ -5,9 +5,9 @@ ghost use Rattle.sshkey_base.specs.Causes.{cause};
 ghost use Rattle.sshkey_base.specs.Needs.{Asks, NoNeed};
 ghost use Rattle.sshkey_base.specs.Reading.{DecodesWide};
 ghost use Rattle.sshkey_base.specs.Source.{Later};
-ghost use Rattle.sshkey_unsigned.specs.UnsignedReaders.{subject_at, grant_at, window_at, limits_at, authority_at, rest_at, fields_at};
-ghost use Rattle.sshkey_unsigned.specs.Needs.{NeedsUnsigned, NeedsSubject, NeedsRest, NeedsGrant, NeedsLimits, NeedsAuthority};
-ghost use Rattle.sshkey_unsigned.specs.UnsignedValues.{unsigned_of, subject_of, rest_of, grant_of, window_of, limits_of, authority_of};
+ghost use Rattle.sshkey_unsigned.specs.UnsignedReaders.{subject_at, grant_at, window_at, limits_at, authority_at, fields_at};
+ghost use Rattle.sshkey_unsigned.specs.Needs.{NeedsUnsigned, NeedsSubject, NeedsGrant, NeedsLimits, NeedsAuthority};
+ghost use Rattle.sshkey_unsigned.specs.UnsignedValues.{unsigned_of, subject_of, grant_of, window_of, limits_of, authority_of};
 
 use super::Unsigned;
 use sshkey_base::{Algorithm, Bytes, Decode, Reader, Result, Text, decode_boxed};
@@ -23,11 +23,10 @@ pub(super) fn unsigned_from<R: Reader>(alloc: Global, reader: &mut R) -> Result<
     ensures asks { Asks cause NeedsUnsigned (R.source reader.old) result }
 {
     let (nonce, public_key) = subject_from(alloc, reader)?;
-    let (grant, window, limits, authority) = rest_from(alloc, reader)?;
-    let (serial, cert_type, key_id, valid_principals) = grant;
-    let (valid_after, valid_before) = window;
-    let (critical_options, extensions) = limits;
-    let (reserved, signature_key) = authority;
+    let (serial, cert_type, key_id, valid_principals) = grant_from(alloc, reader)?;
+    let (valid_after, valid_before) = window_from(alloc, reader)?;
+    let (critical_options, extensions) = limits_from(alloc, reader)?;
+    let (reserved, signature_key) = authority_from(alloc, reader)?;
     Ok(Unsigned {
         nonce,
         public_key,
@@ -42,29 +41,6 @@ pub(super) fn unsigned_from<R: Reader>(alloc: Global, reader: &mut R) -> Result<
         reserved,
         signature_key,
     })
-}
-
-type Grant = (u64, CertType, Text, Vec<String>);
-
-type Window = (UnixTime, EndTime);
-
-type Limits = (OptionsMap, OptionsMap);
-
-type Authority = (Bytes, KeyData);
-
-/// What stands behind the key's body. It is read apart, since of a function that holds two keys the
-/// ways out are as many as the pairs of their kinds.
-#[tactic(auto, using(sshkey_base::proofs::Steps::steps), unfolding(crate::specs::UnsignedReaders::rest_at))]
-fn rest_from<R: Reader>(alloc: Global, reader: &mut R) -> Result<(Grant, Window, Limits, Authority)>
-    ensures gives { DecodesWide rest_of rest_at R.source reader.old result reader.new }
-    ensures later { Later (R.source reader.old) (R.source reader.new) }
-    ensures asks { Asks cause NeedsRest (R.source reader.old) result }
-{
-    let grant = grant_from(alloc, reader)?;
-    let window = window_from(alloc, reader)?;
-    let limits = limits_from(alloc, reader)?;
-    let authority = authority_from(alloc, reader)?;
-    Ok((grant, window, limits, authority))
 }
 
 /// The name, the nonce, and the key's body.
@@ -82,7 +58,10 @@ fn subject_from<R: Reader>(alloc: Global, reader: &mut R) -> Result<(Bytes, KeyD
 
 /// The serial number, the type, the key id, and the principals.
 #[tactic(auto, using(sshkey_base::proofs::Steps::steps), unfolding(crate::specs::UnsignedReaders::grant_at))]
-fn grant_from<R: Reader>(alloc: Global, reader: &mut R) -> Result<Grant>
+fn grant_from<R: Reader>(
+    alloc: Global,
+    reader: &mut R,
+) -> Result<(u64, CertType, Text, Vec<String>)>
     ensures gives { DecodesWide grant_of grant_at R.source reader.old result reader.new }
     ensures later { Later (R.source reader.old) (R.source reader.new) }
     ensures asks { Asks cause NeedsGrant (R.source reader.old) result }
@@ -96,7 +75,7 @@ fn grant_from<R: Reader>(alloc: Global, reader: &mut R) -> Result<Grant>
 
 /// The two times.
 #[tactic(auto, using(sshkey_base::proofs::Steps::steps), unfolding(crate::specs::UnsignedReaders::window_at))]
-fn window_from<R: Reader>(alloc: Global, reader: &mut R) -> Result<Window>
+fn window_from<R: Reader>(alloc: Global, reader: &mut R) -> Result<(UnixTime, EndTime)>
     ensures gives { DecodesWide window_of window_at R.source reader.old result reader.new }
     ensures later { Later (R.source reader.old) (R.source reader.new) }
     ensures asks { Asks cause NoNeed (R.source reader.old) result }
@@ -108,7 +87,7 @@ fn window_from<R: Reader>(alloc: Global, reader: &mut R) -> Result<Window>
 
 /// The critical options and the extensions.
 #[tactic(auto, using(sshkey_base::proofs::Steps::steps), unfolding(crate::specs::UnsignedReaders::limits_at))]
-fn limits_from<R: Reader>(alloc: Global, reader: &mut R) -> Result<Limits>
+fn limits_from<R: Reader>(alloc: Global, reader: &mut R) -> Result<(OptionsMap, OptionsMap)>
     ensures gives { DecodesWide limits_of limits_at R.source reader.old result reader.new }
     ensures later { Later (R.source reader.old) (R.source reader.new) }
     ensures asks { Asks cause NeedsLimits (R.source reader.old) result }
@@ -120,7 +99,7 @@ fn limits_from<R: Reader>(alloc: Global, reader: &mut R) -> Result<Limits>
 
 /// The reserved bytes, and the key that signed.
 #[tactic(auto, using(sshkey_base::proofs::Steps::steps), unfolding(crate::specs::UnsignedReaders::authority_at))]
-fn authority_from<R: Reader>(alloc: Global, reader: &mut R) -> Result<Authority>
+fn authority_from<R: Reader>(alloc: Global, reader: &mut R) -> Result<(Bytes, KeyData)>
     ensures gives { DecodesWide authority_of authority_at R.source reader.old result reader.new }
     ensures later { Later (R.source reader.old) (R.source reader.new) }
     ensures asks { Asks cause NeedsAuthority (R.source reader.old) result }
