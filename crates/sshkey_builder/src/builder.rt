@@ -24,7 +24,6 @@ use std::alloc::Global;
 ///
 /// Each setter stands here twice: `serial` hands the builder back, so that calls can be chained;
 /// `set_serial` answers nothing, and its contract also says that a refused call changes nothing.
-#[derive(Drop)]
 pub struct Builder {
     alloc: Global,
     nonce: Bytes,
@@ -38,6 +37,25 @@ pub struct Builder {
     critical_options: OptionsMap,
     extensions: OptionsMap,
     comment: Option<Text>,
+}
+
+impl Drop for Builder {
+    fn drop(self) {
+        let Builder {
+            alloc: _,
+            nonce: _,
+            public_key: _,
+            serial: _,
+            cert_type: _,
+            key_id: _,
+            valid_principals: _,
+            valid_after: _,
+            valid_before: _,
+            critical_options: _,
+            extensions: _,
+            comment: _,
+        } = self;
+    }
 }
 
 impl Builder {
@@ -127,8 +145,7 @@ impl Builder {
         }
     }
 
-    /// Sets the serial number. `CertificateFieldInvalid` if it was set, and then nothing is changed.
-    /// Takes no memory.
+    /// Sets the serial number. `CertificateFieldInvalid` if it was set. Takes no memory.
     pub fn serial(&mut self, serial: u64) -> Result<&mut Builder>
         ensures same_reference { IfOk result (λ b. b.ghost_name ≡ self.entry.ghost_name) }
         ensures step { ChainsAlways (λ b. b.now) (Serial serial) self.old result }
@@ -137,8 +154,7 @@ impl Builder {
         Ok(self)
     }
 
-    /// Sets the type. `CertificateFieldInvalid` if it was set, and then nothing is changed. Takes no
-    /// memory.
+    /// Sets the type. `CertificateFieldInvalid` if it was set. Takes no memory.
     pub fn cert_type(&mut self, cert_type: CertType) -> Result<&mut Builder>
         ensures same_reference { IfOk result (λ b. b.ghost_name ≡ self.entry.ghost_name) }
         ensures step { ChainsAlways (λ b. b.now) (Kind (type_of cert_type)) self.old result }
@@ -147,8 +163,7 @@ impl Builder {
         Ok(self)
     }
 
-    /// Sets the key id. `CertificateFieldInvalid` if it was set, and then nothing is changed. Takes
-    /// no memory.
+    /// Sets the key id. `CertificateFieldInvalid` if it was set. Takes no memory.
     pub fn key_id(&mut self, key_id: String) -> Result<&mut Builder>
         ensures same_reference { IfOk result (λ b. b.ghost_name ≡ self.entry.ghost_name) }
         ensures step { ChainsAlways (λ b. b.now) (KeyId (string_bytes key_id)) self.old result }
@@ -157,8 +172,7 @@ impl Builder {
         Ok(self)
     }
 
-    /// Sets the comment. `CertificateFieldInvalid` if it was set, and then nothing is changed. Takes
-    /// no memory.
+    /// Sets the comment. `CertificateFieldInvalid` if it was set. Takes no memory.
     pub fn comment(&mut self, comment: String) -> Result<&mut Builder>
         ensures same_reference { IfOk result (λ b. b.ghost_name ≡ self.entry.ghost_name) }
         ensures step { ChainsAlways (λ b. b.now) (Comment (string_bytes comment)) self.old result }
@@ -167,8 +181,7 @@ impl Builder {
         Ok(self)
     }
 
-    /// Names one more principal, also after all were made valid. Refused only when out of memory,
-    /// and then nothing is changed.
+    /// Names one more principal, also after all were made valid. Refused only when out of memory.
     pub fn valid_principal(&mut self, principal: String) -> Result<&mut Builder>
         ensures same_reference { IfOk result (λ b. b.ghost_name ≡ self.entry.ghost_name) }
         ensures step { Chains (λ b. b.now) (Principal (string_bytes principal)) self.old result }
@@ -187,7 +200,7 @@ impl Builder {
     }
 
     /// Adds one of the critical options. `CertificateFieldInvalid` if there is one of that name, and
-    /// else refused only when out of memory; then nothing is changed.
+    /// else refused only when out of memory.
     pub fn critical_option(&mut self, name: String, value: String) -> Result<&mut Builder>
         ensures same_reference { IfOk result (λ b. b.ghost_name ≡ self.entry.ghost_name) }
         ensures step { Chains (λ b. b.now) (Critical (option_of (name, value))) self.old result }
@@ -197,7 +210,7 @@ impl Builder {
     }
 
     /// Adds one of the extensions. `CertificateFieldInvalid` if there is one of that name, and else
-    /// refused only when out of memory; then nothing is changed.
+    /// refused only when out of memory.
     pub fn extension(&mut self, name: String, value: String) -> Result<&mut Builder>
         ensures same_reference { IfOk result (λ b. b.ghost_name ≡ self.entry.ghost_name) }
         ensures step { Chains (λ b. b.now) (Extension (option_of (name, value))) self.old result }

@@ -28,7 +28,7 @@ use sshkey_pairs::{DsaKeypair, EcdsaKeypair, Ed25519Keypair, RsaKeypair};
 use std::alloc::Global;
 
 /// A key pair of any kind, or one that is encrypted (OpenSSH, PROTOCOL.key).
-#[derive(Debug, Drop, PartialEq, Eq)]
+#[derive(Debug, PartialEq, Eq)]
 pub enum KeypairData {
     /// `ssh-dss`.
     Dsa(DsaKeypair),
@@ -46,6 +46,22 @@ pub enum KeypairData {
     SkEd25519(SkEd25519),
     /// A pair under a private-use name.
     Other(OpaqueKeypair),
+}
+
+/// By hand, so that who holds a pair lets it go by one call, and not by the parts of each kind.
+impl Drop for KeypairData {
+    fn drop(self) {
+        match self {
+            KeypairData::Dsa(_) => {}
+            KeypairData::Ecdsa(_) => {}
+            KeypairData::Ed25519(_) => {}
+            KeypairData::Encrypted(_) => {}
+            KeypairData::Rsa(_) => {}
+            KeypairData::SkEcdsaSha2NistP256(_) => {}
+            KeypairData::SkEd25519(_) => {}
+            KeypairData::Other(_) => {}
+        }
+    }
 }
 
 impl KeypairData {

@@ -37,7 +37,7 @@ use std::alloc::Global;
 /// (RFC 4253, section 6.6).
 ///
 /// Keys are ordered by their kind, as the kinds stand here, and then field by field.
-#[derive(Debug, Drop, PartialEq, Eq, PartialOrd, Ord, Hash)]
+#[derive(Debug, PartialEq, Eq, PartialOrd, Ord, Hash)]
 pub enum KeyData {
     /// `ssh-dss` (RFC 4253).
     Dsa(DsaPublicKey),
@@ -53,6 +53,20 @@ pub enum KeyData {
     SkEd25519(SkEd25519),
     /// A key under a private-use name.
     Other(OpaquePublicKey),
+}
+
+/// By hand, so that who holds a key lets it go by one call, and not by the parts of each kind.
+impl Drop for KeyData {
+    fn drop(self) {
+        match self {
+            KeyData::Ecdsa(_) | KeyData::Ed25519(_) => {}
+            KeyData::Dsa(_) => {}
+            KeyData::Rsa(_) => {}
+            KeyData::SkEcdsaSha2NistP256(_) => {}
+            KeyData::SkEd25519(_) => {}
+            KeyData::Other(_) => {}
+        }
+    }
 }
 
 impl KeyData {

@@ -25,11 +25,20 @@ use sshkey_base::{Algorithm, Bytes, Result};
 /// | RSA without a hash | none are well-formed |
 /// | security keys (PROTOCOL.u2f) | those of ECDSA over P-256, or of Ed25519, then one byte of flags and four of a counter |
 /// | private-use name | at least 1 |
-#[derive(Debug, Drop, PartialEq, Eq, PartialOrd, Ord)]
+#[derive(Debug, PartialEq, Eq, PartialOrd, Ord)]
 pub struct Signature {
     algorithm: Algorithm,
     blob: Bytes,
     pub ghost form: { is_blob (algorithm_of algorithm) blob ≡ true },
+}
+
+impl Drop for Signature {
+    fn drop(self) {
+        let Signature {
+            algorithm: _,
+            blob: _,
+        } = self;
+    }
 }
 
 impl Signature {

@@ -1,7 +1,5 @@
 //! Which question the caller's verifier is asked about a signature.
 
-//! Which question the caller's verifier is asked about a signature.
-
 ghost use Rattle.std.specs.Prelude.{◌≡◌, ◌≢◌, ◌++◌, ℕ, List, OnOk, IfOk, IfErr, is_some};
 ghost use Rattle.sha2.specs.Sha256.{sha256};
 ghost use Rattle.sshkey_model.specs.Names.{SkEcdsa, SkEd25519 as AlgorithmSkEd25519};

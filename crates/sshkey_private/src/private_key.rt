@@ -23,7 +23,6 @@ use std::alloc::Global;
 /// Two are equal where the ciphers, the derivations, the public keys with their comments, and the
 /// pairs or ciphertexts are: checkint and tag are left out. What is shown of one has no private
 /// byte, and leaves out the checkint too, which is made of them.
-#[derive(Drop)]
 #[derive_where(Debug, PartialEq, Eq)]
 pub struct PrivateKey {
     cipher: Cipher,
@@ -35,6 +34,19 @@ pub struct PrivateKey {
     #[derive_where(skip)]
     tag: Option<[u8; 16]>,
     pub ghost form: { are_formed cipher kdf public_key key_data tag ≡ true },
+}
+
+impl Drop for PrivateKey {
+    fn drop(self) {
+        let PrivateKey {
+            cipher: _,
+            kdf: _,
+            checkint: _,
+            public_key: _,
+            key_data: _,
+            tag: _,
+        } = self;
+    }
 }
 
 impl PrivateKey {
@@ -234,6 +246,20 @@ impl PrivateKey {
             tag: self.tag,
         })
     }
+
+    fn into_public_key(self) -> PublicKey
+        ensures { result ≡ outer_of self }
+    {
+        let PrivateKey {
+            cipher: _,
+            kdf: _,
+            checkint: _,
+            public_key,
+            key_data: _,
+            tag: _,
+        } = self;
+        public_key
+    }
 }
 
 /// The public key, with the comment.
@@ -243,7 +269,7 @@ impl From<PrivateKey> for PublicKey {
     ghost from_gives = { λ key made. made ≡ outer_of key };
 
     fn from(key: PrivateKey) -> PublicKey {
-        key.public_key
+        key.into_public_key()
     }
 }
 
@@ -255,6 +281,6 @@ impl From<PrivateKey> for KeyData {
     ghost from_gives = { λ key made. made ≡ key_data_of (outer_of key) };
 
     fn from(key: PrivateKey) -> KeyData {
-        KeyData::from(key.public_key)
+        KeyData::from(key.into_public_key())
     }
 }

@@ -16,7 +16,7 @@ use std::alloc::Global;
 /// The signature is not over the message but over the namespace, the reserved bytes, the hash's
 /// name and the digest of the message, behind `SSHSIG`. The namespace is not empty, and the version
 /// is 0 or 1.
-#[derive(Debug, Drop, PartialEq, Eq)]
+#[derive(Debug, PartialEq, Eq)]
 pub struct SshSig {
     version: u32,
     public_key: KeyData,
@@ -26,6 +26,19 @@ pub struct SshSig {
     signature: Signature,
     pub ghost read_version: { version < 2 },
     pub ghost some_namespace: { 0 < length namespace },
+}
+
+impl Drop for SshSig {
+    fn drop(self) {
+        let SshSig {
+            version: _,
+            public_key: _,
+            namespace: _,
+            reserved: _,
+            hash_alg: _,
+            signature: _,
+        } = self;
+    }
 }
 
 impl SshSig {
