@@ -33,9 +33,9 @@ cipher_of cipher.Aes128Gcm = model.Aes128Gcm
 cipher_of cipher.Aes256Gcm = model.Aes256Gcm
 cipher_of cipher.ChaCha20Poly1305 = model.ChaCha20Poly1305
 
-abbrev pub alg_of : KdfAlg → model.KdfAlgorithm
-alg_of alg.None = model.NoDerivation
-alg_of alg.Bcrypt = model.BcryptDerivation
+abbrev pub kdf_algorithm_of : KdfAlg → model.KdfAlgorithm
+kdf_algorithm_of alg.None = model.NoDerivation
+kdf_algorithm_of alg.Bcrypt = model.BcryptDerivation
 
 abbrev pub kdf_of : Kdf → model.Kdf
 kdf_of kdf.None = model.NoKdf
@@ -54,8 +54,8 @@ kdf_with_salt model.BcryptDerivation salt = Ok (model.Bcrypt (record { salt = sa
 abbrev pub cipher_from : Whole model.Cipher
 cipher_from n = or_label (named cipher_name ciphers n)
 
-abbrev pub kdf_alg_from : Whole model.KdfAlgorithm
-kdf_alg_from n = or_label (named kdf_name kdf_algorithms n)
+abbrev pub kdf_algorithm_from : Whole model.KdfAlgorithm
+kdf_algorithm_from n = or_label (named kdf_name kdf_algorithms n)
 
 unlisted : {A : Type 0} (o : Option A) (fault : Fault) → or_label o ≡ Err fault → fault ≡ Label
 unlisted (Some a) fault e = absurd cc
@@ -64,7 +64,7 @@ unlisted None fault e = cc
 pub cipher_refusals : (t : List ℕ) (fault : Fault) → cipher_from t ≡ Err fault → fault ≡ Label
 cipher_refusals t = unlisted (named cipher_name ciphers t)
 
-pub kdf_alg_refusals : (t : List ℕ) (fault : Fault) → kdf_alg_from t ≡ Err fault → fault ≡ Label
+pub kdf_alg_refusals : (t : List ℕ) (fault : Fault) → kdf_algorithm_from t ≡ Err fault → fault ≡ Label
 kdf_alg_refusals t = unlisted (named kdf_name kdf_algorithms t)
 
 pub cipher_ascii : (c : model.Cipher) → Any c → are_ascii (cipher_name c) ≡ true

@@ -19,6 +19,6 @@ cipher_key cipher.Aes128Gcm = 8 ∷ []
 cipher_key cipher.Aes256Gcm = 9 ∷ []
 cipher_key cipher.ChaCha20Poly1305 = 10 ∷ []
 
-abbrev pub kdf_alg_key : KdfAlg → List ℕ
-kdf_alg_key alg.None = 0 ∷ []
-kdf_alg_key alg.Bcrypt = 1 ∷ []
+abbrev pub kdf_algorithm_key : KdfAlg → List ℕ
+kdf_algorithm_key alg.None = 0 ∷ []
+kdf_algorithm_key alg.Bcrypt = 1 ∷ []

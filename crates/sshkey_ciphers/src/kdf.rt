@@ -11,7 +11,7 @@ ghost use Rattle.sshkey_base.specs.declared.error.Error.TheVariants as wide;
 ghost use Rattle.sshkey_model.specs.KeyDerivation.{Kdf as TheKdf, NoKdf, NoDerivation, BcryptDerivation, bcrypt_options_at, kdf_options_at, kdf, bcrypt_options, derivation};
 ghost use Rattle.sshkey_model.specs.Parts.{Any};
 ghost use Rattle.sshkey_model.specs.Reading.{box_at, whole};
-ghost use Rattle.sshkey_ciphers.specs.Ciphers.{alg_of, kdf_of, options_of, kdf_with_salt, SpellsKdf, kdf_at, kdf_grammar, kdf_normal};
+ghost use Rattle.sshkey_ciphers.specs.Ciphers.{kdf_algorithm_of, kdf_of, options_of, kdf_with_salt, SpellsKdf, kdf_at, kdf_grammar, kdf_normal};
 ghost use Rattle.sshkey_ciphers.specs.Needs.{NeedsKdf};
 
 use crate::kdf_alg::KdfAlg;
@@ -43,8 +43,8 @@ impl Kdf {
     ///
     /// `AlgorithmUnknown` exactly where no key is to be derived. A refused call draws nothing.
     pub fn new<R: Rng + CryptoRng>(alloc: Global, algorithm: KdfAlg, rng: &mut R) -> Result<Kdf>
-        ensures gives { Answers kdf_of cause
-            (kdf_with_salt (alg_of algorithm) (fill_bytes 16 (R.stream rng.old)).0) result }
+        ensures gives { Answers kdf_of cause (kdf_with_salt (kdf_algorithm_of algorithm)
+            (fill_bytes 16 (R.stream rng.old)).0) result }
         ensures drawn { OnOk result (R.stream rng.new ≡ (fill_bytes 16 (R.stream rng.old)).1) }
         ensures kept { OnErr result (rng.new ≡ rng.old) }
     {
@@ -61,7 +61,7 @@ impl Kdf {
 
     /// Its name.
     pub fn algorithm(&self) -> KdfAlg
-        ensures { alg_of result ≡ derivation (kdf_of self.now) }
+        ensures { kdf_algorithm_of result ≡ derivation (kdf_of self.now) }
     {
         match self {
             Kdf::None => KdfAlg::None,

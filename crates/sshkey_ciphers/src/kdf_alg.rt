@@ -7,7 +7,7 @@ ghost use Rattle.sshkey_base.specs.Labels.{LooksUp, LooksUpAlways};
 ghost use Rattle.sshkey_model.specs.KeyDerivation.{KdfAlgorithm, NoDerivation, BcryptDerivation, kdf_name};
 ghost use Rattle.sshkey_model.specs.Parts.{Any};
 ghost use Rattle.sshkey_model.specs.Reading as fault;
-ghost use Rattle.sshkey_ciphers.specs.Ciphers.{alg_of, kdf_alg_from, kdf_algorithm_checks, kdf_alg_ascii, kdf_alg_refusals};
+ghost use Rattle.sshkey_ciphers.specs.Ciphers.{kdf_algorithm_of, kdf_algorithm_from, kdf_algorithm_checks, kdf_alg_ascii, kdf_alg_refusals};
 
 use sshkey_base::{Label, LabelError, Result, encoding};
 use std::alloc::Global;
@@ -28,14 +28,14 @@ pub enum KdfAlg {
 impl KdfAlg {
     /// The key derivation of that name, and `Label` where none has it. Takes no memory.
     pub fn new(name: &str) -> Result<KdfAlg>
-        ensures { NamesAlways alg_of cause (kdf_alg_from name.now) result }
+        ensures { NamesAlways kdf_algorithm_of cause (kdf_algorithm_from name.now) result }
     {
         Ok(name.parse::<KdfAlg>()?)
     }
 
     /// The name: `none` or `bcrypt`.
     pub fn as_str(&self) -> &'static str
-        ensures { result.now ≡ kdf_name (alg_of self.now) }
+        ensures { result.now ≡ kdf_name (kdf_algorithm_of self.now) }
     {
         match self {
             KdfAlg::None => "none",
@@ -45,7 +45,7 @@ impl KdfAlg {
 
     /// Whether no key is derived.
     pub fn is_none(&self) -> bool
-        ensures { IsTrue result ↔ (alg_of self.now ≡ NoDerivation) }
+        ensures { IsTrue result ↔ (kdf_algorithm_of self.now ≡ NoDerivation) }
     {
         matches!(self, KdfAlg::None)
     }
@@ -53,7 +53,7 @@ impl KdfAlg {
 
 /// bcrypt.
 impl Default for KdfAlg {
-    ghost is_default = { λ algorithm. alg_of algorithm ≡ BcryptDerivation };
+    ghost is_default = { λ algorithm. kdf_algorithm_of algorithm ≡ BcryptDerivation };
 
     fn default() -> KdfAlg {
         KdfAlg::Bcrypt
@@ -64,7 +64,7 @@ impl Default for KdfAlg {
 impl FromStr for KdfAlg {
     type Err = LabelError;
 
-    ghost from_str_gives = { λ name r. NamesAlways alg_of (λ _. Faulty fault.Label) (kdf_alg_from name) r };
+    ghost from_str_gives = { λ name r. NamesAlways kdf_algorithm_of (λ _. Faulty fault.Label) (kdf_algorithm_from name) r };
 
     fn from_str(name: &str) -> std::result::Result<KdfAlg, LabelError> {
         match name {
@@ -78,21 +78,21 @@ impl FromStr for KdfAlg {
 impl Label for KdfAlg {
     ghost Named = { KdfAlgorithm };
 
-    ghost stands_for = { alg_of };
+    ghost stands_for = { kdf_algorithm_of };
 
     ghost name = { kdf_name };
 
     ghost IsNamed = { Any };
 
-    ghost named = { kdf_alg_from };
+    ghost named = { kdf_algorithm_from };
 
     fn label(&self) -> &str {
         self.as_str()
     }
 
     fn from_label(_alloc: Global, name: &str) -> encoding::Result<KdfAlg>
-        ensures gives { LooksUp alg_of kdf_alg_from name.now result }
-        ensures always { LooksUpAlways alg_of kdf_alg_from name.now result }
+        ensures gives { LooksUp kdf_algorithm_of kdf_algorithm_from name.now result }
+        ensures always { LooksUpAlways kdf_algorithm_of kdf_algorithm_from name.now result }
     {
         Ok(name.parse::<KdfAlg>()?)
     }
@@ -105,7 +105,7 @@ impl Label for KdfAlg {
 }
 
 impl AsStr for KdfAlg {
-    ghost text = { λ algorithm. kdf_name (alg_of algorithm) };
+    ghost text = { λ algorithm. kdf_name (kdf_algorithm_of algorithm) };
 
     fn as_str(&self) -> &str {
         KdfAlg::as_str(self)
@@ -113,7 +113,7 @@ impl AsStr for KdfAlg {
 }
 
 impl fmt::Display for KdfAlg {
-    ghost output = { λ algorithm. Some (kdf_name (alg_of algorithm)) };
+    ghost output = { λ algorithm. Some (kdf_name (kdf_algorithm_of algorithm)) };
 
     fn fmt<W: fmt::Write>(&self, f: &mut fmt::Formatter<W>) -> fmt::Result {
         f.write_str(self.as_str())

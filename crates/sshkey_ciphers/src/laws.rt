@@ -1,8 +1,8 @@
 //! Laws of ciphers and key derivations. They make no call: each is a fact about the definitions.
 
 ghost use Rattle.sshkey_base.specs.Comparisons.{IsEqualityOf, IsOrderOf};
-ghost use Rattle.sshkey_ciphers.specs.Ciphers.{cipher_of, alg_of, kdf_of};
-ghost use Rattle.sshkey_ciphers.specs.Comparisons.{cipher_key, kdf_alg_key};
+ghost use Rattle.sshkey_ciphers.specs.Ciphers.{cipher_of, kdf_algorithm_of, kdf_of};
+ghost use Rattle.sshkey_ciphers.specs.Comparisons.{cipher_key, kdf_algorithm_key};
 
 use crate::cipher::Cipher;
 use crate::kdf::Kdf;
@@ -16,8 +16,8 @@ pub fn compared_ciphers()
 
 /// The same of the algorithms of key derivation.
 pub fn compared_kdf_algorithms()
-    ensures equal { IsEqualityOf alg_of ⟦<KdfAlg as PartialEq>⟧.eq }
-    ensures ordered { IsOrderOf kdf_alg_key ⟦<KdfAlg as Ord>⟧.cmp }
+    ensures equal { IsEqualityOf kdf_algorithm_of ⟦<KdfAlg as PartialEq>⟧.eq }
+    ensures ordered { IsOrderOf kdf_algorithm_key ⟦<KdfAlg as Ord>⟧.cmp }
 {}
 
 /// Two key derivations are equal exactly if they mean the same.
