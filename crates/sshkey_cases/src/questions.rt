@@ -147,6 +147,7 @@ fn answer_of_keys(alloc: Global, question: &str, parts: &[Vec<u8>]) -> Result<St
         "signature-in-front" => signatures::front(alloc, bytes),
         "signature-of-bytes" => signatures::made(alloc, parts),
         "rising-signatures" => wire::rising::<Signature>(alloc, parts),
+        "accepted" => signatures::accepted(alloc, parts),
         _ => answer_of_messages(alloc, question, parts),
     }
 }
@@ -177,7 +178,8 @@ fn answer_of_slices(alloc: Global, question: &str, parts: &[Vec<u8>]) -> Result<
         "options-slice" => slices::options(alloc, bytes),
         "certificate-slice" => slices::certificate(alloc, bytes),
         "certificate-parts" => certificates::parts(alloc, bytes),
-        "validity-slice" => validity::slice(alloc, parts),
+        "validity-slice" | "validity-of-slice" => validity::slice(alloc, parts),
+        "accepted-slice" => signatures::accepted_slice(alloc, parts),
         _ => answer_of_certificates(alloc, question, parts),
     }
 }
@@ -194,7 +196,7 @@ fn answer_of_certificates(alloc: Global, question: &str, parts: &[Vec<u8>]) -> R
         "certificate-line" => certificates::line(alloc, text(parts, 0)?),
         "options-of-pairs" => certificates::options(alloc, parts),
         "issued" => issued::certificate(alloc, parts),
-        "validity" => validity::owned(alloc, parts),
+        "validity" | "validity-of" => validity::owned(alloc, parts),
         "private-key" => privates::whole(alloc, bytes),
         "private-key-in-front" => privates::front(alloc, bytes),
         "private-key-with-comment" => privates::commented(alloc, parts),

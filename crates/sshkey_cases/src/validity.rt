@@ -10,7 +10,8 @@ use sshkey_keys::Fingerprint;
 use std::alloc::Global;
 
 /// Whether the certificate that the first byte string spells is valid at the second that the second
-/// one spells, where the third one is the fingerprint of its authority.
+/// one spells, where the third one is the fingerprint of its authority; for the principal that the
+/// fourth one is, where there are four.
 pub(crate) fn owned(alloc: Global, parts: &[Vec<u8>]) -> Result<String> {
     let certificate = Certificate::from_bytes(alloc, part(parts, 0))?;
     answer(alloc, judge(alloc, &certificate, parts))
@@ -18,15 +19,30 @@ pub(crate) fn owned(alloc: Global, parts: &[Vec<u8>]) -> Result<String> {
 
 fn judge(alloc: Global, certificate: &Certificate, parts: &[Vec<u8>]) -> Result<()> {
     let (secs, authority) = moment(alloc, parts)?;
-    certificate.validate_at(alloc, secs, &[authority], &AcceptAll)
+    match parts {
+        [_, _, _, name] => {
+            let name = std::str::from_utf8(name)?;
+            certificate.validate_principal_at(alloc, secs, name, &[authority], &AcceptAll)
+        }
+        _ => certificate.validate_at(alloc, secs, &[authority], &AcceptAll),
+    }
 }
 
 /// The same of the certificate as a slice.
 pub(crate) fn slice(alloc: Global, parts: &[Vec<u8>]) -> Result<String> {
     let certificate = CertificateRef::from_bytes(part(parts, 0))?;
+    answer(alloc, judge_slice(alloc, &certificate, parts))
+}
+
+fn judge_slice(alloc: Global, certificate: &CertificateRef<'_>, parts: &[Vec<u8>]) -> Result<()> {
     let (secs, authority) = moment(alloc, parts)?;
-    let judged = certificate.validate_at(alloc, secs, &[authority], &AcceptAll);
-    answer(alloc, judged)
+    match parts {
+        [_, _, _, name] => {
+            let name = std::str::from_utf8(name)?;
+            certificate.validate_principal_at(alloc, secs, name, &[authority], &AcceptAll)
+        }
+        _ => certificate.validate_at(alloc, secs, &[authority], &AcceptAll),
+    }
 }
 
 fn moment(alloc: Global, parts: &[Vec<u8>]) -> Result<(u64, Fingerprint)> {
