@@ -1,14 +1,14 @@
 //! Certificates that OpenSSH made: read, written back and validated.
 
-use super::certified::{Certified, each, ed25519_user, p256_host, p384_user, rsa_sha256};
+use super::certified::{Certified, each, ed25519_user, p256_host, p384_user, rsa_sha256, stored};
 use base64::engine::general_purpose::STANDARD;
 use sshkey_base::{Algorithm, Error, HashAlg};
 use sshkey_cert::{Certificate, is_given};
 use sshkey_doubles::{AcceptAll, Only, OutOfMemory, RefuseAll};
 use sshkey_keys::{Fingerprint, KeyData};
 use sshkey_options::{MAX_SECS, OptionsMap};
-use std::alloc::Global;
-use std::fs::Files;
+use std::alloc::{Alloc, Global};
+use std::fs::{self, Files};
 use std::io::ErrorKind;
 
 /// The bytes of a certificate.
@@ -285,4 +285,27 @@ fn is_missing<R: Files>(rt: &R, alloc: Global, path: &str) -> bool {
 #[test]
 fn a_missing_file_is_not_found(rt: HostRuntime) {
     assert!(rt; is_missing(&rt, rt.alloc(), "no-such-cert.pub"));
+}
+
+/// Writes the certificate of the line into the file.
+fn is_in_file<R: Files>(rt: &R, alloc: Global, path: &str) -> bool {
+    match Certificate::from_openssh(alloc, stored()) {
+        Ok(certificate) => certificate.write_file(rt, alloc, path).is_ok(),
+        Err(_) => false,
+    }
+}
+
+/// The file has this text.
+fn has_text<R: Files + Alloc>(rt: &R, path: &str, text: &str) -> bool {
+    match fs::read_to_string(rt, path) {
+        Ok(found) => found.as_str() == text,
+        Err(_) => false,
+    }
+}
+
+#[test]
+fn a_written_file_has_the_line_alone(rt: HostRuntime) {
+    assert!(rt; is_in_file(&rt, rt.alloc(), "written-cert.pub"));
+    assert!(rt; has_text(&rt, "written-cert.pub", stored()));
+    assert!(rt; fs::remove_file(&rt, "written-cert.pub").is_ok());
 }
