@@ -8,9 +8,11 @@ ghost use Rattle.sshkey_cert.specs.CertificateValues.{certificate_of};
 ghost use Rattle.sshkey_tool.specs.Lines.{MakesLines, SaysAllowed, end_text, field_lines, option_line, principal_lines, subject_lines, type_word, window_lines};
 ghost use Rattle.sshkey_tool.specs.Outcomes.{ShowsCertificate, ShowsAuthority};
 
-use ssh_key::certificate::{CertType, FOREVER, OptionsMap};
-use ssh_key::public::KeyData;
-use ssh_key::{Certificate, Error, PublicKey};
+use sshkey_base::Error;
+use sshkey_cert::Certificate;
+use sshkey_keys::KeyData;
+use sshkey_options::{CertType, FOREVER, OptionsMap};
+use sshkey_public::PublicKey;
 use std::alloc::{AllocError, Global};
 
 /// The fields of a certificate in lines, and where a principal is wanted, whether it is allowed.

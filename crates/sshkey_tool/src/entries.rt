@@ -7,8 +7,10 @@ ghost use Rattle.sshkey_tool.specs.Outcomes.{RefusesEntry, ShowsEntryLine, Write
 use crate::command::EntryFile;
 use crate::output::is_written;
 use crate::refusal::{refuse, refused_line};
-use ssh_key::{Error, authorized_keys, encoding, known_hosts};
+use sshkey_authorized_keys::Entry as AuthorizedKey;
+use sshkey_base::{Error, encoding};
 use sshkey_files::EntryTexts;
+use sshkey_known_hosts::Entry as KnownHost;
 use std::alloc::Global;
 use std::io::Write;
 
@@ -16,7 +18,7 @@ use std::io::Write;
 fn authorized_text(alloc: Global, line: &str) -> Result<String, Error>
     ensures { WritesEntry IsAuthorizedKey authorized_text line.now result }
 {
-    let entry = authorized_keys::Entry::from_line(alloc, line)?;
+    let entry = AuthorizedKey::from_line(alloc, line)?;
     entry.to_string(alloc)
 }
 
@@ -24,7 +26,7 @@ fn authorized_text(alloc: Global, line: &str) -> Result<String, Error>
 fn known_text(alloc: Global, line: &str) -> Result<String, Error>
     ensures { WritesEntry IsKnownHost known_text line.now result }
 {
-    let entry = known_hosts::Entry::from_line(alloc, line)?;
+    let entry = KnownHost::from_line(alloc, line)?;
     entry.to_string(alloc)
 }
 

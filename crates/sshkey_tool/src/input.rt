@@ -4,7 +4,7 @@ ghost use Rattle.std.specs.Prelude.{◌≡◌, IfOk, IfErr, IfSome};
 ghost use Rattle.sshkey_tool.specs.Faults.{IsMachineFault};
 ghost use Rattle.sshkey_tool.specs.Outcomes.{ReadsText};
 
-use ssh_key::{Error, encoding};
+use sshkey_base::{Error, encoding};
 use std::alloc::Global;
 use std::io::{ErrorKind, Read};
 

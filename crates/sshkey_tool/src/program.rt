@@ -10,7 +10,7 @@ use crate::input::read_text;
 use crate::output::write_line;
 use crate::refusal::refuse;
 use crate::shown::{shown_of_certificate_line, shown_of_key_line};
-use ssh_key::Error;
+use sshkey_base::Error;
 use std::alloc::Global;
 use std::io::{Read, Write};
 

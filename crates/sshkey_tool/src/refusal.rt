@@ -5,7 +5,7 @@ ghost use Rattle.sshkey_tool.specs.Outcomes.{WritesRefusal};
 ghost use Rattle.sshkey_tool.specs.Table.{IsFirstLine, IsRefusalLine};
 
 use crate::output::write_line;
-use ssh_key::{Error, encoding};
+use sshkey_base::{Error, encoding};
 use std::alloc::{AllocError, Global};
 use std::io::Write;
 

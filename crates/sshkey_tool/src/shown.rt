@@ -5,7 +5,9 @@ ghost use Rattle.sshkey_tool.specs.declared.command.Command.TheVariants as comma
 
 use crate::certificate::shown_of_certificate;
 use crate::command::KeyCommand;
-use ssh_key::{Certificate, Error, HashAlg, PublicKey};
+use sshkey_base::{Error, HashAlg};
+use sshkey_cert::Certificate;
+use sshkey_public::PublicKey;
 use std::alloc::Global;
 
 /// What the command shows of a key with its comment.
