@@ -57,6 +57,7 @@ class Program:
         try:
             os.dup2(os.open(question, os.O_RDONLY), 0)
             os.dup2(os.open(output, os.O_WRONLY | os.O_CREAT | os.O_TRUNC), 1)
+            os.dup2(os.open(os.devnull, os.O_WRONLY), 2)
             trace(TRACEME, 0)
             os.execv(self.path, [self.path])
         finally:
