@@ -92,6 +92,17 @@ pub fn string_len(bytes: &[u8]) -> Result<usize>
     Ok(4 + len as usize)
 }
 
+/// How many bytes two values have, one behind the other. `Length` exactly where a box in one of
+/// them would pass 2^32 - 1 bytes. Takes no memory.
+#[tactic(auto, using(crate::proofs::Writing::measuring))]
+pub fn both_len<A: Encode, B: Encode>(first: &A, second: &B) -> Result<usize>
+    requires { A.max_len + B.max_len < 2 ^ 64 }
+    ensures measures { Measures (A.normal first.now & B.normal second.now) result }
+    ensures short { IfOk result (λ n. n ≤ A.max_len + B.max_len) }
+{
+    Ok(first.encoded_len()? + second.encoded_len()?)
+}
+
 /// Writes two values, one behind the other.
 #[tactic(auto, using(crate::proofs::Writing::writing))]
 pub fn encode_both<A: Encode, B: Encode, W: Writer>(

@@ -27,7 +27,7 @@ mod writer;
 pub use algorithm::{Algorithm, AlgorithmName, EcdsaCurve, HashAlg, names};
 pub use bytes::Bytes;
 pub use decode::{Decode, decode_boxed, decode_front, decode_whole};
-pub use encode::{Encode, encode_both, encode_string, encode_vec, string_len, u32_of};
+pub use encode::{Encode, both_len, encode_both, encode_string, encode_vec, string_len, u32_of};
 pub use error::{Error, Result};
 pub use hexadecimal::{write_lower_hex, write_upper_hex};
 pub use label::Label;

@@ -17,8 +17,8 @@ ghost use Rattle.sshkey_ciphers.specs.Needs.{NeedsKdf};
 use crate::kdf_alg::KdfAlg;
 use rand_core::{CryptoRng, Rng};
 use sshkey_base::{
-    Bytes, Decode, Encode, Error, NestedReader, NormalForm, Reader, Result, Writer, encode_both,
-    encoding,
+    Bytes, Decode, Encode, Error, NestedReader, NormalForm, Reader, Result, Writer, both_len,
+    encode_both, encoding,
 };
 use std::alloc::Global;
 
@@ -212,7 +212,7 @@ impl Encode for Kdf {
 
     fn encoded_len(&self) -> encoding::Result<usize> {
         match self {
-            Kdf::None => Ok(KdfAlg::None.encoded_len()? + 4),
+            Kdf::None => both_len(&KdfAlg::None, &0u32),
             Kdf::Bcrypt { salt, rounds } => {
                 let rounds = *rounds;
                 Ok(
@@ -256,11 +256,10 @@ impl Encode for BcryptOf<'_> {
     ghost max_len = { 2 * (2 ^ 32 + 4) };
 
     fn encoded_len(&self) -> encoding::Result<usize> {
-        Ok(self.salt.encoded_len()? + self.rounds.encoded_len()?)
+        both_len(self.salt, &self.rounds)
     }
 
     fn encode<W: Writer>(&self, writer: &mut W) -> encoding::Result<()> {
-        self.salt.encode(writer)?;
-        self.rounds.encode(writer)
+        encode_both(self.salt, &self.rounds, writer)
     }
 }

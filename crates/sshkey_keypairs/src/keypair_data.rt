@@ -19,8 +19,8 @@ use crate::opaque::{OpaqueKeypair, OpaquePrivateKeyBytes};
 use crate::sk_ecdsa::SkEcdsaSha2NistP256;
 use crate::sk_ed25519::SkEd25519;
 use sshkey_base::{
-    Algorithm, Decode, EcdsaCurve, Encode, Error, NormalForm, Reader, Result, Writer, encode_both,
-    encoding,
+    Algorithm, Decode, EcdsaCurve, Encode, Error, NormalForm, Reader, Result, Writer, both_len,
+    encode_both, encoding,
 };
 use sshkey_keys::KeyData;
 use sshkey_kinds::{EcdsaPublicKey, OpaquePublicKey, OpaquePublicKeyBytes};
@@ -52,14 +52,14 @@ pub enum KeypairData {
 impl Drop for KeypairData {
     fn drop(self) {
         match self {
-            KeypairData::Dsa(_) => {}
-            KeypairData::Ecdsa(_) => {}
-            KeypairData::Ed25519(_) => {}
-            KeypairData::Encrypted(_) => {}
-            KeypairData::Rsa(_) => {}
-            KeypairData::SkEcdsaSha2NistP256(_) => {}
-            KeypairData::SkEd25519(_) => {}
-            KeypairData::Other(_) => {}
+            KeypairData::Dsa(_)
+            | KeypairData::Ecdsa(_)
+            | KeypairData::Ed25519(_)
+            | KeypairData::Encrypted(_)
+            | KeypairData::Rsa(_)
+            | KeypairData::SkEcdsaSha2NistP256(_)
+            | KeypairData::SkEd25519(_)
+            | KeypairData::Other(_) => {}
         }
     }
 }
@@ -311,24 +311,18 @@ impl Encode for KeypairData {
     ghost max_len = { 2 ^ 63 };
 
     fn encoded_len(&self) -> encoding::Result<usize> {
-        Ok(match self {
-            KeypairData::Dsa(pair) => Algorithm::Dsa.encoded_len()? + pair.encoded_len()?,
-            KeypairData::Ecdsa(pair) => pair.algorithm().encoded_len()? + pair.encoded_len()?,
-            KeypairData::Ed25519(pair) => Algorithm::Ed25519.encoded_len()? + pair.encoded_len()?,
-            KeypairData::Encrypted(ciphertext) => ciphertext.len(),
-            KeypairData::Rsa(pair) => {
-                Algorithm::Rsa { hash: None }.encoded_len()? + pair.encoded_len()?
-            }
+        match self {
+            KeypairData::Dsa(pair) => both_len(&Algorithm::Dsa, pair),
+            KeypairData::Ecdsa(pair) => both_len(&pair.algorithm(), pair),
+            KeypairData::Ed25519(pair) => both_len(&Algorithm::Ed25519, pair),
+            KeypairData::Encrypted(ciphertext) => Ok(ciphertext.len()),
+            KeypairData::Rsa(pair) => both_len(&Algorithm::Rsa { hash: None }, pair),
             KeypairData::SkEcdsaSha2NistP256(pair) => {
-                Algorithm::SkEcdsaSha2NistP256.encoded_len()? + pair.encoded_len()?
+                both_len(&Algorithm::SkEcdsaSha2NistP256, pair)
             }
-            KeypairData::SkEd25519(pair) => {
-                Algorithm::SkEd25519.encoded_len()? + pair.encoded_len()?
-            }
-            KeypairData::Other(pair) => {
-                pair.public.algorithm.encoded_len()? + pair.encoded_len()?
-            }
-        })
+            KeypairData::SkEd25519(pair) => both_len(&Algorithm::SkEd25519, pair),
+            KeypairData::Other(pair) => both_len(&pair.public.algorithm, pair),
+        }
     }
 
     fn encode<W: Writer>(&self, writer: &mut W) -> encoding::Result<()> {

@@ -11,7 +11,8 @@ ghost use Rattle.sshkey_kinds.specs.Comparisons.{opaque_fields};
 ghost use Rattle.sshkey_keypairs.specs.OpaquePairs.{opaque_pair_of, opaque_private_of, nameless_pair_of};
 
 use sshkey_base::{
-    Algorithm, Bytes, Decode, Encode, Error, Reader, Result, Writer, encode_both, encoding,
+    Algorithm, Bytes, Decode, Encode, Error, Reader, Result, Writer, both_len, encode_both,
+    encoding,
 };
 use sshkey_kinds::{OpaquePublicKey, OpaquePublicKeyBytes};
 use std::alloc::Global;
@@ -217,7 +218,7 @@ impl Encode for OpaqueKeypair {
     ghost max_len = { 2 * (2 ^ 32 + 4) };
 
     fn encoded_len(&self) -> encoding::Result<usize> {
-        Ok(self.public.encoded_len()? + self.private.encoded_len()?)
+        both_len(&self.public, &self.private)
     }
 
     fn encode<W: Writer>(&self, writer: &mut W) -> encoding::Result<()> {

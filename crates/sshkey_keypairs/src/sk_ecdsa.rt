@@ -10,7 +10,7 @@ ghost use Rattle.sshkey_keypairs.specs.SecurityPairs.{sk_ecdsa_steps_at, sk_ecds
 ghost use Rattle.sshkey_keypairs.specs.SecurityPairs.{sk_ecdsa_pair_of, sk_ecdsa_public, sk_ecdsa_held, held_anew};
 
 use crate::held::Held;
-use sshkey_base::{Decode, Encode, Error, Reader, Result, Writer, encode_both, encoding};
+use sshkey_base::{Decode, Encode, Error, Reader, Result, Writer, both_len, encode_both, encoding};
 use sshkey_kinds::SkEcdsaSha2NistP256 as PublicSkEcdsa;
 use std::alloc::Global;
 use std::fmt;
@@ -113,7 +113,7 @@ impl Encode for SkEcdsaSha2NistP256 {
     ghost max_len = { 6 * (2 ^ 32 + 4) };
 
     fn encoded_len(&self) -> encoding::Result<usize> {
-        Ok(self.public.encoded_len()? + self.held.encoded_len()?)
+        both_len(&self.public, &self.held)
     }
 
     fn encode<W: Writer>(&self, writer: &mut W) -> encoding::Result<()> {

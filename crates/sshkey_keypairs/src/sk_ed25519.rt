@@ -10,7 +10,7 @@ ghost use Rattle.sshkey_keypairs.specs.SecurityPairs.{sk_ed25519_steps_at, sk_ed
 ghost use Rattle.sshkey_keypairs.specs.SecurityPairs.{sk_ed25519_pair_of, sk_ed25519_public, sk_ed25519_held, held_anew};
 
 use crate::held::Held;
-use sshkey_base::{Decode, Encode, Error, Reader, Result, Writer, encode_both, encoding};
+use sshkey_base::{Decode, Encode, Error, Reader, Result, Writer, both_len, encode_both, encoding};
 use sshkey_kinds::SkEd25519 as PublicSkEd25519;
 use std::alloc::Global;
 use std::fmt;
@@ -113,7 +113,7 @@ impl Encode for SkEd25519 {
     ghost max_len = { 5 * (2 ^ 32 + 4) };
 
     fn encoded_len(&self) -> encoding::Result<usize> {
-        Ok(self.public.encoded_len()? + self.held.encoded_len()?)
+        both_len(&self.public, &self.held)
     }
 
     fn encode<W: Writer>(&self, writer: &mut W) -> encoding::Result<()> {

@@ -4,3 +4,4 @@ pub mod SignatureForms
 pub mod SignatureParts
 pub mod BoxedKeys
 pub mod Bodies
+mod TrailedBlobs

@@ -59,12 +59,13 @@ pub enum KeyData {
 impl Drop for KeyData {
     fn drop(self) {
         match self {
-            KeyData::Ecdsa(_) | KeyData::Ed25519(_) => {}
-            KeyData::Dsa(_) => {}
-            KeyData::Rsa(_) => {}
-            KeyData::SkEcdsaSha2NistP256(_) => {}
-            KeyData::SkEd25519(_) => {}
-            KeyData::Other(_) => {}
+            KeyData::Dsa(_)
+            | KeyData::Ecdsa(_)
+            | KeyData::Ed25519(_)
+            | KeyData::Rsa(_)
+            | KeyData::SkEcdsaSha2NistP256(_)
+            | KeyData::SkEd25519(_)
+            | KeyData::Other(_) => {}
         }
     }
 }

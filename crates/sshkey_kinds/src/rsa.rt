@@ -5,7 +5,9 @@ ghost use Rattle.sshkey_model.specs.Keys.{Key, body};
 ghost use Rattle.sshkey_model.specs.Keys.{rsa_at};
 ghost use Rattle.sshkey_kinds.specs.Bodies.{SpellsRsa, rsa_grammar};
 
-use sshkey_base::{Decode, Encode, Error, Mpint, Reader, Result, Writer, encoding};
+use sshkey_base::{
+    Decode, Encode, Error, Mpint, Reader, Result, Writer, both_len, encode_both, encoding,
+};
 use std::alloc::Global;
 
 /// An RSA public key (RFC 4253, section 6.6).
@@ -71,11 +73,10 @@ impl Encode for RsaPublicKey {
     ghost max_len = { 2 * (2 ^ 32 + 4) };
 
     fn encoded_len(&self) -> encoding::Result<usize> {
-        Ok(self.e.encoded_len()? + self.n.encoded_len()?)
+        both_len(&self.e, &self.n)
     }
 
     fn encode<W: Writer>(&self, writer: &mut W) -> encoding::Result<()> {
-        self.e.encode(writer)?;
-        self.n.encode(writer)
+        encode_both(&self.e, &self.n, writer)
     }
 }

@@ -15,8 +15,8 @@ ghost use Rattle.sshkey_kinds.specs.EcPoint.{point_of};
 use crate::ec_point::{EcPoint, EcdsaNistP256PublicKey};
 use crate::ed25519::Ed25519PublicKey;
 use sshkey_base::{
-    Decode, EcdsaCurve, Encode, Error, Reader, Result, ShortBytes, Text, Writer, encoding,
-    length_from,
+    Decode, EcdsaCurve, Encode, Error, Reader, Result, ShortBytes, Text, Writer, both_len,
+    encode_both, encoding, length_from,
 };
 use std::alloc::Global;
 
@@ -297,11 +297,10 @@ impl Encode for SkEd25519 {
     ghost max_len = { 2 * (2 ^ 32 + 4) };
 
     fn encoded_len(&self) -> encoding::Result<usize> {
-        Ok(self.public_key.encoded_len()? + self.application.encoded_len()?)
+        both_len(&self.public_key, &self.application)
     }
 
     fn encode<W: Writer>(&self, writer: &mut W) -> encoding::Result<()> {
-        self.public_key.encode(writer)?;
-        self.application.encode(writer)
+        encode_both(&self.public_key, &self.application, writer)
     }
 }

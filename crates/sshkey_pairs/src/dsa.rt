@@ -10,7 +10,9 @@ ghost use Rattle.sshkey_base.specs.Mpint.{SpellsMpint, mpint_grammar, mpint_of};
 ghost use Rattle.sshkey_pairs.specs.PairReaders.{SpellsPair, dsa_steps_at, dsa_grammar};
 ghost use Rattle.sshkey_pairs.specs.PrivateHalves.{dsa_private_of};
 
-use sshkey_base::{Decode, Encode, Error, Mpint, Reader, Result, Writer, encode_both, encoding};
+use sshkey_base::{
+    Decode, Encode, Error, Mpint, Reader, Result, Writer, both_len, encode_both, encoding,
+};
 use sshkey_kinds::DsaPublicKey;
 use std::alloc::Global;
 use std::convert::AsSlice;
@@ -182,7 +184,7 @@ impl Encode for DsaKeypair {
     ghost max_len = { 5 * (2 ^ 32 + 4) };
 
     fn encoded_len(&self) -> encoding::Result<usize> {
-        Ok(self.public.encoded_len()? + self.private.encoded_len()?)
+        both_len(&self.public, &self.private)
     }
 
     fn encode<W: Writer>(&self, writer: &mut W) -> encoding::Result<()> {

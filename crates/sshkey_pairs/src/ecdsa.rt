@@ -14,8 +14,8 @@ ghost use Rattle.sshkey_pairs.specs.PrivateHalves.{ecdsa_private_of};
 
 use crate::fixed_width::decode_fixed;
 use sshkey_base::{
-    Algorithm, Decode, EcdsaCurve, Encode, Error, Reader, Result, Writer, encode_both, encoding,
-    write_lower_hex, write_upper_hex,
+    Algorithm, Decode, EcdsaCurve, Encode, Error, Reader, Result, Writer, both_len, encode_both,
+    encoding, write_lower_hex, write_upper_hex,
 };
 use sshkey_kinds::{
     EcdsaNistP256PublicKey, EcdsaNistP384PublicKey, EcdsaNistP521PublicKey, EcdsaPublicKey,
@@ -306,12 +306,17 @@ impl Encode for EcdsaKeypair {
     ghost max_len = { 3 * (2 ^ 32 + 4) };
 
     fn encoded_len(&self) -> encoding::Result<usize> {
-        let public = self.public_key().encoded_len()?;
-        Ok(match self {
-            EcdsaKeypair::NistP256 { private, .. } => public + private.encoded_len()?,
-            EcdsaKeypair::NistP384 { private, .. } => public + private.encoded_len()?,
-            EcdsaKeypair::NistP521 { private, .. } => public + private.encoded_len()?,
-        })
+        match self {
+            EcdsaKeypair::NistP256 { public, private } => {
+                both_len(&EcdsaPublicKey::NistP256(*public), private)
+            }
+            EcdsaKeypair::NistP384 { public, private } => {
+                both_len(&EcdsaPublicKey::NistP384(*public), private)
+            }
+            EcdsaKeypair::NistP521 { public, private } => {
+                both_len(&EcdsaPublicKey::NistP521(*public), private)
+            }
+        }
     }
 
     fn encode<W: Writer>(&self, writer: &mut W) -> encoding::Result<()> {

@@ -17,7 +17,8 @@ ghost use Rattle.sshkey_pairs.specs.PrivateHalves.{ed25519_private_of};
 
 use rand_core::{CryptoRng, Rng};
 use sshkey_base::{
-    Decode, Encode, Error, Reader, Result, Writer, encoding, write_lower_hex, write_upper_hex,
+    Decode, Encode, Error, Reader, Result, Writer, both_len, encode_both, encoding,
+    write_lower_hex, write_upper_hex,
 };
 use sshkey_kinds::Ed25519PublicKey;
 use std::alloc::Global;
@@ -211,11 +212,10 @@ impl Encode for Ed25519Keypair {
     ghost max_len = { 2 * (2 ^ 32 + 4) };
 
     fn encoded_len(&self) -> encoding::Result<usize> {
-        Ok(self.public.0.encoded_len()? + self.to_bytes().encoded_len()?)
+        both_len(&self.public.0, &self.to_bytes())
     }
 
     fn encode<W: Writer>(&self, writer: &mut W) -> encoding::Result<()> {
-        self.public.0.encode(writer)?;
-        self.to_bytes().encode(writer)
+        encode_both(&self.public.0, &self.to_bytes(), writer)
     }
 }

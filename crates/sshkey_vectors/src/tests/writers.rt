@@ -4,8 +4,8 @@ ghost use Rattle.std.specs.Prelude.{◌≤◌};
 
 use sshkey_base::encoding::{Error, Result};
 use sshkey_base::{
-    Encode, SliceWriter, Writer, encode_both, encode_list, encode_string, encode_vec, list_len,
-    string_len,
+    Encode, SliceWriter, Writer, both_len, encode_both, encode_list, encode_string, encode_vec,
+    list_len, string_len,
 };
 use std::alloc::Global;
 
@@ -67,7 +67,8 @@ fn parts(rt: HostRuntime) {
     let mut room = [0u8; 32];
     let mut writer = SliceWriter::new(&mut room);
     assert!(rt; write_parts(&mut writer).is_ok() && writer.written() == PARTS.as_slice());
-    assert!(rt; 256u32.encoded_len_prefixed() == Ok(8) && list_len(&[1u32, 258]) == Ok(12));
+    assert!(rt; 256u32.encoded_len_prefixed() == Ok(8) && both_len(&513u32, &9u8) == Ok(5));
+    assert!(rt; list_len(&[1u32, 258]) == Ok(12));
 }
 
 /// What stands in a slice of this length after the parts were written to it, and the answer.
