@@ -61,6 +61,10 @@ fn check_signer(key: &KeyData) -> Result<()>
         KeyData::SkEd25519(_) => Err(Error::AlgorithmUnsupported {
             algorithm: Algorithm::SkEd25519,
         }),
-        _ => Ok(()),
+        KeyData::Dsa(_)
+        | KeyData::Ecdsa(_)
+        | KeyData::Ed25519(_)
+        | KeyData::Rsa(_)
+        | KeyData::Other(_) => Ok(()),
     }
 }
