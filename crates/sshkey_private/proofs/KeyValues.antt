@@ -61,3 +61,15 @@ module _ {X Y : Type 0} (ciphertext : X → List ℕ) (tag : Y → List ℕ) (c 
       go : (rest : List ℕ) → length rest ≡ n → IsErrAnd (last_of (sealed, rest)) (λ f. Faulty (TrailingKeyData n) ≡ Faulty f)
       go [] len = absurd (omega arith)
       go (d ∷ rest) len = ap (λ (m : ℕ). Faulty (TrailingKeyData m)) (sym len)
+
+  pub none_behind : {Z : Type 0} (means : Z → PrivateKey) (z : Z) → means z ≡ sealed → announced_len u ≡ 0 → Reads means (last_encrypted_at c k public) s z u
+  unfolding last_encrypted_at
+  none_behind {Z} means z same none = record {
+    value = rw (a.value, b.value) (go u.left (omega (arith, none)));
+    missing = b.missing ∙ a.missing;
+    outer = b.outer ∙ a.outer;
+  }
+    where
+      go : (rest : List ℕ) → length rest ≡ 0 → last_of (sealed, rest) ≡ Ok (means z, rest)
+      go [] len = ap (λ (y : PrivateKey). Ok (y, [])) (sym same)
+      go (d ∷ rest) len = absurd (omega arith)
