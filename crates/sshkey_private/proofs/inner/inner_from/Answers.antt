@@ -1,4 +1,4 @@
-use Rattle.std.proofs.Common.{refl, ◌∙◌}
+use Rattle.std.proofs.Common.{refl, ◌∙◌, inl}
 use Rattle.std.proofs.lemmas.Result.{err_from_is_err_and}
 use Rattle.sshkey_base.specs.Causes.{same_cause}
 use Rattle.sshkey_base.specs.Needs.{NoNeed, NeedsString, NeedsBoth}
@@ -9,6 +9,34 @@ use Rattle.sshkey_keypairs.specs.KeypairNeeds.{NeedsKeypair}
 use Rattle.sshkey_keys.specs.Keys.{key_of}
 use Rattle.sshkey_private.specs.Inner.{inner_at, checkint_at, pair_with_at}
 use Rattle.sshkey_private.proofs.inner.inner_from.Goals as goal
+
+pub returns-in_err-checkint-clause-gives : goal.returns-in_err-checkint-clause-gives
+unfolding inner_at
+returns-in_err-checkint-clause-gives g c =
+    let p = err_from_is_err_and c.from_residual.result c.from_residual.ensures.1 in
+    rw (p.1, p.2) (refused_first _ _ _ _ c.in_err-checkint.ensures.gives)
+
+pub returns-in_err-checkint-clause-later : goal.returns-in_err-checkint-clause-later
+returns-in_err-checkint-clause-later g c = c.in_err-checkint.ensures.later
+
+pub returns-in_err-checkint-clause-asks : goal.returns-in_err-checkint-clause-asks
+returns-in_err-checkint-clause-asks g c =
+    let p = err_from_is_err_and c.from_residual.result c.from_residual.ensures.1 in
+    rw (p.1, p.2) (λ memory sound. inl (c.in_err-checkint.ensures.asks memory sound))
+
+pub returns-in_err-pair-clause-gives : goal.returns-in_err-pair-clause-gives
+unfolding inner_at
+returns-in_err-pair-clause-gives g c =
+    let p = err_from_is_err_and c.from_residual-in_err-pair.result c.from_residual-in_err-pair.ensures.1 in
+    rw (p.1, p.2) (refused_later _ _ _ _ _ _ _ c.in_ok-checkint.ensures.gives (refused_first _ _ _ _ c.in_err-pair.ensures.gives))
+
+pub returns-in_err-pair-clause-later : goal.returns-in_err-pair-clause-later
+returns-in_err-pair-clause-later g c = later_then _ _ _ c.in_ok-checkint.ensures.later c.in_err-pair.ensures.later
+
+pub returns-in_err-pair-clause-asks : goal.returns-in_err-pair-clause-asks
+returns-in_err-pair-clause-asks g c =
+    let p = err_from_is_err_and c.from_residual-in_err-pair.result c.from_residual-in_err-pair.ensures.1 in
+    rw (p.1, p.2) (asks_later (λ n. n) NoNeed (λ n. NeedsBoth NeedsKeypair (pair_with_at (key_of c.args.public.now)) NeedsString) checkint_at _ _ _ _ c.in_ok-checkint.ensures.gives (λ memory sound. inl (c.in_err-pair.ensures.asks memory sound)))
 
 pub returns-in_err-comment-clause-gives : goal.returns-in_err-comment-clause-gives
 unfolding inner_at
