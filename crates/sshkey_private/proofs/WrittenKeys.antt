@@ -1,6 +1,7 @@
 -- What is written from the fields of a private key is its normal form.
-use Rattle.std.proofs.Common.{◌≡◌, ℕ, zero, suc, List, length, true, false, refl, ap}
-use Rattle.sshkey_model.specs.Parts.{bytes, box, flat, BoxesFit}
+use Rattle.std.proofs.Common.{◌≡◌, ℕ, zero, suc, List, length, true, false, refl, ap, Vec, Global}
+use Rattle.sshkey_model.specs.Parts.{bytes, box, ◌&◌, flat, BoxesFit}
+use Rattle.sshkey_model.specs.Texts.{string}
 use Rattle.sshkey_model.specs.PrivateKeys.{EncryptedKey, private_key_magic, normal_private_key, rising, padding, padded}
 use Rattle.sshkey_model.specs.KeyDerivation.{padding_length}
 use Rattle.sshkey_keypairs.specs.declared.keypair_data.KeypairData.{KeypairData}
@@ -11,8 +12,9 @@ use Rattle.sshkey_pairs.specs.Pairs.{dsa_pair_of, rsa_pair_of, ecdsa_pair_of, ed
 use Rattle.sshkey_keypairs.specs.SecurityPairs.{sk_ecdsa_pair_of, sk_ed25519_pair_of}
 use Rattle.sshkey_keypairs.specs.OpaquePairs.{opaque_pair_of}
 use Rattle.sshkey_private.specs.Forms.{has_form}
+use Rattle.sshkey_private.specs.declared.private_key.write.Part.{Part}
 use Rattle.sshkey_private.specs.PrivateKeys.{of_pair}
-use Rattle.sshkey_private.specs.Written.{part_of, content_of, fields_written}
+use Rattle.sshkey_private.specs.Written.{part_of, part_parts, content_of, fields_written}
 use Rattle.sshkey_base.proofs.Measured.{Has}
 use Rattle.sshkey_private.proofs.KeyForms.{plain_form}
 
@@ -31,6 +33,13 @@ module _ (checkint : ℕ) (comment : List ℕ) (e : EncryptedKey) where
 pub plain_content : (d : KeypairData) (checkint : ℕ) (comment tag : List ℕ) → is_encrypted d ≡ false → box (padded (part_of checkint d comment)) ≡ content_of d checkint comment tag
 plain_content (kinds.Encrypted c) checkint comment tag none = absurd cc
 plain_content _ checkint comment tag none = refl
+
+pub part_content : (p : Part) (d : KeypairData) (checkint : ℕ) (comment tag : List ℕ) → p.checkint ≡ checkint → p.pair.now ≡ d → p.comment.now ≡ comment → is_encrypted d ≡ false → box (padded (part_parts p)) ≡ content_of d checkint comment tag
+part_content p d checkint comment tag same_checkint same_pair same_comment none = rw (same_checkint, same_pair, same_comment) (plain_content d checkint comment tag none)
+
+-- and of an encrypted one
+pub sealed_content : (d : KeypairData) (v : Vec ℕ Global) (checkint : ℕ) (comment b t tag : List ℕ) → d ≡ kinds.Encrypted v → b ≡ v.items → t ≡ tag → string b & bytes t ≡ content_of d checkint comment tag
+sealed_content d v checkint comment b t tag is same_bytes same_tag = rw (is, same_bytes, same_tag) refl
 
 rising_length : (k n : ℕ) → length (rising k n) ≡ n
 rising_length k zero = refl
