@@ -20,7 +20,8 @@ use Rattle.sshkey_base.specs.declared.encoding.Error.TheVariants as encodings
 use Rattle.sshkey_base.specs.Reading.{Reads, ReadsAll, GivesWhole, AcceptsWhole}
 use Rattle.sshkey_base.proofs.MappedBoxes.{on_value, made, box_map}
 use Rattle.sshkey_keys.specs.Keys.{key_data_at}
-use Rattle.sshkey_private.specs.PrivateKeyReaders.{SpellsPrivateKey, private_value_at, Opening, one_at, opening_at, last_of, blocks_at, last_encrypted_at, last_content_at, steps_at}
+use Rattle.sshkey_ciphers.specs.Ciphertexts.{blocks_at}
+use Rattle.sshkey_private.specs.PrivateKeyReaders.{SpellsPrivateKey, private_value_at, Opening, one_at, opening_at, last_of, last_encrypted_at, last_content_at, steps_at}
 
 -- ---- the public key in its box
 

@@ -1,6 +1,5 @@
 -- A private key of the parts that were read.
-use Rattle.std.proofs.Common.{◌≡◌, ℕ, ◌<◌, List, [], ◌∷◌, length, Option, Some, None, option_map, Result, Ok, Err, IsErrAnd, refl, sym, ap, ◌∙◌, arith}
-use Rattle.std.proofs.lemmas.Bool.{le-ltb}
+use Rattle.std.proofs.Common.{◌≡◌, ℕ, ◌<◌, List, [], ◌∷◌, length, Option, Some, option_map, Result, Ok, Err, IsErrAnd, sym, ap, ◌∙◌, arith}
 use Rattle.sshkey_model.specs.Reading.{Fault, TrailingKeyData, ◌>>=◌, box_at, bytes_at}
 use Rattle.sshkey_model.specs.Grammar.{value_at}
 use Rattle.sshkey_model.specs.Keys.{Key}
@@ -12,8 +11,8 @@ use Rattle.sshkey_base.specs.Source.{Source, announced_len}
 use Rattle.sshkey_base.specs.Reading.{Reads, IsRefused}
 use Rattle.sshkey_base.proofs.MappedBoxes.{on_value}
 use Rattle.sshkey_private.specs.Inner.{inner_at}
-use Rattle.sshkey_private.specs.Paddings.{tag_bytes}
-use Rattle.sshkey_private.specs.PrivateKeyReaders.{blocks_at, last_of, last_encrypted_at}
+use Rattle.sshkey_ciphers.specs.Ciphertexts.{blocks_at}
+use Rattle.sshkey_private.specs.PrivateKeyReaders.{last_of, last_encrypted_at}
 use Rattle.sshkey_private.proofs.InnerReaders.{Part, some_part, boxed_is}
 use Rattle.sshkey_private.proofs.KeyReaders.{as_unencrypted, bare_content}
 
@@ -40,11 +39,6 @@ module _ {X I : Type 0} (means : X → PrivateKey) (part : I → Option Unencryp
       go (Err f) e = e
 
 -- ---- encrypted
-
--- no tag
-pub no_tag : (n : ℕ) (s : Source) → n ≡ 0 → Reads tag_bytes (bytes_at n) s None s
-unfolding bytes_at
-no_tag n s e = record { value = rw (e, le-ltb (length s.left) 0 (omega arith)) refl; missing = refl; outer = refl }
 
 module _ {X Y : Type 0} (ciphertext : X → List ℕ) (tag : Y → List ℕ) (c : Cipher) (k : Kdf) (public : Key) (s t u : Source) (x : X) (y : Y) (a : Reads ciphertext (blocks_at c) s x t) (b : Reads tag (bytes_at (tag_size c)) t y u) where
   abbrev sealed : PrivateKey

@@ -1,5 +1,5 @@
 -- A value and its padding, up to the end of a source.
-use Rattle.std.proofs.Common.{◌≡◌, ◌≢◌, ℕ, zero, ◌%◌, ◌<◌, Bool, true, false, cond, ltb, List, [], ◌∷◌, suc, take, length, Result, Ok, Err, IsErrAnd, bytes_eq, refl, ap, ◌∙◌, arith}
+use Rattle.std.proofs.Common.{◌≡◌, ◌≢◌, ℕ, ◌%◌, Bool, true, false, cond, ltb, List, [], length, Result, Ok, Err, IsErrAnd, bytes_eq, refl, ap, ◌∙◌, arith}
 use Rattle.std.proofs.lemmas.Bool.{eq-eqb, ne_eqb}
 use Rattle.std.proofs.lemmas.Result.{err_from_is_err_and}
 use Rattle.sshkey_model.specs.Reading.{Fault, Length, FormatEncoding, ◌>>=◌, Front}
@@ -8,7 +8,8 @@ use Rattle.sshkey_model.proofs.CombinedReaders.{ok_is, bind_assoc, bind_same}
 use Rattle.sshkey_base.specs.Causes.{Cause, NoMemory, Faulty}
 use Rattle.sshkey_base.specs.Source.{Source, IsSound, announced_len}
 use Rattle.sshkey_base.specs.Reading.{Reads, IsRefused, to_end}
-use Rattle.sshkey_private.specs.Paddings.{padding_end, NeedsPadded}
+use Rattle.sshkey_ciphers.specs.Paddings.{padding_end}
+use Rattle.sshkey_private.specs.Inner.{NeedsPadded}
 
 abbrev no_rest : {A : Type 0} → A → Result (A × List ℕ) Fault
 no_rest x = Ok (x, [])
@@ -20,18 +21,6 @@ end_same {A} x rest = go (ltb (length rest) 8) (bytes_eq rest (rising 1 (length 
     go true true = refl
     go true false = refl
     go false same = refl
-
--- the first of seven numbers
-pub rising_front : (n : ℕ) → n < 8 → take n (1 ∷ 2 ∷ 3 ∷ 4 ∷ 5 ∷ 6 ∷ 7 ∷ []) ≡ rising 1 n
-rising_front zero small = refl
-rising_front (suc zero) small = refl
-rising_front (suc (suc zero)) small = refl
-rising_front (suc (suc (suc zero))) small = refl
-rising_front (suc (suc (suc (suc zero)))) small = refl
-rising_front (suc (suc (suc (suc (suc zero))))) small = refl
-rising_front (suc (suc (suc (suc (suc (suc zero)))))) small = refl
-rising_front (suc (suc (suc (suc (suc (suc (suc zero))))))) small = refl
-rising_front (suc (suc (suc (suc (suc (suc (suc (suc n)))))))) small = absurd (omega arith)
 
 module _ {A : Type 0} (read : Front A) where
   abbrev all_of : A → Result (A × List ℕ) Fault

@@ -1,5 +1,5 @@
--- The private part of a key that is not encrypted, without its padding.
-use Rattle.std.specs.Prelude.{ℕ, List, Option, option_map, Result, Ok, Err, if◌then◌else◌}
+-- The private part of a key that is not encrypted.
+use Rattle.std.specs.Prelude.{◌≡◌, ℕ, ◌%◌, List, length, Option, option_map, Result, Ok, Err, if◌then◌else◌}
 use Rattle.std.specs.Int.{w32}
 use Rattle.sshkey_model.specs.Reading.{Fault, PublicKey, ◌>>=◌, Front, number_at, checked_at}
 use Rattle.sshkey_model.specs.Texts.{text_at}
@@ -45,3 +45,7 @@ inner_at public b = do
 -- the pair or the comment
 abbrev pub NeedsInner : Key → List ℕ → Type 0
 NeedsInner public = NeedsBoth NoNeed checkint_at (NeedsBoth NeedsKeypair (pair_with_at public) NeedsString)
+
+-- where bytes that are whole blocks need memory
+abbrev pub NeedsPadded : (List ℕ → Type 0) → List ℕ → Type 0
+NeedsPadded needs b = (length b % 8 ≡ 0) × needs b

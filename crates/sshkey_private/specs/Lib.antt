@@ -1,4 +1,3 @@
-pub mod Paddings
 pub mod Halves
 pub mod Inner
 pub mod PrivateKeyReaders

@@ -1,17 +1,17 @@
 -- The reader of private keys without the choices of their spelling, and the same step by step.
 use Rattle.std.specs.Prelude.{ℕ, List, Result, Ok, Err, if◌then◌else◌, length}
 use Rattle.std.specs.Int.{w32}
-use Rattle.sshkey_model.specs.Reading.{Fault, Crypto, TrailingKeyData, ◌>>=◌, Front, whole, box_at, string_at, number_at, bytes_at, checked_at, literal_at}
+use Rattle.sshkey_model.specs.Reading.{Fault, Crypto, TrailingKeyData, ◌>>=◌, Front, whole, box_at, number_at, bytes_at, checked_at, literal_at}
 use Rattle.sshkey_model.specs.Grammar.{SpellsWith, value_at}
 use Rattle.sshkey_model.specs.Keys.{Key}
 use Rattle.sshkey_model.specs.KeyDerivation.{Cipher, NoCipher, tag_size, cipher_at, Kdf, NoKdf, Bcrypt, kdf_at}
-use Rattle.sshkey_model.specs.PrivateKeys.{PrivateKey, Encrypted, IsPrivateKey, HasPrivateKeyPlaces, private_key, private_key_magic, blocks_from, unencrypted_at, one_key, may_precede, decoded_private_key_at}
+use Rattle.sshkey_model.specs.PrivateKeys.{PrivateKey, Encrypted, IsPrivateKey, HasPrivateKeyPlaces, private_key, private_key_magic, unencrypted_at, one_key, may_precede, decoded_private_key_at}
 use Rattle.sshkey_base.specs.Needs.{NoNeed, NeedsString, NeedsBoxed, NeedsBoth, NeedsThen}
 use Rattle.sshkey_keys.specs.Keys.{key_data_at}
 use Rattle.sshkey_keys.specs.Needs.{NeedsKey}
-use Rattle.sshkey_private.specs.Inner.{NeedsInner}
+use Rattle.sshkey_ciphers.specs.Ciphertexts.{blocks_at}
 use Rattle.sshkey_ciphers.specs.Needs.{NeedsKdf}
-use Rattle.sshkey_private.specs.Paddings.{NeedsPadded}
+use Rattle.sshkey_private.specs.Inner.{NeedsInner, NeedsPadded}
 -- under names that an attribute of this crate can unfold
 unfoldable pub use Rattle.sshkey_model.specs.Reading.{literal_at, bytes_at}
 unfoldable pub use Rattle.sshkey_model.specs.KeyDerivation.{cipher_at}
@@ -52,9 +52,6 @@ NeedsOpening = NeedsBoth NoNeed (literal_at private_key_magic) (NeedsBoth NeedsS
 -- nothing may stand behind an encrypted key
 abbrev pub last_of : PrivateKey × List ℕ → Result (PrivateKey × List ℕ) Fault
 last_of x = if may_precede x.0 x.1 then Ok x else Err (TrailingKeyData (length x.1))
-
-unfoldable pub blocks_at : Cipher → Front (List ℕ)
-blocks_at c = checked_at (blocks_from c) string_at
 
 -- an encrypted key of these parts
 abbrev pub sealed_with : Cipher → Kdf → Key → List ℕ → List ℕ → PrivateKey

@@ -15,12 +15,11 @@ ghost use Rattle.sshkey_model.specs.PrivateKeys.{key_eq, padded_from, same_check
 ghost use Rattle.sshkey_model.specs.Reading.{box_at};
 ghost use Rattle.sshkey_pairs.specs.Pairs.{ecdsa_pair_of};
 ghost use Rattle.sshkey_private.specs.Halves.{is_half};
-ghost use Rattle.sshkey_private.specs.Inner.{inner_of, inner_at, checkint_at, half_of, pair_with_at, NeedsInner};
-ghost use Rattle.sshkey_private.specs.Paddings.{NeedsPadded};
+ghost use Rattle.sshkey_private.specs.Inner.{inner_of, inner_at, checkint_at, half_of, pair_with_at, NeedsInner, NeedsPadded};
 
-use crate::padded::end_padding;
 use crate::part::Inner;
 use sshkey_base::{Decode, Error, Reader, Result, Text, encoding};
+use sshkey_ciphers::end_padding;
 use sshkey_keypairs::KeypairData;
 use sshkey_keys::KeyData;
 use sshkey_kinds::EcdsaPublicKey;

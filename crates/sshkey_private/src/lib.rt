@@ -4,9 +4,7 @@
 mod inner;
 pub mod laws;
 mod opening;
-mod padded;
 mod part;
 mod private_key;
-mod sealed;
 
 pub use private_key::PrivateKey;

@@ -3,16 +3,15 @@
 ghost use Rattle.std.specs.Prelude.{◌≡◌, ◌+◌, ◌*◌, ◌^◌, IfOk, ◌<◌};
 ghost use Rattle.sshkey_base.specs.Sink.{Encodes, Measures};
 ghost use Rattle.sshkey_model.specs.PrivateKeys.{normal_private_key, padded};
-ghost use Rattle.sshkey_private.specs.Paddings.{tag_bytes};
+ghost use Rattle.sshkey_ciphers.specs.Ciphertexts.{tag_bytes};
 ghost use Rattle.sshkey_private.specs.PrivateKeys.{private_of, outer_of};
 ghost use Rattle.sshkey_public.specs.PublicKeys.{comment_of};
 ghost use Rattle.sshkey_private.specs.Written.{part_parts, content_parts, halves_parts, key_parts};
 
 use super::PrivateKey;
 use crate::opening::MAGIC;
-use crate::padded::encode_padded;
 use sshkey_base::{Encode, Writer, encode_string, encoding, string_len};
-use sshkey_ciphers::Cipher;
+use sshkey_ciphers::{Cipher, encode_padded};
 use sshkey_keypairs::KeypairData;
 
 /// The magic bytes, cipher, key derivation, the number 1, the public key in a string, and the

@@ -1,8 +1,8 @@
-//! Ciphers and key derivations.
+//! Ciphers, what stands around what they encrypt, and key derivations.
 
 use super::pairs::{bytes_of, is_written};
-use sshkey_base::{Error, Result, decode_whole};
-use sshkey_ciphers::{Cipher, Kdf, KdfAlg};
+use sshkey_base::{Error, Result, SliceWriter, decode_whole, encoding};
+use sshkey_ciphers::{Cipher, Kdf, KdfAlg, ciphertext_from, encode_padded, end_padding, tag_from};
 use sshkey_doubles::Count;
 use std::alloc::Global;
 
@@ -67,4 +67,51 @@ fn ciphers(rt: HostRuntime) {
     assert!(rt; is_cipher("3des-cbc", 8, false));
     assert!(rt; Cipher::new("aes256-xts").is_err());
     assert!(rt; KdfAlg::new("scrypt").is_err());
+}
+
+/// The string of a ciphertext of 16 bytes, and a tag (OpenSSH, PROTOCOL.key).
+const SEALED: [u8; 36] = *b"\0\0\0\x10ciphertext of 16a tag of sixteen";
+
+/// The ciphertext and the tag are read for that cipher, and these bytes are left.
+fn is_sealed(alloc: Global, cipher: Cipher, tag: Option<[u8; 16]>, rest: &[u8]) -> bool {
+    let mut reader = SEALED.as_slice();
+    match ciphertext_from(alloc, &mut reader, cipher) {
+        Ok(ciphertext) => {
+            ciphertext.as_slice() == b"ciphertext of 16".as_slice()
+                && tag_from(&mut reader, cipher) == Ok(tag)
+                && reader == rest
+        }
+        Err(_) => false,
+    }
+}
+
+/// Eight bytes are no block of AES.
+fn half_a_block_is_refused(alloc: Global) -> bool {
+    let mut reader = b"\0\0\0\x08one half".as_slice();
+    ciphertext_from(alloc, &mut reader, Cipher::Aes256Ctr).err() == Some(Error::Crypto)
+}
+
+#[test]
+fn ciphertexts(rt: HostRuntime) {
+    let alloc = rt.alloc();
+    assert!(rt; is_sealed(alloc, Cipher::Aes256Gcm, Some(*b"a tag of sixteen"), b""));
+    assert!(rt; is_sealed(alloc, Cipher::Aes256Ctr, None, b"a tag of sixteen"));
+    assert!(rt; half_a_block_is_refused(alloc));
+}
+
+fn is_padding(mut bytes: &[u8]) -> Result<()> {
+    end_padding(&mut bytes)
+}
+
+#[test]
+fn paddings(rt: HostRuntime) {
+    let mut room = [0u8; 8];
+    let mut writer = SliceWriter::new(&mut room);
+    assert!(rt; encode_padded(&513u32, &mut writer).is_ok());
+    assert!(rt; writer.written() == [0, 0, 2, 1, 1, 2, 3, 4].as_slice());
+    assert!(rt; is_padding(&[]).is_ok() && is_padding(&[1, 2, 3, 4]).is_ok());
+    assert!(rt; is_padding(&[1, 2, 4]) == Err(Error::FormatEncoding));
+    assert!(rt;
+        is_padding(&[1, 2, 3, 4, 5, 6, 7, 8]) == Err(Error::Encoding(encoding::Error::Length))
+    );
 }

@@ -3,7 +3,7 @@ use Rattle.std.proofs.lemmas.Result.{err_from_is_err_and}
 use Rattle.sshkey_base.proofs.Places.{later_then}
 use Rattle.sshkey_base.proofs.Steps.{refused_first, refused_later}
 use Rattle.sshkey_ciphers.specs.Ciphers.{cipher_of}
-use Rattle.sshkey_private.specs.Paddings.{tag_bytes}
+use Rattle.sshkey_ciphers.specs.Ciphertexts.{tag_bytes}
 use Rattle.sshkey_private.specs.PrivateKeyReaders.{last_encrypted_at}
 use Rattle.sshkey_private.proofs.KeyValues.{behind_refused, none_behind}
 use Rattle.sshkey_private.proofs.private_key.read.sealed_from.Goals as goal

@@ -1,8 +1,8 @@
 use Rattle.std.proofs.Common.{◌≡◌, sym, ◌∙◌, cond, Bool, ap}
 use Rattle.sshkey_model.specs.KeyDerivation.{tag_size}
 use Rattle.sshkey_ciphers.specs.Ciphers.{cipher_of}
-use Rattle.sshkey_private.proofs.KeyValues.{no_tag}
-use Rattle.sshkey_private.proofs.sealed.tag_from.Goals as goal
+use Rattle.sshkey_ciphers.proofs.Tags.{no_tag}
+use Rattle.sshkey_ciphers.proofs.ciphertext.tag_from.Goals as goal
 
 pub returns-then-not-has_tag-clause-gives : goal.returns-then-not-has_tag-clause-gives
 returns-then-not-has_tag-clause-gives g c =

@@ -1,4 +1,4 @@
-//! Padding to whole blocks.
+//! Padding to blocks of eight bytes.
 
 ghost use Rattle.std.specs.Prelude.{◌≡◌, ◌<◌, IfOk, length};
 ghost use Rattle.std.specs.Str.{bytes_eq};
@@ -9,16 +9,18 @@ ghost use Rattle.sshkey_base.specs.Sink.{Encodes};
 ghost use Rattle.sshkey_base.specs.Source.{IsSound, Later};
 ghost use Rattle.sshkey_model.specs.Parts.{bytes};
 ghost use Rattle.sshkey_model.specs.PrivateKeys.{rising, padded, padding};
-ghost use Rattle.sshkey_private.specs.Paddings.{padding_end};
+ghost use Rattle.sshkey_ciphers.specs.Paddings.{padding_end};
 
+use crate::cipher::Cipher;
 use sshkey_base::{Encode, Error, Reader, Result, Writer, encoding};
-use sshkey_ciphers::Cipher;
 
-/// The bytes up to the end, which have to be padding: fewer than eight, 01, 02, 03 and so on.
+/// Reads the bytes up to the end, which have to be padding: fewer than eight, 01, 02, 03 and so on
+/// (OpenSSH, PROTOCOL.key).
 ///
-/// `Length` for more of them, else `FormatEncoding` for other bytes. Takes no memory.
+/// A sound source is refused only with `Length` for eight bytes or more, or with `FormatEncoding`
+/// for others. Takes no memory.
 #[tactic(auto, using(sshkey_base::proofs::Steps::steps))]
-pub(crate) fn end_padding<R: Reader>(reader: &mut R) -> Result<()>
+pub fn end_padding<R: Reader>(reader: &mut R) -> Result<()>
     ensures gives { Gives (λ u. u) cause (to_end padding_end)
         (R.source reader.old) result (R.source reader.new) }
     ensures later { Later (R.source reader.old) (R.source reader.new) }
@@ -48,9 +50,12 @@ fn is_rising(bytes: &[u8]) -> bool
 }
 
 /// Writes the value, and behind it 01, 02, 03 and so on up to a multiple of eight bytes (OpenSSH,
-/// PROTOCOL.key).
+/// PROTOCOL.key). Takes no memory.
+///
+/// `Length` exactly where a box in the value would pass 2^32 - 1 bytes; any other refusal is the
+/// writer's own. Then it holds what it held, and a beginning of these bytes.
 #[tactic(auto, using(sshkey_base::proofs::Writing::writing))]
-pub(crate) fn encode_padded<T: Encode, W: Writer>(value: &T, writer: &mut W) -> encoding::Result<()>
+pub fn encode_padded<T: Encode, W: Writer>(value: &T, writer: &mut W) -> encoding::Result<()>
     ensures { Encodes W.fault (padded (T.normal value.now))
         (W.sink writer.old) result (W.sink writer.new) }
 {

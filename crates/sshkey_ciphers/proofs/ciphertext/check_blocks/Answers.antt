@@ -2,7 +2,7 @@ use Rattle.std.proofs.Common.{◌≡◌, ◌<◌, ◌%◌, ℕ, length, refl, sy
 use Rattle.std.proofs.lemmas.Bool.{ne_eqb}
 use Rattle.sshkey_model.specs.KeyDerivation.{Cipher, NoCipher, TDesCbc, ChaCha20Poly1305, block_size}
 use Rattle.sshkey_ciphers.specs.Ciphers.{cipher_of}
-use Rattle.sshkey_private.proofs.sealed.check_blocks.Goals as goal
+use Rattle.sshkey_ciphers.proofs.ciphertext.check_blocks.Goals as goal
 
 -- a block has bytes
 some_block : (c : Cipher) → 0 < block_size c

@@ -1,4 +1,4 @@
-//! The private part of an encrypted key.
+//! Ciphertexts of whole blocks, and their tags.
 
 ghost use Rattle.std.specs.Prelude.{◌≡◌, ◌%◌, IfOk, length};
 ghost use Rattle.sshkey_base.specs.Answers.{AnswersAlways};
@@ -10,20 +10,19 @@ ghost use Rattle.sshkey_model.specs.KeyDerivation.{block_size, tag_size};
 ghost use Rattle.sshkey_model.specs.PrivateKeys.{blocks_from};
 ghost use Rattle.sshkey_model.specs.Reading.{bytes_at};
 ghost use Rattle.sshkey_ciphers.specs.Ciphers.{cipher_of};
-ghost use Rattle.sshkey_private.specs.Paddings.{tag_bytes};
-ghost use Rattle.sshkey_private.specs.PrivateKeyReaders.{blocks_at};
+ghost use Rattle.sshkey_ciphers.specs.Ciphertexts.{blocks_at, tag_bytes};
 
+use crate::cipher::Cipher;
 use sshkey_base::{Decode, Error, Reader, Result, array_from};
-use sshkey_ciphers::Cipher;
 use std::alloc::Global;
 
-/// The string of a ciphertext of whole blocks. `Crypto` for another length.
-#[tactic(auto, using(sshkey_base::proofs::Steps::steps), unfolding(crate::specs::PrivateKeyReaders::blocks_at))]
-pub(crate) fn ciphertext_from<R: Reader>(
-    alloc: Global,
-    reader: &mut R,
-    cipher: Cipher,
-) -> Result<Vec<u8>>
+/// Reads the string of a ciphertext, which has to be whole blocks of the cipher (OpenSSH,
+/// PROTOCOL.key).
+///
+/// A sound source is refused as `Vec<u8>` refuses it, or with `Crypto` where the ciphertext is no
+/// multiple of a block. Takes memory for the ciphertext alone.
+#[tactic(auto, using(sshkey_base::proofs::Steps::steps), unfolding(crate::specs::Ciphertexts::blocks_at))]
+pub fn ciphertext_from<R: Reader>(alloc: Global, reader: &mut R, cipher: Cipher) -> Result<Vec<u8>>
     ensures gives { Gives (λ v. v.items) cause (blocks_at (cipher_of cipher))
         (R.source reader.old) result (R.source reader.new) }
     ensures later { Later (R.source reader.old) (R.source reader.new) }
@@ -46,8 +45,11 @@ fn check_blocks(ciphertext: Vec<u8>, cipher: Cipher) -> Result<Vec<u8>>
     Ok(ciphertext)
 }
 
-/// The tag, where the cipher has one.
-pub(crate) fn tag_from<R: Reader>(reader: &mut R, cipher: Cipher) -> Result<Option<[u8; 16]>>
+/// Reads the tag of 16 bytes, where the cipher has one (OpenSSH, PROTOCOL.key); of the other ciphers
+/// it is none, and nothing is read.
+///
+/// A sound source is refused only with `Length`, where fewer bytes are left. Takes no memory.
+pub fn tag_from<R: Reader>(reader: &mut R, cipher: Cipher) -> Result<Option<[u8; 16]>>
     ensures gives { Gives tag_bytes cause (bytes_at (tag_size (cipher_of cipher)))
         (R.source reader.old) result (R.source reader.new) }
     ensures later { Later (R.source reader.old) (R.source reader.new) }
