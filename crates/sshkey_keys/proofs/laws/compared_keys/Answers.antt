@@ -1,5 +1,4 @@
-use Rattle.std.proofs.Common.{rules, refl, ap, sym, ◌≡◌, List, ℕ, false, true≢false}
-use Rattle.std.specs.Bool.{Decides}
+use Rattle.std.proofs.Common.{rules, refl, ap, sym, ◌≡◌, List, ℕ, true≢false}
 use Rattle.std.proofs.lemmas.Bool.Decides.{Decides-like}
 use Rattle.sshkey_base.proofs.Comparisons.{apart_by}
 use Rattle.sshkey_model.specs.Keys.{Key, Dsa, Ecdsa, Ed25519, Rsa, SkEcdsa, SkEd25519, Opaque}
