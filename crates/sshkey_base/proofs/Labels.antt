@@ -6,7 +6,7 @@ use Rattle.std.proofs.lemmas.Str.{IsUtf8-from_ascii}
 use Rattle.sshkey_model.specs.Parts.{Any, bytes}
 use Rattle.sshkey_model.specs.Names.{are_ascii}
 use Rattle.sshkey_model.specs.Reading.{Fault, Label, Front, Whole, string_at, checked_at}
-use Rattle.sshkey_model.proofs.CombinedReaders.{Checks}
+use Rattle.sshkey_model.specs.Grammar.{Checks}
 use Rattle.sshkey_base.specs.declared.encoding.Error.{Error}
 use Rattle.sshkey_base.specs.Causes.{Faulty, encoding_cause}
 use Rattle.sshkey_base.specs.Source.{Source}

@@ -23,4 +23,5 @@ pub mod ReadLists
 pub mod MappedBoxes
 pub mod Measured
 pub mod ShortStrings
+pub mod FixedWidth
 pub mod Comparisons

@@ -23,6 +23,11 @@ encoding_cause encoding.Length = Faulty fault.Length
 encoding_cause (encoding.TrailingData n) = Faulty (fault.TrailingData n)
 encoding_cause encoding.Memory = NoMemory
 
+-- Of an error of the encoding inside an error of a value: memory that was refused is `Memory` there, and never stands inside.
+abbrev pub inner_cause : encoding-error.Error → Cause
+inner_cause encoding.Memory = Other
+inner_cause e = encoding_cause e
+
 abbrev pub cause : wide-error.Error → Cause
 cause wide.AlgorithmUnknown = Faulty fault.AlgorithmUnknown
 cause (wide.AlgorithmUnsupported algorithm) = Other
@@ -31,7 +36,7 @@ cause wide.Decrypted = Other
 cause wide.Ecdsa = Faulty fault.Ecdsa
 cause (wide.CertificateFieldInvalid field) = Other
 cause wide.CertificateValidation = Other
-cause (wide.Encoding e) = encoding_cause e
+cause (wide.Encoding e) = inner_cause e
 cause wide.Encrypted = Other
 cause wide.FormatEncoding = Faulty fault.FormatEncoding
 cause (wide.Io kind) = Other

@@ -3,8 +3,8 @@ use Rattle.std.specs.Prelude.{◌≡◌, ◌≢◌, ℕ, List, Result, Ok, Err, 
 use Rattle.sshkey_model.specs.Reading.{Whole, Label, Front, string_at, checked_at}
 use Rattle.sshkey_model.specs.Parts.{Any, bytes, flat, Fits}
 use Rattle.sshkey_model.specs.Texts.{string}
-use Rattle.sshkey_model.specs.Grammar.{IsGrammar, Spells}
-use Rattle.sshkey_model.proofs.CombinedReaders.{Checks, checked_string_reads}
+use Rattle.sshkey_model.specs.Grammar.{IsGrammar, Spells, Checks}
+use Rattle.sshkey_model.proofs.CombinedReaders.{checked_string_reads}
 use Rattle.sshkey_model.proofs.Grammars.{grammar}
 use Rattle.sshkey_base.specs.declared.encoding.Error.{Error}
 use Rattle.sshkey_base.specs.declared.encoding.Error.TheVariants as encoding

@@ -1,11 +1,11 @@
 -- The readers of the leaves take exactly their spellings.
 use Rattle.std.specs.Prelude.{◌≡◌, ℕ, ◌^◌, List, length, replicate, nat_lt, if◌then◌else◌, refl}
 use Rattle.std.specs.Int.{w8, w32, w64}
-use Rattle.sshkey_model.specs.Parts.{Parts, Any, bytes, number, box, flat, Fits}
+use Rattle.sshkey_model.specs.Parts.{Parts, Any, bytes, number, box, flat, Fits, HasLength}
 use Rattle.sshkey_model.specs.Texts.{string}
 use Rattle.sshkey_model.specs.Reading.{whole, bytes_at, number_at, string_at, box_at}
 use Rattle.sshkey_model.specs.Grammar.{IsGrammar, Spells}
-use Rattle.sshkey_model.proofs.CombinedReaders.{HasLength, wide8, wide32, wide64, bytes_reads, number_reads, string_reads, box_reads, whole_reads}
+use Rattle.sshkey_model.proofs.CombinedReaders.{wide8, wide32, wide64, bytes_reads, number_reads, string_reads, box_reads, whole_reads}
 use Rattle.sshkey_model.proofs.Grammars.{grammar}
 
 -- a byte, a number of four bytes, one of eight (RFC 4251, section 5)

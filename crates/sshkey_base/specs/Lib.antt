@@ -14,6 +14,7 @@ pub mod ShortStrings
 pub mod ShortBytes
 pub mod NameBytes
 pub mod Mpint
+pub mod FixedWidth
 pub mod Texts
 pub mod TextLists
 pub mod Equality

@@ -65,17 +65,32 @@ impl Algorithm {
         ensures refused { algorithm_from name.now ≡ Err fault.Label →
             result ≡ Err (Error.Encoding encoding.Label) }
     {
-        match fixed(name) {
+        match Algorithm::fixed(name) {
             Some(algorithm) => Ok(algorithm),
             None => Ok(Algorithm::Other(AlgorithmName::new(alloc, name)?)),
         }
     }
 
     /// The algorithm with that fixed name; `None` for any other text. Takes no memory.
+    #[tactic(auto, unfolding(sshkey_model::specs::Names::named))]
+    #[inline(always)]
     pub fn fixed(name: &str) -> Option<Algorithm>
         ensures { option_map algorithm_of result ≡ named algorithm_name algorithms name.now }
     {
-        fixed(name)
+        let algorithm = match name {
+            names::SSH_DSS => Algorithm::Dsa,
+            names::ECDSA_SHA2_NISTP256 => ecdsa(EcdsaCurve::NistP256),
+            names::ECDSA_SHA2_NISTP384 => ecdsa(EcdsaCurve::NistP384),
+            names::ECDSA_SHA2_NISTP521 => ecdsa(EcdsaCurve::NistP521),
+            names::SSH_ED25519 => Algorithm::Ed25519,
+            names::SSH_RSA => Algorithm::Rsa { hash: None },
+            names::RSA_SHA2_256 => rsa(HashAlg::Sha256),
+            names::RSA_SHA2_512 => rsa(HashAlg::Sha512),
+            names::SK_ECDSA_SHA2_NISTP256 => Algorithm::SkEcdsaSha2NistP256,
+            names::SK_SSH_ED25519 => Algorithm::SkEd25519,
+            _ => return None,
+        };
+        Some(algorithm)
     }
 
     /// Whether it is the name of an algorithm: Ok exactly where `new` with enough memory is, else
@@ -83,7 +98,7 @@ impl Algorithm {
     pub fn check(name: &str) -> Result<()>
         ensures { Judges cause (algorithm_from name.now) result }
     {
-        match fixed(name) {
+        match Algorithm::fixed(name) {
             Some(_) => Ok(()),
             None => AlgorithmName::check(name),
         }
@@ -158,28 +173,6 @@ impl Algorithm {
     }
 }
 
-// The algorithm with that fixed name.
-#[tactic(auto, unfolding(sshkey_model::specs::Names::named))]
-#[inline(always)]
-fn fixed(name: &str) -> Option<Algorithm>
-    ensures { option_map algorithm_of result ≡ named algorithm_name algorithms name.now }
-{
-    let algorithm = match name {
-        names::SSH_DSS => Algorithm::Dsa,
-        names::ECDSA_SHA2_NISTP256 => ecdsa(EcdsaCurve::NistP256),
-        names::ECDSA_SHA2_NISTP384 => ecdsa(EcdsaCurve::NistP384),
-        names::ECDSA_SHA2_NISTP521 => ecdsa(EcdsaCurve::NistP521),
-        names::SSH_ED25519 => Algorithm::Ed25519,
-        names::SSH_RSA => Algorithm::Rsa { hash: None },
-        names::RSA_SHA2_256 => rsa(HashAlg::Sha256),
-        names::RSA_SHA2_512 => rsa(HashAlg::Sha512),
-        names::SK_ECDSA_SHA2_NISTP256 => Algorithm::SkEcdsaSha2NistP256,
-        names::SK_SSH_ED25519 => Algorithm::SkEd25519,
-        _ => return None,
-    };
-    Some(algorithm)
-}
-
 fn ecdsa(curve: EcdsaCurve) -> Algorithm
     ensures { result ≡ Algorithm.Ecdsa curve }
 {
@@ -214,7 +207,7 @@ impl Label for Algorithm {
             IsOk result }
         ensures refused { algorithm_from name.now ≡ Err fault.Label → result ≡ Err encoding.Label }
     {
-        match fixed(name) {
+        match Algorithm::fixed(name) {
             Some(algorithm) => Ok(algorithm),
             None => Ok(Algorithm::Other(AlgorithmName::checked(alloc, name)?)),
         }

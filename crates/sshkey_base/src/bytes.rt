@@ -61,7 +61,8 @@ impl Bytes {
         &self.bytes
     }
 
-    /// Reads a string as `decode` does, into memory that has room for `spare` bytes more.
+    /// Reads a string as `decode` does. Where the reader lends its bytes, the memory that they are
+    /// copied into has room for `spare` more, which no contract can say.
     #[tactic(auto, using(crate::proofs::Steps::steps), unfolding(sshkey_model::specs::Reading::string_at))]
     pub fn decode_with_spare<R: Reader>(
         alloc: Global,
@@ -75,6 +76,13 @@ impl Bytes {
     {
         let len = length_from(reader)?;
         bytes_from(alloc, len, spare, reader)
+    }
+
+    /// Lets the bytes go, and writes zeros over them before. No promise: a compiler may leave out
+    /// what nobody reads again.
+    pub fn erase(self) {
+        let mut bytes = self.bytes;
+        bytes.fill(0);
     }
 
     /// The vector that holds the bytes. Takes no memory.
@@ -113,8 +121,8 @@ impl Decode for Bytes {
     }
 }
 
-/// The next `len` bytes, in memory that has room for `spare` more. `Length` where more are asked
-/// for than are announced.
+/// The next `len` bytes; where they are lent, in memory that has room for `spare` more. `Length`
+/// where more are asked for than are announced.
 #[tactic(auto, using(crate::proofs::Lending::lending))]
 #[inline(always)]
 pub(crate) fn bytes_from<R: Reader>(

@@ -164,6 +164,7 @@ impl<const N: usize> Decode for [u8; N] {
         ensures asks { Asks encoding_cause NoNeed (R.source reader.old) result }
         ensures always { DecodesAlways (λ b. b) (box_at (whole (bytes_at N)))
             R.source reader.old result reader.new }
+        ensures past { LengthPast encoding_cause (R.source reader.old) result }
     {
         reader.read_prefixed(
             |part: &mut NestedReader<'_, R>| -> encoding::Result<[u8; N]>

@@ -17,7 +17,9 @@ use std::str::Utf8Error;
 /// Every refusal of the crates.
 #[derive(Debug, Drop, PartialEq, Eq, thiserror::Error)]
 pub enum Error {
-    /// The algorithm is unknown.
+    /// The algorithm or the curve is not the one that was stated: the first word of a line is not
+    /// the name in its key, a point is of another curve, or options follow a key derivation that
+    /// has none.
     #[error("unknown algorithm")]
     AlgorithmUnknown,
     /// Keys or signatures of the algorithm can't be used for what was asked.
@@ -26,7 +28,9 @@ pub enum Error {
         /// The algorithm.
         algorithm: Algorithm,
     },
-    /// A key or a signature is not one of its kind.
+    /// A verifier said no; or a key or a signature is not one of its kind: a number in a signature
+    /// is not positive, two checkints differ, a ciphertext is not whole blocks, or a key derivation
+    /// stands where nothing is encrypted.
     #[error("cryptographic error")]
     Crypto,
     /// The private key is not encrypted. Nothing here answers it.

@@ -5,6 +5,8 @@ ghost use Rattle.std.specs.Fmt.{WritesOnOk};
 ghost use Rattle.hex.specs.Hex.{encode_lower, encode_upper};
 ghost use Rattle.sshkey_model.specs.Mpints.{IsMpint, is_mpint, of_positive};
 
+mod fixed_width;
+
 use crate::bytes::Bytes;
 use crate::decode::Decode;
 use crate::encode::Encode;
@@ -117,6 +119,12 @@ impl Mpint {
             [first, ..] if *first < 0x80 => Some(bytes),
             _ => None,
         }
+    }
+
+    /// Lets the number go, and writes zeros over its bytes before. No promise: a compiler may leave
+    /// out what nobody reads again.
+    pub fn erase(self) {
+        self.bytes.erase();
     }
 
     /// The same number in memory of its own. Refuses only when out of memory.

@@ -3,9 +3,9 @@ use Rattle.std.proofs.Common.{◌≡◌, ℕ, List, sym, ap, subst, ◌∙◌, a
 use Rattle.std.proofs.lemmas.Bool.{cases_lt}
 use Rattle.sshkey_model.specs.Grammar.{SpellsWith}
 use Rattle.sshkey_model.specs.Keys.{Key, IsKey, HasKeyPlaces, key}
-use Rattle.sshkey_model.specs.Lines.{space, key_name, IsKeyLine}
+use Rattle.sshkey_model.specs.Lines.{space, key_name, IsKeyLine, IsWithout}
 use Rattle.sshkey_model.proofs.Blobs.{key_blobs}
-use Rattle.sshkey_model.proofs.LineCuts.{IsWithout, one_front}
+use Rattle.sshkey_model.proofs.LineCuts.{one_front}
 use Rattle.sshkey_model.proofs.Lines.{one_line}
 use Rattle.sshkey_entries.specs.AuthorizedKeys.{AuthorizedKey, IsAuthorizedKey, IsWithoutOptions, HasOptions}
 use Rattle.sshkey_entries.specs.ConfigOptions.{AreOptions, is_option_character}

@@ -2,9 +2,9 @@
 use Rattle.std.proofs.Common.{◌≡◌, ℕ, List, ◌∷◌, ◌++◌, drop, slice_index, Option, None, Some, sym, ap, ap₂, ◌∙◌, subst, refl, arith}
 use Rattle.base64.specs.Engines.{standard}
 use Rattle.base64.specs.GeneralPurpose.{encode_of}
-use Rattle.sshkey_model.specs.Lines.{space, IsKeyLine}
+use Rattle.sshkey_model.specs.Lines.{space, IsKeyLine, IsWithout}
 use Rattle.sshkey_model.proofs.Base64Words.{one_blob, word_lacks}
-use Rattle.sshkey_model.proofs.LineCuts.{IsWithout, one_front}
+use Rattle.sshkey_model.proofs.LineCuts.{one_front}
 use Rattle.sshkey_entries.specs.KnownHosts.{Marker, CertAuthority, Revoked, marker_text, Hosts, HashedName, Patterns, IsHosts, KnownHost, IsMarked, IsKnownHost, at_sign, bar}
 use Rattle.sshkey_entries.proofs.OneEntry.{one_key_line}
 

@@ -3,9 +3,8 @@ use Rattle.std.specs.Prelude.{◌≡◌, ◌≢◌, ℕ, ◌<◌, List, ◌∷�
 use Rattle.std.specs.List.{join_with_byte}
 use Rattle.base64.specs.Engines.{standard}
 use Rattle.base64.specs.GeneralPurpose.{encode_of, IsBytes}
-use Rattle.sshkey_model.proofs.LineCuts.{IsWithout}
 use Rattle.sshkey_model.specs.Keys.{Key}
-use Rattle.sshkey_model.specs.Lines.{space, key_line, IsKeyLine}
+use Rattle.sshkey_model.specs.Lines.{space, key_line, IsKeyLine, IsWithout}
 use Rattle.sshkey_entries.specs.Items.{patterns}
 
 -- The key signs the keys of hosts; or it is revoked.

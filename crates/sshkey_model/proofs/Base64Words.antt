@@ -10,8 +10,7 @@ use Rattle.base64.specs.GeneralPurpose.{encode_of, decode_of, IsBytes}
 use Rattle.base64.proofs.RoundTrip.{length-encode_symbols}
 use Rattle.base64.specs.declared.decode.DecodeError.{DecodeError}
 use Rattle.base64.proofs.EngineFacts.{decode_of-encode_of}
-use Rattle.sshkey_model.specs.Lines.{space}
-use Rattle.sshkey_model.proofs.LineCuts.{IsWithout}
+use Rattle.sshkey_model.specs.Lines.{space, IsWithout}
 use Rattle.std.specs.Prelude.{nat_lt}
 use Rattle.std.specs.Char.{is_whitespace}
 

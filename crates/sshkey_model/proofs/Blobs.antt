@@ -4,6 +4,7 @@ use Rattle.std.proofs.lemmas.List.{length-append}
 use Rattle.std.specs.Int.{w32, to_be_bytes, byte_len}
 use Rattle.sshkey_model.specs.Parts.{Parts, nothing, bytes, number, box, ◌&◌, flat, InRange, are_bytes}
 use Rattle.sshkey_model.specs.Reading.{Front}
+use Rattle.sshkey_model.specs.Lines.{IsBlob}
 use Rattle.sshkey_model.specs.Grammar.{SpellsWith, IsSpelled, spelled}
 use Rattle.sshkey_model.specs.Names.{algorithm_name}
 use Rattle.sshkey_model.specs.Keys.{Key, Head, key_algorithm, headed, body, key, IsKey, HasKeyPlaces}
@@ -14,12 +15,6 @@ use Rattle.sshkey_model.specs.Certificates.{Certificate, IsCertificate, HasCerti
 use Rattle.sshkey_model.proofs.TextReaders.{box_shows}
 use Rattle.sshkey_model.proofs.KeyReaders.{key_reads}
 use Rattle.sshkey_model.proofs.CertificateReaders.{certificate_reads}
-
--- A blob is some bytes, and spells one value.
-pub record IsBlob {V : Type 0} (Spelling : V → List ℕ → Type 0) : Type 0 where
-  pub bytes : (value : V) (blob : List ℕ) → Spelling value blob → are_bytes blob ≡ true
-  pub some : (value : V) (blob : List ℕ) → Spelling value blob → 0 < length blob
-  pub one : (v w : V) (blob : List ℕ) → Spelling v blob → Spelling w blob → v ≡ w
 
 pub flat_bytes : (p : Parts) → InRange p → are_bytes (flat p) ≡ true
 unfolding flat InRange

@@ -7,7 +7,8 @@ use Rattle.sshkey_model.specs.Parts.{Any, bytes}
 use Rattle.sshkey_model.specs.Reading.{Label}
 use Rattle.sshkey_model.specs.Names.{Nistp256, Nistp384, Nistp521, Algorithm, Dsa, Ecdsa, Ed25519, Rsa, SkEcdsa, SkEd25519, Other, algorithms, algorithm_name, named, are_ascii, is_own_name, is_other_name, at_sign, cut, behind_first, is_split, algorithm_or}
 use Rattle.sshkey_model.specs.CertificateNames.{suffix, with_suffix, certificate_name, certified, IsCertified, certificate_algorithm, without_suffix, certified_or, certified_from, certificate_algorithm_at}
-use Rattle.sshkey_model.proofs.CombinedReaders.{Checks, ok_is, done, chosen, ReadsFront, checked_string_reads}
+use Rattle.sshkey_model.specs.Grammar.{Checks}
+use Rattle.sshkey_model.proofs.CombinedReaders.{ok_is, done, chosen, ReadsFront, checked_string_reads}
 use Rattle.sshkey_model.proofs.NameReaders.{found}
 
 cut_later : (c : ℕ) (rest : List ℕ) (p : List ℕ × List ℕ) (o : Option (List ℕ × List ℕ)) → ((q : List ℕ × List ℕ) → cut rest ≡ Some q → (rest ≡ q.0 ++ at_sign ∷ q.1) × (cut q.0 ≡ None)) → cut rest ≡ o → eqb c at_sign ≡ false → behind_first c o ≡ Some p → (c ∷ rest ≡ p.0 ++ at_sign ∷ p.1) × (cut p.0 ≡ None)

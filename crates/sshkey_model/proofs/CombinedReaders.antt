@@ -7,8 +7,9 @@ use Rattle.std.proofs.lemmas.List.{take_at, drop_at, take-append-drop, length-ap
 use Rattle.std.proofs.lemmas.Slice.Eq.{bytes_eq-Decides}
 use Rattle.std.proofs.lemmas.Nat.{be_bytes_4, be_bytes_8, from_be_bytes-to_be_bytes_4, from_be_bytes-to_be_bytes_8}
 pub use Rattle.sshkey_model.specs.Parts.{Any}
-use Rattle.sshkey_model.specs.Parts.{Parts, bytes, number, box, ◌&◌, flat, Fits, InRange, BoxesFit, are_bytes, each, IsPrefixFree}
+use Rattle.sshkey_model.specs.Parts.{Parts, HasLength, bytes, number, box, ◌&◌, flat, Fits, InRange, BoxesFit, are_bytes, each, IsPrefixFree}
 use Rattle.sshkey_model.specs.Reading.{Fault, Length, FormatEncoding, ◌>>=◌, Front, Whole, end_of, whole, then_at, checked_at, checked_whole, list_within, IsChain, all_from, number_at, bytes_at, string_at, literal_from, literal_at, box_at}
+use Rattle.sshkey_model.specs.Grammar.{Checks}
 
 -- ---- steps that did not fail
 
@@ -127,9 +128,6 @@ module _ {A : Type 0} {Is : A → Type 0} {spell : A → Parts} {read : Front A}
   complete b fault e x rest is fits shape = cc (sym e ∙ ap read shape ∙ reads.again x rest is fits)
 
 -- ---- bytes with no length before them
-
-abbrev pub HasLength : ℕ → List ℕ → Type 0
-HasLength n b = length b ≡ n
 
 pub bytes_reads : (n : ℕ) → ReadsFront (HasLength n) bytes (bytes_at n)
 unfolding flat InRange BoxesFit bytes_at
@@ -301,11 +299,6 @@ module _ {A B : Type 0} {Is : A → Type 0} {spell : A → Parts} {read : Front 
   }
 
 -- ---- a test on what was read, or another form of it
-
--- What the test gives is spelled as what it was given, and each value that is so comes from one.
-pub record Checks {A B : Type 0} (Was : A → Type 0) (spelled : A → Parts) (Is : B → Type 0) (spell : B → Parts) (check : A → Result B Fault) : Type 0 where
-  pub takes : (a : A) (b : B) → Was a → check a ≡ Ok b → Is b × (spelled a ≡ spell b)
-  pub again : (b : B) → Is b → (a : A) × Was a × (check a ≡ Ok b) × (spelled a ≡ spell b)
 
 module _ {A B : Type 0} {Was : A → Type 0} {spelled : A → Parts} {Is : B → Type 0} {spell : B → Parts} {check : A → Result B Fault} (checks : Checks Was spelled Is spell check) where
   pub checked_reads : {read : Front A} → ReadsFront Was spelled read → ReadsFront Is spell (checked_at check read)

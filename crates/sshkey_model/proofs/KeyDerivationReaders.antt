@@ -6,7 +6,8 @@ use Rattle.sshkey_model.specs.Parts.{bytes, number, box, ◌&◌}
 use Rattle.sshkey_model.specs.Reading.{AlgorithmUnknown}
 use Rattle.sshkey_model.specs.Names.{named, or_label}
 use Rattle.sshkey_model.specs.KeyDerivation.{Cipher, NoCipher, cipher_name, ciphers, cipher, cipher_at, KdfAlgorithm, NoDerivation, BcryptDerivation, kdf_name, kdf_algorithms, kdf_algorithm, BcryptOptions, bcrypt_options, bcrypt_options_at, Kdf, NoKdf, Bcrypt, derivation, kdf_options, kdf, kdf_algorithm_at, no_options, kdf_options_at, kdf_at}
-use Rattle.sshkey_model.proofs.CombinedReaders.{bind_assoc, ok_is, met, ReadsFront, Checks, Any, wide32, number_reads, string_reads, box_reads, whole_reads, then_reads, checked_reads, checked_string_reads, to_form, same_front}
+use Rattle.sshkey_model.specs.Grammar.{Checks}
+use Rattle.sshkey_model.proofs.CombinedReaders.{bind_assoc, ok_is, met, ReadsFront, Any, wide32, number_reads, string_reads, box_reads, whole_reads, then_reads, checked_reads, checked_string_reads, to_form, same_front}
 use Rattle.sshkey_model.proofs.NameReaders.{table_checks}
 
 -- ---- ciphers

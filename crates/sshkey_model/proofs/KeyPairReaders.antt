@@ -4,16 +4,16 @@ use Rattle.std.specs.Int.{w8}
 use Rattle.std.proofs.lemmas.Bool.{eqb-true, eq-eqb, ne_eqb, ltb-true, lt-ltb, le-ltb}
 use Rattle.std.proofs.lemmas.List.{take_at, drop_at, take-append-drop, length-append, length-take, length-replicate}
 use Rattle.std.proofs.lemmas.Slice.Eq.{bytes_eq-Decides}
-use Rattle.sshkey_model.specs.Parts.{bytes, ◌&◌, flat}
+use Rattle.sshkey_model.specs.Parts.{bytes, ◌&◌, flat, HasLength}
 use Rattle.sshkey_model.specs.Reading.{FormatEncoding, AlgorithmUnknown, Crypto, TrailingData, all_from, checked_whole}
-use Rattle.sshkey_model.specs.Grammar.{IsSpelled, spelled}
+use Rattle.sshkey_model.specs.Grammar.{IsSpelled, spelled, Checks}
 use Rattle.sshkey_model.specs.Texts.{string, IsText}
 use Rattle.sshkey_model.specs.Names.{Curve, Nistp256, Hash, Algorithm, IsAlgorithm, algorithm, curve}
 use Rattle.sshkey_model.specs.Mpints.{IsMpint, of_positive}
 use Rattle.sshkey_model.specs.Points.{field_size, IsPoint, curve_eq, IsPointOf}
 use Rattle.sshkey_model.specs.Keys.{Head, headed, head_of, has_curve}
 use Rattle.sshkey_model.specs.KeyPairs.{LeadingZeros, Plain, WithoutZero, WithZero, Short, is_high, is_natural, at_width, short_scalar, scalar_whole, zero_if, scalar_bytes, scalar, IsScalar, HasScalarPlaces, RsaPrivate, SecurityPrivate, KeyPair, DsaPair, EcdsaPair, Ed25519Pair, RsaPair, SkEcdsaPair, SkEd25519Pair, OpaquePair, public_half, pair_algorithm, rsa_private, security_private, pair, IsRsaPrivate, IsEcdsaPair, HasPairPlaces, IsPairUnder, KeyPairChoices, plain_pair, IsKeyPair, HasKeyPairPlaces, keypair, scalar_alone, scalar_behind_zero, after_zero, scalar_from, scalar_at, dsa_pair_at, any_ecdsa_pair_at, ecdsa_pair_at, private_before, ed25519_pair_at, rsa_private_at, rsa_pair_at, security_private_at, sk_ecdsa_pair_at, sk_ed25519_pair_at, opaque_pair_at, pair_at, keypair_at}
-use Rattle.sshkey_model.proofs.CombinedReaders.{bind_assoc, done, ok_is, chosen, met, passed, ReadsFront, ReadsWhole, Checks, all_reads, checked_whole_reads, Any, HasLength, wide8, number_reads, string_reads, whole_reads, bytes_reads, box_reads, then_reads, checked_reads, checked_string_reads, to_form, kept, same_front, as_front_form}
+use Rattle.sshkey_model.proofs.CombinedReaders.{bind_assoc, done, ok_is, chosen, met, passed, ReadsFront, ReadsWhole, all_reads, checked_whole_reads, Any, wide8, number_reads, string_reads, whole_reads, bytes_reads, box_reads, then_reads, checked_reads, checked_string_reads, to_form, kept, same_front, as_front_form}
 use Rattle.sshkey_model.proofs.NameReaders.{curve_reads, algorithm_reads}
 use Rattle.sshkey_model.proofs.TextReaders.{text_reads}
 use Rattle.sshkey_model.proofs.MpintReaders.{mpint_reads}

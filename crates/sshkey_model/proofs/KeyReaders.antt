@@ -1,14 +1,14 @@
 -- Public keys are read as they are spelled.
 use Rattle.std.proofs.Common.{◌≡◌, ℕ, Option, None, Some, true, List, Ok, refl, sym, ap, ◌∙◌}
-use Rattle.sshkey_model.specs.Parts.{◌&◌}
+use Rattle.sshkey_model.specs.Parts.{◌&◌, HasLength}
 use Rattle.sshkey_model.specs.Reading.{AlgorithmUnknown, ◌>>=◌, string_at}
-use Rattle.sshkey_model.specs.Grammar.{IsSpelled, spelled}
+use Rattle.sshkey_model.specs.Grammar.{IsSpelled, spelled, Checks}
 use Rattle.sshkey_model.specs.Texts.{string, IsText}
 use Rattle.sshkey_model.specs.Names.{Curve, Nistp256, Hash, Sha256, Sha512, Algorithm, IsAlgorithm, algorithm, curve}
 use Rattle.sshkey_model.specs.Mpints.{IsMpint}
 use Rattle.sshkey_model.specs.Points.{IsPoint, curve_eq, IsPointOf}
 use Rattle.sshkey_model.specs.Keys.{Key, Dsa, Ecdsa, Ed25519, Rsa, SkEcdsa, SkEd25519, Opaque, key_algorithm, body, IsKey, key, HasKeyPlaces, dsa_at, any_ecdsa_at, ecdsa_at, ed25519_at, rsa_at, sk_ecdsa_at, sk_ed25519_at, body_at, p256_only, has_curve, IsEcdsa, Head, Plain, Head256, Head512, headed, HasHead, head_of, key_at, unhashed, IsBodyUnder}
-use Rattle.sshkey_model.proofs.CombinedReaders.{bind_assoc, done, ok_is, ReadsFront, Checks, Any, whole_reads, HasLength, bytes_reads, string_reads, box_reads, then_reads, checked_reads, checked_string_reads, to_form, kept, same_front, as_front_form}
+use Rattle.sshkey_model.proofs.CombinedReaders.{bind_assoc, done, ok_is, ReadsFront, Any, whole_reads, bytes_reads, string_reads, box_reads, then_reads, checked_reads, checked_string_reads, to_form, kept, same_front, as_front_form}
 use Rattle.sshkey_model.proofs.NameReaders.{curve_reads, algorithm_reads}
 use Rattle.sshkey_model.proofs.TextReaders.{text_reads}
 use Rattle.sshkey_model.proofs.MpintReaders.{mpint_reads}

@@ -4,18 +4,7 @@ use Rattle.std.proofs.lemmas.List.{length-append, append-nil}
 use Rattle.std.proofs.Math.Seq.{get_or-append_seam}
 use Rattle.std.specs.Prelude.{EachIndex, slice_index}
 use Rattle.std.specs.Str.{trim_end}
-use Rattle.sshkey_model.specs.Lines.{space, after_space, joined, is_word_character, HasWordCharacters}
-
-abbrev pub IsWithout : ℕ → List ℕ → Type 0
-IsWithout c text = EachIndex text (λ i. slice_index text i ≢ c)
-
--- The text, without the white space at its end, is two words and a comment; neither word is empty or holds a space.
-pub record IsCut (text first word comment : List ℕ) : Type 0 where
-  pub is : trim_end text ≡ joined first word comment
-  pub some_first : 0 < length first
-  pub some_word : 0 < length word
-  pub characters : HasWordCharacters first
-  pub one_word : IsWithout space word
+use Rattle.sshkey_model.specs.Lines.{space, after_space, joined, is_word_character, HasWordCharacters, IsWithout, IsCut}
 
 -- a first word holds no space
 pub without_space : (first : List ℕ) → HasWordCharacters first → IsWithout space first

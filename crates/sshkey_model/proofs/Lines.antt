@@ -2,11 +2,10 @@
 use Rattle.std.proofs.Common.{◌≡◌, ℕ, List, length, sym, ap, ◌∙◌, subst, refl, arith}
 use Rattle.base64.specs.Engines.{standard}
 use Rattle.base64.specs.GeneralPurpose.{encode_of, IsBytes}
-use Rattle.sshkey_model.specs.Lines.{IsLine, IsLineOf, IsNoLine, HasWordCharacters, joined}
+use Rattle.sshkey_model.specs.Lines.{IsLine, IsLineOf, IsNoLine, HasWordCharacters, joined, IsCut, IsBlob}
 use Rattle.sshkey_model.proofs.CombinedReaders.{bytes_fit}
 use Rattle.sshkey_model.proofs.Base64Words.{word_not, some_word, one_blob}
-use Rattle.sshkey_model.proofs.LineCuts.{IsCut, one_cut}
-use Rattle.sshkey_model.proofs.Blobs.{IsBlob}
+use Rattle.sshkey_model.proofs.LineCuts.{one_cut}
 use Rattle.sshkey_model.specs.Texts.{IsText}
 
 pub line_cut : (text first blob comment : List ℕ) → IsLine text first blob comment → IsCut text first (encode_of standard blob) comment

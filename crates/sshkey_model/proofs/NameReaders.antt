@@ -6,7 +6,8 @@ use Rattle.std.proofs.lemmas.Bool.{and_parts}
 use Rattle.sshkey_model.specs.Parts.{bytes}
 use Rattle.sshkey_model.specs.Reading.{Label}
 use Rattle.sshkey_model.specs.Names.{Curve, Nistp256, Nistp384, Nistp521, Hash, Sha256, Sha512, Algorithm, Dsa, Ecdsa, Ed25519, Rsa, SkEcdsa, SkEd25519, Other, curves, hashes, algorithms, curve_name, hash_name, algorithm_name, named, is_own_name, is_other_name, IsAlgorithm, algorithm, or_label, algorithm_or, algorithm_from, algorithm_at, curve, curve_from, curve_at, hash, hash_from, hash_at}
-use Rattle.sshkey_model.proofs.CombinedReaders.{ok_is, done, chosen, ReadsFront, Checks, Any, checked_string_reads}
+use Rattle.sshkey_model.specs.Grammar.{Checks}
+use Rattle.sshkey_model.proofs.CombinedReaders.{ok_is, done, chosen, ReadsFront, Any, checked_string_reads}
 
 -- what is found in a table has that name
 pub found : {A : Type 0} (P : A → Type 0) (name : A → List ℕ) (xs : List A) (t : List ℕ) (a : A) → AllByRecursion P xs → named name xs t ≡ Some a → P a × (name a ≡ t)

@@ -3,10 +3,10 @@ use Rattle.std.proofs.Common.{◌≡◌, ℕ, ◌<◌, Option, Some, None, true,
 use Rattle.std.proofs.lemmas.Str.{is_utf8-from_IsUtf8, IsUtf8-nil}
 use Rattle.sshkey_model.specs.Parts.{Parts, ◌&◌, each, flat, Fits, InRange, BoxesFit}
 use Rattle.sshkey_model.specs.Reading.{Fault, FormatEncoding, ◌>>=◌, whole, checked_whole, list_whole, IsChain}
-use Rattle.sshkey_model.specs.Grammar.{IsSpelled, spelled}
+use Rattle.sshkey_model.specs.Grammar.{IsSpelled, spelled, Checks}
 use Rattle.sshkey_model.specs.Texts.{string, IsText, text_at}
 use Rattle.sshkey_model.specs.Options.{CertificateOption, Nesting, Plain, Nested, option_value, option, each_option, options, is_after, Rises, AreOptions, HasNesting, HasOptionPlaces, nesting_of, option_value_from, option_before, option_at, firsts, seconds, options_at}
-use Rattle.sshkey_model.proofs.CombinedReaders.{bind_assoc, bind_ok, ok_is, ReadsFront, ReadsWhole, whole_reads, box_reads, then_reads, Checks, checked_reads, checked_whole_reads, boxed_checks, to_form, kept, list_reads, same_front}
+use Rattle.sshkey_model.proofs.CombinedReaders.{bind_assoc, bind_ok, ok_is, ReadsFront, ReadsWhole, whole_reads, box_reads, then_reads, checked_reads, checked_whole_reads, boxed_checks, to_form, kept, list_reads, same_front}
 use Rattle.sshkey_model.proofs.TextReaders.{text_reads}
 
 pub no_text : IsText []

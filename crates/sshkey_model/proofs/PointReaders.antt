@@ -6,7 +6,8 @@ use Rattle.sshkey_model.specs.Reading.{Length, AlgorithmUnknown, Ecdsa, ◌>>=�
 use Rattle.sshkey_model.specs.Texts.{string}
 use Rattle.sshkey_model.specs.Names.{Curve, Nistp256, Nistp384, Nistp521}
 use Rattle.sshkey_model.specs.Points.{field_size, is_point, IsPoint, curve_eq, of_curve, curve_of_size, point_curve, point_from, p256_point_from, IsPointOf, point_at}
-use Rattle.sshkey_model.proofs.CombinedReaders.{bind_ok, ok_is, done, passed, chosen, ReadsFront, Checks, Any, kept, kept_bytes, checked_reads, checked_string_reads}
+use Rattle.sshkey_model.specs.Grammar.{Checks}
+use Rattle.sshkey_model.proofs.CombinedReaders.{bind_ok, ok_is, done, passed, chosen, ReadsFront, Any, kept, kept_bytes, checked_reads, checked_string_reads}
 
 sized : (n : ℕ) (c : Curve) → curve_of_size n ≡ Ok c → n ≡ field_size c
 sized n c e =

@@ -3,16 +3,16 @@ use Rattle.std.proofs.Common.{◌≡◌, ℕ, ◌%◌, ◌&&◌, eqb, true, cond
 use Rattle.std.specs.Int.{w32}
 use Rattle.std.proofs.lemmas.Bool.{eqb-true, eq-eqb, and_parts, and_from}
 use Rattle.std.proofs.lemmas.Slice.Eq.{bytes_eq-Decides}
-use Rattle.sshkey_model.specs.Parts.{Parts, bytes, number, box, ◌&◌, flat, Fits}
+use Rattle.sshkey_model.specs.Parts.{Parts, bytes, number, box, ◌&◌, flat, Fits, HasLength}
 use Rattle.sshkey_model.specs.Reading.{Fault, Length, Crypto, PublicKey, TrailingKeyData, end_of, whole}
-use Rattle.sshkey_model.specs.Grammar.{IsSpelled, spelled}
+use Rattle.sshkey_model.specs.Grammar.{IsSpelled, spelled, Checks}
 use Rattle.sshkey_model.specs.Texts.{string}
 use Rattle.sshkey_model.specs.Points.{curve_eq}
 use Rattle.sshkey_model.specs.Keys.{Key, Dsa, Ecdsa, Ed25519, Rsa, SkEcdsa, SkEd25519, Opaque, DsaKey, IsKey, key, key_algorithm, Head, HasHead, HasKeyPlaces}
 use Rattle.sshkey_model.specs.KeyDerivation.{Cipher, NoCipher, block_size, tag_size, cipher, Kdf, NoKdf, Bcrypt, kdf}
 use Rattle.sshkey_model.specs.KeyPairs.{KeyPair, public_half, KeyPairChoices, plain_pair, HasKeyPairPlaces}
 use Rattle.sshkey_model.specs.PrivateKeys.{UnencryptedKey, PrivateKey, Unencrypted, Encrypted, key_cipher, key_kdf, public_key, padded, private_key_magic, private_part, content, PrivateKeyChoices, plain_private_key, private_key, IsUnencryptedKey, IsPrivateKey, HasContentPlaces, HasPrivateKeyPlaces, dsa_eq, key_eq, private_part_at, unencrypted_at, blocks_from, encrypted_at, content_at, private_key_at, may_precede, decoded_private_key_at, IsDecoder}
-use Rattle.sshkey_model.proofs.CombinedReaders.{bind_assoc, bind_ok, ok_is, met, ReadsFront, ReadsWhole, Checks, Any, HasLength, wide32, number_reads, bytes_reads, box_reads, whole_reads, then_reads, checked_reads, checked_string_reads, to_form, kept, literal_reads, same_front}
+use Rattle.sshkey_model.proofs.CombinedReaders.{bind_assoc, bind_ok, ok_is, met, ReadsFront, ReadsWhole, Any, wide32, number_reads, bytes_reads, box_reads, whole_reads, then_reads, checked_reads, checked_string_reads, to_form, kept, literal_reads, same_front}
 use Rattle.sshkey_model.proofs.TextReaders.{text_reads}
 use Rattle.sshkey_model.proofs.PointReaders.{same_curve, curve_itself}
 use Rattle.sshkey_model.proofs.KeyReaders.{key_reads}

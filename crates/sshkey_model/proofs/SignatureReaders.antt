@@ -2,14 +2,15 @@
 use Rattle.std.proofs.Common.{◌≡◌, ℕ, suc, ◌-◌, ◌<◌, ◌≤◌, eqb, ltb, Option, Some, None, Bool, true, false, cond, List, [], ◌++◌, length, Result, Ok, Err, refl, sym, ap, subst, ◌∙◌, append-nil, arith}
 use Rattle.std.proofs.lemmas.Bool.{eqb-true, eq-eqb, ltb-true, lt-ltb}
 use Rattle.std.proofs.lemmas.List.{take_at, drop_at, take-append-drop, length-append, length-take, length-drop, nil_from_length}
-use Rattle.sshkey_model.specs.Parts.{Parts, bytes, box, ◌&◌, flat}
+use Rattle.sshkey_model.specs.Parts.{Parts, bytes, box, ◌&◌, flat, HasLength}
 use Rattle.sshkey_model.specs.Reading.{Fault, Length, FormatEncoding, ◌>>=◌, Whole}
 use Rattle.sshkey_model.specs.Texts.{string}
 use Rattle.sshkey_model.specs.Names.{Algorithm}
 use Rattle.sshkey_model.specs.Mpints.{is_mpint, mpint_from, positive_part}
 use Rattle.sshkey_model.specs.Points.{field_size}
 use Rattle.sshkey_model.specs.Signatures.{has_part, small_part, IsComponent, component_from, component_at, IsEcdsaBlob, ecdsa_blob_from, sized_from, some_from, none_from, trailed_at, without_trailer, trailer, signature_blob, signature, IsSignatureBlob, IsSignature, signature_blob_at, signature_at}
-use Rattle.sshkey_model.proofs.CombinedReaders.{bind_assoc, bind_ok, done, ok_is, met, fits_both, fits_first, fits_second, ReadsFront, Checks, Any, HasLength, string_reads, bytes_reads, then_reads, checked_reads, checked_string_reads, to_form, kept_bytes, same_front, as_front_form}
+use Rattle.sshkey_model.specs.Grammar.{Checks}
+use Rattle.sshkey_model.proofs.CombinedReaders.{bind_assoc, bind_ok, done, ok_is, met, fits_both, fits_first, fits_second, ReadsFront, Any, string_reads, bytes_reads, then_reads, checked_reads, checked_string_reads, to_form, kept_bytes, same_front, as_front_form}
 use Rattle.sshkey_model.proofs.NameReaders.{algorithm_reads}
 
 component_reads : (size : ℕ) → ReadsFront (IsComponent size) string (component_at size)

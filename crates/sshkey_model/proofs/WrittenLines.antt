@@ -10,7 +10,7 @@ use Rattle.std.proofs.Math.Seq.{get_or-append_seam}
 use Rattle.base64.specs.Engines.{standard}
 use Rattle.base64.specs.GeneralPurpose.{encode_of}
 use Rattle.sshkey_model.specs.Parts.{Parts, flat}
-use Rattle.sshkey_model.specs.Lines.{space, after_space, joined, written, IsLine, LinesReadBack}
+use Rattle.sshkey_model.specs.Lines.{space, after_space, joined, written, IsLine, LinesReadBack, IsBlob}
 use Rattle.sshkey_model.specs.Grammar.{SpellsWith}
 use Rattle.sshkey_model.specs.Keys.{Key, Plain, IsKey, HasKeyPlaces, key, normal_key}
 use Rattle.sshkey_model.specs.Certificates.{Certificate, IsCertificate, HasCertificatePlaces, certificate, plain_certificate, normal_certificate}
@@ -18,7 +18,6 @@ use Rattle.sshkey_model.proofs.CombinedReaders.{chosen}
 use Rattle.sshkey_model.proofs.NormalForms.{plain_certificate_has}
 use Rattle.sshkey_model.proofs.NormalFits.{key_fits, certificate_fits}
 use Rattle.sshkey_model.proofs.Base64Words.{IsDark, word_dark, some_word}
-use Rattle.sshkey_model.proofs.Blobs.{IsBlob}
 
 -- ---- characters with no white space at their end
 

@@ -124,11 +124,17 @@ type_from n = if n == 1 then Ok User else if n == 2 then Ok Host else Err Format
 unfoldable pub type_at : Front CertificateType
 type_at = checked_at type_from (number_at w32)
 
+abbrev pub time_from : ℕ → Result ℕ Fault
+time_from t = if is_time t then Ok t else Err Time
+
+abbrev pub end_from : ℕ → Result ℕ Fault
+end_from t = if is_end t then Ok t else Err Time
+
 unfoldable pub time_at : Front ℕ
-time_at = checked_at (λ t. if is_time t then Ok t else Err Time) (number_at w64)
+time_at = checked_at time_from (number_at w64)
 
 unfoldable pub end_at : Front ℕ
-end_at = checked_at (λ t. if is_end t then Ok t else Err Time) (number_at w64)
+end_at = checked_at end_from (number_at w64)
 
 unfoldable pub signed_fields_at : Front (SignedFields × CertificateChoices)
 signed_fields_at b = do

@@ -1,7 +1,7 @@
 -- Which bytes are a spelling of which value.
-use Rattle.std.specs.Prelude.{◌≡◌, List, ◌++◌, ℕ, Ok}
+use Rattle.std.specs.Prelude.{◌≡◌, List, ◌++◌, ℕ, Result, Ok}
 use Rattle.sshkey_model.specs.Parts.{Parts, flat, Fits}
-use Rattle.sshkey_model.specs.Reading.{◌>>=◌, Front}
+use Rattle.sshkey_model.specs.Reading.{Fault, ◌>>=◌, Front}
 
 -- The bytes spell the value: it is well-formed, it fits, and these are its parts.
 pub record Spells {V : Type 0} (Is : V → Type 0) (spell : V → Parts) (value : V) (b : List ℕ) : Type 0 where
@@ -41,3 +41,8 @@ pub record IsGrammar {V : Type 0} (Spelling : V → List ℕ → Type 0) (read :
   pub takes : (b : List ℕ) (value : V) (rest : List ℕ) → read b ≡ Ok (value, rest) → (front : List ℕ) × Spelling value front × (b ≡ front ++ rest)
   -- a spelling is taken, whatever follows it
   pub again : (value : V) (front rest : List ℕ) → Spelling value front → read (front ++ rest) ≡ Ok (value, rest)
+
+-- What a test gives is spelled as what it was given, and each value that is so comes from one.
+pub record Checks {A B : Type 0} (Was : A → Type 0) (spelled : A → Parts) (Is : B → Type 0) (spell : B → Parts) (check : A → Result B Fault) : Type 0 where
+  pub takes : (a : A) (b : B) → Was a → check a ≡ Ok b → Is b × (spelled a ≡ spell b)
+  pub again : (b : B) → Is b → (a : A) × Was a × (check a ≡ Ok b) × (spelled a ≡ spell b)

@@ -14,8 +14,8 @@ pub mod SshSignatures
 pub mod Fingerprints
 pub mod Verification
 pub mod Validity
-pub mod Refusals
 pub mod Principals
+pub mod Refusals
 pub mod OptionMaps
 pub mod Drafts
 pub mod Lines

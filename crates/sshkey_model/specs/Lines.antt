@@ -1,10 +1,10 @@
 -- Lines of a text, as OpenSSH writes public keys: a first word, a blob in Base64 (RFC 4648, section 4) and a comment, with a space between.
-use Rattle.std.specs.Prelude.{◌≡◌, ℕ, ◌<◌, ◌||◌, ◌==◌, true, Bool, List, [], ◌∷◌, ◌++◌, length, EachIndex, slice_index}
+use Rattle.std.specs.Prelude.{◌≡◌, ◌≢◌, ℕ, ◌<◌, ◌||◌, ◌==◌, true, Bool, List, [], ◌∷◌, ◌++◌, length, EachIndex, slice_index}
 use Rattle.std.specs.Char.{is_ascii_alphanumeric}
 use Rattle.std.specs.Str.{trim_end}
 use Rattle.base64.specs.Engines.{standard}
 use Rattle.base64.specs.GeneralPurpose.{encode_of}
-use Rattle.sshkey_model.specs.Parts.{Parts, flat}
+use Rattle.sshkey_model.specs.Parts.{Parts, flat, are_bytes}
 use Rattle.sshkey_model.specs.Grammar.{SpellsWith}
 use Rattle.sshkey_model.specs.Texts.{IsText}
 use Rattle.sshkey_model.specs.Names.{algorithm_name}
@@ -34,6 +34,24 @@ is_word_character c = is_ascii_alphanumeric c || c == 0x2b || c == 0x2d || c == 
 
 abbrev pub HasWordCharacters : List ℕ → Type 0
 HasWordCharacters word = EachIndex word (λ i. is_word_character (slice_index word i) ≡ true)
+
+-- The character stands nowhere in the text.
+abbrev pub IsWithout : ℕ → List ℕ → Type 0
+IsWithout c text = EachIndex text (λ i. slice_index text i ≢ c)
+
+-- The text, without the white space at its end, is two words and a comment; neither word is empty or holds a space.
+pub record IsCut (text first word comment : List ℕ) : Type 0 where
+  pub is : trim_end text ≡ joined first word comment
+  pub some_first : 0 < length first
+  pub some_word : 0 < length word
+  pub characters : HasWordCharacters first
+  pub one_word : IsWithout space word
+
+-- What may stand in a line: a spelling is some bytes, and of one value.
+pub record IsBlob {V : Type 0} (Spelling : V → List ℕ → Type 0) : Type 0 where
+  pub bytes : (value : V) (blob : List ℕ) → Spelling value blob → are_bytes blob ≡ true
+  pub some : (value : V) (blob : List ℕ) → Spelling value blob → 0 < length blob
+  pub one : (v w : V) (blob : List ℕ) → Spelling v blob → Spelling w blob → v ≡ w
 
 -- A text that, without the white space at its end, is the line of that first word, blob and comment.
 pub record IsLine (text first blob comment : List ℕ) : Type 0 where

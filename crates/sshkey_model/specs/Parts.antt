@@ -58,3 +58,7 @@ IsPrefixFree {A} Is spell = (v w : A) (r q : List ℕ) → Is v → Fits (spell 
 -- Nothing is asked.
 abbrev pub Any : {A : Type 0} → A → Type 0
 Any x = Unit {0}
+
+-- bytes of that length
+abbrev pub HasLength : ℕ → List ℕ → Type 0
+HasLength n b = length b ≡ n

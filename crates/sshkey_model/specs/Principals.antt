@@ -1,4 +1,4 @@
--- Whom a certificate is for.
+-- Whom a certificate is for (PROTOCOL.certkeys: where no principals are listed, anybody).
 use Rattle.std.specs.Prelude.{◌≡◌, ◌⊎◌, ℕ, List, [], Bool, Contains}
 use Rattle.sshkey_model.specs.Certificates.{Certificate}
 use Rattle.sshkey_model.specs.Fingerprints.{Fingerprint}

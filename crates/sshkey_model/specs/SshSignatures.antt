@@ -1,8 +1,8 @@
 -- SSH signatures of messages and files (PROTOCOL.sshsig).
-use Rattle.std.specs.Prelude.{◌≡◌, ℕ, List, length, true, Ok, Err, nat_lt, if◌then◌else◌, codes}
+use Rattle.std.specs.Prelude.{◌≡◌, ℕ, List, length, true, Result, Ok, Err, nat_lt, if◌then◌else◌, codes}
 use Rattle.std.specs.Int.{w32}
 use Rattle.sshkey_model.specs.Parts.{Parts, bytes, number, box, ◌&◌}
-use Rattle.sshkey_model.specs.Reading.{Version, Namespace, ◌>>=◌, Front, box_at, string_at, number_at, whole, checked_at, literal_at}
+use Rattle.sshkey_model.specs.Reading.{Fault, Version, Namespace, ◌>>=◌, Front, box_at, string_at, number_at, whole, checked_at, literal_at}
 use Rattle.sshkey_model.specs.Texts.{string, IsText, text_at}
 use Rattle.sshkey_model.specs.Names.{Hash, hash, hash_at}
 use Rattle.sshkey_model.specs.Keys.{Key, Head, Plain, HasKeyPlaces, IsKey, key, key_at}
@@ -45,11 +45,19 @@ normal_ssh_signature f = ssh_signature f Plain
 
 -- ---- reading
 
+-- a version that is read
+abbrev pub version_from : ℕ → Result ℕ Fault
+version_from n = if nat_lt n 2 then Ok n else Err (Version n)
+
+-- a namespace that is not empty
+abbrev pub namespace_from : List ℕ → Result (List ℕ) Fault
+namespace_from t = if nat_lt 0 (length t) then Ok t else Err Namespace
+
 unfoldable pub version_at : Front ℕ
-version_at = checked_at (λ n. if nat_lt n 2 then Ok n else Err (Version n)) (number_at w32)
+version_at = checked_at version_from (number_at w32)
 
 unfoldable pub namespace_at : Front (List ℕ)
-namespace_at = checked_at (λ t. if nat_lt 0 (length t) then Ok t else Err Namespace) text_at
+namespace_at = checked_at namespace_from text_at
 
 unfoldable pub ssh_signature_at : Front (SshSignature × Head)
 ssh_signature_at b = do

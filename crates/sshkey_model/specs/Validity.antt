@@ -1,4 +1,4 @@
--- When a certificate is valid.
+-- When a certificate is valid (PROTOCOL.certkeys: its signature, `valid after` and `valid before`).
 use Rattle.std.specs.Prelude.{ℕ, ◌^◌, ◌<◌, ◌≤◌, List, Bool, Contains}
 use Rattle.sshkey_model.specs.Parts.{flat}
 use Rattle.sshkey_model.specs.Names.{Sha256}

@@ -24,7 +24,7 @@ security_key_message application message blob = sha256 application ++ trailer bl
 abbrev pub asked_within : Algorithm → Key → List ℕ → List ℕ → Signature → Question
 asked_within a k application message g = record { algorithm = a; key = k; message = security_key_message application message g.blob; blob = without_trailer g.blob }
 
--- The dispatch: a signature is asked about under these pairs of a key and an algorithm, and under no others.
+-- The dispatch: a signature is asked about under these pairs of a key and an algorithm, and under no others (RFC 4253, section 6.6; RFC 5656, section 3.1; RFC 8332, section 3; RFC 8709, section 6; PROTOCOL.u2f). An RSA signature without a hash, by SHA-1, is not among them.
 abbrev pub question_under : Algorithm → Key → List ℕ → Signature → Option Question
 question_under Algorithm.Dsa (Dsa k) m g = Some (asked (Dsa k) m g)
 question_under (Algorithm.Ecdsa d) (Ecdsa c point) m g = same (curve_eq c d) (asked (Ecdsa c point) m g)

@@ -8,12 +8,6 @@ use Rattle.sshkey_model.specs.Certificates.{CertificateType, certificate_type, i
 use Rattle.sshkey_model.proofs.CertificateReaders.{type_reads, time_reads, end_reads}
 use Rattle.sshkey_model.proofs.Grammars.{grammar}
 
-abbrev pub time_from : ℕ → Result ℕ Fault
-time_from t = if is_time t then Ok t else Err Time
-
-abbrev pub end_from : ℕ → Result ℕ Fault
-end_from t = if is_end t then Ok t else Err Time
-
 abbrev pub SpellsType : CertificateType → List ℕ → Type 0
 SpellsType = Spells Any certificate_type
 

@@ -7,8 +7,8 @@ ghost use Rattle.sshkey_model.specs.Parts.{number};
 ghost use Rattle.sshkey_base.specs.Answers.{AnswersAlways};
 ghost use Rattle.sshkey_base.specs.Causes.{cause};
 ghost use Rattle.sshkey_base.specs.Needs.{NoNeed};
-ghost use Rattle.sshkey_model.specs.Certificates.{end_at};
-ghost use Rattle.sshkey_options.specs.Leaves.{SpellsEnd, end_from, end_grammar};
+ghost use Rattle.sshkey_model.specs.Certificates.{end_at, end_from};
+ghost use Rattle.sshkey_options.specs.Leaves.{SpellsEnd, end_grammar};
 
 use crate::unix_time::{MAX_SECS, UnixTime};
 use sshkey_base::{Decode, Encode, Error, Reader, Result, Writer, encoding};

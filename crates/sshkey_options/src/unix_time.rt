@@ -7,8 +7,8 @@ ghost use Rattle.std.specs.Int.{w64};
 ghost use Rattle.sshkey_base.specs.Answers.{AnswersAlways};
 ghost use Rattle.sshkey_base.specs.Causes.{cause};
 ghost use Rattle.sshkey_base.specs.Needs.{NoNeed};
-ghost use Rattle.sshkey_model.specs.Certificates.{time_at};
-ghost use Rattle.sshkey_options.specs.Leaves.{SpellsTime, time_from, time_grammar};
+ghost use Rattle.sshkey_model.specs.Certificates.{time_at, time_from};
+ghost use Rattle.sshkey_options.specs.Leaves.{SpellsTime, time_grammar};
 
 use sshkey_base::{Decode, Encode, Error, Reader, Result, Writer, encoding};
 use std::alloc::Global;

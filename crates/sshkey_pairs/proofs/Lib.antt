@@ -1,3 +1,2 @@
-pub mod FixedWidth
 pub mod Halves
 pub mod SignedScalars

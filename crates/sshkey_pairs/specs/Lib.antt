@@ -1,4 +1,3 @@
-pub mod FixedWidth
 pub mod PairReaders
 pub mod PairNeeds
 pub mod PrivateHalves

@@ -12,9 +12,8 @@ ghost use Rattle.sshkey_pairs.specs.PairReaders.{SpellsScalar, scalar_grammar, S
 ghost use Rattle.sshkey_pairs.specs.Pairs.{ecdsa_pair_of};
 ghost use Rattle.sshkey_pairs.specs.PrivateHalves.{ecdsa_private_of};
 
-use crate::fixed_width::decode_fixed;
 use sshkey_base::{
-    Algorithm, Decode, EcdsaCurve, Encode, Error, Reader, Result, Writer, both_len, encode_both,
+    Algorithm, Decode, EcdsaCurve, Encode, Error, Mpint, Reader, Result, Writer, both_len, encode_both,
     encoding, write_lower_hex, write_upper_hex,
 };
 use sshkey_kinds::{
@@ -108,7 +107,7 @@ impl<const SIZE: usize> Decode for EcdsaPrivateKey<SIZE> {
     ghost grammar = { scalar_grammar SIZE };
 
     fn decode<R: Reader>(_alloc: Global, reader: &mut R) -> Result<EcdsaPrivateKey<SIZE>> {
-        let bytes = decode_fixed::<SIZE, R>(reader)?;
+        let bytes = Mpint::decode_fixed::<SIZE, R>(reader)?;
         Ok(EcdsaPrivateKey { bytes })
     }
 }

@@ -4,7 +4,6 @@
 mod dsa;
 mod ecdsa;
 mod ed25519;
-mod fixed_width;
 pub mod laws;
 mod rsa;
 

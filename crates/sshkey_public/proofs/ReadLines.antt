@@ -13,8 +13,8 @@ use Rattle.sshkey_base.specs.declared.encoding.Error.{Error}
 use Rattle.sshkey_base.specs.declared.error.Error as wide
 use Rattle.sshkey_model.proofs.CombinedReaders.{bytes_fit}
 use Rattle.sshkey_model.specs.Parts.{bytes, flat, BoxesFit}
-use Rattle.sshkey_model.specs.Lines.{IsLineOf, IsNoLine}
-use Rattle.sshkey_model.proofs.LineCuts.{IsCut, one_cut}
+use Rattle.sshkey_model.specs.Lines.{IsLineOf, IsNoLine, IsCut}
+use Rattle.sshkey_model.proofs.LineCuts.{one_cut}
 use Rattle.sshkey_model.proofs.Lines.{line_cut, no_cut, other_first, is_line}
 use Rattle.sshkey_public.specs.Blobs.{StandsInLines}
 use Rattle.sshkey_public.specs.Lines.{IsWordOf, IsNoWord, ReadsWord}

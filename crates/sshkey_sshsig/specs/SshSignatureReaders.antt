@@ -14,14 +14,6 @@ use Rattle.sshkey_base.proofs.MappedBoxes.{on_value}
 use Rattle.sshkey_keys.specs.Keys.{key_data_at}
 use Rattle.sshkey_keys.proofs.BoxedKeys.{key_box}
 
--- a version that is read
-abbrev pub version_from : ℕ → Result ℕ Fault
-version_from n = if nat_lt n 2 then Ok n else Err (Version n)
-
--- a namespace that is not empty
-abbrev pub namespace_from : List ℕ → Result (List ℕ) Fault
-namespace_from t = if nat_lt 0 (length t) then Ok t else Err Namespace
-
 unfoldable pub ssh_signature_value_at : Front SshSignature
 ssh_signature_value_at b = do
   start ← literal_at signature_magic b

@@ -16,7 +16,7 @@ ghost use Rattle.sshkey_base.specs.Source.{Later};
 ghost use Rattle.sshkey_base.specs.Sink.{Encodes};
 ghost use Rattle.sshkey_base.specs.declared.encoding.Error.TheVariants as encoding;
 
-use super::{Algorithm, AlgorithmName, EcdsaCurve, ecdsa};
+use super::{Algorithm, AlgorithmName, EcdsaCurve, ecdsa, names};
 use crate::encode::Encode;
 use crate::encoding;
 use crate::error::{Error, Result};
@@ -38,7 +38,7 @@ impl Algorithm {
         ensures refused { certified_from name.now ≡ Err fault.Label →
             result ≡ Err (Error.Encoding encoding.Label) }
     {
-        match fixed_in_certificate(name) {
+        match Algorithm::fixed_certificate(name) {
             Some(algorithm) => Ok(algorithm),
             None => {
                 let name = AlgorithmName::from_certificate_type(alloc, name)?;
@@ -49,10 +49,22 @@ impl Algorithm {
 
     /// The algorithm with that fixed name in a certificate (PROTOCOL.certkeys), an RSA algorithm
     /// without a hash; `None` for any other text. Takes no memory.
+    #[tactic(auto, unfolding(sshkey_model::specs::Names::named))]
     pub fn fixed_certificate(name: &str) -> Option<Algorithm>
         ensures { option_map algorithm_of result ≡ named certificate_name certified name.now }
     {
-        fixed_in_certificate(name)
+        let algorithm = match name {
+            names::SSH_DSS_CERT => Algorithm::Dsa,
+            names::ECDSA_SHA2_NISTP256_CERT => ecdsa(EcdsaCurve::NistP256),
+            names::ECDSA_SHA2_NISTP384_CERT => ecdsa(EcdsaCurve::NistP384),
+            names::ECDSA_SHA2_NISTP521_CERT => ecdsa(EcdsaCurve::NistP521),
+            names::SSH_ED25519_CERT => Algorithm::Ed25519,
+            names::SSH_RSA_CERT => Algorithm::Rsa { hash: None },
+            names::SK_ECDSA_SHA2_NISTP256_CERT => Algorithm::SkEcdsaSha2NistP256,
+            names::SK_SSH_ED25519_CERT => Algorithm::SkEd25519,
+            _ => return None,
+        };
+        Some(algorithm)
     }
 
     /// Whether it is the name of an algorithm in a certificate (PROTOCOL.certkeys): Ok exactly where
@@ -60,7 +72,7 @@ impl Algorithm {
     pub fn check_certificate(name: &str) -> Result<()>
         ensures { Judges cause (certified_from name.now) result }
     {
-        match fixed_in_certificate(name) {
+        match Algorithm::fixed_certificate(name) {
             Some(_) => Ok(()),
             None => AlgorithmName::check_certificate_type(name),
         }
@@ -80,22 +92,22 @@ impl Algorithm {
         }
     }
 
-    // The name in a certificate of an algorithm that is no private-use one.
+    /// The name in a certificate of an algorithm that is no private-use one.
     fn fixed_certificate_type(&self) -> &'static str
         requires { IsFixed (algorithm_of self.now) }
         ensures { result.now ≡ certificate_name (algorithm_of self.now) }
     {
         match self {
-            Algorithm::Dsa => "ssh-dss-cert-v01@openssh.com",
+            Algorithm::Dsa => names::SSH_DSS_CERT,
             Algorithm::Ecdsa { curve } => match curve {
-                EcdsaCurve::NistP256 => "ecdsa-sha2-nistp256-cert-v01@openssh.com",
-                EcdsaCurve::NistP384 => "ecdsa-sha2-nistp384-cert-v01@openssh.com",
-                EcdsaCurve::NistP521 => "ecdsa-sha2-nistp521-cert-v01@openssh.com",
+                EcdsaCurve::NistP256 => names::ECDSA_SHA2_NISTP256_CERT,
+                EcdsaCurve::NistP384 => names::ECDSA_SHA2_NISTP384_CERT,
+                EcdsaCurve::NistP521 => names::ECDSA_SHA2_NISTP521_CERT,
             },
-            Algorithm::Ed25519 => "ssh-ed25519-cert-v01@openssh.com",
-            Algorithm::Rsa { .. } => "ssh-rsa-cert-v01@openssh.com",
-            Algorithm::SkEcdsaSha2NistP256 => "sk-ecdsa-sha2-nistp256-cert-v01@openssh.com",
-            Algorithm::SkEd25519 => "sk-ssh-ed25519-cert-v01@openssh.com",
+            Algorithm::Ed25519 => names::SSH_ED25519_CERT,
+            Algorithm::Rsa { .. } => names::SSH_RSA_CERT,
+            Algorithm::SkEcdsaSha2NistP256 => names::SK_ECDSA_SHA2_NISTP256_CERT,
+            Algorithm::SkEd25519 => names::SK_SSH_ED25519_CERT,
             Algorithm::Other(_) => unreachable!(),
         }
     }
@@ -168,23 +180,4 @@ fn read_certificate_type<R: Reader>(alloc: Global, reader: &mut R) -> Result<Alg
         Ok(text) => Algorithm::new_certificate(alloc, text),
         Err(_) => Err(Error::from(LabelError)),
     }
-}
-
-// The algorithm with that fixed name in a certificate.
-#[tactic(auto, unfolding(sshkey_model::specs::Names::named))]
-fn fixed_in_certificate(name: &str) -> Option<Algorithm>
-    ensures { option_map algorithm_of result ≡ named certificate_name certified name.now }
-{
-    let algorithm = match name {
-        "ssh-dss-cert-v01@openssh.com" => Algorithm::Dsa,
-        "ecdsa-sha2-nistp256-cert-v01@openssh.com" => ecdsa(EcdsaCurve::NistP256),
-        "ecdsa-sha2-nistp384-cert-v01@openssh.com" => ecdsa(EcdsaCurve::NistP384),
-        "ecdsa-sha2-nistp521-cert-v01@openssh.com" => ecdsa(EcdsaCurve::NistP521),
-        "ssh-ed25519-cert-v01@openssh.com" => Algorithm::Ed25519,
-        "ssh-rsa-cert-v01@openssh.com" => Algorithm::Rsa { hash: None },
-        "sk-ecdsa-sha2-nistp256-cert-v01@openssh.com" => Algorithm::SkEcdsaSha2NistP256,
-        "sk-ssh-ed25519-cert-v01@openssh.com" => Algorithm::SkEd25519,
-        _ => return None,
-    };
-    Some(algorithm)
 }

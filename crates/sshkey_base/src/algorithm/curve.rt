@@ -97,7 +97,7 @@ impl Label for EcdsaCurve {
         ensures gives { LooksUp curve_of curve_from name.now result }
         ensures always { LooksUpAlways curve_of curve_from name.now result }
     {
-        Ok(name.parse::<EcdsaCurve>()?)
+        Ok(EcdsaCurve::from_str(name)?)
     }
 
     ghost checks = { curve_checks };

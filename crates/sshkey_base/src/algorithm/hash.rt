@@ -109,7 +109,7 @@ impl Label for HashAlg {
         ensures gives { LooksUp hash_of hash_from name.now result }
         ensures always { LooksUpAlways hash_of hash_from name.now result }
     {
-        Ok(name.parse::<HashAlg>()?)
+        Ok(HashAlg::from_str(name)?)
     }
 
     ghost checks = { hash_checks };

@@ -65,7 +65,7 @@ impl AlgorithmName {
         Ok(AlgorithmName::checked(alloc, text)?)
     }
 
-    // The same, with an error of the encoding.
+    /// The same, with an error of the encoding.
     pub(crate) fn checked(alloc: Global, text: &str) -> encoding::Result<AlgorithmName>
         ensures gives { LooksUp (λ name. name) own_name_from text.now result }
         ensures refused { is_own_name text.now ≡ false → result ≡ Err encoding.Label }
@@ -96,7 +96,7 @@ impl AlgorithmName {
         Ok(format!(in alloc; "{name}{CERTIFICATE_SUFFIX}@{domain}")?)
     }
 
-    // How many bytes the name has in a certificate.
+    /// How many bytes the name has in a certificate.
     pub(crate) fn certificate_type_len(&self) -> usize
         ensures value { result ≡ length (certificate_name (Other self.now)) }
         ensures short { result ≤ 73 }
@@ -104,7 +104,7 @@ impl AlgorithmName {
         self.as_str().len() + CERTIFICATE_SUFFIX.len()
     }
 
-    // Writes the name in a certificate, with no length before it.
+    /// Writes the name in a certificate, with no length before it.
     pub(crate) fn write_certificate_type<W: Writer>(&self, writer: &mut W) -> encoding::Result<()>
         ensures { Encodes W.fault (bytes (certificate_name (Other self.now)))
             (W.sink writer.old) result (W.sink writer.new) }
@@ -128,7 +128,7 @@ impl AlgorithmName {
         })
     }
 
-    // Whether it is a private-use name.
+    /// Whether it is a private-use name.
     pub(crate) fn check(text: &str) -> Result<()>
         ensures { Judges cause (own_name_from text.now) result }
     {
@@ -138,7 +138,7 @@ impl AlgorithmName {
         Ok(())
     }
 
-    // Whether it is the certificate type of such a name.
+    /// Whether it is the certificate type of such a name.
     pub(crate) fn check_certificate_type(text: &str) -> Result<()>
         ensures { JudgesCertified cause text.now result }
     {
@@ -159,14 +159,14 @@ impl AlgorithmName {
     }
 }
 
-// What stands before the first at sign, and behind it.
+/// What stands before the first at sign, and behind it.
 fn split_at_sign(text: &str) -> Option<(&str, &str)>
     ensures { IsCutOf text.now result }
 {
     text.split_once('@')
 }
 
-// Whether it is a private-use name.
+/// Whether it is a private-use name.
 fn is_own_name(text: &str) -> bool
     ensures { result ≡ is_own_name text.now }
 {
@@ -176,7 +176,7 @@ fn is_own_name(text: &str) -> bool
     }
 }
 
-// Whether they are what stands before the first at sign of a name, and behind it.
+/// Whether they are what stands before the first at sign of a name, and behind it.
 fn are_own_parts(name: &str, domain: &str) -> bool
     ensures { result ≡ are_own_parts name.now domain.now }
 {
@@ -194,7 +194,7 @@ fn is_ascii(text: &str) -> bool
     text.is_ascii()
 }
 
-// The two parts of the name whose certificate type is that text.
+/// The two parts of the name whose certificate type is that text.
 fn certified_parts(text: &str) -> Option<(&str, &str)>
     ensures { AreCertifiedParts text.now result }
 {
@@ -205,7 +205,7 @@ fn certified_parts(text: &str) -> Option<(&str, &str)>
     Some((name, domain))
 }
 
-// The two parts of a certificate type, without the suffix of the first.
+/// The two parts of a certificate type, without the suffix of the first.
 fn without_suffix(text: &str) -> Option<(&str, &str)>
     ensures { IsWithoutSuffix text.now result }
 {

@@ -1,4 +1,4 @@
-//! The names of the algorithms that have fixed ones.
+//! The names of the algorithms that have fixed ones, also in certificates.
 
 /// DSA (RFC 4253, section 6.6).
 pub const SSH_DSS: &str = "ssh-dss";
@@ -29,3 +29,27 @@ pub const SK_ECDSA_SHA2_NISTP256: &str = "sk-ecdsa-sha2-nistp256@openssh.com";
 
 /// Ed25519 by a security key (PROTOCOL.u2f).
 pub const SK_SSH_ED25519: &str = "sk-ssh-ed25519@openssh.com";
+
+/// DSA, in a certificate (PROTOCOL.certkeys).
+pub const SSH_DSS_CERT: &str = "ssh-dss-cert-v01@openssh.com";
+
+/// ECDSA over NIST P-256, in a certificate (PROTOCOL.certkeys).
+pub const ECDSA_SHA2_NISTP256_CERT: &str = "ecdsa-sha2-nistp256-cert-v01@openssh.com";
+
+/// ECDSA over NIST P-384, in a certificate (PROTOCOL.certkeys).
+pub const ECDSA_SHA2_NISTP384_CERT: &str = "ecdsa-sha2-nistp384-cert-v01@openssh.com";
+
+/// ECDSA over NIST P-521, in a certificate (PROTOCOL.certkeys).
+pub const ECDSA_SHA2_NISTP521_CERT: &str = "ecdsa-sha2-nistp521-cert-v01@openssh.com";
+
+/// Ed25519, in a certificate (PROTOCOL.certkeys).
+pub const SSH_ED25519_CERT: &str = "ssh-ed25519-cert-v01@openssh.com";
+
+/// RSA keys, in a certificate (PROTOCOL.certkeys).
+pub const SSH_RSA_CERT: &str = "ssh-rsa-cert-v01@openssh.com";
+
+/// ECDSA over NIST P-256 by a security key, in a certificate (PROTOCOL.certkeys).
+pub const SK_ECDSA_SHA2_NISTP256_CERT: &str = "sk-ecdsa-sha2-nistp256-cert-v01@openssh.com";
+
+/// Ed25519 by a security key, in a certificate (PROTOCOL.certkeys).
+pub const SK_SSH_ED25519_CERT: &str = "sk-ssh-ed25519-cert-v01@openssh.com";

@@ -9,10 +9,10 @@ ghost use Rattle.sshkey_base.specs.Sink.{Encodes};
 ghost use Rattle.sshkey_base.specs.Source.{Later, all_of};
 ghost use Rattle.sshkey_keys.specs.Blobs.{MakesBlob};
 ghost use Rattle.sshkey_model.specs.Reading.{literal_at, literal_from, whole};
-ghost use Rattle.sshkey_model.specs.SshSignatures.{SshSignature, IsSshSignature, normal_ssh_signature, signature_magic, version_at, namespace_at};
+ghost use Rattle.sshkey_model.specs.SshSignatures.{SshSignature, IsSshSignature, normal_ssh_signature, signature_magic, version_at, namespace_at, version_from, namespace_from};
 ghost use Rattle.sshkey_sshsig.specs.Needs.{NeedsSshSignature};
 ghost use Rattle.sshkey_sshsig.specs.SshSignatures.{ssh_signature_of, statement};
-ghost use Rattle.sshkey_sshsig.specs.SshSignatureReaders.{version_from, namespace_from, ssh_signature_value_at, SpellsSshSignature, ssh_signature_grammar, ssh_signature_normal};
+ghost use Rattle.sshkey_sshsig.specs.SshSignatureReaders.{ssh_signature_value_at, SpellsSshSignature, ssh_signature_grammar, ssh_signature_normal};
 
 use super::SshSig;
 use sshkey_base::{

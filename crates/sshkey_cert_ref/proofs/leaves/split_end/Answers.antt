@@ -1,9 +1,8 @@
 use Rattle.std.proofs.lemmas.Result.{err_from_is_err_and}
 use Rattle.std.specs.Int.{w64}
-use Rattle.sshkey_model.specs.Certificates.{end_at}
+use Rattle.sshkey_model.specs.Certificates.{end_at, end_from}
 use Rattle.sshkey_model.specs.Reading.{number_at}
 use Rattle.sshkey_base.specs.Causes.{cause, encoding_cause, same_cause}
-use Rattle.sshkey_options.specs.Leaves.{end_from}
 use Rattle.sshkey_options.specs.Times.{end_of}
 use Rattle.sshkey_slices.proofs.Fronts.{split_refused, judge_refused, judge_taken}
 use Rattle.std.proofs.Common.{refl}
