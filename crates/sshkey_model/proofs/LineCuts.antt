@@ -1,10 +1,8 @@
 -- A line is cut into its words in one way.
-use Rattle.std.proofs.Common.{◌≡◌, ◌≢◌, ℕ, ◌<◌, suc, List, [], ◌∷◌, ◌++◌, length, get_or, sym, ap, ◌∙◌, refl, arith}
+use Rattle.std.proofs.Common.{◌≡◌, ℕ, suc, List, [], ◌∷◌, ◌++◌, length, get_or, sym, ap, ◌∙◌, refl, arith}
 use Rattle.std.proofs.lemmas.List.{length-append, append-nil}
 use Rattle.std.proofs.Math.Seq.{get_or-append_seam}
-use Rattle.std.specs.Prelude.{EachIndex, slice_index}
-use Rattle.std.specs.Str.{trim_end}
-use Rattle.sshkey_model.specs.Lines.{space, after_space, joined, is_word_character, HasWordCharacters, IsWithout, IsCut}
+use Rattle.sshkey_model.specs.Lines.{space, after_space, is_word_character, HasWordCharacters, IsWithout, IsCut}
 
 -- a first word holds no space
 pub without_space : (first : List ℕ) → HasWordCharacters first → IsWithout space first
