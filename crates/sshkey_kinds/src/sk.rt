@@ -123,10 +123,10 @@ impl Decode for SkEcdsaSha2NistP256 {
         if !matches!(stated, EcdsaCurve::NistP256) {
             return Err(Error::Crypto);
         }
-        let ec_point = decode_point(reader)?;
+        let point = decode_point(reader)?;
         let application = Text::decode(alloc, reader)?;
         Ok(SkEcdsaSha2NistP256 {
-            ec_point,
+            ec_point: point,
             application,
         })
     }
