@@ -244,10 +244,6 @@ pub later_all : (s t u v : Source) (a b d : List ℕ) (r : Result (Unit {0}) Err
 later_all s t u v a b d (Ok x) h k l = later_then s u v (later_advanced s u (a ++ b) (advances_both s t u a b h k)) (later_advanced u v d l)
 later_all s t u v a b d (Err e) h k l = subst (λ (x : Source). Later s x) (sym l.2) (later_advanced s u (a ++ b) (advances_both s t u a b h k))
 
--- Held bytes were passed, and of those of groups none.
-pub later_held : (s t u : Source) (a b : List ℕ) (e : Error) → Advances s a t → TakesBase64 t b (Err e) u → Later s u
-later_held s t u a b e h k = subst (λ (x : Source). Later s x) (sym k.2) (later_advanced s t a h)
-
 pub takes_all : (s t u v : Source) (a b d : List ℕ) (r : Result (Unit {0}) Error) → Advances s a t → Advances t b u → TakesBase64 u d r v → length (a ++ (b ++ d)) ≤ announced_len s → Takes s (a ++ (b ++ d)) r v
 takes_all s t u v a b d (Ok x) h k l le = advances_both s t v a (b ++ d) h (advances_both t u v b d k l)
 takes_all s t u v a b d (Err e) h k l le =

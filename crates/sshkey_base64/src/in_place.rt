@@ -4,15 +4,15 @@ ghost use Rattle.std.specs.Prelude.{◌≡◌, ◌≤◌, ◌+◌, ◌-◌, ◌*
 ghost use Rattle.base64.specs.Engines.{standard};
 ghost use Rattle.base64.specs.GeneralPurpose.{encode_of};
 
+use crate::word::PIECE;
 use base64::engine::general_purpose::STANDARD;
 
-/// The bytes that are encoded at once, in whole groups.
-const PIECE: usize = 48;
-
-/// Replaces a word's last bytes, so many, by all of the word: these bytes in padded Base64.
+/// Encodes the last `count` bytes of a buffer in padded Base64 (RFC 4648, section 4), into the same
+/// buffer, which the characters fill from its first byte to its last.
 ///
-/// A piece is written before the bytes that are still to be read, since the word is longer than
-/// they are by a byte for each group. Takes no memory.
+/// The buffer has room for just these characters: four for each three of the bytes, and four for
+/// the one or two that are left. It goes from the front on, piece by piece, and no byte is
+/// overwritten before it is encoded. Takes no memory.
 pub fn spread(word: &mut [u8], count: usize)
     requires room { length word.old ≡ 4 * ((count + 2) / 3) }
     requires fits { count ≤ length word.old }

@@ -12,7 +12,7 @@ use sshkey_base::encoding::Result;
 use sshkey_base::{Encode, Writer};
 
 /// The bytes that are encoded at once, in whole groups.
-const PIECE: usize = 48;
+pub(crate) const PIECE: usize = 48;
 
 /// Writes bytes in padded Base64, piece by piece. Takes no memory.
 ///

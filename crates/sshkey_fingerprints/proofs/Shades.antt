@@ -3,8 +3,7 @@ use Rattle.std.proofs.Common.{◌≡◌, ◌∙◌, Bool, true, false, cond, ℕ
 use Rattle.std.proofs.lemmas.List.{get_or-set_other, length-set}
 use Rattle.std.proofs.lemmas.Grind.{get_or-set_at}
 use Rattle.std.specs.List.{flat_map}
-use Rattle.sshkey_fingerprints.specs.RandomArt.{Cell, is_cell, last_of, reached, shade, start, steps, trail}
-use Rattle.sshkey_fingerprints.specs.Fields.{IsInField}
+use Rattle.sshkey_fingerprints.specs.RandomArt.{Cell, IsInField, is_cell, last_of, reached, shade, start, steps, trail}
 use Rattle.sshkey_fingerprints.specs.Walks.{IsNumbered, IsWalk, cell_of, index}
 use Rattle.sshkey_fingerprints.specs.declared.random_art.Walk.{Walk}
 use Rattle.sshkey_fingerprints.proofs.Walking.{other_place, same_cell, tally}

@@ -6,8 +6,7 @@ use Rattle.std.proofs.lemmas.Grind.{get_or-set_at}
 use Rattle.std.proofs.lemmas.List.Sums.{sum_by-append}
 use Rattle.std.specs.Prelude.{min}
 use Rattle.std.specs.List.{count_by}
-use Rattle.sshkey_fingerprints.specs.RandomArt.{Cell, is_cell, last_of, next, reached, start}
-use Rattle.sshkey_fingerprints.specs.Fields.{IsInField}
+use Rattle.sshkey_fingerprints.specs.RandomArt.{Cell, IsInField, is_cell, last_of, next, reached, start}
 use Rattle.sshkey_fingerprints.specs.Walks.{IsNumbered, IsWalk, cell_of, index}
 use Rattle.sshkey_fingerprints.specs.declared.random_art.Walk.{Walk}
 

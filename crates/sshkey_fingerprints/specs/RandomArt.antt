@@ -1,5 +1,5 @@
 -- Random art: a walk through a field of 17 columns and 9 rows, led by a digest (OpenSSH, sshkey.c, `fingerprint_randomart`).
-use Rattle.std.specs.Prelude.{◌==◌, ◌+◌, ◌-◌, ◌/◌, ◌%◌, ℕ, List, [], ◌∷◌, ◌++◌, Bool, ◌&&◌, if◌then◌else◌, codes, get_or, map, min, replicate}
+use Rattle.std.specs.Prelude.{◌<◌, ◌==◌, ◌+◌, ◌-◌, ◌/◌, ◌%◌, ℕ, List, [], ◌∷◌, ◌++◌, Bool, true, false, ◌&&◌, if◌then◌else◌, codes, get_or, map, min, replicate}
 use Rattle.std.specs.Fmt.{char_count}
 use Rattle.std.specs.List.{count_by, flat_map, range_with_len}
 use Rattle.sshkey_model.specs.Names.{Hash, Sha256, Sha512}
@@ -10,9 +10,16 @@ pub record Cell : Type 0 where
   pub column : ℕ
   pub row : ℕ
 
+abbrev pub IsInField : ℕ → ℕ → Type 0
+IsInField column row = (column < 17) × (row < 9)
+
 -- The walk starts in the middle.
 abbrev pub start : Cell
 start = record { column = 8; row = 4 }
+
+abbrev pub bit_of : Bool → ℕ
+bit_of true = 1
+bit_of false = 0
 
 -- One place on where the bit is set, else one back; at the edge it stays.
 abbrev pub along : ℕ → ℕ → ℕ → ℕ

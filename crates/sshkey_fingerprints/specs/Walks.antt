@@ -2,8 +2,7 @@
 use Rattle.std.specs.Prelude.{◌≡◌, ◌+◌, ◌*◌, ℕ, List, drop, get_or, length, min, take}
 use Rattle.std.specs.List.{count_by, flat_map, range_with_len}
 use Rattle.sshkey_fingerprints.specs.RandomArt as art
-use Rattle.sshkey_fingerprints.specs.RandomArt.{bar, is_cell, last_of, reached, shade, start}
-use Rattle.sshkey_fingerprints.specs.Fields.{IsInField}
+use Rattle.sshkey_fingerprints.specs.RandomArt.{IsInField, bar, is_cell, last_of, reached, shade, start}
 use Rattle.sshkey_fingerprints.specs.declared.random_art.Cell.{Cell}
 use Rattle.sshkey_fingerprints.specs.declared.random_art.RandomArt.{RandomArt}
 use Rattle.sshkey_fingerprints.specs.declared.random_art.Walk.{Walk}

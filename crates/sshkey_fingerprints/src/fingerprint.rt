@@ -36,7 +36,8 @@ impl Fingerprint {
     /// The digest by that hash of the key's normal form, which is what it writes.
     ///
     /// Exactly where a part of the key is longer than 2^32 - 1 bytes, the answer is `Length`;
-    /// otherwise it is refused only when out of memory. A key of at most 256 bytes is never refused.
+    /// otherwise it is refused only when out of memory. A key of at most 256 bytes is never
+    /// refused.
     pub fn new<K: Encode>(alloc: Global, hash_alg: HashAlg, key: &K) -> Result<Fingerprint>
         ensures gives { GivesDigest (hash_of hash_alg) (K.normal key.now) result }
         ensures short { AreShort (K.normal key.now) → IsOk result }
@@ -44,14 +45,15 @@ impl Fingerprint {
         let mut room = [0u8; SHORT_KEY_LEN];
         let mut writer = SliceWriter::new(&mut room);
         if let Ok(()) = key.encode(&mut writer) {
-            return Ok(Fingerprint::of(hash_alg, writer.written()));
+            return Ok(Fingerprint::of_bytes(hash_alg, writer.written()));
         }
         let bytes = encode_vec(alloc, key)?;
-        Ok(Fingerprint::of(hash_alg, bytes.as_slice()))
+        Ok(Fingerprint::of_bytes(hash_alg, bytes.as_slice()))
     }
 
-    /// The digest of the bytes.
-    fn of(hash_alg: HashAlg, bytes: &[u8]) -> Fingerprint
+    /// The digest of the bytes by that hash: where they are a key's normal form, its fingerprint.
+    /// Takes no memory.
+    pub fn of_bytes(hash_alg: HashAlg, bytes: &[u8]) -> Fingerprint
         ensures by { algorithm_of result ≡ hash_of hash_alg }
         ensures digest { digest_of result ≡ digest (hash_of hash_alg) bytes.now }
     {

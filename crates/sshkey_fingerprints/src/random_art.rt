@@ -2,8 +2,7 @@
 
 ghost use Rattle.std.specs.Prelude.{◌≡◌, ◌++◌, ◌∷◌, [], ◌<◌, ◌≤◌, ◌^◌, ◌+◌, ℕ, List, Some};
 ghost use Rattle.std.specs.Fmt.{WritesOnOk};
-ghost use Rattle.sshkey_fingerprints.specs.Fields.{IsInField, bit_of};
-ghost use Rattle.sshkey_fingerprints.specs.RandomArt.{along, bar, next, start, steps, symbol};
+ghost use Rattle.sshkey_fingerprints.specs.RandomArt.{IsInField, along, bar, bit_of, next, start, steps, symbol};
 
 use std::fmt;
 

@@ -10,6 +10,12 @@ use std::cmp::Ordering;
 use std::convert::AsSlice;
 use std::hash::{Hash, Hasher};
 
+/// How many bytes the longest point string of P-256 has.
+pub const P256_POINT_LEN: usize = 65;
+
+/// How many bytes the longest point string of P-521 has. No other curve's is longer.
+pub const P521_POINT_LEN: usize = 133;
+
 /// A point of a NIST curve as a point string (SEC 1, section 2.3.3): 02 or 03 and one coordinate,
 /// or 04 and both.
 ///
@@ -24,13 +30,13 @@ pub struct EcPoint<const LEN: usize> {
 }
 
 /// A point of P-256.
-pub type EcdsaNistP256PublicKey = EcPoint<65>;
+pub type EcdsaNistP256PublicKey = EcPoint<P256_POINT_LEN>;
 
 /// A point of P-384.
 pub type EcdsaNistP384PublicKey = EcPoint<97>;
 
 /// A point of P-521.
-pub type EcdsaNistP521PublicKey = EcPoint<133>;
+pub type EcdsaNistP521PublicKey = EcPoint<P521_POINT_LEN>;
 
 impl<const LEN: usize> EcPoint<LEN> {
     ghost use Rattle.std.specs.Prelude.{◌≡◌};
@@ -67,9 +73,9 @@ fn curve_of_longest(longest: usize) -> Option<EcdsaCurve>
     ensures { option_map curve_of result ≡ curve_of_longest longest }
 {
     match longest {
-        65 => Some(EcdsaCurve::NistP256),
+        P256_POINT_LEN => Some(EcdsaCurve::NistP256),
         97 => Some(EcdsaCurve::NistP384),
-        133 => Some(EcdsaCurve::NistP521),
+        P521_POINT_LEN => Some(EcdsaCurve::NistP521),
         _ => None,
     }
 }
@@ -148,7 +154,8 @@ impl<const LEN: usize> PartialOrd for EcPoint<LEN> {
 
     ghost partial_cmp = { as_partial_cmp (on point_of (slice_cmp nat_cmp)) };
 
-    ghost laws = { partial_order_from_own_ties (Prim.search (comparing, rules)) (Prim.search (comparing, rules)) };
+    ghost laws = { partial_order_from_own_ties (Prim.search (comparing, rules))
+        (Prim.search (comparing, rules)) };
 
     fn partial_cmp(&self, other: &EcPoint<LEN>) -> Option<Ordering> {
         Some(self.cmp(other))

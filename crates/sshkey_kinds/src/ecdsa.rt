@@ -14,7 +14,7 @@ ghost use Rattle.sshkey_model.specs.Reading.{bytes_at, checked_at, string_at};
 ghost use Rattle.sshkey_kinds.specs.EcdsaPublicKey.{ecdsa_of};
 
 use crate::ec_point::{
-    EcPoint, EcdsaNistP256PublicKey, EcdsaNistP384PublicKey, EcdsaNistP521PublicKey,
+    EcPoint, EcdsaNistP256PublicKey, EcdsaNistP384PublicKey, EcdsaNistP521PublicKey, P521_POINT_LEN,
 };
 use sshkey_base::{
     Algorithm, Decode, EcdsaCurve, Encode, Error, Reader, Result, ShortBytes, Writer,
@@ -167,12 +167,12 @@ fn point_from<R: Reader>(len: usize, reader: &mut R) -> Result<EcdsaPublicKey>
     ensures later { Later (R.source reader.old) (R.source reader.new) }
     ensures asks { Asks cause NoNeed (R.source reader.old) result }
 {
-    if let Some(bytes) = ShortBytes::<133>::ahead(len, reader) {
+    if let Some(bytes) = ShortBytes::<P521_POINT_LEN>::ahead(len, reader) {
         let key = EcdsaPublicKey::from_sec1_bytes(bytes)?;
         reader.skip(len);
         return Ok(key);
     }
-    let bytes = ShortBytes::<133>::take_from(len, reader)?;
+    let bytes = ShortBytes::<P521_POINT_LEN>::take_from(len, reader)?;
     EcdsaPublicKey::from_sec1_bytes(bytes.as_slice())
 }
 

@@ -13,6 +13,7 @@ mod sk;
 pub use dsa::DsaPublicKey;
 pub use ec_point::{
     EcPoint, EcdsaNistP256PublicKey, EcdsaNistP384PublicKey, EcdsaNistP521PublicKey,
+    P256_POINT_LEN, P521_POINT_LEN,
 };
 pub use ecdsa::EcdsaPublicKey;
 pub use ed25519::Ed25519PublicKey;

@@ -51,7 +51,7 @@ impl AsSlice<u8> for OpaquePublicKeyBytes {
     ghost items = { λ k. k };
 
     fn as_slice(&self) -> &[u8] {
-        self.bytes.as_slice()
+        self.as_bytes()
     }
 }
 

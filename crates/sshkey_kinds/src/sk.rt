@@ -5,14 +5,14 @@ ghost use Rattle.sshkey_base.specs.Causes.{cause};
 ghost use Rattle.sshkey_base.specs.Needs.{Asks, NoNeed};
 ghost use Rattle.sshkey_base.specs.Reading.{DecodesWide};
 ghost use Rattle.sshkey_base.specs.Source.{Later};
-ghost use Rattle.sshkey_model.specs.Keys.{Key, SkEcdsa, SkEd25519 as SkEd25519Key, body, p256_only};
+ghost use Rattle.sshkey_model.specs.Keys.{Key, SkEcdsa, SkEd25519 as SkEd25519Key, body};
 ghost use Rattle.sshkey_model.specs.Points.{p256_point_from};
 ghost use Rattle.sshkey_model.specs.Reading.{bytes_at, checked_at, string_at};
 ghost use Rattle.sshkey_model.specs.Keys.{sk_ecdsa_at, sk_ed25519_at};
 ghost use Rattle.sshkey_kinds.specs.Bodies.{SpellsSkEcdsa, sk_ecdsa_grammar, SpellsSkEd25519, sk_ed25519_grammar};
 ghost use Rattle.sshkey_kinds.specs.EcPoint.{point_of};
 
-use crate::ec_point::{EcPoint, EcdsaNistP256PublicKey};
+use crate::ec_point::{EcPoint, EcdsaNistP256PublicKey, P256_POINT_LEN};
 use crate::ed25519::Ed25519PublicKey;
 use sshkey_base::{
     Decode, EcdsaCurve, Encode, Error, Reader, Result, ShortBytes, Text, Writer, both_len,
@@ -123,10 +123,10 @@ impl Decode for SkEcdsaSha2NistP256 {
         if !matches!(stated, EcdsaCurve::NistP256) {
             return Err(Error::Crypto);
         }
-        let ec_point = decode_point(reader)?;
+        let point = decode_point(reader)?;
         let application = Text::decode(alloc, reader)?;
         Ok(SkEcdsaSha2NistP256 {
-            ec_point,
+            ec_point: point,
             application,
         })
     }
@@ -152,12 +152,12 @@ fn point_from<R: Reader>(len: usize, reader: &mut R) -> Result<EcdsaNistP256Publ
     ensures later { Later (R.source reader.old) (R.source reader.new) }
     ensures asks { Asks cause NoNeed (R.source reader.old) result }
 {
-    if let Some(bytes) = ShortBytes::<65>::ahead(len, reader) {
+    if let Some(bytes) = ShortBytes::<P256_POINT_LEN>::ahead(len, reader) {
         let point = EcPoint::from_bytes(bytes)?;
         reader.skip(len);
         return Ok(point);
     }
-    let bytes = ShortBytes::<65>::take_from(len, reader)?;
+    let bytes = ShortBytes::<P256_POINT_LEN>::take_from(len, reader)?;
     EcPoint::from_bytes(bytes.as_slice())
 }
 

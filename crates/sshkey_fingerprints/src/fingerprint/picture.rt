@@ -3,9 +3,8 @@
 ghost use Rattle.std.specs.Prelude.{◌≡◌, IfErr, IfOk, Some, string_bytes};
 ghost use Rattle.std.specs.Fmt.{WritesOnOk};
 ghost use Rattle.sshkey_fingerprints.specs.RandomArt.{hash_label, title};
-ghost use Rattle.sshkey_fingerprints.specs.Arts.{art_of};
 ghost use Rattle.sshkey_fingerprints.specs.Fingerprints.{algorithm_of};
-ghost use Rattle.sshkey_fingerprints.specs.Pictures.{picture_of};
+ghost use Rattle.sshkey_fingerprints.specs.Pictures.{art_of, picture_of};
 
 use crate::fingerprint::Fingerprint;
 use crate::random_art::RandomArt;
