@@ -1,4 +1,5 @@
-//! The program `sshkey`: reads standard input whole, a line of a key or of a certificate, and writes standard output.
+//! The program `sshkey`: reads standard input whole, the line of a key or of a certificate or an
+//! entry file, and writes standard output.
 #![tactic(auto)]
 
 use sshkey_tool::run;
@@ -22,9 +23,15 @@ fn words<R: Env + AllocGlobal>(rt: &R) -> io::Result<Vec<String>> {
 fn main(rt: HostRuntime) -> ExitCode {
     let mut output = io::writer(&rt);
     let mut input = rt.reader();
-    let Ok(words) = words(&rt) else {
-        let _ = writeln!(output, "refused: out of memory");
-        return ExitCode::from(1);
+    let words = match words(&rt) {
+        Ok(words) => words,
+        Err(error) => {
+            let _ = match error.kind() {
+                ErrorKind::OutOfMemory => writeln!(output, "refused: out of memory"),
+                _ => writeln!(output, "refused: I/O error"),
+            };
+            return ExitCode::from(1);
+        }
     };
     let Ok(words) = words
         .iter()

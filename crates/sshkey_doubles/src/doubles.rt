@@ -158,7 +158,8 @@ impl SigningKey for Fixed {
     }
 }
 
-/// A signer that signs nothing, as a device that is not there: every message is refused as `Crypto`.
+/// A signer that signs nothing, as a device that is not there: every message is refused as
+/// `Crypto`.
 #[derive(Debug, Drop)]
 pub struct Absent {
     key: KeyData,

@@ -19,7 +19,8 @@ use Rattle.sshkey_model.proofs.LineExamples.{line_ends}
 use Rattle.sshkey_model.proofs.LineTests.{all_characters, each, lacks, cut, no_base64, one_word, no_character}
 use Rattle.sshkey_entries.specs.AuthorizedKeys.{IsNoKeyLine, IsAuthorizedKey, HasOptions, is_space}
 use Rattle.sshkey_entries.specs.ConfigOptions.{is_option_character}
-use Rattle.sshkey_entries.specs.EntryExamples.{Options, Strict, Marked, HashedHosts, authorized, host, hash, salt, IsNone, quoted_line}
+use Rattle.sshkey_entries.specs.Entries.{IsNoEntry}
+use Rattle.sshkey_entries.specs.EntryExamples.{Options, Strict, Marked, HashedHosts, authorized, host, hash, salt, quoted_line}
 use Rattle.sshkey_entries.specs.Items.{is_odd, patterns}
 use Rattle.sshkey_entries.specs.KnownHosts.{Marker, CertAuthority, Revoked, Hosts, HashedName, Patterns, IsHosts, IsMarked, IsKnownHost, at_sign, bar}
 use Rattle.sshkey_entries.specs.StrictReading.{is_inside}
@@ -55,7 +56,7 @@ alone comment text line = inl (record { options = refl; line = line })
 behind : (options rest comment text : List ℕ) → text ≡ options ++ (space ∷ rest) → all_characters is_option_character options ≡ true → IsKeyLine rest rsa_key comment → 3 ≤ count_by is_space text → IsNoKeyLine text → HasOptions text (authorized options comment)
 behind options rest comment text is allowed line count none = record { rest = rest; is = is; options = each is_option_character options allowed; line = line; spaces = count; no_line = none }
 
-no_options : (text : List ℕ) → count_by is_space text < 3 → IsNoKeyLine text → IsNone IsAuthorizedKey text
+no_options : (text : List ℕ) → count_by is_space text < 3 → IsNoKeyLine text → IsNoEntry IsAuthorizedKey text
 no_options text few none a (inl x) = none a.key a.comment x.line
 no_options text few none a (inr x) = omega (arith, few, x.spaces)
 
@@ -121,14 +122,14 @@ unmarked None text rest other is = is.0
 unmarked (Some CertAuthority) text rest other is = absurd (other (ap (λ (l : List ℕ). slice_index l 0) is))
 unmarked (Some Revoked) text rest other is = absurd (other (ap (λ (l : List ℕ). slice_index l 0) is))
 
-no_late_marker : IsNone IsKnownHost (codes "h @revoked " ++ rsa_line)
+no_late_marker : IsNoEntry IsKnownHost (codes "h @revoked " ++ rsa_line)
 unfolding is_utf8 trim_end chars encode_utf8 groups_error scan_steps
 no_late_marker h k =
     let front = one_front space (codes "h") k.hosts_part (codes "@revoked " ++ rsa_line) k.rest (lacks space (codes "h") refl) k.one_word (unmarked h.marker _ _ (λ e. cc e) k.is) in
     let none : IsNoKeyLine (codes "@revoked " ++ rsa_line) = no_base64 _ (codes "@revoked") (codes "ssh-rsa") rsa_word (cut _ _ _ _ refl (omega arith) (omega arith) refl refl) refl in
     none h.key h.comment (subst (λ (l : List ℕ). IsKeyLine l h.key h.comment) (sym front.1) k.line)
 
-no_empty_hosts : IsNone IsKnownHost (codes " " ++ rsa_line)
+no_empty_hosts : IsNoEntry IsKnownHost (codes " " ++ rsa_line)
 no_empty_hosts h k =
     let front = one_front space [] k.hosts_part rsa_line k.rest (λ i lt. absurd (omega arith)) k.one_word (unmarked h.marker _ _ (λ e. cc e) k.is) in
     no_hosts h.hosts (subst (λ (l : List ℕ). IsHosts l h.hosts) (sym front.0) k.hosts)

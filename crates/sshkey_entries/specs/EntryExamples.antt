@@ -4,14 +4,12 @@ use Rattle.sshkey_model.specs.HexText.{hex}
 use Rattle.sshkey_model.specs.KeyExamples.{rsa_key}
 use Rattle.sshkey_model.specs.LineExamples.{rsa_line}
 use Rattle.sshkey_entries.specs.AuthorizedKeys.{AuthorizedKey, IsAuthorizedKey, authorized_text}
+use Rattle.sshkey_entries.specs.Entries.{IsNoEntry}
 use Rattle.sshkey_entries.specs.KnownHosts.{Marker, Revoked, Patterns, HashedName, IsHosts, KnownHost, IsKnownHost, known_text}
 use Rattle.sshkey_entries.specs.StrictReading.{IsReadStrictly}
 
 abbrev pub authorized : List ℕ → List ℕ → AuthorizedKey
 authorized options comment = record { options = options; key = rsa_key; comment = comment }
-
-abbrev pub IsNone : {Y : Type 0} → (List ℕ → Y → Type 0) → List ℕ → Type 0
-IsNone {Y} IsEntry line = (y : Y) → IsEntry line y → ⊥
 
 -- Options need a comment behind the key, or at least a space; without, the line is a key's or nothing.
 abbrev pub Options : Type 0
@@ -19,8 +17,8 @@ Options = IsAuthorizedKey rsa_line (authorized [] [])
     × IsAuthorizedKey (rsa_line ++ codes " me") (authorized [] (codes "me"))
     × IsAuthorizedKey (codes "no-pty " ++ rsa_line ++ codes " me") (authorized (codes "no-pty") (codes "me"))
     × IsAuthorizedKey (codes "no-pty " ++ rsa_line ++ codes " ") (authorized (codes "no-pty") [])
-    × IsNone IsAuthorizedKey (codes "no-pty " ++ rsa_line)
-    × IsNone IsAuthorizedKey (codes "key")
+    × IsNoEntry IsAuthorizedKey (codes "no-pty " ++ rsa_line)
+    × IsNoEntry IsAuthorizedKey (codes "key")
     × (authorized_text (authorized (codes "no-pty") (codes "me")) ≡ codes "no-pty " ++ rsa_line ++ codes " me")
     × (authorized_text (authorized [] []) ≡ rsa_line)
 
@@ -31,7 +29,7 @@ quoted_line = codes "c=\"x " ++ rsa_line ++ codes " y\" ssh-rsa B z"
 -- The options of the quoted line end inside quotes: it is read, and not strictly.
 abbrev pub Strict : Type 0
 Strict = IsAuthorizedKey quoted_line (authorized (codes "c=\"x") (codes "y\" ssh-rsa B z"))
-    × IsNone IsReadStrictly quoted_line
+    × IsNoEntry IsReadStrictly quoted_line
     × IsReadStrictly (codes "c=\"x\" " ++ rsa_line ++ codes " me") (authorized (codes "c=\"x\"") (codes "me"))
     × IsReadStrictly (rsa_line ++ codes " me") (authorized [] (codes "me"))
 
@@ -42,9 +40,9 @@ host m = record { marker = m; hosts = Patterns (codes "h" ∷ []); key = rsa_key
 abbrev pub Marked : Type 0
 Marked = IsKnownHost (codes "h " ++ rsa_line) (host None)
     × IsKnownHost (codes "@revoked h " ++ rsa_line) (host (Some Revoked))
-    × IsNone IsKnownHost (codes "@gibberish h " ++ rsa_line)
-    × IsNone IsKnownHost (codes "h @revoked " ++ rsa_line)
-    × IsNone IsKnownHost (codes " " ++ rsa_line)
+    × IsNoEntry IsKnownHost (codes "@gibberish h " ++ rsa_line)
+    × IsNoEntry IsKnownHost (codes "h @revoked " ++ rsa_line)
+    × IsNoEntry IsKnownHost (codes " " ++ rsa_line)
     × (known_text (host (Some Revoked)) ≡ codes "@revoked h " ++ rsa_line)
     × (known_text (host None) ≡ codes "h " ++ rsa_line)
 
@@ -57,5 +55,5 @@ hash = hex "512102af74967f52543ec9ace40a9f0f941fc643"
 -- A hash has 20 bytes, and hosts are some text.
 abbrev pub HashedHosts : Type 0
 HashedHosts = IsHosts (codes "|1|JfKTdBh7rNbXkVAQCRp4OQoPfmI=|USECr3SWf1JUPsms5AqfD5QfxkM=") (HashedName salt hash)
-    × IsNone IsHosts (codes "|1|AAAA|AAAAAAAAAAAAAAAAAAAAAAAAAA==")
-    × IsNone IsHosts []
+    × IsNoEntry IsHosts (codes "|1|AAAA|AAAAAAAAAAAAAAAAAAAAAAAAAA==")
+    × IsNoEntry IsHosts []

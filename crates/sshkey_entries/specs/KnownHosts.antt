@@ -1,4 +1,4 @@
--- The entries of known_hosts: a marker or none, hosts, and a key's line (sshd(8), "SSH_KNOWN_HOSTS FILE FORMAT").
+-- The entries of known_hosts: a marker or none, hosts, and a key's line (sshd(8), "SSH_KNOWN_HOSTS FILE FORMAT"). That one space stands between them, and nothing in front, is the rule of the crate ssh-key.
 use Rattle.std.specs.Prelude.{◌≡◌, ◌≢◌, ℕ, ◌<◌, List, ◌∷◌, ◌++◌, length, codes, slice_index, Option, Some, None}
 use Rattle.std.specs.List.{join_with_byte}
 use Rattle.base64.specs.Engines.{standard}
@@ -15,7 +15,7 @@ abbrev pub marker_text : Marker → List ℕ
 marker_text CertAuthority = codes "@cert-authority"
 marker_text Revoked = codes "@revoked"
 
--- Patterns of names; or a salt, and the hash of a name under it.
+-- Patterns of names; or a salt, and the HMAC-SHA1 of a name under the salt as its key.
 pub data Hosts : Type 0 where
   Patterns : List (List ℕ) → Hosts
   HashedName : List ℕ → List ℕ → Hosts

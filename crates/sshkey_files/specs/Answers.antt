@@ -3,11 +3,7 @@ use Rattle.std.specs.Prelude.{◌≡◌, ◌≢◌, ℕ, List, [], ◌∷◌, �
 use Rattle.std.specs.List.{AllZip}
 use Rattle.sshkey_base.specs.Causes.{cause, NoMemory}
 use Rattle.sshkey_base.specs.declared.error.Error.{Error}
-use Rattle.sshkey_entries.specs.Entries.{entries}
-
--- No value is that of the line.
-abbrev pub IsNoEntry : {Y : Type 0} → (List ℕ → Y → Type 0) → List ℕ → Type 0
-IsNoEntry {Y} IsEntry line = (y : Y) → IsEntry line y → ⊥
+use Rattle.sshkey_entries.specs.Entries.{entries, IsNoEntry}
 
 -- Accepted is the value of the line. Refused for anything but memory, it has none.
 abbrev pub ReadsEntry : {X Y : Type 0} → (X → Y) → (List ℕ → Y → Type 0) → List ℕ → Result X Error → Type 0

@@ -18,11 +18,11 @@ use std::alloc::Global;
 pub enum HostPatterns {
     /// Patterns of names.
     Patterns(Vec<Text>),
-    /// The hash of a name, by HMAC-SHA1 under the salt.
+    /// The HMAC-SHA1 of a host's name, with a salt as its key.
     HashedName {
-        /// The salt.
+        /// The salt, the key of the HMAC. OpenSSH draws 20 bytes; any number is taken.
         salt: Bytes,
-        /// The hash.
+        /// The HMAC-SHA1 of the host's name, 20 bytes.
         hash: [u8; 20],
     },
 }

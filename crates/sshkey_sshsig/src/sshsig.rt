@@ -2,9 +2,10 @@
 
 ghost use Rattle.std.specs.Prelude.{◌<◌, length};
 
+mod copy;
+mod fields;
 mod sign;
 mod signed_data;
-mod views;
 mod wire;
 
 use sshkey_base::{Bytes, Error, HashAlg, Result, Text};
@@ -50,7 +51,8 @@ impl SshSig {
     ghost use Rattle.sshkey_model.specs.SignedMessages.{made_by};
     ghost use Rattle.sshkey_sshsig.specs.SshSignatures.{ssh_signature_of, signer_of};
 
-    /// The version that is written.
+    /// 1: the version of signatures that are made here, and the greatest that is read. One that was
+    /// read with version 0 is written with it.
     pub const VERSION: u32 = 1;
 
     /// The signature in that namespace by that key, with nothing reserved. Takes no memory.

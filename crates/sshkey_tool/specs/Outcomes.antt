@@ -13,7 +13,7 @@ use Rattle.sshkey_model.specs.Lines.{key_line}
 use Rattle.sshkey_model.specs.Parts.{BoxesFit}
 use Rattle.sshkey_entries.specs.AuthorizedKeys.{IsAuthorizedKey, authorized_text}
 use Rattle.sshkey_entries.specs.KnownHosts.{IsKnownHost, known_text}
-use Rattle.sshkey_files.specs.Answers.{IsNoEntry}
+use Rattle.sshkey_entries.specs.Entries.{IsNoEntry}
 use Rattle.sshkey_public.specs.PublicKeys.{public_of, comment_of}
 use Rattle.sshkey_public.specs.declared.public_key.PublicKey.{PublicKey}
 use Rattle.sshkey_tool.specs.Faults.{IsMachineFault, Writes}

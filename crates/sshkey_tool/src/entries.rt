@@ -75,8 +75,8 @@ fn entry_line(alloc: Global, file: EntryFile, line: &str) -> Result<ShownEntry, 
     }
 }
 
-/// Writes the line of each entry of a text, one after the other, and says by a status whether one of
-/// them is refused. The first line that can't be made or written is the end.
+/// Writes the line of each entry of a text, one after the other, and says by a status whether one
+/// of them is refused. The first line that can't be made or written is the end.
 pub(crate) fn write_entries<W: Write>(
     alloc: Global,
     file: EntryFile,

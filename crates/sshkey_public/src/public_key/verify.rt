@@ -1,6 +1,6 @@
 //! Verifying SSH signatures of messages.
 
-ghost use Rattle.std.specs.Prelude.{◌≡◌, ◌≢◌, ◌↔◌, true, false, Err, OnOk, IsTrue};
+ghost use Rattle.std.specs.Prelude.{◌≡◌, ◌≢◌, true, false, Err, OnOk, IsTrue};
 ghost use Rattle.sshkey_base.specs.declared.error.Error.TheVariants as wide;
 ghost use Rattle.sshkey_keys.specs.Keys.{key_of};
 ghost use Rattle.sshkey_model.specs.SignedMessages.{IsVerified};
@@ -10,6 +10,7 @@ ghost use Rattle.sshkey_sshsig.specs.Signing.{signed_parts};
 ghost use Rattle.sshkey_sshsig.specs.SshSignatures.{ssh_signature_of, signer_of};
 
 use super::PublicKey;
+use crate::line::is_same;
 use sshkey_base::{Error, Result};
 use sshkey_keys::laws::compared_keys;
 use sshkey_keys::{KeyData, RawVerifier};
@@ -49,7 +50,7 @@ impl PublicKey {
         if !is_same_key(&self.key_data, signature.public_key()) {
             return Err(Error::PublicKey);
         }
-        if !is_same_text(namespace, signature.namespace()) {
+        if !is_same(namespace.as_bytes(), signature.namespace().as_bytes()) {
             return Err(Error::Namespace);
         }
         judge(alloc, message, signature, verifier)
@@ -77,11 +78,5 @@ fn is_same_key(left: &KeyData, right: &KeyData) -> bool
     ensures same { IsTrue result → key_of left.now ≡ key_of right.now }
 {
     compared_keys();
-    left == right
-}
-
-fn is_same_text(left: &str, right: &str) -> bool
-    ensures { IsTrue result ↔ (left.now ≡ right.now) }
-{
     left == right
 }

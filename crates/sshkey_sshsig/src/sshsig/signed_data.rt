@@ -28,7 +28,8 @@ struct SignedData<'a> {
 /// The bytes `SSHSIG`, the namespace, the reserved bytes, the hash's name and the digest.
 #[tactic(auto, using(sshkey_base::proofs::Writing::writing, sshkey_base::proofs::Writing::measuring, sshkey_base::proofs::Writing::measuring_leaves, sshkey_base::proofs::Writing::plain_bytes))]
 impl Encode for SignedData<'_> {
-    ghost normal = { λ d. signed_data d.namespace.now d.reserved.now (hash_of d.hash_alg) d.digest.now };
+    ghost normal = { λ d.
+        signed_data d.namespace.now d.reserved.now (hash_of d.hash_alg) d.digest.now };
 
     ghost max_len = { 6 + 4 * (2 ^ 32 + 4) };
 

@@ -1,34 +1,14 @@
-//! The parts of an SSH signature, and a copy of it.
+//! The parts of an SSH signature.
 
-ghost use Rattle.std.specs.Prelude.{◌≡◌, IfOk, IfErr};
+ghost use Rattle.std.specs.Prelude.{◌≡◌};
 ghost use Rattle.sshkey_base.specs.Names.{algorithm_of, hash_of};
-ghost use Rattle.sshkey_keys.specs.Signatures.{signature_of};
 ghost use Rattle.sshkey_sshsig.specs.SshSignatures.{ssh_signature_of, signer_of, given_of};
 
 use super::SshSig;
-use sshkey_base::{Algorithm, Error, HashAlg, Result};
+use sshkey_base::{Algorithm, HashAlg};
 use sshkey_keys::{KeyData, Signature};
-use std::alloc::Global;
 
 impl SshSig {
-    /// The same signature in memory of its own. Refused only when out of memory.
-    pub fn try_clone(&self, alloc: Global) -> Result<SshSig>
-        ensures same { IfOk result (λ f. ssh_signature_of f ≡ ssh_signature_of self.now) }
-        ensures refused { IfErr result (λ e. e ≡ Error.Memory) }
-    {
-        let namespace = self.namespace.try_clone(alloc)?;
-        let reserved = self.reserved.try_clone(alloc)?;
-        let signature = self.signature.try_clone(alloc)?;
-        Ok(SshSig {
-            version: self.version,
-            public_key: self.public_key.try_clone(alloc)?,
-            namespace,
-            reserved,
-            hash_alg: self.hash_alg,
-            signature,
-        })
-    }
-
     /// The algorithm of the signature.
     pub fn algorithm(&self) -> &Algorithm
         ensures { algorithm_of result.now ≡ (ssh_signature_of self.now).signature.algorithm }
