@@ -108,8 +108,8 @@ list_is (suc n) before (c ∷ b) = first_same _ _ (λ o. list_within item n (Som
     go (Ok x) rest = first_same _ _ (onto (plain x.0)) (rest (Some x.0) x.1) ∙ onto_same x.0 (list_within option_at n (Some x.0) x.1)
     go (Err e) rest = refl
 
-abbrev apart : List Pair → List CertificateOption × List Nesting
-apart xs = (firsts xs, seconds xs)
+abbrev pub two_lists : List (CertificateOption × Nesting) → List CertificateOption × List Nesting
+two_lists xs = (firsts xs, seconds xs)
 
 abbrev first_half : List CertificateOption × List Nesting → List CertificateOption
 first_half x = x.0
@@ -118,7 +118,7 @@ pub options_is : (b : List ℕ) → box_at option_list_at b ≡ options_value_at
 unfolding options_value_at options_at
 options_is b = box_map (list_whole option_at) option_list_at firsts (λ b. list_is (length b) None b) b ∙ go (box_at (list_whole option_at) b)
   where
-    go : (r : Result (List Pair × List ℕ) Fault) → (r >>= on_value firsts) ≡ ((r >>= on_value apart) >>= on_value first_half)
+    go : (r : Result (List Pair × List ℕ) Fault) → (r >>= on_value firsts) ≡ ((r >>= on_value two_lists) >>= on_value first_half)
     go (Ok x) = refl
     go (Err e) = refl
 

@@ -14,7 +14,7 @@ use crate::unix_time::{MAX_SECS, UnixTime};
 use sshkey_base::{Decode, Encode, Error, Reader, Result, Writer, encoding};
 use std::alloc::Global;
 
-/// The end of a certificate that has none.
+/// The end of a certificate that has none: 2^64 - 1 (PROTOCOL.certkeys).
 pub const FOREVER: u64 = u64::MAX;
 
 /// The end of a certificate's validity: a time, or that there is none (`FOREVER`).

@@ -53,6 +53,9 @@ impl OptionsMap {
     }
 
     /// The same options in memory of their own. Refused only when out of memory.
+    ///
+    /// A map copies itself through the allocator that it holds: the one that is passed stands here
+    /// so that all copies are asked for alike.
     pub fn try_clone(&self, _alloc: Global) -> Result<OptionsMap>
         ensures value { IfOk result (λ m. options_of m ≡ options_of self.now) }
         ensures memory { IfErr result (λ e. e ≡ Error.Memory) }

@@ -20,7 +20,7 @@ pub struct UnixTime {
     pub ghost form: { is_time secs ≡ true },
 }
 
-/// The greatest time.
+/// The greatest time: 2^63 - 1 seconds since 1970.
 pub const MAX_SECS: u64 = i64::MAX as u64;
 
 impl UnixTime {

@@ -3,7 +3,7 @@
 ghost use Rattle.std.specs.Prelude.{◌≡◌, IfOk, IfErr};
 ghost use Rattle.sshkey_base.specs.TextLists.{texts_of};
 ghost use Rattle.sshkey_base.specs.declared.error.Error.TheVariants as wide;
-ghost use Rattle.sshkey_keys.specs.Keys.{key_of};
+ghost use Rattle.sshkey_keys.specs.Keys.{algorithm_beside, key_of};
 ghost use Rattle.sshkey_options.specs.OptionMaps.{options_of};
 ghost use Rattle.sshkey_unsigned.specs.UnsignedValues.{unsigned_of};
 
@@ -17,6 +17,10 @@ impl Unsigned {
     /// The same fields in memory of their own. Refused only when out of memory.
     pub fn try_clone(&self, alloc: Global) -> Result<Unsigned>
         ensures value { IfOk result (λ u. unsigned_of u ≡ unsigned_of self.now) }
+        ensures algorithm { IfOk result
+            (λ u. algorithm_beside u.public_key ≡ algorithm_beside self.now.public_key) }
+        ensures signer_algorithm { IfOk result
+            (λ u. algorithm_beside u.signature_key ≡ algorithm_beside self.now.signature_key) }
         ensures memory { IfErr result (λ e. e ≡ wide.Memory) }
     {
         let (nonce, reserved) = self.copied_bytes(alloc)?;
@@ -80,6 +84,10 @@ impl Unsigned {
         ensures public_key { IfOk result (λ copy. key_of copy.0 ≡ key_of self.now.public_key) }
         ensures signature_key { IfOk result
             (λ copy. key_of copy.1 ≡ key_of self.now.signature_key) }
+        ensures algorithm { IfOk result
+            (λ copy. algorithm_beside copy.0 ≡ algorithm_beside self.now.public_key) }
+        ensures signer_algorithm { IfOk result
+            (λ copy. algorithm_beside copy.1 ≡ algorithm_beside self.now.signature_key) }
         ensures memory { IfErr result (λ e. e ≡ wide.Memory) }
     {
         let public_key = self.public_key.try_clone(alloc)?;
