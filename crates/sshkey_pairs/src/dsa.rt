@@ -111,7 +111,7 @@ impl Encode for DsaPrivateKey {
     }
 }
 
-/// A DSA key pair (OpenSSH, PROTOCOL.key).
+/// A DSA key pair (the SSH agent protocol, draft-miller-ssh-agent-04, section 4.2.1).
 #[derive(Debug, Drop, PartialEq, Eq)]
 pub struct DsaKeypair {
     /// The public key.

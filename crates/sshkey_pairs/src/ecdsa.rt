@@ -25,9 +25,17 @@ use std::fmt;
 
 /// The private scalar of an ECDSA key, as wide as the field: 32, 48 or 66 bytes, most significant
 /// first. Nobody asks whether it is below the order of the curve, or zero.
-#[derive(Clone, Drop, PartialEq, Eq)]
+#[derive(Clone, PartialEq, Eq)]
 pub struct EcdsaPrivateKey<const SIZE: usize> {
     bytes: [u8; SIZE],
+}
+
+/// Writes zeros over the scalar. Copies that moves leave behind keep it.
+impl<const SIZE: usize> Drop for EcdsaPrivateKey<SIZE> {
+    fn drop(mut self) {
+        self.bytes.fill(0);
+        let EcdsaPrivateKey { bytes: _ } = self;
+    }
 }
 
 impl<const SIZE: usize> EcdsaPrivateKey<SIZE> {
@@ -261,6 +269,9 @@ impl From<EcdsaKeypair> for EcdsaPublicKey {
 }
 
 /// The public key, and the scalar.
+///
+/// The refusals of `EcdsaPublicKey`, and then those of `EcdsaPrivateKey`, as wide as the field of
+/// that key's curve.
 #[tactic(auto, using(sshkey_base::proofs::Steps::steps), unfolding(crate::specs::PairReaders::ecdsa_steps_at))]
 impl Decode for EcdsaKeypair {
     ghost use Rattle.sshkey_kinds.specs.BodyNeeds.{NeedsEcdsa};

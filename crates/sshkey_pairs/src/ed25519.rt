@@ -26,9 +26,17 @@ use std::convert::{AsSlice, TryFrom};
 use std::fmt;
 
 /// The private bytes of an Ed25519 key, 32 (RFC 8032, section 5.1.5).
-#[derive(Clone, Drop, PartialEq, Eq)]
+#[derive(Clone, PartialEq, Eq)]
 pub struct Ed25519PrivateKey {
     bytes: [u8; 32],
+}
+
+/// Writes zeros over the bytes. Copies that moves leave behind keep them.
+impl Drop for Ed25519PrivateKey {
+    fn drop(mut self) {
+        self.bytes.fill(0);
+        let Ed25519PrivateKey { bytes: _ } = self;
+    }
 }
 
 impl Ed25519PrivateKey {

@@ -2,11 +2,32 @@
 
 ghost use Rattle.sshkey_base.specs.Comparisons.{IsEqualityOf};
 ghost use Rattle.sshkey_pairs.specs.Pairs.{dsa_pair_of, ecdsa_pair_of, ed25519_pair_of, rsa_pair_of};
+ghost use Rattle.sshkey_pairs.specs.PrivateHalves.{dsa_private_of, ecdsa_private_of, ed25519_private_of, rsa_private_of};
 
-use crate::dsa::DsaKeypair;
-use crate::ecdsa::EcdsaKeypair;
-use crate::ed25519::Ed25519Keypair;
-use crate::rsa::RsaKeypair;
+use crate::dsa::{DsaKeypair, DsaPrivateKey};
+use crate::ecdsa::{EcdsaKeypair, EcdsaPrivateKey};
+use crate::ed25519::{Ed25519Keypair, Ed25519PrivateKey};
+use crate::rsa::{RsaKeypair, RsaPrivateKey};
+
+/// Two private numbers of DSA keys are equal exactly if they are the same.
+pub fn equal_dsa_private_keys()
+    ensures { IsEqualityOf dsa_private_of ⟦<DsaPrivateKey as PartialEq>⟧.eq }
+{}
+
+/// Two private scalars of one width are equal exactly if they are the same.
+pub fn equal_ecdsa_private_keys<const SIZE: usize>()
+    ensures { IsEqualityOf ecdsa_private_of ⟦<EcdsaPrivateKey<SIZE> as PartialEq>⟧.eq }
+{}
+
+/// Two private keys of Ed25519 are equal exactly if their bytes are.
+pub fn equal_ed25519_private_keys()
+    ensures { IsEqualityOf ed25519_private_of ⟦<Ed25519PrivateKey as PartialEq>⟧.eq }
+{}
+
+/// Two private halves of RSA keys are equal exactly if their four numbers are.
+pub fn equal_rsa_private_keys()
+    ensures { IsEqualityOf rsa_private_of ⟦<RsaPrivateKey as PartialEq>⟧.eq }
+{}
 
 /// Two DSA pairs are equal exactly if they mean the same.
 pub fn equal_dsa_pairs()
@@ -26,4 +47,6 @@ pub fn equal_ed25519_pairs()
 /// Two RSA pairs are equal exactly if they mean the same, the inverse of q too.
 pub fn equal_rsa_pairs()
     ensures { IsEqualityOf rsa_pair_of ⟦<RsaKeypair as PartialEq>⟧.eq }
-{}
+{
+    equal_rsa_private_keys();
+}

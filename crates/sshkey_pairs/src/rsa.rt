@@ -99,7 +99,7 @@ impl Encode for RsaPrivateKey {
     }
 }
 
-/// An RSA key pair (OpenSSH, PROTOCOL.key).
+/// An RSA key pair (the SSH agent protocol, draft-miller-ssh-agent-04, section 4.2.4).
 #[derive(Drop, PartialEq, Eq)]
 pub struct RsaKeypair {
     /// The public key.

@@ -5,32 +5,27 @@ use Rattle.sshkey_model.specs.Keys.{RsaKey}
 use Rattle.sshkey_model.specs.KeyPairs.{RsaPair, RsaPrivate}
 use Rattle.sshkey_base.specs.Mpint.{mpint_of}
 use Rattle.sshkey_pairs.specs.Pairs.{rsa_pair_of}
+use Rattle.sshkey_pairs.specs.PrivateHalves.{rsa_private_of}
 use Rattle.sshkey_pairs.specs.declared.rsa.RsaKeypair.{RsaKeypair}
-use Rattle.sshkey_pairs.specs.declared.rsa.RsaPrivateKey.{RsaPrivateKey}
 use Rattle.sshkey_kinds.specs.declared.rsa.RsaPublicKey.{RsaPublicKey}
 use Rattle.sshkey_pairs.proofs.laws.equal_rsa_pairs.Goals as goal
 
 SamePublic : RsaPublicKey → RsaPublicKey → Type 0
 SamePublic x y = (mpint_of x.e ≡ mpint_of y.e) × (mpint_of x.n ≡ mpint_of y.n)
 
-SamePrivate : RsaPrivateKey → RsaPrivateKey → Type 0
-SamePrivate x y = (mpint_of x.d ≡ mpint_of y.d) × ((mpint_of x.iqmp ≡ mpint_of y.iqmp) × ((mpint_of x.p ≡ mpint_of y.p) × (mpint_of x.q ≡ mpint_of y.q)))
-
-together : (x y : RsaKeypair) → SamePublic x.public y.public × SamePrivate x.private y.private → rsa_pair_of x ≡ rsa_pair_of y
-unfolding SamePublic SamePrivate
-together x y same =
-    let e = same.0.0 in let n = same.0.1 in
-    let d = same.1.0 in let i = same.1.1.0 in let p = same.1.1.1.0 in let q = same.1.1.1.1 in cc
+together : (x y : RsaKeypair) → SamePublic x.public y.public × (rsa_private_of x.private ≡ rsa_private_of y.private) → rsa_pair_of x ≡ rsa_pair_of y
+unfolding SamePublic
+together x y same = let e = same.0.0 in let n = same.0.1 in let r = same.1 in cc
 
 halves : (a b : RsaKey) (r s : RsaPrivate) → RsaPair a r ≡ RsaPair b s → (a ≡ b) × (r ≡ s)
 halves a b r s same = (cc, cc)
 
-apart : (x y : RsaKeypair) → rsa_pair_of x ≡ rsa_pair_of y → SamePublic x.public y.public × SamePrivate x.private y.private
-unfolding SamePublic SamePrivate
+apart : (x y : RsaKeypair) → rsa_pair_of x ≡ rsa_pair_of y → SamePublic x.public y.public × (rsa_private_of x.private ≡ rsa_private_of y.private)
+unfolding SamePublic
 apart x y same =
     let e = halves _ _ _ _ same in
-    ((ap (λ (k : RsaKey). k.e) e.0, ap (λ (k : RsaKey). k.n) e.0), (ap (λ (r : RsaPrivate). r.d) e.1, (ap (λ (r : RsaPrivate). r.iqmp) e.1, (ap (λ (r : RsaPrivate). r.p) e.1, ap (λ (r : RsaPrivate). r.q) e.1))))
+    ((ap (λ (k : RsaKey). k.e) e.0, ap (λ (k : RsaKey). k.n) e.0), e.1)
 
 pub returns : goal.returns
-unfolding SamePublic SamePrivate
-returns c = λ x y. Decides-like _ (together x y) (apart x y) (Decides-and _ _ (Decides-and _ _ (bytes_eq-Decides _ _) (bytes_eq-Decides _ _)) (Decides-and _ _ (bytes_eq-Decides _ _) (Decides-and _ _ (bytes_eq-Decides _ _) (Decides-and _ _ (bytes_eq-Decides _ _) (bytes_eq-Decides _ _)))))
+unfolding SamePublic
+returns c = λ x y. Decides-like _ (together x y) (apart x y) (Decides-and _ _ (Decides-and _ _ (bytes_eq-Decides _ _) (bytes_eq-Decides _ _)) (c.equal_rsa_private_keys.ensures x.private y.private))
