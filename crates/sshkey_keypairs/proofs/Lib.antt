@@ -1,1 +1,2 @@
+mod HeldOrders
 pub mod SameReaders

@@ -1,5 +1,5 @@
 -- What the pairs of security keys mean, and their readers, which take exactly the spellings.
-use Rattle.std.specs.Prelude.{◌≡◌, ℕ, List, [], Result, Ok, Err}
+use Rattle.std.specs.Prelude.{◌≡◌, ℕ, List, [], ◌∷◌, ◌++◌, Result, Ok, Err}
 use Rattle.std.specs.Int.{w8}
 use Rattle.sshkey_model.specs.Reading.{Fault, Length, ◌>>=◌, Front, number_at, string_at}
 use Rattle.sshkey_model.specs.Grammar.{IsGrammar, Spells, value_at}
@@ -12,6 +12,7 @@ use Rattle.sshkey_model.proofs.Grammars.{grammar, same_grammar}
 use Rattle.sshkey_model.proofs.KeyPairReaders.{security_private_reads}
 use Rattle.sshkey_base.specs.Needs.{NoNeed, NeedsString, NeedsBoth}
 use Rattle.sshkey_kinds.specs.BodyNeeds.{NeedsSkEcdsa, NeedsSkEd25519}
+use Rattle.sshkey_kinds.specs.Comparisons.{sk_ecdsa_parts, sk_ed25519_parts}
 use Rattle.sshkey_kinds.specs.EcPoint.{point_of}
 use Rattle.sshkey_kinds.specs.Kinds.{sk_ecdsa_point, sk_ecdsa_application, sk_ed25519_key, sk_ed25519_application}
 use Rattle.sshkey_kinds.specs.declared.sk.SkEcdsaSha2NistP256 as public_ecdsa
@@ -62,6 +63,19 @@ sk_ed25519_held k = held_of k.held
 
 abbrev pub sk_ed25519_pair_of : sk.SkEd25519 → KeyPair
 sk_ed25519_pair_of k = SkEd25519Pair (record { key = (sk_ed25519_key (sk_ed25519_public k)).0; application = sk_ed25519_application (sk_ed25519_public k) }) (sk_ed25519_held k)
+
+-- ---- what their order goes by
+
+-- the flags, the key handle and the reserved bytes
+abbrev pub held_parts : SecurityPrivate → List (List ℕ)
+held_parts h = (h.flags ∷ []) ∷ h.handle ∷ h.reserved ∷ []
+
+-- the parts of the public key, and of what is kept of it
+abbrev pub sk_ecdsa_pair_parts : SkEcdsaSha2NistP256 → List (List ℕ)
+sk_ecdsa_pair_parts k = sk_ecdsa_parts (sk_ecdsa_public k) ++ held_parts (sk_ecdsa_held k)
+
+abbrev pub sk_ed25519_pair_parts : sk.SkEd25519 → List (List ℕ)
+sk_ed25519_pair_parts k = sk_ed25519_parts (sk_ed25519_public k) ++ held_parts (sk_ed25519_held k)
 
 -- ---- their readers
 

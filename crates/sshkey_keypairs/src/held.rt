@@ -10,11 +10,26 @@ use sshkey_base::{Bytes, Decode, Encode, Error, Reader, Result, Writer, encoding
 use std::alloc::Global;
 
 /// What is kept of a key that a security key holds.
-#[derive(Drop, PartialEq, Eq, PartialOrd, Ord)]
+#[derive(PartialEq, Eq, PartialOrd, Ord)]
 pub(crate) struct Held {
     pub(crate) flags: u8,
     pub(crate) key_handle: Bytes,
     reserved: Bytes,
+}
+
+/// Writes zeros over the key handle and the reserved bytes.
+impl Drop for Held {
+    fn drop(self) {
+        let Held {
+            flags: _,
+            key_handle,
+            reserved,
+        } = self;
+        let mut key_handle = key_handle.into_vec();
+        let mut reserved = reserved.into_vec();
+        key_handle.fill(0);
+        reserved.fill(0);
+    }
 }
 
 impl Held {

@@ -5,8 +5,9 @@ ghost use Rattle.sshkey_base.specs.Causes.{cause};
 ghost use Rattle.sshkey_base.specs.Names.{algorithm_of, curve_of};
 ghost use Rattle.sshkey_base.specs.Needs.{Asks};
 ghost use Rattle.sshkey_base.specs.Source.{Later};
-ghost use Rattle.sshkey_keys.specs.Keys.{key_of};
+ghost use Rattle.sshkey_keys.specs.Keys.{key_of, algorithm_beside as key_algorithm_beside};
 ghost use Rattle.sshkey_model.specs.KeyPairs.{xor_all, words};
+ghost use Rattle.sshkey_model.specs.Keys.{unhashed};
 ghost use Rattle.sshkey_model.specs.Names.{Dsa, Ecdsa, Ed25519, Rsa, SkEcdsa, SkEd25519 as AlgorithmSkEd25519, Other, algorithm_name};
 ghost use Rattle.sshkey_keypairs.specs.Keypairs.{pair_fields, pair_of, keypair_parts, public_of, algorithm_beside, checkint_of, GivesPair, GivesModelPair};
 ghost use Rattle.sshkey_keypairs.specs.KeypairNeeds.{NeedsPair};
@@ -65,7 +66,8 @@ impl Drop for KeypairData {
 }
 
 impl KeypairData {
-    /// Reads what stands behind the name of that algorithm, an RSA pair's with or without a hash.
+    /// Reads what stands behind the name of that algorithm, an RSA pair's with or without a hash,
+    /// which is not kept.
     ///
     /// A sound source is refused only where no front is such a pair, with the first fault from the
     /// left, or for memory that ran out, where the pair needs some.
@@ -76,6 +78,8 @@ impl KeypairData {
     ) -> Result<KeypairData>
         ensures gives { GivesModelPair (algorithm_of algorithm)
             R.source reader.old result reader.new }
+        ensures algorithm { IfOk result
+            (λ k. algorithm_beside k ≡ Some (unhashed (algorithm_of algorithm))) }
         ensures later { Later (R.source reader.old) (R.source reader.new) }
         ensures asks { Asks cause (NeedsPair (algorithm_of algorithm))
             (R.source reader.old) result }
@@ -100,8 +104,8 @@ impl KeypairData {
         }
     }
 
-    /// The same pair under the same algorithm, or the same ciphertext, in memory of its own. Refuses
-    /// only when out of memory.
+    /// The same pair under the same algorithm, or the same ciphertext, in memory of its own.
+    /// Refuses only when out of memory.
     pub fn try_clone(&self, alloc: Global) -> Result<KeypairData>
         ensures value { IfOk result (λ k. pair_of k ≡ pair_of self.now) }
         ensures fields { IfOk result (λ k. pair_fields k ≡ pair_fields self.now) }
@@ -145,9 +149,12 @@ impl KeypairData {
         })
     }
 
-    /// The public half. `Encrypted` for an encrypted pair; else refused only when out of memory.
+    /// The public half, under the same algorithm. `Encrypted` for an encrypted pair; else refused
+    /// only when out of memory.
     pub fn to_public(&self, alloc: Global) -> Result<KeyData>
         ensures value { IfOk result (λ k. public_of self.now ≡ Some (key_of k)) }
+        ensures algorithm { IfOk result
+            (λ k. algorithm_beside self.now ≡ Some (key_algorithm_beside k)) }
         ensures encrypted { is_encrypted self.now ≡ true → result ≡ Err Error.Encrypted }
         ensures refused { is_encrypted self.now ≡ false → IfErr result (λ e. e ≡ Error.Memory) }
     {
@@ -199,6 +206,8 @@ impl Decode for KeypairData {
 /// The pair under that algorithm.
 fn pair_from<R: Reader>(alloc: Global, reader: &mut R, algorithm: Algorithm) -> Result<KeypairData>
     ensures gives { GivesPair (algorithm_of algorithm) R.source reader.old result reader.new }
+    ensures algorithm { IfOk result
+        (λ k. algorithm_beside k ≡ Some (unhashed (algorithm_of algorithm))) }
     ensures later { Later (R.source reader.old) (R.source reader.new) }
     ensures asks { Asks cause (NeedsPair (algorithm_of algorithm)) (R.source reader.old) result }
 {
@@ -217,6 +226,7 @@ fn pair_from<R: Reader>(alloc: Global, reader: &mut R, algorithm: Algorithm) -> 
 #[tactic(auto, using(sshkey_base::proofs::Steps::steps))]
 fn dsa_from<R: Reader>(alloc: Global, reader: &mut R) -> Result<KeypairData>
     ensures gives { GivesPair Dsa R.source reader.old result reader.new }
+    ensures algorithm { IfOk result (λ k. algorithm_beside k ≡ Some Dsa) }
     ensures later { Later (R.source reader.old) (R.source reader.new) }
     ensures asks { Asks cause (NeedsPair Dsa) (R.source reader.old) result }
 {
@@ -228,6 +238,7 @@ fn dsa_from<R: Reader>(alloc: Global, reader: &mut R) -> Result<KeypairData>
 #[tactic(auto, using(sshkey_base::proofs::Steps::steps))]
 fn ecdsa_from<R: Reader>(alloc: Global, reader: &mut R, curve: EcdsaCurve) -> Result<KeypairData>
     ensures gives { GivesPair (Ecdsa (curve_of curve)) R.source reader.old result reader.new }
+    ensures algorithm { IfOk result (λ k. algorithm_beside k ≡ Some (Ecdsa (curve_of curve))) }
     ensures later { Later (R.source reader.old) (R.source reader.new) }
     ensures asks { Asks cause (NeedsPair (Ecdsa (curve_of curve))) (R.source reader.old) result }
 {
@@ -242,6 +253,7 @@ fn ecdsa_from<R: Reader>(alloc: Global, reader: &mut R, curve: EcdsaCurve) -> Re
 #[tactic(auto, using(sshkey_base::proofs::Steps::steps))]
 fn ed25519_from<R: Reader>(alloc: Global, reader: &mut R) -> Result<KeypairData>
     ensures gives { GivesPair Ed25519 R.source reader.old result reader.new }
+    ensures algorithm { IfOk result (λ k. algorithm_beside k ≡ Some Ed25519) }
     ensures later { Later (R.source reader.old) (R.source reader.new) }
     ensures asks { Asks cause (NeedsPair Ed25519) (R.source reader.old) result }
 {
@@ -253,6 +265,7 @@ fn ed25519_from<R: Reader>(alloc: Global, reader: &mut R) -> Result<KeypairData>
 #[tactic(auto, using(sshkey_base::proofs::Steps::steps))]
 fn rsa_from<R: Reader>(alloc: Global, reader: &mut R) -> Result<KeypairData>
     ensures gives { GivesPair (Rsa None) R.source reader.old result reader.new }
+    ensures algorithm { IfOk result (λ k. algorithm_beside k ≡ Some (Rsa None)) }
     ensures later { Later (R.source reader.old) (R.source reader.new) }
     ensures asks { Asks cause (NeedsPair (Rsa None)) (R.source reader.old) result }
 {
@@ -264,6 +277,7 @@ fn rsa_from<R: Reader>(alloc: Global, reader: &mut R) -> Result<KeypairData>
 #[tactic(auto, using(sshkey_base::proofs::Steps::steps))]
 fn sk_ecdsa_from<R: Reader>(alloc: Global, reader: &mut R) -> Result<KeypairData>
     ensures gives { GivesPair SkEcdsa R.source reader.old result reader.new }
+    ensures algorithm { IfOk result (λ k. algorithm_beside k ≡ Some SkEcdsa) }
     ensures later { Later (R.source reader.old) (R.source reader.new) }
     ensures asks { Asks cause (NeedsPair SkEcdsa) (R.source reader.old) result }
 {
@@ -275,6 +289,7 @@ fn sk_ecdsa_from<R: Reader>(alloc: Global, reader: &mut R) -> Result<KeypairData
 #[tactic(auto, using(sshkey_base::proofs::Steps::steps))]
 fn sk_ed25519_from<R: Reader>(alloc: Global, reader: &mut R) -> Result<KeypairData>
     ensures gives { GivesPair AlgorithmSkEd25519 R.source reader.old result reader.new }
+    ensures algorithm { IfOk result (λ k. algorithm_beside k ≡ Some AlgorithmSkEd25519) }
     ensures later { Later (R.source reader.old) (R.source reader.new) }
     ensures asks { Asks cause (NeedsPair AlgorithmSkEd25519) (R.source reader.old) result }
 {
@@ -291,6 +306,7 @@ fn opaque_from<R: Reader>(
 ) -> Result<KeypairData>
     ensures gives { GivesPair (Other (algorithm_name (algorithm_of algorithm)))
         R.source reader.old result reader.new }
+    ensures algorithm { IfOk result (λ k. algorithm_beside k ≡ Some (algorithm_of algorithm)) }
     ensures later { Later (R.source reader.old) (R.source reader.new) }
     ensures asks { Asks cause (NeedsPair (Other (algorithm_name (algorithm_of algorithm))))
         (R.source reader.old) result }
@@ -341,6 +357,8 @@ impl Encode for KeypairData {
     }
 }
 
+/// A pair is well-formed where its format has it. An encrypted one never is: it is not spelled by
+/// itself.
 impl NormalForm for KeypairData {
     ghost use Rattle.sshkey_keypairs.specs.NormalPairs.{IsWellFormedPair, keypair_normal};
 
@@ -350,7 +368,7 @@ impl NormalForm for KeypairData {
 }
 
 /// The xor of the whole words of four bytes, most significant byte first.
-pub(crate) fn checkint_from(bytes: &[u8]) -> u32
+fn checkint_from(bytes: &[u8]) -> u32
     ensures { result ≡ xor_all (words bytes.now) }
 {
     let mut rest = bytes;

@@ -20,9 +20,18 @@ use std::convert::AsSlice;
 use std::fmt;
 
 /// The private bytes of a key whose format is not known.
-#[derive(Drop, PartialEq, Eq)]
+#[derive(PartialEq, Eq)]
 pub struct OpaquePrivateKeyBytes {
     bytes: Bytes,
+}
+
+/// Writes zeros over the bytes. Copies that moves leave behind keep them.
+impl Drop for OpaquePrivateKeyBytes {
+    fn drop(self) {
+        let OpaquePrivateKeyBytes { bytes } = self;
+        let mut bytes = bytes.into_vec();
+        bytes.fill(0);
+    }
 }
 
 impl OpaquePrivateKeyBytes {
@@ -159,8 +168,8 @@ pub struct OpaqueKeypair {
 impl OpaqueKeypair {
     /// The pair of that public key and these private bytes. Takes no memory.
     pub fn new(private_key: Vec<u8>, public: OpaquePublicKey) -> OpaqueKeypair
-        ensures value { opaque_pair_of result
-            ≡ OpaquePair (algorithm_name (algorithm_of public.algorithm)) public.key private_key.items }
+        ensures value { opaque_pair_of result ≡ OpaquePair
+            (algorithm_name (algorithm_of public.algorithm)) public.key private_key.items }
         ensures public { result.public ≡ public }
     {
         OpaqueKeypair {

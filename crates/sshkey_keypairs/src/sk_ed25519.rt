@@ -79,7 +79,10 @@ impl fmt::Debug for SkEd25519 {
     }
 }
 
-/// The public key, and what is kept of it.
+/// The public key, the flags, the key handle and the reserved bytes.
+///
+/// The refusals of the public key, and then `Length` where a string passes what is left. The key
+/// handle may have any number of bytes.
 #[tactic(auto, using(sshkey_base::proofs::Steps::steps), unfolding(crate::specs::SecurityPairs::sk_ed25519_steps_at))]
 impl Decode for SkEd25519 {
     ghost use Rattle.sshkey_keypairs.specs.SecurityPairs.{NeedsSkEd25519Pair};

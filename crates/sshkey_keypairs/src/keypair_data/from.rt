@@ -9,6 +9,7 @@ use crate::sk_ecdsa::SkEcdsaSha2NistP256;
 use crate::sk_ed25519::SkEd25519;
 use sshkey_pairs::{DsaKeypair, EcdsaKeypair, Ed25519Keypair, RsaKeypair};
 
+/// That DSA pair. Takes no memory.
 impl From<DsaKeypair> for KeypairData {
     ghost from_gives = { λ pair made. made ≡ kinds.Dsa pair };
 
@@ -17,6 +18,7 @@ impl From<DsaKeypair> for KeypairData {
     }
 }
 
+/// That ECDSA pair. Takes no memory.
 impl From<EcdsaKeypair> for KeypairData {
     ghost from_gives = { λ pair made. made ≡ kinds.Ecdsa pair };
 
@@ -25,6 +27,7 @@ impl From<EcdsaKeypair> for KeypairData {
     }
 }
 
+/// That Ed25519 pair. Takes no memory.
 impl From<Ed25519Keypair> for KeypairData {
     ghost from_gives = { λ pair made. made ≡ kinds.Ed25519 pair };
 
@@ -33,6 +36,7 @@ impl From<Ed25519Keypair> for KeypairData {
     }
 }
 
+/// That RSA pair. Takes no memory.
 impl From<RsaKeypair> for KeypairData {
     ghost from_gives = { λ pair made. made ≡ kinds.Rsa pair };
 
@@ -41,6 +45,7 @@ impl From<RsaKeypair> for KeypairData {
     }
 }
 
+/// That P-256 pair of a security key. Takes no memory.
 impl From<SkEcdsaSha2NistP256> for KeypairData {
     ghost from_gives = { λ pair made. made ≡ kinds.SkEcdsaSha2NistP256 pair };
 
@@ -49,6 +54,7 @@ impl From<SkEcdsaSha2NistP256> for KeypairData {
     }
 }
 
+/// That Ed25519 pair of a security key. Takes no memory.
 impl From<SkEd25519> for KeypairData {
     ghost from_gives = { λ pair made. made ≡ kinds.SkEd25519 pair };
 
@@ -57,6 +63,7 @@ impl From<SkEd25519> for KeypairData {
     }
 }
 
+/// That pair under a private-use name. Takes no memory.
 impl From<OpaqueKeypair> for KeypairData {
     ghost from_gives = { λ pair made. made ≡ kinds.Other pair };
 
