@@ -113,11 +113,13 @@ impl Cipher {
     }
 }
 
+/// The cipher of that name. `LabelError` where no cipher has it. Takes no memory.
 #[tactic(auto, unfolding(sshkey_model::specs::Names::named))]
 impl FromStr for Cipher {
     type Err = LabelError;
 
-    ghost from_str_gives = { λ name r. NamesAlways cipher_of (λ _. Faulty fault.Label) (cipher_from name) r };
+    ghost from_str_gives = { λ name r.
+        NamesAlways cipher_of (λ _. Faulty fault.Label) (cipher_from name) r };
 
     fn from_str(name: &str) -> std::result::Result<Cipher, LabelError> {
         match name {
@@ -137,6 +139,7 @@ impl FromStr for Cipher {
     }
 }
 
+/// The name. A text that is the name of no cipher is `Label`. Takes no memory.
 impl Label for Cipher {
     ghost Named = { TheCipher };
 
@@ -156,7 +159,7 @@ impl Label for Cipher {
         ensures gives { LooksUp cipher_of cipher_from name.now result }
         ensures always { LooksUpAlways cipher_of cipher_from name.now result }
     {
-        Ok(name.parse::<Cipher>()?)
+        Ok(Cipher::from_str(name)?)
     }
 
     ghost checks = { cipher_checks };
@@ -166,6 +169,7 @@ impl Label for Cipher {
     ghost refusals = { cipher_refusals };
 }
 
+/// The name.
 impl AsStr for Cipher {
     ghost text = { λ cipher. cipher_name (cipher_of cipher) };
 
@@ -174,6 +178,7 @@ impl AsStr for Cipher {
     }
 }
 
+/// The name. Refused only where the formatter refuses.
 impl fmt::Display for Cipher {
     ghost output = { λ cipher. Some (cipher_name (cipher_of cipher)) };
 

@@ -45,8 +45,8 @@ fn check_blocks(ciphertext: Vec<u8>, cipher: Cipher) -> Result<Vec<u8>>
     Ok(ciphertext)
 }
 
-/// Reads the tag of 16 bytes, where the cipher has one (OpenSSH, PROTOCOL.key); of the other ciphers
-/// it is none, and nothing is read.
+/// Reads the tag of 16 bytes, where the cipher has one (OpenSSH, PROTOCOL.key); of the other
+/// ciphers it is none, and nothing is read.
 ///
 /// A sound source is refused only with `Length`, where fewer bytes are left. Takes no memory.
 pub fn tag_from<R: Reader>(reader: &mut R, cipher: Cipher) -> Result<Option<[u8; 16]>>

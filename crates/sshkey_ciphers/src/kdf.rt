@@ -116,8 +116,9 @@ impl Default for Kdf {
 
 /// The name, and behind it the number 0 where no key is derived, else a string of salt and rounds.
 ///
-/// `Label` for another name, `AlgorithmUnknown` for another number, and `TrailingData` for bytes
-/// behind the rounds in their string.
+/// `Length` where a number or a string passes what is left, `Label` for another name,
+/// `AlgorithmUnknown` for another number, and `TrailingData` for bytes behind the rounds in their
+/// string.
 #[tactic(auto, using(sshkey_base::proofs::Steps::steps), unfolding(crate::specs::Ciphers::kdf_at, crate::specs::Ciphers::kdf_algorithm_at, crate::specs::Ciphers::label_at))]
 impl Decode for Kdf {
     type Error = Error;
@@ -235,6 +236,7 @@ impl Encode for Kdf {
     }
 }
 
+/// Every key derivation is one that its format has.
 impl NormalForm for Kdf {
     ghost IsWellFormed = { λ k. Any (kdf_of k) };
 

@@ -60,11 +60,13 @@ impl Default for KdfAlg {
     }
 }
 
+/// The key derivation of that name. `LabelError` where none has it. Takes no memory.
 #[tactic(auto, unfolding(sshkey_model::specs::Names::named))]
 impl FromStr for KdfAlg {
     type Err = LabelError;
 
-    ghost from_str_gives = { λ name r. NamesAlways kdf_algorithm_of (λ _. Faulty fault.Label) (kdf_algorithm_from name) r };
+    ghost from_str_gives = { λ name r.
+        NamesAlways kdf_algorithm_of (λ _. Faulty fault.Label) (kdf_algorithm_from name) r };
 
     fn from_str(name: &str) -> std::result::Result<KdfAlg, LabelError> {
         match name {
@@ -75,6 +77,7 @@ impl FromStr for KdfAlg {
     }
 }
 
+/// The name. A text that is the name of no key derivation is `Label`. Takes no memory.
 impl Label for KdfAlg {
     ghost Named = { KdfAlgorithm };
 
@@ -94,7 +97,7 @@ impl Label for KdfAlg {
         ensures gives { LooksUp kdf_algorithm_of kdf_algorithm_from name.now result }
         ensures always { LooksUpAlways kdf_algorithm_of kdf_algorithm_from name.now result }
     {
-        Ok(name.parse::<KdfAlg>()?)
+        Ok(KdfAlg::from_str(name)?)
     }
 
     ghost checks = { kdf_algorithm_checks };
@@ -104,6 +107,7 @@ impl Label for KdfAlg {
     ghost refusals = { kdf_alg_refusals };
 }
 
+/// The name.
 impl AsStr for KdfAlg {
     ghost text = { λ algorithm. kdf_name (kdf_algorithm_of algorithm) };
 
@@ -112,6 +116,7 @@ impl AsStr for KdfAlg {
     }
 }
 
+/// The name. Refused only where the formatter refuses.
 impl fmt::Display for KdfAlg {
     ghost output = { λ algorithm. Some (kdf_name (kdf_algorithm_of algorithm)) };
 
