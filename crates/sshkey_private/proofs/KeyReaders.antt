@@ -5,7 +5,6 @@ use Rattle.std.proofs.lemmas.List.{nil_from_length}
 use Rattle.std.proofs.lemmas.Result.{err_from_is_err_and}
 use Rattle.sshkey_model.specs.Reading.{Fault, TrailingKeyData, ◌>>=◌, Front, end_of, whole, box_at, bytes_at, literal_at}
 use Rattle.sshkey_model.specs.Grammar.{value_at}
-use Rattle.sshkey_model.specs.Names.{algorithm_at}
 use Rattle.sshkey_model.specs.Keys.{Key, Head, key_at}
 use Rattle.sshkey_model.specs.KeyDerivation.{Cipher, NoCipher, cipher_at, tag_size, Kdf, NoKdf, Bcrypt, kdf_at}
 use Rattle.sshkey_model.specs.KeyPairs.{KeyPairChoices, plain_pair}
@@ -13,38 +12,14 @@ use Rattle.sshkey_model.specs.PrivateKeys.{UnencryptedKey, PrivateKey, Unencrypt
 use Rattle.sshkey_model.proofs.CombinedReaders.{bind_assoc, bind_ok, ok_is}
 use Rattle.sshkey_model.proofs.PrivateKeyReaders.{whole_private_key_reads}
 use Rattle.sshkey_base.specs.Causes.{Cause}
-use Rattle.sshkey_base.specs.Labels.{label_at}
 use Rattle.sshkey_base.specs.Source.{Source, announced_len}
 use Rattle.sshkey_base.specs.declared.encoding.Error as encoding
 use Rattle.sshkey_base.specs.declared.encoding.Error.TheVariants as encodings
 use Rattle.sshkey_base.specs.Reading.{Reads, ReadsAll, GivesWhole, AcceptsWhole}
-use Rattle.sshkey_base.proofs.MappedBoxes.{on_value, made, box_map}
-use Rattle.sshkey_keys.specs.Keys.{key_data_at}
+use Rattle.sshkey_base.proofs.MappedBoxes.{on_value, made}
+use Rattle.sshkey_keys.proofs.BoxedKeys.{key_box}
 use Rattle.sshkey_ciphers.specs.Ciphertexts.{blocks_at}
 use Rattle.sshkey_private.specs.PrivateKeyReaders.{SpellsPrivateKey, private_value_at, Opening, one_at, opening_at, last_of, last_encrypted_at, last_content_at, steps_at}
-
--- ---- the public key in its box
-
-abbrev Chosen : Type 0
-Chosen = Key × Head
-
-abbrev plain : Chosen → Key
-plain x = x.0
-
-key_is : (b : List ℕ) → key_data_at b ≡ (key_at b >>= on_value plain)
-unfolding key_data_at key_at algorithm_at label_at
-key_is b = simp bind_assoc
-
-key_end : (r : Result (Chosen × List ℕ) Fault) → ((r >>= on_value plain) >>= λ x. end_of x.0 x.1) ≡ ((r >>= λ x. end_of x.0 x.1) >>= made plain)
-key_end (Ok (x, [])) = refl
-key_end (Ok (x, (b ∷ rest))) = refl
-key_end (Err e) = refl
-
-key_whole : (b : List ℕ) → whole key_data_at b ≡ (whole key_at b >>= made plain)
-key_whole b = rw (key_is b) (key_end (key_at b))
-
-key_box : (b : List ℕ) → box_at (whole key_data_at) b ≡ (box_at (whole key_at) b >>= on_value plain)
-key_box b = box_map (whole key_at) (whole key_data_at) plain key_whole b
 
 -- ---- what stands before the private part
 

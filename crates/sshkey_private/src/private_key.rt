@@ -50,8 +50,8 @@ impl Drop for PrivateKey {
 }
 
 impl PrivateKey {
-    ghost use Rattle.sshkey_keypairs.specs.Keypairs.{pair_of};
-    ghost use Rattle.std.specs.Prelude.{IfOk, IfErr, IsOk, [], string_bytes};
+    ghost use Rattle.sshkey_keypairs.specs.Keypairs.{pair_of, algorithm_beside as pair_algorithm_beside};
+    ghost use Rattle.std.specs.Prelude.{IfOk, IfErr, IsOk, Some, [], string_bytes};
     ghost use Rattle.sshkey_base.specs.Causes.{cause};
     ghost use Rattle.sshkey_base.specs.Names.{IsFixed, algorithm_of, hash_of};
     ghost use Rattle.sshkey_base.specs.Needs.{Asks};
@@ -69,13 +69,15 @@ impl PrivateKey {
     ghost use Rattle.sshkey_private.specs.PrivateKeys.{private_of, is_encrypted, data_of, outer_of, with_comment, HasWrittenComment, GivesNew};
     ghost use Rattle.sshkey_public.specs.PublicKeys.{public_of, comment_of, data_of as key_data_of};
 
-    /// The private key of that pair, not encrypted, with that comment. Its checkint is the one that
-    /// is derived from the pair.
+    /// The private key of that pair, not encrypted, with that comment. Its public key has the
+    /// algorithm of the pair, and its checkint is the one that is derived from the pair.
     ///
     /// `Encrypted` exactly for an encrypted pair; otherwise it is refused only when out of memory.
     pub fn new(alloc: Global, key_data: KeypairData, comment: String) -> Result<PrivateKey>
         ensures value { GivesNew (pair_of key_data) (string_bytes comment) result }
         ensures data { IfOk result (λ k. data_of k ≡ key_data) }
+        ensures algorithm { IfOk result (λ k. pair_algorithm_beside key_data
+            ≡ Some (algorithm_beside (key_data_of (outer_of k)))) }
     {
         let public = key_data.to_public(alloc)?;
         let checkint = key_data.checkint();
@@ -89,12 +91,15 @@ impl PrivateKey {
         })
     }
 
-    /// The private key of that pair, not encrypted, with an empty comment.
+    /// The private key of that pair, not encrypted, under the same algorithm and with an empty
+    /// comment.
     ///
     /// `Encrypted` exactly for an encrypted pair; otherwise it is refused only when out of memory.
     pub fn from_keypair(alloc: Global, key_data: KeypairData) -> Result<PrivateKey>
         ensures value { GivesNew (pair_of key_data) [] result }
         ensures data { IfOk result (λ k. data_of k ≡ key_data) }
+        ensures algorithm { IfOk result (λ k. pair_algorithm_beside key_data
+            ≡ Some (algorithm_beside (key_data_of (outer_of k)))) }
     {
         PrivateKey::new(alloc, key_data, String::new(alloc))
     }
