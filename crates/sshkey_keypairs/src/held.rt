@@ -25,10 +25,8 @@ impl Drop for Held {
             key_handle,
             reserved,
         } = self;
-        let mut key_handle = key_handle.into_vec();
-        let mut reserved = reserved.into_vec();
-        key_handle.fill(0);
-        reserved.fill(0);
+        key_handle.erase();
+        reserved.erase();
     }
 }
 

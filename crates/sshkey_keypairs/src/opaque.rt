@@ -25,12 +25,11 @@ pub struct OpaquePrivateKeyBytes {
     bytes: Bytes,
 }
 
-/// Writes zeros over the bytes. Copies that moves leave behind keep them.
+/// Writes zeros over the bytes.
 impl Drop for OpaquePrivateKeyBytes {
     fn drop(self) {
         let OpaquePrivateKeyBytes { bytes } = self;
-        let mut bytes = bytes.into_vec();
-        bytes.fill(0);
+        bytes.erase();
     }
 }
 

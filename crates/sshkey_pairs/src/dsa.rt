@@ -19,9 +19,17 @@ use std::convert::AsSlice;
 use std::fmt;
 
 /// The private number of a DSA key.
-#[derive(Drop, PartialEq, Eq)]
+#[derive(PartialEq, Eq)]
 pub struct DsaPrivateKey {
     inner: Mpint,
+}
+
+/// Writes zeros over the number.
+impl Drop for DsaPrivateKey {
+    fn drop(self) {
+        let DsaPrivateKey { inner } = self;
+        inner.erase();
+    }
 }
 
 impl DsaPrivateKey {

@@ -13,8 +13,8 @@ ghost use Rattle.sshkey_pairs.specs.Pairs.{ecdsa_pair_of};
 ghost use Rattle.sshkey_pairs.specs.PrivateHalves.{ecdsa_private_of};
 
 use sshkey_base::{
-    Algorithm, Decode, EcdsaCurve, Encode, Error, Mpint, Reader, Result, Writer, both_len, encode_both,
-    encoding, write_lower_hex, write_upper_hex,
+    Algorithm, Decode, EcdsaCurve, Encode, Error, Mpint, Reader, Result, Writer, both_len,
+    encode_both, encoding, write_lower_hex, write_upper_hex,
 };
 use sshkey_kinds::{
     EcdsaNistP256PublicKey, EcdsaNistP384PublicKey, EcdsaNistP521PublicKey, EcdsaPublicKey,

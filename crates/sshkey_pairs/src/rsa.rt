@@ -12,7 +12,7 @@ use std::alloc::Global;
 use std::fmt;
 
 /// The private numbers of an RSA key.
-#[derive(Drop, PartialEq, Eq)]
+#[derive(PartialEq, Eq)]
 pub struct RsaPrivateKey {
     /// The private exponent.
     pub d: Mpint,
@@ -22,6 +22,17 @@ pub struct RsaPrivateKey {
     pub p: Mpint,
     /// The other prime factor.
     pub q: Mpint,
+}
+
+/// Writes zeros over the numbers.
+impl Drop for RsaPrivateKey {
+    fn drop(self) {
+        let RsaPrivateKey { d, iqmp, p, q } = self;
+        d.erase();
+        iqmp.erase();
+        p.erase();
+        q.erase();
+    }
 }
 
 impl RsaPrivateKey {
