@@ -4,7 +4,7 @@
 //! `readers::exact_*` say that a plain reader takes exactly the spellings of its kind; `prefix_*`
 //! that no spelling begins another; `normal_*` that normal forms determine values; `read_back_*`
 //! that what is written is read back; `*_fits` that what fits in one spelling fits in the normal
-//! one; `compared_*` and `equal_*` what `==` and `cmp` go by. `certificates` and `private` have
+//! one; `compared_*`, `equal_*` and `ordered_*` what `==` and `cmp` go by. `certificates` and `private` have
 //! those of certificates and of private keys. The others say what their docs say.
 
 pub use sshkey_authorized_keys::laws::{equal_authorized_keys, equal_config_opts};
@@ -19,7 +19,8 @@ pub use sshkey_entries::laws::{
 };
 pub use sshkey_fingerprints::laws::{compared_fingerprints, fingerprint_texts};
 pub use sshkey_keypairs::laws::{
-    equal_opaque_pairs, equal_pairs, equal_sk_ecdsa_pairs, equal_sk_ed25519_pairs,
+    equal_opaque_pair_bytes, equal_opaque_pairs, equal_opaque_private_keys, equal_pairs,
+    equal_sk_ecdsa_pairs, equal_sk_ed25519_pairs, ordered_sk_ecdsa_pairs, ordered_sk_ed25519_pairs,
 };
 pub use sshkey_keys::laws::{compared_keys, compared_signatures};
 pub use sshkey_kinds::laws::{
@@ -42,7 +43,8 @@ pub use sshkey_model::laws::{
 };
 pub use sshkey_options::laws::{compared_ends, compared_options, compared_times, compared_types};
 pub use sshkey_pairs::laws::{
-    equal_dsa_pairs, equal_ecdsa_pairs, equal_ed25519_pairs, equal_rsa_pairs,
+    equal_dsa_pairs, equal_dsa_private_keys, equal_ecdsa_pairs, equal_ecdsa_private_keys,
+    equal_ed25519_pairs, equal_ed25519_private_keys, equal_rsa_pairs, equal_rsa_private_keys,
 };
 pub use sshkey_private::laws::compared_private_keys;
 pub use sshkey_public::laws::compared_public_keys;
