@@ -59,14 +59,14 @@ impl Drop for Builder {
 }
 
 impl Builder {
-    /// How many bytes a nonce should have.
+    /// How many bytes a nonce should have: 16.
     pub const RECOMMENDED_NONCE_SIZE: usize = 16;
 
     /// A builder for a certificate of that key, for times from `valid_after` on and before
     /// `valid_before`, in seconds since 1970. Takes no memory.
     ///
-    /// `CertificateFieldInvalid` of the first time that is above 2^63 - 1, or of `valid_before`
-    /// where that is before `valid_after`.
+    /// `CertificateFieldInvalid` of the first time that is above 2^63 - 1, `Field::ValidAfter` or
+    /// `Field::ValidBefore`, or of `Field::ValidBefore` where the end is before the beginning.
     pub fn new(
         alloc: Global,
         nonce: Vec<u8>,
@@ -84,7 +84,7 @@ impl Builder {
     /// A builder for a certificate of that key without an end, for times from `valid_after` on.
     /// Takes no memory.
     ///
-    /// `CertificateFieldInvalid` of `valid_after` where it is above 2^63 - 1.
+    /// `CertificateFieldInvalid(Field::ValidAfter)` where that is above 2^63 - 1.
     pub fn new_forever(
         alloc: Global,
         nonce: Vec<u8>,
@@ -113,7 +113,7 @@ impl Builder {
             (begun (fill_bytes 16 (R.stream rng.old)).0 (key_of public_key) valid_after
             valid_before) result }
     {
-        let mut nonce = vec![in alloc; 0u8; 16]?;
+        let mut nonce = vec![in alloc; 0u8; Builder::RECOMMENDED_NONCE_SIZE]?;
         rng.fill_bytes(&mut nonce);
         Builder::new(alloc, nonce, public_key, valid_after, valid_before)
     }
@@ -145,7 +145,8 @@ impl Builder {
         }
     }
 
-    /// Sets the serial number. `CertificateFieldInvalid` if it was set. Takes no memory.
+    /// Sets the serial number. `CertificateFieldInvalid(Field::Serial)` if it was set. Takes no
+    /// memory.
     pub fn serial(&mut self, serial: u64) -> Result<&mut Builder>
         ensures same_reference { IfOk result (λ b. b.ghost_name ≡ self.entry.ghost_name) }
         ensures step { ChainsAlways (λ b. b.now) (Serial serial) self.old result }
@@ -154,7 +155,7 @@ impl Builder {
         Ok(self)
     }
 
-    /// Sets the type. `CertificateFieldInvalid` if it was set. Takes no memory.
+    /// Sets the type. `CertificateFieldInvalid(Field::CertType)` if it was set. Takes no memory.
     pub fn cert_type(&mut self, cert_type: CertType) -> Result<&mut Builder>
         ensures same_reference { IfOk result (λ b. b.ghost_name ≡ self.entry.ghost_name) }
         ensures step { ChainsAlways (λ b. b.now) (Kind (type_of cert_type)) self.old result }
@@ -163,7 +164,7 @@ impl Builder {
         Ok(self)
     }
 
-    /// Sets the key id. `CertificateFieldInvalid` if it was set. Takes no memory.
+    /// Sets the key id. `CertificateFieldInvalid(Field::KeyId)` if it was set. Takes no memory.
     pub fn key_id(&mut self, key_id: String) -> Result<&mut Builder>
         ensures same_reference { IfOk result (λ b. b.ghost_name ≡ self.entry.ghost_name) }
         ensures step { ChainsAlways (λ b. b.now) (KeyId (string_bytes key_id)) self.old result }
@@ -172,7 +173,7 @@ impl Builder {
         Ok(self)
     }
 
-    /// Sets the comment. `CertificateFieldInvalid` if it was set. Takes no memory.
+    /// Sets the comment. `CertificateFieldInvalid(Field::Comment)` if it was set. Takes no memory.
     pub fn comment(&mut self, comment: String) -> Result<&mut Builder>
         ensures same_reference { IfOk result (λ b. b.ghost_name ≡ self.entry.ghost_name) }
         ensures step { ChainsAlways (λ b. b.now) (Comment (string_bytes comment)) self.old result }
@@ -199,8 +200,8 @@ impl Builder {
         Ok(self)
     }
 
-    /// Adds one of the critical options. `CertificateFieldInvalid` if there is one of that name, and
-    /// else refused only when out of memory.
+    /// Adds one of the critical options. `CertificateFieldInvalid(Field::CriticalOptions)` if there
+    /// is one of that name, and else refused only when out of memory.
     pub fn critical_option(&mut self, name: String, value: String) -> Result<&mut Builder>
         ensures same_reference { IfOk result (λ b. b.ghost_name ≡ self.entry.ghost_name) }
         ensures step { Chains (λ b. b.now) (Critical (option_of (name, value))) self.old result }
@@ -209,8 +210,8 @@ impl Builder {
         Ok(self)
     }
 
-    /// Adds one of the extensions. `CertificateFieldInvalid` if there is one of that name, and else
-    /// refused only when out of memory.
+    /// Adds one of the extensions. `CertificateFieldInvalid(Field::Extensions)` if there is one of
+    /// that name, and else refused only when out of memory.
     pub fn extension(&mut self, name: String, value: String) -> Result<&mut Builder>
         ensures same_reference { IfOk result (λ b. b.ghost_name ≡ self.entry.ghost_name) }
         ensures step { Chains (λ b. b.now) (Extension (option_of (name, value))) self.old result }

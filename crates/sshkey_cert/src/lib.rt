@@ -4,4 +4,4 @@
 mod certificate;
 pub mod laws;
 
-pub use certificate::{Certificate, is_given};
+pub use certificate::{Certificate, is_given, judge_authority_and_time};

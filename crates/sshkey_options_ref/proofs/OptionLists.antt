@@ -9,6 +9,7 @@ use Rattle.sshkey_base.specs.Answers.{AnswersAlways}
 use Rattle.sshkey_base.specs.Causes.{Cause}
 use Rattle.sshkey_base.specs.Reading.{NoSpelling}
 use Rattle.sshkey_base.proofs.MappedBoxes.{with_rest, on_value, made}
+use Rattle.sshkey_options.proofs.OptionValues.{two_lists}
 use Rattle.sshkey_options_ref.specs.declared.options_ref.OptionsRef.{OptionsRef}
 use Rattle.sshkey_options_ref.specs.OptionLists.{SpellsEachOption, options_in, nestings_in, are_plain, plainness_from}
 use Rattle.sshkey_options_ref.specs.Views.{bytes_of_options, spelled_options_of}
@@ -17,9 +18,6 @@ use Rattle.sshkey_slices.proofs.Fronts.{box_string, answers_err, taken_value}
 
 abbrev Pair : Type 0
 Pair = CertificateOption × Nesting
-
-abbrev two_lists : List Pair → List CertificateOption × List Nesting
-two_lists xs = (firsts xs, seconds xs)
 
 -- the options and their choices
 abbrev pub spelled_from : Whole (List CertificateOption × List Nesting)

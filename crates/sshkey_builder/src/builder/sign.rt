@@ -26,9 +26,9 @@ impl Builder {
     /// The certificate is valid, as `validate_at` has it, at each time of its window, by the
     /// signer's `raw` and for whoever gives the fingerprint of the signer's key.
     ///
-    /// `CertificateFieldInvalid` where no principal was named and not all were made valid, whatever
-    /// memory there is. Else, out of memory aside, `Length` where the bytes to be signed do not
-    /// fit, and otherwise an error of the signer's own.
+    /// `CertificateFieldInvalid(Field::ValidPrincipals)` where no principal was named and not all
+    /// were made valid, whatever memory there is. Else, out of memory aside, `Length` where the bytes
+    /// to be signed do not fit, and otherwise an error of the signer's own.
     pub fn sign<S: SigningKey>(self, alloc: Global, signing_key: &S) -> Result<Certificate>
         ensures unnamed { IsNone (draft_of self).valid_principals → result ≡ Err no_principals }
         ensures signed { IfOk result (λ c. IsSignedDraft (S.Raw.accepts (S.raw_of signing_key.now))

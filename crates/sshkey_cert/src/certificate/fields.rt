@@ -1,14 +1,14 @@
 //! The fields of a certificate.
 
-ghost use Rattle.std.specs.Prelude.{◌≡◌, ◌↔◌, IsTrue, IfOk, IfErr, map, string_bytes, true};
-ghost use Rattle.sshkey_base.specs.Names.{algorithm_of};
+ghost use Rattle.std.specs.Prelude.{◌≡◌, ◌↔◌, IsTrue, IsOk, IfOk, IfErr, map, string_bytes, true};
+ghost use Rattle.sshkey_base.specs.Names.{IsFixed, algorithm_of};
 ghost use Rattle.sshkey_base.specs.declared.error.Error.TheVariants as wide;
-ghost use Rattle.sshkey_keys.specs.Keys.{key_of};
+ghost use Rattle.sshkey_keys.specs.Keys.{algorithm_beside, key_of};
 ghost use Rattle.sshkey_keys.specs.Signatures.{signature_of};
 ghost use Rattle.sshkey_model.specs.Certificates.{is_time, is_end, forever};
 ghost use Rattle.sshkey_model.specs.Keys.{IsKey, key_algorithm};
 ghost use Rattle.sshkey_options.specs.CertTypes.{type_of};
-ghost use Rattle.sshkey_cert.specs.CertificateValues.{certificate_of, comment_of};
+ghost use Rattle.sshkey_cert.specs.CertificateValues.{certificate_of, certified_key_of, comment_of};
 ghost use Rattle.sshkey_options.specs.OptionMaps.{options_of};
 
 use super::Certificate;
@@ -18,17 +18,24 @@ use sshkey_options::{CertType, OptionsMap};
 use std::alloc::Global;
 
 impl Certificate {
-    /// The algorithm of the certified key, as `KeyData::algorithm` has it. Refused only when out of
-    /// memory, and only under a private-use name.
+    /// The algorithm of the certified key. That of an opaque key is the one that stands beside its
+    /// bytes, and for a well-formed key the one that its name tells.
+    ///
+    /// Refused only when out of memory, and only under a private-use name.
     pub fn algorithm(&self, alloc: Global) -> Result<Algorithm>
-        ensures ok { IfOk result (λ a. IsKey (certificate_of self.now).signed.key
-            → algorithm_of a ≡ key_algorithm (certificate_of self.now).signed.key) }
+        ensures ok { IfOk result
+            (λ a. algorithm_of a ≡ algorithm_beside (certified_key_of self.now)) }
+        ensures well_formed { IsKey (certificate_of self.now).signed.key →
+            algorithm_beside (certified_key_of self.now)
+            ≡ key_algorithm (certificate_of self.now).signed.key }
+        ensures fixed { IsFixed (algorithm_beside (certified_key_of self.now)) → IsOk result }
         ensures memory { IfErr result (λ e. e ≡ wide.Memory) }
     {
         self.unsigned.public_key.algorithm(alloc)
     }
 
-    /// The nonce.
+    /// Bytes of the signer's choice that nobody can foretell, so that nobody can prepare two
+    /// certificates of one digest (PROTOCOL.certkeys).
     pub fn nonce(&self) -> &[u8]
         ensures { result.now ≡ (certificate_of self.now).signed.nonce }
     {
@@ -42,21 +49,21 @@ impl Certificate {
         &self.unsigned.public_key
     }
 
-    /// The serial number.
+    /// The number that the signer gave the certificate, to refer to it; 0 where it numbers none.
     pub fn serial(&self) -> u64
         ensures { result ≡ (certificate_of self.now).signed.serial }
     {
         self.unsigned.serial
     }
 
-    /// The type.
+    /// Whether it is of a user or of a host.
     pub fn cert_type(&self) -> CertType
         ensures { type_of result ≡ (certificate_of self.now).signed.certificate_type }
     {
         self.unsigned.cert_type
     }
 
-    /// The key id.
+    /// A text of the signer's choice that names whom the certificate is for, for logs.
     pub fn key_id(&self) -> &str
         ensures { result.now ≡ (certificate_of self.now).signed.key_id }
     {
@@ -93,14 +100,15 @@ impl Certificate {
         self.unsigned.valid_before.is_forever()
     }
 
-    /// The critical options.
+    /// What limits the use of the certificate: a reader has to refuse it if it does not know one of
+    /// these options.
     pub fn critical_options(&self) -> &OptionsMap
         ensures { options_of result.now ≡ (certificate_of self.now).signed.critical_options }
     {
         &self.unsigned.critical_options
     }
 
-    /// The extensions.
+    /// What the certificate permits besides; a reader ignores an extension that it does not know.
     pub fn extensions(&self) -> &OptionsMap
         ensures { options_of result.now ≡ (certificate_of self.now).signed.extensions }
     {
@@ -114,7 +122,7 @@ impl Certificate {
         &self.unsigned.signature_key
     }
 
-    /// The signature.
+    /// The signature under the signature key, over all fields before it.
     pub fn signature(&self) -> &Signature
         ensures { signature_of result.now ≡ (certificate_of self.now).signature }
     {

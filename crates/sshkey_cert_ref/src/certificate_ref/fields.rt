@@ -21,28 +21,29 @@ impl<'a> CertificateRef<'a> {
         self.parts.name
     }
 
-    /// The nonce.
+    /// Bytes of the signer's choice that nobody can foretell, so that nobody can prepare two
+    /// certificates of one digest (PROTOCOL.certkeys).
     pub fn nonce(&self) -> &'a [u8]
         ensures { result.now ≡ (certificate_of self.now).signed.nonce }
     {
         self.parts.nonce
     }
 
-    /// The serial number.
+    /// The number that the signer gave the certificate, to refer to it; 0 where it numbers none.
     pub fn serial(&self) -> u64
         ensures { result ≡ (certificate_of self.now).signed.serial }
     {
         self.parts.serial
     }
 
-    /// The type.
+    /// Whether it is of a user or of a host.
     pub fn cert_type(&self) -> CertType
         ensures { type_of result ≡ (certificate_of self.now).signed.certificate_type }
     {
         self.parts.cert_type
     }
 
-    /// The key id.
+    /// A text of the signer's choice that names whom the certificate is for, for logs.
     pub fn key_id(&self) -> &'a str
         ensures { result.now ≡ (certificate_of self.now).signed.key_id }
     {
@@ -79,7 +80,8 @@ impl<'a> CertificateRef<'a> {
         self.parts.valid_before.is_forever()
     }
 
-    /// The critical options.
+    /// What limits the use of the certificate: a reader has to refuse it if it does not know one of
+    /// these options.
     pub fn critical_options(&self) -> OptionsRef<'a>
         ensures options { options_of result
             ≡ (certificate_of self.now).signed.critical_options }
@@ -88,7 +90,7 @@ impl<'a> CertificateRef<'a> {
         self.parts.critical_options
     }
 
-    /// The extensions.
+    /// What the certificate permits besides; a reader ignores an extension that it does not know.
     pub fn extensions(&self) -> OptionsRef<'a>
         ensures options { options_of result ≡ (certificate_of self.now).signed.extensions }
         ensures choices { nestings_of result ≡ (choices_of self.now).extensions }
@@ -96,7 +98,7 @@ impl<'a> CertificateRef<'a> {
         self.parts.extensions
     }
 
-    /// The reserved bytes.
+    /// Bytes that have no meaning yet, and that a reader ignores.
     pub fn reserved(&self) -> &'a [u8]
         ensures { result.now ≡ (certificate_of self.now).signed.reserved }
     {

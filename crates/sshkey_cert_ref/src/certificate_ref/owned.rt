@@ -33,7 +33,8 @@ impl CertificateRef<'_> {
         self.parts.signature_key.to_key_data(alloc)
     }
 
-    /// The signature. Refused only when out of memory.
+    /// The signature under the signature key, over all fields before it. Refused only when out of
+    /// memory.
     pub fn signature(&self, alloc: Global) -> Result<Signature>
         ensures value { IfOk result
             (λ signature. signature_of signature ≡ (certificate_of self.now).signature) }

@@ -8,16 +8,15 @@ ghost use Rattle.sshkey_model.specs.Certificates.{normal_to_be_signed};
 ghost use Rattle.sshkey_model.specs.Names.{Sha256};
 ghost use Rattle.sshkey_model.specs.Parts.{flat};
 ghost use Rattle.sshkey_model.specs.Principals.{Allows};
-ghost use Rattle.sshkey_model.specs.Refusals.{NotSigned, first_refusal, is_signed, is_within, unless};
+ghost use Rattle.sshkey_model.specs.Refusals.{NotSigned, first_refusal, is_signed, unless};
 ghost use Rattle.sshkey_cert_ref.specs.CertificateRef.{certificate_of};
 
 use super::CertificateRef;
 use sshkey_base::certificate::Field;
 use sshkey_base::{Error, HashAlg, Result};
-use sshkey_cert::is_given;
+use sshkey_cert::judge_authority_and_time;
 use sshkey_fingerprints::Fingerprint;
 use sshkey_keys::RawVerifier;
-use sshkey_options::MAX_SECS;
 use std::alloc::Global;
 
 impl CertificateRef<'_> {
@@ -72,7 +71,7 @@ impl CertificateRef<'_> {
     /// Whether the certificate is valid as `validate_at` has it, and allows the wanted principal.
     ///
     /// Out of memory aside, Ok exactly where it is; else the refusal of `validate_at`, and last
-    /// `CertificateFieldInvalid` for the principal.
+    /// `CertificateFieldInvalid(Field::ValidPrincipals)` for the principal.
     pub fn validate_principal_at<V: RawVerifier>(
         &self,
         alloc: Global,
@@ -104,16 +103,8 @@ impl CertificateRef<'_> {
     {
         self.ask(alloc, verifier)?;
         let authority = self.authority(alloc)?;
-        if !is_given(fingerprints, authority.as_bytes()) {
-            return Err(Error::CertificateValidation);
-        }
-        if unix_timestamp > MAX_SECS {
-            return Err(Error::Time);
-        }
-        if !self.is_within(unix_timestamp) {
-            return Err(Error::CertificateValidation);
-        }
-        Ok(())
+        let window = (self.valid_after(), self.valid_before());
+        judge_authority_and_time(authority.as_bytes(), window, fingerprints, unix_timestamp)
     }
 
     /// What is wrong with the signature.
@@ -162,12 +153,5 @@ impl CertificateRef<'_> {
             Ok(fingerprint) => Ok(fingerprint),
             Err(_) => Err(Error::Memory),
         }
-    }
-
-    /// Whether the time is one from `valid_after` on and before `valid_before`.
-    fn is_within(&self, secs: u64) -> bool
-        ensures { result ≡ is_within secs (certificate_of self.now) }
-    {
-        self.valid_after() <= secs && secs < self.valid_before()
     }
 }
