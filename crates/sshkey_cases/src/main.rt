@@ -17,12 +17,14 @@ mod kinds;
 mod messages;
 mod names;
 mod narrow;
+mod pairs;
 mod privates;
 mod questions;
 mod signatures;
 mod slices;
 mod validity;
 mod wire;
+mod without_memory;
 
 use std::io::{self, BufRead, BufReader, Write};
 

@@ -1,7 +1,7 @@
 //! Private keys. Each function lets go of one key at the most.
 
 use crate::bytes::{part, text};
-use crate::wire::rest;
+use crate::wire::{debugged, rest};
 use sshkey_base::{HashAlg, Result, decode_whole};
 use sshkey_private::PrivateKey;
 use sshkey_public::PublicKey;
@@ -18,6 +18,22 @@ fn shown(alloc: Global, key: &PrivateKey, bytes: &[u8]) -> Result<String> {
     let cipher = key.cipher();
     let rest = rest(alloc, key, bytes, 0)?;
     Ok(format!(in alloc; "{line}, cipher {cipher}{rest}")?)
+}
+
+/// Whether the byte strings spell equal private keys.
+pub(crate) fn compared(alloc: Global, parts: &[Vec<u8>]) -> Result<String> {
+    let key = PrivateKey::from_bytes(alloc, part(parts, 0))?;
+    let equal = is_equal(alloc, &key, part(parts, 1))?;
+    Ok(String::from_str(alloc, if equal { "equal" } else { "different" })?)
+}
+
+fn is_equal(alloc: Global, key: &PrivateKey, bytes: &[u8]) -> Result<bool> {
+    Ok(PrivateKey::from_bytes(alloc, bytes)? == *key)
+}
+
+/// What `{:?}` shows of the private key that all the bytes spell.
+pub(crate) fn debug(alloc: Global, bytes: &[u8]) -> Result<String> {
+    debugged(alloc, &PrivateKey::from_bytes(alloc, bytes)?)
 }
 
 /// What the private key in front of the bytes holds, its key derivation, algorithm and fingerprint,

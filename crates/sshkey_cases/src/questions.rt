@@ -4,16 +4,19 @@ use crate::bytes::{NO_LINE, part, parts, text};
 use crate::wire::shown;
 use crate::{
     again, certificates, copies, drawn, entries, faulty, files, issued, keys, kinds, messages,
-    names, narrow, privates, signatures, slices, validity, wire,
+    names, narrow, pairs, privates, signatures, slices, validity, wire, without_memory,
 };
 use sshkey_base::{Algorithm, AlgorithmName, EcdsaCurve, Error, HashAlg, Mpint, Result};
 use sshkey_cert::Certificate;
+use sshkey_ciphers::Kdf;
+use sshkey_keypairs::KeypairData;
 use sshkey_keys::{Fingerprint, KeyData, Signature};
 use sshkey_kinds::{
     DsaPublicKey, EcdsaPublicKey, Ed25519PublicKey, OpaquePublicKeyBytes, RsaPublicKey,
     SkEcdsaSha2NistP256, SkEd25519,
 };
 use sshkey_options::{CertType, EndTime, OptionsMap, UnixTime};
+use sshkey_pairs::EcdsaPrivateKey;
 use sshkey_sshsig::SshSig;
 use sshkey_tool::run;
 use std::alloc::Global;
@@ -29,6 +32,11 @@ pub(crate) fn answer_line<R: Files>(rt: &R, alloc: Global, line: &str) -> Result
         "faulty" => faulty::value(alloc, kind, part(&parts(alloc, behind)?, 0)),
         "file" => files::value(rt, alloc, kind, &parts(alloc, behind)?),
         "narrow" => narrow::value(alloc, kind, part(&parts(alloc, behind)?, 0)),
+        "without-memory" | "with-memory" => without_memory::value(
+            alloc,
+            kind,
+            &parts(alloc, behind)?,
+        ),
         _ => answer(alloc, question, &parts(alloc, words)?),
     }
 }
@@ -197,10 +205,24 @@ fn answer_of_certificates(alloc: Global, question: &str, parts: &[Vec<u8>]) -> R
         "options-of-pairs" => certificates::options(alloc, parts),
         "issued" => issued::certificate(alloc, parts),
         "validity" | "validity-of" => validity::owned(alloc, parts),
+        _ => answer_of_privates(alloc, question, parts),
+    }
+}
+
+fn answer_of_privates(alloc: Global, question: &str, parts: &[Vec<u8>]) -> Result<String> {
+    let bytes = part(parts, 0);
+    match question {
+        "scalar" => wire::whole::<EcdsaPrivateKey<32>>(alloc, bytes),
+        "derivation" => wire::whole::<Kdf>(alloc, bytes),
+        "pair" => wire::whole::<KeypairData>(alloc, bytes),
+        "pair-under" => pairs::named(alloc, parts),
+        "shown-pair" => pairs::shown(alloc, bytes),
         "private-key" => privates::whole(alloc, bytes),
         "private-key-in-front" => privates::front(alloc, bytes),
         "private-key-with-comment" => privates::commented(alloc, parts),
         "private-key-of-pair" => privates::of_pair(alloc, parts),
+        "compared-private-keys" => privates::compared(alloc, parts),
+        "shown-private-key" => privates::debug(alloc, bytes),
         _ => answer_of_entries(alloc, question, parts),
     }
 }

@@ -59,8 +59,12 @@ fn answer(alloc: Global, verified: Result<()>) -> Result<String> {
 
 /// Whether the same key as a slice accepts the same signature as a slice.
 pub(crate) fn accepted_slice(alloc: Global, parts: &[Vec<u8>]) -> Result<String> {
+    let accepts = accepts_slice(alloc, parts)?;
+    Ok(String::from_str(alloc, if accepts { "accepted" } else { "refused" })?)
+}
+
+pub(crate) fn accepts_slice(alloc: Global, parts: &[Vec<u8>]) -> Result<bool> {
     let key = KeyDataRef::from_bytes(part(parts, 0))?;
     let signature = SignatureRef::from_bytes(part(parts, 2))?;
-    let accepts = key.accepts(alloc, part(parts, 1), &signature, &AcceptAll)?;
-    Ok(String::from_str(alloc, if accepts { "accepted" } else { "refused" })?)
+    Ok(key.accepts(alloc, part(parts, 1), &signature, &AcceptAll)?)
 }

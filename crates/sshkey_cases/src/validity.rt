@@ -34,6 +34,13 @@ pub(crate) fn slice(alloc: Global, parts: &[Vec<u8>]) -> Result<String> {
     answer(alloc, judge_slice(alloc, &certificate, parts))
 }
 
+/// Whether it is valid, or why not.
+pub(crate) fn is_valid_slice(alloc: Global, parts: &[Vec<u8>]) -> Result<bool> {
+    let certificate = CertificateRef::from_bytes(part(parts, 0))?;
+    judge_slice(alloc, &certificate, parts)?;
+    Ok(true)
+}
+
 fn judge_slice(alloc: Global, certificate: &CertificateRef<'_>, parts: &[Vec<u8>]) -> Result<()> {
     let (secs, authority) = moment(alloc, parts)?;
     match parts {

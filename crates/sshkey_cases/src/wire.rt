@@ -4,7 +4,7 @@ use sshkey_base::{
     Decode, Encode, Error, Mpint, Result, ShortBytes, decode_boxed, decode_whole, encode_vec,
 };
 use std::alloc::Global;
-use std::fmt::Display;
+use std::fmt::{Debug, Display};
 
 /// What follows the answer: how many bytes are left, and what is written of the value, where these
 /// are not the bytes that were read.
@@ -84,6 +84,11 @@ where
 /// The text of what was answered.
 pub(crate) fn shown<T: Display + Drop>(alloc: Global, answer: Result<T>) -> Result<String> {
     Ok(answer?.to_string(alloc)?)
+}
+
+/// What `{:?}` shows of a value.
+pub(crate) fn debugged<T: Debug>(alloc: Global, value: &T) -> Result<String> {
+    Ok(format!(in alloc; "{value:?}")?)
 }
 
 /// The bytes of a string of at most seven bytes, as digits.
