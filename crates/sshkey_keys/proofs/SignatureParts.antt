@@ -1,6 +1,5 @@
 -- What stands behind the name of an algorithm.
-use Rattle.std.proofs.Common.{◌≡◌, ℕ, ◌-◌, ◌≤◌, true, false, Some, None, List, length, Result, Ok, Err, refl, sym, ◌∙◌, arith}
-use Rattle.std.proofs.lemmas.List.{length-drop}
+use Rattle.std.proofs.Common.{◌≡◌, ℕ, true, false, Some, None, List, Result, Ok, Err, refl, sym, ◌∙◌}
 use Rattle.sshkey_model.specs.Parts.{bytes, ◌&◌}
 use Rattle.sshkey_model.specs.Reading.{Fault, ◌>>=◌, string_at, checked_at}
 use Rattle.sshkey_model.specs.Texts.{string}
@@ -52,9 +51,6 @@ pub trailed_parts : (a : Algorithm) (b : List ℕ) → has_trailer a ≡ true �
 trailed_parts Algorithm.SkEcdsa b e = refl
 trailed_parts Algorithm.SkEd25519 b e = refl
 trailed_parts _ b e = absurd cc
-
-pub short_trailer : (b : List ℕ) → length (trailer b) ≤ 5
-short_trailer b = omega (arith, length-drop (length b - 5) b)
 
 -- ---- what a call gives
 

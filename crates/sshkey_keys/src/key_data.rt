@@ -1,7 +1,7 @@
 //! Public keys of any kind.
 
 ghost use Rattle.std.specs.Prelude.{◌≡◌, ◌≤◌, ◌+◌, ◌*◌, ◌^◌, ◌||◌, ℕ, List, IfOk, IfErr, IsOk, IsTrue, None};
-ghost use Rattle.sshkey_model.specs.Keys.{Key, key_algorithm, normal_key, body, IsKey};
+ghost use Rattle.sshkey_model.specs.Keys.{Key, key_algorithm, normal_key, body, unhashed, IsKey};
 ghost use Rattle.sshkey_model.specs.Lines.{key_name};
 ghost use Rattle.sshkey_base.specs.Reading.{AcceptsFront};
 ghost use Rattle.sshkey_base.specs.Causes.{cause};
@@ -111,8 +111,8 @@ impl KeyData {
         })
     }
 
-    /// The same key in memory of its own. Refuses only when out of memory, and of an ECDSA or an Ed25519
-    /// key never.
+    /// The same key in memory of its own. Refuses only when out of memory, and of an ECDSA or an
+    /// Ed25519 key never.
     pub fn try_clone(&self, alloc: Global) -> Result<KeyData>
         ensures value { IfOk result (λ k. key_of k ≡ key_of self.now) }
         ensures algorithm { IfOk result (λ k. algorithm_beside k ≡ algorithm_beside self.now) }
@@ -136,7 +136,8 @@ impl KeyData {
     /// The fingerprint by that hash: the digest of the key's normal form.
     ///
     /// Exactly where a part of the key is longer than 2^32 - 1 bytes, the answer is `Length`;
-    /// otherwise it is refused only when out of memory. A key of at most 256 bytes is never refused.
+    /// otherwise it is refused only when out of memory. A key of at most 256 bytes is never
+    /// refused.
     pub fn fingerprint(&self, alloc: Global, hash_alg: HashAlg) -> Result<Fingerprint>
         ensures gives { GivesFingerprint (hash_of hash_alg) (key_of self.now) result }
         ensures short { IsShort (key_of self.now) → IsOk result }
@@ -144,7 +145,8 @@ impl KeyData {
         Fingerprint::new(alloc, hash_alg, self)
     }
 
-    /// Reads what stands behind the name of that algorithm, an RSA key's with or without a hash.
+    /// Reads what stands behind the name of that algorithm, an RSA key's with or without a hash,
+    /// which is not kept. The key's algorithm is that one, also beside an opaque key's bytes.
     ///
     /// The bytes taken spell the body. A sound source is refused only where no front is the body
     /// of such a key, with the first fault from the left, or for memory that ran out, where the
@@ -159,6 +161,7 @@ impl KeyData {
         ensures later { Later (R.source reader.old) (R.source reader.new) }
         ensures accepts { AcceptsFront key_of (SpellsBody (algorithm_of algorithm)) cause
             (R.source reader.old) result (R.source reader.new) }
+        ensures beside { IfOk result (λ k. algorithm_beside k ≡ unhashed (algorithm_of algorithm)) }
         ensures asks { Asks cause (NeedsBody (algorithm_of algorithm))
             (R.source reader.old) result }
     {
@@ -288,6 +291,7 @@ fn opaque_from<R: Reader>(alloc: Global, reader: &mut R, algorithm: Algorithm) -
     ensures later { Later (R.source reader.old) (R.source reader.new) }
     ensures asks { Asks cause (NeedsBody (Other (algorithm_name (algorithm_of algorithm))))
         (R.source reader.old) result }
+    ensures beside { IfOk result (λ k. algorithm_beside k ≡ algorithm_of algorithm) }
 {
     let key = OpaquePublicKeyBytes::decode(alloc, reader)?;
     Ok(KeyData::Other(OpaquePublicKey { algorithm, key }))

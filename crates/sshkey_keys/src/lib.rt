@@ -1,15 +1,17 @@
-//! Public keys and their fingerprints.
+//! Public keys and signatures of any kind, and the traits of those who verify and who sign.
 #![tactic(auto)]
 
 mod key_data;
 pub mod laws;
 mod raw_verifier;
+mod security_key;
 mod signature;
 mod signing_key;
 mod verify;
 
 pub use key_data::KeyData;
 pub use raw_verifier::RawVerifier;
-pub use signature::{Signature, check_string, has_trailer};
+pub use security_key::security_key_message;
+pub use signature::{Signature, check_string, has_trailer, split_trailer};
 pub use signing_key::SigningKey;
 pub use sshkey_fingerprints::Fingerprint;

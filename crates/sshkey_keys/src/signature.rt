@@ -1,18 +1,19 @@
 //! Signatures.
 
-ghost use Rattle.std.specs.Prelude.{◌≡◌, ◌↔◌, IsOk, true};
+ghost use Rattle.std.specs.Prelude.{◌≡◌, ◌↔◌, IfErr, IfOk, IsOk, true};
 ghost use Rattle.sshkey_base.specs.Names.{algorithm_of};
 ghost use Rattle.sshkey_model.specs.Signatures.{IsSignatureBlob};
 ghost use Rattle.sshkey_keys.specs.SignatureForms.{is_blob};
 
 mod form;
-mod formats;
+mod hex;
 mod wire;
 
 use form::check_blob;
-pub(crate) use form::split_trailer;
-pub use form::{check_string, has_trailer};
-use sshkey_base::{Algorithm, Bytes, Result};
+pub use form::{check_string, has_trailer, split_trailer};
+use sshkey_base::{Algorithm, Bytes, Error, Result};
+use std::alloc::Global;
+use std::convert::AsSlice;
 
 /// A signature: its algorithm, and the bytes that are well-formed for it (RFC 4253, section 6.6).
 ///
@@ -78,5 +79,26 @@ impl Signature {
         ensures form { IsSignatureBlob (signature_of self.now).algorithm result.now }
     {
         self.blob.as_slice()
+    }
+
+    /// The same signature in memory of its own. Refused only when out of memory.
+    pub fn try_clone(&self, alloc: Global) -> Result<Signature>
+        ensures same { IfOk result (λ g. signature_of g ≡ signature_of self.now) }
+        ensures refused { IfErr result (λ e. e ≡ Error.Memory) }
+    {
+        let algorithm = self.algorithm.try_clone(alloc)?;
+        let blob = self.blob.try_clone(alloc)?;
+        Ok(Signature { algorithm, blob })
+    }
+}
+
+/// The bytes.
+impl AsSlice<u8> for Signature {
+    ghost use Rattle.sshkey_keys.specs.Signatures.{signature_of};
+
+    ghost items = { λ g. (signature_of g).blob };
+
+    fn as_slice(&self) -> &[u8] {
+        self.as_bytes()
     }
 }

@@ -1,7 +1,6 @@
 //! Which question the caller's verifier is asked about a signature.
 
-ghost use Rattle.std.specs.Prelude.{◌≡◌, ◌≢◌, ◌++◌, ℕ, List, OnOk, IfOk, IfErr, is_some};
-ghost use Rattle.sha2.specs.Sha256.{sha256};
+ghost use Rattle.std.specs.Prelude.{◌≡◌, ◌≢◌, ◌≤◌, ℕ, List, OnOk, IfOk, IfErr, is_some, length};
 ghost use Rattle.sshkey_model.specs.Names.{SkEcdsa, SkEd25519 as AlgorithmSkEd25519};
 ghost use Rattle.sshkey_model.specs.Verification.{IsAccepted, question, question_under};
 ghost use Rattle.sshkey_base.specs.Names.{IsFixed, algorithm_of};
@@ -12,8 +11,8 @@ ghost use Rattle.sshkey_keys.specs.Verdicts.{IsAnswer, IsUnsupported, NamesFixed
 
 use crate::key_data::KeyData;
 use crate::raw_verifier::RawVerifier;
+use crate::security_key::security_key_message;
 use crate::signature::{Signature, split_trailer};
-use sha2::{Digest, Sha256};
 use sshkey_base::{Algorithm, EcdsaCurve, Error, Result};
 use sshkey_kinds::{EcdsaPublicKey, SkEcdsaSha2NistP256, SkEd25519};
 use std::alloc::{AllocError, Global};
@@ -25,13 +24,13 @@ impl KeyData {
     /// for a key on the same curve: about the message and the signature's bytes. For a security
     /// key and its algorithm it is asked under the plain algorithm and the plain key within: about
     /// the SHA-256 digest of the application, the flags and the counter, and the digest of the
-    /// message (PROTOCOL.u2f), and the bytes before flags and counter. It is asked nothing else.
+    /// message (PROTOCOL.u2f), and the bytes before flags and counter. No other
+    /// answer of it plays a part.
     ///
     /// Out of memory aside, the verifier's included: Ok exactly where it is asked and says yes;
     /// `AlgorithmUnsupported` with the key's algorithm for a key under a private-use name, and
     /// with the signature's where nothing is asked; `Crypto` where the verifier says no. Memory is
-    /// taken for a security key's message and for a private-use name that is answered, and else
-    /// only by the verifier.
+    /// taken for a private-use name that is answered, and else only by the verifier.
     pub fn verify<V: RawVerifier>(
         &self,
         alloc: Global,
@@ -50,7 +49,7 @@ impl KeyData {
         if !self.is_asked_about(signature) {
             return Err(unsupported(alloc, self.unsupported_algorithm(signature)));
         }
-        if !self.ask(alloc, message, signature, verifier)? {
+        if !self.ask(message, signature, verifier)? {
             return Err(Error::Crypto);
         }
         Ok(())
@@ -78,7 +77,6 @@ impl KeyData {
     /// The verifier's answer about a signature that it is asked about.
     fn ask<V: RawVerifier>(
         &self,
-        alloc: Global,
         message: &[u8],
         signature: &Signature,
         verifier: &V,
@@ -87,10 +85,8 @@ impl KeyData {
             (question (key_of self.now) message.now (signature_of signature.now))) }
     {
         match self {
-            KeyData::SkEcdsaSha2NistP256(key) => {
-                ask_sk_ecdsa(alloc, key, message, signature, verifier)
-            }
-            KeyData::SkEd25519(key) => ask_sk_ed25519(alloc, key, message, signature, verifier),
+            KeyData::SkEcdsaSha2NistP256(key) => { ask_sk_ecdsa(key, message, signature, verifier) }
+            KeyData::SkEd25519(key) => ask_sk_ed25519(key, message, signature, verifier),
             _ => verifier.verify(signature.algorithm(), self, message, signature.as_bytes()),
         }
     }
@@ -108,58 +104,39 @@ impl KeyData {
 
 /// The verifier's answer about the P-256 key that a security key holds.
 fn ask_sk_ecdsa<V: RawVerifier>(
-    alloc: Global,
     key: &SkEcdsaSha2NistP256,
     message: &[u8],
     signature: &Signature,
     verifier: &V,
 ) -> std::result::Result<bool, AllocError>
-    ensures { IfOk result (IsAnswer (V.accepts verifier.now)
-        (question_under SkEcdsa (sk_ecdsa_of key.now) message.now (signature_of signature.now))) }
+    ensures { 5 ≤ length (signature_of signature.now).blob → IfOk result (IsAnswer
+        (V.accepts verifier.now) (question_under SkEcdsa (sk_ecdsa_of key.now)
+        message.now (signature_of signature.now))) }
 {
     let curve = EcdsaCurve::NistP256;
-    let (blob, trailer) = split_trailer(signature.as_bytes());
-    let signed = security_key_message(alloc, key.application(), trailer, message)?;
+    let blob = signature.as_bytes();
+    let signed = security_key_message(key.application(), blob, message);
+    let (string, _) = split_trailer(blob);
     let plain = KeyData::Ecdsa(EcdsaPublicKey::NistP256(*key.ec_point()));
-    verifier.verify(&Algorithm::Ecdsa { curve }, &plain, &signed, blob)
+    verifier.verify(&Algorithm::Ecdsa { curve }, &plain, &signed, string)
 }
 
 /// The verifier's answer about the Ed25519 key that a security key holds.
 fn ask_sk_ed25519<V: RawVerifier>(
-    alloc: Global,
     key: &SkEd25519,
     message: &[u8],
     signature: &Signature,
     verifier: &V,
 ) -> std::result::Result<bool, AllocError>
-    ensures { IfOk result (IsAnswer (V.accepts verifier.now)
-        (question_under AlgorithmSkEd25519 (sk_ed25519_of key.now)
+    ensures { 5 ≤ length (signature_of signature.now).blob → IfOk result (IsAnswer
+        (V.accepts verifier.now) (question_under AlgorithmSkEd25519 (sk_ed25519_of key.now)
         message.now (signature_of signature.now))) }
 {
-    let (blob, trailer) = split_trailer(signature.as_bytes());
-    let signed = security_key_message(alloc, key.application(), trailer, message)?;
+    let blob = signature.as_bytes();
+    let signed = security_key_message(key.application(), blob, message);
+    let (string, _) = split_trailer(blob);
     let plain = KeyData::Ed25519(*key.public_key());
-    verifier.verify(&Algorithm::Ed25519, &plain, &signed, blob)
-}
-
-/// What a security key signs in place of the message (PROTOCOL.u2f). Refused only for want of
-/// memory.
-fn security_key_message(
-    alloc: Global,
-    application: &str,
-    trailer: &[u8],
-    message: &[u8],
-) -> std::result::Result<Vec<u8>, AllocError>
-    ensures { IfOk result
-        (λ signed. signed.items ≡ sha256 application.now ++ trailer.now ++ sha256 message.now) }
-{
-    let application_digest: [u8; 32] = Sha256::digest(application);
-    let message_digest: [u8; 32] = Sha256::digest(message);
-    let mut signed = Vec::new(alloc);
-    signed.extend_from_slice(&application_digest)?;
-    signed.extend_from_slice(trailer)?;
-    signed.extend_from_slice(&message_digest)?;
-    Ok(signed)
+    verifier.verify(&Algorithm::Ed25519, &plain, &signed, string)
 }
 
 /// The refusal of this algorithm, or of memory for its name.

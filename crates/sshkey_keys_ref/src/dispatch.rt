@@ -1,9 +1,8 @@
 //! Which question the caller's verifier is asked about a signature, without a copy of either.
 
-ghost use Rattle.std.specs.Prelude.{◌≡◌, ◌≤◌, ◌++◌, true, length};
-ghost use Rattle.sha2.specs.Sha256.{sha256};
+ghost use Rattle.std.specs.Prelude.{◌≡◌, true};
 ghost use Rattle.sshkey_base.specs.Names.{algorithm_of};
-ghost use Rattle.sshkey_model.specs.Signatures.{IsSignatureBlob, without_trailer, trailer};
+ghost use Rattle.sshkey_model.specs.Signatures.{IsSignatureBlob};
 ghost use Rattle.sshkey_kinds.specs.EcdsaPublicKey.{ecdsa_key_of};
 ghost use Rattle.sshkey_kinds.specs.Kinds.{ed25519_of};
 ghost use Rattle.sshkey_keys.specs.KeyKinds.{is_dsa, is_rsa};
@@ -18,9 +17,8 @@ use crate::key_ref::{KeyRef, key_in};
 use crate::kinds::{SkEcdsaRef, SkEd25519Ref};
 use crate::name_ref::{NameRef, take_name};
 use crate::signature_ref::SignatureRef;
-use sha2::{Digest, Sha256};
 use sshkey_base::{Algorithm, EcdsaCurve};
-use sshkey_keys::{KeyData, RawVerifier};
+use sshkey_keys::{KeyData, RawVerifier, security_key_message, split_trailer};
 use sshkey_kinds::{EcdsaPublicKey, Ed25519PublicKey};
 use std::alloc::{AllocError, Global};
 
@@ -32,7 +30,8 @@ impl KeyDataRef<'_> {
     /// for a key on the same curve: about the message and the signature's bytes. For a security
     /// key and its algorithm it is asked under the plain algorithm and the plain key within: about
     /// the SHA-256 digest of the application, the flags and the counter, and the digest of the
-    /// message (PROTOCOL.u2f), and the bytes before flags and counter. It is asked nothing else.
+    /// message (PROTOCOL.u2f), and the bytes before flags and counter. No other
+    /// answer of it plays a part.
     ///
     /// It is refused only when out of memory, and only where the verifier is asked. Memory is taken
     /// for a DSA or an RSA key, and else only by the verifier.
@@ -214,10 +213,10 @@ fn ask_sk_ecdsa<V: RawVerifier>(
     if !matches!(algorithm, Algorithm::SkEcdsaSha2NistP256) {
         return Ok(false);
     }
-    let (string, trailer) = split_trailer(blob);
+    let (string, _) = split_trailer(blob);
     let curve = EcdsaCurve::NistP256;
     let plain = KeyData::Ecdsa(EcdsaPublicKey::NistP256(key.key));
-    let signed = security_key_message(key.application, trailer, message);
+    let signed = security_key_message(key.application, blob, message);
     verifier.verify(&Algorithm::Ecdsa { curve }, &plain, &signed, string)
 }
 
@@ -237,43 +236,8 @@ fn ask_sk_ed25519<V: RawVerifier>(
     if !matches!(algorithm, Algorithm::SkEd25519) {
         return Ok(false);
     }
-    let (string, trailer) = split_trailer(blob);
+    let (string, _) = split_trailer(blob);
     let plain = KeyData::Ed25519(Ed25519PublicKey(key.key));
-    let signed = security_key_message(key.application, trailer, message);
+    let signed = security_key_message(key.application, blob, message);
     verifier.verify(&Algorithm::Ed25519, &plain, &signed, string)
-}
-
-/// What stands in the string, and the flags and the counter, five bytes, behind it.
-fn split_trailer(blob: &[u8]) -> (&[u8], [u8; 5])
-    ensures string { 5 ≤ length blob.now → result.0.now ≡ without_trailer blob.now }
-    ensures trailer { 5 ≤ length blob.now → result.1 ≡ trailer blob.now }
-{
-    match blob {
-        [string @ .., flags, a, b, c, d] => (string, [*flags, *a, *b, *c, *d]),
-        _ => (blob, [0; 5]),
-    }
-}
-
-/// What a security key signs in place of the message (PROTOCOL.u2f): the digest of the application,
-/// flags and counter, and the digest of the message.
-fn security_key_message(application: &str, trailer: [u8; 5], message: &[u8]) -> [u8; 69]
-    ensures { result ≡ sha256 application.now ++ trailer ++ sha256 message.now }
-{
-    let front = application_and_trailer(application, trailer);
-    let digest: [u8; 32] = Sha256::digest(message);
-    let mut signed = [0u8; 69];
-    signed[..37].copy_from_slice(&front);
-    signed[37..].copy_from_slice(&digest);
-    signed
-}
-
-/// The digest of the application, flags and counter.
-fn application_and_trailer(application: &str, trailer: [u8; 5]) -> [u8; 37]
-    ensures { result ≡ sha256 application.now ++ trailer }
-{
-    let digest: [u8; 32] = Sha256::digest(application);
-    let mut bytes = [0u8; 37];
-    bytes[..32].copy_from_slice(&digest);
-    bytes[32..].copy_from_slice(&trailer);
-    bytes
 }

@@ -4,8 +4,6 @@ ghost use Rattle.std.specs.Prelude.{◌≡◌, true, IfErr};
 ghost use Rattle.sshkey_base.specs.Answers.{Judges};
 ghost use Rattle.sshkey_base.specs.Causes.{NoMemory, cause};
 ghost use Rattle.sshkey_base.specs.Names.{algorithm_of as named_algorithm, hash_of};
-ghost use Rattle.sshkey_fingerprints.specs.Fingerprints.{algorithm_of, digest_of};
-ghost use Rattle.sshkey_model.specs.Fingerprints.{digest};
 ghost use Rattle.sshkey_model.specs.Reading.{whole};
 ghost use Rattle.sshkey_keys.specs.Keys.{SpellsKey, key_data_at};
 ghost use Rattle.sshkey_keys_ref.specs.KeyFingerprints.{GivesFingerprintOf};
@@ -16,7 +14,6 @@ ghost use Rattle.sshkey_slices.specs.Slices.{AcceptsSome, is_taken};
 
 use crate::body::behind_named;
 use crate::name_ref::{NameRef, take_name};
-use sha2::{Digest, Sha256, Sha512};
 use sshkey_base::{Algorithm, Error, HashAlg, Result, decode_whole, encoding};
 use sshkey_fingerprints::Fingerprint;
 use sshkey_keys::KeyData;
@@ -40,10 +37,10 @@ impl<'a> KeyDataRef<'a> {
 
     /// The key that all the bytes together spell, read once from left to right. Takes no memory.
     ///
-    /// It accepts what `KeyData::from_bytes` with enough memory accepts, and refuses the rest with
-    /// the same faults: `TrailingData` with the number of bytes behind a key, `Label` for a name of
-    /// no algorithm, `Length` for a stated length that passes the bytes, and the faults of the
-    /// kind.
+    /// It accepts what `decode_whole::<KeyData, _>` with enough memory accepts, and refuses the rest
+    /// with the same faults: `TrailingData` with the number of bytes behind a key, `Label` for a
+    /// name of no algorithm, `Length` for a stated length that passes the bytes, and the faults of
+    /// the kind.
     pub fn from_bytes(bytes: &'a [u8]) -> Result<KeyDataRef<'a>>
         ensures keeps { Keeps key_bytes cause (whole key_data_at bytes.now) bytes.now result }
         ensures accepts { AcceptsSome SpellsKey bytes.now result }
@@ -61,7 +58,7 @@ impl<'a> KeyDataRef<'a> {
     }
 
     /// The bytes that the key was read from where they are its normal form, which is what
-    /// `KeyData::to_bytes` makes and fingerprints digest. Takes no memory.
+    /// `encode_vec` makes of the `KeyData` and fingerprints digest. Takes no memory.
     ///
     /// `None` exactly for an RSA key under another name than `ssh-rsa` (RFC 8332, section 3): then
     /// its bytes are not the normal form.
@@ -91,20 +88,9 @@ impl<'a> KeyDataRef<'a> {
         ensures { GivesFingerprintOf cause (hash_of hash_alg) (key_bytes self.now) result }
     {
         match self.normal_bytes() {
-            Some(bytes) => Ok(digest_of(hash_alg, bytes)),
+            Some(bytes) => Ok(Fingerprint::of_bytes(hash_alg, bytes)),
             None => self.to_key_data(alloc)?.fingerprint(alloc, hash_alg),
         }
-    }
-}
-
-/// The digest of the bytes.
-fn digest_of(hash_alg: HashAlg, bytes: &[u8]) -> Fingerprint
-    ensures by { algorithm_of result ≡ hash_of hash_alg }
-    ensures digest { digest_of result ≡ digest (hash_of hash_alg) bytes.now }
-{
-    match hash_alg {
-        HashAlg::Sha256 => Fingerprint::Sha256(Sha256::digest(bytes)),
-        HashAlg::Sha512 => Fingerprint::Sha512(Sha512::digest(bytes)),
     }
 }
 

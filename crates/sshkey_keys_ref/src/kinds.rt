@@ -18,14 +18,10 @@ ghost use Rattle.sshkey_keys_ref.specs.Taking.{Takes};
 use crate::leaves::{MpintRef, boxed_array_from};
 use crate::walk::Take;
 use sshkey_base::{EcdsaCurve, Error, Result, encoding};
-use sshkey_kinds::{EcPoint, EcdsaNistP256PublicKey, EcdsaPublicKey, Ed25519PublicKey};
+use sshkey_kinds::{
+    EcPoint, EcdsaNistP256PublicKey, EcdsaPublicKey, Ed25519PublicKey, P256_POINT_LEN, P521_POINT_LEN,
+};
 use std::str;
-
-/// The bytes of a point of P-521, the longest of the curves' (SEC 1, section 2.3.3).
-const P521_POINT_LEN: usize = 133;
-
-/// The bytes of a point of P-256.
-const P256_POINT_LEN: usize = 65;
 
 /// An RSA key.
 #[derive(Clone, Copy)]

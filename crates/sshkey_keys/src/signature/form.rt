@@ -67,9 +67,11 @@ pub fn check_string(algorithm: &Algorithm, bytes: &[u8]) -> Result<()>
     }
 }
 
-/// What stands in the string, and the flags and the counter behind it.
+/// The bytes of a security key's signature (PROTOCOL.u2f): what stands in the string, and the flags
+/// and the counter behind it, which are the last five bytes. Of fewer than five all are taken for
+/// the latter. Takes no memory.
 #[inline(always)]
-pub(crate) fn split_trailer(blob: &[u8]) -> (&[u8], &[u8])
+pub fn split_trailer(blob: &[u8]) -> (&[u8], &[u8])
     ensures string { result.0.now ≡ without_trailer blob.now }
     ensures trailer { result.1.now ≡ trailer blob.now }
 {

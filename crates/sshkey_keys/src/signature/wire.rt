@@ -128,8 +128,8 @@ fn checked(algorithm: &Algorithm, bytes: Bytes) -> Result<Bytes>
     Ok(bytes)
 }
 
-/// A string of bytes that are well-formed, and the five bytes behind it, for which there is room
-/// from the start.
+/// A string of bytes that are well-formed, and the five bytes behind it. A source that lends
+/// its bytes is copied with room for the five from the start, so that they take no memory again.
 #[tactic(auto, using(sshkey_base::proofs::Steps::steps))]
 fn decode_trailed<R: Reader>(alloc: Global, reader: &mut R, algorithm: &Algorithm) -> Result<Bytes>
     ensures gives { Gives (λ b. b) cause (trailed_at (string_from (algorithm_of algorithm.now)))
