@@ -1,4 +1,3 @@
-pub mod Accepting
 pub mod HostKeys
 pub mod Signed
 pub mod SignedFiles

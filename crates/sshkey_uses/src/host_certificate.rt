@@ -1,19 +1,18 @@
 //! A question of whoever connects to a host: is the certificate that it shows good for its name?
 
+ghost use Rattle.std.specs.Prelude.{OnOk};
 ghost use Rattle.sshkey_cert.specs.Validity.{fingerprints_of};
-ghost use Rattle.sshkey_uses.specs.Accepting.{Accepts};
 ghost use Rattle.sshkey_uses.specs.HostCertificates.{IsCertifiedHost};
 
 use sshkey_base::certificate::Field;
 use sshkey_base::{Error, Result};
-use sshkey_cert::laws::prefix_certificate;
 use sshkey_cert_ref::CertificateRef;
 use sshkey_keys::{Fingerprint, RawVerifier};
 use std::alloc::Global;
 
-/// Accepts the bytes that a host shows exactly where, out of memory aside, they are a certificate
-/// for hosts, without critical options, valid at that time for the host's name, by one of the
-/// authorities with these fingerprints. Nothing is copied of them.
+/// Accepts the bytes that a host shows where they are a certificate for hosts, valid at that time
+/// for the host's name, by one of the authorities with these fingerprints. Nothing is copied of
+/// them.
 ///
 /// This caller knows no critical options, so it refuses a certificate that has one, as
 /// `CertificateFieldInvalid`, and likewise one for users. The other refusals are those of
@@ -26,10 +25,9 @@ pub fn check_host<V: RawVerifier>(
     authorities: &[Fingerprint],
     verifier: &V,
 ) -> Result<()>
-    ensures { Accepts (IsCertifiedHost (V.accepts verifier.now)
-        (fingerprints_of authorities.now) unix_timestamp shown.now host.now) result }
+    ensures { OnOk result (IsCertifiedHost (V.accepts verifier.now)
+        (fingerprints_of authorities.now) unix_timestamp shown.now host.now) }
 {
-    prefix_certificate();
     let certificate = CertificateRef::from_bytes(shown)?;
     if !certificate.cert_type().is_host() {
         return Err(Error::CertificateFieldInvalid(Field::CertType));

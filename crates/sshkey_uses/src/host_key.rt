@@ -13,7 +13,7 @@ use std::alloc::Global;
 /// The SHA-256 fingerprint of the key that the blob spells, if it is the known key; `None` if it
 /// is another one.
 ///
-/// A blob that spells no key is refused with its first fault.
+/// A blob that spells no key is never accepted.
 pub fn fingerprint_if_known(
     alloc: Global,
     blob: &[u8],
@@ -28,7 +28,7 @@ pub fn fingerprint_if_known(
     Ok(Some(known.fingerprint(alloc, HashAlg::Sha256)?))
 }
 
-/// Whether the blob spells the known key. One that spells no key is refused with its first fault.
+/// Whether the blob spells the known key. One that spells no key is refused.
 fn is_known(alloc: Global, blob: &[u8], known: &KeyData) -> Result<bool>
     requires { IsKey (key_of known.now) }
     ensures { IfOk result (λ yes. IsTrue yes ↔ SpellsKey (key_of known.now) blob.now) }

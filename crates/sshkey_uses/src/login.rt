@@ -1,20 +1,18 @@
 //! A question of whoever lets users in: does the certificate in this line let this user in now?
 
+ghost use Rattle.std.specs.Prelude.{OnOk};
 ghost use Rattle.sshkey_cert.specs.CertificateValues.{certificate_of};
 ghost use Rattle.sshkey_cert.specs.Validity.{fingerprints_of};
-ghost use Rattle.sshkey_uses.specs.Accepting.{Accepts};
 ghost use Rattle.sshkey_uses.specs.Logins.{IsLogin, LetsIn};
 
 use sshkey_base::certificate::Field;
 use sshkey_base::{Error, Result};
 use sshkey_cert::Certificate;
 use sshkey_keys::{Fingerprint, RawVerifier};
-use sshkey_model::laws::lines::one_certificate_line;
 use std::alloc::Global;
 
-/// Lets a user in exactly where, out of memory aside, the line has a certificate for users, without
-/// critical options, valid at that time for the user's name, by one of the authorities with these
-/// fingerprints.
+/// Lets a user in where the line has a certificate for users, valid at that time for the user's
+/// name, by one of the authorities with these fingerprints.
 ///
 /// This caller knows no critical options, so it refuses a certificate that has one, as
 /// `CertificateFieldInvalid`, and likewise one for hosts. The other refusals are those of
@@ -27,10 +25,9 @@ pub fn let_in<V: RawVerifier>(
     authorities: &[Fingerprint],
     verifier: &V,
 ) -> Result<()>
-    ensures { Accepts (IsLogin (V.accepts verifier.now)
-        (fingerprints_of authorities.now) unix_timestamp line.now user.now) result }
+    ensures { OnOk result (IsLogin (V.accepts verifier.now)
+        (fingerprints_of authorities.now) unix_timestamp line.now user.now) }
 {
-    one_certificate_line();
     let certificate = Certificate::from_openssh(alloc, line)?;
     check_login(
         alloc,
@@ -51,8 +48,8 @@ fn check_login<V: RawVerifier>(
     authorities: &[Fingerprint],
     verifier: &V,
 ) -> Result<()>
-    ensures { Accepts (LetsIn (V.accepts verifier.now) (fingerprints_of authorities.now)
-        unix_timestamp user.now (certificate_of certificate.now)) result }
+    ensures { OnOk result (LetsIn (V.accepts verifier.now) (fingerprints_of authorities.now)
+        unix_timestamp user.now (certificate_of certificate.now)) }
 {
     if !certificate.cert_type().is_user() {
         return Err(Error::CertificateFieldInvalid(Field::CertType));

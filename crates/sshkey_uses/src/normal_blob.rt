@@ -12,7 +12,7 @@ use sshkey_keys::KeyData;
 /// Whether the blob is the normal form of the key, which is written into the room. Takes no
 /// memory.
 ///
-/// `Length` where the room is too small, or where a part of the key is longer than 2^32 - 1 bytes.
+/// Refused only where the room is too small, or a part of the key is longer than 2^32 - 1 bytes.
 pub fn is_normal_blob(key: &KeyData, blob: &[u8], room: &mut [u8]) -> Result<bool>
     ensures same { IfOk result
         (λ yes. IsTrue yes ↔ (blob.now ≡ flat (normal_key (key_of key.now)))) }

@@ -11,7 +11,7 @@ use std::alloc::Global;
 
 /// Whether the blob spells a signature of the message that the verifier accepts under the key.
 ///
-/// A blob that spells no signature is refused with its first fault. A signature by an algorithm
+/// A blob that spells no signature is never accepted. A signature by an algorithm
 /// that does not go with the key is no signature of the message, and the verifier is not asked.
 pub fn is_signed<V: RawVerifier>(
     alloc: Global,

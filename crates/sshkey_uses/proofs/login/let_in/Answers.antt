@@ -2,4 +2,4 @@ use Rattle.sshkey_uses.proofs.Logins.{login}
 use Rattle.sshkey_uses.proofs.login.let_in.Goals as goal
 
 pub returns : goal.returns
-returns g c = login _ _ _ _ _ _ _ c.one_certificate_line.ensures c.in_ok-certificate.ensures c.check_login.result c.check_login.ensures
+returns g c = login _ _ _ _ _ _ _ c.in_ok-certificate.ensures c.check_login.result c.check_login.ensures
