@@ -143,32 +143,6 @@ fn a_fault_is_met_in_its_group(rt: HostRuntime) {
     assert!(rt; Base64Reader::new("AAA").is_err());
 }
 
-const WITHOUT_COMMENT: &str =
-    "ssh-ed25519 AAAAC3NzaC1lZDI1NTE5AAAAILM+rvN+ot98qgEN796jTiQfZfG1KaT0PtFDJ/XFSqti";
-
-/// The line of the key is written into a slice, by a writer too.
-fn takes_no_memory(key: &PublicKey) -> bool {
-    let mut out = [0u8; 80];
-    let mut writer = SliceWriter::new(&mut out);
-    let answer = write_line(key.key_data(), key.comment(), &mut writer);
-    answer == Ok(())
-        && writer.written() == WITHOUT_COMMENT.as_bytes()
-        && is_written_into(key, 80, WITHOUT_COMMENT)
-}
-
-fn is_without_comment(alloc: Global) -> bool {
-    match PublicKey::from_openssh(alloc, WITHOUT_COMMENT) {
-        Ok(key) => takes_no_memory(&key),
-        Err(_) => false,
-    }
-}
-
-/// Passes too where every request for memory is refused.
-#[test]
-fn a_line_without_comment_takes_no_memory(rt: HostRuntime) {
-    assert!(rt; is_without_comment(rt.alloc()));
-}
-
 /// One byte less than the line has is filled with its beginning.
 fn is_begun(key: &KeyData, comment: &str) -> bool {
     let mut out = [0u8; 96];

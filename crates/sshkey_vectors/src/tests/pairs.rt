@@ -4,7 +4,7 @@ use super::made_pairs::{DSA, ED25519, MadePair, P256, P384, P521, RSA};
 use sshkey_base::{Algorithm, Encode, Error, Result, decode_whole, encode_vec, encoding};
 use sshkey_keypairs::{KeypairData, OpaqueKeypair, SkEd25519};
 use sshkey_kinds::{Ed25519PublicKey, OpaquePublicKey, SkEd25519 as PublicSkEd25519};
-use sshkey_pairs::{EcdsaPrivateKey, Ed25519Keypair, Ed25519PrivateKey};
+use sshkey_pairs::{Ed25519Keypair, Ed25519PrivateKey};
 use std::alloc::Global;
 
 /// The bytes that the digits spell.
@@ -51,49 +51,6 @@ fn pairs_from_openssh(rt: HostRuntime) {
     for made in [DSA, P256, P384, P521, ED25519, RSA] {
         assert!(rt; is_kept(rt.alloc(), &made));
     }
-}
-
-/// A string of so many bytes and these, as a scalar of P-256: what is written of it.
-fn scalar(alloc: Global, string: &str) -> Result<Vec<u8>> {
-    let bytes = bytes_of(alloc, string);
-    let scalar: EcdsaPrivateKey<32> = decode_whole(alloc, bytes.as_slice())?;
-    Ok(encode_vec(alloc, &scalar)?)
-}
-
-/// The string is read as a scalar and written so.
-fn is_scalar(alloc: Global, string: &str, wanted: &str) -> bool {
-    scalar(alloc, string) == Ok(bytes_of(alloc, wanted))
-}
-
-const LOW: &str = "000000200101010101010101010101010101010101010101010101010101010101010101";
-
-const LOW_BEHIND_ZERO: &str =
-    "00000021000101010101010101010101010101010101010101010101010101010101010101";
-
-const HIGH: &str = "00000020ffffffffffffffffffffffffffffffffffffffffffffffffffffffffffffffff";
-
-const HIGH_BEHIND_ZERO: &str =
-    "0000002100ffffffffffffffffffffffffffffffffffffffffffffffffffffffffffffffff";
-
-const BEHIND_ONE: &str =
-    "00000021010101010101010101010101010101010101010101010101010101010101010101";
-
-const TWO_BYTES_MORE: &str =
-    "0000002201010101010101010101010101010101010101010101010101010101010101010101";
-
-#[test]
-fn scalars(rt: HostRuntime) {
-    let alloc = rt.alloc();
-    let two_left = Error::Encoding(encoding::Error::TrailingData { remaining: 2 });
-    assert!(rt; scalar(alloc, BEHIND_ONE) == Err(Error::FormatEncoding));
-    assert!(rt; scalar(alloc, TWO_BYTES_MORE) == Err(two_left));
-    assert!(rt; is_scalar(alloc, HIGH, HIGH_BEHIND_ZERO));
-    assert!(rt; is_scalar(alloc, HIGH_BEHIND_ZERO, HIGH_BEHIND_ZERO));
-    assert!(rt; is_scalar(alloc, LOW, LOW));
-    assert!(rt; is_scalar(alloc, LOW_BEHIND_ZERO, LOW));
-    assert!(rt; scalar(alloc, "000000020001") == Err(Error::FormatEncoding));
-    assert!(rt; scalar(alloc, "00000001ff") == Err(Error::FormatEncoding));
-    assert!(rt; scalar(alloc, "00000002ff") == Err(Error::Encoding(encoding::Error::Length)));
 }
 
 /// The pair of those bytes: its own bytes, its checkint and its public half.
