@@ -8,7 +8,7 @@ use crate::command::EntryFile;
 use crate::output::is_written;
 use crate::refusal::{refuse, refused_line};
 use sshkey_authorized_keys::Entry as AuthorizedKey;
-use sshkey_base::{Error, encoding};
+use sshkey_base::Error;
 use sshkey_files::EntryTexts;
 use sshkey_known_hosts::Entry as KnownHost;
 use std::alloc::Global;
@@ -45,7 +45,7 @@ fn refused_entry(alloc: Global, error: &Error) -> Result<String, Error>
     ensures { RefusesEntry error.now result }
 {
     match error {
-        Error::Memory | Error::Encoding(encoding::Error::Memory) => Err(Error::Memory),
+        Error::Memory => Err(Error::Memory),
         error => Ok(refused_line(alloc, error)?),
     }
 }

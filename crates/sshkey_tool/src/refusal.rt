@@ -5,7 +5,7 @@ ghost use Rattle.sshkey_tool.specs.Outcomes.{WritesRefusal};
 ghost use Rattle.sshkey_tool.specs.Table.{IsFirstLine, IsRefusalLine};
 
 use crate::output::write_line;
-use sshkey_base::{Error, encoding};
+use sshkey_base::Error;
 use std::alloc::{AllocError, Global};
 use std::io::Write;
 
@@ -39,9 +39,7 @@ pub(crate) fn refuse<W: Write>(alloc: Global, error: &Error, output: &mut W) -> 
     ensures { WritesRefusal error.now (W.contents output.old) (W.contents output.new) result }
 {
     match error {
-        Error::Memory | Error::Encoding(encoding::Error::Memory) => {
-            write_line(output, &OUT_OF_MEMORY, 1)
-        }
+        Error::Memory => write_line(output, &OUT_OF_MEMORY, 1),
         Error::Io(_) => write_line(output, &INPUT_FAULT, 1),
         error => match refused_line(alloc, error) {
             Ok(line) => write_line(output, line.as_bytes(), 1),
