@@ -24,7 +24,7 @@ use Rattle.sshkey_tool.specs.declared.command.KeyCommand.{KeyCommand}
 
 -- a refusal says that the machine failed, or what is wrong with the text
 pub refusal : {N : Type 0} (e : Error) → (cause e ≢ NoMemory → N) → IsMachineFault e ⊎ N
-refusal (wide.Encoding encoding.Memory) h = inl tt
+refusal (wide.Encoding encoding.Memory) h = inr (h (λ e. cc e))
 refusal (wide.Io kind) h = inl tt
 refusal wide.Memory h = inl tt
 refusal _ h = inr (h (λ e. cc e))
