@@ -8,4 +8,4 @@ use Rattle.sshkey_private.proofs.KeyForms.{public_is}
 use Rattle.sshkey_private.proofs.private_key.PrivateKey.fingerprint.Goals as goal
 
 pub returns : goal.returns
-returns c = subst (λ (k : Key). GivesFingerprint (hash_of c.args.hash_alg) k c.fingerprint.result) (public_is _ _ (key_fields c.args.self.now) (pair_of c.args.self.now.key_data) c.args.self.now.form) c.fingerprint.ensures
+returns c = subst (λ (k : Key). GivesFingerprint (hash_of c.args.hash_alg) k c.fingerprint.result) (public_is _ _ (key_fields c.args.self.now) (pair_of c.args.self.now.key_data) c.args.self.now.form) c.fingerprint.ensures.gives
