@@ -7,45 +7,107 @@
 //! one; `compared_*`, `equal_*` and `ordered_*` what `==` and `cmp` go by. `certificates` and `private` have
 //! those of certificates and of private keys. The others say what their docs say.
 
-pub use sshkey_authorized_keys::laws::{equal_authorized_keys, equal_config_opts};
-pub use sshkey_base::laws::{
-    compared_algorithm_names, compared_algorithms, compared_curves, compared_fields,
-    compared_hashes, compared_mpints, one_front, read_back,
-};
+pub use sshkey_authorized_keys::laws::equal_authorized_keys;
+pub use sshkey_authorized_keys::laws::equal_config_opts;
+pub use sshkey_base::laws::compared_algorithm_names;
+pub use sshkey_base::laws::compared_algorithms;
+pub use sshkey_base::laws::compared_curves;
+pub use sshkey_base::laws::compared_fields;
+pub use sshkey_base::laws::compared_hashes;
+pub use sshkey_base::laws::compared_mpints;
+pub use sshkey_base::laws::one_front;
+pub use sshkey_base::laws::read_back;
 pub use sshkey_cert::laws::compared_certificates;
-pub use sshkey_ciphers::laws::{compared_ciphers, compared_kdf_algorithms, equal_kdfs};
-pub use sshkey_entries::laws::{
-    one_authorized_key, one_end, one_hosts, one_known_host, readings_apart, strict_is_read,
-};
-pub use sshkey_fingerprints::laws::{compared_fingerprints, fingerprint_texts};
-pub use sshkey_keypairs::laws::{
-    equal_opaque_pair_bytes, equal_opaque_pairs, equal_opaque_private_keys, equal_pairs,
-    equal_sk_ecdsa_pairs, equal_sk_ed25519_pairs, ordered_sk_ecdsa_pairs, ordered_sk_ed25519_pairs,
-};
-pub use sshkey_keys::laws::{compared_keys, compared_signatures};
-pub use sshkey_kinds::laws::{
-    compared_dsa_keys, compared_ecdsa_keys, compared_ed25519_keys, compared_opaque_bytes,
-    compared_opaque_keys, compared_rsa_keys, compared_sk_ecdsa_keys, compared_sk_ed25519_keys,
-};
-pub use sshkey_known_hosts::laws::{equal_hosts, equal_known_hosts, equal_markers};
-pub use sshkey_model::laws::lines::{
-    lines_apart, one_certificate_line, one_key_line, read_back_certificate_line, read_back_key_line,
-};
-pub use sshkey_model::laws::{
-    apart, certificate_fields, certificate_fits, certificates, key_fits, normal_bodies,
-    normal_certificate_names, normal_certificates, normal_keys, normal_mpints, normal_names,
-    normal_options, normal_points, normal_signatures, normal_ssh_signatures, normal_texts,
-    options_fit, prefix_body, prefix_certificate, prefix_certificate_name, prefix_curve,
-    prefix_hash, prefix_key, prefix_mpint, prefix_name, prefix_options, prefix_point,
-    prefix_signature, prefix_ssh_signature, prefix_text, prefix_texts, private,
-    read_back_certificate, read_back_key, read_back_options, read_back_signature,
-    read_back_ssh_signature, readers, signed_fields, signed_fields_fit, ssh_signature_fits,
-};
-pub use sshkey_options::laws::{compared_ends, compared_options, compared_times, compared_types};
-pub use sshkey_pairs::laws::{
-    equal_dsa_pairs, equal_dsa_private_keys, equal_ecdsa_pairs, equal_ecdsa_private_keys,
-    equal_ed25519_pairs, equal_ed25519_private_keys, equal_rsa_pairs, equal_rsa_private_keys,
-};
+pub use sshkey_ciphers::laws::compared_ciphers;
+pub use sshkey_ciphers::laws::compared_kdf_algorithms;
+pub use sshkey_ciphers::laws::equal_kdfs;
+pub use sshkey_entries::laws::one_authorized_key;
+pub use sshkey_entries::laws::one_end;
+pub use sshkey_entries::laws::one_hosts;
+pub use sshkey_entries::laws::one_known_host;
+pub use sshkey_entries::laws::readings_apart;
+pub use sshkey_entries::laws::strict_is_read;
+pub use sshkey_fingerprints::laws::compared_fingerprints;
+pub use sshkey_fingerprints::laws::fingerprint_texts;
+pub use sshkey_keypairs::laws::equal_opaque_pair_bytes;
+pub use sshkey_keypairs::laws::equal_opaque_pairs;
+pub use sshkey_keypairs::laws::equal_opaque_private_keys;
+pub use sshkey_keypairs::laws::equal_pairs;
+pub use sshkey_keypairs::laws::equal_sk_ecdsa_pairs;
+pub use sshkey_keypairs::laws::equal_sk_ed25519_pairs;
+pub use sshkey_keypairs::laws::ordered_sk_ecdsa_pairs;
+pub use sshkey_keypairs::laws::ordered_sk_ed25519_pairs;
+pub use sshkey_keys::laws::compared_keys;
+pub use sshkey_keys::laws::compared_signatures;
+pub use sshkey_kinds::laws::compared_dsa_keys;
+pub use sshkey_kinds::laws::compared_ecdsa_keys;
+pub use sshkey_kinds::laws::compared_ed25519_keys;
+pub use sshkey_kinds::laws::compared_opaque_bytes;
+pub use sshkey_kinds::laws::compared_opaque_keys;
+pub use sshkey_kinds::laws::compared_rsa_keys;
+pub use sshkey_kinds::laws::compared_sk_ecdsa_keys;
+pub use sshkey_kinds::laws::compared_sk_ed25519_keys;
+pub use sshkey_known_hosts::laws::equal_hosts;
+pub use sshkey_known_hosts::laws::equal_known_hosts;
+pub use sshkey_known_hosts::laws::equal_markers;
+pub use sshkey_model::laws::apart;
+pub use sshkey_model::laws::certificate_fields;
+pub use sshkey_model::laws::certificate_fits;
+pub use sshkey_model::laws::certificates;
+pub use sshkey_model::laws::key_fits;
+pub use sshkey_model::laws::lines::lines_apart;
+pub use sshkey_model::laws::lines::one_certificate_line;
+pub use sshkey_model::laws::lines::one_key_line;
+pub use sshkey_model::laws::lines::read_back_certificate_line;
+pub use sshkey_model::laws::lines::read_back_key_line;
+pub use sshkey_model::laws::normal_bodies;
+pub use sshkey_model::laws::normal_certificate_names;
+pub use sshkey_model::laws::normal_certificates;
+pub use sshkey_model::laws::normal_keys;
+pub use sshkey_model::laws::normal_mpints;
+pub use sshkey_model::laws::normal_names;
+pub use sshkey_model::laws::normal_options;
+pub use sshkey_model::laws::normal_points;
+pub use sshkey_model::laws::normal_signatures;
+pub use sshkey_model::laws::normal_ssh_signatures;
+pub use sshkey_model::laws::normal_texts;
+pub use sshkey_model::laws::options_fit;
+pub use sshkey_model::laws::prefix_body;
+pub use sshkey_model::laws::prefix_certificate;
+pub use sshkey_model::laws::prefix_certificate_name;
+pub use sshkey_model::laws::prefix_curve;
+pub use sshkey_model::laws::prefix_hash;
+pub use sshkey_model::laws::prefix_key;
+pub use sshkey_model::laws::prefix_mpint;
+pub use sshkey_model::laws::prefix_name;
+pub use sshkey_model::laws::prefix_options;
+pub use sshkey_model::laws::prefix_point;
+pub use sshkey_model::laws::prefix_signature;
+pub use sshkey_model::laws::prefix_ssh_signature;
+pub use sshkey_model::laws::prefix_text;
+pub use sshkey_model::laws::prefix_texts;
+pub use sshkey_model::laws::private;
+pub use sshkey_model::laws::read_back_certificate;
+pub use sshkey_model::laws::read_back_key;
+pub use sshkey_model::laws::read_back_options;
+pub use sshkey_model::laws::read_back_signature;
+pub use sshkey_model::laws::read_back_ssh_signature;
+pub use sshkey_model::laws::readers;
+pub use sshkey_model::laws::signed_fields;
+pub use sshkey_model::laws::signed_fields_fit;
+pub use sshkey_model::laws::ssh_signature_fits;
+pub use sshkey_options::laws::compared_ends;
+pub use sshkey_options::laws::compared_options;
+pub use sshkey_options::laws::compared_times;
+pub use sshkey_options::laws::compared_types;
+pub use sshkey_pairs::laws::equal_dsa_pairs;
+pub use sshkey_pairs::laws::equal_dsa_private_keys;
+pub use sshkey_pairs::laws::equal_ecdsa_pairs;
+pub use sshkey_pairs::laws::equal_ecdsa_private_keys;
+pub use sshkey_pairs::laws::equal_ed25519_pairs;
+pub use sshkey_pairs::laws::equal_ed25519_private_keys;
+pub use sshkey_pairs::laws::equal_rsa_pairs;
+pub use sshkey_pairs::laws::equal_rsa_private_keys;
 pub use sshkey_private::laws::compared_private_keys;
 pub use sshkey_public::laws::compared_public_keys;
 pub use sshkey_sshsig::laws::compared_ssh_signatures;

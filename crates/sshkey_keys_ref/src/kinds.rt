@@ -19,7 +19,8 @@ use crate::leaves::{MpintRef, boxed_array_from};
 use crate::walk::Take;
 use sshkey_base::{EcdsaCurve, Error, Result, encoding};
 use sshkey_kinds::{
-    EcPoint, EcdsaNistP256PublicKey, EcdsaPublicKey, Ed25519PublicKey, P256_POINT_LEN, P521_POINT_LEN,
+    EcPoint, EcdsaNistP256PublicKey, EcdsaPublicKey, Ed25519PublicKey, P256_POINT_LEN,
+    P521_POINT_LEN,
 };
 use std::str;
 
