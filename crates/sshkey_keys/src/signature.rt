@@ -6,7 +6,7 @@ ghost use Rattle.sshkey_model.specs.Signatures.{IsSignatureBlob};
 ghost use Rattle.sshkey_keys.specs.SignatureForms.{is_blob};
 
 mod form;
-mod hex;
+mod hexadecimal;
 mod wire;
 
 use form::check_blob;
