@@ -1,5 +1,5 @@
-//! Calls that take no memory. Of each question `checks/refused-memory` counts the requests for
-//! memory: there is one, for the text of the answer.
+//! Calls that promise to take no memory. Of each question `checks/refused-memory` counts the
+//! requests for memory: one is expected, for the text of the answer.
 
 use crate::bytes::{NO_LINE, part, text};
 use crate::{signatures, validity};
