@@ -1,7 +1,8 @@
 -- Names in certificates that are none of the fixed ones.
 use Rattle.std.proofs.Common.{◌≡◌, ◌≢◌, ℕ, ◌-◌, Option, Some, None, is_none, Result, Ok, Err, List, ◌∷◌, ◌++◌, length, take, drop, true, ◌&&◌, nat_le, bytes_eq, refl, sym, ap, subst, ◌∙◌, inl, inr, arith}
 use Rattle.std.specs.List.{AllByRecursion}
-use Rattle.std.proofs.lemmas.Bool.{and_parts}
+use Rattle.std.specs.Prelude.{IsOk}
+use Rattle.std.proofs.lemmas.Bool.{and_parts, le-leb}
 use Rattle.std.proofs.lemmas.List.{take_at, drop_at, take-append-drop, length-append}
 use Rattle.std.proofs.lemmas.Slice.Eq.{bytes_eq-Decides}
 use Rattle.sshkey_model.specs.Reading.{Fault, Label, string_at}
@@ -11,15 +12,20 @@ use Rattle.sshkey_model.proofs.CertificateNameReaders.{certified_checks}
 use Rattle.sshkey_model.proofs.CombinedReaders.{chosen}
 use Rattle.sshkey_model.proofs.NameReaders.{found}
 use Rattle.std.specs.Str.{IsUtf8}
-use Rattle.sshkey_base.specs.Causes.{Cause, Faulty}
-use Rattle.sshkey_base.specs.Labels.{label_at}
+use Rattle.sshkey_base.specs.Causes.{Cause, NoMemory, Faulty, cause}
+use Rattle.sshkey_base.specs.declared.algorithm.Algorithm as value
+use Rattle.sshkey_base.specs.declared.encoding.Error.TheVariants as encoding
+use Rattle.sshkey_base.specs.declared.error.Error as wide-error
+use Rattle.sshkey_base.specs.declared.error.Error.TheVariants as wide
+use Rattle.sshkey_base.specs.Labels.{AsksNamed, label_at}
+use Rattle.sshkey_base.specs.NameNeeds.{NeedsCertified}
 use Rattle.sshkey_base.specs.Reading.{Reads, IsRefused}
 use Rattle.sshkey_base.specs.Source.{Source}
-use Rattle.sshkey_base.proofs.Labels.{text_refused}
+use Rattle.sshkey_base.proofs.Labels.{not_named, text_refused}
 use Rattle.sshkey_base.specs.AlgorithmName.{HasCertificateName, JudgesCertified}
 use Rattle.sshkey_base.specs.Answers.{Judges}
 use Rattle.sshkey_base.proofs.AtSigns.{cut-at, cut-suffixed}
-use Rattle.sshkey_base.proofs.CertificateTypes.{parts_of, are_parts, are_ascii-append, certificate_name-cut}
+use Rattle.sshkey_base.proofs.CertificateTypes.{parts_of, are_parts, are_ascii-append, certificate_name-cut, certificate_length}
 
 -- A fixed name with an at sign has a fixed name in a certificate.
 abbrev pub HasFixed : Algorithm → Type 0
@@ -128,6 +134,42 @@ certified_faults None t fault from e = subst (IsStripped t) e (certified_is t fr
 
 pub certified_refusals : (t : List ℕ) (fault : Fault) → certified_from t ≡ Err fault → fault ≡ Label
 certified_refusals t fault = certified_faults (named certificate_name certified t) t fault refl
+
+pub certified_short : (a : Algorithm) → IsCertified a → nat_le (length (certificate_name a)) 73 ≡ true
+unfolding is_other_name
+certified_short Dsa is = refl
+certified_short (Ecdsa Nistp256) is = refl
+certified_short (Ecdsa Nistp384) is = refl
+certified_short (Ecdsa Nistp521) is = refl
+certified_short Ed25519 is = refl
+certified_short (Rsa None) is = refl
+certified_short (Rsa (Some h)) is = absurd is
+certified_short SkEcdsa is = refl
+certified_short SkEd25519 is = refl
+certified_short (Other n) is =
+    let own = (and_parts (is_own_name n) (is_none (named algorithm_name algorithms n)) is.0).0 in
+    le-leb _ _ (omega (arith, certificate_length n own))
+
+-- Bytes that are no text are no name.
+pub no_certificate_name : (t : List ℕ) → (IsUtf8 t → ⊥) → certified_from t ≡ Err Label
+no_certificate_name = not_named certified_checks certified_ascii certified_refusals
+
+-- Where memory was refused, the name is that of a private-use algorithm.
+pub certified_asked : (t : List ℕ) (r : Result value.Algorithm wide-error.Error) → ((a : Algorithm) → named certificate_name certified t ≡ Some a → IsOk r) → (certified_from t ≡ Err Label → r ≡ Err (wide.Encoding encoding.Label)) → AsksNamed cause NeedsCertified t r
+unfolding certificate_algorithm_at
+certified_asked t (Ok x) fixed refused = tt
+certified_asked t (Err e) fixed refused = λ memory b rest read. by_table memory b rest read (named certificate_name certified t) refl
+  where
+    by_table : cause e ≡ NoMemory → (b rest : List ℕ) → string_at b ≡ Ok (t, rest) → (o : Option Algorithm) → named certificate_name certified t ≡ o → NeedsCertified b
+    by_table memory b rest read (Some a) is = absurd (cc (fixed a is))
+    by_table memory b rest read None is = by_suffix (certified_from t) refl (certified_is t is)
+      where
+        by_suffix : (found : Result Algorithm Fault) → certified_from t ≡ found → IsStripped t found → NeedsCertified b
+        by_suffix (Ok a) from stripped = rw (read, from, stripped.1) tt
+        by_suffix (Err fault) from stripped =
+            let none : certified_from t ≡ Err Label = from ∙ ap (λ (f : Fault). Err f) stripped in
+            let label : e ≡ wide.Encoding encoding.Label = cc (refused none) in
+            absurd (cc (memory, label))
 
 -- a string that is no text is no name
 pub certificate_refused : (s t : Source) (x : List ℕ) (c : Cause) → Reads (λ b. b) string_at s x t → (IsUtf8 x → ⊥) → c ≡ Faulty Label → IsRefused s.missing c (certificate_algorithm_at s.left)

@@ -23,5 +23,6 @@ pub mod ReadLists
 pub mod MappedBoxes
 pub mod Measured
 pub mod ShortStrings
+pub mod NameStrings
 pub mod FixedWidth
 pub mod Comparisons

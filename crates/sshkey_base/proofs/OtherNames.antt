@@ -3,11 +3,12 @@ use Rattle.std.proofs.Common.{◌≡◌, ◌≢◌, ℕ, Option, None, Result, O
 use Rattle.std.specs.List.{AllByRecursion}
 use Rattle.std.proofs.lemmas.Bool.{false_from_ne_true}
 use Rattle.std.proofs.lemmas.Slice.Eq.{bytes_eq-Decides}
-use Rattle.sshkey_model.specs.Reading.{Fault, Label}
+use Rattle.sshkey_model.specs.Reading.{Fault, Label, string_at}
 use Rattle.sshkey_model.specs.Names.{Algorithm, Other, algorithm_name, algorithms, named, is_own_name, is_other_name, algorithm_or, algorithm_from}
 use Rattle.sshkey_model.proofs.CombinedReaders.{chosen}
-use Rattle.sshkey_base.specs.Causes.{Cause, NoMemory, cause}
-use Rattle.sshkey_base.specs.Labels.{LooksUp}
+use Rattle.sshkey_base.specs.Causes.{Cause, NoMemory, Faulty, cause}
+use Rattle.sshkey_base.specs.Labels.{LooksUp, label_at}
+use Rattle.sshkey_base.specs.NameNeeds.{NeedsAlgorithm}
 use Rattle.sshkey_base.specs.declared.encoding.Error as narrow
 use Rattle.sshkey_base.specs.declared.encoding.Error.TheVariants as encoding
 use Rattle.sshkey_base.specs.Answers.{IsUnknown, Judges, Names}
@@ -68,6 +69,17 @@ looked_up means t e (Ok x) is none met = absurd is
 looked_up means t e (Err x) is none met = λ some.
     let unknown = met (λ memory. some (is ∙ memory)) in
     (unknown_from t none unknown.0, is ∙ unknown.1)
+
+-- where memory was refused, the name is a private-use one
+pub other_asked : (t : List ℕ) (c : Cause) → named algorithm_name algorithms t ≡ None → (is_own_name t ≡ false → c ≡ Faulty Label) → c ≡ NoMemory → (b rest : List ℕ) → string_at b ≡ Ok (t, rest) → NeedsAlgorithm b
+unfolding label_at
+other_asked t c none refused memory b rest read = go (is_own_name t) refl
+  where
+    go : (own : Bool) → is_own_name t ≡ own → NeedsAlgorithm b
+    go true own =
+        let from : algorithm_from t ≡ Ok (Other t) = own_or t (Ok (Other t)) none (rw own refl) in
+        rw (read, from) tt
+    go false own = let not = refused own in absurd (cc (memory, not))
 
 -- ---- calls that only judge
 

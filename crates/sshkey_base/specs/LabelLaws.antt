@@ -1,14 +1,14 @@
 -- Names are ASCII, and what is no name is refused as such.
 use Rattle.std.specs.Prelude.{◌≡◌, ℕ, List, true, ◌&&◌, is_none, nat_le, length, Option, Some, None, Ok, Err, refl}
-use Rattle.std.proofs.Common.{inl, inr}
-use Rattle.std.proofs.lemmas.Bool.{and_parts}
+use Rattle.std.proofs.Common.{inl, inr, arith}
+use Rattle.std.proofs.lemmas.Bool.{and_parts, leb-true, le-leb}
 use Rattle.sshkey_model.specs.Parts.{Any}
 use Rattle.sshkey_model.specs.Reading.{Fault, Label}
 use Rattle.sshkey_model.specs.Names.{Curve, Nistp256, Nistp384, Nistp521, Hash, Sha256, Sha512, Algorithm, Dsa, Ecdsa, Ed25519, Rsa, SkEcdsa, SkEd25519, Other, curves, hashes, algorithms, curve_name, hash_name, algorithm_name, named, are_ascii, cut, is_split, is_own_name, is_other_name, IsAlgorithm, or_label, algorithm_or, curve_from, hash_from, algorithm_from}
 use Rattle.sshkey_model.proofs.CombinedReaders.{chosen}
 pub use Rattle.sshkey_model.proofs.NameReaders.{curve_checks, hash_checks, algorithm_checks}
 
-unlisted_label : {A : Type 0} (o : Option A) (fault : Fault) → or_label o ≡ Err fault → fault ≡ Label
+pub unlisted_label : {A : Type 0} (o : Option A) (fault : Fault) → or_label o ≡ Err fault → fault ≡ Label
 unlisted_label (Some a) fault e = absurd cc
 unlisted_label None fault e = cc
 
@@ -17,6 +17,11 @@ curve_ascii Nistp256 is = refl
 curve_ascii Nistp384 is = refl
 curve_ascii Nistp521 is = refl
 
+pub curve_short : (c : Curve) → Any c → nat_le (length (curve_name c)) 73 ≡ true
+curve_short Nistp256 is = refl
+curve_short Nistp384 is = refl
+curve_short Nistp521 is = refl
+
 pub curve_refusals : (t : List ℕ) (fault : Fault) → curve_from t ≡ Err fault → fault ≡ Label
 curve_refusals t = unlisted_label (named curve_name curves t)
 
@@ -24,15 +29,19 @@ pub hash_ascii : (h : Hash) → Any h → are_ascii (hash_name h) ≡ true
 hash_ascii Sha256 is = refl
 hash_ascii Sha512 is = refl
 
+pub hash_short : (h : Hash) → Any h → nat_le (length (hash_name h)) 73 ≡ true
+hash_short Sha256 is = refl
+hash_short Sha512 is = refl
+
 pub hash_refusals : (t : List ℕ) (fault : Fault) → hash_from t ≡ Err fault → fault ≡ Label
 hash_refusals t = unlisted_label (named hash_name hashes t)
 
-other_ascii : (n : List ℕ) → is_other_name n ≡ true → are_ascii n ≡ true
+other_parts : (n : List ℕ) → is_other_name n ≡ true → (are_ascii n ≡ true) × (nat_le (length n) 64 ≡ true)
 unfolding is_other_name is_own_name
-other_ascii n is =
+other_parts n is =
     let both = and_parts (is_own_name n) (is_none (named algorithm_name algorithms n)) is in
     let own = and_parts (are_ascii n && nat_le (length n) 64) (is_split (cut n)) both.0 in
-    (and_parts (are_ascii n) (nat_le (length n) 64) own.0).0
+    and_parts (are_ascii n) (nat_le (length n) 64) own.0
 
 pub algorithm_ascii : (a : Algorithm) → IsAlgorithm a → are_ascii (algorithm_name a) ≡ true
 algorithm_ascii Dsa is = refl
@@ -45,7 +54,20 @@ algorithm_ascii (Rsa (Some Sha256)) is = refl
 algorithm_ascii (Rsa (Some Sha512)) is = refl
 algorithm_ascii SkEcdsa is = refl
 algorithm_ascii SkEd25519 is = refl
-algorithm_ascii (Other n) is = other_ascii n is
+algorithm_ascii (Other n) is = (other_parts n is).0
+
+pub algorithm_short : (a : Algorithm) → IsAlgorithm a → nat_le (length (algorithm_name a)) 73 ≡ true
+algorithm_short Dsa is = refl
+algorithm_short (Ecdsa Nistp256) is = refl
+algorithm_short (Ecdsa Nistp384) is = refl
+algorithm_short (Ecdsa Nistp521) is = refl
+algorithm_short Ed25519 is = refl
+algorithm_short (Rsa None) is = refl
+algorithm_short (Rsa (Some Sha256)) is = refl
+algorithm_short (Rsa (Some Sha512)) is = refl
+algorithm_short SkEcdsa is = refl
+algorithm_short SkEd25519 is = refl
+algorithm_short (Other n) is = le-leb _ _ (omega (arith, leb-true _ _ (other_parts n is).1))
 
 algorithm_unknown : (o : Option Algorithm) (t : List ℕ) (fault : Fault) → algorithm_or o t ≡ Err fault → fault ≡ Label
 algorithm_unknown (Some a) t fault e = absurd cc

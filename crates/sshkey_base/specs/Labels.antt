@@ -1,11 +1,13 @@
 -- A name that is read and written as a string (RFC 4251, section 6).
 use Rattle.std.specs.Prelude.{◌≡◌, ◌≢◌, ℕ, List, Result, Ok, Err, refl}
-use Rattle.sshkey_model.specs.Reading.{Whole, Label, Front, string_at, checked_at}
+use Rattle.std.specs.Int.{w32}
+use Rattle.sshkey_model.specs.Reading.{Whole, Label, Front, number_at, string_at, checked_at}
 use Rattle.sshkey_model.specs.Parts.{Any, bytes, flat, Fits}
 use Rattle.sshkey_model.specs.Texts.{string}
 use Rattle.sshkey_model.specs.Grammar.{IsGrammar, Spells, Checks}
 use Rattle.sshkey_model.proofs.CombinedReaders.{checked_string_reads}
 use Rattle.sshkey_model.proofs.Grammars.{grammar}
+use Rattle.sshkey_base.specs.Causes.{Cause, NoMemory}
 use Rattle.sshkey_base.specs.declared.encoding.Error.{Error}
 use Rattle.sshkey_base.specs.declared.encoding.Error.TheVariants as encoding
 
@@ -18,6 +20,15 @@ LooksUp stands_for named name (Err e) = e ≢ encoding.Memory → (named name �
 abbrev pub LooksUpAlways : {X N : Type 0} → (X → N) → Whole N → List ℕ → Result X Error → Type 0
 LooksUpAlways stands_for named name (Ok x) = named name ≡ Ok (stands_for x)
 LooksUpAlways stands_for named name (Err e) = (named name ≡ Err Label) × (e ≡ encoding.Label)
+
+-- Memory was refused only where the string of that name needs some.
+abbrev pub AsksNamed : {X E : Type 0} → (E → Cause) → (List ℕ → Type 0) → List ℕ → Result X E → Type 0
+AsksNamed cause needs name (Ok x) = Unit {0}
+AsksNamed cause needs name (Err e) = cause e ≡ NoMemory → (b rest : List ℕ) → string_at b ≡ Ok (name, rest) → needs b
+
+-- Where what stands behind a length of n needs memory.
+abbrev pub NeedsBehind : (List ℕ → Type 0) → ℕ → List ℕ → Type 0
+NeedsBehind needs n b = (a : List ℕ) → number_at w32 a ≡ Ok (n, b) → needs a
 
 -- a string that is looked up
 unfoldable pub label_at : {N : Type 0} → Whole N → Front N

@@ -19,6 +19,7 @@ pub mod Texts
 pub mod TextLists
 pub mod Equality
 pub mod Names
+pub mod NameNeeds
 pub mod AlgorithmName
 pub mod Digests
 pub mod Fields

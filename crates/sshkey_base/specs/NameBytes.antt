@@ -1,10 +1,24 @@
--- What the bytes of names mean.
-use Rattle.std.specs.Prelude.{ℕ, List}
-use Rattle.sshkey_base.specs.declared.name_bytes.NameBytes.{NameBytes}
-use Rattle.sshkey_base.specs.declared.name_bytes.NameBytes.TheVariants.{Short, Long}
+-- What is read of a string that may be a name.
+use Rattle.std.specs.Prelude.{ℕ, List, length, nat_le, Option, Some, None, option_map, Result, Ok, if◌then◌else◌}
+use Rattle.sshkey_model.specs.Reading.{◌>>=◌, Front, bytes_at}
+use Rattle.sshkey_base.specs.declared.short_bytes.ShortBytes.{ShortBytes}
 use Rattle.sshkey_base.specs.ShortBytes.{short_of}
 
--- the bytes
-abbrev pub name_bytes_of : NameBytes → List ℕ
-name_bytes_of (Short b) = short_of b
-name_bytes_of (Long b) = b
+-- the bytes, if they are not too many for a name
+abbrev pub not_too_long : List ℕ → Option (List ℕ)
+not_too_long b = if nat_le (length b) 73 then Some b else None
+
+abbrev pub name_of : Option (ShortBytes 73) → Option (List ℕ)
+name_of = option_map short_of
+
+-- the next n bytes, if they are not too many for a name
+unfoldable pub name_at : ℕ → Front (Option (List ℕ))
+name_at n b = do
+  x ← bytes_at n b
+  Ok (not_too_long x.0, x.1)
+
+-- the next n bytes, of which nothing is kept
+unfoldable pub passed_at : ℕ → Front (Unit {0})
+passed_at n b = do
+  x ← bytes_at n b
+  Ok (tt, x.1)

@@ -4,10 +4,11 @@ ghost use Rattle.std.specs.Prelude.{◌≡◌, ◌↔◌, IsTrue, IsOk, IfOk, op
 ghost use Rattle.sshkey_model.specs.Names.{Dsa, Ed25519, algorithm_name, IsAlgorithm, algorithms, algorithm_from, named};
 ghost use Rattle.sshkey_model.specs.Names as model;
 ghost use Rattle.sshkey_model.specs.Reading as fault;
-ghost use Rattle.sshkey_base.specs.Causes.{cause};
+ghost use Rattle.sshkey_base.specs.Causes.{cause, encoding_cause};
 ghost use Rattle.sshkey_base.specs.Names.{IsFixed, is_ecdsa, is_rsa, algorithm_of};
-ghost use Rattle.sshkey_base.specs.LabelLaws.{algorithm_checks, algorithm_ascii, algorithm_refusals};
-ghost use Rattle.sshkey_base.specs.Labels.{LooksUp};
+ghost use Rattle.sshkey_base.specs.LabelLaws.{algorithm_checks, algorithm_ascii, algorithm_short, algorithm_refusals};
+ghost use Rattle.sshkey_base.specs.Labels.{AsksNamed, LooksUp};
+ghost use Rattle.sshkey_base.specs.NameNeeds.{NeedsAlgorithm};
 ghost use Rattle.sshkey_base.specs.Answers.{Judges, Names};
 ghost use Rattle.sshkey_base.specs.declared.encoding.Error.TheVariants as encoding;
 
@@ -196,6 +197,8 @@ impl Label for Algorithm {
 
     ghost named = { algorithm_from };
 
+    ghost needs = { NeedsAlgorithm };
+
     fn label(&self) -> &str {
         self.as_str()
     }
@@ -203,6 +206,7 @@ impl Label for Algorithm {
     #[inline(always)]
     fn from_label(alloc: Global, name: &str) -> encoding::Result<Algorithm>
         ensures gives { LooksUp algorithm_of algorithm_from name.now result }
+        ensures asks { AsksNamed encoding_cause NeedsAlgorithm name.now result }
         ensures fixed { (a : model.Algorithm) → named algorithm_name algorithms name.now ≡ Some a →
             IsOk result }
         ensures refused { algorithm_from name.now ≡ Err fault.Label → result ≡ Err encoding.Label }
@@ -216,6 +220,8 @@ impl Label for Algorithm {
     ghost checks = { algorithm_checks };
 
     ghost ascii = { algorithm_ascii };
+
+    ghost short = { algorithm_short };
 
     ghost refusals = { algorithm_refusals };
 }

@@ -1,6 +1,6 @@
 //! Byte strings.
 
-ghost use Rattle.std.specs.Prelude.{◌≡◌, ◌<◌, ℕ, List, Err, IfOk, IfErr, ◌≤◌, length};
+ghost use Rattle.std.specs.Prelude.{◌≡◌, ◌<◌, ℕ, List, Err, IfOk, IfErr, ◌≤◌, length, replicate};
 ghost use Rattle.sshkey_model.specs.Reading.{bytes_at, string_at};
 ghost use Rattle.sshkey_base.specs.Causes.{encoding_cause};
 ghost use Rattle.sshkey_base.specs.Leaves.{SpellsString, string_grammar};
@@ -78,11 +78,14 @@ impl Bytes {
         bytes_from(alloc, len, spare, reader)
     }
 
-    /// Lets the bytes go, and writes zeros over them before. No promise: a compiler may leave out
-    /// what nobody reads again.
-    pub fn erase(self) {
+    /// Writes zeros over the bytes, and gives the memory that held them. Where that is let go unread,
+    /// a compiler may leave the writing out. Takes no memory.
+    pub fn erase(self) -> Vec<u8>
+        ensures { result.items ≡ replicate (length self) 0 }
+    {
         let mut bytes = self.bytes;
         bytes.fill(0);
+        bytes
     }
 
     /// The vector that holds the bytes. Takes no memory.

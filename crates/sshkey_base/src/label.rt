@@ -1,6 +1,6 @@
 //! Names that are read and written as strings.
 
-ghost use Rattle.std.specs.Prelude.{◌≡◌, ◌<◌, ◌+◌, ◌^◌, ℕ, List, true, Err, ◌≤◌, length};
+ghost use Rattle.std.specs.Prelude.{◌≡◌, ◌<◌, ◌+◌, ◌^◌, ℕ, List, true, Err, length, nat_le};
 ghost use Rattle.sshkey_model.specs.Names.{are_ascii};
 ghost use Rattle.sshkey_model.specs.Parts.{Parts, Any, bytes};
 ghost use Rattle.sshkey_model.specs.Reading.{Fault, Whole, Label as label_fault, bytes_at, checked_at};
@@ -9,15 +9,15 @@ ghost use Rattle.sshkey_model.specs.Grammar.{Spells, Checks};
 ghost use Rattle.sshkey_model.proofs.CombinedReaders.{checked_string_reads};
 ghost use Rattle.sshkey_model.proofs.Grammars.{grammar};
 ghost use Rattle.sshkey_base.specs.Causes.{encoding_cause};
-ghost use Rattle.sshkey_base.specs.Needs.{Asks, NeedsString};
+ghost use Rattle.sshkey_base.specs.Needs.{Asks};
 ghost use Rattle.sshkey_base.specs.Reading.{Decodes, LengthPast};
 ghost use Rattle.sshkey_base.specs.Source.{Later, announced_len};
-ghost use Rattle.sshkey_base.specs.Labels.{LooksUp, label_at, label_grammar};
+ghost use Rattle.sshkey_base.specs.Labels.{AsksNamed, LooksUp, NeedsBehind, label_at, label_grammar};
 
 use crate::decode::Decode;
 use crate::encode::{Encode, encode_string, string_len};
 use crate::encoding::{Error, Result};
-use crate::name_bytes::NameBytes;
+use crate::name_bytes::take_name;
 use crate::reader::{Reader, length_from};
 use crate::writer::Writer;
 use std::alloc::Global;
@@ -40,13 +40,18 @@ pub trait Label: Sized {
     /// The value of a name.
     ghost named: { Whole Named };
 
+    /// The string at the front needs memory, since the value keeps some.
+    ghost needs: { List ℕ → Type 0 };
+
     /// The name, a text.
     fn label(&self) -> &str
         ensures { result.now ≡ name (stands_for self.now) };
 
-    /// The value of that name. `Label` exactly where there is none, out of memory aside.
+    /// The value of that name. `Label` exactly where there is none, out of memory aside; memory is
+    /// asked for only where the value keeps some.
     fn from_label(alloc: Global, text: &str) -> Result<Self>
-        ensures { LooksUp stands_for named text.now result };
+        ensures gives { LooksUp stands_for named text.now result }
+        ensures asks { AsksNamed encoding_cause needs text.now result };
 
     /// A name gives the value that has it.
     ghost checks: { Checks Any bytes IsNamed (λ n. bytes (name n)) named };
@@ -54,11 +59,15 @@ pub trait Label: Sized {
     /// Names are ASCII.
     ghost ascii: { (n : Named) → IsNamed n → are_ascii (name n) ≡ true };
 
+    /// No name is longer than that of an algorithm in a certificate.
+    ghost short: { (n : Named) → IsNamed n → nat_le (length (name n)) 73 ≡ true };
+
     /// What is no name is refused as such.
     ghost refusals: { (text : List ℕ) (fault : Fault) → named text ≡ Err fault → fault ≡ label_fault };
 }
 
-/// The string of a name. `Label` for a string that is none of the names.
+/// The string of a name. `Label` for a string that is none of the names, for which no memory is
+/// asked.
 #[tactic(auto, using(crate::proofs::Steps::steps), unfolding(crate::specs::Labels::label_at, sshkey_model::specs::Reading::string_at))]
 impl<T: Label> Decode for T {
     type Error = Error;
@@ -71,7 +80,7 @@ impl<T: Label> Decode for T {
 
     ghost Spells = { Spells T.IsNamed (λ n. string (T.name n)) };
 
-    ghost needs = { NeedsString };
+    ghost needs = { T.needs };
 
     ghost grammar = { label_grammar T.checks };
 
@@ -80,7 +89,7 @@ impl<T: Label> Decode for T {
         ensures gives { Decodes T.stands_for (label_at T.named)
             R.source reader.old result reader.new }
         ensures later { Later (R.source reader.old) (R.source reader.new) }
-        ensures asks { Asks encoding_cause NeedsString (R.source reader.old) result }
+        ensures asks { Asks encoding_cause T.needs (R.source reader.old) result }
         ensures past { LengthPast encoding_cause (R.source reader.old) result }
     {
         let len = length_from(reader)?;
@@ -96,7 +105,7 @@ fn name_from<T: Label, R: Reader>(alloc: Global, len: usize, reader: &mut R) -> 
     ensures gives { Decodes T.stands_for (checked_at T.named (bytes_at len))
         R.source reader.old result reader.new }
     ensures later { Later (R.source reader.old) (R.source reader.new) }
-    ensures asks { Asks encoding_cause (λ b. len ≤ length b) (R.source reader.old) result }
+    ensures asks { Asks encoding_cause (NeedsBehind T.needs len) (R.source reader.old) result }
     ensures past { announced_len (R.source reader.old) < len → result ≡ Err Error.Length }
 {
     if let Some(name) = reader.ahead(len) {
@@ -104,15 +113,18 @@ fn name_from<T: Label, R: Reader>(alloc: Global, len: usize, reader: &mut R) -> 
         reader.skip(len);
         return Ok(value);
     }
-    let name = NameBytes::take_from(alloc, len, reader)?;
-    named(alloc, name.as_slice())
+    match take_name(len, reader)? {
+        Some(name) => named(alloc, name.as_slice()),
+        None => Err(Error::Label),
+    }
 }
 
 /// The value of the name that the bytes spell. `Label` exactly where there is none, out of memory
 /// aside.
 #[inline(always)]
 fn named<T: Label>(alloc: Global, name: &[u8]) -> Result<T>
-    ensures { LooksUp T.stands_for T.named name.now result }
+    ensures gives { LooksUp T.stands_for T.named name.now result }
+    ensures asks { AsksNamed encoding_cause T.needs name.now result }
 {
     match str::from_utf8(name) {
         Ok(text) => T::from_label(alloc, text),

@@ -1,6 +1,6 @@
 //! Whole numbers of any size.
 
-ghost use Rattle.std.specs.Prelude.{◌≡◌, ◌<◌, IfOk, IfErr, length, option_map, slice_index};
+ghost use Rattle.std.specs.Prelude.{◌≡◌, ◌<◌, IfOk, IfErr, length, option_map, replicate, slice_index};
 ghost use Rattle.std.specs.Fmt.{WritesOnOk};
 ghost use Rattle.hex.specs.Hex.{encode_lower, encode_upper};
 ghost use Rattle.sshkey_model.specs.Mpints.{IsMpint, is_mpint, of_positive};
@@ -121,10 +121,12 @@ impl Mpint {
         }
     }
 
-    /// Lets the number go, and writes zeros over its bytes before. No promise: a compiler may leave
-    /// out what nobody reads again.
-    pub fn erase(self) {
-        self.bytes.erase();
+    /// Writes zeros over the bytes, and gives the memory that held them. Where that is let go unread,
+    /// a compiler may leave the writing out. Takes no memory.
+    pub fn erase(self) -> Vec<u8>
+        ensures { result.items ≡ replicate (length (mpint_of self)) 0 }
+    {
+        self.bytes.erase()
     }
 
     /// The same number in memory of its own. Refuses only when out of memory.

@@ -2,12 +2,13 @@
 
 ghost use Rattle.std.specs.Prelude.{◌≡◌, ◌≢◌, ◌↔◌, IsTrue, Some, if◌then◌else◌};
 ghost use Rattle.sshkey_base.specs.Answers.{NamesAlways};
-ghost use Rattle.sshkey_base.specs.Causes.{Faulty, cause};
-ghost use Rattle.sshkey_base.specs.Labels.{LooksUp, LooksUpAlways};
+ghost use Rattle.sshkey_base.specs.Causes.{Faulty, cause, encoding_cause};
+ghost use Rattle.sshkey_base.specs.Labels.{AsksNamed, LooksUp, LooksUpAlways};
+ghost use Rattle.sshkey_base.specs.Needs.{NoNeed};
 ghost use Rattle.sshkey_model.specs.KeyDerivation.{Cipher as TheCipher, NoCipher, cipher_name, block_size, tag_size, padding_length};
 ghost use Rattle.sshkey_model.specs.Parts.{Any};
 ghost use Rattle.sshkey_model.specs.Reading as fault;
-ghost use Rattle.sshkey_ciphers.specs.Ciphers.{cipher_of, cipher_from, cipher_checks, cipher_ascii, cipher_refusals};
+ghost use Rattle.sshkey_ciphers.specs.Ciphers.{cipher_of, cipher_from, cipher_checks, cipher_ascii, cipher_short, cipher_refusals};
 
 use sshkey_base::{Label, LabelError, Result, encoding};
 use std::alloc::Global;
@@ -151,12 +152,15 @@ impl Label for Cipher {
 
     ghost named = { cipher_from };
 
+    ghost needs = { NoNeed };
+
     fn label(&self) -> &str {
         self.as_str()
     }
 
     fn from_label(_alloc: Global, name: &str) -> encoding::Result<Cipher>
         ensures gives { LooksUp cipher_of cipher_from name.now result }
+        ensures asks { AsksNamed encoding_cause NoNeed name.now result }
         ensures always { LooksUpAlways cipher_of cipher_from name.now result }
     {
         Ok(Cipher::from_str(name)?)
@@ -165,6 +169,8 @@ impl Label for Cipher {
     ghost checks = { cipher_checks };
 
     ghost ascii = { cipher_ascii };
+
+    ghost short = { cipher_short };
 
     ghost refusals = { cipher_refusals };
 }

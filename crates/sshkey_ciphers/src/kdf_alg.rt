@@ -2,12 +2,13 @@
 
 ghost use Rattle.std.specs.Prelude.{◌≡◌, ◌↔◌, IsTrue, Some};
 ghost use Rattle.sshkey_base.specs.Answers.{NamesAlways};
-ghost use Rattle.sshkey_base.specs.Causes.{Faulty, cause};
-ghost use Rattle.sshkey_base.specs.Labels.{LooksUp, LooksUpAlways};
+ghost use Rattle.sshkey_base.specs.Causes.{Faulty, cause, encoding_cause};
+ghost use Rattle.sshkey_base.specs.Labels.{AsksNamed, LooksUp, LooksUpAlways};
+ghost use Rattle.sshkey_base.specs.Needs.{NoNeed};
 ghost use Rattle.sshkey_model.specs.KeyDerivation.{KdfAlgorithm, NoDerivation, BcryptDerivation, kdf_name};
 ghost use Rattle.sshkey_model.specs.Parts.{Any};
 ghost use Rattle.sshkey_model.specs.Reading as fault;
-ghost use Rattle.sshkey_ciphers.specs.Ciphers.{kdf_algorithm_of, kdf_algorithm_from, kdf_algorithm_checks, kdf_alg_ascii, kdf_alg_refusals};
+ghost use Rattle.sshkey_ciphers.specs.Ciphers.{kdf_algorithm_of, kdf_algorithm_from, kdf_algorithm_checks, kdf_alg_ascii, kdf_alg_short, kdf_alg_refusals};
 
 use sshkey_base::{Label, LabelError, Result, encoding};
 use std::alloc::Global;
@@ -89,12 +90,15 @@ impl Label for KdfAlg {
 
     ghost named = { kdf_algorithm_from };
 
+    ghost needs = { NoNeed };
+
     fn label(&self) -> &str {
         self.as_str()
     }
 
     fn from_label(_alloc: Global, name: &str) -> encoding::Result<KdfAlg>
         ensures gives { LooksUp kdf_algorithm_of kdf_algorithm_from name.now result }
+        ensures asks { AsksNamed encoding_cause NoNeed name.now result }
         ensures always { LooksUpAlways kdf_algorithm_of kdf_algorithm_from name.now result }
     {
         Ok(KdfAlg::from_str(name)?)
@@ -103,6 +107,8 @@ impl Label for KdfAlg {
     ghost checks = { kdf_algorithm_checks };
 
     ghost ascii = { kdf_alg_ascii };
+
+    ghost short = { kdf_alg_short };
 
     ghost refusals = { kdf_alg_refusals };
 }

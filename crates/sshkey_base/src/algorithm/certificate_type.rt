@@ -11,7 +11,9 @@ ghost use Rattle.sshkey_base.specs.Reading.{AcceptsFront, DecodesWide, LengthPas
 ghost use Rattle.sshkey_base.specs.Causes.{cause};
 ghost use Rattle.sshkey_base.specs.Names.{IsFixed, algorithm_of};
 ghost use Rattle.sshkey_base.specs.Answers.{Judges, Names};
-ghost use Rattle.sshkey_base.specs.Needs.{Asks, NeedsString};
+ghost use Rattle.sshkey_base.specs.Labels.{AsksNamed};
+ghost use Rattle.sshkey_base.specs.NameNeeds.{NeedsCertified};
+ghost use Rattle.sshkey_base.specs.Needs.{Asks};
 ghost use Rattle.sshkey_base.specs.Source.{Later};
 ghost use Rattle.sshkey_base.specs.Sink.{Encodes};
 ghost use Rattle.sshkey_base.specs.declared.encoding.Error.TheVariants as encoding;
@@ -21,8 +23,8 @@ use crate::encode::Encode;
 use crate::encoding;
 use crate::error::{Error, Result};
 use crate::label_error::LabelError;
-use crate::name_bytes::NameBytes;
-use crate::reader::Reader;
+use crate::name_bytes::take_name;
+use crate::reader::{Reader, length_from};
 use crate::writer::Writer;
 use std::alloc::Global;
 use std::str;
@@ -121,7 +123,7 @@ impl Algorithm {
         ensures gives { DecodesWide algorithm_of certificate_algorithm_at
             R.source reader.old result reader.new }
         ensures later { Later (R.source reader.old) (R.source reader.new) }
-        ensures asks { Asks cause NeedsString (R.source reader.old) result }
+        ensures asks { Asks cause NeedsCertified (R.source reader.old) result }
         ensures accepts { AcceptsFront algorithm_of (Spells IsCertified certificate_algorithm) cause
             (R.source reader.old) result (R.source reader.new) }
     {
@@ -173,10 +175,21 @@ fn read_certificate_type<R: Reader>(alloc: Global, reader: &mut R) -> Result<Alg
     ensures gives { DecodesWide algorithm_of certificate_algorithm_at
         R.source reader.old result reader.new }
     ensures later { Later (R.source reader.old) (R.source reader.new) }
-    ensures asks { Asks cause NeedsString (R.source reader.old) result }
+    ensures asks { Asks cause NeedsCertified (R.source reader.old) result }
 {
-    let name = NameBytes::decode(alloc, reader)?;
-    match str::from_utf8(name.as_slice()) {
+    let len = length_from(reader)?;
+    match take_name(len, reader)? {
+        Some(name) => certified(alloc, name.as_slice()),
+        None => Err(Error::from(LabelError)),
+    }
+}
+
+/// The algorithm whose name in a certificate the bytes spell.
+fn certified(alloc: Global, name: &[u8]) -> Result<Algorithm>
+    ensures gives { Names algorithm_of cause (certified_from name.now) result }
+    ensures asks { AsksNamed cause NeedsCertified name.now result }
+{
+    match str::from_utf8(name) {
         Ok(text) => Algorithm::new_certificate(alloc, text),
         Err(_) => Err(Error::from(LabelError)),
     }

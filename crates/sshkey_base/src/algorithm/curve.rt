@@ -3,12 +3,13 @@
 ghost use Rattle.std.specs.Prelude.{◌≡◌, Some};
 ghost use Rattle.sshkey_model.specs.Names.{Curve, curve_name, curve_from};
 ghost use Rattle.sshkey_model.specs.Reading as fault;
-ghost use Rattle.sshkey_base.specs.Causes.{Faulty, cause};
+ghost use Rattle.sshkey_base.specs.Causes.{Faulty, cause, encoding_cause};
 ghost use Rattle.sshkey_model.specs.Parts.{Any};
 ghost use Rattle.sshkey_model.specs.Points.{field_size};
-ghost use Rattle.sshkey_base.specs.Labels.{LooksUp, LooksUpAlways};
-ghost use Rattle.sshkey_base.specs.LabelLaws.{curve_checks, curve_ascii, curve_refusals};
+ghost use Rattle.sshkey_base.specs.Labels.{AsksNamed, LooksUp, LooksUpAlways};
+ghost use Rattle.sshkey_base.specs.LabelLaws.{curve_checks, curve_ascii, curve_short, curve_refusals};
 ghost use Rattle.sshkey_base.specs.Names.{curve_of};
+ghost use Rattle.sshkey_base.specs.Needs.{NoNeed};
 ghost use Rattle.sshkey_base.specs.Answers.{NamesAlways};
 
 use crate::encoding;
@@ -89,12 +90,15 @@ impl Label for EcdsaCurve {
 
     ghost named = { curve_from };
 
+    ghost needs = { NoNeed };
+
     fn label(&self) -> &str {
         self.as_str()
     }
 
     fn from_label(_alloc: Global, name: &str) -> encoding::Result<EcdsaCurve>
         ensures gives { LooksUp curve_of curve_from name.now result }
+        ensures asks { AsksNamed encoding_cause NoNeed name.now result }
         ensures always { LooksUpAlways curve_of curve_from name.now result }
     {
         Ok(EcdsaCurve::from_str(name)?)
@@ -103,6 +107,8 @@ impl Label for EcdsaCurve {
     ghost checks = { curve_checks };
 
     ghost ascii = { curve_ascii };
+
+    ghost short = { curve_short };
 
     ghost refusals = { curve_refusals };
 }

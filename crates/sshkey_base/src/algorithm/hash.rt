@@ -4,11 +4,12 @@ ghost use Rattle.std.specs.Prelude.{◌≡◌, IfOk, IfErr, Some, length};
 ghost use Rattle.sshkey_model.specs.Fingerprints.{digest as digest_of};
 ghost use Rattle.sshkey_model.specs.Names.{Hash, hash_name, hash_from};
 ghost use Rattle.sshkey_model.specs.Reading as fault;
-ghost use Rattle.sshkey_base.specs.Causes.{Faulty, cause};
+ghost use Rattle.sshkey_base.specs.Causes.{Faulty, cause, encoding_cause};
 ghost use Rattle.sshkey_model.specs.Parts.{Any};
-ghost use Rattle.sshkey_base.specs.Labels.{LooksUp, LooksUpAlways};
-ghost use Rattle.sshkey_base.specs.LabelLaws.{hash_checks, hash_ascii, hash_refusals};
+ghost use Rattle.sshkey_base.specs.Labels.{AsksNamed, LooksUp, LooksUpAlways};
+ghost use Rattle.sshkey_base.specs.LabelLaws.{hash_checks, hash_ascii, hash_short, hash_refusals};
 ghost use Rattle.sshkey_base.specs.Names.{hash_of};
+ghost use Rattle.sshkey_base.specs.Needs.{NoNeed};
 ghost use Rattle.sshkey_base.specs.Answers.{NamesAlways};
 ghost use Rattle.sshkey_base.specs.Digests.{digest_len};
 
@@ -101,12 +102,15 @@ impl Label for HashAlg {
 
     ghost named = { hash_from };
 
+    ghost needs = { NoNeed };
+
     fn label(&self) -> &str {
         self.as_str()
     }
 
     fn from_label(_alloc: Global, name: &str) -> encoding::Result<HashAlg>
         ensures gives { LooksUp hash_of hash_from name.now result }
+        ensures asks { AsksNamed encoding_cause NoNeed name.now result }
         ensures always { LooksUpAlways hash_of hash_from name.now result }
     {
         Ok(HashAlg::from_str(name)?)
@@ -115,6 +119,8 @@ impl Label for HashAlg {
     ghost checks = { hash_checks };
 
     ghost ascii = { hash_ascii };
+
+    ghost short = { hash_short };
 
     ghost refusals = { hash_refusals };
 }

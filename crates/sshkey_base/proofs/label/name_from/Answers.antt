@@ -1,8 +1,30 @@
-use Rattle.sshkey_base.specs.NameBytes.{name_bytes_of}
+use Rattle.std.proofs.lemmas.Result.{err_from_is_err_and}
+use Rattle.sshkey_base.specs.Causes.{encoding_cause}
+use Rattle.sshkey_base.specs.ShortBytes.{short_of}
 use Rattle.sshkey_base.proofs.Labels.{looked_up_gives}
+use Rattle.sshkey_base.proofs.NameStrings.{name_refused, name_reads, long_reads, long_refused, named_asked, named_asks}
+use Rattle.sshkey_base.proofs.Steps.{refuses_sound, refuses_first}
 use Rattle.sshkey_base.proofs.label.name_from.Goals as goal
 
-pub returns-clause-gives : goal.returns-clause-gives
-returns-clause-gives g c =
-    let name = c.in_ok-name.ensures.gives in
-    looked_up_gives g.T.Label.stands_for g.T.Label.named _ _ _ (name_bytes_of c.in_ok-name.name) record { value = name.value; missing = name.missing; outer = name.outer } _ (rw c.as_slice.ensures at c.named-2.ensures)
+pub returns-in_err-value-clause-asks : goal.returns-in_err-value-clause-asks
+returns-in_err-value-clause-asks g c =
+    let p = err_from_is_err_and c.from_residual.result c.from_residual.ensures.1 in
+    rw (p.1, p.2) (named_asked g.T.Label.needs c.args.len _ _ _ _ c.in-Some.ensures.lent c.in_err-value.ensures.asks)
+
+pub returns-in_err-name-clause-gives : goal.returns-in_err-name-clause-gives
+returns-in_err-name-clause-gives g c =
+    let p = err_from_is_err_and c.from_residual-in_err-name.result c.from_residual-in_err-name.ensures.1 in
+    rw (p.1, p.2) (refuses_sound _ _ _ (refuses_first _ _ _ _ (name_refused c.args.len _ _ _ c.in_err-name.ensures.gives)))
+
+pub returns-in-Some-2-clause-gives : goal.returns-in-Some-2-clause-gives
+returns-in-Some-2-clause-gives g c =
+    let name = name_reads c.args.len _ _ c.in-Some-2.name (rw c.in-Some-2.is at c.in_ok-name.ensures.gives) in
+    looked_up_gives g.T.Label.stands_for g.T.Label.named _ _ _ (short_of c.in-Some-2.name) name _ (rw c.as_slice.ensures at c.named-in-Some-2.ensures.gives)
+
+pub returns-in-Some-2-clause-asks : goal.returns-in-Some-2-clause-asks
+returns-in-Some-2-clause-asks g c =
+    let name = name_reads c.args.len _ _ c.in-Some-2.name (rw c.in-Some-2.is at c.in_ok-name.ensures.gives) in
+    named_asks encoding_cause g.T.Label.needs c.args.len _ _ (short_of c.in-Some-2.name) c.named-in-Some-2.result name (rw c.as_slice.ensures at c.named-in-Some-2.ensures.asks)
+
+pub returns-in-None-clause-gives : goal.returns-in-None-clause-gives
+returns-in-None-clause-gives g c = long_refused g.met.T.Label.checks g.met.T.Label.short g.met.T.Label.refusals c.args.len _ _ (long_reads c.args.len _ _ (rw c.in-None.is at c.in_ok-name.ensures.gives))

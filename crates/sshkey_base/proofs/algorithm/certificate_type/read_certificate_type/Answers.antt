@@ -1,15 +1,40 @@
 use Rattle.std.proofs.Common.{ap}
-use Rattle.sshkey_base.specs.Causes.{cause}
-use Rattle.sshkey_base.specs.NameBytes.{name_bytes_of}
-use Rattle.sshkey_base.specs.Needs.{NeedsString}
-use Rattle.sshkey_base.proofs.Steps.{asks_needed, string_stood}
-use Rattle.sshkey_base.proofs.CertifiedNames.{certificate_refused}
+use Rattle.std.proofs.lemmas.Result.{err_from_is_err_and}
+use Rattle.sshkey_model.specs.CertificateNames.{certificate_algorithm_at, certified_from}
+use Rattle.sshkey_model.proofs.CertificateNameReaders.{certified_checks}
+use Rattle.sshkey_base.specs.Causes.{cause, same_cause}
+use Rattle.sshkey_base.specs.NameNeeds.{NeedsCertified}
+use Rattle.sshkey_base.specs.Names.{algorithm_of}
+use Rattle.sshkey_base.specs.ShortBytes.{short_of}
+use Rattle.sshkey_base.proofs.CertifiedNames.{certified_short, certified_refusals}
+use Rattle.sshkey_base.proofs.NameStrings.{name_refused, name_reads, long_reads, long_refused, named_gives, named_asks, behind_asks}
+use Rattle.sshkey_base.proofs.Steps.{refuses_sound, refuses_first, behind_length, behind_refused, length_refused}
 use Rattle.sshkey_base.proofs.algorithm.certificate_type.read_certificate_type.Goals as goal
 
-pub returns-clause-gives : goal.returns-clause-gives
-returns-clause-gives g c =
-    let name = c.in_ok-name.ensures.gives in
-    certificate_refused (g.R.Reader.source c.args.reader.now) (g.R.Reader.source c.decode.new.reader) (name_bytes_of c.in_ok-name.name) _ record { value = name.value; missing = name.missing; outer = name.outer } (λ text. c.in-Err.ensures.cases.0 (rw c.as_slice.ensures text)) (ap cause c.from.ensures)
+pub returns-in_err-len-clause-gives : goal.returns-in_err-len-clause-gives
+unfolding certificate_algorithm_at
+returns-in_err-len-clause-gives g c =
+    let p = err_from_is_err_and c.from_residual.result c.from_residual.ensures.1 in
+    rw (p.1, p.2, same_cause) (length_refused certified_from _ _ _ c.in_err-len.ensures.gives)
 
-pub returns-in-Ok-clause-asks : goal.returns-in-Ok-clause-asks
-returns-in-Ok-clause-asks g c = asks_needed cause NeedsString (g.R.Reader.source c.args.reader.now) _ (string_stood name_bytes_of _ _ _ c.in_ok-name.ensures.gives)
+pub returns-in_err-name-clause-gives : goal.returns-in_err-name-clause-gives
+unfolding certificate_algorithm_at
+returns-in_err-name-clause-gives g c =
+    let p = err_from_is_err_and c.from_residual-in_err-name.result c.from_residual-in_err-name.ensures.1 in
+    rw (p.1, p.2, same_cause) (behind_refused certified_from c.in_ok-len.len _ _ _ c.in_ok-len.ensures.gives (refuses_sound _ _ _ (refuses_first _ _ _ _ (name_refused c.in_ok-len.len _ _ _ c.in_err-name.ensures.gives))))
+
+pub returns-in-Some-clause-gives : goal.returns-in-Some-clause-gives
+unfolding certificate_algorithm_at
+returns-in-Some-clause-gives g c =
+    let name = name_reads c.in_ok-len.len _ _ c.in-Some.name (rw c.in-Some.is at c.in_ok-name.ensures.gives) in
+    behind_length algorithm_of cause certified_from c.in_ok-len.len _ _ _ _ c.in_ok-len.ensures.gives (named_gives algorithm_of cause certified_from c.in_ok-len.len _ _ (short_of c.in-Some.name) _ name (rw c.as_slice.ensures at c.certified.ensures.gives))
+
+pub returns-in-Some-clause-asks : goal.returns-in-Some-clause-asks
+returns-in-Some-clause-asks g c =
+    let name = name_reads c.in_ok-len.len _ _ c.in-Some.name (rw c.in-Some.is at c.in_ok-name.ensures.gives) in
+    behind_asks cause NeedsCertified c.in_ok-len.len _ _ c.certified.result c.in_ok-len.ensures.gives (named_asks cause NeedsCertified c.in_ok-len.len _ _ (short_of c.in-Some.name) c.certified.result name (rw c.as_slice.ensures at c.certified.ensures.asks))
+
+pub returns-in-None-clause-gives : goal.returns-in-None-clause-gives
+unfolding certificate_algorithm_at
+returns-in-None-clause-gives g c =
+    rw (ap cause c.from.ensures) (behind_refused certified_from c.in_ok-len.len _ _ _ c.in_ok-len.ensures.gives (long_refused certified_checks certified_short certified_refusals c.in_ok-len.len _ _ (long_reads c.in_ok-len.len _ _ (rw c.in-None.is at c.in_ok-name.ensures.gives))))
