@@ -8,6 +8,6 @@ abbrev pub NeedsOptions : KdfAlgorithm → List ℕ → Type 0
 NeedsOptions NoDerivation = NoNeed
 NeedsOptions BcryptDerivation = NeedsBoxed NeedsString
 
--- the name, or what stands behind it
+-- what stands behind the name
 abbrev pub NeedsKdf : List ℕ → Type 0
-NeedsKdf = NeedsThen NeedsString kdf_algorithm_at NeedsOptions
+NeedsKdf = NeedsThen NoNeed kdf_algorithm_at NeedsOptions

@@ -10,17 +10,13 @@ use Rattle.sshkey_base.specs.Needs.{NoNeed, NeedsString, NeedsBoth}
 abbrev pub NeedsDsa : List ℕ → Type 0
 NeedsDsa = NeedsBoth NeedsString mpint_at (NeedsBoth NeedsString mpint_at (NeedsBoth NeedsString mpint_at NeedsString))
 
--- the name of the curve; the point needs none
-abbrev pub NeedsEcdsa : List ℕ → Type 0
-NeedsEcdsa = NeedsString
-
 -- e or n
 abbrev pub NeedsRsa : List ℕ → Type 0
 NeedsRsa = NeedsBoth NeedsString mpint_at NeedsString
 
--- the name of the curve, or the application behind the point
+-- the application behind the curve and the point
 abbrev pub NeedsSkEcdsa : List ℕ → Type 0
-NeedsSkEcdsa = NeedsBoth NeedsString curve_at (NeedsBoth NoNeed (checked_at p256_point_from string_at) NeedsString)
+NeedsSkEcdsa = NeedsBoth NoNeed curve_at (NeedsBoth NoNeed (checked_at p256_point_from string_at) NeedsString)
 
 -- the application behind the 32 bytes
 abbrev pub NeedsSkEd25519 : List ℕ → Type 0

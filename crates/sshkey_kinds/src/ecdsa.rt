@@ -120,7 +120,6 @@ impl Decode for EcdsaPublicKey {
     ghost use Rattle.sshkey_model.specs.Keys.{Key};
     ghost use Rattle.sshkey_model.specs.Keys.{any_ecdsa_at};
     ghost use Rattle.sshkey_kinds.specs.Bodies.{SpellsEcdsa, any_ecdsa_grammar};
-    ghost use Rattle.sshkey_kinds.specs.BodyNeeds.{NeedsEcdsa};
     ghost use Rattle.sshkey_kinds.specs.EcdsaPublicKey.{ecdsa_key_of};
 
     type Error = Error;
@@ -133,7 +132,7 @@ impl Decode for EcdsaPublicKey {
 
     ghost Spells = { SpellsEcdsa };
 
-    ghost needs = { NeedsEcdsa };
+    ghost needs = { NoNeed };
 
     ghost grammar = { any_ecdsa_grammar };
 

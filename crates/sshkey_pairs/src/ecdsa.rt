@@ -274,8 +274,6 @@ impl From<EcdsaKeypair> for EcdsaPublicKey {
 /// that key's curve.
 #[tactic(auto, using(sshkey_base::proofs::Steps::steps), unfolding(crate::specs::PairReaders::ecdsa_steps_at))]
 impl Decode for EcdsaKeypair {
-    ghost use Rattle.sshkey_kinds.specs.BodyNeeds.{NeedsEcdsa};
-
     type Error = Error;
 
     ghost Meaning = { KeyPair };
@@ -286,7 +284,7 @@ impl Decode for EcdsaKeypair {
 
     ghost Spells = { SpellsEcdsaPair };
 
-    ghost needs = { NeedsEcdsa };
+    ghost needs = { NoNeed };
 
     ghost grammar = { ecdsa_grammar };
 

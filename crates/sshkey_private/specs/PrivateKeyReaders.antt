@@ -43,9 +43,9 @@ opening_at b = do
   public ← box_at (whole key_data_at) one.1
   Ok (record { cipher = c.0; kdf = k.0; public = public.0 }, public.1)
 
--- a name, what a derivation takes, or the key
+-- what a derivation takes, or the key
 abbrev pub NeedsOpening : List ℕ → Type 0
-NeedsOpening = NeedsBoth NoNeed (literal_at private_key_magic) (NeedsBoth NeedsString cipher_at (NeedsBoth NeedsKdf kdf_at (NeedsBoth NoNeed one_at (NeedsBoxed NeedsKey))))
+NeedsOpening = NeedsBoth NoNeed (literal_at private_key_magic) (NeedsBoth NoNeed cipher_at (NeedsBoth NeedsKdf kdf_at (NeedsBoth NoNeed one_at (NeedsBoxed NeedsKey))))
 
 -- ---- the private part
 

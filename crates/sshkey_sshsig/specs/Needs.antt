@@ -7,9 +7,9 @@ use Rattle.sshkey_base.specs.Needs.{NoNeed, NeedsString, NeedsBoth, NeedsBoxed}
 use Rattle.sshkey_keys.specs.Keys.{key_data_at}
 use Rattle.sshkey_keys.specs.Needs.{NeedsKey, NeedsSignature}
 
--- the namespace, the reserved bytes, the name of the hash or the signature in its box
+-- the namespace, the reserved bytes, or the signature in its box
 abbrev pub NeedsStatement : List ℕ → Type 0
-NeedsStatement = NeedsBoth NeedsString namespace_at (NeedsBoth NeedsString string_at (NeedsBoth NeedsString hash_at (NeedsBoxed NeedsSignature)))
+NeedsStatement = NeedsBoth NeedsString namespace_at (NeedsBoth NeedsString string_at (NeedsBoth NoNeed hash_at (NeedsBoxed NeedsSignature)))
 
 -- the key in its box, or what stands behind it
 abbrev pub NeedsSshSignature : List ℕ → Type 0

@@ -5,14 +5,15 @@ use Rattle.sshkey_model.specs.Reading.{number_at, string_at}
 use Rattle.sshkey_model.specs.Texts.{text_at}
 use Rattle.sshkey_model.specs.CertificateNames.{certificate_algorithm_at}
 use Rattle.sshkey_model.specs.Certificates.{type_at}
+use Rattle.sshkey_base.specs.NameNeeds.{NeedsCertified}
 use Rattle.sshkey_base.specs.Needs.{NoNeed, NeedsString, NeedsBoth, NeedsThen, NeedsBoxed}
 use Rattle.sshkey_keys.specs.Needs.{NeedsBody, NeedsKey}
 use Rattle.sshkey_options.specs.OptionReaders.{options_value_at}
 use Rattle.sshkey_unsigned.specs.UnsignedReaders.{subject_at, grant_at, window_at, limits_at}
 
--- the name, the nonce, or the key's body
+-- the name of a private-use algorithm, the nonce, or the key's body
 abbrev pub NeedsSubject : List ℕ → Type 0
-NeedsSubject = NeedsThen NeedsString certificate_algorithm_at (λ a. NeedsBoth NeedsString string_at (NeedsBody a))
+NeedsSubject = NeedsThen NeedsCertified certificate_algorithm_at (λ a. NeedsBoth NeedsString string_at (NeedsBody a))
 
 -- the key id, or the principals
 abbrev pub NeedsGrant : List ℕ → Type 0

@@ -3,7 +3,7 @@ use Rattle.std.proofs.lemmas.Result.{err_from_is_err_and}
 use Rattle.sshkey_base.specs.Causes.{same_cause}
 use Rattle.sshkey_base.proofs.Places.{later_then}
 use Rattle.sshkey_base.proofs.Steps.{refused_first, refused_later, asks_later}
-use Rattle.sshkey_base.specs.Needs.{NoNeed, NeedsString}
+use Rattle.sshkey_base.specs.Needs.{NoNeed}
 use Rattle.sshkey_model.specs.PrivateKeys.{private_key_magic}
 use Rattle.sshkey_ciphers.specs.Ciphers.{label_at, kdf_at}
 use Rattle.sshkey_ciphers.specs.Needs.{NeedsKdf}
@@ -53,7 +53,7 @@ pub returns-in_err-kdf-clause-asks : goal.returns-in_err-kdf-clause-asks
 unfolding opening_at cipher_at label_at
 returns-in_err-kdf-clause-asks g c =
     let p = err_from_is_err_and c.from_residual-in_err-kdf.result c.from_residual-in_err-kdf.ensures.1 in
-    rw (p.1, p.2) (asks_later _ NoNeed _ (literal_at private_key_magic) _ _ _ _ c.in_ok-magic_from.ensures.gives (asks_later _ NeedsString _ cipher_at _ _ _ _ c.in_ok-cipher.ensures.gives (λ memory sound. inl (c.in_err-kdf.ensures.asks memory sound))))
+    rw (p.1, p.2) (asks_later _ NoNeed _ (literal_at private_key_magic) _ _ _ _ c.in_ok-magic_from.ensures.gives (asks_later _ NoNeed _ cipher_at _ _ _ _ c.in_ok-cipher.ensures.gives (λ memory sound. inl (c.in_err-kdf.ensures.asks memory sound))))
 
 pub returns-in_err-one_from-clause-gives : goal.returns-in_err-one_from-clause-gives
 unfolding opening_at cipher_at label_at
@@ -68,7 +68,7 @@ pub returns-in_err-one_from-clause-asks : goal.returns-in_err-one_from-clause-as
 unfolding opening_at cipher_at label_at
 returns-in_err-one_from-clause-asks g c =
     let p = err_from_is_err_and c.from_residual-in_err-one_from.result c.from_residual-in_err-one_from.ensures.1 in
-    rw (p.1, p.2) (asks_later _ NoNeed _ (literal_at private_key_magic) _ _ _ _ c.in_ok-magic_from.ensures.gives (asks_later _ NeedsString _ cipher_at _ _ _ _ c.in_ok-cipher.ensures.gives (asks_later _ NeedsKdf _ kdf_at _ _ _ _ c.in_ok-kdf.ensures.gives (λ memory sound. inl (c.in_err-one_from.ensures.asks memory sound)))))
+    rw (p.1, p.2) (asks_later _ NoNeed _ (literal_at private_key_magic) _ _ _ _ c.in_ok-magic_from.ensures.gives (asks_later _ NoNeed _ cipher_at _ _ _ _ c.in_ok-cipher.ensures.gives (asks_later _ NeedsKdf _ kdf_at _ _ _ _ c.in_ok-kdf.ensures.gives (λ memory sound. inl (c.in_err-one_from.ensures.asks memory sound)))))
 
 pub returns-in_err-public-clause-gives : goal.returns-in_err-public-clause-gives
 unfolding opening_at cipher_at label_at
@@ -83,7 +83,7 @@ pub returns-in_err-public-clause-asks : goal.returns-in_err-public-clause-asks
 unfolding opening_at cipher_at label_at
 returns-in_err-public-clause-asks g c =
     let p = err_from_is_err_and c.from_residual-in_err-public.result c.from_residual-in_err-public.ensures.1 in
-    rw (p.1, p.2) (asks_later _ NoNeed _ (literal_at private_key_magic) _ _ _ _ c.in_ok-magic_from.ensures.gives (asks_later _ NeedsString _ cipher_at _ _ _ _ c.in_ok-cipher.ensures.gives (asks_later _ NeedsKdf _ kdf_at _ _ _ _ c.in_ok-kdf.ensures.gives (asks_later _ NoNeed _ one_at _ _ _ _ c.in_ok-one_from.ensures.gives c.in_err-public.ensures.asks))))
+    rw (p.1, p.2) (asks_later _ NoNeed _ (literal_at private_key_magic) _ _ _ _ c.in_ok-magic_from.ensures.gives (asks_later _ NoNeed _ cipher_at _ _ _ _ c.in_ok-cipher.ensures.gives (asks_later _ NeedsKdf _ kdf_at _ _ _ _ c.in_ok-kdf.ensures.gives (asks_later _ NoNeed _ one_at _ _ _ _ c.in_ok-one_from.ensures.gives c.in_err-public.ensures.asks))))
 
 pub returns-clause-gives : goal.returns-clause-gives
 unfolding opening_at cipher_at label_at

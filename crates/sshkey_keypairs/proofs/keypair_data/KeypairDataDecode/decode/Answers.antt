@@ -6,7 +6,8 @@ use Rattle.sshkey_model.specs.KeyPairs.{KeyPair, pair_at}
 use Rattle.sshkey_base.specs.Causes.{Cause, cause, same_cause}
 use Rattle.sshkey_base.specs.Labels.{label_at}
 use Rattle.sshkey_base.specs.Names.{algorithm_of}
-use Rattle.sshkey_base.specs.Needs.{Asks, NeedsString}
+use Rattle.sshkey_base.specs.NameNeeds.{NeedsAlgorithm}
+use Rattle.sshkey_base.specs.Needs.{Asks}
 use Rattle.sshkey_base.specs.Reading.{Reads, Gives}
 use Rattle.sshkey_base.specs.Source.{Source}
 use Rattle.sshkey_base.proofs.Places.{later_then}
@@ -25,7 +26,7 @@ module _ {X E N : Type 0} (named : N → Algorithm) (cause : E → Cause) (s t :
 
   name_asks : (r : Result X E) → Asks cause (NeedsPair (named n)) t r → Asks cause NeedsKeypair s r
   name_asks (Ok x) asks = tt
-  name_asks (Err e) asks = asks_later named NeedsString NeedsPair (label_at algorithm_from) _ _ _ _ h asks
+  name_asks (Err e) asks = asks_later named NeedsAlgorithm NeedsPair (label_at algorithm_from) _ _ _ _ h asks
 
 pub returns-in_err-algorithm-clause-gives : goal.returns-in_err-algorithm-clause-gives
 unfolding keypair_data_at

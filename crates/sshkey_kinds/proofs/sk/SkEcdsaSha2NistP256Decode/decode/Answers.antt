@@ -1,7 +1,7 @@
 use Rattle.std.proofs.Common.{refl, ◌∙◌, inl}
 use Rattle.std.proofs.lemmas.Result.{err_from_is_err_and}
 use Rattle.sshkey_base.specs.Causes.{same_cause}
-use Rattle.sshkey_base.specs.Needs.{NoNeed, NeedsString}
+use Rattle.sshkey_base.specs.Needs.{NoNeed}
 use Rattle.sshkey_base.proofs.Places.{later_then}
 use Rattle.sshkey_base.proofs.Steps.{refused_first, refused_later, asks_later}
 use Rattle.sshkey_model.specs.Points.{p256_point_from}
@@ -48,7 +48,7 @@ pub returns-in_err-point-clause-asks : goal.returns-in_err-point-clause-asks
 unfolding curve_at label_at
 returns-in_err-point-clause-asks g c =
     let p = err_from_is_err_and c.from_residual-in_err-point.result c.from_residual-in_err-point.ensures.1 in
-    rw (p.1, p.2) (asks_later _ NeedsString _ curve_at _ _ _ _ c.in_ok-stated.ensures.gives (λ memory sound. inl (c.in_err-point.ensures.asks memory sound)))
+    rw (p.1, p.2) (asks_later _ NoNeed _ curve_at _ _ _ _ c.in_ok-stated.ensures.gives (λ memory sound. inl (c.in_err-point.ensures.asks memory sound)))
 
 pub returns-in_err-application-clause-later : goal.returns-in_err-application-clause-later
 returns-in_err-application-clause-later g c = later_then _ _ _ c.in_ok-stated.ensures.later (later_then _ _ _ c.in_ok-point.ensures.later c.in_err-application.ensures.later)
@@ -57,7 +57,7 @@ pub returns-in_err-application-clause-asks : goal.returns-in_err-application-cla
 unfolding curve_at label_at
 returns-in_err-application-clause-asks g c =
     let p = err_from_is_err_and c.from_residual-in_err-application.result c.from_residual-in_err-application.ensures.1 in
-    rw (p.1, p.2, same_cause) (asks_later _ NeedsString _ curve_at _ _ _ _ c.in_ok-stated.ensures.gives (asks_later _ NoNeed _ (checked_at p256_point_from string_at) _ _ _ _ c.in_ok-point.ensures.gives c.in_err-application.ensures.asks))
+    rw (p.1, p.2, same_cause) (asks_later _ NoNeed _ curve_at _ _ _ _ c.in_ok-stated.ensures.gives (asks_later _ NoNeed _ (checked_at p256_point_from string_at) _ _ _ _ c.in_ok-point.ensures.gives c.in_err-application.ensures.asks))
 
 pub returns-clause-later : goal.returns-clause-later
 returns-clause-later g c = later_then _ _ _ c.in_ok-stated.ensures.later (later_then _ _ _ c.in_ok-point.ensures.later c.in_ok-application.ensures.later)

@@ -1,6 +1,7 @@
 use Rattle.std.proofs.Common.{refl, ◌∙◌, inl}
 use Rattle.std.proofs.lemmas.Result.{err_from_is_err_and}
 use Rattle.sshkey_base.specs.Causes.{same_cause}
+use Rattle.sshkey_base.specs.NameNeeds.{NeedsCertified}
 use Rattle.sshkey_base.specs.Needs.{NeedsString}
 use Rattle.sshkey_base.proofs.Places.{later_then}
 use Rattle.sshkey_base.proofs.Steps.{refused_first, refused_later, asks_later}
@@ -35,7 +36,7 @@ returns-in_err-nonce-clause-later g c = later_then _ _ _ c.in_ok-algorithm.ensur
 pub returns-in_err-nonce-clause-asks : goal.returns-in_err-nonce-clause-asks
 returns-in_err-nonce-clause-asks g c =
     let p = err_from_is_err_and c.from_residual-in_err-nonce.result c.from_residual-in_err-nonce.ensures.1 in
-    rw (p.1, p.2, same_cause) (asks_later _ NeedsString _ certificate_algorithm_at _ _ _ _ c.in_ok-algorithm.ensures.gives (λ memory sound. inl (c.in_err-nonce.ensures.asks memory sound)))
+    rw (p.1, p.2, same_cause) (asks_later _ NeedsCertified _ certificate_algorithm_at _ _ _ _ c.in_ok-algorithm.ensures.gives (λ memory sound. inl (c.in_err-nonce.ensures.asks memory sound)))
 
 pub returns-in_err-key-clause-gives : goal.returns-in_err-key-clause-gives
 unfolding subject_at
@@ -49,7 +50,7 @@ returns-in_err-key-clause-later g c = later_then _ _ _ c.in_ok-algorithm.ensures
 pub returns-in_err-key-clause-asks : goal.returns-in_err-key-clause-asks
 returns-in_err-key-clause-asks g c =
     let p = err_from_is_err_and c.from_residual-in_err-key.result c.from_residual-in_err-key.ensures.1 in
-    rw (p.1, p.2) (asks_later _ NeedsString _ certificate_algorithm_at _ _ _ _ c.in_ok-algorithm.ensures.gives (asks_later _ NeedsString _ string_at _ _ _ _ c.in_ok-nonce.ensures.gives c.in_err-key.ensures.asks))
+    rw (p.1, p.2) (asks_later _ NeedsCertified _ certificate_algorithm_at _ _ _ _ c.in_ok-algorithm.ensures.gives (asks_later _ NeedsString _ string_at _ _ _ _ c.in_ok-nonce.ensures.gives c.in_err-key.ensures.asks))
 
 pub returns-clause-gives : goal.returns-clause-gives
 unfolding subject_at

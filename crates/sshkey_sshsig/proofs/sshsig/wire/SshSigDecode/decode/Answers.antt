@@ -83,7 +83,7 @@ returns-clause-gives g c = record {
 -- what is needed behind each field
 
 abbrev BehindReserved : List ℕ → Type 0
-BehindReserved = NeedsBoth NeedsString hash_at (NeedsBoxed NeedsSignature)
+BehindReserved = NeedsBoth NoNeed hash_at (NeedsBoxed NeedsSignature)
 
 abbrev BehindNamespace : List ℕ → Type 0
 BehindNamespace = NeedsBoth NeedsString string_at BehindReserved
@@ -128,4 +128,4 @@ pub returns-in_err-signature-clause-asks : goal.returns-in_err-signature-clause-
 unfolding hash_at label_at
 returns-in_err-signature-clause-asks g c =
     let p = err_from_is_err_and c.from_residual-in_err-signature.result c.from_residual-in_err-signature.ensures.1 in
-    rw (p.1, p.2) (asks_later _ NoNeed (λ _. BehindMagic) _ _ _ _ _ c.in_ok-decode_magic.ensures.gives (asks_later _ NoNeed (λ _. BehindVersion) _ _ _ _ _ c.in_ok-version.ensures.gives (asks_later _ (NeedsBoxed NeedsKey) (λ _. NeedsStatement) _ _ _ _ _ c.in_ok-public_key.ensures.gives (asks_later _ NeedsString (λ _. BehindNamespace) _ _ _ _ _ c.in_ok-namespace.ensures.gives (asks_later _ NeedsString (λ _. BehindReserved) _ _ _ _ _ c.in_ok-reserved.ensures.gives (asks_later _ NeedsString (λ _. (NeedsBoxed NeedsSignature)) _ _ _ _ _ c.in_ok-hash_alg.ensures.gives c.in_err-signature.ensures.asks))))))
+    rw (p.1, p.2) (asks_later _ NoNeed (λ _. BehindMagic) _ _ _ _ _ c.in_ok-decode_magic.ensures.gives (asks_later _ NoNeed (λ _. BehindVersion) _ _ _ _ _ c.in_ok-version.ensures.gives (asks_later _ (NeedsBoxed NeedsKey) (λ _. NeedsStatement) _ _ _ _ _ c.in_ok-public_key.ensures.gives (asks_later _ NeedsString (λ _. BehindNamespace) _ _ _ _ _ c.in_ok-namespace.ensures.gives (asks_later _ NeedsString (λ _. BehindReserved) _ _ _ _ _ c.in_ok-reserved.ensures.gives (asks_later _ NoNeed (λ _. (NeedsBoxed NeedsSignature)) _ _ _ _ _ c.in_ok-hash_alg.ensures.gives c.in_err-signature.ensures.asks))))))
