@@ -1,0 +1,48 @@
+"""What checks/wrong-bodies has passed on this machine."""
+import hashlib
+import os
+
+
+class Kept:
+    """What passed on this machine, by checksums of all that it was judged by."""
+
+    def __init__(self, root, kit):
+        cache = os.environ.get("XDG_CACHE_HOME") or os.path.expanduser("~/.cache")
+        self.folder = f"{cache}/rafendilo/wrong-bodies"
+        scripts = [f"{root}/checks/{it}" for it in ("wrong-bodies", "crates.py", "kept.py")]
+        self.common = self.sum_of([f"{root}/crates.txt", f"{kit}/WHAT", *scripts], root)
+
+    @staticmethod
+    def sum_of(files, top=""):
+        total = hashlib.sha256()
+        for path in files:
+            with open(path, "rb") as file:
+                text = file.read()
+            total.update(f"{path.removeprefix(top)} {len(text)}\n".encode() + text)
+        return total.hexdigest()
+
+    def path(self, trial):
+        crate = trial.crate
+        top = os.path.dirname(crate.folder)
+        sources = [file for it in [*crate.below(), crate] for file in sorted(it.sources())]
+        found = self.sum_of([*sources, *sorted(trial.files)], top)
+        return f"{self.folder}/{crate.name}-{self.common[:16]}-{found}"
+
+    def count(self, trial):
+        """How many edits passed, if the same were tried before and none failed; else 0."""
+        try:
+            with open(self.path(trial), encoding="utf-8") as file:
+                return int(file.read())
+        except (OSError, ValueError):
+            return 0
+
+    def keep(self, trial, path):
+        """Keeps what passed there, if nothing that it was judged by has changed since."""
+        if trial.failures or self.path(trial) != path:
+            return
+        try:
+            os.makedirs(self.folder, exist_ok=True)
+            with open(path, "w", encoding="utf-8") as file:
+                file.write(str(trial.passed))
+        except OSError as error:
+            print(f"{trial.crate.name}: what passed could not be kept: {error}", flush=True)
