@@ -2,11 +2,10 @@
 //! readers, writers, inputs and outputs that fail; and verifiers. A test asserts answers of yes or
 //! no, since one with a `?` at every call takes longer to prove.
 
-mod authorized_files;
 mod authorized_parts;
 mod derivations;
+mod entry_files;
 mod errors;
-mod host_files;
 mod host_parts;
 mod key_files;
 mod keys;

@@ -1,5 +1,6 @@
 //! Entries of authorized_keys and their parts.
 
+use super::support::{is_equal, is_text};
 use sshkey_authorized_keys::{AuthorizedKeys, ConfigOpts, Entry};
 use sshkey_public::PublicKey;
 use std::alloc::Global;
@@ -10,14 +11,6 @@ const LINE: &str =
 
 const KEY: &str =
     "ssh-ed25519 AAAAC3NzaC1lZDI1NTE5AAAAILM+rvN+ot98qgEN796jTiQfZfG1KaT0PtFDJ/XFSqti a";
-
-/// The key is written as that line.
-fn is_key(alloc: Global, key: &PublicKey, line: &str) -> bool {
-    match key.to_openssh(alloc) {
-        Ok(text) => text.as_str() == line,
-        Err(_) => false,
-    }
-}
 
 /// The options of the line become `no-pty`.
 fn gives_options(alloc: Global) -> bool {
@@ -30,23 +23,7 @@ fn gives_options(alloc: Global) -> bool {
 /// The key of the line becomes that of the other.
 fn gives_key(alloc: Global) -> bool {
     match Entry::from_line(alloc, LINE) {
-        Ok(entry) => is_key(alloc, &PublicKey::from(entry), KEY),
-        Err(_) => false,
-    }
-}
-
-/// A copy of the entry equals it.
-fn equals_copy(alloc: Global, entry: &Entry) -> bool {
-    match entry.try_clone(alloc) {
-        Ok(copy) => copy == *entry,
-        Err(_) => false,
-    }
-}
-
-/// The entry of one line equals that of the other.
-fn is_equal(alloc: Global, left: &Entry, line: &str) -> bool {
-    match Entry::from_line(alloc, line) {
-        Ok(right) => *left == right,
+        Ok(entry) => is_text(PublicKey::from(entry).to_openssh(alloc), KEY),
         Err(_) => false,
     }
 }
@@ -54,7 +31,7 @@ fn is_equal(alloc: Global, left: &Entry, line: &str) -> bool {
 /// The entry of the key has no options, and is that of the key's line.
 fn has_no_options(alloc: Global, key: PublicKey) -> bool {
     let entry = Entry::from_public_key(alloc, key);
-    entry.config_opts().is_empty() && is_equal(alloc, &entry, KEY)
+    entry.config_opts().is_empty() && is_equal(Entry::from_line(alloc, KEY), &entry) == Some(true)
 }
 
 fn key_has_no_options(alloc: Global) -> bool {
@@ -67,7 +44,10 @@ fn key_has_no_options(alloc: Global) -> bool {
 /// Equal to its copy, and to no entry without options.
 fn is_compared(alloc: Global) -> bool {
     match Entry::from_line(alloc, LINE) {
-        Ok(entry) => equals_copy(alloc, &entry) && !is_equal(alloc, &entry, KEY),
+        Ok(entry) => {
+            is_equal(entry.try_clone(alloc), &entry) == Some(true)
+                && is_equal(Entry::from_line(alloc, KEY), &entry) == Some(false)
+        }
         Err(_) => false,
     }
 }

@@ -1,5 +1,6 @@
 //! Entries of known_hosts and their parts.
 
+use super::support::{is_equal, is_text};
 use sshkey_known_hosts::{Entry, HostPatterns, KnownHosts, Marker};
 use sshkey_public::PublicKey;
 use std::alloc::Global;
@@ -16,21 +17,6 @@ const KEY: &str =
 
 const HASHED: &str = "|1|JfKTdBh7rNbXkVAQCRp4OQoPfmI=|USECr3SWf1JUPsms5AqfD5QfxkM=";
 
-/// The key is written as that line.
-fn is_key(alloc: Global, key: &PublicKey, line: &str) -> bool {
-    match key.to_openssh(alloc) {
-        Ok(text) => text.as_str() == line,
-        Err(_) => false,
-    }
-}
-
-fn is_hosts(alloc: Global, hosts: &HostPatterns, wanted: &str) -> bool {
-    match hosts.to_string(alloc) {
-        Ok(text) => text.as_str() == wanted,
-        Err(_) => false,
-    }
-}
-
 fn gives_marker(alloc: Global) -> bool {
     match Entry::from_line(alloc, LINE) {
         Ok(entry) => Option::<Marker>::from(entry) == Some(Marker::Revoked),
@@ -40,29 +26,14 @@ fn gives_marker(alloc: Global) -> bool {
 
 fn gives_hosts(alloc: Global) -> bool {
     match Entry::from_line(alloc, LINE) {
-        Ok(entry) => is_hosts(alloc, &HostPatterns::from(entry), "a,b"),
+        Ok(entry) => is_text(HostPatterns::from(entry).to_string(alloc), "a,b"),
         Err(_) => false,
     }
 }
 
 fn gives_key(alloc: Global) -> bool {
     match Entry::from_line(alloc, LINE) {
-        Ok(entry) => is_key(alloc, &PublicKey::from(entry), KEY),
-        Err(_) => false,
-    }
-}
-
-/// A copy of the entry equals it.
-fn equals_copy(alloc: Global, entry: &Entry) -> bool {
-    match entry.try_clone(alloc) {
-        Ok(copy) => copy == *entry,
-        Err(_) => false,
-    }
-}
-
-fn is_equal(alloc: Global, left: &Entry, line: &str) -> bool {
-    match Entry::from_line(alloc, line) {
-        Ok(right) => *left == right,
+        Ok(entry) => is_text(PublicKey::from(entry).to_openssh(alloc), KEY),
         Err(_) => false,
     }
 }
@@ -70,7 +41,10 @@ fn is_equal(alloc: Global, left: &Entry, line: &str) -> bool {
 /// Equal to its copy, and to no entry without a marker.
 fn is_compared(alloc: Global) -> bool {
     match Entry::from_line(alloc, LINE) {
-        Ok(entry) => equals_copy(alloc, &entry) && !is_equal(alloc, &entry, OTHER),
+        Ok(entry) => {
+            is_equal(entry.try_clone(alloc), &entry) == Some(true)
+                && is_equal(Entry::from_line(alloc, OTHER), &entry) == Some(false)
+        }
         Err(_) => false,
     }
 }
@@ -78,7 +52,7 @@ fn is_compared(alloc: Global) -> bool {
 /// A copy of hosts is written as they are.
 fn hosts_are_copied(alloc: Global, hosts: &HostPatterns, wanted: &str) -> bool {
     match hosts.try_clone(alloc) {
-        Ok(copy) => copy == *hosts && is_hosts(alloc, &copy, wanted),
+        Ok(copy) => copy == *hosts && is_text(copy.to_string(alloc), wanted),
         Err(_) => false,
     }
 }

@@ -1,6 +1,6 @@
 //! Key lines, read and written.
 
-use super::support::shows;
+use super::support::{is_text, shows};
 use ssh_key::encoding::{Reader, SliceWriter};
 use ssh_key::public::KeyData;
 use ssh_key::{Base64Reader, Error, HashAlg, PublicKey, encoding, read_line, write_line};
@@ -32,15 +32,7 @@ const WRITTEN: [(&str, &str); 5] = [
     ),
 ];
 
-/// The key and its comment are written as that text.
-fn is_text(alloc: Global, key: &PublicKey, wanted: &str) -> bool {
-    match key.to_openssh(alloc) {
-        Ok(text) => text.as_str() == wanted,
-        Err(_) => false,
-    }
-}
-
-/// They are written so to a vector.
+/// The key and its comment are written so to a vector.
 fn is_in_vector(alloc: Global, key: &PublicKey, wanted: &str) -> bool {
     let mut bytes = Vec::new(alloc);
     let answer = write_line(key.key_data(), key.comment(), &mut bytes);
@@ -52,7 +44,7 @@ fn is_in_vector(alloc: Global, key: &PublicKey, wanted: &str) -> bool {
 fn is_written(alloc: Global, line: &str, wanted: &str) -> bool {
     match PublicKey::from_openssh(alloc, line) {
         Ok(key) => {
-            is_text(alloc, &key, wanted)
+            is_text(key.to_openssh(alloc), wanted)
                 && is_in_vector(alloc, &key, wanted)
                 && is_written_into(&key, wanted.len(), wanted)
                 && !is_written_into(&key, wanted.len().saturating_sub(1), wanted)

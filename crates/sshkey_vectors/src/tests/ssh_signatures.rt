@@ -1,6 +1,7 @@
 //! SSH signatures of messages.
 
 use super::signed_files::{MESSAGE, SIGNED, SIGNED_FILES, SignedFile};
+use super::support::is_text;
 use ssh_key::public::{Ed25519PublicKey, KeyData, SkEd25519};
 use ssh_key::{Algorithm, Error, HashAlg, PublicKey, Result, Signature, SshSig};
 use sshkey_doubles::{Absent, AcceptAll, Fixed, Only, OutOfMemory, RefuseAll};
@@ -144,18 +145,10 @@ fn is_verified(alloc: Global, key: &PublicKey, file: &SignedFile) -> bool {
     }
 }
 
-/// The line is written of the key.
-fn is_line(alloc: Global, key: &PublicKey, line: &str) -> bool {
-    match key.to_openssh(alloc) {
-        Ok(written) => written.as_str() == line,
-        Err(_) => false,
-    }
-}
-
 /// The line is read and written back, and its key verifies the file.
 fn holds(alloc: Global, file: &SignedFile) -> bool {
     match PublicKey::from_openssh(alloc, file.line) {
-        Ok(key) => is_line(alloc, &key, file.line) && is_verified(alloc, &key, file),
+        Ok(key) => is_text(key.to_openssh(alloc), file.line) && is_verified(alloc, &key, file),
         Err(_) => false,
     }
 }

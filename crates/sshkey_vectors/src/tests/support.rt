@@ -1,8 +1,25 @@
 //! What the tests share.
 
+use ssh_key::Result;
 use std::alloc::Global;
 use std::fmt::Display;
 use std::hash::{DefaultHasher, Hash, Hasher};
+
+/// The answer is this text.
+pub(crate) fn is_text(answer: Result<String>, wanted: &str) -> bool {
+    match answer {
+        Ok(text) => text.as_str() == wanted,
+        Err(_) => false,
+    }
+}
+
+/// Whether the value that was answered equals the other, where one was.
+pub(crate) fn is_equal<T: Eq + Drop>(answer: Result<T>, other: &T) -> Option<bool> {
+    match answer {
+        Ok(value) => Some(value == *other),
+        Err(_) => None,
+    }
+}
 
 /// The value is printed as this text.
 pub(crate) fn shows<T: Display>(alloc: Global, value: &T, text: &str) -> bool {
