@@ -1,6 +1,6 @@
 //! Entries of authorized_keys and their parts.
 
-use super::support::{is_equal, is_text};
+use super::support::{are_values, is_equal, is_text};
 use sshkey_authorized_keys::{AuthorizedKeys, ConfigOpts, Entry};
 use sshkey_public::PublicKey;
 use std::alloc::Global;
@@ -52,30 +52,6 @@ fn is_compared(alloc: Global) -> bool {
     }
 }
 
-/// Which entries of the text are read.
-fn are_read(alloc: Global, text: &str, wanted: &[bool]) -> bool {
-    let mut count: usize = 0;
-    for answer in AuthorizedKeys::new(alloc, text) {
-        if wanted.get(count).copied() != Some(answer.is_ok()) {
-            return false;
-        }
-        count = count.saturating_add(1);
-    }
-    count == wanted.len()
-}
-
-/// Which of them are read strictly.
-fn are_read_strictly(alloc: Global, text: &str, wanted: &[bool]) -> bool {
-    let mut count: usize = 0;
-    for answer in AuthorizedKeys::strict(alloc, text) {
-        if wanted.get(count).copied() != Some(answer.is_ok()) {
-            return false;
-        }
-        count = count.saturating_add(1);
-    }
-    count == wanted.len()
-}
-
 #[test]
 fn an_entry_gives_its_parts(rt: HostRuntime) {
     assert!(rt; gives_options(rt.alloc()));
@@ -97,6 +73,16 @@ const LINES: &str =
 
 #[test]
 fn lines_are_answered_one_by_one(rt: HostRuntime) {
-    assert!(rt; are_read(rt.alloc(), LINES, &[false, true, false, true]));
-    assert!(rt; are_read_strictly(rt.alloc(), LINES, &[false, true, false, false]));
+    assert!(rt;
+        are_values(
+            AuthorizedKeys::new(rt.alloc(), LINES),
+            &[false, true, false, true]
+        )
+    );
+    assert!(rt;
+        are_values(
+            AuthorizedKeys::strict(rt.alloc(), LINES),
+            &[false, true, false, false]
+        )
+    );
 }

@@ -1,6 +1,6 @@
 //! Entries of known_hosts and their parts.
 
-use super::support::{is_equal, is_text};
+use super::support::{are_values, is_equal, is_text};
 use sshkey_known_hosts::{Entry, HostPatterns, KnownHosts, Marker};
 use sshkey_public::PublicKey;
 use std::alloc::Global;
@@ -83,21 +83,9 @@ fn hosts_and_markers_are_copied(rt: HostRuntime) {
     assert!(rt; AsStr::as_str(&Marker::CertAuthority) == "@cert-authority");
 }
 
-/// Which entries of the text are read.
-fn are_read(alloc: Global, text: &str, wanted: &[bool]) -> bool {
-    let mut count: usize = 0;
-    for answer in KnownHosts::new(alloc, text) {
-        if wanted.get(count).copied() != Some(answer.is_ok()) {
-            return false;
-        }
-        count = count.saturating_add(1);
-    }
-    count == wanted.len()
-}
-
 #[test]
 fn lines_are_answered_one_by_one(rt: HostRuntime) {
     let text =
         "@gibberish h k\n\nh ssh-ed25519 AAAAC3NzaC1lZDI1NTE5AAAAILM+rvN+ot98qgEN796jTiQfZfG1KaT0PtFDJ/XFSqti\nh k";
-    assert!(rt; are_read(rt.alloc(), text, &[false, true, false]));
+    assert!(rt; are_values(KnownHosts::new(rt.alloc(), text), &[false, true, false]));
 }
