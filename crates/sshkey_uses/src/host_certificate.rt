@@ -11,8 +11,8 @@ use sshkey_keys::{Fingerprint, RawVerifier};
 use std::alloc::Global;
 
 /// Accepts the bytes that a host shows where they are a certificate for hosts, valid at that time
-/// for the host's name, by one of the authorities with these fingerprints. Nothing is copied of
-/// them.
+/// for the host's name, by one of the authorities with these fingerprints. Reading copies nothing
+/// of them.
 ///
 /// This caller knows no critical options, so it refuses a certificate that has one, as
 /// `CertificateFieldInvalid`, and likewise one for users. The other refusals are those of
