@@ -10,11 +10,11 @@ class Kept:
         cache = os.environ.get("XDG_CACHE_HOME") or os.path.expanduser("~/.cache")
         self.folder = f"{cache}/rafendilo/wrong-bodies"
         scripts = [f"{root}/checks/{it}" for it in ("wrong-bodies", "crates.py", "kept.py")]
-        self.common = self.sum_of([f"{root}/crates.txt", f"{kit}/WHAT", *scripts], root)
+        self.common = self.sum_of([f"{kit}/WHAT", *scripts], root)
 
     @staticmethod
-    def sum_of(files, top=""):
-        total = hashlib.sha256()
+    def sum_of(files, top="", more=""):
+        total = hashlib.sha256(more.encode())
         for path in files:
             with open(path, "rb") as file:
                 text = file.read()
@@ -24,8 +24,10 @@ class Kept:
     def path(self, trial):
         crate = trial.crate
         top = os.path.dirname(crate.folder)
-        sources = [file for it in [*crate.below(), crate] for file in sorted(it.sources())]
-        found = self.sum_of([*sources, *sorted(trial.files)], top)
+        crates = [*crate.below(), crate]
+        uses = repr([(it.name, [own.name for own in it.own], it.of_kit) for it in crates])
+        sources = [file for it in crates for file in sorted(it.sources())]
+        found = self.sum_of([*sources, *sorted(trial.files)], top, uses)
         return f"{self.folder}/{crate.name}-{self.common[:16]}-{found}"
 
     def count(self, trial):
