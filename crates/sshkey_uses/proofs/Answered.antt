@@ -3,7 +3,6 @@ use Rattle.std.proofs.Common.{◌≡◌, ◌≢◌, ◌↔◌, Bool, true, false
 use Rattle.std.specs.Prelude.{OnOk, IfErr}
 use Rattle.sshkey_base.specs.declared.error.Error.{Error}
 use Rattle.sshkey_base.specs.declared.error.Error.TheVariants.{Memory}
-use Rattle.sshkey_uses.specs.Acceptance.{AcceptsExactly}
 use Rattle.sshkey_uses.specs.Signed.{Answers}
 
 is_no : false ≡ true → ⊥
@@ -14,9 +13,3 @@ pub answered : (A P : Type 0) (verdict : Result (Unit {0}) Error) (answer : Resu
 answered A P (Ok x) answer to from holds refused is = rw is (λ yes. to holds, λ p. refl)
 answered A P (Err e) answer to from holds refused (inl memory) = rw memory.1 tt
 answered A P (Err e) answer to from holds refused (inr other) = rw other.1 (λ yes. absurd (is_no yes), λ p. absurd (refused other.0 (from p)))
-
--- Every verdict but a refusal of memory is answered.
-pub readable : (P : Type 0) (verdict : Result (Unit {0}) Error) (answer : Result Bool Error) → P → Answers verdict answer → AcceptsExactly P answer
-readable P (Ok x) answer p is = rw is p
-readable P (Err e) answer p (inl memory) = rw memory.1 (λ other. absurd (other memory.0))
-readable P (Err e) answer p (inr other) = rw other.1 p

@@ -9,9 +9,6 @@ returns-in_err-shown-clause-readable c =
     let p = err_from_is_err_and c.from_residual.result c.from_residual.ensures.1 in
     rw (p.1, p.2) (unspelled SpellsKey _ _ c.in_err-shown.ensures.accepts)
 
-pub returns-clause-readable : goal.returns-clause-readable
-returns-clause-readable c = (_, c.in_ok-shown.ensures.accepts.spelled)
-
 -- the blob spells the key that was read, and so no other one
 pub returns-clause-same : goal.returns-clause-same
 returns-clause-same c = (

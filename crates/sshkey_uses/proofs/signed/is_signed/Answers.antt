@@ -4,16 +4,13 @@ use Rattle.sshkey_model.specs.Verification.{IsAccepted}
 use Rattle.sshkey_keys.specs.Keys.{key_of}
 use Rattle.sshkey_keys.specs.SignatureReaders.{SpellsSignature}
 use Rattle.sshkey_uses.proofs.Accepted.{unspelled}
-use Rattle.sshkey_uses.proofs.Answered.{answered, readable}
+use Rattle.sshkey_uses.proofs.Answered.{answered}
 use Rattle.sshkey_uses.proofs.signed.is_signed.Goals as goal
 
 pub returns-in_err-signature-clause-readable : goal.returns-in_err-signature-clause-readable
 returns-in_err-signature-clause-readable g c =
     let p = err_from_is_err_and c.from_residual.result c.from_residual.ensures.1 in
     rw (p.1, p.2) (unspelled SpellsSignature _ _ c.in_err-signature.ensures.accepts)
-
-pub returns-clause-readable : goal.returns-clause-readable
-returns-clause-readable g c = readable _ _ _ (_, c.in_ok-signature.ensures.accepts.spelled) c.answer_of.ensures
 
 -- the blob spells the signature that was verified, and so no other one
 pub returns-clause-answer : goal.returns-clause-answer
