@@ -1,13 +1,20 @@
-use Rattle.std.specs.Prelude.{◌≡◌, ℕ, List, [], Bool, Result, Ok, Err, OnOk}
+use Rattle.std.proofs.Common.{◌≡◌, ℕ, List, [], Bool, Result, Ok, Err, subst}
 use Rattle.sshkey_base.specs.declared.error.Error.{Error}
-use Rattle.sshkey_fingerprints.specs.declared.fingerprint.Fingerprint.{Fingerprint}
+use Rattle.sshkey_fingerprints.specs.declared.fingerprint.Fingerprint as code
 use Rattle.sshkey_model.specs.Certificates.{Certificate, Host}
+use Rattle.sshkey_model.specs.Fingerprints.{Fingerprint}
 use Rattle.sshkey_model.specs.Verification.{Question}
 use Rattle.sshkey_cert.specs.CertificateReaders.{SpellsCertificate}
 use Rattle.sshkey_cert.specs.Validity.{JudgesFor, fingerprints_of}
-use Rattle.sshkey_uses.specs.HostCertificates.{IsCertifiedHost}
+use Rattle.sshkey_uses.specs.Acceptance.{AcceptsExactly}
+use Rattle.sshkey_uses.specs.HostCertificates.{CertifiesHost, IsCertifiedHost}
 
--- answers of yes make one
-pub certified_host : (accepts : Question → Bool) (given : List Fingerprint) (t : ℕ) (shown host : List ℕ) (c : Certificate) → SpellsCertificate c shown → c.signed.certificate_type ≡ Host → c.signed.critical_options ≡ [] → (r : Result (Unit {0}) Error) → JudgesFor accepts given t host c r → OnOk r (IsCertifiedHost accepts (fingerprints_of given) t shown host)
-certified_host accepts given t shown host c spelled hosts none (Ok u) valid = record { certificate = c; spelled = spelled; for_hosts = hosts; no_options = none; valid = valid }
-certified_host accepts given t shown host c spelled hosts none (Err e) valid = tt
+-- the validation decides
+pub certifies_host : (accepts : Question → Bool) (given : List code.Fingerprint) (t : ℕ) (host : List ℕ) (c : Certificate) → c.signed.certificate_type ≡ Host → c.signed.critical_options ≡ [] → (r : Result (Unit {0}) Error) → JudgesFor accepts given t host c r → AcceptsExactly (CertifiesHost accepts (fingerprints_of given) t host c) r
+certifies_host accepts given t host c hosts none (Ok u) valid = record { for_hosts = hosts; no_options = none; valid = valid }
+certifies_host accepts given t host c hosts none (Err e) judged = λ other is. (judged other).0 is.valid
+
+-- the bytes spell one certificate only, which decides
+pub certified_host : (accepts : Question → Bool) (authorities : List Fingerprint) (t : ℕ) (shown host : List ℕ) (c : Certificate) → SpellsCertificate c shown → ((d : Certificate) → SpellsCertificate d shown → d ≡ c) → (r : Result (Unit {0}) Error) → AcceptsExactly (CertifiesHost accepts authorities t host c) r → AcceptsExactly (IsCertifiedHost accepts authorities t shown host) r
+certified_host accepts authorities t shown host c spelled one (Ok u) certifies = record { certificate = c; spelled = spelled; certifies = certifies }
+certified_host accepts authorities t shown host c spelled one (Err e) refused = λ other is. refused other (subst (λ (d : Certificate). CertifiesHost accepts authorities t host d) (one is.certificate is.spelled) is.certifies)

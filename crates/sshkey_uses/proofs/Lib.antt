@@ -1,5 +1,8 @@
+mod Accepted
 mod Answered
 mod HostCertificates
+mod HostKeys
+mod KeyBlobs
 mod Logins
 mod Room
 mod SignedFiles

@@ -1,20 +1,29 @@
-use Rattle.std.specs.Prelude.{◌≡◌, ℕ, List, [], Bool, Result, Ok, Err, OnOk}
+use Rattle.std.proofs.Common.{◌≡◌, ◌≢◌, ℕ, List, [], Bool, Result, Ok, Err, subst}
+use Rattle.sshkey_base.specs.Causes.{NoMemory, cause}
 use Rattle.sshkey_base.specs.declared.error.Error.{Error}
+use Rattle.sshkey_base.specs.declared.error.Error.TheVariants.{Memory}
 use Rattle.sshkey_fingerprints.specs.declared.fingerprint.Fingerprint as code
 use Rattle.sshkey_model.specs.Certificates.{Certificate, User}
 use Rattle.sshkey_model.specs.Fingerprints.{Fingerprint}
-use Rattle.sshkey_model.specs.Lines.{IsCertificateLine}
+use Rattle.sshkey_model.specs.Lines.{name_of_certificate, IsCertificateLine, IsNoLine, LinesDetermineValues}
 use Rattle.sshkey_model.specs.Verification.{Question}
+use Rattle.sshkey_cert.specs.CertificateReaders.{SpellsCertificate}
 use Rattle.sshkey_cert.specs.CertificateValues.{certificate_of}
 use Rattle.sshkey_cert.specs.Validity.{JudgesFor, fingerprints_of}
 use Rattle.sshkey_cert.specs.declared.certificate.Certificate as cert
+use Rattle.sshkey_uses.proofs.Accepted.{other_cause}
+use Rattle.sshkey_uses.specs.Acceptance.{AcceptsExactly}
 use Rattle.sshkey_uses.specs.Logins.{IsLogin, LetsIn}
 
--- answers of yes make one
-pub lets_in : (accepts : Question → Bool) (given : List code.Fingerprint) (t : ℕ) (user : List ℕ) (c : cert.Certificate) → (certificate_of c).signed.certificate_type ≡ User → (certificate_of c).signed.critical_options ≡ [] → (r : Result (Unit {0}) Error) → JudgesFor accepts given t user (certificate_of c) r → OnOk r (LetsIn accepts (fingerprints_of given) t user (certificate_of c))
+-- the validation decides
+pub lets_in : (accepts : Question → Bool) (given : List code.Fingerprint) (t : ℕ) (user : List ℕ) (c : cert.Certificate) → (certificate_of c).signed.certificate_type ≡ User → (certificate_of c).signed.critical_options ≡ [] → (r : Result (Unit {0}) Error) → JudgesFor accepts given t user (certificate_of c) r → AcceptsExactly (LetsIn accepts (fingerprints_of given) t user (certificate_of c)) r
 lets_in accepts given t user c users none (Ok u) valid = record { for_users = users; no_options = none; valid = valid }
-lets_in accepts given t user c users none (Err e) valid = tt
+lets_in accepts given t user c users none (Err e) judged = λ other lets. (judged other).0 lets.valid
 
-pub login : (accepts : Question → Bool) (authorities : List Fingerprint) (t : ℕ) (text user comment : List ℕ) (c : Certificate) → IsCertificateLine text c comment → (r : Result (Unit {0}) Error) → OnOk r (LetsIn accepts authorities t user c) → OnOk r (IsLogin accepts authorities t text user)
-login accepts authorities t text user comment c line (Ok u) lets = record { certificate = c; comment = comment; line = line; lets_in = lets }
-login accepts authorities t text user comment c line (Err e) lets = tt
+-- the line is of one certificate only, which decides
+pub login : (accepts : Question → Bool) (authorities : List Fingerprint) (t : ℕ) (text user comment : List ℕ) (c : Certificate) → LinesDetermineValues name_of_certificate SpellsCertificate → IsCertificateLine text c comment → (r : Result (Unit {0}) Error) → AcceptsExactly (LetsIn accepts authorities t user c) r → AcceptsExactly (IsLogin accepts authorities t text user) r
+login accepts authorities t text user comment c one line (Ok u) lets = record { certificate = c; comment = comment; line = line; lets_in = lets }
+login accepts authorities t text user comment c one line (Err e) refused = λ other login. refused other (subst (λ (d : Certificate). LetsIn accepts authorities t user d) (one text login.comment comment login.certificate c login.line line).0 login.lets_in)
+
+pub no_login : (accepts : Question → Bool) (authorities : List Fingerprint) (t : ℕ) (text user : List ℕ) (e : Error) → (cause e ≢ NoMemory → IsNoLine name_of_certificate SpellsCertificate text) → e ≢ Memory → IsLogin accepts authorities t text user → ⊥
+no_login accepts authorities t text user e none other login = none (other_cause e other) login.certificate login.comment login.line

@@ -1,9 +1,13 @@
 -- Writing into room that is bounded.
-use Rattle.std.proofs.Common.{◌≡◌, ℕ, ◌≤◌, [], length, Some, inl, inr, refl, subst, arith}
+use Rattle.std.proofs.Common.{◌≡◌, ℕ, ◌≤◌, [], length, Some, inl, inr, refl, ap, subst, ◌∙◌, arith}
+use Rattle.std.proofs.lemmas.List.{length-take}
 use Rattle.std.specs.Prelude.{◌<◌, ◌+◌, IfSome}
 use Rattle.sshkey_model.specs.Parts.{Parts, BoxesFit, flat}
 use Rattle.sshkey_base.specs.declared.encoding.Error.{Error}
+use Rattle.sshkey_base.specs.declared.encoding.Error.TheVariants.{Length}
+use Rattle.sshkey_base.specs.declared.writer.SliceWriter.{SliceWriter}
 use Rattle.sshkey_base.specs.Sink.{Sink, NotWritten, Written, after}
+use Rattle.sshkey_base.specs.SliceWriter.{slice_sink}
 
 -- nothing is written, and there is room for n bytes
 abbrev empty_of : ℕ → Sink
@@ -20,3 +24,20 @@ has_room fault p n s t e is (inr stopped) fits enough =
 pub wrote_all : (p : Parts) (n : ℕ) (s t : Sink) → s ≡ empty_of n → Written p s t → t.written ≡ flat p
 unfolding after
 wrote_all p n s t is written = rw (written.1, is) refl
+
+same_limit : (m n : ℕ) → Some m ≡ Some n → m ≡ n
+same_limit m n same = cc
+
+-- what a slice took has room in it
+pub had_room : (p : Parts) (n : ℕ) (s : Sink) (w : SliceWriter) → s ≡ empty_of n → Written p s (slice_sink w) → length (flat p) ≤ n
+unfolding after
+had_room p n s w is written =
+    let all = ap length (wrote_all p n s (slice_sink w) is written) in
+    let room = same_limit (length w.slice.now) n (ap (λ (t : Sink). t.limit) written.1 ∙ ap (λ (t : Sink). t.limit) is) in
+    omega (arith, all, room, length-take w.len w.slice.now)
+
+-- a slice refuses by `Length` only
+pub says_length : (p : Parts) (s t : Sink) (e : Error) → NotWritten (λ d. d ≡ Length) p s e t → e ≡ Length
+unfolding NotWritten
+says_length p s t e (inl long) = long.is
+says_length p s t e (inr stopped) = stopped.own

@@ -1,18 +1,88 @@
-use Rattle.std.specs.Prelude.{ℕ, List, Bool, Result, Ok, Err, OnOk}
+-- Where a signed file is refused.
+use Rattle.std.proofs.Common.{◌≡◌, ◌≢◌, ◌++◌, ℕ, List, [], Bool, true, Option, None, Some, Result, Ok, Err, if◌then◌else◌, inl, inr, refl, sym, ap, subst, ◌∙◌}
+use Rattle.std.specs.Prelude.{OnOk}
+use Rattle.sshkey_base.specs.Causes.{NoMemory, cause}
+use Rattle.sshkey_base.specs.Reading.{NoSpelling}
+use Rattle.sshkey_base.specs.Source.{IsSound, all_of}
+use Rattle.sshkey_base.specs.declared.algorithm.Algorithm.{Algorithm}
 use Rattle.sshkey_base.specs.declared.error.Error.{Error}
-use Rattle.sshkey_base.specs.Reading.{SpelledWhole}
-use Rattle.sshkey_base.specs.Source.{all_of}
-use Rattle.sshkey_model.specs.Lines.{IsKeyLine}
-use Rattle.sshkey_model.specs.SignedMessages.{IsVerified}
-use Rattle.sshkey_model.specs.Verification.{Question}
-use Rattle.sshkey_public.specs.PublicKeys.{public_of, comment_of}
-use Rattle.sshkey_public.specs.declared.public_key.PublicKey.{PublicKey}
-use Rattle.sshkey_sshsig.specs.declared.sshsig.SshSig.{SshSig}
-use Rattle.sshkey_sshsig.specs.SshSignatures.{ssh_signature_of}
+use Rattle.sshkey_base.specs.declared.error.Error.TheVariants as wide
+use Rattle.sshkey_model.specs.Grammar.{IsSpelled, spelled}
+use Rattle.sshkey_model.specs.Keys.{Key, Head}
+use Rattle.sshkey_model.specs.Lines.{key_name, IsKeyLine, IsNoLine, LinesDetermineValues}
+use Rattle.sshkey_model.specs.Parts.{BoxesFit, IsPrefixFree, flat}
+use Rattle.sshkey_model.specs.SignedMessages.{IsVerified, signed_by, signed_message}
+use Rattle.sshkey_model.specs.SshSignatures.{SshSignature, IsSshSignature, HasSshSignaturePlaces, ssh_signature}
+use Rattle.sshkey_model.specs.Verification.{Question, IsAccepted, is_yes, question}
+use Rattle.sshkey_keys.specs.Keys.{key_of, SpellsKey}
+use Rattle.sshkey_keys.specs.Signatures.{signature_of}
+use Rattle.sshkey_keys.specs.Verdicts.{NotAccepted, Says, judged, unsupported_of}
+use Rattle.sshkey_public.specs.Judging.{JudgesSigned}
+use Rattle.sshkey_sshsig.specs.Signing.{signed_parts}
+use Rattle.sshkey_sshsig.specs.SshSignatures.{ssh_signature_of, signer_of, given_of}
 use Rattle.sshkey_sshsig.specs.SshSignatureReaders.{SpellsSshSignature}
+use Rattle.sshkey_sshsig.specs.declared.sshsig.SshSig.{SshSig}
+use Rattle.sshkey_uses.proofs.Accepted.{other_cause}
+use Rattle.sshkey_uses.specs.Acceptance.{AcceptsExactly}
 use Rattle.sshkey_uses.specs.SignedFiles.{IsSignedFile}
 
--- three answers of yes make one
-pub signed_file : (accepts : Question → Bool) (text namespace content bytes : List ℕ) (k : PublicKey) (s : SshSig) → IsKeyLine text (public_of k) (comment_of k) → SpelledWhole ssh_signature_of SpellsSshSignature (all_of bytes) s → (r : Result (Unit {0}) Error) → OnOk r (IsVerified accepts (public_of k) namespace content (ssh_signature_of s)) → OnOk r (IsSignedFile accepts text namespace content bytes)
-signed_file accepts text namespace content bytes k s line spelled (Ok u) verified = record { key = public_of k; comment = comment_of k; line = line; signature = ssh_signature_of s; spelled = spelled.spelled; verified = verified }
-signed_file accepts text namespace content bytes k s line spelled (Err e) verified = tt
+-- ---- the verifier's answer
+
+-- a yes is no error
+no_error : (e : Error) → e ≢ wide.Memory → Says (Ok tt) e → ⊥
+no_error wide.AlgorithmUnknown other says = says
+no_error (wide.AlgorithmUnsupported algorithm) other says = cc
+no_error wide.Crypto other says = cc
+no_error wide.Decrypted other says = says
+no_error wide.Ecdsa other says = says
+no_error (wide.CertificateFieldInvalid field) other says = says
+no_error wide.CertificateValidation other says = says
+no_error (wide.Encoding e) other says = says
+no_error wide.Encrypted other says = says
+no_error wide.FormatEncoding other says = says
+no_error (wide.Io kind) other says = says
+no_error wide.Memory other says = other refl
+no_error wide.Namespace other says = says
+no_error wide.PublicKey other says = says
+no_error (wide.Version number) other says = says
+no_error wide.Time other says = says
+no_error (wide.TrailingData n) other says = says
+
+not_yes : (accepts : Question → Bool) (a : Algorithm) (q : Option Question) (e : Error) → e ≢ wide.Memory → Says (judged accepts a q) e → is_yes accepts q ≡ true → ⊥
+not_yes accepts a None e other says is = cc
+not_yes accepts a (Some q) e other says is = no_error e other (subst (λ (b : Bool). Says (if b then Ok tt else Err NotAccepted) e) is says)
+
+-- ---- a signature that was read
+
+-- what the verifier did not accept is not verified, or does not fit
+unverified : (accepts : Question → Bool) (k : Key) (namespace content : List ℕ) (f : SshSig) (e : Error) → JudgesSigned accepts f (signed_parts f content) (Err e) → e ≢ wide.Memory → IsVerified accepts k namespace content (ssh_signature_of f) → BoxesFit (signed_parts f content) → ⊥
+unverified accepts k namespace content f e (inl long) other is fits = long.0 fits
+unverified accepts k namespace content f e (inr says) other is fits = not_yes accepts (unsupported_of (signer_of f) (given_of f)) (question (key_of (signer_of f)) (signed_by (ssh_signature_of f) content) (signature_of (given_of f))) e other says.1 (subst (λ (j : Key). IsAccepted accepts j (signed_by (ssh_signature_of f) content) (signature_of (given_of f))) (sym is.same_key) is.accepted)
+
+-- It is verified under the key, and what is signed fits.
+abbrev pub IsVerifiedWhole : (Question → Bool) → Key → List ℕ → List ℕ → SshSignature → Type 0
+IsVerifiedWhole accepts k namespace content f = IsVerified accepts k namespace content f × BoxesFit (signed_message f.namespace f.reserved f.hash content)
+
+pub verified_whole : (accepts : Question → Bool) (k : Key) (namespace content : List ℕ) (f : SshSig) (r : Result (Unit {0}) Error) → OnOk r (IsVerified accepts k namespace content (ssh_signature_of f)) → (k ≡ key_of (signer_of f) → (ssh_signature_of f).namespace ≡ namespace → JudgesSigned accepts f (signed_parts f content) r) → AcceptsExactly (IsVerifiedWhole accepts k namespace content (ssh_signature_of f)) r
+verified_whole accepts k namespace content f (Ok u) verified judged = (verified, (judged (sym verified.same_key) verified.same_namespace).0)
+verified_whole accepts k namespace content f (Err e) verified judged = λ other is. unverified accepts k namespace content f e (judged (sym is.0.same_key) is.0.same_namespace) other is.0 is.1
+
+-- ---- one key and one signature
+
+one_signature : IsPrefixFree (IsSpelled IsSshSignature HasSshSignaturePlaces) (spelled ssh_signature) → (f g : SshSignature) (b : List ℕ) → SpellsSshSignature f b → SpellsSshSignature g b → f ≡ g
+one_signature free f g b s u =
+    let same : flat (ssh_signature f s.choices) ++ [] ≡ flat (ssh_signature g u.choices) ++ [] = ap (λ (l : List ℕ). l ++ []) (sym s.shape ∙ u.shape) in
+    ap (λ (x : SshSignature × Head). x.0) (free (f, s.choices) (g, u.choices) [] [] (record { is = s.is; place = s.place }) s.fits (record { is = u.is; place = u.place }) u.fits same).0
+
+-- the line is of one key and the bytes spell one signature only, which decide
+pub signed_file : (accepts : Question → Bool) (text namespace content bytes comment : List ℕ) (k : Key) (f : SshSignature) → LinesDetermineValues key_name SpellsKey → IsPrefixFree (IsSpelled IsSshSignature HasSshSignaturePlaces) (spelled ssh_signature) → IsKeyLine text k comment → SpellsSshSignature f bytes → (r : Result (Unit {0}) Error) → AcceptsExactly (IsVerifiedWhole accepts k namespace content f) r → AcceptsExactly (IsSignedFile accepts text namespace content bytes) r
+signed_file accepts text namespace content bytes comment k f one free line spelled (Ok u) is = record { key = k; comment = comment; line = line; signature = f; spelled = spelled; verified = is.0; fits = is.1 }
+signed_file accepts text namespace content bytes comment k f one free line spelled (Err e) refused = λ other file.
+    let by_key : IsVerifiedWhole accepts k namespace content file.signature = (subst (λ (j : Key). IsVerified accepts j namespace content file.signature) (one text file.comment comment file.key k file.line line).0 file.verified, file.fits) in
+    refused other (subst (λ (g : SshSignature). IsVerifiedWhole accepts k namespace content g) (one_signature free file.signature f bytes file.spelled spelled) by_key)
+
+pub no_line : (accepts : Question → Bool) (text namespace content bytes : List ℕ) (e : Error) → (cause e ≢ NoMemory → IsNoLine key_name SpellsKey text) → e ≢ wide.Memory → IsSignedFile accepts text namespace content bytes → ⊥
+no_line accepts text namespace content bytes e none other file = none (other_cause e other) file.key file.comment file.line
+
+pub no_signature : (accepts : Question → Bool) (text namespace content bytes : List ℕ) (e : Error) → (cause e ≢ NoMemory → IsSound (all_of bytes) → NoSpelling SpellsSshSignature bytes) → e ≢ wide.Memory → IsSignedFile accepts text namespace content bytes → ⊥
+no_signature accepts text namespace content bytes e none other file = none (other_cause e other) refl file.signature file.spelled

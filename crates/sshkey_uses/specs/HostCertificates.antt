@@ -6,10 +6,14 @@ use Rattle.sshkey_model.specs.Principals.{IsValidFor}
 use Rattle.sshkey_model.specs.Verification.{Question}
 use Rattle.sshkey_cert.specs.CertificateReaders.{SpellsCertificate}
 
--- The bytes spell a certificate for hosts, without critical options, that is valid at that time for the host.
+-- The certificate is for hosts, without critical options, and valid at that time for the host.
+pub record CertifiesHost (accepts : Question → Bool) (authorities : List Fingerprint) (t : ℕ) (host : List ℕ) (c : Certificate) : Type 0 where
+  pub for_hosts : c.signed.certificate_type ≡ Host
+  pub no_options : c.signed.critical_options ≡ []
+  pub valid : IsValidFor accepts authorities t host c
+
+-- The bytes spell such a certificate.
 pub record IsCertifiedHost (accepts : Question → Bool) (authorities : List Fingerprint) (t : ℕ) (shown host : List ℕ) : Type 0 where
   pub certificate : Certificate
   pub spelled : SpellsCertificate certificate shown
-  pub for_hosts : certificate.signed.certificate_type ≡ Host
-  pub no_options : certificate.signed.critical_options ≡ []
-  pub valid : IsValidFor accepts authorities t host certificate
+  pub certifies : CertifiesHost accepts authorities t host certificate

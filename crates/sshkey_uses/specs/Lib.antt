@@ -1,3 +1,4 @@
+pub mod Acceptance
 pub mod HostKeys
 pub mod Signed
 pub mod SignedFiles

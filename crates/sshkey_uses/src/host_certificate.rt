@@ -1,11 +1,13 @@
 //! A question of whoever connects to a host: is the certificate that it shows good for its name?
 
-ghost use Rattle.std.specs.Prelude.{OnOk};
 ghost use Rattle.sshkey_cert.specs.Validity.{fingerprints_of};
-ghost use Rattle.sshkey_uses.specs.HostCertificates.{IsCertifiedHost};
+ghost use Rattle.sshkey_cert_ref.specs.CertificateRef.{certificate_of};
+ghost use Rattle.sshkey_uses.specs.Acceptance.{AcceptsExactly};
+ghost use Rattle.sshkey_uses.specs.HostCertificates.{CertifiesHost, IsCertifiedHost};
 
 use sshkey_base::certificate::Field;
 use sshkey_base::{Error, Result};
+use sshkey_cert::laws::prefix_certificate;
 use sshkey_cert_ref::CertificateRef;
 use sshkey_keys::{Fingerprint, RawVerifier};
 use std::alloc::Global;
@@ -14,9 +16,10 @@ use std::alloc::Global;
 /// for the host's name, by one of the authorities with these fingerprints. Reading copies nothing
 /// of them.
 ///
-/// This caller knows no critical options, so it refuses a certificate that has one, as
-/// `CertificateFieldInvalid`, and likewise one for users. The other refusals are those of
-/// `CertificateRef::from_bytes` and of `CertificateRef::validate_principal_at`.
+/// Out of memory aside, it refuses all others. This caller knows no critical options, so it refuses
+/// a certificate that has one, as `CertificateFieldInvalid`, and likewise one for users. The other
+/// refusals are those of `CertificateRef::from_bytes` and of
+/// `CertificateRef::validate_principal_at`.
 pub fn check_host<V: RawVerifier>(
     alloc: Global,
     shown: &[u8],
@@ -25,10 +28,34 @@ pub fn check_host<V: RawVerifier>(
     authorities: &[Fingerprint],
     verifier: &V,
 ) -> Result<()>
-    ensures { OnOk result (IsCertifiedHost (V.accepts verifier.now)
-        (fingerprints_of authorities.now) unix_timestamp shown.now host.now) }
+    ensures { AcceptsExactly (IsCertifiedHost (V.accepts verifier.now)
+        (fingerprints_of authorities.now) unix_timestamp shown.now host.now) result }
 {
+    prefix_certificate();
     let certificate = CertificateRef::from_bytes(shown)?;
+    check_certificate(
+        alloc,
+        &certificate,
+        host,
+        unix_timestamp,
+        authorities,
+        verifier,
+    )
+}
+
+/// The same of a certificate that was read.
+fn check_certificate<V: RawVerifier>(
+    alloc: Global,
+    certificate: &CertificateRef<'_>,
+    host: &str,
+    unix_timestamp: u64,
+    authorities: &[Fingerprint],
+    verifier: &V,
+) -> Result<()>
+    ensures { AcceptsExactly (CertifiesHost (V.accepts verifier.now)
+        (fingerprints_of authorities.now) unix_timestamp host.now
+        (certificate_of certificate.now)) result }
+{
     if !certificate.cert_type().is_host() {
         return Err(Error::CertificateFieldInvalid(Field::CertType));
     }

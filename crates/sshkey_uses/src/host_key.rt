@@ -3,35 +3,41 @@
 ghost use Rattle.std.specs.Prelude.{◌≡◌, ◌↔◌, IsTrue, IfOk};
 ghost use Rattle.sshkey_model.specs.Keys.{IsKey};
 ghost use Rattle.sshkey_keys.specs.Keys.{SpellsKey, key_of};
+ghost use Rattle.sshkey_uses.specs.Acceptance.{AcceptsExactly, SpellsSome};
 ghost use Rattle.sshkey_uses.specs.HostKeys.{IsKnownBy};
 
 use sshkey_base::{HashAlg, Result, decode_whole};
 use sshkey_keys::laws::{compared_keys, prefix_key};
 use sshkey_keys::{Fingerprint, KeyData};
+use sshkey_model::laws::key_fits;
 use std::alloc::Global;
 
 /// The SHA-256 fingerprint of the key that the blob spells, if it is the known key; `None` if it
 /// is another one.
 ///
-/// A blob that spells no key is never accepted.
+/// Out of memory aside, it is refused exactly where the blob spells no key.
 pub fn fingerprint_if_known(
     alloc: Global,
     blob: &[u8],
     known: &KeyData,
 ) -> Result<Option<Fingerprint>>
     requires { IsKey (key_of known.now) }
-    ensures { IfOk result (IsKnownBy (key_of known.now) blob.now) }
+    ensures known { IfOk result (IsKnownBy (key_of known.now) blob.now) }
+    ensures readable { AcceptsExactly (SpellsSome SpellsKey blob.now) result }
 {
+    key_fits();
     if !is_known(alloc, blob, known)? {
         return Ok(None);
     }
     Ok(Some(known.fingerprint(alloc, HashAlg::Sha256)?))
 }
 
-/// Whether the blob spells the known key. One that spells no key is refused.
+/// Whether the blob spells the known key. Out of memory aside, it is refused exactly where it spells
+/// no key.
 fn is_known(alloc: Global, blob: &[u8], known: &KeyData) -> Result<bool>
     requires { IsKey (key_of known.now) }
-    ensures { IfOk result (λ yes. IsTrue yes ↔ SpellsKey (key_of known.now) blob.now) }
+    ensures same { IfOk result (λ yes. IsTrue yes ↔ SpellsKey (key_of known.now) blob.now) }
+    ensures readable { AcceptsExactly (SpellsSome SpellsKey blob.now) result }
 {
     prefix_key();
     let shown = decode_whole(alloc, blob)?;

@@ -6,6 +6,7 @@
 
 mod host_certificate;
 mod host_key;
+mod key_blob;
 mod login;
 mod normal_blob;
 mod signed;
@@ -13,6 +14,7 @@ mod signed_file;
 
 pub use host_certificate::check_host;
 pub use host_key::fingerprint_if_known;
+pub use key_blob::read_key;
 pub use login::let_in;
 pub use normal_blob::is_normal_blob;
 pub use signed::is_signed;

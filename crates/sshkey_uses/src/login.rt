@@ -1,22 +1,23 @@
 //! A question of whoever lets users in: does the certificate in this line let this user in now?
 
-ghost use Rattle.std.specs.Prelude.{OnOk};
 ghost use Rattle.sshkey_cert.specs.CertificateValues.{certificate_of};
 ghost use Rattle.sshkey_cert.specs.Validity.{fingerprints_of};
+ghost use Rattle.sshkey_uses.specs.Acceptance.{AcceptsExactly};
 ghost use Rattle.sshkey_uses.specs.Logins.{IsLogin, LetsIn};
 
 use sshkey_base::certificate::Field;
 use sshkey_base::{Error, Result};
 use sshkey_cert::Certificate;
 use sshkey_keys::{Fingerprint, RawVerifier};
+use sshkey_model::laws::lines::one_certificate_line;
 use std::alloc::Global;
 
 /// Lets a user in where the line has a certificate for users, valid at that time for the user's
 /// name, by one of the authorities with these fingerprints.
 ///
-/// This caller knows no critical options, so it refuses a certificate that has one, as
-/// `CertificateFieldInvalid`, and likewise one for hosts. The other refusals are those of
-/// `Certificate::from_openssh` and of `Certificate::validate_principal_at`.
+/// Out of memory aside, it refuses all others. This caller knows no critical options, so it refuses
+/// a certificate that has one, as `CertificateFieldInvalid`, and likewise one for hosts. The other
+/// refusals are those of `Certificate::from_openssh` and of `Certificate::validate_principal_at`.
 pub fn let_in<V: RawVerifier>(
     alloc: Global,
     line: &str,
@@ -25,9 +26,10 @@ pub fn let_in<V: RawVerifier>(
     authorities: &[Fingerprint],
     verifier: &V,
 ) -> Result<()>
-    ensures { OnOk result (IsLogin (V.accepts verifier.now)
-        (fingerprints_of authorities.now) unix_timestamp line.now user.now) }
+    ensures { AcceptsExactly (IsLogin (V.accepts verifier.now)
+        (fingerprints_of authorities.now) unix_timestamp line.now user.now) result }
 {
+    one_certificate_line();
     let certificate = Certificate::from_openssh(alloc, line)?;
     check_login(
         alloc,
@@ -48,8 +50,8 @@ fn check_login<V: RawVerifier>(
     authorities: &[Fingerprint],
     verifier: &V,
 ) -> Result<()>
-    ensures { OnOk result (LetsIn (V.accepts verifier.now) (fingerprints_of authorities.now)
-        unix_timestamp user.now (certificate_of certificate.now)) }
+    ensures { AcceptsExactly (LetsIn (V.accepts verifier.now) (fingerprints_of authorities.now)
+        unix_timestamp user.now (certificate_of certificate.now)) result }
 {
     if !certificate.cert_type().is_user() {
         return Err(Error::CertificateFieldInvalid(Field::CertType));

@@ -2,6 +2,8 @@
 
 ghost use Rattle.std.specs.Prelude.{◌↔◌, IsTrue, IfOk};
 ghost use Rattle.sshkey_keys.specs.Keys.{key_of};
+ghost use Rattle.sshkey_keys.specs.SignatureReaders.{SpellsSignature};
+ghost use Rattle.sshkey_uses.specs.Acceptance.{AcceptsExactly, SpellsSome};
 ghost use Rattle.sshkey_uses.specs.Signed.{Answers, IsSigned};
 
 use sshkey_base::{Error, Result};
@@ -11,8 +13,9 @@ use std::alloc::Global;
 
 /// Whether the blob spells a signature of the message that the verifier accepts under the key.
 ///
-/// A blob that spells no signature is never accepted. A signature by an algorithm
-/// that does not go with the key is no signature of the message, and the verifier is not asked.
+/// Out of memory aside, it is refused exactly where the blob spells no signature. A signature by an
+/// algorithm that does not go with the key is no signature of the message, and the verifier is not
+/// asked.
 pub fn is_signed<V: RawVerifier>(
     alloc: Global,
     key: &KeyData,
@@ -20,8 +23,9 @@ pub fn is_signed<V: RawVerifier>(
     blob: &[u8],
     verifier: &V,
 ) -> Result<bool>
-    ensures { IfOk result (λ yes. IsTrue yes
+    ensures answer { IfOk result (λ yes. IsTrue yes
         ↔ IsSigned (V.accepts verifier.now) (key_of key.now) message.now blob.now) }
+    ensures readable { AcceptsExactly (SpellsSome SpellsSignature blob.now) result }
 {
     prefix_signature();
     let signature = Signature::from_bytes(alloc, blob)?;

@@ -1,10 +1,13 @@
 //! A question of whoever is given a signed file: did the key in this line sign it?
 
-ghost use Rattle.std.specs.Prelude.{OnOk};
+ghost use Rattle.sshkey_uses.specs.Acceptance.{AcceptsExactly};
 ghost use Rattle.sshkey_uses.specs.SignedFiles.{IsSignedFile};
 
 use sshkey_base::Result;
 use sshkey_keys::RawVerifier;
+use sshkey_keys::laws::compared_keys;
+use sshkey_model::laws::lines::one_key_line;
+use sshkey_model::laws::prefix_ssh_signature;
 use sshkey_public::PublicKey;
 use sshkey_sshsig::SshSig;
 use std::alloc::Global;
@@ -12,7 +15,7 @@ use std::alloc::Global;
 /// Accepts what a file holds where the bytes spell an SSH signature of it, by the key in the line
 /// and in the namespace, which the verifier accepts.
 ///
-/// The refusals are those of `PublicKey::from_openssh` for the line, of `SshSig::from_bytes` for
+/// Out of memory aside, it refuses all others. The refusals are those of `PublicKey::from_openssh` for the line, of `SshSig::from_bytes` for
 /// the signature, and of `PublicKey::verify`.
 pub fn accept_file<V: RawVerifier>(
     alloc: Global,
@@ -22,9 +25,12 @@ pub fn accept_file<V: RawVerifier>(
     signature: &[u8],
     verifier: &V,
 ) -> Result<()>
-    ensures { OnOk result (IsSignedFile (V.accepts verifier.now)
-        line.now namespace.now content.now signature.now) }
+    ensures { AcceptsExactly (IsSignedFile (V.accepts verifier.now)
+        line.now namespace.now content.now signature.now) result }
 {
+    compared_keys();
+    one_key_line();
+    prefix_ssh_signature();
     let key = PublicKey::from_openssh(alloc, line)?;
     let signature = SshSig::from_bytes(alloc, signature)?;
     key.verify(alloc, namespace, content, &signature, verifier)

@@ -1,9 +1,14 @@
-use Rattle.std.proofs.Common.{sym, ◌∙◌}
-use Rattle.sshkey_cert_ref.specs.CertificateRef.{certificate_of}
+use Rattle.std.proofs.Common.{[], refl}
+use Rattle.std.proofs.lemmas.Result.{err_from_is_err_and}
 use Rattle.sshkey_uses.proofs.HostCertificates.{certified_host}
 use Rattle.sshkey_uses.proofs.host_certificate.check_host.Goals as goal
 
+pub returns-in_err-certificate : goal.returns-in_err-certificate
+returns-in_err-certificate g c =
+    let p = err_from_is_err_and c.from_residual.result c.from_residual.ensures.1 in
+    rw (p.1, p.2) (λ other is. c.in_err-certificate.ensures.accepts is.certificate is.spelled)
+
 pub returns : goal.returns
 returns g c =
-    let read = certificate_of c.in_ok-certificate.certificate in
-    certified_host _ _ _ _ _ read c.in_ok-certificate.ensures.accepts (sym c.cert_type.ensures ∙ c.is_host.ensures.0 c.if-not-is_host.false) (sym c.critical_options.ensures.options ∙ c.is_empty.ensures.0 c.if-not-is_empty.false) c.validate_principal_at.result c.validate_principal_at.ensures
+    let read = c.in_ok-certificate.ensures.accepts in
+    certified_host _ _ _ _ _ _ read (λ d spelled. (c.prefix_certificate.ensures _ _ _ _ [] [] spelled read refl).0) c.check_certificate.result c.check_certificate.ensures

@@ -1,12 +1,20 @@
 use Rattle.std.proofs.Common.{[], refl, subst, sym}
+use Rattle.std.proofs.lemmas.Result.{err_from_is_err_and}
 use Rattle.sshkey_model.specs.Verification.{IsAccepted}
 use Rattle.sshkey_keys.specs.Keys.{key_of}
+use Rattle.sshkey_keys.specs.SignatureReaders.{SpellsSignature}
+use Rattle.sshkey_uses.proofs.Accepted.{unspelled}
 use Rattle.sshkey_uses.proofs.Answered.{answered}
 use Rattle.sshkey_uses.proofs.signed.is_signed.Goals as goal
 
+pub returns-in_err-signature-clause-readable : goal.returns-in_err-signature-clause-readable
+returns-in_err-signature-clause-readable g c =
+    let p = err_from_is_err_and c.from_residual.result c.from_residual.ensures.1 in
+    rw (p.1, p.2) (unspelled SpellsSignature _ _ c.in_err-signature.ensures.accepts)
+
 -- the blob spells the signature that was verified, and so no other one
-pub returns : goal.returns
-returns g c =
+pub returns-clause-answer : goal.returns-clause-answer
+returns-clause-answer g c =
     let spelled = c.in_ok-signature.ensures.accepts.spelled in
     answered _ _ _ _
     (λ accepted. record { signature = _; spelled = spelled; accepted = accepted })
