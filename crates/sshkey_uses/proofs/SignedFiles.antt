@@ -1,17 +1,21 @@
 -- Where a signed file is refused.
-use Rattle.std.proofs.Common.{◌≡◌, ◌≢◌, ◌++◌, ℕ, List, [], Bool, true, Option, None, Some, Result, Ok, Err, if◌then◌else◌, inl, inr, refl, sym, ap, subst, ◌∙◌}
+use Rattle.std.proofs.Common.{◌≡◌, ◌≢◌, ◌<◌, ◌^◌, ◌++◌, ℕ, List, [], length, Bool, true, Option, None, Some, Result, Ok, Err, if◌then◌else◌, inl, inr, refl, sym, ap, subst, ◌∙◌, arith}
 use Rattle.std.specs.Prelude.{OnOk}
+use Rattle.sha2.proofs.Facts256.{length-sha256}
+use Rattle.sha2.proofs.Facts512.{length-sha512}
 use Rattle.sshkey_base.specs.Causes.{NoMemory, cause}
 use Rattle.sshkey_base.specs.Reading.{NoSpelling}
 use Rattle.sshkey_base.specs.Source.{IsSound, all_of}
 use Rattle.sshkey_base.specs.declared.algorithm.Algorithm.{Algorithm}
 use Rattle.sshkey_base.specs.declared.error.Error.{Error}
 use Rattle.sshkey_base.specs.declared.error.Error.TheVariants as wide
+use Rattle.sshkey_model.specs.Fingerprints.{digest}
 use Rattle.sshkey_model.specs.Grammar.{IsSpelled, spelled}
 use Rattle.sshkey_model.specs.Keys.{Key, Head}
 use Rattle.sshkey_model.specs.Lines.{key_name, IsKeyLine, IsNoLine, LinesDetermineValues}
+use Rattle.sshkey_model.specs.Names.{Hash, Sha256, Sha512}
 use Rattle.sshkey_model.specs.Parts.{BoxesFit, IsPrefixFree, flat}
-use Rattle.sshkey_model.specs.SignedMessages.{IsVerified, signed_by, signed_message}
+use Rattle.sshkey_model.specs.SignedMessages.{IsVerified, signed_by}
 use Rattle.sshkey_model.specs.SshSignatures.{SshSignature, IsSshSignature, HasSshSignaturePlaces, ssh_signature}
 use Rattle.sshkey_model.specs.Verification.{Question, IsAccepted, is_yes, question}
 use Rattle.sshkey_keys.specs.Keys.{key_of, SpellsKey}
@@ -52,20 +56,27 @@ not_yes : (accepts : Question → Bool) (a : Algorithm) (q : Option Question) (e
 not_yes accepts a None e other says is = cc
 not_yes accepts a (Some q) e other says is = no_error e other (subst (λ (b : Bool). Says (if b then Ok tt else Err NotAccepted) e) is says)
 
+-- ---- what is signed fits
+
+short_digest : (h : Hash) (m : List ℕ) → length (digest h m) < 2 ^ 32
+short_digest Sha256 m = omega (arith, length-sha256 m)
+short_digest Sha512 m = omega (arith, length-sha512 m)
+
+-- the namespace and the reserved bytes fit, since they were read
+pub signed_fits : (f : SshSig) (bytes content : List ℕ) → SpellsSshSignature (ssh_signature_of f) bytes → BoxesFit (signed_parts f content)
+unfolding BoxesFit flat
+signed_fits f bytes content s = (tt, (s.fits.boxes.1.1.1.0, (s.fits.boxes.1.1.1.1.0, (s.fits.boxes.1.1.1.1.1.0, (short_digest (ssh_signature_of f).hash content, tt)))))
+
 -- ---- a signature that was read
 
--- what the verifier did not accept is not verified, or does not fit
-unverified : (accepts : Question → Bool) (k : Key) (namespace content : List ℕ) (f : SshSig) (e : Error) → JudgesSigned accepts f (signed_parts f content) (Err e) → e ≢ wide.Memory → IsVerified accepts k namespace content (ssh_signature_of f) → BoxesFit (signed_parts f content) → ⊥
-unverified accepts k namespace content f e (inl long) other is fits = long.0 fits
-unverified accepts k namespace content f e (inr says) other is fits = not_yes accepts (unsupported_of (signer_of f) (given_of f)) (question (key_of (signer_of f)) (signed_by (ssh_signature_of f) content) (signature_of (given_of f))) e other says.1 (subst (λ (j : Key). IsAccepted accepts j (signed_by (ssh_signature_of f) content) (signature_of (given_of f))) (sym is.same_key) is.accepted)
+-- what the verifier did not accept is not verified
+unverified : (accepts : Question → Bool) (k : Key) (namespace content : List ℕ) (f : SshSig) (e : Error) → BoxesFit (signed_parts f content) → JudgesSigned accepts f (signed_parts f content) (Err e) → e ≢ wide.Memory → IsVerified accepts k namespace content (ssh_signature_of f) → ⊥
+unverified accepts k namespace content f e fits (inl long) other is = long.0 fits
+unverified accepts k namespace content f e fits (inr says) other is = not_yes accepts (unsupported_of (signer_of f) (given_of f)) (question (key_of (signer_of f)) (signed_by (ssh_signature_of f) content) (signature_of (given_of f))) e other says.1 (subst (λ (j : Key). IsAccepted accepts j (signed_by (ssh_signature_of f) content) (signature_of (given_of f))) (sym is.same_key) is.accepted)
 
--- It is verified under the key, and what is signed fits.
-abbrev pub IsVerifiedWhole : (Question → Bool) → Key → List ℕ → List ℕ → SshSignature → Type 0
-IsVerifiedWhole accepts k namespace content f = IsVerified accepts k namespace content f × BoxesFit (signed_message f.namespace f.reserved f.hash content)
-
-pub verified_whole : (accepts : Question → Bool) (k : Key) (namespace content : List ℕ) (f : SshSig) (r : Result (Unit {0}) Error) → OnOk r (IsVerified accepts k namespace content (ssh_signature_of f)) → (k ≡ key_of (signer_of f) → (ssh_signature_of f).namespace ≡ namespace → JudgesSigned accepts f (signed_parts f content) r) → AcceptsExactly (IsVerifiedWhole accepts k namespace content (ssh_signature_of f)) r
-verified_whole accepts k namespace content f (Ok u) verified judged = (verified, (judged (sym verified.same_key) verified.same_namespace).0)
-verified_whole accepts k namespace content f (Err e) verified judged = λ other is. unverified accepts k namespace content f e (judged (sym is.0.same_key) is.0.same_namespace) other is.0 is.1
+pub verified_exactly : (accepts : Question → Bool) (k : Key) (namespace content : List ℕ) (f : SshSig) → BoxesFit (signed_parts f content) → (r : Result (Unit {0}) Error) → OnOk r (IsVerified accepts k namespace content (ssh_signature_of f)) → (k ≡ key_of (signer_of f) → (ssh_signature_of f).namespace ≡ namespace → JudgesSigned accepts f (signed_parts f content) r) → AcceptsExactly (IsVerified accepts k namespace content (ssh_signature_of f)) r
+verified_exactly accepts k namespace content f fits (Ok u) verified judged = verified
+verified_exactly accepts k namespace content f fits (Err e) verified judged = λ other is. unverified accepts k namespace content f e fits (judged (sym is.same_key) is.same_namespace) other is
 
 -- ---- one key and one signature
 
@@ -75,11 +86,11 @@ one_signature free f g b s u =
     ap (λ (x : SshSignature × Head). x.0) (free (f, s.choices) (g, u.choices) [] [] (record { is = s.is; place = s.place }) s.fits (record { is = u.is; place = u.place }) u.fits same).0
 
 -- the line is of one key and the bytes spell one signature only, which decide
-pub signed_file : (accepts : Question → Bool) (text namespace content bytes comment : List ℕ) (k : Key) (f : SshSignature) → LinesDetermineValues key_name SpellsKey → IsPrefixFree (IsSpelled IsSshSignature HasSshSignaturePlaces) (spelled ssh_signature) → IsKeyLine text k comment → SpellsSshSignature f bytes → (r : Result (Unit {0}) Error) → AcceptsExactly (IsVerifiedWhole accepts k namespace content f) r → AcceptsExactly (IsSignedFile accepts text namespace content bytes) r
-signed_file accepts text namespace content bytes comment k f one free line spelled (Ok u) is = record { key = k; comment = comment; line = line; signature = f; spelled = spelled; verified = is.0; fits = is.1 }
+pub signed_file : (accepts : Question → Bool) (text namespace content bytes comment : List ℕ) (k : Key) (f : SshSignature) → LinesDetermineValues key_name SpellsKey → IsPrefixFree (IsSpelled IsSshSignature HasSshSignaturePlaces) (spelled ssh_signature) → IsKeyLine text k comment → SpellsSshSignature f bytes → (r : Result (Unit {0}) Error) → AcceptsExactly (IsVerified accepts k namespace content f) r → AcceptsExactly (IsSignedFile accepts text namespace content bytes) r
+signed_file accepts text namespace content bytes comment k f one free line spelled (Ok u) verified = record { key = k; comment = comment; line = line; signature = f; spelled = spelled; verified = verified }
 signed_file accepts text namespace content bytes comment k f one free line spelled (Err e) refused = λ other file.
-    let by_key : IsVerifiedWhole accepts k namespace content file.signature = (subst (λ (j : Key). IsVerified accepts j namespace content file.signature) (one text file.comment comment file.key k file.line line).0 file.verified, file.fits) in
-    refused other (subst (λ (g : SshSignature). IsVerifiedWhole accepts k namespace content g) (one_signature free file.signature f bytes file.spelled spelled) by_key)
+    let by_key = subst (λ (j : Key). IsVerified accepts j namespace content file.signature) (one text file.comment comment file.key k file.line line).0 file.verified in
+    refused other (subst (λ (g : SshSignature). IsVerified accepts k namespace content g) (one_signature free file.signature f bytes file.spelled spelled) by_key)
 
 pub no_line : (accepts : Question → Bool) (text namespace content bytes : List ℕ) (e : Error) → (cause e ≢ NoMemory → IsNoLine key_name SpellsKey text) → e ≢ wide.Memory → IsSignedFile accepts text namespace content bytes → ⊥
 no_line accepts text namespace content bytes e none other file = none (other_cause e other) file.key file.comment file.line

@@ -2,13 +2,12 @@
 use Rattle.std.specs.Prelude.{ℕ, List, Bool}
 use Rattle.sshkey_model.specs.Keys.{Key}
 use Rattle.sshkey_model.specs.Lines.{IsKeyLine}
-use Rattle.sshkey_model.specs.Parts.{BoxesFit}
-use Rattle.sshkey_model.specs.SignedMessages.{IsVerified, signed_message}
+use Rattle.sshkey_model.specs.SignedMessages.{IsVerified}
 use Rattle.sshkey_model.specs.SshSignatures.{SshSignature}
 use Rattle.sshkey_model.specs.Verification.{Question}
 use Rattle.sshkey_sshsig.specs.SshSignatureReaders.{SpellsSshSignature}
 
--- The text is the line of a key, and the bytes spell an SSH signature of the content that is verified under it. No box of what is signed is too long.
+-- The text is the line of a key, and the bytes spell an SSH signature of the content that is verified under it.
 pub record IsSignedFile (accepts : Question → Bool) (text namespace content bytes : List ℕ) : Type 0 where
   pub key : Key
   pub comment : List ℕ
@@ -16,4 +15,3 @@ pub record IsSignedFile (accepts : Question → Bool) (text namespace content by
   pub signature : SshSignature
   pub spelled : SpellsSshSignature signature bytes
   pub verified : IsVerified accepts key namespace content signature
-  pub fits : BoxesFit (signed_message signature.namespace signature.reserved signature.hash content)

@@ -15,8 +15,8 @@ use std::alloc::Global;
 /// Accepts what a file holds where the bytes spell an SSH signature of it, by the key in the line
 /// and in the namespace, which the verifier accepts.
 ///
-/// Out of memory aside, it refuses all others. The refusals are those of `PublicKey::from_openssh` for the line, of `SshSig::from_bytes` for
-/// the signature, and of `PublicKey::verify`.
+/// Out of memory aside, it refuses all others. The refusals are those of `PublicKey::from_openssh`
+/// for the line, of `SshSig::from_bytes` for the signature, and of `PublicKey::verify`.
 pub fn accept_file<V: RawVerifier>(
     alloc: Global,
     line: &str,

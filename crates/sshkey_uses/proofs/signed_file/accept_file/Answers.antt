@@ -1,5 +1,5 @@
 use Rattle.std.proofs.lemmas.Result.{err_from_is_err_and}
-use Rattle.sshkey_uses.proofs.SignedFiles.{no_line, no_signature, signed_file, verified_whole}
+use Rattle.sshkey_uses.proofs.SignedFiles.{no_line, no_signature, signed_file, signed_fits, verified_exactly}
 use Rattle.sshkey_uses.proofs.signed_file.accept_file.Goals as goal
 
 pub returns-in_err-key : goal.returns-in_err-key
@@ -16,5 +16,6 @@ pub returns : goal.returns
 returns g c =
     let line = c.in_ok-key.ensures in
     let spelled = c.in_ok-signature.ensures.accepts.spelled in
-    signed_file _ _ _ _ _ _ _ _ c.one_key_line.ensures c.prefix_ssh_signature.ensures line spelled c.verify.result
-    (verified_whole _ _ _ _ c.in_ok-signature.signature c.verify.result c.verify.ensures.verified (λ key. c.verify.ensures.judged ((c.compared_keys.ensures.equal _ _ line.spelled.is spelled.is.key).1 key)))
+    let fits = signed_fits c.in_ok-signature.signature _ c.args.content.now spelled in
+    let judged = verified_exactly _ _ _ _ c.in_ok-signature.signature fits c.verify.result c.verify.ensures.verified (λ key. c.verify.ensures.judged ((c.compared_keys.ensures.equal _ _ line.spelled.is spelled.is.key).1 key)) in
+    signed_file _ _ _ _ _ _ _ _ c.one_key_line.ensures c.prefix_ssh_signature.ensures line spelled c.verify.result judged
