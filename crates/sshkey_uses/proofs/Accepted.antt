@@ -1,12 +1,12 @@
 -- Refusals that are not for memory.
 use Rattle.std.proofs.Common.{◌≡◌, ◌≢◌, ℕ, List, refl}
-use Rattle.sshkey_base.specs.Causes.{NoMemory, cause, inner_cause}
-use Rattle.sshkey_base.specs.Reading.{NoSpelling}
-use Rattle.sshkey_base.specs.Source.{IsSound, all_of}
-use Rattle.sshkey_base.specs.declared.encoding.Error as encoding-error
-use Rattle.sshkey_base.specs.declared.encoding.Error.TheVariants as encoding
-use Rattle.sshkey_base.specs.declared.error.Error.{Error}
-use Rattle.sshkey_base.specs.declared.error.Error.TheVariants as wide
+use Rattle.ssh_key.specs.base.Causes.{NoMemory, cause, inner_cause}
+use Rattle.ssh_key.specs.base.Reading.{NoSpelling}
+use Rattle.ssh_key.specs.base.Source.{IsSound, all_of}
+use Rattle.ssh_key.specs.types.encoding.Error as encoding-error
+use Rattle.ssh_key.specs.types.encoding.Error.TheVariants as encoding
+use Rattle.ssh_key.specs.types.Error.{Error}
+use Rattle.ssh_key.specs.types.Error.TheVariants as wide
 use Rattle.sshkey_uses.specs.Acceptance.{SpellsSome}
 
 never_inner : (e : encoding-error.Error) → inner_cause e ≡ NoMemory → ⊥

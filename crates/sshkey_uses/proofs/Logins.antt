@@ -1,16 +1,16 @@
 use Rattle.std.proofs.Common.{◌≡◌, ◌≢◌, ℕ, List, [], Bool, Result, Ok, Err, subst}
-use Rattle.sshkey_base.specs.Causes.{NoMemory, cause}
-use Rattle.sshkey_base.specs.declared.error.Error.{Error}
-use Rattle.sshkey_base.specs.declared.error.Error.TheVariants.{Memory}
-use Rattle.sshkey_fingerprints.specs.declared.fingerprint.Fingerprint as code
-use Rattle.sshkey_model.specs.Certificates.{Certificate, User}
-use Rattle.sshkey_model.specs.Fingerprints.{Fingerprint}
-use Rattle.sshkey_model.specs.Lines.{name_of_certificate, IsCertificateLine, IsNoLine, LinesDetermineValues}
-use Rattle.sshkey_model.specs.Verification.{Question}
-use Rattle.sshkey_cert.specs.CertificateReaders.{SpellsCertificate}
-use Rattle.sshkey_cert.specs.CertificateValues.{certificate_of}
-use Rattle.sshkey_cert.specs.Validity.{JudgesFor, fingerprints_of}
-use Rattle.sshkey_cert.specs.declared.certificate.Certificate as cert
+use Rattle.ssh_key.specs.base.Causes.{NoMemory, cause}
+use Rattle.ssh_key.specs.types.Error.{Error}
+use Rattle.ssh_key.specs.types.Error.TheVariants.{Memory}
+use Rattle.ssh_key.specs.types.Fingerprint as code
+use Rattle.ssh_key.specs.model.Certificates.{Certificate, User}
+use Rattle.ssh_key.specs.model.Fingerprints.{Fingerprint}
+use Rattle.ssh_key.specs.model.Lines.{name_of_certificate, IsCertificateLine, IsNoLine, LinesDetermineValues}
+use Rattle.ssh_key.specs.model.Verification.{Question}
+use Rattle.ssh_key.specs.cert.CertificateReaders.{SpellsCertificate}
+use Rattle.ssh_key.specs.cert.CertificateValues.{certificate_of}
+use Rattle.ssh_key.specs.cert.Validity.{JudgesFor, fingerprints_of}
+use Rattle.ssh_key.specs.types.Certificate as cert
 use Rattle.sshkey_uses.proofs.Accepted.{other_cause}
 use Rattle.sshkey_uses.specs.Acceptance.{AcceptsExactly}
 use Rattle.sshkey_uses.specs.Logins.{IsLogin, LetsIn}

@@ -1,7 +1,7 @@
 -- What a caller's answer says of what it was given, both ways.
 use Rattle.std.specs.Prelude.{◌≢◌, ℕ, List, Result, Ok, Err}
-use Rattle.sshkey_base.specs.declared.error.Error.{Error}
-use Rattle.sshkey_base.specs.declared.error.Error.TheVariants.{Memory}
+use Rattle.ssh_key.specs.types.Error.{Error}
+use Rattle.ssh_key.specs.types.Error.TheVariants.{Memory}
 
 -- Out of memory aside, Ok exactly if this holds.
 abbrev pub AcceptsExactly : {T : Type 0} → Type 0 → Result T Error → Type 0
