@@ -2,11 +2,10 @@
 use Rattle.std.specs.Prelude.{◌≡◌, ◌⊎◌, ℕ, List, Option, IfSome, Result, Ok, Err, String, string_bytes}
 use Rattle.std.specs.Io.KnownBytes.{Consumes}
 use Rattle.std.specs.Str.{IsUtf8}
-use Rattle.std.specs.declared.io.ErrorKind.TheVariants.{InvalidData}
 use Rattle.sshkey_base.specs.Faults.{IsMachineFault}
 use Rattle.sshkey_base.specs.declared.encoding.Error.TheVariants.{CharacterEncoding}
 use Rattle.sshkey_base.specs.declared.error.Error.{Error}
-use Rattle.sshkey_base.specs.declared.error.Error.TheVariants.{Encoding, Io}
+use Rattle.sshkey_base.specs.declared.error.Error.TheVariants.{Encoding}
 
 -- Some of the bytes were passed, from the front on, and the others are left.
 abbrev pub IsPassed : Option (List ℕ) → Option (List ℕ) → Type 0
