@@ -1,3 +1,4 @@
+pub mod Acceptance
 pub mod Boxes
 pub mod CombinedReaders
 pub mod Grammars

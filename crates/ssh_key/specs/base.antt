@@ -1,4 +1,6 @@
 pub use Rattle.sshkey_base.specs.Causes
+pub use Rattle.sshkey_base.specs.Faults
+pub use Rattle.sshkey_base.specs.Acceptance
 pub use Rattle.sshkey_base.specs.Source
 pub use Rattle.sshkey_base.specs.Reading
 pub use Rattle.sshkey_base.specs.Needs

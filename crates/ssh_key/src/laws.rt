@@ -39,6 +39,8 @@ pub use sshkey_base::laws::compared_curves;
 pub use sshkey_base::laws::compared_fields;
 pub use sshkey_base::laws::compared_hashes;
 pub use sshkey_base::laws::compared_mpints;
+pub use sshkey_base::laws::equal_encoding_errors;
+pub use sshkey_base::laws::equal_errors;
 pub use sshkey_base::laws::one_front;
 pub use sshkey_base::laws::read_back;
 pub use sshkey_cert::laws::compared_certificates;

@@ -6,7 +6,7 @@ use Rattle.ssh_key.specs.model.Fingerprints.{Fingerprint}
 use Rattle.ssh_key.specs.model.Verification.{Question}
 use Rattle.ssh_key.specs.cert.CertificateReaders.{SpellsCertificate}
 use Rattle.ssh_key.specs.cert.Validity.{JudgesFor, fingerprints_of}
-use Rattle.sshkey_uses.specs.Acceptance.{AcceptsExactly}
+use Rattle.ssh_key.specs.base.Acceptance.{AcceptsExactly}
 use Rattle.sshkey_uses.specs.HostCertificates.{CertifiesHost, IsCertifiedHost}
 
 -- the validation decides

@@ -11,8 +11,8 @@ use Rattle.ssh_key.specs.cert.CertificateReaders.{SpellsCertificate}
 use Rattle.ssh_key.specs.cert.CertificateValues.{certificate_of}
 use Rattle.ssh_key.specs.cert.Validity.{JudgesFor, fingerprints_of}
 use Rattle.ssh_key.specs.types.Certificate as cert
-use Rattle.sshkey_uses.proofs.Accepted.{other_cause}
-use Rattle.sshkey_uses.specs.Acceptance.{AcceptsExactly}
+use Rattle.ssh_key.proofs.Acceptance.{other_cause}
+use Rattle.ssh_key.specs.base.Acceptance.{AcceptsExactly}
 use Rattle.sshkey_uses.specs.Logins.{IsLogin, LetsIn}
 
 -- the validation decides

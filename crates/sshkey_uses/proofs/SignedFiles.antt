@@ -26,8 +26,8 @@ use Rattle.ssh_key.specs.sshsig.Signing.{signed_parts}
 use Rattle.ssh_key.specs.sshsig.SshSignatures.{ssh_signature_of, signer_of, given_of}
 use Rattle.ssh_key.specs.sshsig.SshSignatureReaders.{SpellsSshSignature}
 use Rattle.ssh_key.specs.types.SshSig.{SshSig}
-use Rattle.sshkey_uses.proofs.Accepted.{other_cause}
-use Rattle.sshkey_uses.specs.Acceptance.{AcceptsExactly}
+use Rattle.ssh_key.proofs.Acceptance.{other_cause}
+use Rattle.ssh_key.specs.base.Acceptance.{AcceptsExactly}
 use Rattle.sshkey_uses.specs.SignedFiles.{IsSignedFile}
 
 -- ---- the verifier's answer

@@ -2,7 +2,7 @@
 
 ghost use Rattle.ssh_key.specs.cert.Validity.{fingerprints_of};
 ghost use Rattle.ssh_key.specs.cert_ref.CertificateRef.{certificate_of};
-ghost use Rattle.sshkey_uses.specs.Acceptance.{AcceptsExactly};
+ghost use Rattle.ssh_key.specs.base.Acceptance.{AcceptsExactly};
 ghost use Rattle.sshkey_uses.specs.HostCertificates.{CertifiesHost, IsCertifiedHost};
 
 use ssh_key::certificate::{CertificateRef, Field};

@@ -3,7 +3,7 @@
 ghost use Rattle.std.specs.Prelude.{◌≡◌, ◌↔◌, IsTrue, IfOk};
 ghost use Rattle.ssh_key.specs.model.Keys.{IsKey};
 ghost use Rattle.ssh_key.specs.keys.Keys.{SpellsKey, key_of};
-ghost use Rattle.sshkey_uses.specs.Acceptance.{AcceptsExactly, SpellsSome};
+ghost use Rattle.ssh_key.specs.base.Acceptance.{AcceptsExactly, SpellsSome};
 ghost use Rattle.sshkey_uses.specs.HostKeys.{IsKnownBy};
 
 use ssh_key::encoding::decode_whole;

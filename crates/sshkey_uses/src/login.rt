@@ -2,7 +2,7 @@
 
 ghost use Rattle.ssh_key.specs.cert.CertificateValues.{certificate_of};
 ghost use Rattle.ssh_key.specs.cert.Validity.{fingerprints_of};
-ghost use Rattle.sshkey_uses.specs.Acceptance.{AcceptsExactly};
+ghost use Rattle.ssh_key.specs.base.Acceptance.{AcceptsExactly};
 ghost use Rattle.sshkey_uses.specs.Logins.{IsLogin, LetsIn};
 
 use ssh_key::certificate::{Certificate, Field};

@@ -3,7 +3,7 @@
 ghost use Rattle.std.specs.Prelude.{◌↔◌, IsTrue, IfOk};
 ghost use Rattle.ssh_key.specs.keys.Keys.{key_of};
 ghost use Rattle.ssh_key.specs.keys.SignatureReaders.{SpellsSignature};
-ghost use Rattle.sshkey_uses.specs.Acceptance.{AcceptsExactly, SpellsSome};
+ghost use Rattle.ssh_key.specs.base.Acceptance.{AcceptsExactly, SpellsSome};
 ghost use Rattle.sshkey_uses.specs.Signed.{Answers, IsSigned};
 
 use ssh_key::laws::one_signature;

@@ -1,6 +1,6 @@
 //! A question of whoever is given a signed file: did the key in this line sign it?
 
-ghost use Rattle.sshkey_uses.specs.Acceptance.{AcceptsExactly};
+ghost use Rattle.ssh_key.specs.base.Acceptance.{AcceptsExactly};
 ghost use Rattle.sshkey_uses.specs.SignedFiles.{IsSignedFile};
 
 use ssh_key::laws::{compared_keys, lines, prefix_ssh_signature};

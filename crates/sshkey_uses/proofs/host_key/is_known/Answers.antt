@@ -1,7 +1,7 @@
 use Rattle.std.proofs.Common.{[], refl}
 use Rattle.std.proofs.lemmas.Result.{err_from_is_err_and}
 use Rattle.ssh_key.specs.keys.Keys.{SpellsKey}
-use Rattle.sshkey_uses.proofs.Accepted.{unspelled}
+use Rattle.ssh_key.proofs.Acceptance.{unspelled}
 use Rattle.sshkey_uses.proofs.host_key.is_known.Goals as goal
 
 pub returns-in_err-shown-clause-readable : goal.returns-in_err-shown-clause-readable

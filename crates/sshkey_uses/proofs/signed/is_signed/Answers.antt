@@ -3,7 +3,7 @@ use Rattle.std.proofs.lemmas.Result.{err_from_is_err_and}
 use Rattle.ssh_key.specs.model.Verification.{IsAccepted}
 use Rattle.ssh_key.specs.keys.Keys.{key_of}
 use Rattle.ssh_key.specs.keys.SignatureReaders.{SpellsSignature}
-use Rattle.sshkey_uses.proofs.Accepted.{unspelled}
+use Rattle.ssh_key.proofs.Acceptance.{unspelled}
 use Rattle.sshkey_uses.proofs.Answered.{answered}
 use Rattle.sshkey_uses.proofs.signed.is_signed.Goals as goal
 
