@@ -26,8 +26,8 @@ spelled_of means Spells cause b (Ok x) h = h.spelled
 spelled_of means Spells cause b (Err e) h = tt
 
 -- the key and the signature that they spell decide
-pub accepted_exactly : {E : Type 0} (accepts : Question → Bool) (key m s : List ℕ) (r : Result Bool E) → SpellsSome SpellsKey key → SpellsSome SpellsSignature s → DispatchesBytes accepts key m s r → IfOk r (λ yes. IsTrue yes ↔ AreAccepted accepts key m s)
-accepted_exactly accepts key m s (Ok yes) k g h = (
+pub accepted_exactly : {E : Type 0} (accepts : Question → Bool) (key m s : List ℕ) (r : Result Bool E) → SpellsSome SpellsKey key → SpellsSome SpellsSignature s → DispatchesBytes accepts key m s r → IfOk r (λ answer. IsTrue answer ↔ AreAccepted accepts key m s)
+accepted_exactly accepts key m s (Ok answer) k g h = (
   λ is. record { signer = k.0; by = k.1; made = g.0; spelled = g.1; accepted = sym (h k.0 g.0 k.1 g.1) ∙ is },
   λ a. h a.signer a.made a.by a.spelled ∙ a.accepted,
 )
