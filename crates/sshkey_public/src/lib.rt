@@ -9,6 +9,6 @@ mod public_key;
 mod words;
 
 pub use blob::Blob;
-pub use line::{read_line, write_line};
+pub use line::{make_line, read_line, write_line};
 pub use public_key::PublicKey;
 pub use sshkey_base64::Base64Reader;
