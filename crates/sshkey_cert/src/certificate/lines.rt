@@ -43,8 +43,12 @@ impl Certificate {
     /// White space at the end is cut off. Out of memory aside, it is refused exactly where the
     /// text is a line of no certificate: `Length` where a word is missing or empty,
     /// `CharacterEncoding` for a character in the first word that no name has, `Base64` where the
-    /// second is no canonical Base64, the refusals of `from_bytes`, and `AlgorithmUnknown` where
-    /// the first word is not the certificate's name.
+    /// second is no canonical Base64, the refusals of `from_bytes`, also `Length` for a certificate
+    /// that is signed by RSA with SHA-1, and `AlgorithmUnknown` where the first word is not the
+    /// certificate's name.
+    ///
+    /// The comment is all that stands behind the second word, line ends too: where `is_one_line`
+    /// says no, the text had more lines than one, of which only the first is judged here.
     pub fn from_openssh(alloc: Global, text: &str) -> Result<Certificate>
         ensures { ReadsCertificate text.now result }
     {
