@@ -98,7 +98,7 @@ sshd_key entry a s = record {
 
 -- ---- a line
 
-spaces_both : (a b : List ℕ) → AreAsciiSpaces a → AreAsciiSpaces b → AreAsciiSpaces (a ++ b)
+pub spaces_both : (a b : List ℕ) → AreAsciiSpaces a → AreAsciiSpaces b → AreAsciiSpaces (a ++ b)
 spaces_both a b x y i l = elim (cases_lt i (length a)) [
   | inl less ↦ ap is_ascii_space (get_or_append_left a b 0 i less) ∙ x i less
   | inr above ↦ ap is_ascii_space (get_or-append_right a b (length a) i 0 refl above) ∙ y (i - length a) (omega (arith, l, length-append a b, above))

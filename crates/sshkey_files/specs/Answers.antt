@@ -17,6 +17,10 @@ abbrev pub RefusesFor : {X : Type 0} → (List ℕ → Error → Type 0) → Lis
 RefusesFor HasFault line (Ok x) = Unit {0}
 RefusesFor HasFault line (Err e) = cause e ≢ NoMemory → HasFault line e
 
+-- Both of them: the value of the line; or it has none, and that fault.
+abbrev pub AnswersEntry : {X Y : Type 0} → (X → Y) → (List ℕ → Y → Type 0) → (List ℕ → Error → Type 0) → List ℕ → Result X Error → Type 0
+AnswersEntry means IsEntry HasFault line r = ReadsEntry means IsEntry line r × RefusesFor HasFault line r
+
 -- The line is its entry, and what stands behind it.
 abbrev pub AreParts : List ℕ → Bor (List ℕ) × Bor (List ℕ) → Type 0
 AreParts line parts = (parts.0.now ≡ uncommented line) × (line ≡ parts.0.now ++ parts.1.now)
