@@ -2,8 +2,8 @@
 use Rattle.std.specs.Prelude.{◌≡◌, ◌≢◌, ◌⊎◌, ℕ, List, [], ◌∷◌, ◌++◌, Option, Some, None, Result, Ok, Err, Vec}
 use Rattle.std.specs.List.{AllZip}
 use Rattle.sshkey_base.specs.Causes.{cause, NoMemory}
+use Rattle.sshkey_base.specs.Faults.{IsMachineFault}
 use Rattle.sshkey_base.specs.declared.error.Error.{Error}
-use Rattle.sshkey_base.specs.declared.error.Error.TheVariants.{Io, Memory}
 use Rattle.sshkey_entries.specs.Entries.{entries, uncommented, IsNoEntry}
 use denote.Ref.{Bor}
 
@@ -52,11 +52,6 @@ pub record FirstIsNone {X Y : Type 0} (means : X → Y) (IsEntry : List ℕ → 
 abbrev pub ReadsEntries : {X Y Z : Type 0} → (X → Y) → (List ℕ → Y → Type 0) → (List ℕ → Error → Type 0) → List (List ℕ) → Result (Vec X Z) Error → Type 0
 ReadsEntries means IsEntry HasFault all (Ok v) = AreEntries means IsEntry all v.items
 ReadsEntries means IsEntry HasFault all (Err e) = cause e ≢ NoMemory → FirstIsNone means IsEntry HasFault all e
-
-abbrev pub IsMachineFault : Error → Type 0
-IsMachineFault Memory = Unit {0}
-IsMachineFault (Io kind) = Unit {0}
-IsMachineFault _ = ⊥
 
 -- Accepted are the values of all entries of some text, which the file holds. Refused, the machine failed, or the first entry of some text that has none has that fault.
 abbrev pub ReadsFile : {X Y Z : Type 0} → (X → Y) → (List ℕ → Y → Type 0) → (List ℕ → Error → Type 0) → Result (Vec X Z) Error → Type 0

@@ -7,9 +7,9 @@ ghost use Rattle.sshkey_files.specs.Answers.{ReadsEntries, ReadsEntry, ReadsFile
 
 use crate::entry_lines::EntryTexts;
 use sshkey_base::Result;
+use sshkey_input::text_of_file;
 use std::alloc::Global;
-use std::fs::{File, Files};
-use std::io;
+use std::fs::Files;
 
 /// An entry of a file, which one line spells.
 pub trait FromLine: Drop + Sized {
@@ -49,7 +49,6 @@ pub fn entries_of_text<E: FromLine>(alloc: Global, text: &str) -> Result<Vec<E>>
 pub fn entries_of_file<R: Files, E: FromLine>(rt: &R, alloc: Global, path: &str) -> Result<Vec<E>>
     ensures { ReadsFile E.means E.IsEntry E.HasFault result }
 {
-    let file = File::open(rt, path)?;
-    let text = io::read_to_string(alloc, file)?;
+    let text = text_of_file(rt, alloc, path)?;
     entries_of_text(alloc, text.as_str())
 }
