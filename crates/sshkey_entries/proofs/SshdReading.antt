@@ -78,6 +78,7 @@ fields text k comment end line ends white =
       rest = after_space comment ++ end;
       is = ends ∙ ap (λ (l : List ℕ). l ++ end) line.line.is ∙ append_assoc (key_name k) (space ∷ (word ++ after_space comment)) end
           ∙ ap (λ (l : List ℕ). key_name k ++ (space ∷ l)) (append_assoc word (after_space comment) end);
+      characters = line.line.characters;
       spelled = line.spelled;
       ends = ends_key comment end white;
     }
@@ -129,6 +130,7 @@ fields_more text rest k f left =
       blob = f.blob;
       rest = f.rest ++ rest;
       is = ap (λ (l : List ℕ). l ++ rest) f.is ∙ append_assoc (key_name k) (space ∷ (word ++ f.rest)) rest ∙ ap (λ (l : List ℕ). key_name k ++ (space ∷ l)) (append_assoc word f.rest rest);
+      characters = f.characters;
       spelled = f.spelled;
       ends = ends_more f.rest rest f.ends left;
     }

@@ -1,5 +1,6 @@
 -- What holds of all entries.
 use Rattle.std.specs.Prelude.{◌≡◌, ℕ, List}
+use Rattle.sshkey_model.specs.Keys.{Key}
 use Rattle.sshkey_entries.specs.AuthorizedKeys.{AuthorizedKey, IsAuthorizedKey, IsWithoutOptions, HasOptions}
 use Rattle.sshkey_entries.specs.Entries.{uncommented}
 use Rattle.sshkey_entries.specs.SshdReading.{IsSshdKey}
@@ -24,3 +25,7 @@ StrictIsRead = (entry : List ℕ) (a : AuthorizedKey) → IsReadStrictly entry a
 -- The same of a line of a file, which sshd(8) reads as it stands.
 abbrev pub StrictLineIsRead : Type 0
 StrictLineIsRead = (line : List ℕ) (a : AuthorizedKey) → IsLineReadStrictly line a → IsAuthorizedKey (uncommented line) a × IsSshdKey line a.key
+
+-- sshd(8) reads one key of a line at most.
+abbrev pub OneSshdKey : Type 0
+OneSshdKey = (line : List ℕ) (k l : Key) → IsSshdKey line k → IsSshdKey line l → k ≡ l

@@ -4,7 +4,7 @@ use Rattle.base64.specs.Engines.{standard}
 use Rattle.base64.specs.GeneralPurpose.{encode_of}
 use Rattle.sshkey_model.specs.Grammar.{SpellsWith}
 use Rattle.sshkey_model.specs.Keys.{Key, IsKey, HasKeyPlaces, key}
-use Rattle.sshkey_model.specs.Lines.{space, key_name}
+use Rattle.sshkey_model.specs.Lines.{space, key_name, HasWordCharacters}
 use Rattle.sshkey_entries.specs.Entries.{hash}
 use Rattle.sshkey_entries.specs.StrictReading.{AreAsciiSpaces, EndsOptions, is_blank}
 
@@ -21,6 +21,7 @@ pub record HasKeyFields (text : List ℕ) (k : Key) : Type 0 where
   pub blob : List ℕ
   pub rest : List ℕ
   pub is : text ≡ key_name k ++ (space ∷ (encode_of standard blob ++ rest))
+  pub characters : HasWordCharacters (key_name k)
   pub spelled : SpellsWith IsKey HasKeyPlaces key k blob
   pub ends : EndsKey rest
 

@@ -2,7 +2,7 @@
 
 ghost use Rattle.sshkey_entries.specs.AuthorizedKeys.{IsAuthorizedKey};
 ghost use Rattle.sshkey_entries.specs.KnownHosts.{IsHosts, IsKnownHost};
-ghost use Rattle.sshkey_entries.specs.Laws.{EntriesDetermineValues, OneEnd, ReadingsAreApart, StrictIsRead, StrictLineIsRead};
+ghost use Rattle.sshkey_entries.specs.Laws.{EntriesDetermineValues, OneEnd, ReadingsAreApart, OneSshdKey, StrictIsRead, StrictLineIsRead};
 
 /// A line is one entry of authorized_keys at most.
 pub fn one_authorized_key()
@@ -35,4 +35,9 @@ pub fn one_end()
 pub fn strict_is_read()
     ensures entry { StrictIsRead }
     ensures line { StrictLineIsRead }
+{}
+
+/// sshd(8) reads one key of a line at most, with options or without.
+pub fn one_sshd_key()
+    ensures { OneSshdKey }
 {}
