@@ -4,7 +4,7 @@ use Rattle.std.proofs.lemmas.Bool.{cases_lt, eqb-false}
 use Rattle.std.specs.Prelude.{⊤}
 use Rattle.std.specs.Iterator.{MakesProgress, item_count}
 use Rattle.std.proofs.lemmas.Grind.{common_steps}
-use Rattle.std.proofs.lemmas.List.{nil_from_length}
+use Rattle.std.proofs.lemmas.List.{nil_from_length, length-append, take-append-le}
 use Rattle.std.proofs.lemmas.List.Elements.{All-from_get_or}
 use Rattle.std.proofs.lemmas.List.Splits.{slice_split_none, slice_split_at, length-slice_split}
 use Rattle.std.proofs.lemmas.Str.{NoCharPasses-byte}
@@ -12,7 +12,7 @@ use Rattle.std.specs.List.{All, slice_split}
 use Rattle.std.specs.Char.{is_newline, encode_utf8}
 use Rattle.std.specs.Str.{NoCharPasses}
 use Rattle.std.specs.Str.Lines.{IsFirstLine, StripsCarriageReturn, lines, lines_of_parts, strip_carriage_return}
-use Rattle.sshkey_entries.specs.Entries.{entries, uncommented, is_some_text}
+use Rattle.sshkey_entries.specs.Entries.{entry_lines, uncommented, is_some_text}
 
 abbrev is_end : ℕ → Bool
 is_end c = eqb c 10
@@ -57,27 +57,24 @@ lines_first text line rest some h = ⊎_elim inside at_end (cases_lt h.0 (length
         ∙ ap (λ (t : Bool). cond t [] (text ∷ [])) (ne_eqb (length text) 0 (λ z. omega arith))
         ∙ (λ i. sym (h.4 (omega arith)) i ∷ lines (nothing i))
 
--- a line with no entry leaves the entries, and another is the first of them
-pub entries_step : (text line rest : List ℕ) → lines text ≡ line ∷ lines rest → entries text ≡ cond (is_some_text (uncommented line)) (uncommented line ∷ entries rest) (entries rest)
-entries_step text line rest e = ap (λ (l : List (List ℕ)). filter is_some_text (map uncommented l)) e
+-- a line with no entry leaves the lines, and another is the first of them
+lines_step : (text line rest : List ℕ) → lines text ≡ line ∷ lines rest → entry_lines text ≡ cond (is_some_text (uncommented line)) (line ∷ entry_lines rest) (entry_lines rest)
+lines_step text line rest e = ap (filter (λ (l : List ℕ). is_some_text (uncommented l))) e
 
 -- The first line of a text, and what is left of it.
 module _ (text line rest entry : List ℕ) (some : 0 < length text) (is_first : IsFirstLine text line rest) (is : entry ≡ uncommented line) (empty : Bool) (judged : empty ≡ eqb (length entry) 0) where
-  first : lines text ≡ line ∷ lines rest
-  first = lines_first text line rest some is_first
+  taken : entry_lines text ≡ cond (is_some_text entry) (line ∷ entry_lines rest) (entry_lines rest)
+  taken = lines_step text line rest (lines_first text line rest some is_first) ∙ ap (λ (x : List ℕ). cond (is_some_text x) (line ∷ entry_lines rest) (entry_lines rest)) (sym is)
 
-  taken : entries text ≡ cond (is_some_text entry) (entry ∷ entries rest) (entries rest)
-  taken = entries_step text line rest first ∙ ap (λ (x : List ℕ). cond (is_some_text x) (x ∷ entries rest) (entries rest)) (sym is)
-
-  pub entry_taken : empty ≡ false → entries text ≡ entry ∷ entries rest
-  entry_taken full =
+  pub line_taken : empty ≡ false → entry_lines text ≡ line ∷ entry_lines rest
+  line_taken full =
       let other : length entry ≢ 0 = eqb-false (length entry) 0 (sym judged ∙ full) in
-      taken ∙ ap (λ (b : Bool). cond b (entry ∷ entries rest) (entries rest)) (lt-ltb 0 (length entry) (omega arith))
+      taken ∙ ap (λ (b : Bool). cond b (line ∷ entry_lines rest) (entry_lines rest)) (lt-ltb 0 (length entry) (omega arith))
 
-  pub line_skipped : empty ≡ true → entries text ≡ entries rest
+  pub line_skipped : empty ≡ true → entry_lines text ≡ entry_lines rest
   line_skipped none =
       let zero : length entry ≡ 0 = eqb-true (length entry) 0 (sym judged ∙ none) in
-      taken ∙ ap (λ (n : ℕ). cond (nat_lt 0 n) (entry ∷ entries rest) (entries rest)) zero
+      taken ∙ ap (λ (n : ℕ). cond (nat_lt 0 n) (line ∷ entry_lines rest) (entry_lines rest)) zero
 
 -- the rest has fewer lines
 pub fewer_lines : (text line rest : List ℕ) → 0 < length text → IsFirstLine text line rest → length (lines rest) < length (lines text)
@@ -86,3 +83,11 @@ fewer_lines text line rest some is_first = omega (arith, ap length (lines_first 
 -- an answered entry leaves fewer
 pub fewer_left : {X : Type 0} (answer : X) (old new : List (List ℕ)) (entry : List ℕ) → old ≡ entry ∷ new → MakesProgress (λ _. ⊤) (item_count (λ left. left)) old (Some answer) new
 fewer_left answer old new entry e = record { on = λ _. (tt, tt, omega (arith, ap length e)); keeps = tt; rests = λ _. tt }
+
+-- ---- the entry of a line
+
+-- a front of a front
+pub front_of_front : (line before entry : List ℕ) (p n : ℕ) → before ≡ take p line → entry ≡ take n before → n ≤ length before → (entry ≡ take n line) × (n ≤ length line)
+front_of_front line before entry p n is front l =
+    let whole : before ++ drop p line ≡ line = ap (λ (b : List ℕ). b ++ drop p line) is ∙ take-append-drop p line in
+    (front ∙ sym (take-append-le n before (drop p line) l) ∙ ap (take n) whole, omega (arith, l, ap length whole, length-append before (drop p line)))
