@@ -83,7 +83,7 @@ no_text c None none = tt
 no_text c (Some bytes) none = λ utf8. absurd (none utf8)
 
 cut_of_input : (file : EntryFile) (known : Option (List ℕ)) (text : List ℕ) (old new : Option (List ℕ)) (status : ℕ) → IfSome known (λ bytes. IsUtf8 bytes × (text ≡ bytes)) → IsCutShort file (Some text) old new status → IfSome known IsUtf8 × IsCutShort file known old new status
-cut_of_input file None text old new status is h = (tt, record { shown = h.shown; left = h.left; are = tt; between = h.between; written = h.written; rest = h.rest })
+cut_of_input file None text old new status is h = (tt, record { shown = h.shown; entry = h.entry; rest = h.rest; are = tt; between = h.between; written = h.written; ends = h.ends })
 cut_of_input file (Some bytes) text old new status is h = (is.0, subst (λ (t : List ℕ). IsCutShort file (Some t) old new status) is.1 h)
 
 -- ---- runs
