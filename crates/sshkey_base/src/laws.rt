@@ -5,11 +5,13 @@ ghost use Rattle.sshkey_base.specs.Comparisons.{IsEqualityOf, IsOrderOf};
 ghost use Rattle.sshkey_base.specs.Laws.{ReadBackBefore, OneFront};
 ghost use Rattle.sshkey_base.specs.Mpint.{mpint_of};
 
+mod errors;
 mod names;
 
 use crate::decode::Decode;
 use crate::mpint::Mpint;
 use crate::normal_form::NormalForm;
+pub use errors::{equal_encoding_errors, equal_errors};
 pub use names::{
     compared_algorithm_names, compared_algorithms, compared_curves, compared_fields,
     compared_hashes,
