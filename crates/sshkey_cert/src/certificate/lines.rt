@@ -1,21 +1,25 @@
 //! Certificates in lines.
 
-ghost use Rattle.std.specs.Prelude.{◌≡◌, string_bytes};
+ghost use Rattle.std.specs.Prelude.{◌≡◌, ◌↔◌, IfErr, IfOk, IsTrue, string_bytes};
 ghost use Rattle.std.specs.Str.{IsUtf8};
+ghost use Rattle.sshkey_base.specs.declared.error.Error.TheVariants as wide;
 ghost use Rattle.sshkey_model.specs.CertificateNames.{certificate_name};
 ghost use Rattle.sshkey_model.specs.Certificates.{Certificate as TheCertificate, normal_certificate};
 ghost use Rattle.sshkey_model.specs.Keys.{key_algorithm};
-ghost use Rattle.sshkey_model.specs.Lines.{name_of_certificate};
+ghost use Rattle.sshkey_model.specs.Lines.{certificate_line, name_of_certificate};
 ghost use Rattle.sshkey_keys.specs.Keys.{key_of};
+ghost use Rattle.sshkey_public.specs.LineNeeds.{AsksLine};
+ghost use Rattle.sshkey_public.specs.OneLine.{IsOneLine};
 ghost use Rattle.sshkey_public.specs.PublicKeys.{MakesLine};
 ghost use Rattle.sshkey_cert.specs.CertificateReaders.{SpellsCertificate};
 ghost use Rattle.sshkey_cert.specs.CertificateValues.{certificate_of, comment_of};
 ghost use Rattle.sshkey_cert.specs.Lines.{ReadsCertificate, certificates_stand};
+ghost use Rattle.sshkey_cert.specs.Needs.{NeedsCertificate};
 
 use super::Certificate;
-use sshkey_base::{Result, Text, Writer, encoding};
+use sshkey_base::{Result, Text, Writer, encode_vec, encoding};
 use sshkey_keys::KeyData;
-use sshkey_public::{Blob, read_line, write_line};
+use sshkey_public::{Blob, make_line, makes_one_line, read_line};
 use std::alloc::Global;
 
 /// The name of the certified key's algorithm in certificates.
@@ -42,16 +46,27 @@ impl Certificate {
     /// White space at the end is cut off. Out of memory aside, it is refused exactly where the
     /// text is a line of no certificate: `Length` where a word is missing or empty,
     /// `CharacterEncoding` for a character in the first word that no name has, `Base64` where the
-    /// second is no canonical Base64, the refusals of `from_bytes`, and `AlgorithmUnknown` where
-    /// the first word is not the certificate's name.
+    /// second is no canonical Base64, the refusals of `from_bytes`, also `Length` for a certificate
+    /// that is signed by RSA with SHA-1, and `AlgorithmUnknown` where the first word is not the
+    /// certificate's name.
+    ///
+    /// Where the second word is canonical Base64, `Memory` is answered only where the certificate
+    /// in it needs some, or for a comment that is not empty, of a line that is a certificate's:
+    /// never for a length that its bytes only state.
+    ///
+    /// The comment is all that stands behind the second word and a space, line ends too: where
+    /// `is_one_line` says no, the text held more lines than one, and only the first was judged.
     pub fn from_openssh(alloc: Global, text: &str) -> Result<Certificate>
-        ensures { ReadsCertificate text.now result }
+        ensures reads { ReadsCertificate text.now result }
+        ensures asks { AsksLine name_of_certificate SpellsCertificate NeedsCertificate
+            text.now result }
     {
         let (certificate, comment) = read_line::<Certificate>(alloc, text)?;
         Ok(certificate.with_comment(comment))
     }
 
-    /// The line of the certificate's normal form, in memory of its own.
+    /// The line of the certificate's normal form, in memory of its own. Its comment may hold line
+    /// ends, so where `is_one_line` says no it is more than one line of a file.
     ///
     /// Exactly where a box in it would pass 2^32 - 1 bytes, the answer is `Length`; otherwise it
     /// is refused only when out of memory.
@@ -59,13 +74,37 @@ impl Certificate {
         ensures { MakesLine (name_of_certificate (certificate_of self.now))
             (normal_certificate (certificate_of self.now)) (comment_of self.now) result }
     {
-        let mut line = Vec::new(alloc);
-        write_line(self, self.comment.as_str(), &mut line)?;
+        let blob = encode_vec(alloc, self)?;
+        let name = self.name(alloc)?;
+        make_line(alloc, name.as_str(), &blob, self.comment.as_str())
+    }
+
+    /// Whether the line of the certificate's normal form, which `to_openssh` gives, holds no line
+    /// feed and no carriage return. Takes no memory.
+    ///
+    /// A comment can hold them, and so can a private-use name (RFC 4251, section 6, forbids it
+    /// there; a certificate that a line gave has none in its name). Ask before the line is added to
+    /// a file of lines: what stands behind a line end there is a line of its own.
+    pub fn is_one_line(&self) -> bool
+        ensures { IsTrue result
+            ↔ IsOneLine (certificate_line (certificate_of self.now) (comment_of self.now)) }
+    {
+        makes_one_line(self.unsigned.public_key.algorithm_name(), self.comment.as_str())
+    }
+
+    /// The name of the key's algorithm in certificates. Refused only when out of memory.
+    fn name(&self, alloc: Global) -> Result<String>
+        ensures name { IfOk result
+            (λ name. string_bytes name ≡ name_of_certificate (certificate_of self.now)) }
+        ensures memory { IfErr result (λ e. e ≡ wide.Memory) }
+    {
+        let mut name = Vec::new(alloc);
+        self.write_name(&mut name)?;
         is_text_in_certificates(&self.unsigned.public_key);
-        let Ok(line) = String::from_utf8(line) else {
+        let Ok(name) = String::from_utf8(name) else {
             unreachable!();
         };
-        Ok(line)
+        Ok(name)
     }
 
     /// The same certificate with that comment.
