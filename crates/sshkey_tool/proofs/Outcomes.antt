@@ -4,9 +4,11 @@ use Rattle.std.specs.Prelude.{string_bytes}
 use Rattle.std.specs.Io.KnownBytes.{Appends}
 use Rattle.std.specs.Str.{IsUtf8}
 use Rattle.sshkey_base.specs.Causes.{cause, NoMemory}
+use Rattle.sshkey_base.specs.Faults.{IsMachineFault}
 use Rattle.sshkey_base.specs.declared.encoding.Error.TheVariants as encoding
 use Rattle.sshkey_base.specs.declared.error.Error.{Error}
 use Rattle.sshkey_base.specs.declared.error.Error.TheVariants as wide
+use Rattle.sshkey_input.specs.Inputs.{IsNoText}
 use Rattle.sshkey_model.specs.Certificates.{Certificate, SignedFields, CertificateChoices, certificate, to_be_signed}
 use Rattle.sshkey_model.specs.Keys.{key, normal_key}
 use Rattle.sshkey_model.specs.Lines.{IsCertificateLine, IsKeyLine}
@@ -14,7 +16,6 @@ use Rattle.sshkey_model.specs.Parts.{BoxesFit}
 use Rattle.sshkey_model.proofs.NormalKeysFit.{normal_boxes}
 use Rattle.sshkey_public.specs.PublicKeys.{public_of, comment_of}
 use Rattle.sshkey_public.specs.declared.public_key.PublicKey.{PublicKey}
-use Rattle.sshkey_tool.specs.Faults.{IsMachineFault}
 use Rattle.sshkey_tool.specs.Outcomes.{ShowsCertificate, ShowsKey, ShowsText, WritesOutcome, WritesRefusal, WritesEntries, entries_status}
 use Rattle.sshkey_tool.specs.Table.{Shown, Partly, Refused, Asks, FindsCommand, IsCutShort, IsOfLine, IsOfNoLine, IsPartly, IsRefused, IsShown, IsShownPartly, Runs, ShowsFile, texts}
 use Rattle.sshkey_tool.specs.declared.command.Command.{Command}
@@ -78,12 +79,12 @@ refused_of_input : (c : Command) (known : Option (List ℕ)) (text : List ℕ) �
 refused_of_input c None text is h = tt
 refused_of_input c (Some bytes) text is h = λ _. subst (IsOfNoLine c) is.1 h
 
-no_text : (c : Command) (known : Option (List ℕ)) → IfSome known (λ bytes. IsUtf8 bytes → ⊥) → IfSome known (IsRefused c)
+no_text : (c : Command) (known : Option (List ℕ)) → IsNoText known → IfSome known (IsRefused c)
 no_text c None none = tt
 no_text c (Some bytes) none = λ utf8. absurd (none utf8)
 
 cut_of_input : (file : EntryFile) (known : Option (List ℕ)) (text : List ℕ) (old new : Option (List ℕ)) (status : ℕ) → IfSome known (λ bytes. IsUtf8 bytes × (text ≡ bytes)) → IsCutShort file (Some text) old new status → IfSome known IsUtf8 × IsCutShort file known old new status
-cut_of_input file None text old new status is h = (tt, record { shown = h.shown; left = h.left; are = tt; between = h.between; written = h.written; rest = h.rest })
+cut_of_input file None text old new status is h = (tt, record { shown = h.shown; entry = h.entry; rest = h.rest; are = tt; between = h.between; written = h.written; ends = h.ends })
 cut_of_input file (Some bytes) text old new status is h = (is.0, subst (λ (t : List ℕ). IsCutShort file (Some t) old new status) is.1 h)
 
 -- ---- runs
@@ -95,8 +96,8 @@ refusal_runs words c input old new status e asks h w = elim w [
 ]
 
 -- the input is no text, or could not be read
-pub unread_runs : (words : List (List ℕ)) (c : Command) (input old new : Option (List ℕ)) (status : ℕ) (e : Error) → Asks words c → IsMachineFault e ⊎ IfSome input (λ bytes. IsUtf8 bytes → ⊥) → WritesRefusal e old new status → Runs words input old new status
-unread_runs words c input old new status e asks h w = refusal_runs words c input old new status e asks (elim h [ inl fault ↦ inl fault | inr none ↦ inr (no_text c input none) ]) w
+pub unread_runs : (words : List (List ℕ)) (c : Command) (input old new : Option (List ℕ)) (status : ℕ) (e : Error) → Asks words c → IsMachineFault e ⊎ ((e ≡ wide.Encoding encoding.CharacterEncoding) × IsNoText input) → WritesRefusal e old new status → Runs words input old new status
+unread_runs words c input old new status e asks h w = refusal_runs words c input old new status e asks (elim h [ inl fault ↦ inl fault | inr none ↦ inr (no_text c input none.1) ]) w
 
 -- what stands in a line
 pub line_runs : {Z : Type 0} (words : List (List ℕ)) (c : Command) (input old new : Option (List ℕ)) (status : ℕ) (text : List ℕ) (r : Result (String Z) Error) → Asks words c → IfSome input (λ bytes. IsUtf8 bytes × (text ≡ bytes)) → ShowsText c text r → WritesOutcome r old new status → Runs words input old new status

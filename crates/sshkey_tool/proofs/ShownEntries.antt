@@ -11,6 +11,7 @@ use Rattle.sshkey_model.specs.Lines.{IsKeyLine}
 use Rattle.sshkey_model.specs.Parts.{BoxesFit}
 use Rattle.sshkey_model.proofs.NormalKeysFit.{normal_boxes}
 use Rattle.sshkey_base.specs.Causes.{cause, NoMemory}
+use Rattle.sshkey_base.specs.Faults.{IsMachineFault}
 use Rattle.sshkey_base.specs.declared.error.Error.{Error}
 use Rattle.sshkey_entries.specs.AuthorizedKeys.{AuthorizedKey, IsAuthorizedKey, authorized_text}
 use Rattle.sshkey_entries.specs.Entries.{entries}
@@ -18,10 +19,10 @@ use Rattle.sshkey_entries.specs.KnownHosts.{KnownHost, IsKnownHost, known_text}
 use Rattle.sshkey_files.specs.MadeTexts.{MakesEntry}
 use Rattle.sshkey_files.proofs.AnswerLists.{answered_more}
 use Rattle.sshkey_tool.specs.EntryLines.{ShowsEntries, ShowsEntry, ShowsFirst}
-use Rattle.sshkey_tool.specs.Faults.{IsBegun, IsMachineFault, WritesLine}
+use Rattle.sshkey_tool.specs.Faults.{IsBegun, WritesLine}
 use Rattle.sshkey_tool.specs.Lines.{in_lines, line_end, refusal_line}
 use Rattle.sshkey_tool.specs.Outcomes.{WritesEntry, WritesEntryOf, WritesEntries, WritesRefusal, entries_status}
-use Rattle.sshkey_tool.specs.Table.{IsRefusalLine, ShowsFile, ShowsFileEntry, ShowsFileFirst}
+use Rattle.sshkey_tool.specs.Table.{AreFirstLines, IsRefusalLine, ShowsFile, ShowsFileEntry, ShowsFileFirst}
 use Rattle.sshkey_tool.specs.declared.command.EntryFile.{EntryFile}
 use Rattle.sshkey_tool.specs.declared.command.EntryFile.TheVariants.{AuthorizedKeys, KnownHosts}
 use Rattle.sshkey_tool.proofs.Lines.{lines_append}
@@ -151,20 +152,26 @@ all_written file text left old new status h none = inl (record {
   is = h.is;
 })
 
+-- ---- an entry is left
+
+first_lines : (file : EntryFile) (text : List ℕ) (left rest : List (List ℕ)) (entry shown : List ℕ) (refused : Bool) → left ≡ entry ∷ rest → ShowsFileFirst file text left shown refused → AreFirstLines file (entry ∷ rest) shown text
+first_lines file text left rest entry shown refused next h = (refused, subst (λ (l : List (List ℕ)). ShowsFileFirst file text l shown refused) next h)
+
 -- the output failed
 pub cut_line : (file : EntryFile) (text : List ℕ) (left rest : List (List ℕ)) (entry line : List ℕ) (also : Bool) (old now new : Option (List ℕ)) (status : ℕ) → WrittenSoFar file text left old now status → left ≡ entry ∷ rest → IsLine file entry line also → IsBegun now new line → WritesEntries file text old new 1
 cut_line file text left rest entry line also old now new status h next it begun = inr (record {
   shown = h.shown;
-  left = left;
-  are = (h.refused, h.shows);
+  entry = entry;
+  rest = rest;
+  are = first_lines file text left rest entry h.shown h.refused next h.shows;
   between = now;
   written = h.written;
-  rest = inl (record { entry = entry; line = it.0; rest = rest; refused = also; next = next; shows = it.1; begun = subst (IsBegun now new) it.2 begun; one = refl });
+  ends = inl (record { line = it.0; refused = also; shows = it.1; begun = subst (IsBegun now new) it.2 begun; one = refl });
 })
 
 -- memory ran out
-pub cut_entries : (file : EntryFile) (text : List ℕ) (left : List (List ℕ)) (old now new : Option (List ℕ)) (before status : ℕ) (e : Error) → WrittenSoFar file text left old now before → IsMachineFault e → WritesRefusal e now new status → WritesEntries file text old new status
-cut_entries file text left old now new before status e h fault w = elim w [
+pub cut_entries : (file : EntryFile) (text : List ℕ) (left rest : List (List ℕ)) (entry : List ℕ) (old now new : Option (List ℕ)) (before status : ℕ) (e : Error) → WrittenSoFar file text left old now before → left ≡ entry ∷ rest → IsMachineFault e → WritesRefusal e now new status → WritesEntries file text old new status
+cut_entries file text left rest entry old now new before status e h next fault w = elim w [
   | inl why ↦ absurd (why.0 fault)
-  | inr line ↦ inr (record { shown = h.shown; left = left; are = (h.refused, h.shows); between = now; written = h.written; rest = inr line })
+  | inr line ↦ inr (record { shown = h.shown; entry = entry; rest = rest; are = first_lines file text left rest entry h.shown h.refused next h.shows; between = now; written = h.written; ends = inr line })
 ]

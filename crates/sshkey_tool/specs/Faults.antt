@@ -1,14 +1,6 @@
--- Faults of the machine, and what a line leaves in an output that may have one.
+-- What a line leaves in an output that may fail.
 use Rattle.std.specs.Prelude.{◌≡◌, ◌⊎◌, ℕ, ◌<◌, List, length, take, Option, Bool, true, false}
 use Rattle.std.specs.Io.KnownBytes.{Appends}
-use Rattle.sshkey_base.specs.declared.error.Error.{Error}
-use Rattle.sshkey_base.specs.declared.error.Error.TheVariants as wide
-
--- out of memory, or a fault of the input
-abbrev pub IsMachineFault : Error → Type 0
-IsMachineFault wide.Memory = Unit {0}
-IsMachineFault (wide.Io kind) = Unit {0}
-IsMachineFault _ = ⊥
 
 -- some of its beginning, and not all of it
 abbrev pub IsBegun : Option (List ℕ) → Option (List ℕ) → List ℕ → Type 0

@@ -1,9 +1,9 @@
 -- What is shown of a text, and what is written of it.
-use Rattle.std.specs.Prelude.{◌≡◌, ◌≢◌, ◌⊎◌, ℕ, List, [], ◌++◌, Bool, true, false, Option, Some, IfSome, Result, Ok, Err, String, string_bytes}
+use Rattle.std.specs.Prelude.{◌≡◌, ◌≢◌, ◌⊎◌, ℕ, List, [], ◌++◌, Bool, true, false, Option, Some, Result, Ok, Err, String, string_bytes}
 use Rattle.std.specs.Io.KnownBytes.{Appends}
-use Rattle.std.specs.Str.{IsUtf8}
 use denote.Ref.{Bor}
 use Rattle.sshkey_base.specs.Causes.{cause, NoMemory}
+use Rattle.sshkey_base.specs.Faults.{IsMachineFault}
 use Rattle.sshkey_base.specs.declared.encoding.Error.TheVariants.{Length}
 use Rattle.sshkey_base.specs.declared.error.Error.{Error}
 use Rattle.sshkey_base.specs.declared.error.Error.TheVariants.{Encoding, Memory}
@@ -16,7 +16,7 @@ use Rattle.sshkey_entries.specs.KnownHosts.{IsKnownHost, known_text}
 use Rattle.sshkey_entries.specs.Entries.{IsNoEntry}
 use Rattle.sshkey_public.specs.PublicKeys.{public_of, comment_of}
 use Rattle.sshkey_public.specs.declared.public_key.PublicKey.{PublicKey}
-use Rattle.sshkey_tool.specs.Faults.{IsMachineFault, Writes}
+use Rattle.sshkey_tool.specs.Faults.{Writes}
 use Rattle.sshkey_tool.specs.Lines.{IsCertificateText, IsOneLine, line_end}
 use Rattle.sshkey_tool.specs.Table.{Refused, answer_line, key_text, WritesFault, IsCutShort, IsOfLine, IsOfNoLine, IsRefusalLine, ShowsFile, ShowsFileEntry}
 use Rattle.sshkey_tool.specs.declared.command.Command.{Command}
@@ -87,12 +87,7 @@ pub record WritesFile (file : EntryFile) (text : List ℕ) (old new : Option (Li
 abbrev pub WritesEntries : EntryFile → List ℕ → Option (List ℕ) → Option (List ℕ) → ℕ → Type 0
 WritesEntries file text old new status = WritesFile file text old new status ⊎ IsCutShort file (Some text) old new status
 
--- ---- any input
-
--- The text is all that the input has left; or that is no text, or the machine failed.
-abbrev pub ReadsText : {Z : Type 0} → Option (List ℕ) → Result (String Z) Error → Type 0
-ReadsText known (Ok s) = IfSome known (λ bytes. string_bytes s ≡ bytes)
-ReadsText known (Err e) = IsMachineFault e ⊎ IfSome known (λ bytes. IsUtf8 bytes → ⊥)
+-- ---- any output
 
 -- A reason of one line is written with status 1, or in its place that the machine failed.
 abbrev pub WritesRefusal : Error → Option (List ℕ) → Option (List ℕ) → ℕ → Type 0

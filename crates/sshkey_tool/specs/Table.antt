@@ -142,25 +142,23 @@ WritesFault old new status = (line : List ℕ) × IsFaultLine line × Writes old
 abbrev pub AreFirstLines : EntryFile → List (List ℕ) → List ℕ → List ℕ → Type 0
 AreFirstLines file left shown bytes = (refused : Bool) × ShowsFileFirst file bytes left shown refused
 
--- The output failed within the line of an entry, and that is not whole.
-pub record FailsWithin (file : EntryFile) (left : List (List ℕ)) (old new : Option (List ℕ)) (status : ℕ) : Type 0 where
-  pub entry : List ℕ
+-- The output failed within the line of that entry, which is not whole.
+pub record FailsWithin (file : EntryFile) (entry : List ℕ) (old new : Option (List ℕ)) (status : ℕ) : Type 0 where
   pub line : List ℕ
-  pub rest : List (List ℕ)
   pub refused : Bool
-  pub next : left ≡ entry ∷ rest
   pub shows : ShowsFileEntry file entry (line, refused)
   pub begun : IsBegun old new (line ++ line_end)
   pub one : status ≡ 1
 
--- Behind the lines of the first entries the output failed, or the line of a fault is written.
+-- An entry is left behind the lines of the first ones: the output failed within its line, or the line of a fault stands there.
 pub record IsCutShort (file : EntryFile) (input old new : Option (List ℕ)) (status : ℕ) : Type 0 where
   pub shown : List ℕ
-  pub left : List (List ℕ)
-  pub are : IfSome input (AreFirstLines file left shown)
+  pub entry : List ℕ
+  pub rest : List (List ℕ)
+  pub are : IfSome input (AreFirstLines file (entry ∷ rest) shown)
   pub between : Option (List ℕ)
   pub written : Appends old between shown
-  pub rest : FailsWithin file left between new status ⊎ WritesFault between new status
+  pub ends : FailsWithin file entry between new status ⊎ WritesFault between new status
 
 -- The table's line is written with its status, or that of a fault. What is shown of a file is written as it is made.
 abbrev pub Runs : List (List ℕ) → Option (List ℕ) → Option (List ℕ) → Option (List ℕ) → ℕ → Type 0

@@ -4,7 +4,6 @@
 mod certificate;
 mod command;
 mod entries;
-mod input;
 mod output;
 mod program;
 mod refusal;

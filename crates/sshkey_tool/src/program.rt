@@ -6,11 +6,11 @@ ghost use Rattle.sshkey_tool.specs.Table.{Runs, IsNoCommand, texts};
 
 use crate::command::Command;
 use crate::entries::write_entries;
-use crate::input::read_text;
 use crate::output::write_line;
 use crate::refusal::refuse;
 use crate::shown::{shown_of_certificate_line, shown_of_key_line};
 use sshkey_base::Error;
+use sshkey_input::read_text;
 use std::alloc::Global;
 use std::io::{Read, Write};
 

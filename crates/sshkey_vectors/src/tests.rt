@@ -6,6 +6,8 @@ mod authorized_parts;
 mod derivations;
 mod entry_files;
 mod errors;
+mod failing;
+mod failing_files;
 mod host_parts;
 mod key_files;
 mod keys;

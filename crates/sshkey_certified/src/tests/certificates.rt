@@ -287,6 +287,20 @@ fn a_missing_file_is_not_found(rt: HostRuntime) {
     assert!(rt; is_missing(&rt, rt.alloc(), "no-such-cert.pub"));
 }
 
+/// The fault that is met where the certificate of the line is written.
+fn fault_of_writing<R: Files>(rt: &R, alloc: Global, path: &str) -> Option<Error> {
+    match Certificate::from_openssh(alloc, stored()) {
+        Ok(certificate) => certificate.write_file(rt, alloc, path).err(),
+        Err(_) => None,
+    }
+}
+
+#[test]
+fn a_full_device_is_not_written(rt: HostRuntime) {
+    let met = fault_of_writing(&rt, rt.alloc(), "/dev/full");
+    assert!(rt; met == Some(Error::Io(ErrorKind::StorageFull)));
+}
+
 /// Writes the certificate of the line into the file.
 fn is_in_file<R: Files>(rt: &R, alloc: Global, path: &str) -> bool {
     match Certificate::from_openssh(alloc, stored()) {

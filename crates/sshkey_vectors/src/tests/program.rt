@@ -1,9 +1,10 @@
 //! The program over inputs and outputs that fail. What it answers on lines is in the table of
 //! `sshkey_cases`.
 
+use super::failing::{Failing, Narrow};
 use sshkey_tool::run;
 use std::alloc::Global;
-use std::io::{self, ErrorKind, Read, Write};
+use std::io::ErrorKind;
 
 const LINE: &[u8] =
     b"ssh-ed25519 AAAAC3NzaC1lZDI1NTE5AAAAILM+rvN+ot98qgEN796jTiQfZfG1KaT0PtFDJ/XFSqti user@example.com\r\n";
@@ -18,71 +19,6 @@ const ENTRIES_SHOWN: &[u8] =
 
 const USAGE: &[u8] =
     b"usage: sshkey fingerprint | art <header> | normal | cert [principal] | keys | hosts\n";
-
-/// Gives at most `most` bytes a call. Each other call is interrupted, and once it has given
-/// `before` bytes it fails with `kind`.
-#[derive(Drop)]
-struct Failing<'a> {
-    bytes: &'a [u8],
-    most: usize,
-    before: usize,
-    kind: ErrorKind,
-    interrupted: bool,
-}
-
-impl Read for Failing<'_> {
-    fn read(&mut self, buffer: &mut [u8]) -> io::Result<usize> {
-        self.interrupted = !self.interrupted;
-        if self.interrupted {
-            return Err(io::Error::from(ErrorKind::Interrupted));
-        }
-        if self.before == 0 {
-            return Err(io::Error::from(self.kind));
-        }
-        let bytes = self.bytes;
-        let count = bytes
-            .len()
-            .min(buffer.len())
-            .min(self.most)
-            .min(self.before);
-        let (front, rest) = bytes.split_at(count);
-        buffer[..count].copy_from_slice(front);
-        self.bytes = rest;
-        self.before -= count;
-        Ok(count)
-    }
-}
-
-/// Takes at most `most` bytes a call. Each other call is interrupted, and once it holds `room`
-/// bytes it fails, or takes none.
-#[derive(Drop)]
-struct Narrow {
-    taken: Vec<u8>,
-    most: usize,
-    room: usize,
-    is_full: bool,
-    interrupted: bool,
-}
-
-impl Write for Narrow {
-    fn write(&mut self, bytes: &[u8]) -> io::Result<usize> {
-        self.interrupted = !self.interrupted;
-        if self.interrupted {
-            return Err(io::Error::from(ErrorKind::Interrupted));
-        }
-        let left = self.room.saturating_sub(self.taken.len());
-        if left == 0 && !self.is_full {
-            return Err(io::Error::from(ErrorKind::BrokenPipe));
-        }
-        let count = bytes.len().min(self.most).min(left);
-        self.taken.extend_from_slice(&bytes[..count])?;
-        Ok(count)
-    }
-
-    fn flush(&mut self) -> io::Result<()> {
-        Ok(())
-    }
-}
 
 const FINGERPRINT: [&str; 1] = ["fingerprint"];
 

@@ -8,7 +8,8 @@ pub loop-entry-init : goal.loop-entry-init
 loop-entry-init g c = (tt, tt, rw (c.into_iter-entry-iterator.ensures.into_iter_gives, c.new-entry-items.ensures) (nothing_written c.args.file c.args.text.now (g.W.Write.contents c.args.output.now)))
 
 pub returns-in-Err : goal.returns-in-Err
-returns-in-Err g c = cut_entries c.args.file c.args.text.now c.loop-entry.entry-iterator _ (g.W.Write.contents c.loop-entry.output) _ c.loop-entry.status c.refuse.result c.in-Err.error c.loop-entry.invariant.2 c.in-Err.ensures c.refuse.ensures
+returns-in-Err g c = cut_entries c.args.file c.args.text.now c.loop-entry.entry-iterator c.next.new.self c.in-Some.entry.now _ (g.W.Write.contents c.loop-entry.output) _ c.loop-entry.status c.refuse.result c.in-Err.error
+    c.loop-entry.invariant.2 c.in-Some.ensures.steps c.in-Err.ensures c.refuse.ensures
 
 pub loop-entry-preserved : goal.loop-entry-preserved
 loop-entry-preserved g c =
