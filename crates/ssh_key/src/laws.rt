@@ -52,6 +52,7 @@ pub use sshkey_entries::laws::one_authorized_key;
 pub use sshkey_entries::laws::one_end;
 pub use sshkey_entries::laws::one_hosts;
 pub use sshkey_entries::laws::one_known_host;
+pub use sshkey_entries::laws::one_sshd_key;
 pub use sshkey_entries::laws::readings_apart;
 pub use sshkey_entries::laws::strict_is_read;
 pub use sshkey_fingerprints::laws::compared_fingerprints;
@@ -66,8 +67,8 @@ pub use sshkey_keypairs::laws::ordered_sk_ecdsa_pairs;
 pub use sshkey_keypairs::laws::ordered_sk_ed25519_pairs;
 pub use sshkey_keys::laws::compared_keys;
 pub use sshkey_keys::laws::compared_signatures;
-pub use sshkey_keys::laws::prefix_key as one_key;
-pub use sshkey_keys::laws::prefix_signature as one_signature;
+pub use sshkey_keys::laws::one_key;
+pub use sshkey_keys::laws::one_signature;
 pub use sshkey_kinds::laws::compared_dsa_keys;
 pub use sshkey_kinds::laws::compared_ecdsa_keys;
 pub use sshkey_kinds::laws::compared_ed25519_keys;
@@ -156,6 +157,8 @@ pub use sshkey_pairs::laws::equal_rsa_private_keys;
 pub use sshkey_private::laws::compared_private_keys;
 pub use sshkey_public::laws::compared_public_keys;
 pub use sshkey_sshsig::laws::compared_ssh_signatures;
+pub use sshkey_sshsig::laws::one_ssh_signature;
+pub use sshkey_sshsig::laws::signed_parts_fit;
 pub use sshkey_unsigned::laws::compared_signed_fields;
 
 /// Of every kind of value: two have equal normal forms exactly if they agree in every field, of
