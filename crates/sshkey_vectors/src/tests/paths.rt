@@ -145,6 +145,8 @@ pub mod laws {
     pub use ssh_key::laws::one_known_host;
     pub use ssh_key::laws::one_options;
     pub use ssh_key::laws::one_signature;
+    pub use ssh_key::laws::one_ssh_signature;
+    pub use ssh_key::laws::one_sshd_key;
     pub use ssh_key::laws::options_fit;
     pub use ssh_key::laws::ordered_sk_ecdsa_pairs;
     pub use ssh_key::laws::ordered_sk_ed25519_pairs;
@@ -186,6 +188,7 @@ pub mod laws {
     pub use ssh_key::laws::readings_apart;
     pub use ssh_key::laws::signed_fields;
     pub use ssh_key::laws::signed_fields_fit;
+    pub use ssh_key::laws::signed_parts_fit;
     pub use ssh_key::laws::ssh_signature_fits;
     pub use ssh_key::laws::strict_is_read;
 }
