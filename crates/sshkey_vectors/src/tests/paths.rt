@@ -103,6 +103,8 @@ pub mod laws {
     pub use ssh_key::laws::equal_ecdsa_private_keys;
     pub use ssh_key::laws::equal_ed25519_pairs;
     pub use ssh_key::laws::equal_ed25519_private_keys;
+    pub use ssh_key::laws::equal_encoding_errors;
+    pub use ssh_key::laws::equal_errors;
     pub use ssh_key::laws::equal_hosts;
     pub use ssh_key::laws::equal_kdfs;
     pub use ssh_key::laws::equal_known_hosts;
