@@ -3,4 +3,5 @@ pub mod NormalFits
 pub mod Given
 pub mod Signing
 pub mod Lines
+pub mod OneLines
 pub mod KeysOfCertificates

@@ -1,12 +1,11 @@
 -- Where a line asks for memory.
-use Rattle.std.proofs.Common.{◌≡◌, ℕ, ◌<◌, List, length, Result, Ok, Err, sym, subst, inl, inr}
+use Rattle.std.proofs.Common.{◌≡◌, ℕ, List, Result, Ok, Err, subst, inl, inr}
 use Rattle.sshkey_base.specs.Causes.{cause, NoMemory}
 use Rattle.sshkey_base.specs.Needs.{Asks}
 use Rattle.sshkey_base.specs.Source.{Source}
 use Rattle.sshkey_base.specs.declared.error.Error as wide
 use Rattle.sshkey_base64.specs.Words64.{IsSourceOf}
-use Rattle.sshkey_model.specs.Lines.{IsCut, IsLineOf}
-use Rattle.sshkey_public.specs.LineNeeds.{AsksWord, NeedsValue, HasComment}
+use Rattle.sshkey_public.specs.LineNeeds.{AsksWord}
 use Rattle.sshkey_public.specs.Words.{IsFaultOfWords}
 
 -- a call that reads all of a source of the word's bytes

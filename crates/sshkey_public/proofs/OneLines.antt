@@ -1,5 +1,5 @@
 -- A line holds a line end exactly if its first word or its comment does.
-use Rattle.std.proofs.Common.{◌≡◌, ◌≢◌, ℕ, zero, suc, ◌<◌, ◌+◌, List, [], ◌∷◌, ◌++◌, length, get_or, refl, ◌∙◌, arith}
+use Rattle.std.proofs.Common.{◌≢◌, ℕ, zero, suc, ◌<◌, ◌+◌, List, [], ◌∷◌, ◌++◌, length, get_or, refl, ◌∙◌, arith}
 use Rattle.std.proofs.lemmas.List.{length-append, get_or_append_left, get_or-append-add}
 use Rattle.std.proofs.lemmas.List.Elements.{All-append, All-get_or, All-from_get_or}
 use Rattle.base64.specs.Engines.{standard}

@@ -1,8 +1,8 @@
 -- The plain reader of SSH signatures, without the choice in the name of their key.
-use Rattle.std.proofs.Common.{◌≡◌, ℕ, List, length, Result, Ok, Err, refl, nat_lt, if◌then◌else◌}
+use Rattle.std.proofs.Common.{◌≡◌, ℕ, List, Ok, refl}
 use Rattle.sshkey_model.specs.Parts.{flat, Fits}
 use Rattle.sshkey_model.specs.Grammar.{IsGrammar, SpellsWith}
-use Rattle.sshkey_model.specs.Reading.{Fault, Version, Namespace, ◌>>=◌, Front, whole, box_at, string_at, literal_at}
+use Rattle.sshkey_model.specs.Reading.{◌>>=◌, Front, whole, box_at, string_at, literal_at}
 use Rattle.sshkey_model.specs.Names.{hash_at}
 use Rattle.sshkey_model.specs.Keys.{Head, Plain}
 use Rattle.sshkey_model.specs.Signatures.{signature_at}

@@ -8,20 +8,19 @@ ghost use Rattle.sshkey_cert.specs.Lines.{IsOfSomeLine};
 
 use super::Certificate;
 use sshkey_base::Result;
+use sshkey_input::text_of_file;
 use std::alloc::Global;
-use std::fs::{self, File, Files};
-use std::io;
+use std::fs::{self, Files};
 
 impl Certificate {
     /// Reads the line that a file holds.
     ///
-    /// `Io` with the machine's fault where the file could not be read, `Io(InvalidData)` where it
-    /// is not UTF-8, and else the refusals of `from_openssh`.
+    /// `Io` with the machine's fault where the file could not be read to its end, `Io(InvalidData)`
+    /// where it is not UTF-8, and else the refusals of `from_openssh`.
     pub fn read_file<R: Files>(rt: &R, alloc: Global, path: &str) -> Result<Certificate>
         ensures { IfOk result IsOfSomeLine }
     {
-        let file = File::open(rt, path)?;
-        let text = io::read_to_string(alloc, file)?;
+        let text = text_of_file(rt, alloc, path)?;
         Certificate::from_openssh(alloc, text.as_str())
     }
 

@@ -1,22 +1,25 @@
 //! Certificates in lines.
 
-ghost use Rattle.std.specs.Prelude.{◌≡◌, IfErr, IfOk, string_bytes};
+ghost use Rattle.std.specs.Prelude.{◌≡◌, ◌↔◌, IfErr, IfOk, IsTrue, string_bytes};
 ghost use Rattle.std.specs.Str.{IsUtf8};
 ghost use Rattle.sshkey_base.specs.declared.error.Error.TheVariants as wide;
 ghost use Rattle.sshkey_model.specs.CertificateNames.{certificate_name};
 ghost use Rattle.sshkey_model.specs.Certificates.{Certificate as TheCertificate, normal_certificate};
 ghost use Rattle.sshkey_model.specs.Keys.{key_algorithm};
-ghost use Rattle.sshkey_model.specs.Lines.{name_of_certificate};
+ghost use Rattle.sshkey_model.specs.Lines.{certificate_line, name_of_certificate};
 ghost use Rattle.sshkey_keys.specs.Keys.{key_of};
+ghost use Rattle.sshkey_public.specs.LineNeeds.{AsksLine};
+ghost use Rattle.sshkey_public.specs.OneLine.{IsOneLine};
 ghost use Rattle.sshkey_public.specs.PublicKeys.{MakesLine};
 ghost use Rattle.sshkey_cert.specs.CertificateReaders.{SpellsCertificate};
 ghost use Rattle.sshkey_cert.specs.CertificateValues.{certificate_of, comment_of};
 ghost use Rattle.sshkey_cert.specs.Lines.{ReadsCertificate, certificates_stand};
+ghost use Rattle.sshkey_cert.specs.Needs.{NeedsCertificate};
 
 use super::Certificate;
 use sshkey_base::{Result, Text, Writer, encode_vec, encoding};
 use sshkey_keys::KeyData;
-use sshkey_public::{Blob, make_line, read_line};
+use sshkey_public::{Blob, make_line, makes_one_line, read_line};
 use std::alloc::Global;
 
 /// The name of the certified key's algorithm in certificates.
@@ -47,10 +50,16 @@ impl Certificate {
     /// that is signed by RSA with SHA-1, and `AlgorithmUnknown` where the first word is not the
     /// certificate's name.
     ///
-    /// The comment is all that stands behind the second word, line ends too: where `is_one_line`
-    /// says no, the text had more lines than one, of which only the first is judged here.
+    /// Where the second word is canonical Base64, `Memory` is answered only where the certificate
+    /// in it needs some, or for a comment that is not empty, of a line that is a certificate's:
+    /// never for a length that its bytes only state.
+    ///
+    /// The comment is all that stands behind the second word and a space, line ends too: where
+    /// `is_one_line` says no, the text held more lines than one, and only the first was judged.
     pub fn from_openssh(alloc: Global, text: &str) -> Result<Certificate>
-        ensures { ReadsCertificate text.now result }
+        ensures reads { ReadsCertificate text.now result }
+        ensures asks { AsksLine name_of_certificate SpellsCertificate NeedsCertificate
+            text.now result }
     {
         let (certificate, comment) = read_line::<Certificate>(alloc, text)?;
         Ok(certificate.with_comment(comment))
@@ -68,6 +77,19 @@ impl Certificate {
         let blob = encode_vec(alloc, self)?;
         let name = self.name(alloc)?;
         make_line(alloc, name.as_str(), &blob, self.comment.as_str())
+    }
+
+    /// Whether the line of the certificate's normal form, which `to_openssh` gives, holds no line
+    /// feed and no carriage return. Takes no memory.
+    ///
+    /// A comment can hold them, and so can a private-use name (RFC 4251, section 6, forbids it
+    /// there; a certificate that a line gave has none in its name). Ask before the line is added to
+    /// a file of lines: what stands behind a line end there is a line of its own.
+    pub fn is_one_line(&self) -> bool
+        ensures { IsTrue result
+            ↔ IsOneLine (certificate_line (certificate_of self.now) (comment_of self.now)) }
+    {
+        makes_one_line(self.unsigned.public_key.algorithm_name(), self.comment.as_str())
     }
 
     /// The name of the key's algorithm in certificates. Refused only when out of memory.

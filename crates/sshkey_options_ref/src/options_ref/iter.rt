@@ -84,6 +84,6 @@ impl<'a> IntoIterator for &OptionsRef<'a> {
     ghost into_iter_gives = { λ options left. (left ≡ options_of options.now) × AreOptions left };
 
     fn into_iter(self) -> Options<'a> {
-        self.iter()
+        (*self).into_iter()
     }
 }

@@ -83,6 +83,6 @@ impl<'a> IntoIterator for &TextsRef<'a> {
     ghost into_iter_gives = { λ texts left. left ≡ texts_of texts.now };
 
     fn into_iter(self) -> Texts<'a> {
-        self.iter()
+        (*self).into_iter()
     }
 }

@@ -6,20 +6,23 @@ ghost use Rattle.sshkey_public.specs.PublicKeys.{public_of, IsOfSomeLine, Writes
 
 use super::PublicKey;
 use sshkey_base::Result;
+use sshkey_input::text_of_file;
 use std::alloc::Global;
-use std::fs::{self, File, Files};
-use std::io;
+use std::fs::{self, Files};
 
 impl PublicKey {
     /// Reads the line that a file holds.
     ///
-    /// `Io` with the machine's fault where the file could not be read, `Io(InvalidData)` where it
-    /// is not UTF-8, and else the refusals of `from_openssh`.
+    /// `Io` with the machine's fault where the file could not be read to its end, whatever was read
+    /// before, `Io(InvalidData)` where it is not UTF-8, `Io(Other)` where its end is not met in 2^32
+    /// reads, and else the refusals of `from_openssh`.
+    ///
+    /// Of a file of many lines this reads the first as the key, and keeps the others as its comment:
+    /// `is_one_line` tells. `AuthorizedKeys` and `KnownHosts` read files of many lines.
     pub fn read_openssh_file<R: Files>(rt: &R, alloc: Global, path: &str) -> Result<PublicKey>
         ensures { IfOk result IsOfSomeLine }
     {
-        let file = File::open(rt, path)?;
-        let text = io::read_to_string(alloc, file)?;
+        let text = text_of_file(rt, alloc, path)?;
         PublicKey::from_openssh(alloc, text.as_str())
     }
 

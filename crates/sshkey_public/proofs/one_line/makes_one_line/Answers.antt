@@ -1,4 +1,3 @@
-use Rattle.std.proofs.Common.{sym, ◌∙◌}
 use Rattle.sshkey_public.proofs.OneLines.{one_line_written, one_line_first, one_line_comment}
 use Rattle.sshkey_public.proofs.one_line.makes_one_line.Goals as goal
 

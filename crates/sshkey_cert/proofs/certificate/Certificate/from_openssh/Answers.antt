@@ -1,5 +1,8 @@
 use Rattle.std.proofs.lemmas.Result.{err_from_is_err_and}
 use Rattle.sshkey_cert.proofs.certificate.Certificate.from_openssh.Goals as goal
 
-pub returns-in_err-certificate : goal.returns-in_err-certificate
-returns-in_err-certificate c = let p = err_from_is_err_and c.from_residual.result c.from_residual.ensures.1 in rw (p.1, p.2) c.in_err-certificate.ensures
+pub returns-in_err-certificate-clause-reads : goal.returns-in_err-certificate-clause-reads
+returns-in_err-certificate-clause-reads c = let p = err_from_is_err_and c.from_residual.result c.from_residual.ensures.1 in rw (p.1, p.2) c.in_err-certificate.ensures.reads
+
+pub returns-in_err-certificate-clause-asks : goal.returns-in_err-certificate-clause-asks
+returns-in_err-certificate-clause-asks c = let p = err_from_is_err_and c.from_residual.result c.from_residual.ensures.1 in rw (p.1, p.2) c.in_err-certificate.ensures.asks

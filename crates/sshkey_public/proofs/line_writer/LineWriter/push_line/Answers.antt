@@ -1,4 +1,4 @@
-use Rattle.std.proofs.Common.{length, arith, ◌∙◌}
+use Rattle.std.proofs.Common.{arith, ◌∙◌}
 use Rattle.sshkey_model.specs.Parts.{flat}
 use Rattle.sshkey_base64.proofs.GoodBytes.{length_word}
 use Rattle.sshkey_public.proofs.Filling.{length_line, line_filled, spaced_is}

@@ -1,7 +1,9 @@
-use Rattle.std.proofs.Common.{Ok, Err}
+use Rattle.sshkey_keys.specs.Keys.{key_of}
+use Rattle.sshkey_keys.specs.Signatures.{signature_of}
 use Rattle.std.proofs.lemmas.Result.{err_from_is_err_and}
 use Rattle.sshkey_public.proofs.Verified.{not_made, asked_about, not_made_exactly, asked_exactly}
 use Rattle.sshkey_sshsig.specs.Signing.{signed_parts}
+use Rattle.sshkey_sshsig.specs.SshSignatures.{signer_of, given_of}
 use Rattle.sshkey_public.proofs.public_key.verify.judge.Goals as goal
 
 pub returns-in_err-signed-clause-judges : goal.returns-in_err-signed-clause-judges
@@ -20,5 +22,5 @@ returns-clause-judges g c =
     asked_about _ c.args.signature.now (signed_parts c.args.signature.now c.args.message.now) _ c.verify.result made.0.boxes made.1 (rw (c.public_key-key.ensures, c.signature.ensures, c.deref.ensures.value) at c.verify.ensures.answer)
 
 pub returns-clause-exactly : goal.returns-clause-exactly
-returns-clause-exactly g c = λ boxes. asked_exactly _ _ _ (signed_parts c.args.signature.now c.args.message.now) _ c.verify.result c.in_ok-signed.ensures.1
+returns-clause-exactly g c = λ boxes. asked_exactly (g.V.RawVerifier.accepts c.args.verifier.now) (key_of (signer_of c.args.signature.now)) (signature_of (given_of c.args.signature.now)) (signed_parts c.args.signature.now c.args.message.now) _ c.verify.result c.in_ok-signed.ensures.1
     (rw (c.public_key-key.ensures, c.signature.ensures, c.deref.ensures.value) at c.verify.ensures.exactly)
