@@ -1,3 +1,6 @@
 pub use Rattle.sshkey_authorized_keys.specs.Dividers
 pub use Rattle.sshkey_authorized_keys.specs.OptionAnswers
 pub use Rattle.sshkey_authorized_keys.specs.AuthorizedEntries
+pub use Rattle.sshkey_authorized_keys.specs.EntryFaults
+pub use Rattle.sshkey_authorized_keys.specs.LeftOut
+pub use Rattle.sshkey_authorized_keys.specs.StrictAnswers

@@ -4,4 +4,5 @@ pub use Rattle.sshkey_entries.specs.ConfigOptions
 pub use Rattle.sshkey_entries.specs.AuthorizedKeys
 pub use Rattle.sshkey_entries.specs.KnownHosts
 pub use Rattle.sshkey_entries.specs.StrictReading
+pub use Rattle.sshkey_entries.specs.SshdReading
 pub use Rattle.sshkey_entries.specs.Laws

@@ -1,1 +1,2 @@
 pub use Rattle.sshkey_known_hosts.specs.HostEntries
+pub use Rattle.sshkey_known_hosts.specs.HostFaults

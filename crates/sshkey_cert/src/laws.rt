@@ -2,36 +2,21 @@
 
 ghost use Rattle.std.specs.Prelude.{◌≡◌, ◌++◌, ℕ, List};
 ghost use Rattle.sshkey_model.specs.Certificates.{Certificate as TheCertificate};
-ghost use Rattle.sshkey_model.specs.Laws.{DetermineFields, AreApart};
 ghost use Rattle.sshkey_cert.specs.CertificateReaders.{SpellsCertificate};
 ghost use Rattle.sshkey_base.specs.Comparisons.{EqualMeanSame, IsEqualityAmong};
 ghost use Rattle.sshkey_cert.specs.Comparisons.{IsOfKeys, IsOrderOfCertificates, content_of};
 
 use crate::certificate::Certificate;
 use sshkey_keys::laws::compared_signatures;
-use sshkey_model::laws;
+pub use sshkey_model::laws::{apart, certificate_fields, prefix_certificate};
 use sshkey_unsigned::laws::compared_signed_fields;
 
 /// No spelling of a certificate begins another: what follows it does not matter, and it is that of
 /// one certificate.
-pub fn prefix_certificate()
+pub fn one_certificate()
     ensures { (c d : TheCertificate) (a b r q : List ℕ) → SpellsCertificate c a
         → SpellsCertificate d b → a ++ r ≡ b ++ q → (c ≡ d) × (a ≡ b) × (r ≡ q) }
 {}
-
-/// The bytes that a certificate's signature is over determine every other field.
-pub fn certificate_fields()
-    ensures { DetermineFields }
-{
-    laws::certificate_fields();
-}
-
-/// What a certificate's signature is over is never what an SSH signature is over.
-pub fn apart()
-    ensures { AreApart }
-{
-    laws::apart();
-}
 
 /// Two certificates that are equal mean the same and have one comment, and with well-formed keys
 /// two are equal exactly if they do. They are ordered by what they sign, field by field from the

@@ -13,9 +13,10 @@ use crate::cert_type::CertType;
 use crate::end_time::EndTime;
 use crate::options_map::OptionsMap;
 use crate::unix_time::UnixTime;
+pub use sshkey_model::laws::prefix_options;
 
 /// No options begin others: what follows them does not matter, and they are those of one map.
-pub fn prefix_options()
+pub fn one_options()
     ensures { (o p : List CertificateOption) (a b r q : List ℕ) → SpellsOptions o a →
         SpellsOptions p b → a ++ r ≡ b ++ q → (o ≡ p) × (a ≡ b) × (r ≡ q) }
 {}

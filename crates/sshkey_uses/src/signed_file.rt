@@ -3,7 +3,7 @@
 ghost use Rattle.ssh_key.specs.base.Acceptance.{AcceptsExactly};
 ghost use Rattle.sshkey_uses.specs.SignedFiles.{IsSignedFile};
 
-use ssh_key::laws::{compared_keys, lines, prefix_ssh_signature};
+use ssh_key::laws::{lines, one_ssh_signature};
 use ssh_key::{PublicKey, RawVerifier, Result, SshSig};
 use std::alloc::Global;
 
@@ -23,9 +23,8 @@ pub fn accept_file<V: RawVerifier>(
     ensures { AcceptsExactly (IsSignedFile (V.accepts verifier.now)
         line.now namespace.now content.now signature.now) result }
 {
-    compared_keys();
     lines();
-    prefix_ssh_signature();
+    one_ssh_signature();
     let key = PublicKey::from_openssh(alloc, line)?;
     let signature = SshSig::from_bytes(alloc, signature)?;
     key.verify(alloc, namespace, content, &signature, verifier)

@@ -103,6 +103,8 @@ pub mod laws {
     pub use ssh_key::laws::equal_ecdsa_private_keys;
     pub use ssh_key::laws::equal_ed25519_pairs;
     pub use ssh_key::laws::equal_ed25519_private_keys;
+    pub use ssh_key::laws::equal_encoding_errors;
+    pub use ssh_key::laws::equal_errors;
     pub use ssh_key::laws::equal_hosts;
     pub use ssh_key::laws::equal_kdfs;
     pub use ssh_key::laws::equal_known_hosts;
@@ -145,6 +147,8 @@ pub mod laws {
     pub use ssh_key::laws::one_known_host;
     pub use ssh_key::laws::one_options;
     pub use ssh_key::laws::one_signature;
+    pub use ssh_key::laws::one_ssh_signature;
+    pub use ssh_key::laws::one_sshd_key;
     pub use ssh_key::laws::options_fit;
     pub use ssh_key::laws::ordered_sk_ecdsa_pairs;
     pub use ssh_key::laws::ordered_sk_ed25519_pairs;
@@ -186,6 +190,7 @@ pub mod laws {
     pub use ssh_key::laws::readings_apart;
     pub use ssh_key::laws::signed_fields;
     pub use ssh_key::laws::signed_fields_fit;
+    pub use ssh_key::laws::signed_parts_fit;
     pub use ssh_key::laws::ssh_signature_fits;
     pub use ssh_key::laws::strict_is_read;
 }

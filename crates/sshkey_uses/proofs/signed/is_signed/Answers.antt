@@ -19,4 +19,4 @@ returns-clause-answer g c =
     answered _ _ _ _
     (λ accepted. record { signature = _; spelled = spelled; accepted = accepted })
     (λ signed. subst (λ s. IsAccepted (g.V.RawVerifier.accepts c.args.verifier.now) (key_of c.args.key.now) c.args.message.now s) (sym (c.one_signature.ensures _ _ _ _ [] [] spelled signed.spelled refl).0) signed.accepted)
-    c.verify.ensures.accepted c.verify.ensures.refused c.answer_of.ensures
+    c.verify.ensures.exactly c.answer_of.ensures

@@ -1,6 +1,6 @@
 use Rattle.sshkey_model.proofs.Grammars.{one_front}
 use Rattle.sshkey_cert.specs.CertificateReaders.{certificate_grammar}
-use Rattle.sshkey_cert.proofs.laws.prefix_certificate.Goals as goal
+use Rattle.sshkey_cert.proofs.laws.one_certificate.Goals as goal
 
 pub returns : goal.returns
 returns c = one_front certificate_grammar
