@@ -43,13 +43,7 @@ fn ecdsa_is_not_asked(alloc: Global) -> Result<bool> {
     let error = Error::AlgorithmUnsupported {
         algorithm: Algorithm::SkEcdsaSha2NistP256,
     };
-    Ok(is_answer(
-        alloc,
-        KeyData::SkEcdsaSha2NistP256(key),
-        "file",
-        &error,
-        0,
-    ))
+    Ok(is_answer(alloc, KeyData::SkEcdsaSha2NistP256(key), "file", &error, 0))
 }
 
 #[test]
