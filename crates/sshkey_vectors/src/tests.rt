@@ -2,6 +2,7 @@
 //! readers, writers, inputs and outputs that fail; and verifiers. A test asserts answers of yes or
 //! no, since one with a `?` at every call takes longer to prove.
 
+mod asked_signers;
 mod authorized_parts;
 mod derivations;
 mod entry_files;
