@@ -1,3 +1,4 @@
+pub mod Chained
 pub mod Principals
 pub mod Signed
 pub mod Steps

@@ -1,6 +1,11 @@
 -- What a builder holds, and what its calls answer.
-use Rattle.std.specs.Prelude.{◌≡◌, ◌≢◌, ℕ, Option, Some, None, option_map, Result, Ok, Err}
+use Rattle.std.specs.Prelude.{◌≡◌, ◌≢◌, ◌↔◌, ℕ, ◌<◌, ◌≤◌, ◌^◌, List, Bool, Contains, Option, Some, None, option_map, Result, Ok, Err, IfOk}
+use Rattle.std.specs.Borrow.{RestsIfErr, MutBor, Fml}
 use Rattle.sshkey_model.specs.Drafts.{Draft, DraftField, SerialField, KindField, KeyIdField, PrincipalsField, AfterField, BeforeField, CriticalField, ExtensionsField, CommentField, Step, after_step, bad_window}
+use Rattle.sshkey_model.specs.Certificates.{Certificate}
+use Rattle.sshkey_model.specs.Fingerprints.{Fingerprint}
+use Rattle.sshkey_model.specs.Verification.{Question}
+use Rattle.sshkey_model.specs.Validity.{IsValid}
 use Rattle.sshkey_base.specs.TextLists.{texts_of}
 use Rattle.sshkey_base.specs.declared.certificate.field.Field.{Field}
 use Rattle.sshkey_base.specs.declared.certificate.field.Field.TheVariants as field
@@ -12,7 +17,9 @@ use Rattle.sshkey_options.specs.OptionMaps.{options_of}
 use Rattle.sshkey_options.specs.declared.end_time.EndTime.{EndTime}
 use Rattle.sshkey_options.specs.declared.unix_time.UnixTime.{UnixTime}
 use Rattle.sshkey_options.specs.Times.{time_of, end_of}
+use Rattle.sshkey_builder.specs.contracts.builder.Builder.{the_row}
 use Rattle.sshkey_builder.specs.declared.builder.Builder.{Builder}
+use Rattle.sshkey_builder.specs.declared.builder.chain.Loan.{Loan}
 
 abbrev pub draft_of : Builder → Draft
 draft_of b = record {
@@ -69,15 +76,30 @@ abbrev pub TakesStepAlways : Step → Builder → Result Unit Error → Builder 
 TakesStepAlways s b (Ok x) after = after_step s (draft_of b) ≡ Ok (draft_of after)
 TakesStepAlways s b (Err e) after = (draft_of after ≡ draft_of b) × RefusesAlways (after_step s (draft_of b)) e
 
+-- ---- steps that hand the builder back
+
 -- The step was taken, and a reference to the builder is handed back, or it was refused.
-abbrev pub Chains : {R : Type 0} → (R → Builder) → Step → Builder → Result R Error → Type 0
-Chains held s b (Ok r) = after_step s (draft_of b) ≡ Ok (draft_of (held r))
-Chains held s b (Err e) = Refuses (after_step s (draft_of b)) e
+abbrev pub Chains : Step → Builder → Result (MutBor Builder) Error → Type 0
+Chains s b (Ok r) = after_step s (draft_of b) ≡ Ok (draft_of r.now)
+Chains s b (Err e) = Refuses (after_step s (draft_of b)) e
 
 -- The same of a step that takes no memory.
-abbrev pub ChainsAlways : {R : Type 0} → (R → Builder) → Step → Builder → Result R Error → Type 0
-ChainsAlways held s b (Ok r) = after_step s (draft_of b) ≡ Ok (draft_of (held r))
-ChainsAlways held s b (Err e) = RefusesAlways (after_step s (draft_of b)) e
+abbrev pub ChainsAlways : Step → Builder → Result (MutBor Builder) Error → Type 0
+ChainsAlways s b (Ok r) = after_step s (draft_of b) ≡ Ok (draft_of r.now)
+ChainsAlways s b (Err e) = RefusesAlways (after_step s (draft_of b)) e
+
+-- The reference that is handed back is the builder's own.
+abbrev pub IsTheBuilder : MutBor Builder → Result (MutBor Builder) Error → Type 0
+IsTheBuilder s r = IfOk r (λ b. b.ghost_name ≡ s.ghost_name)
+
+-- Where nothing is handed back, the builder is left with the draft that it had.
+abbrev pub StaysIfRefused : MutBor Builder → Result (MutBor Builder) Error → Fml
+StaysIfRefused s r = RestsIfErr the_row s (λ b. b.ghost_name) r (λ last. draft_of last ≡ draft_of s.now)
+
+-- the builder itself, or the error
+abbrev pub handed_back : Result Loan Error → Result (MutBor Builder) Error
+handed_back (Ok l) = Ok l.builder
+handed_back (Err e) = Err e
 
 -- ---- beginnings
 
@@ -95,3 +117,9 @@ Begins bad d (Err e) = option_map field_error bad ≡ Some e
 abbrev pub BeginsInMemory : Option DraftField → Draft → Result Builder Error → Type 0
 BeginsInMemory bad d (Ok b) = (bad ≡ None) × (draft_of b ≡ d)
 BeginsInMemory bad d (Err e) = e ≢ wide.Memory → option_map field_error bad ≡ Some e
+
+-- ---- signed
+
+-- It is valid exactly at the times from the first one on and before the second, for whoever has that fingerprint.
+abbrev pub IsValidExactlyIn : (Question → Bool) → Fingerprint → ℕ → ℕ → Certificate → Type 0
+IsValidExactlyIn accepts print after before c = (fingerprints : List Fingerprint) (t : ℕ) → IsValid accepts fingerprints t c ↔ (Contains fingerprints print × (t < 2 ^ 63) × (after ≤ t) × (t < before))

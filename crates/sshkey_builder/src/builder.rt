@@ -1,18 +1,21 @@
 //! How certificates are made.
 
 ghost use Rattle.rand_core.specs.Stream.{fill_bytes};
-ghost use Rattle.std.specs.Prelude.{◌≡◌, [], IfOk, OnOk, string_bytes};
+ghost use Rattle.std.specs.Borrow.{sem};
+ghost use Rattle.std.specs.Prelude.{◌≡◌, [], OnOk, string_bytes};
 ghost use Rattle.sshkey_keys.specs.Keys.{key_of};
 ghost use Rattle.sshkey_model.specs.Certificates.{forever};
 ghost use Rattle.sshkey_model.specs.Drafts.{Serial, Kind, KeyId, Comment, Principal, AllPrincipals, Critical, Extension, begun, bad_start, bad_window};
 ghost use Rattle.sshkey_options.specs.CertTypes.{type_of};
 ghost use Rattle.sshkey_options.specs.OptionMaps.{option_of};
 ghost use Rattle.sshkey_options.specs.Times.{end_of, time_of};
-ghost use Rattle.sshkey_builder.specs.Builders.{draft_of, IsWindow, Begins, BeginsInMemory, Chains, ChainsAlways};
+ghost use Rattle.sshkey_builder.specs.Builders.{draft_of, IsWindow, Begins, BeginsInMemory, Chains, ChainsAlways, IsTheBuilder, StaysIfRefused};
 
+mod chain;
 mod set;
 mod sign;
 
+use chain::hand_back;
 use rand_core::{CryptoRng, Rng};
 use sshkey_base::certificate::Field;
 use sshkey_base::{Bytes, Error, Result, Text};
@@ -23,7 +26,8 @@ use std::alloc::Global;
 /// Collects the fields of a certificate, and signs them.
 ///
 /// Each setter stands here twice: `serial` hands the builder back, so that calls can be chained;
-/// `set_serial` answers nothing, and its contract also says that a refused call changes nothing.
+/// `set_serial` answers nothing. A refused call of either changes nothing, which a caller's proof
+/// learns by itself of `set_serial` alone.
 pub struct Builder {
     alloc: Global,
     nonce: Bytes,
@@ -148,76 +152,76 @@ impl Builder {
     /// Sets the serial number. `CertificateFieldInvalid(Field::Serial)` if it was set. Takes no
     /// memory.
     pub fn serial(&mut self, serial: u64) -> Result<&mut Builder>
-        ensures same_reference { IfOk result (λ b. b.ghost_name ≡ self.entry.ghost_name) }
-        ensures step { ChainsAlways (λ b. b.now) (Serial serial) self.old result }
+        ensures* stays { sem 𝓛 (StaysIfRefused self.entry result) }
+        ensures same_reference { IsTheBuilder self.entry result }
+        ensures step { ChainsAlways (Serial serial) self.old result }
     {
-        self.set_serial(serial)?;
-        Ok(self)
+        hand_back(self.chain_serial(serial))
     }
 
     /// Sets the type. `CertificateFieldInvalid(Field::CertType)` if it was set. Takes no memory.
     pub fn cert_type(&mut self, cert_type: CertType) -> Result<&mut Builder>
-        ensures same_reference { IfOk result (λ b. b.ghost_name ≡ self.entry.ghost_name) }
-        ensures step { ChainsAlways (λ b. b.now) (Kind (type_of cert_type)) self.old result }
+        ensures* stays { sem 𝓛 (StaysIfRefused self.entry result) }
+        ensures same_reference { IsTheBuilder self.entry result }
+        ensures step { ChainsAlways (Kind (type_of cert_type)) self.old result }
     {
-        self.set_cert_type(cert_type)?;
-        Ok(self)
+        hand_back(self.chain_cert_type(cert_type))
     }
 
     /// Sets the key id. `CertificateFieldInvalid(Field::KeyId)` if it was set. Takes no memory.
     pub fn key_id(&mut self, key_id: String) -> Result<&mut Builder>
-        ensures same_reference { IfOk result (λ b. b.ghost_name ≡ self.entry.ghost_name) }
-        ensures step { ChainsAlways (λ b. b.now) (KeyId (string_bytes key_id)) self.old result }
+        ensures* stays { sem 𝓛 (StaysIfRefused self.entry result) }
+        ensures same_reference { IsTheBuilder self.entry result }
+        ensures step { ChainsAlways (KeyId (string_bytes key_id)) self.old result }
     {
-        self.set_key_id(key_id)?;
-        Ok(self)
+        hand_back(self.chain_key_id(key_id))
     }
 
     /// Sets the comment. `CertificateFieldInvalid(Field::Comment)` if it was set. Takes no memory.
     pub fn comment(&mut self, comment: String) -> Result<&mut Builder>
-        ensures same_reference { IfOk result (λ b. b.ghost_name ≡ self.entry.ghost_name) }
-        ensures step { ChainsAlways (λ b. b.now) (Comment (string_bytes comment)) self.old result }
+        ensures* stays { sem 𝓛 (StaysIfRefused self.entry result) }
+        ensures same_reference { IsTheBuilder self.entry result }
+        ensures step { ChainsAlways (Comment (string_bytes comment)) self.old result }
     {
-        self.set_comment(comment)?;
-        Ok(self)
+        hand_back(self.chain_comment(comment))
     }
 
     /// Names one more principal, also after all were made valid. Refused only when out of memory.
     pub fn valid_principal(&mut self, principal: String) -> Result<&mut Builder>
-        ensures same_reference { IfOk result (λ b. b.ghost_name ≡ self.entry.ghost_name) }
-        ensures step { Chains (λ b. b.now) (Principal (string_bytes principal)) self.old result }
+        ensures* stays { sem 𝓛 (StaysIfRefused self.entry result) }
+        ensures same_reference { IsTheBuilder self.entry result }
+        ensures step { Chains (Principal (string_bytes principal)) self.old result }
     {
-        self.add_valid_principal(principal)?;
-        Ok(self)
+        hand_back(self.chain_valid_principal(principal))
     }
 
     /// Makes all principals valid, whichever were named. Never refused, and takes no memory.
     pub fn all_principals_valid(&mut self) -> Result<&mut Builder>
-        ensures same_reference { IfOk result (λ b. b.ghost_name ≡ self.entry.ghost_name) }
-        ensures step { ChainsAlways (λ b. b.now) AllPrincipals self.old result }
+        ensures* stays { sem 𝓛 (StaysIfRefused self.entry result) }
+        ensures same_reference { IsTheBuilder self.entry result }
+        ensures step { ChainsAlways AllPrincipals self.old result }
     {
-        self.set_all_principals_valid()?;
-        Ok(self)
+        hand_back(self.chain_all_principals_valid())
     }
 
     /// Adds one of the critical options. `CertificateFieldInvalid(Field::CriticalOptions)` if there
     /// is one of that name, and else refused only when out of memory.
     pub fn critical_option(&mut self, name: String, value: String) -> Result<&mut Builder>
-        ensures same_reference { IfOk result (λ b. b.ghost_name ≡ self.entry.ghost_name) }
-        ensures step { Chains (λ b. b.now) (Critical (option_of (name, value))) self.old result }
+        ensures* stays { sem 𝓛 (StaysIfRefused self.entry result) }
+        ensures same_reference { IsTheBuilder self.entry result }
+        ensures step { Chains (Critical (option_of (name, value))) self.old result }
     {
-        self.add_critical_option(name, value)?;
-        Ok(self)
+        hand_back(self.chain_critical_option(name, value))
     }
 
     /// Adds one of the extensions. `CertificateFieldInvalid(Field::Extensions)` if there is one of
     /// that name, and else refused only when out of memory.
     pub fn extension(&mut self, name: String, value: String) -> Result<&mut Builder>
-        ensures same_reference { IfOk result (λ b. b.ghost_name ≡ self.entry.ghost_name) }
-        ensures step { Chains (λ b. b.now) (Extension (option_of (name, value))) self.old result }
+        ensures* stays { sem 𝓛 (StaysIfRefused self.entry result) }
+        ensures same_reference { IsTheBuilder self.entry result }
+        ensures step { Chains (Extension (option_of (name, value))) self.old result }
     {
-        self.add_extension(name, value)?;
-        Ok(self)
+        hand_back(self.chain_extension(name, value))
     }
 }
 

@@ -2,10 +2,10 @@
 
 ghost use Rattle.std.specs.Prelude.{◌≡◌, [], Err, IfOk, IfErr, IsSome, IsNone};
 ghost use Rattle.sshkey_keys.specs.Keys.{key_of};
-ghost use Rattle.sshkey_model.specs.Drafts.{IsSignedDraft, IsValidThrough, drafted, or_default};
+ghost use Rattle.sshkey_model.specs.Drafts.{IsSignedDraft, drafted, or_default};
 ghost use Rattle.sshkey_model.specs.Fingerprints.{fingerprint};
 ghost use Rattle.sshkey_model.specs.Names.{Sha256};
-ghost use Rattle.sshkey_builder.specs.Builders.{draft_of, no_principals};
+ghost use Rattle.sshkey_builder.specs.Builders.{IsValidExactlyIn, draft_of, no_principals};
 ghost use Rattle.sshkey_unsigned.specs.UnsignedValues.{unsigned_of};
 ghost use Rattle.sshkey_cert.specs.CertificateValues.{certificate_of, comment_of};
 ghost use Rattle.sshkey_cert.specs.Signing.{RefusesToSign};
@@ -23,8 +23,9 @@ impl Builder {
     /// Signs what was collected, with the defaults for what was not set: serial number 0, a user,
     /// an empty key id and an empty comment.
     ///
-    /// The certificate is valid, as `validate_at` has it, at each time of its window, by the
-    /// signer's `raw` and for whoever gives the fingerprint of the signer's key.
+    /// The certificate is valid, as `validate_at` has it, at each time of its window and at no other,
+    /// by the signer's `raw`, for whoever gives the fingerprint of the signer's key and for nobody
+    /// else.
     ///
     /// `CertificateFieldInvalid(Field::ValidPrincipals)` where no principal was named and not all
     /// were made valid, whatever memory there is. Else, out of memory aside, `Length` where the bytes
@@ -35,8 +36,10 @@ impl Builder {
             (key_of (S.public_of signing_key.now)) (draft_of self) (certificate_of c)) }
         ensures comment { IfOk result
             (λ c. comment_of c ≡ or_default [] (draft_of self).comment) }
-        ensures valid { IfOk result (λ c. IsValidThrough (S.Raw.accepts (S.raw_of signing_key.now))
-            (fingerprint Sha256 (key_of (S.public_of signing_key.now))) (certificate_of c)) }
+        ensures valid { IfOk result (λ c. IsValidExactlyIn
+            (S.Raw.accepts (S.raw_of signing_key.now))
+            (fingerprint Sha256 (key_of (S.public_of signing_key.now)))
+            (draft_of self).valid_after (draft_of self).valid_before (certificate_of c)) }
         ensures refused { IsSome (draft_of self).valid_principals
             → IfErr result (RefusesToSign (S.refuses signing_key.now)
             (drafted (draft_of self) (key_of (S.public_of signing_key.now)))) }
