@@ -3,6 +3,7 @@
 pub use sshkey_base::encoding::{Error, Result};
 pub use sshkey_base::{
     Bytes, Decode, Encode, Label, LabelError, NestedReader, NormalForm, Reader, Refusal,
-    ShortBytes, SliceWriter, Text, Writer, array_from, decode_boxed, decode_front, decode_whole,
-    encode_list, encode_string, encode_vec, length_from, list_len, string_len,
+    ShortBytes, SliceWriter, Text, Writer, array_from, both_len, decode_boxed, decode_front,
+    decode_whole, encode_both, encode_list, encode_string, encode_vec, length_from, list_len,
+    string_len,
 };

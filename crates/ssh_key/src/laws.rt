@@ -2,10 +2,34 @@
 //! contract.
 //!
 //! `readers::exact_*` say that a plain reader takes exactly the spellings of its kind; `prefix_*`
-//! that no spelling begins another; `normal_*` that normal forms determine values; `read_back_*`
-//! that what is written is read back; `*_fits` that what fits in one spelling fits in the normal
-//! one; `compared_*`, `equal_*` and `ordered_*` what `==` and `cmp` go by. `certificates` and `private` have
-//! those of certificates and of private keys. The others say what their docs say.
+//! that no spelling begins another, and `one_*` that bytes or a text are of one value; `normal_*`
+//! that normal forms determine values, and `normal_forms` so of every kind; `read_back_*` that what
+//! is written is read back; `*_fits` that what fits in one spelling fits in the normal one;
+//! `compared_*`, `equal_*` and `ordered_*` what `==` and `cmp` go by. `certificates` has those of
+//! what is valid. The others say what their docs say.
+
+ghost use Rattle.std.specs.Prelude.{ℕ};
+ghost use Rattle.std.specs.Int.{w64};
+ghost use Rattle.std.specs.List.{AllByRecursion};
+ghost use Rattle.ssh_key.specs.NormalForms.{AreNormalForms};
+ghost use Rattle.sshkey_model.specs.CertificateNames.{IsCertified, certificate_algorithm, certificate_algorithm_at};
+ghost use Rattle.sshkey_model.specs.Certificates.{AreSignedFields, IsCertificate, IsEnd, IsTime, certificate_at, certificate_type, end_at, normal_certificate, normal_to_be_signed, signed_fields_at, time_at, type_at};
+ghost use Rattle.sshkey_model.specs.Grammar.{value_at};
+ghost use Rattle.sshkey_model.specs.KeyDerivation.{cipher, cipher_at, kdf, kdf_algorithm, kdf_algorithm_at, kdf_at};
+ghost use Rattle.sshkey_model.specs.KeyPairs.{IsKeyPair, IsPairUnder, IsRsaPrivate, IsScalar, Plain, keypair_at, normal_keypair, pair, pair_at, rsa_private, rsa_private_at, scalar, scalar_at};
+ghost use Rattle.sshkey_model.specs.Keys.{IsBodyUnder, IsKey, body, body_at, key_at, normal_key};
+ghost use Rattle.sshkey_model.specs.Lines.{LinesAreApart, LinesDetermineValues, key_name, name_of_certificate};
+ghost use Rattle.sshkey_model.specs.Mpints.{IsMpint, mpint_at};
+ghost use Rattle.sshkey_model.specs.Names.{Algorithm, IsAlgorithm, algorithm, algorithm_at, curve, curve_at, hash, hash_at};
+ghost use Rattle.sshkey_model.specs.Options.{AreOptions, normal_options, options_at};
+ghost use Rattle.sshkey_model.specs.Parts.{Any, number};
+ghost use Rattle.sshkey_model.specs.Points.{IsPointOf, point_at};
+ghost use Rattle.sshkey_model.specs.PrivateKeys.{IsPrivateKey, normal_private_key, private_key_at};
+ghost use Rattle.sshkey_model.specs.Signatures.{IsSignature, signature, signature_at};
+ghost use Rattle.sshkey_model.specs.SshSignatures.{IsSshSignature, normal_ssh_signature, ssh_signature_at};
+ghost use Rattle.sshkey_model.specs.Texts.{IsText, string, text_at, texts, texts_at};
+ghost use Rattle.sshkey_keys.specs.Keys.{SpellsKey};
+ghost use Rattle.sshkey_cert.specs.CertificateReaders.{SpellsCertificate};
 
 pub use sshkey_authorized_keys::laws::equal_authorized_keys;
 pub use sshkey_authorized_keys::laws::equal_config_opts;
@@ -15,9 +39,12 @@ pub use sshkey_base::laws::compared_curves;
 pub use sshkey_base::laws::compared_fields;
 pub use sshkey_base::laws::compared_hashes;
 pub use sshkey_base::laws::compared_mpints;
+pub use sshkey_base::laws::equal_encoding_errors;
+pub use sshkey_base::laws::equal_errors;
 pub use sshkey_base::laws::one_front;
 pub use sshkey_base::laws::read_back;
 pub use sshkey_cert::laws::compared_certificates;
+pub use sshkey_cert::laws::prefix_certificate as one_certificate;
 pub use sshkey_ciphers::laws::compared_ciphers;
 pub use sshkey_ciphers::laws::compared_kdf_algorithms;
 pub use sshkey_ciphers::laws::equal_kdfs;
@@ -39,6 +66,8 @@ pub use sshkey_keypairs::laws::ordered_sk_ecdsa_pairs;
 pub use sshkey_keypairs::laws::ordered_sk_ed25519_pairs;
 pub use sshkey_keys::laws::compared_keys;
 pub use sshkey_keys::laws::compared_signatures;
+pub use sshkey_keys::laws::prefix_key as one_key;
+pub use sshkey_keys::laws::prefix_signature as one_signature;
 pub use sshkey_kinds::laws::compared_dsa_keys;
 pub use sshkey_kinds::laws::compared_ecdsa_keys;
 pub use sshkey_kinds::laws::compared_ed25519_keys;
@@ -86,7 +115,22 @@ pub use sshkey_model::laws::prefix_signature;
 pub use sshkey_model::laws::prefix_ssh_signature;
 pub use sshkey_model::laws::prefix_text;
 pub use sshkey_model::laws::prefix_texts;
-pub use sshkey_model::laws::private;
+pub use sshkey_model::laws::private::decode_private_key;
+pub use sshkey_model::laws::private::normal_kdfs;
+pub use sshkey_model::laws::private::normal_keypairs;
+pub use sshkey_model::laws::private::normal_private_keys;
+pub use sshkey_model::laws::private::prefix_cipher;
+pub use sshkey_model::laws::private::prefix_ecdsa_pair;
+pub use sshkey_model::laws::private::prefix_kdf;
+pub use sshkey_model::laws::private::prefix_kdf_name;
+pub use sshkey_model::laws::private::prefix_keypair;
+pub use sshkey_model::laws::private::prefix_pair;
+pub use sshkey_model::laws::private::prefix_private_key;
+pub use sshkey_model::laws::private::prefix_rsa_private;
+pub use sshkey_model::laws::private::prefix_scalar;
+pub use sshkey_model::laws::private::read_back_kdf;
+pub use sshkey_model::laws::private::read_back_keypair;
+pub use sshkey_model::laws::private::read_back_private_key;
 pub use sshkey_model::laws::read_back_certificate;
 pub use sshkey_model::laws::read_back_key;
 pub use sshkey_model::laws::read_back_options;
@@ -100,6 +144,7 @@ pub use sshkey_options::laws::compared_ends;
 pub use sshkey_options::laws::compared_options;
 pub use sshkey_options::laws::compared_times;
 pub use sshkey_options::laws::compared_types;
+pub use sshkey_options::laws::prefix_options as one_options;
 pub use sshkey_pairs::laws::equal_dsa_pairs;
 pub use sshkey_pairs::laws::equal_dsa_private_keys;
 pub use sshkey_pairs::laws::equal_ecdsa_pairs;
@@ -112,3 +157,49 @@ pub use sshkey_private::laws::compared_private_keys;
 pub use sshkey_public::laws::compared_public_keys;
 pub use sshkey_sshsig::laws::compared_ssh_signatures;
 pub use sshkey_unsigned::laws::compared_signed_fields;
+
+/// Of every kind of value: two have equal normal forms exactly if they agree in every field, of
+/// private keys also in checkint and tag, and what reads a normal form gives the value that it is
+/// of, so that normalising twice is normalising once.
+pub fn normal_forms()
+    ensures mpints { AreNormalForms IsMpint string mpint_at }
+    ensures texts { AreNormalForms IsText string text_at }
+    ensures text_lists { AreNormalForms (AllByRecursion IsText) texts texts_at }
+    ensures points { AreNormalForms IsPointOf (λ x. string x.1) point_at }
+    ensures curves { AreNormalForms Any curve curve_at }
+    ensures hashes { AreNormalForms Any hash hash_at }
+    ensures names { AreNormalForms IsAlgorithm algorithm algorithm_at }
+    ensures certificate_names { AreNormalForms IsCertified certificate_algorithm
+        certificate_algorithm_at }
+    ensures bodies { (a : Algorithm) → AreNormalForms (IsBodyUnder a) body (body_at a) }
+    ensures keys { AreNormalForms IsKey normal_key (value_at key_at) }
+    ensures signatures { AreNormalForms IsSignature signature signature_at }
+    ensures ssh_signatures { AreNormalForms IsSshSignature normal_ssh_signature
+        (value_at ssh_signature_at) }
+    ensures options { AreNormalForms AreOptions normal_options (value_at options_at) }
+    ensures types { AreNormalForms Any certificate_type type_at }
+    ensures times { AreNormalForms IsTime (number w64) time_at }
+    ensures ends { AreNormalForms IsEnd (number w64) end_at }
+    ensures signed_fields { AreNormalForms AreSignedFields normal_to_be_signed
+        (value_at signed_fields_at) }
+    ensures certificates { AreNormalForms IsCertificate normal_certificate
+        (value_at certificate_at) }
+    ensures ciphers { AreNormalForms Any cipher cipher_at }
+    ensures kdf_names { AreNormalForms Any kdf_algorithm kdf_algorithm_at }
+    ensures kdfs { AreNormalForms Any kdf kdf_at }
+    ensures scalars { (size : ℕ) → AreNormalForms (IsScalar size) (λ s. scalar s Plain)
+        (value_at (scalar_at size)) }
+    ensures rsa_private_halves { AreNormalForms IsRsaPrivate rsa_private rsa_private_at }
+    ensures pairs { (a : Algorithm) → AreNormalForms (IsPairUnder a) (λ k. pair k Plain)
+        (value_at (pair_at a)) }
+    ensures keypairs { AreNormalForms IsKeyPair normal_keypair (value_at keypair_at) }
+    ensures private_keys { AreNormalForms IsPrivateKey normal_private_key
+        (value_at private_key_at) }
+{}
+
+/// A text is the line of one key or of one certificate at most, and with one comment.
+pub fn lines()
+    ensures keys { LinesDetermineValues key_name SpellsKey }
+    ensures certificates { LinesDetermineValues name_of_certificate SpellsCertificate }
+    ensures apart { LinesAreApart }
+{}

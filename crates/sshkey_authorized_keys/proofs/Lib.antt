@@ -1,2 +1,4 @@
 pub mod Dividers
 pub mod Options
+pub mod LeftOut
+pub mod Strictly

@@ -1,5 +1,5 @@
 -- When a line is an entry of authorized_keys.
-use Rattle.std.proofs.Common.{◌≡◌, ◌≢◌, ◌⊎◌, ◌<◌, ℕ, List, count_by, None, Some, Result, Ok, Err, Bor, sym, ap, subst, arith, inl, inr}
+use Rattle.std.proofs.Common.{◌≡◌, ◌≢◌, ◌⊎◌, ◌<◌, ◌≤◌, ℕ, List, count_by, None, Some, Result, Ok, Err, Bor, refl, sym, ap, subst, arith, inl, inr}
 use Rattle.std.proofs.lemmas.Str.Pattern.{IsSplitOnceResult, split_after}
 use Rattle.sshkey_base.specs.Causes.{cause, NoMemory}
 use Rattle.sshkey_base.specs.declared.error.Error.{Error}
@@ -10,7 +10,8 @@ use Rattle.sshkey_entries.specs.AuthorizedKeys.{AuthorizedKey, IsAuthorizedKey, 
 use Rattle.sshkey_entries.specs.ConfigOptions.{AreOptions}
 use Rattle.sshkey_entries.proofs.OneEntry.{no_space}
 use Rattle.sshkey_authorized_keys.specs.OptionAnswers.{IsNotAllowed}
-use Rattle.sshkey_base.specs.declared.error.Error.TheVariants.{Memory}
+use Rattle.sshkey_authorized_keys.specs.EntryFaults.{HasFault}
+use Rattle.sshkey_base.specs.declared.error.Error.TheVariants.{FormatEncoding, Memory}
 use Rattle.sshkey_entries.specs.AuthorizedKeys.{IsNoKeyLine}
 use Rattle.sshkey_authorized_keys.specs.declared.entry.Entry.{Entry}
 
@@ -42,3 +43,36 @@ only_options line (Err e) none h = λ other a is. elim is [
   | inl alone ↦ none a.key a.comment alone.line
   | inr options ↦ h other a options
 ]
+
+-- ---- faults
+
+-- a line of three spaces or more without options in front
+pub uncut_fault : (line : List ℕ) → IsSplitOnceResult space line None → 3 ≤ count_by is_space line → HasFault line FormatEncoding
+uncut_fault line none some = record {
+  no_space = λ zero. refl;
+  no_options = λ front rest is without many bad. absurd (split_after space line front rest None none (omega arith) is without);
+}
+
+module _ (line : List ℕ) (options rest : Bor (List ℕ)) (cut : IsSplitOnceResult space line (Some (options, rest))) (some : 3 ≤ count_by is_space line) where
+  pub options_fault : (e : Error) → (AreOptions options.now × (e ≡ Memory)) ⊎ IsNotAllowed options.now e → cause e ≢ NoMemory → HasFault line e
+  options_fault e why other = record {
+    no_space = λ zero. absurd (omega (arith, some, zero));
+    no_options = λ front rest is without many bad. elim why [
+      | inl full ↦ absurd (other (ap cause full.1))
+      | inr not_allowed ↦ not_allowed.0
+    ];
+  }
+
+  -- options that are allowed, and the fault of the key's line
+  pub key_fault : (e : Error) → AreOptions options.now → HasFault line e
+  key_fault e are = record {
+    no_space = λ zero. absurd (omega (arith, some, zero));
+    no_options = λ front behind is without many bad. absurd (bad (subst AreOptions (split_after space line front behind (Some (options, rest)) cut (omega arith) is without).0 are));
+  }
+
+pub no_space_fault : (line : List ℕ) → count_by is_space line ≡ 0 → HasFault line FormatEncoding
+no_space_fault line zero = record { no_space = λ _. refl; no_options = λ front rest is without many bad. absurd (omega (arith, zero, many)) }
+
+-- one or two spaces: the fault of the key's line
+pub line_fault : (line : List ℕ) (e : Error) → count_by is_space line ≢ 0 → count_by is_space line < 3 → HasFault line e
+line_fault line e some few = record { no_space = λ zero. absurd (some zero); no_options = λ front rest is without many bad. absurd (omega (arith, few, many)) }

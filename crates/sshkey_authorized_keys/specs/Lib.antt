@@ -1,3 +1,6 @@
 pub mod Dividers
 pub mod OptionAnswers
 pub mod AuthorizedEntries
+pub mod EntryFaults
+pub mod LeftOut
+pub mod StrictAnswers

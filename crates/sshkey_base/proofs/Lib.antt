@@ -5,6 +5,7 @@ pub mod Places
 pub mod Lending
 pub mod Boxes
 pub mod Accepted
+pub mod Acceptance
 pub mod BoxGrammars
 pub mod Writing
 pub mod Tails

@@ -1,11 +1,11 @@
 -- Strings that may be names: those that are too long are passed, and are no names.
-use Rattle.std.proofs.Common.{◌≡◌, ℕ, ◌<◌, ◌≤◌, ◌+◌, ◌-◌, List, [], ◌∷◌, ◌++◌, length, take, drop, Bool, true, false, nat_le, ltb, Result, Ok, Err, refl, sym, ap, ◌∙◌, arith, inl, inr}
-use Rattle.std.specs.Prelude.{Option, Some, None}
+use Rattle.std.proofs.Common.{◌≡◌, ℕ, ◌<◌, ◌≤◌, ◌+◌, List, [], ◌++◌, length, take, drop, Bool, true, false, nat_le, ltb, Result, Ok, Err, refl, sym, ap, ◌∙◌, arith, inl, inr}
+use Rattle.std.specs.Prelude.{Some, None}
 use Rattle.std.specs.Int.{w32}
-use Rattle.std.proofs.lemmas.Bool.{le-leb, lt-leb, lt-ltb, le-ltb, ltb-false}
-use Rattle.std.proofs.lemmas.List.{length-append, length-take, length-take-le}
+use Rattle.std.proofs.lemmas.Bool.{le-leb, lt-leb, ltb-false}
+use Rattle.std.proofs.lemmas.List.{length-append, length-take-le}
 use Rattle.sshkey_model.specs.Parts.{are_bytes, Any, bytes}
-use Rattle.sshkey_model.specs.Reading.{Fault, Length, Label, ◌>>=◌, Front, Whole, number_at, bytes_at, string_at, checked_at}
+use Rattle.sshkey_model.specs.Reading.{Fault, Length, Label, ◌>>=◌, Whole, number_at, bytes_at, string_at, checked_at}
 use Rattle.sshkey_model.specs.Grammar.{Checks}
 use Rattle.sshkey_model.proofs.CombinedReaders.{chosen}
 use Rattle.sshkey_base.specs.declared.encoding.Error.{Error}
@@ -17,7 +17,7 @@ use Rattle.sshkey_base.specs.NameBytes.{not_too_long, name_of, name_at, passed_a
 use Rattle.sshkey_base.specs.Needs.{Asks}
 use Rattle.sshkey_base.specs.Reading.{Reads, Refuses, IsRefused, Gives}
 use Rattle.sshkey_base.specs.ShortBytes.{short_of}
-use Rattle.sshkey_base.specs.Source.{Source, IsSound, Advances, TooFew, behind}
+use Rattle.sshkey_base.specs.Source.{Source, IsSound, Advances, TooFew}
 use Rattle.sshkey_base.proofs.Labels.{same_bytes}
 use Rattle.sshkey_base.proofs.Places.{advances_both}
 use Rattle.sshkey_base.proofs.Steps.{few_refused, front_reads, refuses_first}

@@ -1,4 +1,6 @@
 pub mod Causes
+pub mod Faults
+pub mod Acceptance
 pub mod Source
 pub mod Reading
 pub mod Needs

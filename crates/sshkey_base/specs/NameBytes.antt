@@ -1,5 +1,5 @@
 -- What is read of a string that may be a name.
-use Rattle.std.specs.Prelude.{ℕ, List, length, nat_le, Option, Some, None, option_map, Result, Ok, if◌then◌else◌}
+use Rattle.std.specs.Prelude.{ℕ, List, length, nat_le, Option, Some, None, option_map, Ok, if◌then◌else◌}
 use Rattle.sshkey_model.specs.Reading.{◌>>=◌, Front, bytes_at}
 use Rattle.sshkey_base.specs.declared.short_bytes.ShortBytes.{ShortBytes}
 use Rattle.sshkey_base.specs.ShortBytes.{short_of}

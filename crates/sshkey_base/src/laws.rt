@@ -1,18 +1,24 @@
-//! Laws of every value that is read and written. They make no call: each is a fact about the
-//! definitions.
+//! Laws of every value that is read and written, and those of the kinds that are read here. They
+//! make no call: each is a fact about the definitions.
 
 ghost use Rattle.sshkey_base.specs.Comparisons.{IsEqualityOf, IsOrderOf};
 ghost use Rattle.sshkey_base.specs.Laws.{ReadBackBefore, OneFront};
 ghost use Rattle.sshkey_base.specs.Mpint.{mpint_of};
 
+mod errors;
 mod names;
 
 use crate::decode::Decode;
 use crate::mpint::Mpint;
 use crate::normal_form::NormalForm;
+pub use errors::{equal_encoding_errors, equal_errors};
 pub use names::{
     compared_algorithm_names, compared_algorithms, compared_curves, compared_fields,
     compared_hashes,
+};
+pub use sshkey_model::laws::{
+    prefix_certificate_name, prefix_curve, prefix_hash, prefix_mpint, prefix_name, prefix_text,
+    prefix_texts,
 };
 
 /// What is written of a well-formed value that fits is read back as that value, whatever follows.

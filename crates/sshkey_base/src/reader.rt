@@ -8,6 +8,7 @@ ghost use Rattle.sshkey_base.specs.Reading.{DecodesAlways, Reads};
 ghost use Rattle.sshkey_base.specs.Source.{Source, Later, Takes, all_of, behind, announced_len};
 
 use crate::encoding::{Error, Result};
+use std::fmt;
 
 /// A source of bytes that is read from its front.
 ///
@@ -170,6 +171,15 @@ fn first(bytes: &[u8], len: usize) -> Option<&[u8]>
 pub struct NestedReader<'r, R> {
     inner: &'r mut R,
     remaining: usize,
+}
+
+/// Shows how many bytes are left, and none of them: they may be secret.
+impl<R> fmt::Debug for NestedReader<'_, R> {
+    fn fmt<W: fmt::Write>(&self, f: &mut fmt::Formatter<W>) -> fmt::Result {
+        f.debug_struct("NestedReader")
+            .field("remaining", &self.remaining)
+            .finish_non_exhaustive()
+    }
 }
 
 impl<R: Reader> Reader for NestedReader<'_, R> {

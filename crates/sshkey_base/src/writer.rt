@@ -6,6 +6,7 @@ ghost use Rattle.sshkey_base.specs.declared.encoding.Error.TheVariants.{Memory, 
 ghost use Rattle.sshkey_base.specs.Sink.{Sink, Writes};
 
 use crate::encoding::{Error, Result};
+use std::fmt;
 
 /// A sink of bytes that grows at its end.
 pub trait Writer: Sized {
@@ -59,6 +60,17 @@ impl<'s> SliceWriter<'s> {
         ensures { result.now ≡ (slice_sink self.now).written }
     {
         &self.slice[..self.len]
+    }
+}
+
+/// Shows how many bytes are written and how many the slice has, and none of them: they may be
+/// secret.
+impl fmt::Debug for SliceWriter<'_> {
+    fn fmt<W: fmt::Write>(&self, f: &mut fmt::Formatter<W>) -> fmt::Result {
+        f.debug_struct("SliceWriter")
+            .field("len", &self.len)
+            .field("room", &self.slice.len())
+            .finish_non_exhaustive()
     }
 }
 

@@ -63,3 +63,7 @@ TakesBase64 s bytes (Err e) t = (e ≡ encoding.Base64) × (length s.left < leng
 abbrev pub Holds : Source → Result (Unit {0}) narrow.Error → Source → ℕ → ℕ → Type 0
 Holds s (Ok _) t from to = (t ≡ s) × (from ≡ 0) × ((to ≡ 3) ⊎ (to ≡ announced_len s))
 Holds s (Err e) t from to = (e ≡ encoding.Base64) × (length s.left ≡ 0) × (t ≡ s)
+
+-- The word announces too few bytes, and none is taken; or it announces enough, and a group of those that are wanted has a fault.
+abbrev pub IsWordFault : Source → ℕ → narrow.Error → Source → Type 0
+IsWordFault s count e t = ((announced_len s < count) × (e ≡ encoding.Length) × (t ≡ s)) ⊎ ((count ≤ announced_len s) × (length s.left < count) × (e ≡ encoding.Base64))

@@ -2,14 +2,15 @@
 
 ghost use Rattle.std.specs.Prelude.{◌≡◌, ◌≢◌, ◌≤◌, ◌<◌, ◌+◌, ◌*◌, ◌/◌, ◌%◌, ◌⊎◌, ◌↔◌, [], length, slice_range, IfOk, IfErr, OnOk, IsTrue, true};
 ghost use Rattle.sshkey_model.specs.Parts.{are_bytes};
-ghost use Rattle.sshkey_base.specs.Source.{Source, Takes, Advances, announced_len};
+ghost use Rattle.sshkey_base.specs.Source.{Source, Takes, Later, Advances, announced_len};
 ghost use Rattle.sshkey_base.specs.declared.encoding.Error.TheVariants as encoding;
-ghost use Rattle.sshkey_base64.specs.Words64.{IsSourceOf, padding, announced, word_source, DecodesGroups, DecodesSome, TakesBase64, Holds};
+ghost use Rattle.sshkey_base64.specs.Words64.{IsSourceOf, padding, announced, word_source, DecodesGroups, DecodesSome, TakesBase64, Holds, IsWordFault};
 
 use crate::groups::decode_symbols;
 use base64::engine::general_purpose::STANDARD;
 use sshkey_base::Reader;
 use sshkey_base::encoding::{Error, Result};
+use std::fmt;
 
 /// The bytes of a word in padded Base64, which are decoded as they are read.
 ///
@@ -89,8 +90,9 @@ fn is_in_place(count: usize, rest: &[u8]) -> bool
 }
 
 impl<'a> Base64Reader<'a> {
-    /// A reader of that word. `Base64` where its length is no multiple of four.
+    /// A reader of that word. `Base64` exactly where its length is no multiple of four.
     pub fn new(text: &'a str) -> Result<Base64Reader<'a>>
+        ensures groups { OnOk result (length text.now % 4 ≡ 0) }
         ensures source { IfOk result
             (λ r. ⟦<Base64Reader<'static> as Reader>⟧.source r ≡ word_source [] text.now) }
         ensures word { IfOk result
@@ -186,10 +188,30 @@ impl<'a> Base64Reader<'a> {
     }
 }
 
+/// Shows how many bytes are left, and none of them: they may be secret.
+impl fmt::Debug for Base64Reader<'_> {
+    fn fmt<W: fmt::Write>(&self, f: &mut fmt::Formatter<W>) -> fmt::Result {
+        f.debug_struct("Base64Reader")
+            .field("remaining", &self.remaining_len())
+            .finish_non_exhaustive()
+    }
+}
+
 impl Reader for Base64Reader<'_> {
     ghost source = { λ r. word_source (slice_range r.held r.from r.to) r.text.now };
 
-    fn read(&mut self, buffer: &mut [u8]) -> Result<()> {
+    /// `Length` where the word announces fewer bytes, and then none is passed. `Base64` where it
+    /// announces so many, but one of the groups that they stand in has a fault; then some of the
+    /// bytes before that group may be passed.
+    fn read(&mut self, buffer: &mut [u8]) -> Result<()>
+        ensures takes { Takes (⟦<Base64Reader<'static> as Reader>⟧.source self.old)
+            buffer.new result (⟦<Base64Reader<'static> as Reader>⟧.source self.new) }
+        ensures later { Later (⟦<Base64Reader<'static> as Reader>⟧.source self.old)
+            (⟦<Base64Reader<'static> as Reader>⟧.source self.new) }
+        ensures fault { IfErr result (λ e.
+            IsWordFault (⟦<Base64Reader<'static> as Reader>⟧.source self.old) (length buffer.new) e
+            (⟦<Base64Reader<'static> as Reader>⟧.source self.new)) }
+    {
         let held = self.to - self.from;
         if buffer.len() <= held {
             self.read_held(buffer);

@@ -36,8 +36,9 @@ pub fn write_base64<W: Writer>(blob: &[u8], writer: &mut W) -> Result<()>
 
 /// Writes a value's normal form, of so many bytes, in padded Base64. Takes no memory.
 ///
-/// The value is encoded once for each 3072 of its bytes. Any refusal is the writer's own; then it
-/// holds what it held, and a beginning of the word.
+/// The value is encoded once for each 3,072 of its bytes, so for n times the bytes it takes n * n
+/// times as long. Any refusal is the writer's own; then it holds what it held, and a beginning of
+/// the word.
 pub fn write_word<T: Encode, W: Writer>(value: &T, len: usize, writer: &mut W) -> Result<()>
     requires boxes { BoxesFit (T.normal value.now) }
     requires counted { len ≡ length (flat (T.normal value.now)) }

@@ -41,6 +41,14 @@ fn host_parts(alloc: Global, entry: &sshkey_known_hosts::Entry) -> Result<String
     }
 }
 
+/// The parts of an entry of authorized_keys that is read strictly.
+pub(crate) fn strict_key(alloc: Global, line: &str) -> Result<String> {
+    authorized_parts(
+        alloc,
+        &sshkey_authorized_keys::Entry::from_line_strict(alloc, line)?,
+    )
+}
+
 /// The text of an entry that is read strictly, or why it is refused.
 fn strictly(alloc: Global, entry: Result<sshkey_authorized_keys::Entry>) -> Result<String> {
     let text = match entry {

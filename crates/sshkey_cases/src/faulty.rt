@@ -3,9 +3,12 @@
 use crate::bytes::NO_LINE;
 use sshkey_base::{Algorithm, Decode, Error, Mpint, Reader, Result, encoding};
 use sshkey_cert::Certificate;
+use sshkey_ciphers::Kdf;
 use sshkey_doubles::Faulty;
+use sshkey_keypairs::KeypairData;
 use sshkey_keys::{KeyData, Signature};
 use sshkey_options::OptionsMap;
+use sshkey_pairs::EcdsaPrivateKey;
 use sshkey_private::PrivateKey;
 use sshkey_sshsig::SshSig;
 use std::alloc::Global;
@@ -25,6 +28,9 @@ pub(crate) fn value(alloc: Global, kind: &str, bytes: &[u8]) -> Result<String> {
         "options" => each::<OptionsMap>(alloc, bytes),
         "certificate" => each::<Certificate>(alloc, bytes),
         "ssh-signature" => each::<SshSig>(alloc, bytes),
+        "scalar" => each::<EcdsaPrivateKey<32>>(alloc, bytes),
+        "derivation" => each::<Kdf>(alloc, bytes),
+        "pair" => each::<KeypairData>(alloc, bytes),
         "private-key" => each_of_private(alloc, bytes),
         _ => Err(NO_LINE),
     }

@@ -6,8 +6,11 @@ use sshkey_base::{
     encoding,
 };
 use sshkey_cert::Certificate;
+use sshkey_ciphers::Kdf;
+use sshkey_keypairs::KeypairData;
 use sshkey_keys::{KeyData, Signature};
 use sshkey_options::OptionsMap;
+use sshkey_pairs::EcdsaPrivateKey;
 use sshkey_private::PrivateKey;
 use sshkey_sshsig::SshSig;
 use std::alloc::Global;
@@ -24,6 +27,9 @@ pub(crate) fn value(alloc: Global, kind: &str, bytes: &[u8]) -> Result<String> {
         "options" => read::<OptionsMap>(alloc, bytes),
         "certificate" => read::<Certificate>(alloc, bytes),
         "ssh-signature" => read::<SshSig>(alloc, bytes),
+        "scalar" => read::<EcdsaPrivateKey<32>>(alloc, bytes),
+        "derivation" => read::<Kdf>(alloc, bytes),
+        "pair" => read::<KeypairData>(alloc, bytes),
         "private-key" => private_key(alloc, bytes),
         _ => Err(NO_LINE),
     }

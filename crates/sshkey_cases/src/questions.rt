@@ -235,6 +235,7 @@ fn answer_of_entries(alloc: Global, question: &str, parts: &[Vec<u8>]) -> Result
         "each-host" => again::each_host(alloc, text(parts, 0)?),
         "authorized-key" => entries::authorized(alloc, text(parts, 0)?),
         "strict-keys" => entries::strict(alloc, text(parts, 0)?),
+        "strict-key" => entries::strict_key(alloc, text(parts, 0)?),
         "config-options" => entries::options(alloc, text(parts, 0)?),
         "known-host" => entries::host(alloc, text(parts, 0)?),
         "host-patterns" => entries::hosts(alloc, text(parts, 0)?),

@@ -3,3 +3,4 @@ pub mod NormalFits
 pub mod Given
 pub mod Signing
 pub mod Lines
+pub mod KeysOfCertificates

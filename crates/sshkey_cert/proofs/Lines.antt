@@ -15,7 +15,6 @@ use Rattle.sshkey_base.specs.Sink.{Sink, Written}
 use Rattle.sshkey_base.proofs.CertificateTypes.{certificate_name-cut}
 use Rattle.sshkey_base.proofs.Labels.{ascii}
 use Rattle.sshkey_base.proofs.Writing.{after_nothing}
-use Rattle.sshkey_public.proofs.Filling.{utf8_line}
 
 -- ---- names are texts
 
@@ -48,16 +47,13 @@ utf8_name SkEcdsa u = ascii_text (certificate_name SkEcdsa) refl
 utf8_name SkEd25519 u = ascii_text (certificate_name SkEd25519) refl
 utf8_name (Other n) u = utf8_other n u (cut n) refl
 
--- ---- lines
+-- ---- a name in memory
 
--- a line that was written into an empty vector
-pub line_bytes : (line : List ℕ) (s t : Sink) → s.written ≡ [] → Written (bytes line) s t → t.written ≡ line
+-- a text that was written into an empty vector
+pub vector_bytes : (line : List ℕ) (s t : Sink) → s.written ≡ [] → Written (bytes line) s t → t.written ≡ line
 unfolding flat
-line_bytes line s t none h = after_nothing (bytes line) s t none h.1
-
-pub line_utf8 : (name comment : List ℕ) (p : Parts) (s t : Sink) → IsUtf8 name → IsUtf8 comment → s.written ≡ [] → Written (bytes (written name (flat p) comment)) s t → IsUtf8 t.written
-line_utf8 name comment p s t n c none h = subst IsUtf8 (sym (line_bytes (written name (flat p) comment) s t none h)) (utf8_line name (flat p) comment n c)
+vector_bytes line s t none h = after_nothing (bytes line) s t none h.1
 
 -- the text of these bytes
-pub line_text : {Z : Type 0} (line : String Z) (v : Vec ℕ Z) → string_vec line ≡ v → string_bytes line ≡ v.items
-line_text line v is = rw (← is) refl
+pub text_bytes : {Z : Type 0} (line : String Z) (v : Vec ℕ Z) → string_vec line ≡ v → string_bytes line ≡ v.items
+text_bytes line v is = rw (← is) refl

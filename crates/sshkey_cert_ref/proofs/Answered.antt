@@ -1,6 +1,7 @@
 -- What is answered about bytes that are known to be taken.
-use Rattle.std.proofs.Common.{◌≡◌, ◌⊎◌, ℕ, List, Bool, true, false, Result, Ok, Err, IfOk, IfErr, refl, sym, ap, ◌∙◌}
+use Rattle.std.proofs.Common.{◌≡◌, ◌⊎◌, ℕ, List, Bool, true, false, Result, Ok, Err, IfOk, IfErr, refl, sym, subst, ap, ◌∙◌}
 use Rattle.std.specs.Prelude.{Contains, []}
+use Rattle.sshkey_model.specs.Keys.{Key, IsKey}
 use Rattle.sshkey_model.specs.Reading.{Front, Whole}
 use Rattle.sshkey_model.specs.Refusals.{allows}
 use Rattle.sshkey_model.proofs.CombinedReaders.{ok_is}
@@ -10,6 +11,8 @@ use Rattle.sshkey_base.specs.Causes.{Cause, NoMemory}
 use Rattle.sshkey_base.specs.Reading.{Gives, GivesWhole}
 use Rattle.sshkey_base.specs.Source.{Source, all_of}
 use Rattle.sshkey_base.proofs.Judging.{only_memory}
+use Rattle.sshkey_keys.specs.Keys.{key_of}
+use Rattle.sshkey_keys.specs.declared.key_data.KeyData.{KeyData}
 
 module _ {X Y E : Type 0} (means : X → Y) (cause : E → Cause) where
   -- the value that the bytes spell, or memory was out
@@ -29,6 +32,13 @@ module _ {X Y E : Type 0} (means : X → Y) (cause : E → Cause) where
   pub answered : (found : Result Y _) (y : Y) (r : Result X E) → found ≡ Ok y → Answers means cause found r → IfOk r (λ x. means x ≡ y)
   answered found y (Ok x) is h = rw is at h
   answered found y (Err e) is h = tt
+
+-- ---- keys
+
+-- a key that means a well-formed one is well-formed
+pub well_formed : {E : Type 0} (k : Key) → IsKey k → (r : Result KeyData E) → IfOk r (λ x. key_of x ≡ k) → IfOk r (λ x. IsKey (key_of x))
+well_formed k is (Ok x) h = subst IsKey (sym h) is
+well_formed k is (Err e) h = tt
 
 -- ---- principals
 

@@ -54,7 +54,8 @@ impl<'a> CertificateRef<'a> {
     /// that passes the bytes, `Label` for a name of no algorithm, `CharacterEncoding` for a text
     /// that is not UTF-8, `FormatEncoding` for a type other than 1 and 2 and for options that do
     /// not rise, `Time` for a time above 2^63 - 1 that is not the end 2^64 - 1, the faults of keys
-    /// and of signatures, and `TrailingData` with the number of bytes behind a certificate.
+    /// and of signatures, where one by RSA with SHA-1 is refused as `Length`, and `TrailingData`
+    /// with the number of bytes behind a certificate.
     pub fn from_bytes(bytes: &'a [u8]) -> Result<CertificateRef<'a>>
         ensures keeps { Keeps certificate_bytes cause (whole certificate_at bytes.now)
             bytes.now result }

@@ -4,7 +4,7 @@ ghost use Rattle.std.specs.Prelude.{◌≡◌, ◌%◌, IfOk, length};
 ghost use Rattle.sshkey_base.specs.Answers.{AnswersAlways};
 ghost use Rattle.sshkey_base.specs.Causes.{cause};
 ghost use Rattle.sshkey_base.specs.Needs.{Asks, NoNeed, NeedsString};
-ghost use Rattle.sshkey_base.specs.Reading.{Gives};
+ghost use Rattle.sshkey_base.specs.Reading.{Gives, LengthPast};
 ghost use Rattle.sshkey_base.specs.Source.{Later};
 ghost use Rattle.sshkey_model.specs.KeyDerivation.{block_size, tag_size};
 ghost use Rattle.sshkey_model.specs.PrivateKeys.{blocks_from};
@@ -20,13 +20,15 @@ use std::alloc::Global;
 /// PROTOCOL.key).
 ///
 /// A sound source is refused as `Vec<u8>` refuses it, or with `Crypto` where the ciphertext is no
-/// multiple of a block. Takes memory for the ciphertext alone.
+/// multiple of a block. Takes memory for the ciphertext alone, and none for a length that passes
+/// what is left, which is `Length`.
 #[tactic(auto, using(sshkey_base::proofs::Steps::steps), unfolding(crate::specs::Ciphertexts::blocks_at))]
 pub fn ciphertext_from<R: Reader>(alloc: Global, reader: &mut R, cipher: Cipher) -> Result<Vec<u8>>
     ensures gives { Gives (λ v. v.items) cause (blocks_at (cipher_of cipher))
         (R.source reader.old) result (R.source reader.new) }
     ensures later { Later (R.source reader.old) (R.source reader.new) }
     ensures asks { Asks cause NeedsString (R.source reader.old) result }
+    ensures past { LengthPast cause (R.source reader.old) result }
     ensures whole { IfOk result (λ v. length v.items % block_size (cipher_of cipher) ≡ 0) }
 {
     let ciphertext = Vec::<u8>::decode(alloc, reader)?;

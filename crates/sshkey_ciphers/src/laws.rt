@@ -8,6 +8,8 @@ use crate::cipher::Cipher;
 use crate::kdf::Kdf;
 use crate::kdf_alg::KdfAlg;
 
+pub use sshkey_model::laws::private::{prefix_cipher, prefix_kdf, prefix_kdf_name};
+
 /// Two ciphers are equal exactly if they mean the same, and they are ordered as they are listed.
 pub fn compared_ciphers()
     ensures equal { IsEqualityOf cipher_of ⟦<Cipher as PartialEq>⟧.eq }

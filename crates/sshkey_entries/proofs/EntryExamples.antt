@@ -20,17 +20,15 @@ use Rattle.sshkey_model.proofs.LineTests.{all_characters, each, lacks, cut, no_b
 use Rattle.sshkey_entries.specs.AuthorizedKeys.{IsNoKeyLine, IsAuthorizedKey, HasOptions, is_space}
 use Rattle.sshkey_entries.specs.ConfigOptions.{is_option_character}
 use Rattle.sshkey_entries.specs.Entries.{IsNoEntry}
-use Rattle.sshkey_entries.specs.EntryExamples.{Options, Strict, Marked, HashedHosts, authorized, host, hash, salt, quoted_line}
-use Rattle.sshkey_entries.specs.Items.{is_odd, patterns}
+use Rattle.sshkey_entries.specs.EntryExamples.{Options, Marked, HashedHosts, authorized, host, hash, salt}
+use Rattle.sshkey_entries.specs.Items.{patterns}
 use Rattle.sshkey_entries.specs.KnownHosts.{Marker, CertAuthority, Revoked, Hosts, HashedName, Patterns, IsHosts, IsMarked, IsKnownHost, at_sign, bar}
-use Rattle.sshkey_entries.specs.StrictReading.{is_inside}
 use Rattle.sshkey_entries.proofs.OneHost.{bar_not}
-use Rattle.sshkey_entries.proofs.StrictReading.{plain, not_plain}
 
 -- ---- lines of a key
 
 -- the key with another comment
-with_comment : (text m : List ℕ) → is_utf8 text ≡ true → trim_end text ≡ joined (codes "ssh-rsa") rsa_word m → IsKeyLine text rsa_key m
+pub with_comment : (text m : List ℕ) → is_utf8 text ≡ true → trim_end text ≡ joined (codes "ssh-rsa") rsa_word m → IsKeyLine text rsa_key m
 unfolding trim_end chars encode_utf8
 with_comment text m utf8 is =
     let bare = line_ends.0 in
@@ -50,10 +48,10 @@ with_comment text m utf8 is =
 
 -- ---- authorized_keys
 
-alone : (comment text : List ℕ) → IsKeyLine text rsa_key comment → IsAuthorizedKey text (authorized [] comment)
+pub alone : (comment text : List ℕ) → IsKeyLine text rsa_key comment → IsAuthorizedKey text (authorized [] comment)
 alone comment text line = inl (record { options = refl; line = line })
 
-behind : (options rest comment text : List ℕ) → text ≡ options ++ (space ∷ rest) → all_characters is_option_character options ≡ true → IsKeyLine rest rsa_key comment → 3 ≤ count_by is_space text → IsNoKeyLine text → HasOptions text (authorized options comment)
+pub behind : (options rest comment text : List ℕ) → text ≡ options ++ (space ∷ rest) → all_characters is_option_character options ≡ true → IsKeyLine rest rsa_key comment → 3 ≤ count_by is_space text → IsNoKeyLine text → HasOptions text (authorized options comment)
 behind options rest comment text is allowed line count none = record { rest = rest; is = is; options = each is_option_character options allowed; line = line; spaces = count; no_line = none }
 
 no_options : (text : List ℕ) → count_by is_space text < 3 → IsNoKeyLine text → IsNoEntry IsAuthorizedKey text
@@ -71,20 +69,6 @@ options = (
   no_options _ (omega arith) (one_word _ refl),
   refl,
   refl,
-)
-
-quoted : HasOptions quoted_line (authorized (codes "c=\"x") (codes "y\" ssh-rsa B z"))
-unfolding is_utf8 trim_end chars encode_utf8
-quoted = behind (codes "c=\"x") (rsa_line ++ codes " y\" ssh-rsa B z") (codes "y\" ssh-rsa B z") quoted_line refl refl (with_comment _ _ refl refl) (omega arith)
-    (no_character quoted_line (codes "c=\"x") (rsa_line ++ codes " y\" ssh-rsa B z") 2 refl refl (omega arith) refl)
-
-pub strict : Strict
-unfolding is_utf8 trim_end chars encode_utf8 is_inside is_odd
-strict = (
-  inr quoted,
-  not_plain quoted_line _ (inr quoted) refl,
-  plain _ _ (inr (behind (codes "c=\"x\"") (rsa_line ++ codes " me") (codes "me") _ refl refl line_ends.3 (omega arith) (no_character _ (codes "c=\"x\"") (rsa_line ++ codes " me") 2 refl refl (omega arith) refl))) refl,
-  inl (record { options = refl; line = line_ends.3 }),
 )
 
 -- ---- known_hosts

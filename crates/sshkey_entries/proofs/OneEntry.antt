@@ -9,7 +9,7 @@ use Rattle.sshkey_model.proofs.LineCuts.{one_front}
 use Rattle.sshkey_model.proofs.Lines.{one_line}
 use Rattle.sshkey_entries.specs.AuthorizedKeys.{AuthorizedKey, IsAuthorizedKey, IsWithoutOptions, HasOptions}
 use Rattle.sshkey_entries.specs.ConfigOptions.{AreOptions, is_option_character}
-use Rattle.sshkey_entries.specs.StrictReading.{EndsOptions, IsReadStrictly}
+use Rattle.sshkey_entries.specs.StrictReading.{EndsOptions}
 
 -- options hold no space
 pub no_space : (options : List ℕ) → AreOptions options → IsWithout space options
@@ -34,10 +34,6 @@ one_entry line a b (inr x) (inr y) =
     let front = one_front space a.options b.options x.rest y.rest (no_space a.options x.options) (no_space b.options y.options) (sym x.is ∙ y.is) in
     let same = one_key_line y.rest a.key b.key a.comment b.comment (subst (λ (r : List ℕ). IsKeyLine r a.key a.comment) front.1 x.line) y.line in
     same_entry a b front.0 same.0 same.1
-
-pub strict_is_read : (entry : List ℕ) (a : AuthorizedKey) → IsReadStrictly entry a → IsAuthorizedKey entry a
-strict_is_read entry a (inl x) = inl x
-strict_is_read entry a (inr x) = inr x.0
 
 pub one_end : (line : List ℕ) (p q : ℕ) → EndsOptions line p → EndsOptions line q → p ≡ q
 one_end line p q a b = elim (cases_lt p q) [

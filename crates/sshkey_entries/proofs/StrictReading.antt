@@ -1,5 +1,5 @@
 -- Whether OpenSSH ends the options of a line where they are cut here.
-use Rattle.std.proofs.Common.{◌≡◌, ℕ, ◌+◌, ◌<◌, ◌≤◌, List, [], ◌∷◌, ◌++◌, length, count_by, slice_index, Bool, true, false, not, cond, map-id, sym, ap, ◌∙◌, refl, arith, inl, inr, add-one, add-zero}
+use Rattle.std.proofs.Common.{◌≡◌, ◌≢◌, ◌⊎◌, ℕ, ◌+◌, ◌<◌, ◌≤◌, List, [], ◌∷◌, ◌++◌, length, count_by, slice_index, Bool, true, false, not, cond, map-id, sym, ap, ◌∙◌, refl, arith, inl, inr, add-one, add-zero}
 use Rattle.std.specs.List.{range_with_len}
 use Rattle.std.proofs.Common.{tests}
 use Rattle.std.proofs.lemmas.List.{length-append, get_or_append_left}
@@ -7,10 +7,11 @@ use Rattle.std.proofs.lemmas.List.FromFn.{map-range_with_len_more}
 use Rattle.std.proofs.lemmas.List.Sums.{sum_by_push}
 use Rattle.std.proofs.Math.Seq.{get_or-append_seam}
 use Rattle.sshkey_model.specs.Lines.{space}
-use Rattle.sshkey_entries.specs.AuthorizedKeys.{AuthorizedKey, IsAuthorizedKey}
+use Rattle.sshkey_entries.specs.AuthorizedKeys.{AuthorizedKey, IsAuthorizedKey, IsWithoutOptions, HasOptions}
 use Rattle.sshkey_entries.specs.ConfigOptions.{AreOptions, is_option_character}
 use Rattle.sshkey_entries.specs.Items.{is_odd}
-use Rattle.sshkey_entries.specs.StrictReading.{is_blank, is_mark, is_inside, IsReadStrictly}
+use Rattle.sshkey_entries.specs.Entries.{hash}
+use Rattle.sshkey_entries.specs.StrictReading.{is_blank, is_mark, is_inside, EndsOptions, EndsInAscii, IsReadStrictly}
 use Rattle.sshkey_entries.proofs.OneEntry.{one_entry}
 
 -- ---- places inside quotes
@@ -32,7 +33,7 @@ inside_by line i false e =
 pub inside_more : (line : List ℕ) (i : ℕ) → is_inside line (i + 1) ≡ cond (is_mark line i) (not (is_inside line i)) (is_inside line i)
 inside_more line i = inside_by line i (is_mark line i) refl
 
--- ---- plain entries
+-- ---- what is read strictly
 
 pub options_within : (line : List ℕ) (a : AuthorizedKey) → IsAuthorizedKey line a → length a.options ≤ length line
 options_within line a (inl x) = omega (arith, ap length x.options)
@@ -44,9 +45,10 @@ no_blank options h i l e = by_case (slice_index options i) (h i l) e
     by_case : (c : ℕ) → is_option_character c ≡ true → is_blank c ≡ true → ⊥
     by_case c o b = grind (arith, tests)
 
-pub plain : (line : List ℕ) (a : AuthorizedKey) → IsAuthorizedKey line a → is_inside line (length a.options) ≡ false → IsReadStrictly line a
-plain line a (inl x) outside = inl x
-plain line a (inr x) outside =
+-- options that end outside quotes end where OpenSSH ends them
+ends_there : (line : List ℕ) (a : AuthorizedKey) → IsAuthorizedKey line a → is_inside line (length a.options) ≡ false → IsWithoutOptions line a ⊎ (HasOptions line a × EndsOptions line (length a.options))
+ends_there line a (inl x) outside = inl x
+ends_there line a (inr x) outside =
     let here : slice_index line (length a.options) ≡ space = ap (λ (l : List ℕ). slice_index l (length a.options)) x.is ∙ get_or-append_seam a.options space x.rest 0 in
     inr (
       x,
@@ -58,17 +60,28 @@ plain line a (inr x) outside =
       },
     )
 
--- an entry whose options end inside quotes is no plain one, and the line has no other
-pub not_plain : (line : List ℕ) (a : AuthorizedKey) → IsAuthorizedKey line a → is_inside line (length a.options) ≡ true → (b : AuthorizedKey) → IsReadStrictly line b → ⊥
-not_plain line a is inside b (inl y) =
-    let same = one_entry line a b is (inl y) in
-    let none : length a.options ≡ 0 = ap (λ (x : AuthorizedKey). length x.options) same ∙ ap length y.options in
-    cc (sym (inside_first line) ∙ ap (is_inside line) (sym none) ∙ inside)
-not_plain line a is inside b (inr y) =
-    let same = one_entry line a b is (inr y.0) in
-    cc (sym y.1.outside ∙ ap (λ (x : AuthorizedKey). is_inside line (length x.options)) (sym same) ∙ inside)
+pub strictly : (line : List ℕ) (a : AuthorizedKey) → IsAuthorizedKey line a → slice_index line 0 ≢ hash → EndsInAscii line → is_inside line (length a.options) ≡ false → IsReadStrictly line a
+strictly line a is no_comment ends outside = record { no_comment = no_comment; is = ends_there line a is outside; ends = ends }
 
--- the line that is refused has no plain entry
-pub never_plain : (line : List ℕ) → ((a : AuthorizedKey) → IsAuthorizedKey line a → ⊥) → (b : AuthorizedKey) → IsReadStrictly line b → ⊥
-never_plain line none b (inl y) = none b (inl y)
-never_plain line none b (inr y) = none b (inr y.0)
+-- what is read strictly is read
+pub read : (line : List ℕ) (a : AuthorizedKey) → IsReadStrictly line a → IsAuthorizedKey line a
+read line a s = elim s.is [
+  | inl x ↦ inl x
+  | inr x ↦ inr x.0
+]
+
+-- an entry whose options end inside quotes is not read strictly, and the line has no other
+pub not_inside : (line : List ℕ) (a : AuthorizedKey) → IsAuthorizedKey line a → is_inside line (length a.options) ≡ true → (b : AuthorizedKey) → IsReadStrictly line b → ⊥
+not_inside line a is inside b s = elim s.is [
+  | inl y ↦
+      let same = one_entry line a b is (inl y) in
+      let none : length a.options ≡ 0 = ap (λ (x : AuthorizedKey). length x.options) same ∙ ap length y.options in
+      cc (sym (inside_first line) ∙ ap (is_inside line) (sym none) ∙ inside)
+  | inr y ↦
+      let same = one_entry line a b is (inr y.0) in
+      cc (sym y.1.outside ∙ ap (λ (x : AuthorizedKey). is_inside line (length x.options)) (sym same) ∙ inside)
+]
+
+-- and a line that is refused has none
+pub never_strictly : (line : List ℕ) → ((a : AuthorizedKey) → IsAuthorizedKey line a → ⊥) → (b : AuthorizedKey) → IsReadStrictly line b → ⊥
+never_strictly line none b s = none b (read line b s)

@@ -4,6 +4,7 @@ pub mod ConfigOptions
 pub mod AuthorizedKeys
 pub mod KnownHosts
 pub mod StrictReading
+pub mod SshdReading
 pub mod Laws
 pub mod Computed
 pub mod Examples

@@ -1,7 +1,7 @@
 //! Worked examples of the definitions, on both sides of each edge.
 #![tactic(auto, unfolding(crate::specs::Computed::trim_end, crate::specs::Computed::chars, crate::specs::Computed::encode_utf8, crate::specs::Computed::encode_symbols, crate::specs::Entries::uncommented, crate::specs::Items::is_odd, crate::specs::Items::is_quoted, crate::specs::Items::items, crate::specs::Items::patterns, crate::specs::StrictReading::is_inside))]
 
-ghost use Rattle.sshkey_entries.specs.EntryExamples.{HashedHosts, Marked, Options, Strict};
+ghost use Rattle.sshkey_entries.specs.EntryExamples.{HashedHosts, Marked, Options, Strict, StrictLines};
 ghost use Rattle.sshkey_entries.specs.Examples.{Lines, Cuts, Items, Patterns, Characters, HashedName, Quoted};
 
 /// Lines of a text.
@@ -44,9 +44,10 @@ pub fn option_lines()
     ensures { Options }
 {}
 
-/// Lines whose options end inside quotes, and outside.
+/// Entries that are read strictly, and others; and lines of files.
 pub fn strict_lines()
-    ensures { Strict }
+    ensures entries { Strict }
+    ensures lines { StrictLines }
 {}
 
 /// Lines of known_hosts, with markers and without.

@@ -2,7 +2,7 @@
 
 ghost use Rattle.sshkey_entries.specs.AuthorizedKeys.{IsAuthorizedKey};
 ghost use Rattle.sshkey_entries.specs.KnownHosts.{IsHosts, IsKnownHost};
-ghost use Rattle.sshkey_entries.specs.Laws.{EntriesDetermineValues, OneEnd, ReadingsAreApart, StrictIsRead};
+ghost use Rattle.sshkey_entries.specs.Laws.{EntriesDetermineValues, OneEnd, ReadingsAreApart, OneSshdKey, StrictIsRead, StrictLineIsRead};
 
 /// A line is one entry of authorized_keys at most.
 pub fn one_authorized_key()
@@ -30,7 +30,14 @@ pub fn one_end()
     ensures { OneEnd }
 {}
 
-/// What is read strictly is read, and as the same value.
+/// What is read strictly is read as the same value, and is the key that sshd(8) reads: of an entry
+/// that stands alone, and of the whole line of a file, whose entry it is.
 pub fn strict_is_read()
-    ensures { StrictIsRead }
+    ensures entry { StrictIsRead }
+    ensures line { StrictLineIsRead }
+{}
+
+/// sshd(8) reads one key of a line at most, with options or without.
+pub fn one_sshd_key()
+    ensures { OneSshdKey }
 {}

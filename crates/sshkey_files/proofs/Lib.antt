@@ -1,2 +1,2 @@
-pub mod EntryLines
+pub mod TextLines
 pub mod AnswerLists

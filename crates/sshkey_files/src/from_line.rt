@@ -1,14 +1,15 @@
 //! Entries that are read from lines.
 
-ghost use Rattle.std.specs.Prelude.{ℕ, List, IfOk};
+ghost use Rattle.std.specs.Prelude.{ℕ, List};
+ghost use Rattle.sshkey_base.specs.declared.error.Error.{Error};
 ghost use Rattle.sshkey_entries.specs.Entries.{entries};
-ghost use Rattle.sshkey_files.specs.Answers.{AreOfSomeText, ReadsEntries, ReadsEntry};
+ghost use Rattle.sshkey_files.specs.Answers.{ReadsEntries, ReadsEntry, ReadsFile, RefusesFor};
 
-use crate::entry_texts::EntryTexts;
+use crate::entry_lines::EntryTexts;
 use sshkey_base::Result;
+use sshkey_input::text_of_file;
 use std::alloc::Global;
-use std::fs::{File, Files};
-use std::io;
+use std::fs::Files;
 
 /// An entry of a file, which one line spells.
 pub trait FromLine: Drop + Sized {
@@ -21,15 +22,19 @@ pub trait FromLine: Drop + Sized {
     /// The line spells the entry.
     ghost IsEntry: { List ℕ → Meaning → Type 0 };
 
+    /// The error is one that names a fault of the line, which spells no entry.
+    ghost HasFault: { List ℕ → Error → Type 0 };
+
     /// The entry of a line, as it stands. Out of memory aside, it is refused exactly where the
-    /// line is no entry.
+    /// line is no entry, for a fault that it has.
     fn from_line(alloc: Global, line: &str) -> Result<Self>
-        ensures { ReadsEntry means IsEntry line.now result };
+        ensures reads { ReadsEntry means IsEntry line.now result }
+        ensures fault { RefusesFor HasFault line.now result };
 }
 
 /// All entries of a text, in order, or the refusal of the first line that is none.
 pub fn entries_of_text<E: FromLine>(alloc: Global, text: &str) -> Result<Vec<E>>
-    ensures { ReadsEntries E.means E.IsEntry (entries text.now) result }
+    ensures { ReadsEntries E.means E.IsEntry E.HasFault (entries text.now) result }
 {
     let mut found = Vec::new(alloc);
     for line in EntryTexts::new(text) {
@@ -40,12 +45,10 @@ pub fn entries_of_text<E: FromLine>(alloc: Global, text: &str) -> Result<Vec<E>>
 
 /// All entries of the text that a file holds, in order.
 ///
-/// `Io` with the machine's fault where the file could not be read, `Io(InvalidData)` where it is
-/// not UTF-8, and else the refusals of `entries_of_text`.
+/// The refusals of `sshkey_input::text_of_file`, and then those of `entries_of_text`.
 pub fn entries_of_file<R: Files, E: FromLine>(rt: &R, alloc: Global, path: &str) -> Result<Vec<E>>
-    ensures { IfOk result (AreOfSomeText E.means E.IsEntry) }
+    ensures { ReadsFile E.means E.IsEntry E.HasFault result }
 {
-    let file = File::open(rt, path)?;
-    let text = io::read_to_string(alloc, file)?;
+    let text = text_of_file(rt, alloc, path)?;
     entries_of_text(alloc, text.as_str())
 }

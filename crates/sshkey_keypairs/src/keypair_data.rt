@@ -1,13 +1,13 @@
 //! Key pairs of any kind.
 
-ghost use Rattle.std.specs.Prelude.{◌≡◌, ◌≤◌, ◌+◌, ◌*◌, ◌^◌, true, false, Option, Some, None, Err, IfOk, IfErr, IsOk};
+ghost use Rattle.std.specs.Prelude.{◌≡◌, ◌≤◌, ◌+◌, ◌*◌, ◌^◌, true, false, Option, Some, None, Err, IfOk, IfErr, IfSome, IsOk};
 ghost use Rattle.sshkey_base.specs.Causes.{cause};
 ghost use Rattle.sshkey_base.specs.Names.{algorithm_of, curve_of};
 ghost use Rattle.sshkey_base.specs.Needs.{Asks};
 ghost use Rattle.sshkey_base.specs.Source.{Later};
 ghost use Rattle.sshkey_keys.specs.Keys.{key_of, algorithm_beside as key_algorithm_beside};
-ghost use Rattle.sshkey_model.specs.KeyPairs.{xor_all, words};
-ghost use Rattle.sshkey_model.specs.Keys.{unhashed};
+ghost use Rattle.sshkey_model.specs.KeyPairs.{IsKeyPair, xor_all, words};
+ghost use Rattle.sshkey_model.specs.Keys.{IsKey, unhashed};
 ghost use Rattle.sshkey_model.specs.Names.{Dsa, Ecdsa, Ed25519, Rsa, SkEcdsa, SkEd25519 as AlgorithmSkEd25519, Other, algorithm_name};
 ghost use Rattle.sshkey_keypairs.specs.Keypairs.{pair_fields, pair_of, keypair_parts, public_of, algorithm_beside, checkint_of, GivesPair, GivesModelPair};
 ghost use Rattle.sshkey_keypairs.specs.KeypairNeeds.{NeedsPair};
@@ -149,12 +149,13 @@ impl KeypairData {
         })
     }
 
-    /// The public half, under the same algorithm. `Encrypted` for an encrypted pair; else refused
-    /// only when out of memory.
+    /// The public half, under the same algorithm; a well-formed key of a well-formed pair, as each
+    /// is that was read. `Encrypted` for an encrypted pair; else refused only when out of memory.
     pub fn to_public(&self, alloc: Global) -> Result<KeyData>
         ensures value { IfOk result (λ k. public_of self.now ≡ Some (key_of k)) }
         ensures algorithm { IfOk result
             (λ k. algorithm_beside self.now ≡ Some (key_algorithm_beside k)) }
+        ensures form { IfSome (pair_of self.now) IsKeyPair → IfOk result (λ k. IsKey (key_of k)) }
         ensures encrypted { is_encrypted self.now ≡ true → result ≡ Err Error.Encrypted }
         ensures refused { is_encrypted self.now ≡ false → IfErr result (λ e. e ≡ Error.Memory) }
     {

@@ -1,4 +1,4 @@
-//! Laws of equality and order. They make no call: each is a fact about the definitions.
+//! Laws of spelling, equality and order. They make no call: each is a fact about the definitions.
 
 ghost use Rattle.sshkey_base.specs.Comparisons.{IsEqualityOf, IsOrderByParts};
 ghost use Rattle.sshkey_keypairs.specs.Keypairs.{pair_fields};
@@ -13,6 +13,8 @@ use sshkey_kinds::laws::{compared_sk_ecdsa_keys, compared_sk_ed25519_keys};
 use sshkey_pairs::laws::{
     equal_dsa_pairs, equal_ecdsa_pairs, equal_ed25519_pairs, equal_rsa_pairs,
 };
+
+pub use sshkey_model::laws::private::{prefix_keypair, prefix_pair};
 
 /// Two P-256 pairs of security keys are equal exactly if they mean the same.
 pub fn equal_sk_ecdsa_pairs()

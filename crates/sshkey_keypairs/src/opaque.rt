@@ -61,10 +61,13 @@ impl AsSlice<u8> for OpaquePrivateKeyBytes {
     }
 }
 
-/// A string of any bytes. `Length` where it passes what is left.
+/// A string of any bytes. `Length` where it passes what is left, which no memory is asked for.
 #[tactic(auto, using(sshkey_base::proofs::Steps::steps))]
 impl Decode for OpaquePrivateKeyBytes {
-    ghost use Rattle.sshkey_base.specs.Needs.{NeedsString};
+    ghost use Rattle.sshkey_base.specs.Causes.{encoding_cause};
+    ghost use Rattle.sshkey_base.specs.Needs.{Asks, NeedsString};
+    ghost use Rattle.sshkey_base.specs.Reading.{Decodes, LengthPast};
+    ghost use Rattle.sshkey_base.specs.Source.{Later};
 
     type Error = encoding::Error;
 
@@ -80,7 +83,13 @@ impl Decode for OpaquePrivateKeyBytes {
 
     ghost grammar = { string_grammar };
 
-    fn decode<R: Reader>(alloc: Global, reader: &mut R) -> encoding::Result<OpaquePrivateKeyBytes> {
+    fn decode<R: Reader>(alloc: Global, reader: &mut R) -> encoding::Result<OpaquePrivateKeyBytes>
+        ensures gives { Decodes opaque_private_of string_at
+            R.source reader.old result reader.new }
+        ensures later { Later (R.source reader.old) (R.source reader.new) }
+        ensures asks { Asks encoding_cause NeedsString (R.source reader.old) result }
+        ensures past { LengthPast encoding_cause (R.source reader.old) result }
+    {
         let bytes = Bytes::decode(alloc, reader)?;
         Ok(OpaquePrivateKeyBytes { bytes })
     }

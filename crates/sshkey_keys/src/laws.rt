@@ -14,8 +14,10 @@ use crate::signature::Signature;
 use sshkey_kinds::laws;
 use sshkey_model::laws::normal_keys;
 
+pub use sshkey_model::laws::{prefix_key, prefix_signature};
+
 /// No spelling of a key begins another: what follows it does not matter, and it is that of one key.
-pub fn prefix_key()
+pub fn one_key()
     ensures { (k j : Key) (a b r q : List ℕ) → SpellsKey k a → SpellsKey j b → a ++ r ≡ b ++ q →
         (k ≡ j) × (a ≡ b) × (r ≡ q) }
 {}
@@ -41,7 +43,7 @@ pub fn compared_keys()
 
 /// No spelling of a signature begins another: what follows it does not matter, and it is that of
 /// one signature.
-pub fn prefix_signature()
+pub fn one_signature()
     ensures { (g h : TheSignature) (a b r q : List ℕ) → SpellsSignature g a → SpellsSignature h b →
         a ++ r ≡ b ++ q → (g ≡ h) × (a ≡ b) × (r ≡ q) }
 {}

@@ -1,8 +1,9 @@
 //! Which question the caller's verifier is asked about a signature.
 
-ghost use Rattle.std.specs.Prelude.{◌≡◌, ◌≢◌, ◌≤◌, ℕ, List, OnOk, IfOk, IfErr, is_some, length};
+ghost use Rattle.std.specs.Prelude.{◌≡◌, ◌≤◌, ℕ, List, IfOk, is_some, length};
 ghost use Rattle.sshkey_model.specs.Names.{SkEcdsa, SkEd25519 as AlgorithmSkEd25519};
 ghost use Rattle.sshkey_model.specs.Verification.{IsAccepted, question, question_under};
+ghost use Rattle.sshkey_base.specs.Acceptance.{AcceptsExactly};
 ghost use Rattle.sshkey_base.specs.Names.{IsFixed, algorithm_of};
 ghost use Rattle.sshkey_kinds.specs.Kinds.{sk_ecdsa_of, sk_ed25519_of};
 ghost use Rattle.sshkey_keys.specs.Keys.{key_of};
@@ -40,10 +41,8 @@ impl KeyData {
     ) -> Result<()>
         ensures answer { Verifies (verdict (V.accepts verifier.now) self.now
             message.now signature.now) result }
-        ensures accepted { OnOk result (IsAccepted (V.accepts verifier.now) (key_of self.now)
-            message.now (signature_of signature.now)) }
-        ensures refused { IfErr result (λ e. e ≢ Error.Memory → IsAccepted (V.accepts verifier.now)
-            (key_of self.now) message.now (signature_of signature.now) → ⊥) }
+        ensures exactly { AcceptsExactly (IsAccepted (V.accepts verifier.now) (key_of self.now)
+            message.now (signature_of signature.now)) result }
         ensures unasked { NamesFixed self.now message.now signature.now result }
     {
         if !self.is_asked_about(signature) {

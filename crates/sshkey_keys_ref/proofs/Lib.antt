@@ -1,4 +1,5 @@
 pub mod Accepting
+pub mod Spelled
 pub mod Slices
 pub mod Walking
 pub mod WalkedBodies

@@ -4,7 +4,7 @@ use Rattle.sshkey_model.specs.Keys.{Key}
 use Rattle.sshkey_model.specs.Names.{Algorithm}
 use Rattle.sshkey_model.specs.Reading.{whole}
 use Rattle.sshkey_model.specs.Signatures.{Signature, IsSignatureBlob, signature_blob_at}
-use Rattle.sshkey_model.specs.Verification.{Question, question, is_yes}
+use Rattle.sshkey_model.specs.Verification.{Question, question, is_yes, IsAccepted}
 use Rattle.sshkey_keys.specs.Keys.{SpellsKey, key_data_at}
 use Rattle.sshkey_keys.specs.SignatureReaders.{SpellsSignature}
 
@@ -16,6 +16,14 @@ Dispatches accepts k message g (Err e) = question k message g ≢ None
 -- The same of the key and the signature that the bytes spell.
 abbrev pub DispatchesBytes : {E : Type 0} → (Question → Bool) → List ℕ → List ℕ → List ℕ → Result Bool E → Type 0
 DispatchesBytes accepts key message signature r = (k : Key) (g : Signature) → SpellsKey k key → SpellsSignature g signature → Dispatches accepts k message g r
+
+-- The bytes spell a key, and a signature of the message that the verifier accepts under it.
+pub record AreAccepted (accepts : Question → Bool) (key message signature : List ℕ) : Type 0 where
+  pub signer : Key
+  pub by : SpellsKey signer key
+  pub made : Signature
+  pub spelled : SpellsSignature made signature
+  pub accepted : IsAccepted accepts signer message made
 
 -- ---- steps
 

@@ -1,12 +1,12 @@
 //! Which question the caller's verifier is asked about a signature, without a copy of either.
 
-ghost use Rattle.std.specs.Prelude.{◌≡◌, true};
+ghost use Rattle.std.specs.Prelude.{◌≡◌, ◌↔◌, true, IfOk, IsTrue};
 ghost use Rattle.sshkey_base.specs.Names.{algorithm_of};
 ghost use Rattle.sshkey_model.specs.Signatures.{IsSignatureBlob};
 ghost use Rattle.sshkey_kinds.specs.EcdsaPublicKey.{ecdsa_key_of};
 ghost use Rattle.sshkey_kinds.specs.Kinds.{ed25519_of};
 ghost use Rattle.sshkey_keys.specs.KeyKinds.{is_dsa, is_rsa};
-ghost use Rattle.sshkey_keys_ref.specs.Dispatch.{Answered, Dispatches, DispatchesBytes, DispatchesKey, DispatchesKind, IsBlobIn, signature_by};
+ghost use Rattle.sshkey_keys_ref.specs.Dispatch.{Answered, AreAccepted, Dispatches, DispatchesBytes, DispatchesKey, DispatchesKind, IsBlobIn, signature_by};
 ghost use Rattle.sshkey_keys_ref.specs.KeyDataRef.{key_bytes};
 ghost use Rattle.sshkey_keys_ref.specs.Kinds.{sk_ecdsa_of, sk_ed25519_of};
 ghost use Rattle.sshkey_keys_ref.specs.NameRef.{named_of};
@@ -24,7 +24,7 @@ use std::alloc::{AllocError, Global};
 
 impl KeyDataRef<'_> {
     /// Whether the verifier is asked about a signature of the message under this key, and says yes:
-    /// where `KeyData::verify` of the same key and signature is Ok.
+    /// exactly where `KeyData::verify` of the same key and signature is Ok, out of memory aside.
     ///
     /// It is asked under DSA, Ed25519 and RSA with a hash for keys of these kinds, and under ECDSA
     /// for a key on the same curve: about the message and the signature's bytes. For a security
@@ -42,8 +42,10 @@ impl KeyDataRef<'_> {
         signature: &SignatureRef<'_>,
         verifier: &V,
     ) -> std::result::Result<bool, AllocError>
-        ensures { DispatchesBytes (V.accepts verifier.now) (key_bytes self.now) message.now
+        ensures answer { DispatchesBytes (V.accepts verifier.now) (key_bytes self.now) message.now
             (signature_bytes signature.now) result }
+        ensures exactly { IfOk result (λ yes. IsTrue yes ↔ AreAccepted (V.accepts verifier.now)
+            (key_bytes self.now) message.now (signature_bytes signature.now)) }
     {
         let mut behind_name = signature.as_bytes();
         match take_name(&mut behind_name) {

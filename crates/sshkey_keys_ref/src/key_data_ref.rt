@@ -1,6 +1,7 @@
 //! Public keys that are the bytes that spell them.
 
-ghost use Rattle.std.specs.Prelude.{◌≡◌, true, IfErr};
+ghost use Rattle.std.specs.Prelude.{◌≡◌, true, IfErr, IfOk};
+ghost use Rattle.sshkey_base.specs.Acceptance.{SpellsSome};
 ghost use Rattle.sshkey_base.specs.Answers.{Judges};
 ghost use Rattle.sshkey_base.specs.Causes.{NoMemory, cause};
 ghost use Rattle.sshkey_base.specs.Names.{algorithm_of as named_algorithm, hash_of};
@@ -53,6 +54,7 @@ impl<'a> KeyDataRef<'a> {
     pub fn as_bytes(&self) -> &'a [u8]
         ensures bytes { result.now ≡ key_bytes self.now }
         ensures form { is_taken (whole key_data_at result.now) ≡ true }
+        ensures spelled { SpellsSome SpellsKey result.now }
     {
         self.bytes
     }
@@ -71,9 +73,11 @@ impl<'a> KeyDataRef<'a> {
         Some(self.bytes)
     }
 
-    /// The key in memory of its own. Refused only when out of memory.
+    /// The key in memory of its own, which is the one that the bytes spell, and so well-formed.
+    /// Refused only when out of memory.
     pub fn to_key_data(&self, alloc: Global) -> Result<KeyData>
         ensures value { Answers key_of cause (whole key_data_at (key_bytes self.now)) result }
+        ensures spelled { IfOk result (λ k. SpellsKey (key_of k) (key_bytes self.now)) }
         ensures memory { IfErr result (λ e. cause e ≡ NoMemory) }
     {
         decode_whole(alloc, self.bytes)

@@ -1,6 +1,7 @@
 //! Signatures that are the bytes that spell them.
 
-ghost use Rattle.std.specs.Prelude.{◌≡◌, true, IfErr};
+ghost use Rattle.std.specs.Prelude.{◌≡◌, true, IfErr, IfOk};
+ghost use Rattle.sshkey_base.specs.Acceptance.{SpellsSome};
 ghost use Rattle.sshkey_base.specs.Answers.{AnswersAlways, Judges};
 ghost use Rattle.sshkey_base.specs.Causes.{NoMemory, cause};
 ghost use Rattle.sshkey_model.specs.Reading.{whole, string_at, checked_at};
@@ -54,14 +55,18 @@ impl<'a> SignatureRef<'a> {
     pub fn as_bytes(&self) -> &'a [u8]
         ensures bytes { result.now ≡ signature_bytes self.now }
         ensures form { is_taken (whole signature_at result.now) ≡ true }
+        ensures spelled { SpellsSome SpellsSignature result.now }
     {
         self.bytes
     }
 
-    /// The signature in memory of its own. Refused only when out of memory.
+    /// The signature in memory of its own, which is the one that the bytes spell, and so
+    /// well-formed. Refused only when out of memory.
     pub fn to_signature(&self, alloc: Global) -> Result<Signature>
         ensures value { Answers signature_of cause (whole signature_at (signature_bytes self.now))
             result }
+        ensures spelled { IfOk result
+            (λ g. SpellsSignature (signature_of g) (signature_bytes self.now)) }
         ensures memory { IfErr result (λ e. cause e ≡ NoMemory) }
     {
         decode_whole(alloc, self.bytes)

@@ -5,7 +5,7 @@ ghost use Rattle.std.specs.Prelude.{◌≡◌, ℕ, Some, ◌+◌, ◌^◌};
 ghost use Rattle.hex.specs.Hex.{encode_lower, encode_upper};
 ghost use Rattle.sshkey_base.specs.Answers.{AnswersAlways};
 ghost use Rattle.sshkey_base.specs.Causes.{cause, encoding_cause};
-ghost use Rattle.sshkey_base.specs.Reading.{Decodes, DecodesAlways};
+ghost use Rattle.sshkey_base.specs.Reading.{Decodes, DecodesAlways, LengthPast};
 ghost use Rattle.sshkey_base.specs.Source.{Later};
 ghost use Rattle.sshkey_model.specs.Keys.{Key, body};
 ghost use Rattle.sshkey_kinds.specs.Bodies.{SpellsEd25519, ed25519_body_at, ed25519_body_grammar};
@@ -54,6 +54,7 @@ impl Decode for Ed25519PublicKey {
         ensures asks { Asks encoding_cause NoNeed (R.source reader.old) result }
         ensures always { DecodesAlways ed25519_of ed25519_body_at
             R.source reader.old result reader.new }
+        ensures past { LengthPast encoding_cause (R.source reader.old) result }
     {
         Ok(Ed25519PublicKey(<[u8; 32]>::decode(alloc, reader)?))
     }

@@ -1,4 +1,4 @@
-//! Laws of equality and order. They make no call: each is a fact about the definitions.
+//! Laws of spelling, equality and order. They make no call: each is a fact about the definitions.
 
 ghost use Rattle.sshkey_base.specs.Comparisons.{IsEqualityOf, IsOrderOf, IsOrderByParts};
 ghost use Rattle.sshkey_kinds.specs.Comparisons.{dsa_parts, ecdsa_parts, rsa_parts, sk_ecdsa_parts, sk_ed25519_parts, opaque_parts, opaque_fields};
@@ -11,6 +11,8 @@ use crate::ed25519::Ed25519PublicKey;
 use crate::opaque::{OpaquePublicKey, OpaquePublicKeyBytes};
 use crate::rsa::RsaPublicKey;
 use crate::sk::{SkEcdsaSha2NistP256, SkEd25519};
+
+pub use sshkey_model::laws::{prefix_body, prefix_point};
 
 /// Two DSA keys are equal exactly if they mean the same, and they are ordered by p, q, g and y.
 pub fn compared_dsa_keys()

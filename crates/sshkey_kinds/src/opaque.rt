@@ -55,10 +55,14 @@ impl AsSlice<u8> for OpaquePublicKeyBytes {
     }
 }
 
-/// A string of any bytes.
+/// A string of any bytes. A length that passes what is left is `Length`, and no memory is asked for
+/// it.
 #[tactic(auto, using(sshkey_base::proofs::Steps::steps))]
 impl Decode for OpaquePublicKeyBytes {
-    ghost use Rattle.sshkey_base.specs.Needs.{NeedsString};
+    ghost use Rattle.sshkey_base.specs.Causes.{encoding_cause};
+    ghost use Rattle.sshkey_base.specs.Needs.{Asks, NeedsString};
+    ghost use Rattle.sshkey_base.specs.Reading.{Decodes, LengthPast};
+    ghost use Rattle.sshkey_base.specs.Source.{Later};
 
     type Error = encoding::Error;
 
@@ -74,7 +78,12 @@ impl Decode for OpaquePublicKeyBytes {
 
     ghost grammar = { string_grammar };
 
-    fn decode<R: Reader>(alloc: Global, reader: &mut R) -> encoding::Result<OpaquePublicKeyBytes> {
+    fn decode<R: Reader>(alloc: Global, reader: &mut R) -> encoding::Result<OpaquePublicKeyBytes>
+        ensures gives { Decodes (λ k. k) string_at R.source reader.old result reader.new }
+        ensures later { Later (R.source reader.old) (R.source reader.new) }
+        ensures asks { Asks encoding_cause NeedsString (R.source reader.old) result }
+        ensures past { LengthPast encoding_cause (R.source reader.old) result }
+    {
         let bytes = Bytes::decode(alloc, reader)?;
         Ok(OpaquePublicKeyBytes { bytes })
     }

@@ -1,16 +1,29 @@
 -- When a text is that of hosts.
-use Rattle.std.proofs.Common.{◌≡◌, ◌≢◌, ◌<◌, ℕ, List, [], ◌∷◌, ◌++◌, length, drop, None, Some, Bor, sym, ap, ◌∙◌, refl, arith}
+use Rattle.std.proofs.Common.{◌≡◌, ◌≢◌, ◌⊎◌, ◌<◌, ℕ, List, [], ◌∷◌, ◌++◌, length, drop, slice_index, None, Some, Result, Ok, Err, Bor, inl, inr, sym, ap, subst, ◌∙◌, refl, arith}
+use Rattle.std.proofs.lemmas.List.{length-append}
+use Rattle.std.proofs.Math.Seq.{get_or-append_seam}
 use Rattle.std.specs.List.{slice_split, before_first, after_first}
-use Rattle.std.proofs.lemmas.Str.Pattern.{IsSplitOnceResult, split_after, split_parts, split_once_first}
+use Rattle.std.proofs.lemmas.Str.Pattern.{IsSplitOnceResult, split_parts, split_once_first}
 use Rattle.std.proofs.lemmas.List.Splits.{slice_split_none, slice_split_first, length-slice_split}
 use Rattle.std.proofs.lemmas.List.Elements.{All-from_get_or}
 use Rattle.std.proofs.Common.{ne_eqb, eqb-true, Bool, true, false, ◌==◌}
 use Rattle.base64.specs.Engines.{standard}
 use Rattle.base64.specs.GeneralPurpose.{encode_of, IsBytes}
+use Rattle.sshkey_base.specs.Causes.{cause, NoMemory}
+use Rattle.sshkey_base.specs.declared.encoding.Error.TheVariants.{Base64, Length}
+use Rattle.sshkey_base.specs.declared.error.Error.{Error}
+use Rattle.sshkey_base.specs.declared.error.Error.TheVariants.{Encoding, FormatEncoding, Memory}
+use Rattle.sshkey_model.specs.Lines.{IsWithout}
 use Rattle.sshkey_model.proofs.Base64Words.{one_blob}
+use Rattle.sshkey_model.proofs.LineCuts.{one_front}
+use Rattle.sshkey_entries.specs.Entries.{IsNoEntry}
 use Rattle.sshkey_entries.specs.Items.{patterns, without_empty_last, is_comma}
 use Rattle.sshkey_entries.specs.KnownHosts.{Hosts, HashedName, Patterns, IsHosts, IsHashedName, hashed_mark, hashed_text, bar}
 use Rattle.sshkey_entries.proofs.OneHost.{bar_not}
+use Rattle.sshkey_files.specs.Answers.{ReadsEntry}
+use Rattle.sshkey_known_hosts.specs.HostEntries.{hosts_of, ReadsHashed}
+use Rattle.sshkey_known_hosts.specs.declared.host_patterns.HostPatterns.{HostPatterns}
+use Rattle.sshkey_known_hosts.specs.HostFaults.{HasNoBar, HasNoBase64, HasOtherSize, IsNoBase64, RefusesHosts}
 use Rattle.sshkey_entries.proofs.Cuts.{kept_first, kept_last}
 
 -- ---- patterns
@@ -35,39 +48,82 @@ patterns_last text none some =
 
 -- ---- a hashed name
 
-behind_mark : (text salt hash : List ℕ) → hashed_mark ++ text ≡ hashed_text salt hash → text ≡ encode_of standard salt ++ (bar ∷ encode_of standard hash)
-behind_mark text salt hash e = ap (drop 3) e
+module _ (text : List ℕ) (salt_word hash_word : Bor (List ℕ)) (cut : IsSplitOnceResult bar text (Some (salt_word, hash_word))) where
+  two_words : (hashed_mark ++ text ≡ hashed_mark ++ (salt_word.now ++ (bar ∷ hash_word.now))) × IsWithout bar salt_word.now
+  two_words = let parts = split_parts bar text (Some (salt_word, hash_word)) cut (omega arith) in (ap (λ (t : List ℕ). hashed_mark ++ t) parts.0, parts.1)
+
+  module _ (salt hash : List ℕ) (salt_is : salt_word.now ≡ encode_of standard salt) (salt_bytes : IsBytes salt) (hash_is : hash_word.now ≡ encode_of standard hash) (hash_bytes : IsBytes hash) where
+    hashed_is : hashed_mark ++ text ≡ hashed_text salt hash
+    hashed_is = two_words.0 ∙ (λ j. hashed_mark ++ (salt_is j ++ (bar ∷ hash_is j)))
+
+    pub hashed : length hash ≡ 20 → IsHashedName (hashed_mark ++ text) salt hash
+    hashed size = record { is = hashed_is; salt_bytes = salt_bytes; hash_bytes = hash_bytes; hash_len = size }
+
+    pub size_fault : length hash ≢ 20 → RefusesHosts (hashed_mark ++ text) (Encoding Length)
+    size_fault size = record { salt = salt; hash = hash; is = hashed_is; salt_bytes = salt_bytes; hash_bytes = hash_bytes; size = size }
+
+  word_fault : (e : Error) (word : List ℕ) → (IsNoBase64 word → IsNoBase64 salt_word.now ⊎ IsNoBase64 hash_word.now) → (e ≡ Memory) ⊎ ((e ≡ Encoding Base64) × IsNoBase64 word) → RefusesHosts (hashed_mark ++ text) e
+  word_fault e word which why = elim why [
+    | inl full ↦ subst (RefusesHosts (hashed_mark ++ text)) (sym full) tt
+    | inr bad ↦ subst (RefusesHosts (hashed_mark ++ text)) (sym bad.0) (record { salt = salt_word.now; hash = hash_word.now; is = two_words.0; one_word = two_words.1; none = which bad.1 })
+  ]
+
+  pub salt_fault : (e : Error) → (e ≡ Memory) ⊎ ((e ≡ Encoding Base64) × IsNoBase64 salt_word.now) → RefusesHosts (hashed_mark ++ text) e
+  salt_fault e = word_fault e salt_word.now inl
+
+  pub hash_fault : (e : Error) → (e ≡ Memory) ⊎ ((e ≡ Encoding Base64) × IsNoBase64 hash_word.now) → RefusesHosts (hashed_mark ++ text) e
+  hash_fault e = word_fault e hash_word.now inr
+
+pub no_bar_fault : (text : List ℕ) → IsSplitOnceResult bar text None → RefusesHosts (hashed_mark ++ text) FormatEncoding
+no_bar_fault text none = inr (text, refl, split_parts bar text None none (omega arith))
+
+-- ---- faults
 
 -- a text with the mark is of a hashed name or of nothing
-only_hashed : (text : List ℕ) → ((salt hash : List ℕ) → IsHashedName (hashed_mark ++ text) salt hash → ⊥) → (h : Hosts) → IsHosts (hashed_mark ++ text) h → ⊥
-only_hashed text none (Patterns ps) is = is.not_hashed (text, refl)
-only_hashed text none (HashedName salt hash) is = none salt hash is
+only_hashed : (text rest : List ℕ) → text ≡ hashed_mark ++ rest → ((salt hash : List ℕ) → IsHashedName text salt hash → ⊥) → IsNoEntry IsHosts text
+only_hashed text rest is none (Patterns ps) h = h.not_hashed (rest, is)
+only_hashed text rest is none (HashedName salt hash) h = none salt hash h
 
-pub no_bar : (text : List ℕ) → IsSplitOnceResult bar text None → (h : Hosts) → IsHosts (hashed_mark ++ text) h → ⊥
-no_bar text none = only_hashed text (λ salt hash is. split_after bar text (encode_of standard salt) (encode_of standard hash) None none (omega arith) (behind_mark text salt hash is.is) (bar_not salt))
+empty_hosts : (text : List ℕ) → text ≡ [] → IsNoEntry IsHosts text
+empty_hosts text empty (Patterns ps) h = omega (arith, ap length empty, h.some)
+empty_hosts text empty (HashedName salt hash) h = omega (arith, ap length empty, ap length h.is, length-append hashed_mark (encode_of standard salt ++ (bar ∷ encode_of standard hash)))
 
-module _ (text : List ℕ) (salt_word hash_word : Bor (List ℕ)) (cut : IsSplitOnceResult bar text (Some (salt_word, hash_word))) where
-  words : (salt hash : List ℕ) → IsHashedName (hashed_mark ++ text) salt hash → (salt_word.now ≡ encode_of standard salt) × (hash_word.now ≡ encode_of standard hash)
-  words salt hash is = split_after bar text (encode_of standard salt) (encode_of standard hash) (Some (salt_word, hash_word)) cut (omega arith) (behind_mark text salt hash is.is) (bar_not salt)
+unbarred_hosts : (text : List ℕ) → HasNoBar text → IsNoEntry IsHosts text
+unbarred_hosts text x = only_hashed text x.0 x.1 (λ salt hash h.
+    let rest : x.0 ≡ encode_of standard salt ++ (bar ∷ encode_of standard hash) = ap (drop 3) (sym x.1 ∙ h.is) in
+    x.2 (length (encode_of standard salt)) (omega (arith, ap length rest, length-append (encode_of standard salt) (bar ∷ encode_of standard hash)))
+    (ap (λ (l : List ℕ). slice_index l (length (encode_of standard salt))) rest ∙ get_or-append_seam (encode_of standard salt) bar (encode_of standard hash) 0))
 
-  pub bad_salt : ((b : List ℕ) → IsBytes b → salt_word.now ≡ encode_of standard b → ⊥) → (h : Hosts) → IsHosts (hashed_mark ++ text) h → ⊥
-  bad_salt none = only_hashed text (λ salt hash is. none salt is.salt_bytes (words salt hash is).0)
+-- the words of a hashed name are cut at the one bar
+same_words : (text first second salt hash : List ℕ) → text ≡ hashed_mark ++ (first ++ (bar ∷ second)) → IsWithout bar first → text ≡ hashed_text salt hash → (first ≡ encode_of standard salt) × (second ≡ encode_of standard hash)
+same_words text first second salt hash is without h = one_front bar first (encode_of standard salt) second (encode_of standard hash) without (bar_not salt) (ap (drop 3) (sym is ∙ h))
 
-  pub bad_hash : ((b : List ℕ) → IsBytes b → hash_word.now ≡ encode_of standard b → ⊥) → (h : Hosts) → IsHosts (hashed_mark ++ text) h → ⊥
-  bad_hash none = only_hashed text (λ salt hash is. none hash is.hash_bytes (words salt hash is).1)
+unspelled_hosts : (text : List ℕ) → HasNoBase64 text → IsNoEntry IsHosts text
+unspelled_hosts text x = only_hashed text _ x.is (λ salt hash h.
+    let words = same_words text x.salt x.hash salt hash x.is x.one_word h.is in
+    elim x.none [
+      | inl none ↦ none salt h.salt_bytes words.0
+      | inr none ↦ none hash h.hash_bytes words.1
+    ])
 
-  pub bad_size : (b : List ℕ) → IsBytes b → hash_word.now ≡ encode_of standard b → length b ≢ 20 → (h : Hosts) → IsHosts (hashed_mark ++ text) h → ⊥
-  bad_size b bytes word size = only_hashed text (λ salt hash is.
-      let same : b ≡ hash = one_blob b hash bytes is.hash_bytes (sym word ∙ (words salt hash is).1) in
-      size (ap length same ∙ is.hash_len))
+other_hosts : (text : List ℕ) → HasOtherSize text → IsNoEntry IsHosts text
+other_hosts text x = only_hashed text _ x.is (λ salt hash h.
+    let words = same_words text (encode_of standard x.salt) (encode_of standard x.hash) salt hash x.is (bar_not x.salt) h.is in
+    x.size (ap length (one_blob x.hash hash x.hash_bytes h.hash_bytes words.1) ∙ h.hash_len))
 
-  pub hashed : (salt hash : List ℕ) → salt_word.now ≡ encode_of standard salt → IsBytes salt → hash_word.now ≡ encode_of standard hash → IsBytes hash → length hash ≡ 20 → IsHashedName (hashed_mark ++ text) salt hash
-  hashed salt hash salt_is salt_bytes hash_is hash_bytes size = record {
-    is = ap (λ (t : List ℕ). hashed_mark ++ t) ((split_parts bar text (Some (salt_word, hash_word)) cut (omega arith)).0 ∙ (λ j. salt_is j ++ (bar ∷ hash_is j)));
-    salt_bytes = salt_bytes;
-    hash_bytes = hash_bytes;
-    hash_len = size;
-  }
+-- A text that is refused for a fault is none.
+pub refused_is_none : (text : List ℕ) (e : Error) → RefusesHosts text e → cause e ≢ NoMemory → IsNoEntry IsHosts text
+refused_is_none text FormatEncoding (inl empty) other = empty_hosts text empty
+refused_is_none text FormatEncoding (inr unbarred) other = unbarred_hosts text unbarred
+refused_is_none text (Encoding Base64) x other = unspelled_hosts text x
+refused_is_none text (Encoding Length) x other = other_hosts text x
+refused_is_none text Memory x other = absurd (other refl)
+refused_is_none text e x other = absurd x
+
+-- what is read behind the mark
+pub reads_behind_mark : (text rest : List ℕ) (r : Result HostPatterns Error) → text ≡ hashed_mark ++ rest → ReadsHashed rest r → ReadsEntry hosts_of IsHosts text r
+reads_behind_mark text rest (Ok h) is x = subst (λ (t : List ℕ). IsHosts t (hosts_of h)) (sym is) x
+reads_behind_mark text rest (Err e) is x = λ other. subst (IsNoEntry IsHosts) (sym is) (refused_is_none (hashed_mark ++ rest) e x other)
 
 -- an empty text has no patterns
 pub no_patterns_left : (text : List ℕ) (empty : Bool) → empty ≡ (length text == 0) → empty ≡ true → patterns text ≡ []

@@ -1,13 +1,17 @@
 -- When a line is an entry of known_hosts.
-use Rattle.std.proofs.Common.{◌≡◌, ◌≢◌, ℕ, List, ◌∷◌, ◌++◌, Option, None, Some, Bor, sym, subst, arith}
+use Rattle.std.proofs.Common.{◌≡◌, ◌≢◌, ℕ, List, ◌∷◌, ◌++◌, length, slice_index, Option, None, Some, Bor, refl, sym, ap, ◌∙◌, subst, arith}
+use Rattle.std.proofs.lemmas.List.{length-append}
+use Rattle.std.proofs.Math.Seq.{get_or-append_seam}
 use Rattle.std.proofs.lemmas.Str.Pattern.{IsSplitOnceResult, split_after, split_parts}
 use Rattle.sshkey_base.specs.Causes.{cause, NoMemory}
 use Rattle.sshkey_base.specs.declared.error.Error.{Error}
+use Rattle.sshkey_base.specs.declared.error.Error.TheVariants.{FormatEncoding}
 use Rattle.sshkey_model.specs.Keys.{Key}
-use Rattle.sshkey_model.specs.Lines.{space, IsKeyLine}
+use Rattle.sshkey_model.specs.Lines.{space, IsKeyLine, IsWithout}
 use Rattle.sshkey_entries.proofs.OneHost.{one_marker}
 use Rattle.sshkey_entries.specs.AuthorizedKeys.{IsNoKeyLine}
 use Rattle.sshkey_entries.specs.KnownHosts.{Marker, Hosts, IsHosts, KnownHost, IsMarked, IsKnownHost}
+use Rattle.sshkey_known_hosts.specs.HostFaults.{HasFault, RefusesHosts}
 
 module _ (entry : List ℕ) (m : Option Marker) (unmarked : List ℕ) (marked : IsMarked m entry unmarked) where
   behind : (h : KnownHost) (k : IsKnownHost entry h) → unmarked ≡ k.hosts_part ++ (space ∷ k.rest)
@@ -30,3 +34,51 @@ module _ (entry : List ℕ) (m : Option Marker) (unmarked : List ℕ) (marked : 
     known x key comment is line =
         let at = split_parts space unmarked (Some (hosts, rest)) cut (omega arith) in
         record { hosts_part = hosts.now; rest = rest.now; is = subst (IsMarked m entry) at.0 marked; one_word = at.1; hosts = is; line = line }
+
+-- ---- faults
+
+-- a line with a marker of no kind
+pub marker_fault : (entry : List ℕ) → ((m : Option Marker) (rest : List ℕ) → IsMarked m entry rest → ⊥) → HasFault entry FormatEncoding
+marker_fault entry none = record {
+  no_marker = λ _. refl;
+  no_space = λ m rest is without. refl;
+  no_hosts = λ m hosts rest is without bad. absurd (none m (hosts ++ (space ∷ rest)) is);
+}
+
+module _ (entry : List ℕ) (m : Option Marker) (unmarked : List ℕ) (marked : IsMarked m entry unmarked) where
+  same_rest : (n : Option Marker) (rest : List ℕ) → IsMarked n entry rest → unmarked ≡ rest
+  same_rest n rest is = (one_marker entry m n unmarked rest marked is).1
+
+  pub space_fault : IsSplitOnceResult space unmarked None → HasFault entry FormatEncoding
+  space_fault none = record {
+    no_marker = λ _. refl;
+    no_space = λ n rest is without. refl;
+    no_hosts = λ n hosts rest is without bad. absurd (split_after space unmarked hosts rest None none (omega arith) (same_rest n (hosts ++ (space ∷ rest)) is) without);
+  }
+
+  module _ (hosts rest : Bor (List ℕ)) (cut : IsSplitOnceResult space unmarked (Some (hosts, rest))) where
+    same_hosts : (n : Option Marker) (other behind : List ℕ) → IsMarked n entry (other ++ (space ∷ behind)) → IsWithout space other → hosts.now ≡ other
+    same_hosts n other behind is without = (split_after space unmarked other behind (Some (hosts, rest)) cut (omega arith) (same_rest n (other ++ (space ∷ behind)) is) without).0
+
+    -- a space stands in what follows the marker
+    no_lone_word : (n : Option Marker) (other : List ℕ) → IsMarked n entry other → IsWithout space other → ⊥
+    no_lone_word n other is without =
+        let parts = split_parts space unmarked (Some (hosts, rest)) cut (omega arith) in
+        let whole : other ≡ hosts.now ++ (space ∷ rest.now) = sym (same_rest n other is) ∙ parts.0 in
+        without (length hosts.now) (omega (arith, ap length whole, length-append hosts.now (space ∷ rest.now)))
+        (ap (λ (l : List ℕ). slice_index l (length hosts.now)) whole ∙ get_or-append_seam hosts.now space rest.now 0)
+
+    pub hosts_fault : (e : Error) → RefusesHosts hosts.now e → HasFault entry e
+    hosts_fault e h = record {
+      no_marker = λ none. absurd (none m unmarked marked);
+      no_space = λ n other is without. absurd (no_lone_word n other is without);
+      no_hosts = λ n other behind is without bad. subst (λ (t : List ℕ). RefusesHosts t e) (same_hosts n other behind is without) h;
+    }
+
+    -- hosts that are some, and the fault of the key's line
+    pub host_key_fault : (e : Error) (x : Hosts) → IsHosts hosts.now x → HasFault entry e
+    host_key_fault e x h = record {
+      no_marker = λ none. absurd (none m unmarked marked);
+      no_space = λ n other is without. absurd (no_lone_word n other is without);
+      no_hosts = λ n other behind is without bad. absurd (bad x (subst (λ (t : List ℕ). IsHosts t x) (same_hosts n other behind is without) h));
+    }

@@ -1,17 +1,18 @@
 -- What an entry of known_hosts means, and how its parts are read.
-use Rattle.std.specs.Prelude.{◌≡◌, ◌≢◌, ℕ, List, [], ◌∷◌, ◌++◌, Option, Some, None, option_map, Result, Ok, Err, Vec}
+use Rattle.std.specs.Prelude.{◌≡◌, ◌≢◌, ◌⊎◌, ℕ, List, [], ◌∷◌, ◌++◌, Option, Some, None, option_map, Result, Ok, Err, Vec}
 use Rattle.base64.specs.Engines.{standard}
 use Rattle.base64.specs.GeneralPurpose.{encode_of, IsBytes}
 use Rattle.sshkey_model.specs.Lines.{space}
-use Rattle.sshkey_base.specs.Causes.{cause, NoMemory}
+use Rattle.sshkey_base.specs.declared.encoding.Error.TheVariants.{Base64}
 use Rattle.sshkey_base.specs.declared.error.Error.{Error}
-use Rattle.sshkey_base.specs.declared.error.Error.TheVariants.{FormatEncoding, Memory}
+use Rattle.sshkey_base.specs.declared.error.Error.TheVariants.{Encoding, FormatEncoding, Memory}
 use Rattle.sshkey_keys.specs.Comparisons.{HasForm}
 use Rattle.sshkey_public.specs.PublicKeys.{data_of, public_of, comment_of}
 use Rattle.sshkey_public.specs.declared.public_key.PublicKey.{PublicKey}
 use Rattle.sshkey_entries.specs.Items.{patterns}
 use Rattle.sshkey_entries.specs.KnownHosts as known
 use Rattle.sshkey_entries.specs.KnownHosts.{Hosts, HashedName, Patterns, IsHosts, KnownHost, IsMarked, marker_text, hashed_mark}
+use Rattle.sshkey_known_hosts.specs.HostFaults.{IsNoBase64, RefusesHosts}
 use Rattle.sshkey_known_hosts.specs.declared.entry.Entry.{Entry}
 use Rattle.sshkey_known_hosts.specs.declared.host_patterns.HostPatterns.{HostPatterns}
 use Rattle.sshkey_known_hosts.specs.declared.host_patterns.HostPatterns.TheVariants as hosts
@@ -63,12 +64,12 @@ ReadsPatterns text (Err e) = e ≡ Memory
 -- behind the mark
 abbrev pub ReadsHashed : List ℕ → Result HostPatterns Error → Type 0
 ReadsHashed text (Ok h) = IsHosts (hashed_mark ++ text) (hosts_of h)
-ReadsHashed text (Err e) = cause e ≢ NoMemory → (h : Hosts) → IsHosts (hashed_mark ++ text) h → ⊥
+ReadsHashed text (Err e) = RefusesHosts (hashed_mark ++ text) e
 
--- The word is the bytes in Base64. Refused for anything but memory, it is that of none.
+-- The word is the bytes in Base64. `Base64` where it is that of none, and else only out of memory.
 abbrev pub ReadsWord : {Z : Type 0} → List ℕ → Result (Vec ℕ Z) Error → Type 0
 ReadsWord word (Ok v) = (word ≡ encode_of standard v.items) × IsBytes v.items
-ReadsWord word (Err e) = cause e ≢ NoMemory → (blob : List ℕ) → IsBytes blob → word ≡ encode_of standard blob → ⊥
+ReadsWord word (Err e) = (e ≡ Memory) ⊎ ((e ≡ Encoding Base64) × IsNoBase64 word)
 
 -- ---- writing
 

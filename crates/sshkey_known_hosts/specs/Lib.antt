@@ -1,1 +1,2 @@
 pub mod HostEntries
+pub mod HostFaults

@@ -3,8 +3,9 @@
 ghost use Rattle.std.specs.Prelude.{◌≡◌, IfErr, IfOk, string_bytes};
 ghost use Rattle.sshkey_base.specs.declared.error.Error.TheVariants as wide;
 ghost use Rattle.sshkey_entries.specs.KnownHosts.{KnownHost, IsKnownHost, known_text};
-ghost use Rattle.sshkey_files.specs.Answers.{ReadsEntry};
+ghost use Rattle.sshkey_files.specs.Answers.{ReadsEntry, RefusesFor};
 ghost use Rattle.sshkey_known_hosts.specs.HostEntries.{key_in, hosts_in, known_host_of, marker_front, marker_in, SplitsMarker};
+ghost use Rattle.sshkey_known_hosts.specs.HostFaults.{HasFault};
 ghost use Rattle.sshkey_files.specs.MadeTexts.{MakesEntry};
 ghost use Rattle.sshkey_keys.specs.Keys.{algorithm_beside};
 ghost use Rattle.sshkey_public.specs.PublicKeys.{data_of};
@@ -58,6 +59,8 @@ impl FromLine for Entry {
 
     ghost IsEntry = { IsKnownHost };
 
+    ghost HasFault = { HasFault };
+
     fn from_line(alloc: Global, line: &str) -> Result<Entry> {
         Entry::from_line(alloc, line)
     }
@@ -71,8 +74,14 @@ impl Entry {
     /// Out of memory aside, it is refused exactly where the line is no entry: `FormatEncoding` for
     /// another marker or a space that is missing, and else the refusals of
     /// `HostPatterns::from_text` and then of `PublicKey::from_openssh`.
+    ///
+    /// A line that is refused says nothing of its hosts. OpenSSH also takes tabs and several spaces
+    /// between the fields, so the line may be a revocation to it: treat an `Err` as no verdict on
+    /// any host, and do not pass over it. A tab in front of the key is part of the hosts here, so
+    /// of such a line OpenSSH may read another key.
     pub fn from_line(alloc: Global, line: &str) -> Result<Entry>
-        ensures { ReadsEntry known_host_of IsKnownHost line.now result }
+        ensures reads { ReadsEntry known_host_of IsKnownHost line.now result }
+        ensures fault { RefusesFor HasFault line.now result }
     {
         let (marker, unmarked) = split_marker(line)?;
         let Some((hosts, rest)) = unmarked.split_once(' ') else {

@@ -7,6 +7,7 @@ ghost use Rattle.sshkey_entries.specs.Items.{patterns};
 ghost use Rattle.sshkey_entries.specs.KnownHosts.{IsHosts, comma, hosts_text};
 ghost use Rattle.sshkey_files.specs.Answers.{ReadsEntry};
 ghost use Rattle.sshkey_known_hosts.specs.HostEntries.{hosts_of, ReadsHashed, ReadsPatterns, ReadsWord};
+ghost use Rattle.sshkey_known_hosts.specs.HostFaults.{RefusesHosts};
 
 use base64::DecodeAllocError;
 use base64::engine::general_purpose::STANDARD;
@@ -35,7 +36,8 @@ impl HostPatterns {
     /// is empty, or has no `|` behind the salt, `Base64` where a word is no canonical Base64, and
     /// `Length` for a hash of other than 20 bytes.
     pub fn from_text(alloc: Global, text: &str) -> Result<HostPatterns>
-        ensures { ReadsEntry hosts_of IsHosts text.now result }
+        ensures reads { ReadsEntry hosts_of IsHosts text.now result }
+        ensures fault { IfErr result (RefusesHosts text.now) }
     {
         if let Some(hashed) = text.strip_prefix("|1|") {
             return HostPatterns::from_hashed(alloc, hashed);

@@ -1,11 +1,12 @@
 //! The entries of a text or a file.
 
-ghost use Rattle.std.specs.Prelude.{◌≡◌, ℕ, List, IfOk};
+ghost use Rattle.std.specs.Prelude.{◌≡◌, ℕ, List};
 ghost use Rattle.std.specs.Iterator.{item_count};
 ghost use Rattle.sshkey_entries.specs.Entries.{entries};
 ghost use Rattle.sshkey_entries.specs.KnownHosts.{IsKnownHost};
-ghost use Rattle.sshkey_files.specs.Answers.{AreOfSomeText, ReadsEntry, YieldsAnswers};
+ghost use Rattle.sshkey_files.specs.Answers.{AnswersEntry, ReadsFile, YieldsAnswers};
 ghost use Rattle.sshkey_known_hosts.specs.HostEntries.{known_host_of};
+ghost use Rattle.sshkey_known_hosts.specs.HostFaults.{HasFault};
 
 use crate::entry::Entry;
 use sshkey_base::Result;
@@ -51,7 +52,7 @@ impl KnownHosts<'_> {
     /// `Io` with the machine's fault where the file could not be read, `Io(InvalidData)` where it
     /// is not UTF-8, and else the refusal of the first line that is no entry.
     pub fn read_file<R: Files>(rt: &R, alloc: Global, path: &str) -> Result<Vec<Entry>>
-        ensures { IfOk result (AreOfSomeText known_host_of IsKnownHost) }
+        ensures { ReadsFile known_host_of IsKnownHost HasFault result }
     {
         entries_of_file(rt, alloc, path)
     }
@@ -60,7 +61,7 @@ impl KnownHosts<'_> {
 impl<'a> Iterator for KnownHosts<'a> {
     type Item = Result<Entry>;
 
-    ghost next_gives = { YieldsAnswers (ReadsEntry known_host_of IsKnownHost) };
+    ghost next_gives = { YieldsAnswers (AnswersEntry known_host_of IsKnownHost HasFault) };
 
     ghost remaining = { item_count (λ left. left) };
 

@@ -96,7 +96,7 @@ impl OptionsMap {
 
     /// The options, in the order of their names.
     pub fn iter(&self) -> Iter<'_, String, String>
-        ensures rest { result ≡ self.now.0.entries }
+        ensures options { map option_of result ≡ options_of self.now }
         ensures runs { ShowsInOrder (deref_pair {K = String Global} {X = String Global}) }
         ensures fits { length (options_of self.now) < 2 ^ 63 }
     {

@@ -80,11 +80,14 @@ impl fmt::Debug for DsaPrivateKey {
 
 /// The number as a string.
 ///
-/// `Length` where the string passes what is left, and `FormatEncoding` where its bytes are those
-/// of no number.
+/// `Length` where the string passes what is left, which no memory is asked for, and
+/// `FormatEncoding` where its bytes are those of no number.
 #[tactic(auto, using(sshkey_base::proofs::Steps::steps))]
 impl Decode for DsaPrivateKey {
-    ghost use Rattle.sshkey_base.specs.Needs.{NeedsString};
+    ghost use Rattle.sshkey_base.specs.Causes.{cause};
+    ghost use Rattle.sshkey_base.specs.Needs.{Asks, NeedsString};
+    ghost use Rattle.sshkey_base.specs.Reading.{DecodesWide, LengthPast};
+    ghost use Rattle.sshkey_base.specs.Source.{Later};
 
     type Error = Error;
 
@@ -100,7 +103,12 @@ impl Decode for DsaPrivateKey {
 
     ghost grammar = { mpint_grammar };
 
-    fn decode<R: Reader>(alloc: Global, reader: &mut R) -> Result<DsaPrivateKey> {
+    fn decode<R: Reader>(alloc: Global, reader: &mut R) -> Result<DsaPrivateKey>
+        ensures gives { DecodesWide dsa_private_of mpint_at R.source reader.old result reader.new }
+        ensures later { Later (R.source reader.old) (R.source reader.new) }
+        ensures asks { Asks cause NeedsString (R.source reader.old) result }
+        ensures past { LengthPast cause (R.source reader.old) result }
+    {
         let inner = Mpint::decode(alloc, reader)?;
         Ok(DsaPrivateKey { inner })
     }

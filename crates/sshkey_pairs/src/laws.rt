@@ -1,4 +1,4 @@
-//! Laws of equality. They make no call: each is a fact about the definitions.
+//! Laws of spelling and equality. They make no call: each is a fact about the definitions.
 
 ghost use Rattle.sshkey_base.specs.Comparisons.{IsEqualityOf};
 ghost use Rattle.sshkey_pairs.specs.Pairs.{dsa_pair_of, ecdsa_pair_of, ed25519_pair_of, rsa_pair_of};
@@ -8,6 +8,10 @@ use crate::dsa::{DsaKeypair, DsaPrivateKey};
 use crate::ecdsa::{EcdsaKeypair, EcdsaPrivateKey};
 use crate::ed25519::{Ed25519Keypair, Ed25519PrivateKey};
 use crate::rsa::{RsaKeypair, RsaPrivateKey};
+
+pub use sshkey_model::laws::private::{
+    prefix_ecdsa_pair, prefix_pair, prefix_rsa_private, prefix_scalar,
+};
 
 /// Two private numbers of DSA keys are equal exactly if they are the same.
 pub fn equal_dsa_private_keys()

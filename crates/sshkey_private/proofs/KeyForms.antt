@@ -1,9 +1,10 @@
 -- The form of a private key's fields.
-use Rattle.std.proofs.Common.{◌≡◌, ℕ, List, true, ◌&&◌, Option, Some, None, refl, sym}
+use Rattle.std.proofs.Common.{◌≡◌, ℕ, List, true, ◌&&◌, Option, Some, None, IfSome, refl, sym}
 use Rattle.std.proofs.lemmas.Bool.{and_parts}
 use Rattle.sshkey_model.specs.KeyDerivation.{Cipher, NoCipher, Kdf, NoKdf, Bcrypt}
-use Rattle.sshkey_model.specs.KeyPairs.{KeyPair, public_half}
-use Rattle.sshkey_model.specs.PrivateKeys.{EncryptedKey, key_eq, key_cipher, key_kdf, public_key}
+use Rattle.sshkey_model.specs.KeyPairs.{KeyPair, IsKeyPair, public_half}
+use Rattle.sshkey_model.specs.Keys.{IsKey}
+use Rattle.sshkey_model.specs.PrivateKeys.{PrivateKey, Unencrypted, Encrypted, EncryptedKey, IsPrivateKey, key_eq, key_cipher, key_kdf, public_key}
 use Rattle.sshkey_model.proofs.PrivateKeyReaders.{same_key, key_itself}
 use Rattle.sshkey_private.specs.Forms.{is_no_cipher, is_no_kdf, has_form}
 use Rattle.sshkey_private.specs.Halves.{is_half}
@@ -30,6 +31,16 @@ form_of_half None e c d half = absurd cc
 
 pub form_of_pair : (k : KeyPair) (e : EncryptedKey) → e.cipher ≡ NoCipher → e.kdf ≡ NoKdf → public_half k ≡ e.public → has_form (Some k) e ≡ true
 form_of_pair k e c d same = form_of_half (Some k) e c d (rw (← same) (key_itself (public_half k)))
+
+-- a well-formed private key has a well-formed public one
+pub of_formed : (k : PrivateKey) → IsPrivateKey k → IsKey (public_key k)
+of_formed (Unencrypted k) is = (is.pair.0, is.pair.1.0)
+of_formed (Encrypted k) is = is.public
+
+-- and a well-formed pair, where it has one
+pub pair_formed : (o : Option KeyPair) (n : ℕ) (comment : List ℕ) (e : EncryptedKey) → IsPrivateKey (of_pair o n comment e) → IfSome o IsKeyPair
+pair_formed (Some k) n comment e is = is.pair
+pair_formed None n comment e is = tt
 
 module _ (n : ℕ) (comment : List ℕ) (e : EncryptedKey) where
   pub cipher_is : (o : Option KeyPair) → has_form o e ≡ true → e.cipher ≡ key_cipher (of_pair o n comment e)

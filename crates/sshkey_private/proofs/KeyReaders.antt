@@ -1,5 +1,5 @@
 -- A private key, step by step, is the model's without the choices of its spelling.
-use Rattle.std.proofs.Common.{◌≡◌, ℕ, List, [], ◌∷◌, length, Bool, true, false, cond, eqb, Result, Ok, Err, refl, sym, subst, ◌∙◌, arith}
+use Rattle.std.proofs.Common.{◌≡◌, ℕ, List, [], ◌∷◌, length, Bool, true, false, cond, eqb, Result, Ok, Err, IfOk, refl, sym, subst, ◌∙◌, arith}
 use Rattle.std.proofs.lemmas.Bool.{eqb-true}
 use Rattle.std.proofs.lemmas.List.{nil_from_length}
 use Rattle.std.proofs.lemmas.Result.{err_from_is_err_and}
@@ -8,14 +8,14 @@ use Rattle.sshkey_model.specs.Grammar.{value_at}
 use Rattle.sshkey_model.specs.Keys.{Key, Head, key_at}
 use Rattle.sshkey_model.specs.KeyDerivation.{Cipher, NoCipher, cipher_at, tag_size, Kdf, NoKdf, Bcrypt, kdf_at}
 use Rattle.sshkey_model.specs.KeyPairs.{KeyPairChoices, plain_pair}
-use Rattle.sshkey_model.specs.PrivateKeys.{UnencryptedKey, PrivateKey, Unencrypted, Encrypted, PrivateKeyChoices, private_key_magic, private_part_at, padded_from, unencrypted_at, encrypted_at, content_at, private_key_at, may_precede, decoded_private_key_at}
+use Rattle.sshkey_model.specs.PrivateKeys.{UnencryptedKey, PrivateKey, IsPrivateKey, Unencrypted, Encrypted, PrivateKeyChoices, private_key_magic, private_part_at, padded_from, unencrypted_at, encrypted_at, content_at, private_key_at, may_precede, decoded_private_key_at}
 use Rattle.sshkey_model.proofs.CombinedReaders.{bind_assoc, bind_ok, ok_is}
-use Rattle.sshkey_model.proofs.PrivateKeyReaders.{whole_private_key_reads}
+use Rattle.sshkey_model.proofs.PrivateKeyReaders.{decoder, whole_private_key_reads}
 use Rattle.sshkey_base.specs.Causes.{Cause}
 use Rattle.sshkey_base.specs.Source.{Source, announced_len}
 use Rattle.sshkey_base.specs.declared.encoding.Error as encoding
 use Rattle.sshkey_base.specs.declared.encoding.Error.TheVariants as encodings
-use Rattle.sshkey_base.specs.Reading.{Reads, ReadsAll, GivesWhole, AcceptsWhole}
+use Rattle.sshkey_base.specs.Reading.{Gives, Reads, ReadsAll, GivesWhole, AcceptsWhole}
 use Rattle.sshkey_base.proofs.MappedBoxes.{on_value, made}
 use Rattle.sshkey_keys.proofs.BoxedKeys.{key_box}
 use Rattle.sshkey_ciphers.specs.Ciphertexts.{blocks_at}
@@ -107,6 +107,16 @@ steps_are b = rw (opening_is b, private_is b) (sym (go (opened_at b)))
     go : (r : Result (Opened × List ℕ) Fault) → (((r >>= content_behind) >>= last) >>= bare) ≡ ((r >>= on_value opening) >>= λ h. last_content_at h.0.cipher h.0.kdf h.0.public h.1)
     go (Ok h) = content_is h.0.0.cipher h.0.0.kdf h.0.0.public h.0.1 h.1
     go (Err e) = refl
+
+-- ---- from the front
+
+-- what is read is well-formed
+pub formed : {X E : Type 0} (means : X → PrivateKey) (cause_of : E → Cause) (s t : Source) (r : Result X E) → Gives means cause_of private_value_at s r t → IfOk r (λ k. IsPrivateKey (means k))
+unfolding private_value_at
+formed means cause_of s t (Ok k) h =
+    let x = bind_ok (decoded_private_key_at s.left) bare (means k, t.left) h.value in
+    subst (λ (z : PrivateKey × List ℕ). IsPrivateKey z.0) (ok_is (x.0.0.0, x.0.1) (means k, t.left) x.2) (decoder.takes s.left x.0.0 x.0.1 x.1).0.is
+formed means cause_of s t (Err e) h = tt
 
 -- ---- from all the bytes
 

@@ -51,7 +51,7 @@ impl Drop for PrivateKey {
 
 impl PrivateKey {
     ghost use Rattle.sshkey_keypairs.specs.Keypairs.{pair_of, algorithm_beside as pair_algorithm_beside};
-    ghost use Rattle.std.specs.Prelude.{IfOk, IfErr, IsOk, Some, [], string_bytes};
+    ghost use Rattle.std.specs.Prelude.{IfOk, IfErr, IfSome, IsOk, Some, [], string_bytes};
     ghost use Rattle.sshkey_base.specs.Causes.{cause};
     ghost use Rattle.sshkey_base.specs.Names.{IsFixed, algorithm_of, hash_of};
     ghost use Rattle.sshkey_base.specs.Needs.{Asks};
@@ -61,7 +61,9 @@ impl PrivateKey {
     ghost use Rattle.sshkey_keys.specs.Blobs.{MakesBlob};
     ghost use Rattle.sshkey_keys.specs.Fingerprints.{GivesFingerprint};
     ghost use Rattle.sshkey_keys.specs.Keys.{algorithm_beside};
-    ghost use Rattle.sshkey_model.specs.PrivateKeys.{key_cipher, key_kdf, public_key, normal_private_key};
+    ghost use Rattle.sshkey_model.specs.KeyPairs.{IsKeyPair};
+    ghost use Rattle.sshkey_model.specs.Keys.{IsKey};
+    ghost use Rattle.sshkey_model.specs.PrivateKeys.{IsPrivateKey, key_cipher, key_kdf, public_key, normal_private_key};
     ghost use Rattle.sshkey_model.specs.Reading.{whole};
     ghost use Rattle.sshkey_ciphers.specs.Ciphers.{cipher_of, kdf_of};
     ghost use Rattle.sshkey_private.specs.Comparisons.{seen};
@@ -123,6 +125,7 @@ impl PrivateKey {
         ensures later { Later (R.source reader.old) (R.source reader.new) }
         ensures asks { Asks cause NeedsPrivateKey (R.source reader.old) result }
         ensures comment { IfOk result HasWrittenComment }
+        ensures form { IfOk result (λ k. IsPrivateKey (private_of k)) }
     {
         private_key_from(alloc, reader)
     }
@@ -176,16 +179,20 @@ impl PrivateKey {
         &self.kdf
     }
 
-    /// The pair, or the ciphertext.
+    /// The pair, a well-formed one in a well-formed key; or the ciphertext.
     pub fn key_data(&self) -> &KeypairData
-        ensures { result.now ≡ data_of self.now }
+        ensures value { result.now ≡ data_of self.now }
+        ensures form { IsPrivateKey (private_of self.now) →
+            IfSome (pair_of result.now) IsKeyPair }
     {
         &self.key_data
     }
 
-    /// The public key, with the comment.
+    /// The public key, with the comment; a well-formed one of a well-formed private key, as each is
+    /// that was read.
     pub fn public_key(&self) -> &PublicKey
         ensures value { public_of result.now ≡ public_key (private_of self.now) }
+        ensures form { IsPrivateKey (private_of self.now) → IsKey (public_of result.now) }
         ensures same { result.now ≡ outer_of self.now }
     {
         &self.public_key

@@ -13,27 +13,35 @@ use Rattle.sshkey_model.specs.Lines.{space, after_space, written}
 use Rattle.sshkey_model.specs.Parts.{Parts, flat, BoxesFit}
 use Rattle.sshkey_base.specs.Sink.{Sink, Written, NotWritten, after}
 use Rattle.sshkey_base.specs.declared.encoding.Error.{Error}
-use Rattle.sshkey_public.specs.Filling.{filled, Added, spaced}
+use Rattle.sshkey_public.specs.Filling.{filled, Added, line_size, spaced}
 use Rattle.sshkey_base64.proofs.GoodBytes.{length_word}
 
 -- ---- an encoding call for which there is room
 
-pub room_is_left : (fault : Error → Type 0) (p : Parts) (slice : List ℕ) (k : ℕ) (t : Sink) (e : Error) → BoxesFit p → k + length (flat p) ≤ length slice → NotWritten fault p (filled k slice) e t → ⊥
+pub room_is_left : (fault : Error → Type 0) (p : Parts) (name : ℕ) (slice : List ℕ) (k : ℕ) (t : Sink) (e : Error) → BoxesFit p → k + length (flat p) ≤ length slice → NotWritten fault p (filled name k slice) e t → ⊥
 unfolding NotWritten
-room_is_left fault p slice k t e boxes le h =
+room_is_left fault p name slice k t e boxes le h =
     elim h [
       | inl l ↦ l.misfit boxes
-      | inr o ↦ let full : length slice < length (take k slice) + length (flat p) = o.full in omega (arith, length-take-le k slice (omega (arith, le)))
+      | inr o ↦ let full : suc (length slice) < suc (length (take k slice)) + length (flat p) = o.full in omega (arith, length-take-le k slice (omega (arith, le)))
     ]
 
-some_same : (m n : ℕ) → Some m ≡ Some n → m ≡ n
+some_same : (m n : ℕ) → Some (suc m) ≡ Some (suc n) → m ≡ n
 some_same m n e = cc
 
-pub stands : (p : Parts) (slice new : List ℕ) (k len : ℕ) → k ≤ length slice → len ≤ length new → Written p (filled k slice) (filled len new) → Added k slice (flat p) len new
+added_behind : (p : Parts) (name other : ℕ) (slice new : List ℕ) (k len : ℕ) → Written p (filled name k slice) (filled other len new) → other ∷ take len new ≡ name ∷ (take k slice ++ flat p)
 unfolding after
-stands p slice new k len le within h =
-    let is : take len new ≡ take k slice ++ flat p = ap (λ (s : Sink). s.written) h.1 in
-    let limit : Some (length new) ≡ Some (length slice) = ap (λ (s : Sink). s.limit) h.1 in
+added_behind p name other slice new k len h = ap (λ (s : Sink). s.written) h.1
+
+pub same_slice : (p : Parts) (name other : ℕ) (slice new : List ℕ) (k len : ℕ) → Written p (filled name k slice) (filled other len new) → other ≡ name
+same_slice p name other slice new k len h = let is = added_behind p name other slice new k len h in cc
+
+pub stands : (p : Parts) (name other : ℕ) (slice new : List ℕ) (k len : ℕ) → k ≤ length slice → len ≤ length new → Written p (filled name k slice) (filled other len new) → Added k slice (flat p) len new
+unfolding after
+stands p name other slice new k len le within h =
+    let all = added_behind p name other slice new k len h in
+    let is : take len new ≡ take k slice ++ flat p = cc in
+    let limit : Some (suc (length new)) ≡ Some (suc (length slice)) = ap (λ (s : Sink). s.limit) h.1 in
     record {
       is = is;
       len = omega (arith, length-take-le len new within, ap length is, length-append (take k slice) (flat p), length-take-le k slice le);
@@ -99,7 +107,7 @@ pub spaced_is : (comment : List ℕ) → length (after_space comment) ≡ spaced
 spaced_is [] = refl
 spaced_is (c ∷ comment) = refl
 
-pub length_line : (name blob comment : List ℕ) → length (written name blob comment) ≡ length name + 1 + 4 * ((length blob + 2) / 3) + spaced (length comment)
+pub length_line : (name blob comment : List ℕ) → length (written name blob comment) ≡ line_size (length name) (length blob) (length comment)
 length_line name blob comment =
     let word : List ℕ = encode_of standard blob in
     omega (arith, length-append name (space ∷ (word ++ after_space comment)), length-append word (after_space comment), length_word blob, spaced_is comment)

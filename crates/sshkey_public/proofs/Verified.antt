@@ -1,5 +1,5 @@
 -- What is verified, from what the verifier says of the bytes that were signed.
-use Rattle.std.proofs.Common.{◌≡◌, inl, inr, ◌⊎◌, ℕ, List, Bool, true, false, Option, None, Some, Result, Ok, Err, refl, sym, subst, if◌then◌else◌}
+use Rattle.std.proofs.Common.{◌≡◌, ◌≢◌, inl, inr, ◌⊎◌, ℕ, List, Bool, true, false, Option, None, Some, Result, Ok, Err, refl, sym, subst, if◌then◌else◌}
 use Rattle.std.specs.Prelude.{OnOk}
 use Rattle.sshkey_model.specs.Keys.{Key}
 use Rattle.sshkey_model.specs.Parts.{Parts, flat, BoxesFit}
@@ -12,6 +12,8 @@ use Rattle.sshkey_base.specs.declared.error.Error.TheVariants.{Encoding, Memory}
 use Rattle.sshkey_keys.specs.Keys.{key_of}
 use Rattle.sshkey_keys.specs.Signatures.{signature_of}
 use Rattle.sshkey_keys.specs.Verdicts.{Refusal, NotAccepted, judged, verdict, unsupported_of, Says, Verifies}
+use Rattle.sshkey_model.specs.Signatures.{Signature}
+use Rattle.sshkey_base.specs.Acceptance.{AcceptsExactly}
 use Rattle.sshkey_public.specs.Judging.{JudgesSigned}
 use Rattle.sshkey_sshsig.specs.Signing.{signed_parts}
 use Rattle.sshkey_sshsig.specs.SshSignatures.{ssh_signature_of, signer_of, given_of}
@@ -45,3 +47,26 @@ verified accepts k namespace message f (Ok x) same_key same_namespace h = record
   accepted = subst (λ (j : Key). IsAccepted accepts j (signed_by (ssh_signature_of f) message) (signature_of (given_of f))) (sym same_key) (is_asked accepts (unsupported_of (signer_of f) (given_of f)) _ h.1);
 }
 verified accepts k namespace message f (Err e) same_key same_namespace h = tt
+
+-- ---- both ways
+
+-- the parts fit, so they were not put together for memory alone
+pub not_made_exactly : {Holds : Type 0} (parts : Parts) (e : Error) → ((BoxesFit parts → ⊥) × (e ≡ Encoding Length)) ⊎ (BoxesFit parts × (e ≡ Memory)) → BoxesFit parts → e ≢ Memory → Holds → ⊥
+not_made_exactly parts e h boxes other holds = elim h [
+  | inl long ↦ long.0 boxes
+  | inr none ↦ other none.1
+]
+
+-- the verifier was asked about their bytes
+pub asked_exactly : (accepts : Question → Bool) (k : Key) (g : Signature) (parts : Parts) (bytes : List ℕ) (r : Result Unit Error) → bytes ≡ flat parts → AcceptsExactly (IsAccepted accepts k bytes g) r → AcceptsExactly (IsAccepted accepts k (flat parts) g) r
+asked_exactly accepts k g parts bytes r is = subst (λ (b : List ℕ). AcceptsExactly (IsAccepted accepts k b g) r) is
+
+-- for memory aside, the verifier's answer about a signature by the key and in the namespace decides
+pub verified_exactly : (accepts : Question → Bool) (k : Key) (namespace message : List ℕ) (f : SshSig) (r : Result Unit Error) → k ≡ key_of (signer_of f) → namespace ≡ (ssh_signature_of f).namespace → AcceptsExactly (IsAccepted accepts (key_of (signer_of f)) (signed_by (ssh_signature_of f) message) (signature_of (given_of f))) r → AcceptsExactly (IsVerified accepts k namespace message (ssh_signature_of f)) r
+verified_exactly accepts k namespace message f (Ok x) same_key same_namespace accepted = record {
+  same_key = sym same_key;
+  same_namespace = sym same_namespace;
+  accepted = subst (λ (j : Key). IsAccepted accepts j (signed_by (ssh_signature_of f) message) (signature_of (given_of f))) (sym same_key) accepted;
+}
+verified_exactly accepts k namespace message f (Err e) same_key same_namespace refused = λ other is.
+    refused other (subst (λ (j : Key). IsAccepted accepts j (signed_by (ssh_signature_of f) message) (signature_of (given_of f))) same_key is.accepted)

@@ -2,6 +2,8 @@ pub mod Words
 pub mod Blobs
 pub mod KeyBlobs
 pub mod Lines
+pub mod LineNeeds
+pub mod OneLine
 pub mod Filling
 pub mod WritingLines
 pub mod PublicKeys

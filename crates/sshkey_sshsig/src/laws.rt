@@ -1,12 +1,18 @@
 //! Laws of SSH signatures: each stands for all values, and makes no call.
 
+ghost use Rattle.std.specs.Prelude.{◌≡◌, ◌++◌, ℕ, List};
 ghost use Rattle.sshkey_base.specs.Comparisons.{EqualMeanSame, IsEqualityAmong};
+ghost use Rattle.sshkey_model.specs.Parts.{BoxesFit};
+ghost use Rattle.sshkey_model.specs.SshSignatures.{SshSignature};
 ghost use Rattle.sshkey_sshsig.specs.Comparisons.{IsByKey};
+ghost use Rattle.sshkey_sshsig.specs.Signing.{signed_parts};
+ghost use Rattle.sshkey_sshsig.specs.SshSignatureReaders.{SpellsSshSignature};
 ghost use Rattle.sshkey_sshsig.specs.SshSignatures.{ssh_signature_of};
 
 use crate::sshsig::SshSig;
 use sshkey_base::laws::compared_hashes;
 use sshkey_keys::laws::{compared_keys, compared_signatures};
+pub use sshkey_model::laws::prefix_ssh_signature;
 
 /// Two SSH signatures that are equal mean the same, and two by well-formed keys are equal exactly
 /// if they do.
@@ -18,3 +24,17 @@ pub fn compared_ssh_signatures()
     compared_hashes();
     compared_signatures();
 }
+
+/// No spelling of an SSH signature begins another: what follows it does not matter, and it is that
+/// of one signature.
+pub fn one_ssh_signature()
+    ensures { (f g : SshSignature) (a b r q : List ℕ) → SpellsSshSignature f a →
+        SpellsSshSignature g b → a ++ r ≡ b ++ q → (f ≡ g) × (a ≡ b) × (r ≡ q) }
+{}
+
+/// What a signature that some bytes spell signs in place of a message has no part that is too long:
+/// `signed_bytes` of one that was read is refused only when out of memory.
+pub fn signed_parts_fit()
+    ensures { (f : SshSig) (bytes message : List ℕ) →
+        SpellsSshSignature (ssh_signature_of f) bytes → BoxesFit (signed_parts f message) }
+{}

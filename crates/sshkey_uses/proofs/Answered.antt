@@ -1,8 +1,8 @@
 -- From a verdict to an answer.
 use Rattle.std.proofs.Common.{◌≡◌, ◌≢◌, ◌↔◌, Bool, true, false, Result, Ok, Err, IsTrue, IfOk, refl, inl, inr}
 use Rattle.std.specs.Prelude.{OnOk, IfErr}
-use Rattle.sshkey_base.specs.declared.error.Error.{Error}
-use Rattle.sshkey_base.specs.declared.error.Error.TheVariants.{Memory}
+use Rattle.ssh_key.specs.types.Error.{Error}
+use Rattle.ssh_key.specs.types.Error.TheVariants.{Memory}
 use Rattle.sshkey_uses.specs.Signed.{Answers}
 
 is_no : false ≡ true → ⊥

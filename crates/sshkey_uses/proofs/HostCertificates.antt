@@ -1,12 +1,12 @@
 use Rattle.std.proofs.Common.{◌≡◌, ℕ, List, [], Bool, Result, Ok, Err, subst}
-use Rattle.sshkey_base.specs.declared.error.Error.{Error}
-use Rattle.sshkey_fingerprints.specs.declared.fingerprint.Fingerprint as code
-use Rattle.sshkey_model.specs.Certificates.{Certificate, Host}
-use Rattle.sshkey_model.specs.Fingerprints.{Fingerprint}
-use Rattle.sshkey_model.specs.Verification.{Question}
-use Rattle.sshkey_cert.specs.CertificateReaders.{SpellsCertificate}
-use Rattle.sshkey_cert.specs.Validity.{JudgesFor, fingerprints_of}
-use Rattle.sshkey_uses.specs.Acceptance.{AcceptsExactly}
+use Rattle.ssh_key.specs.types.Error.{Error}
+use Rattle.ssh_key.specs.types.Fingerprint as code
+use Rattle.ssh_key.specs.model.Certificates.{Certificate, Host}
+use Rattle.ssh_key.specs.model.Fingerprints.{Fingerprint}
+use Rattle.ssh_key.specs.model.Verification.{Question}
+use Rattle.ssh_key.specs.cert.CertificateReaders.{SpellsCertificate}
+use Rattle.ssh_key.specs.cert.Validity.{JudgesFor, fingerprints_of}
+use Rattle.ssh_key.specs.base.Acceptance.{AcceptsExactly}
 use Rattle.sshkey_uses.specs.HostCertificates.{CertifiesHost, IsCertifiedHost}
 
 -- the validation decides

@@ -1,12 +1,12 @@
 -- Where a host's key is refused.
 use Rattle.std.proofs.Common.{◌≡◌, ◌≢◌, ◌⊎◌, ℕ, List, inl, inr}
-use Rattle.sshkey_base.specs.declared.encoding.Error.TheVariants.{Length}
-use Rattle.sshkey_base.specs.declared.error.Error.{Error}
-use Rattle.sshkey_base.specs.declared.error.Error.TheVariants.{Encoding, Memory}
-use Rattle.sshkey_model.specs.Keys.{Key, IsKey, HasKeyPlaces, key, normal_key}
-use Rattle.sshkey_model.specs.Laws.{NormalFits}
-use Rattle.sshkey_model.specs.Parts.{BoxesFit}
-use Rattle.sshkey_keys.specs.Keys.{SpellsKey}
+use Rattle.ssh_key.specs.types.encoding.Error.TheVariants.{Length}
+use Rattle.ssh_key.specs.types.Error.{Error}
+use Rattle.ssh_key.specs.types.Error.TheVariants.{Encoding, Memory}
+use Rattle.ssh_key.specs.model.Keys.{Key, IsKey, HasKeyPlaces, key, normal_key}
+use Rattle.ssh_key.specs.model.Laws.{NormalFits}
+use Rattle.ssh_key.specs.model.Parts.{BoxesFit}
+use Rattle.ssh_key.specs.keys.Keys.{SpellsKey}
 
 -- a key that was read has a fingerprint, so that only memory is refused
 pub only_memory : {P : Type 0} (k : Key) (b : List ℕ) (e : Error) → NormalFits IsKey HasKeyPlaces key normal_key → SpellsKey k b → ((BoxesFit (normal_key k) → ⊥) × (e ≡ Encoding Length)) ⊎ (BoxesFit (normal_key k) × (e ≡ Memory)) → e ≢ Memory → P → ⊥

@@ -1,23 +1,23 @@
 -- Blobs of keys that take no memory.
 use Rattle.std.proofs.Common.{◌≡◌, ◌⊎◌, ◌||◌, ℕ, List, [], Bool, true, false, Result, Ok, Err, IsTrue, inl, inr, refl, subst, append-nil}
 use Rattle.std.specs.Prelude.{IsOk, IsOkAnd}
-use Rattle.sshkey_base.proofs.Judging.{only_memory}
-use Rattle.sshkey_base.specs.Causes.{cause}
-use Rattle.sshkey_base.specs.Labels.{label_at}
-use Rattle.sshkey_base.specs.Names.{IsPrivateUse}
-use Rattle.sshkey_base.specs.Needs.{Asks}
-use Rattle.sshkey_base.specs.Reading.{AcceptsWhole}
-use Rattle.sshkey_base.specs.Source.{all_of}
-use Rattle.sshkey_base.specs.declared.error.Error.{Error}
-use Rattle.sshkey_model.specs.Keys.{Key, Dsa, Ecdsa, Ed25519, Rsa, SkEcdsa, SkEd25519, Opaque, key_algorithm, unhashed, body_at}
-use Rattle.sshkey_model.specs.Names as names
-use Rattle.sshkey_model.specs.Names.{Algorithm, algorithm_from}
-use Rattle.sshkey_model.specs.Reading.{Fault, ◌>>=◌}
-use Rattle.sshkey_keys.specs.KeyKinds.{is_ecdsa, is_ed25519}
-use Rattle.sshkey_keys.specs.KeyReaders.{key_grammar, body_grammar}
-use Rattle.sshkey_keys.specs.Keys.{SpellsKey, key_of, key_data_at}
-use Rattle.sshkey_keys.specs.Needs.{NeedsBody, NeedsKey}
-use Rattle.sshkey_keys.specs.declared.key_data.KeyData.{KeyData}
+use Rattle.ssh_key.proofs.Judging.{only_memory}
+use Rattle.ssh_key.specs.base.Causes.{cause}
+use Rattle.ssh_key.specs.base.Labels.{label_at}
+use Rattle.ssh_key.specs.base.Names.{IsPrivateUse}
+use Rattle.ssh_key.specs.base.Needs.{Asks}
+use Rattle.ssh_key.specs.base.Reading.{AcceptsWhole}
+use Rattle.ssh_key.specs.base.Source.{all_of}
+use Rattle.ssh_key.specs.types.Error.{Error}
+use Rattle.ssh_key.specs.model.Keys.{Key, Dsa, Ecdsa, Ed25519, Rsa, SkEcdsa, SkEd25519, Opaque, key_algorithm, unhashed, body_at}
+use Rattle.ssh_key.specs.model.Names as names
+use Rattle.ssh_key.specs.model.Names.{Algorithm, algorithm_from}
+use Rattle.ssh_key.specs.model.Reading.{Fault, ◌>>=◌}
+use Rattle.ssh_key.specs.keys.KeyKinds.{is_ecdsa, is_ed25519}
+use Rattle.ssh_key.specs.keys.KeyReaders.{key_grammar, body_grammar}
+use Rattle.ssh_key.specs.keys.Keys.{SpellsKey, key_of, key_data_at}
+use Rattle.ssh_key.specs.keys.Needs.{NeedsBody, NeedsKey}
+use Rattle.ssh_key.specs.types.public.KeyData.{KeyData}
 
 -- whether its keys are of one size
 abbrev is_of_one_size : Algorithm → Bool

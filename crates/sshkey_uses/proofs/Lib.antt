@@ -1,4 +1,3 @@
-mod Accepted
 mod Answered
 mod HostCertificates
 mod HostKeys

@@ -1,24 +1,39 @@
-use Rattle.std.proofs.Common.{◌≡◌, ◌≢◌, ℕ, List, [], Bool, Result, Ok, Err, subst}
-use Rattle.sshkey_base.specs.Causes.{NoMemory, cause}
-use Rattle.sshkey_base.specs.declared.error.Error.{Error}
-use Rattle.sshkey_base.specs.declared.error.Error.TheVariants.{Memory}
-use Rattle.sshkey_fingerprints.specs.declared.fingerprint.Fingerprint as code
-use Rattle.sshkey_model.specs.Certificates.{Certificate, User}
-use Rattle.sshkey_model.specs.Fingerprints.{Fingerprint}
-use Rattle.sshkey_model.specs.Lines.{name_of_certificate, IsCertificateLine, IsNoLine, LinesDetermineValues}
-use Rattle.sshkey_model.specs.Verification.{Question}
-use Rattle.sshkey_cert.specs.CertificateReaders.{SpellsCertificate}
-use Rattle.sshkey_cert.specs.CertificateValues.{certificate_of}
-use Rattle.sshkey_cert.specs.Validity.{JudgesFor, fingerprints_of}
-use Rattle.sshkey_cert.specs.declared.certificate.Certificate as cert
-use Rattle.sshkey_uses.proofs.Accepted.{other_cause}
-use Rattle.sshkey_uses.specs.Acceptance.{AcceptsExactly}
+use Rattle.std.proofs.Common.{◌≡◌, ◌≢◌, ℕ, List, [], ◌∷◌, length, Bool, true, false, Result, Ok, Err, inl, inr, sym, subst, ◌∙◌, arith}
+use Rattle.std.specs.Prelude.{◌==◌, Contains, String, map, string_bytes}
+use Rattle.ssh_key.specs.base.Causes.{NoMemory, cause}
+use Rattle.ssh_key.specs.types.Error.{Error}
+use Rattle.ssh_key.specs.types.Error.TheVariants.{Memory}
+use Rattle.ssh_key.specs.types.Fingerprint as code
+use Rattle.ssh_key.specs.model.Certificates.{Certificate, User}
+use Rattle.ssh_key.specs.model.Fingerprints.{Fingerprint}
+use Rattle.ssh_key.specs.model.Lines.{name_of_certificate, IsCertificateLine, IsNoLine, LinesDetermineValues}
+use Rattle.ssh_key.specs.model.Principals.{Allows}
+use Rattle.ssh_key.specs.model.Verification.{Question}
+use Rattle.ssh_key.specs.cert.CertificateReaders.{SpellsCertificate}
+use Rattle.ssh_key.specs.cert.Validity.{JudgesFor, fingerprints_of}
+use Rattle.ssh_key.proofs.Acceptance.{other_cause}
+use Rattle.ssh_key.specs.base.Acceptance.{AcceptsExactly}
 use Rattle.sshkey_uses.specs.Logins.{IsLogin, LetsIn}
 
+-- a certificate that lists somebody allows those alone that it lists
+listed : {Y : Type 0} (names : List (String Y)) (c : Certificate) (user : List ℕ) → map string_bytes names ≡ c.signed.valid_principals → (length names == 0) ≡ false → Allows c user → Contains c.signed.valid_principals user
+listed [] c user is some allowed = absurd cc
+listed (n ∷ names) c user is some (inl none) = absurd cc
+listed (n ∷ names) c user is some (inr among) = among
+
+-- one that lists nobody lists no user
+unlisted : {Y : Type 0} (names : List (String Y)) (c : Certificate) (user : List ℕ) → map string_bytes names ≡ c.signed.valid_principals → (length names == 0) ≡ true → Contains c.signed.valid_principals user → ⊥
+unlisted [] c user is none among = let at = subst (λ (l : List (List ℕ)). Contains l user) (sym is) among in omega (arith, at.1)
+unlisted (n ∷ names) c user is none among = absurd cc
+
+-- so nobody is let in
+pub lets_nobody_in : {Y : Type 0} (accepts : Question → Bool) (authorities : List Fingerprint) (t : ℕ) (user : List ℕ) (c : Certificate) (names : List (String Y)) → map string_bytes names ≡ c.signed.valid_principals → (length names == 0) ≡ true → LetsIn accepts authorities t user c → ⊥
+lets_nobody_in accepts authorities t user c names is none lets = unlisted names c user is none lets.listed
+
 -- the validation decides
-pub lets_in : (accepts : Question → Bool) (given : List code.Fingerprint) (t : ℕ) (user : List ℕ) (c : cert.Certificate) → (certificate_of c).signed.certificate_type ≡ User → (certificate_of c).signed.critical_options ≡ [] → (r : Result (Unit {0}) Error) → JudgesFor accepts given t user (certificate_of c) r → AcceptsExactly (LetsIn accepts (fingerprints_of given) t user (certificate_of c)) r
-lets_in accepts given t user c users none (Ok u) valid = record { for_users = users; no_options = none; valid = valid }
-lets_in accepts given t user c users none (Err e) judged = λ other lets. (judged other).0 lets.valid
+pub lets_in : {Y : Type 0} (accepts : Question → Bool) (given : List code.Fingerprint) (t : ℕ) (user : List ℕ) (c : Certificate) (names : List (String Y)) → c.signed.certificate_type ≡ User → c.signed.critical_options ≡ [] → map string_bytes names ≡ c.signed.valid_principals → (length names == 0) ≡ false → (r : Result (Unit {0}) Error) → JudgesFor accepts given t user c r → AcceptsExactly (LetsIn accepts (fingerprints_of given) t user c) r
+lets_in accepts given t user c names users none is some (Ok u) valid = record { for_users = users; no_options = none; valid = valid.valid; listed = listed names c user is some valid.allowed }
+lets_in accepts given t user c names users none is some (Err e) judged = λ other lets. (judged other).0 (record { valid = lets.valid; allowed = inr lets.listed })
 
 -- the line is of one certificate only, which decides
 pub login : (accepts : Question → Bool) (authorities : List Fingerprint) (t : ℕ) (text user comment : List ℕ) (c : Certificate) → LinesDetermineValues name_of_certificate SpellsCertificate → IsCertificateLine text c comment → (r : Result (Unit {0}) Error) → AcceptsExactly (LetsIn accepts authorities t user c) r → AcceptsExactly (IsLogin accepts authorities t text user) r

@@ -2,12 +2,12 @@
 use Rattle.std.proofs.Common.{◌≡◌, ℕ, ◌≤◌, [], length, Some, inl, inr, refl, ap, subst, ◌∙◌, arith}
 use Rattle.std.proofs.lemmas.List.{length-take}
 use Rattle.std.specs.Prelude.{◌<◌, ◌+◌, IfSome}
-use Rattle.sshkey_model.specs.Parts.{Parts, BoxesFit, flat}
-use Rattle.sshkey_base.specs.declared.encoding.Error.{Error}
-use Rattle.sshkey_base.specs.declared.encoding.Error.TheVariants.{Length}
-use Rattle.sshkey_base.specs.declared.writer.SliceWriter.{SliceWriter}
-use Rattle.sshkey_base.specs.Sink.{Sink, NotWritten, Written, after}
-use Rattle.sshkey_base.specs.SliceWriter.{slice_sink}
+use Rattle.ssh_key.specs.model.Parts.{Parts, BoxesFit, flat}
+use Rattle.ssh_key.specs.types.encoding.Error.{Error}
+use Rattle.ssh_key.specs.types.encoding.Error.TheVariants.{Length}
+use Rattle.ssh_key.specs.types.encoding.SliceWriter.{SliceWriter}
+use Rattle.ssh_key.specs.base.Sink.{Sink, NotWritten, Written, after}
+use Rattle.ssh_key.specs.base.SliceWriter.{slice_sink}
 
 -- nothing is written, and there is room for n bytes
 abbrev empty_of : ℕ → Sink

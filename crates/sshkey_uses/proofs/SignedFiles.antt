@@ -3,31 +3,31 @@ use Rattle.std.proofs.Common.{◌≡◌, ◌≢◌, ◌<◌, ◌^◌, ◌++◌, 
 use Rattle.std.specs.Prelude.{OnOk}
 use Rattle.sha2.proofs.Facts256.{length-sha256}
 use Rattle.sha2.proofs.Facts512.{length-sha512}
-use Rattle.sshkey_base.specs.Causes.{NoMemory, cause}
-use Rattle.sshkey_base.specs.Reading.{NoSpelling}
-use Rattle.sshkey_base.specs.Source.{IsSound, all_of}
-use Rattle.sshkey_base.specs.declared.algorithm.Algorithm.{Algorithm}
-use Rattle.sshkey_base.specs.declared.error.Error.{Error}
-use Rattle.sshkey_base.specs.declared.error.Error.TheVariants as wide
-use Rattle.sshkey_model.specs.Fingerprints.{digest}
-use Rattle.sshkey_model.specs.Grammar.{IsSpelled, spelled}
-use Rattle.sshkey_model.specs.Keys.{Key, Head}
-use Rattle.sshkey_model.specs.Lines.{key_name, IsKeyLine, IsNoLine, LinesDetermineValues}
-use Rattle.sshkey_model.specs.Names.{Hash, Sha256, Sha512}
-use Rattle.sshkey_model.specs.Parts.{BoxesFit, IsPrefixFree, flat}
-use Rattle.sshkey_model.specs.SignedMessages.{IsVerified, signed_by}
-use Rattle.sshkey_model.specs.SshSignatures.{SshSignature, IsSshSignature, HasSshSignaturePlaces, ssh_signature}
-use Rattle.sshkey_model.specs.Verification.{Question, IsAccepted, is_yes, question}
-use Rattle.sshkey_keys.specs.Keys.{key_of, SpellsKey}
-use Rattle.sshkey_keys.specs.Signatures.{signature_of}
-use Rattle.sshkey_keys.specs.Verdicts.{NotAccepted, Says, judged, unsupported_of}
-use Rattle.sshkey_public.specs.Judging.{JudgesSigned}
-use Rattle.sshkey_sshsig.specs.Signing.{signed_parts}
-use Rattle.sshkey_sshsig.specs.SshSignatures.{ssh_signature_of, signer_of, given_of}
-use Rattle.sshkey_sshsig.specs.SshSignatureReaders.{SpellsSshSignature}
-use Rattle.sshkey_sshsig.specs.declared.sshsig.SshSig.{SshSig}
-use Rattle.sshkey_uses.proofs.Accepted.{other_cause}
-use Rattle.sshkey_uses.specs.Acceptance.{AcceptsExactly}
+use Rattle.ssh_key.specs.base.Causes.{NoMemory, cause}
+use Rattle.ssh_key.specs.base.Reading.{NoSpelling}
+use Rattle.ssh_key.specs.base.Source.{IsSound, all_of}
+use Rattle.ssh_key.specs.types.Algorithm.{Algorithm}
+use Rattle.ssh_key.specs.types.Error.{Error}
+use Rattle.ssh_key.specs.types.Error.TheVariants as wide
+use Rattle.ssh_key.specs.model.Fingerprints.{digest}
+use Rattle.ssh_key.specs.model.Grammar.{IsSpelled, spelled}
+use Rattle.ssh_key.specs.model.Keys.{Key, Head}
+use Rattle.ssh_key.specs.model.Lines.{key_name, IsKeyLine, IsNoLine, LinesDetermineValues}
+use Rattle.ssh_key.specs.model.Names.{Hash, Sha256, Sha512}
+use Rattle.ssh_key.specs.model.Parts.{BoxesFit, IsPrefixFree, flat}
+use Rattle.ssh_key.specs.model.SignedMessages.{IsVerified, signed_by}
+use Rattle.ssh_key.specs.model.SshSignatures.{SshSignature, IsSshSignature, HasSshSignaturePlaces, ssh_signature}
+use Rattle.ssh_key.specs.model.Verification.{Question, IsAccepted, is_yes, question}
+use Rattle.ssh_key.specs.keys.Keys.{key_of, SpellsKey}
+use Rattle.ssh_key.specs.keys.Signatures.{signature_of}
+use Rattle.ssh_key.specs.keys.Verdicts.{NotAccepted, Says, judged, unsupported_of}
+use Rattle.ssh_key.specs.public.Judging.{JudgesSigned}
+use Rattle.ssh_key.specs.sshsig.Signing.{signed_parts}
+use Rattle.ssh_key.specs.sshsig.SshSignatures.{ssh_signature_of, signer_of, given_of}
+use Rattle.ssh_key.specs.sshsig.SshSignatureReaders.{SpellsSshSignature}
+use Rattle.ssh_key.specs.types.SshSig.{SshSig}
+use Rattle.ssh_key.proofs.Acceptance.{other_cause}
+use Rattle.ssh_key.specs.base.Acceptance.{AcceptsExactly}
 use Rattle.sshkey_uses.specs.SignedFiles.{IsSignedFile}
 
 -- ---- the verifier's answer

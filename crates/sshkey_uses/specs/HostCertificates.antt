@@ -1,10 +1,10 @@
 -- What whoever connects to a host learns.
 use Rattle.std.specs.Prelude.{◌≡◌, ℕ, List, [], Bool}
-use Rattle.sshkey_model.specs.Certificates.{Certificate, Host}
-use Rattle.sshkey_model.specs.Fingerprints.{Fingerprint}
-use Rattle.sshkey_model.specs.Principals.{IsValidFor}
-use Rattle.sshkey_model.specs.Verification.{Question}
-use Rattle.sshkey_cert.specs.CertificateReaders.{SpellsCertificate}
+use Rattle.ssh_key.specs.model.Certificates.{Certificate, Host}
+use Rattle.ssh_key.specs.model.Fingerprints.{Fingerprint}
+use Rattle.ssh_key.specs.model.Principals.{IsValidFor}
+use Rattle.ssh_key.specs.model.Verification.{Question}
+use Rattle.ssh_key.specs.cert.CertificateReaders.{SpellsCertificate}
 
 -- The certificate is for hosts, without critical options, and valid at that time for the host.
 pub record CertifiesHost (accepts : Question → Bool) (authorities : List Fingerprint) (t : ℕ) (host : List ℕ) (c : Certificate) : Type 0 where

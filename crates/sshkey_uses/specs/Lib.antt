@@ -1,6 +1,6 @@
-pub mod Acceptance
 pub mod HostKeys
 pub mod Signed
 pub mod SignedFiles
 pub mod Logins
 pub mod HostCertificates
+pub mod SignRequests

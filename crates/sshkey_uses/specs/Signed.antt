@@ -1,11 +1,11 @@
 -- What a verifier of signatures learns.
 use Rattle.std.specs.Prelude.{◌≡◌, ◌≢◌, ◌⊎◌, ℕ, List, Bool, true, false, Result, Ok, Err}
-use Rattle.sshkey_base.specs.declared.error.Error.{Error}
-use Rattle.sshkey_base.specs.declared.error.Error.TheVariants.{Memory}
-use Rattle.sshkey_model.specs.Keys.{Key}
-use Rattle.sshkey_model.specs.Signatures.{Signature}
-use Rattle.sshkey_model.specs.Verification.{Question, IsAccepted}
-use Rattle.sshkey_keys.specs.SignatureReaders.{SpellsSignature}
+use Rattle.ssh_key.specs.types.Error.{Error}
+use Rattle.ssh_key.specs.types.Error.TheVariants.{Memory}
+use Rattle.ssh_key.specs.model.Keys.{Key}
+use Rattle.ssh_key.specs.model.Signatures.{Signature}
+use Rattle.ssh_key.specs.model.Verification.{Question, IsAccepted}
+use Rattle.ssh_key.specs.keys.SignatureReaders.{SpellsSignature}
 
 -- The blob spells a signature of the message that is accepted under the key.
 pub record IsSigned (accepts : Question → Bool) (key : Key) (message blob : List ℕ) : Type 0 where

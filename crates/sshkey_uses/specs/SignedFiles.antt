@@ -1,11 +1,11 @@
 -- What whoever is given a signed file learns.
 use Rattle.std.specs.Prelude.{ℕ, List, Bool}
-use Rattle.sshkey_model.specs.Keys.{Key}
-use Rattle.sshkey_model.specs.Lines.{IsKeyLine}
-use Rattle.sshkey_model.specs.SignedMessages.{IsVerified}
-use Rattle.sshkey_model.specs.SshSignatures.{SshSignature}
-use Rattle.sshkey_model.specs.Verification.{Question}
-use Rattle.sshkey_sshsig.specs.SshSignatureReaders.{SpellsSshSignature}
+use Rattle.ssh_key.specs.model.Keys.{Key}
+use Rattle.ssh_key.specs.model.Lines.{IsKeyLine}
+use Rattle.ssh_key.specs.model.SignedMessages.{IsVerified}
+use Rattle.ssh_key.specs.model.SshSignatures.{SshSignature}
+use Rattle.ssh_key.specs.model.Verification.{Question}
+use Rattle.ssh_key.specs.sshsig.SshSignatureReaders.{SpellsSshSignature}
 
 -- The text is the line of a key, and the bytes spell an SSH signature of the content that is verified under it.
 pub record IsSignedFile (accepts : Question → Bool) (text namespace content bytes : List ℕ) : Type 0 where

@@ -1,15 +1,13 @@
 //! A question of whoever connects to a host: is the certificate that it shows good for its name?
 
-ghost use Rattle.sshkey_cert.specs.Validity.{fingerprints_of};
-ghost use Rattle.sshkey_cert_ref.specs.CertificateRef.{certificate_of};
-ghost use Rattle.sshkey_uses.specs.Acceptance.{AcceptsExactly};
+ghost use Rattle.ssh_key.specs.cert.Validity.{fingerprints_of};
+ghost use Rattle.ssh_key.specs.cert_ref.CertificateRef.{certificate_of};
+ghost use Rattle.ssh_key.specs.base.Acceptance.{AcceptsExactly};
 ghost use Rattle.sshkey_uses.specs.HostCertificates.{CertifiesHost, IsCertifiedHost};
 
-use sshkey_base::certificate::Field;
-use sshkey_base::{Error, Result};
-use sshkey_cert::laws::prefix_certificate;
-use sshkey_cert_ref::CertificateRef;
-use sshkey_keys::{Fingerprint, RawVerifier};
+use ssh_key::certificate::{CertificateRef, Field};
+use ssh_key::laws::one_certificate;
+use ssh_key::{Error, Fingerprint, RawVerifier, Result};
 use std::alloc::Global;
 
 /// Accepts the bytes that a host shows where they are a certificate for hosts, valid at that time
@@ -31,7 +29,7 @@ pub fn check_host<V: RawVerifier>(
     ensures { AcceptsExactly (IsCertifiedHost (V.accepts verifier.now)
         (fingerprints_of authorities.now) unix_timestamp shown.now host.now) result }
 {
-    prefix_certificate();
+    one_certificate();
     let certificate = CertificateRef::from_bytes(shown)?;
     check_certificate(
         alloc,

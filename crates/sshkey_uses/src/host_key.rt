@@ -1,15 +1,15 @@
 //! A host key checker's question: is the key that a host shows the one that is known?
 
 ghost use Rattle.std.specs.Prelude.{◌≡◌, ◌↔◌, IsTrue, IfOk};
-ghost use Rattle.sshkey_model.specs.Keys.{IsKey};
-ghost use Rattle.sshkey_keys.specs.Keys.{SpellsKey, key_of};
-ghost use Rattle.sshkey_uses.specs.Acceptance.{AcceptsExactly, SpellsSome};
+ghost use Rattle.ssh_key.specs.model.Keys.{IsKey};
+ghost use Rattle.ssh_key.specs.keys.Keys.{SpellsKey, key_of};
+ghost use Rattle.ssh_key.specs.base.Acceptance.{AcceptsExactly, SpellsSome};
 ghost use Rattle.sshkey_uses.specs.HostKeys.{IsKnownBy};
 
-use sshkey_base::{HashAlg, Result, decode_whole};
-use sshkey_keys::laws::{compared_keys, prefix_key};
-use sshkey_keys::{Fingerprint, KeyData};
-use sshkey_model::laws::key_fits;
+use ssh_key::encoding::decode_whole;
+use ssh_key::laws::{compared_keys, key_fits, one_key};
+use ssh_key::public::KeyData;
+use ssh_key::{Fingerprint, HashAlg, Result};
 use std::alloc::Global;
 
 /// The SHA-256 fingerprint of the key that the blob spells, if it is the known key; `None` if it
@@ -39,7 +39,7 @@ fn is_known(alloc: Global, blob: &[u8], known: &KeyData) -> Result<bool>
     ensures same { IfOk result (λ yes. IsTrue yes ↔ SpellsKey (key_of known.now) blob.now) }
     ensures readable { AcceptsExactly (SpellsSome SpellsKey blob.now) result }
 {
-    prefix_key();
+    one_key();
     let shown = decode_whole(alloc, blob)?;
     Ok(is_same(&shown, known))
 }

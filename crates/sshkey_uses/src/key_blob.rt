@@ -1,15 +1,16 @@
 //! Reading a key where memory may be short.
 
 ghost use Rattle.std.specs.Prelude.{◌||◌, IsOk, IsTrue};
-ghost use Rattle.sshkey_model.specs.Keys.{Key};
-ghost use Rattle.sshkey_base.specs.Causes.{cause};
-ghost use Rattle.sshkey_base.specs.Reading.{AcceptsWhole};
-ghost use Rattle.sshkey_base.specs.Source.{all_of};
-ghost use Rattle.sshkey_keys.specs.KeyKinds.{is_ecdsa, is_ed25519};
-ghost use Rattle.sshkey_keys.specs.Keys.{SpellsKey, key_of};
+ghost use Rattle.ssh_key.specs.model.Keys.{Key};
+ghost use Rattle.ssh_key.specs.base.Causes.{cause};
+ghost use Rattle.ssh_key.specs.base.Reading.{AcceptsWhole};
+ghost use Rattle.ssh_key.specs.base.Source.{all_of};
+ghost use Rattle.ssh_key.specs.keys.KeyKinds.{is_ecdsa, is_ed25519};
+ghost use Rattle.ssh_key.specs.keys.Keys.{SpellsKey, key_of};
 
-use sshkey_base::{Result, decode_whole};
-use sshkey_keys::KeyData;
+use ssh_key::Result;
+use ssh_key::encoding::decode_whole;
+use ssh_key::public::KeyData;
 use std::alloc::Global;
 
 /// The key that the blob spells. Out of memory aside, it is refused exactly where the blob spells

@@ -1,23 +1,23 @@
 //! A question of whoever lets users in: does the certificate in this line let this user in now?
 
-ghost use Rattle.sshkey_cert.specs.CertificateValues.{certificate_of};
-ghost use Rattle.sshkey_cert.specs.Validity.{fingerprints_of};
-ghost use Rattle.sshkey_uses.specs.Acceptance.{AcceptsExactly};
+ghost use Rattle.ssh_key.specs.cert.CertificateValues.{certificate_of};
+ghost use Rattle.ssh_key.specs.cert.Validity.{fingerprints_of};
+ghost use Rattle.ssh_key.specs.base.Acceptance.{AcceptsExactly};
 ghost use Rattle.sshkey_uses.specs.Logins.{IsLogin, LetsIn};
 
-use sshkey_base::certificate::Field;
-use sshkey_base::{Error, Result};
-use sshkey_cert::Certificate;
-use sshkey_keys::{Fingerprint, RawVerifier};
-use sshkey_model::laws::lines::one_certificate_line;
+use ssh_key::certificate::{Certificate, Field};
+use ssh_key::laws::lines;
+use ssh_key::{Error, Fingerprint, RawVerifier, Result};
 use std::alloc::Global;
 
-/// Lets a user in where the line has a certificate for users, valid at that time for the user's
-/// name, by one of the authorities with these fingerprints.
+/// Lets a user in where the line has a certificate for users that lists the user's name, valid at
+/// that time, by one of the authorities with these fingerprints.
 ///
 /// Out of memory aside, it refuses all others. This caller knows no critical options, so it refuses
-/// a certificate that has one, as `CertificateFieldInvalid`, and likewise one for hosts. The other
-/// refusals are those of `Certificate::from_openssh` and of `Certificate::validate_principal_at`.
+/// a certificate that has one, as `CertificateFieldInvalid`, and likewise one for hosts. So it does
+/// with one that lists no principals, which `validate_principal_at` takes for everybody's, and
+/// which lets nobody in by sshd_config(5), `TrustedUserCAKeys`. The other refusals are those of
+/// `Certificate::from_openssh` and of `Certificate::validate_principal_at`.
 pub fn let_in<V: RawVerifier>(
     alloc: Global,
     line: &str,
@@ -29,7 +29,7 @@ pub fn let_in<V: RawVerifier>(
     ensures { AcceptsExactly (IsLogin (V.accepts verifier.now)
         (fingerprints_of authorities.now) unix_timestamp line.now user.now) result }
 {
-    one_certificate_line();
+    lines();
     let certificate = Certificate::from_openssh(alloc, line)?;
     check_login(
         alloc,
@@ -58,6 +58,9 @@ fn check_login<V: RawVerifier>(
     }
     if !certificate.critical_options().is_empty() {
         return Err(Error::CertificateFieldInvalid(Field::CriticalOptions));
+    }
+    if certificate.valid_principals().is_empty() {
+        return Err(Error::CertificateFieldInvalid(Field::ValidPrincipals));
     }
     certificate.validate_principal_at(alloc, unix_timestamp, user, authorities, verifier)
 }

@@ -1,14 +1,13 @@
 //! Writing where no memory is to be had: were the bytes received in their normal form?
 
 ghost use Rattle.std.specs.Prelude.{◌≡◌, ◌≤◌, ◌↔◌, IsTrue, IsOk, IfOk, IfErr, length};
-ghost use Rattle.sshkey_base.specs.declared.encoding.Error.TheVariants.{Length};
-ghost use Rattle.sshkey_model.specs.Keys.{normal_key};
-ghost use Rattle.sshkey_model.specs.Parts.{BoxesFit, flat};
-ghost use Rattle.sshkey_keys.specs.Keys.{key_of};
+ghost use Rattle.ssh_key.specs.types.encoding.Error.TheVariants.{Length};
+ghost use Rattle.ssh_key.specs.model.Keys.{normal_key};
+ghost use Rattle.ssh_key.specs.model.Parts.{BoxesFit, flat};
+ghost use Rattle.ssh_key.specs.keys.Keys.{key_of};
 
-use sshkey_base::encoding::Result;
-use sshkey_base::{Encode, SliceWriter};
-use sshkey_keys::KeyData;
+use ssh_key::encoding::{Encode, Result, SliceWriter};
+use ssh_key::public::KeyData;
 
 /// Whether the blob is the normal form of the key, which is written into the room. Takes no
 /// memory.

@@ -1,14 +1,14 @@
 //! A verifier's question: is this blob a signature of the message under the key?
 
 ghost use Rattle.std.specs.Prelude.{◌↔◌, IsTrue, IfOk};
-ghost use Rattle.sshkey_keys.specs.Keys.{key_of};
-ghost use Rattle.sshkey_keys.specs.SignatureReaders.{SpellsSignature};
-ghost use Rattle.sshkey_uses.specs.Acceptance.{AcceptsExactly, SpellsSome};
+ghost use Rattle.ssh_key.specs.keys.Keys.{key_of};
+ghost use Rattle.ssh_key.specs.keys.SignatureReaders.{SpellsSignature};
+ghost use Rattle.ssh_key.specs.base.Acceptance.{AcceptsExactly, SpellsSome};
 ghost use Rattle.sshkey_uses.specs.Signed.{Answers, IsSigned};
 
-use sshkey_base::{Error, Result};
-use sshkey_keys::laws::prefix_signature;
-use sshkey_keys::{KeyData, RawVerifier, Signature};
+use ssh_key::laws::one_signature;
+use ssh_key::public::KeyData;
+use ssh_key::{Error, RawVerifier, Result, Signature};
 use std::alloc::Global;
 
 /// Whether the blob spells a signature of the message that the verifier accepts under the key.
@@ -27,7 +27,7 @@ pub fn is_signed<V: RawVerifier>(
         ↔ IsSigned (V.accepts verifier.now) (key_of key.now) message.now blob.now) }
     ensures readable { AcceptsExactly (SpellsSome SpellsSignature blob.now) result }
 {
-    prefix_signature();
+    one_signature();
     let signature = Signature::from_bytes(alloc, blob)?;
     answer_of(key.verify(alloc, message, &signature, verifier))
 }

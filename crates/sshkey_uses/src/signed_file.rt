@@ -1,15 +1,10 @@
 //! A question of whoever is given a signed file: did the key in this line sign it?
 
-ghost use Rattle.sshkey_uses.specs.Acceptance.{AcceptsExactly};
+ghost use Rattle.ssh_key.specs.base.Acceptance.{AcceptsExactly};
 ghost use Rattle.sshkey_uses.specs.SignedFiles.{IsSignedFile};
 
-use sshkey_base::Result;
-use sshkey_keys::RawVerifier;
-use sshkey_keys::laws::compared_keys;
-use sshkey_model::laws::lines::one_key_line;
-use sshkey_model::laws::prefix_ssh_signature;
-use sshkey_public::PublicKey;
-use sshkey_sshsig::SshSig;
+use ssh_key::laws::{compared_keys, lines, prefix_ssh_signature};
+use ssh_key::{PublicKey, RawVerifier, Result, SshSig};
 use std::alloc::Global;
 
 /// Accepts what a file holds where the bytes spell an SSH signature of it, by the key in the line
@@ -29,7 +24,7 @@ pub fn accept_file<V: RawVerifier>(
         line.now namespace.now content.now signature.now) result }
 {
     compared_keys();
-    one_key_line();
+    lines();
     prefix_ssh_signature();
     let key = PublicKey::from_openssh(alloc, line)?;
     let signature = SshSig::from_bytes(alloc, signature)?;

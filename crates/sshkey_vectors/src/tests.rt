@@ -17,6 +17,7 @@ mod names;
 mod openssh;
 mod pair_parts;
 mod pairs;
+mod paths;
 mod program;
 mod readers;
 mod signed_files;

@@ -5,7 +5,7 @@ ghost use Rattle.sshkey_base.specs.Names.{IsFixed, algorithm_of};
 ghost use Rattle.sshkey_base.specs.declared.error.Error.TheVariants as wide;
 ghost use Rattle.sshkey_keys.specs.Keys.{algorithm_beside, key_of};
 ghost use Rattle.sshkey_keys.specs.Signatures.{signature_of};
-ghost use Rattle.sshkey_model.specs.Certificates.{is_time, is_end, forever};
+ghost use Rattle.sshkey_model.specs.Certificates.{IsCertificate, is_time, is_end, forever};
 ghost use Rattle.sshkey_model.specs.Keys.{IsKey, key_algorithm};
 ghost use Rattle.sshkey_options.specs.CertTypes.{type_of};
 ghost use Rattle.sshkey_cert.specs.CertificateValues.{certificate_of, certified_key_of, comment_of};
@@ -42,9 +42,13 @@ impl Certificate {
         self.unsigned.nonce.as_slice()
     }
 
-    /// The key that is certified.
+    /// The key that is certified. It is well-formed where the certificate is, as each is that was
+    /// read. Only `Certificate::sign` can make one that is not: an opaque key's name may be that of
+    /// another kind.
+    #[tactic(auto, using(crate::proofs::KeysOfCertificates::certified_key_is))]
     pub fn public_key(&self) -> &KeyData
-        ensures { key_of result.now ≡ (certificate_of self.now).signed.key }
+        ensures value { key_of result.now ≡ (certificate_of self.now).signed.key }
+        ensures well_formed { IsCertificate (certificate_of self.now) → IsKey (key_of result.now) }
     {
         &self.unsigned.public_key
     }
@@ -70,7 +74,7 @@ impl Certificate {
         self.unsigned.key_id.as_str()
     }
 
-    /// The principals; where there are none, all are valid.
+    /// The principals; where there are none, `allows_principal` allows all.
     pub fn valid_principals(&self) -> &[String]
         ensures { map string_bytes result.now ≡ (certificate_of self.now).signed.valid_principals }
     {
@@ -115,9 +119,10 @@ impl Certificate {
         &self.unsigned.extensions
     }
 
-    /// The key that signed.
+    /// The key that signed. It is well-formed where the certificate is, as each is that was read.
     pub fn signature_key(&self) -> &KeyData
-        ensures { key_of result.now ≡ (certificate_of self.now).signed.signature_key }
+        ensures value { key_of result.now ≡ (certificate_of self.now).signed.signature_key }
+        ensures well_formed { IsCertificate (certificate_of self.now) → IsKey (key_of result.now) }
     {
         &self.unsigned.signature_key
     }

@@ -1,7 +1,8 @@
 //! Certificates in lines.
 
-ghost use Rattle.std.specs.Prelude.{◌≡◌, string_bytes};
+ghost use Rattle.std.specs.Prelude.{◌≡◌, IfErr, IfOk, string_bytes};
 ghost use Rattle.std.specs.Str.{IsUtf8};
+ghost use Rattle.sshkey_base.specs.declared.error.Error.TheVariants as wide;
 ghost use Rattle.sshkey_model.specs.CertificateNames.{certificate_name};
 ghost use Rattle.sshkey_model.specs.Certificates.{Certificate as TheCertificate, normal_certificate};
 ghost use Rattle.sshkey_model.specs.Keys.{key_algorithm};
@@ -13,9 +14,9 @@ ghost use Rattle.sshkey_cert.specs.CertificateValues.{certificate_of, comment_of
 ghost use Rattle.sshkey_cert.specs.Lines.{ReadsCertificate, certificates_stand};
 
 use super::Certificate;
-use sshkey_base::{Result, Text, Writer, encoding};
+use sshkey_base::{Result, Text, Writer, encode_vec, encoding};
 use sshkey_keys::KeyData;
-use sshkey_public::{Blob, read_line, write_line};
+use sshkey_public::{Blob, make_line, read_line};
 use std::alloc::Global;
 
 /// The name of the certified key's algorithm in certificates.
@@ -42,8 +43,12 @@ impl Certificate {
     /// White space at the end is cut off. Out of memory aside, it is refused exactly where the
     /// text is a line of no certificate: `Length` where a word is missing or empty,
     /// `CharacterEncoding` for a character in the first word that no name has, `Base64` where the
-    /// second is no canonical Base64, the refusals of `from_bytes`, and `AlgorithmUnknown` where
-    /// the first word is not the certificate's name.
+    /// second is no canonical Base64, the refusals of `from_bytes`, also `Length` for a certificate
+    /// that is signed by RSA with SHA-1, and `AlgorithmUnknown` where the first word is not the
+    /// certificate's name.
+    ///
+    /// The comment is all that stands behind the second word, line ends too: where `is_one_line`
+    /// says no, the text had more lines than one, of which only the first is judged here.
     pub fn from_openssh(alloc: Global, text: &str) -> Result<Certificate>
         ensures { ReadsCertificate text.now result }
     {
@@ -51,7 +56,8 @@ impl Certificate {
         Ok(certificate.with_comment(comment))
     }
 
-    /// The line of the certificate's normal form, in memory of its own.
+    /// The line of the certificate's normal form, in memory of its own. Its comment may hold line
+    /// ends, so where `is_one_line` says no it is more than one line of a file.
     ///
     /// Exactly where a box in it would pass 2^32 - 1 bytes, the answer is `Length`; otherwise it
     /// is refused only when out of memory.
@@ -59,13 +65,24 @@ impl Certificate {
         ensures { MakesLine (name_of_certificate (certificate_of self.now))
             (normal_certificate (certificate_of self.now)) (comment_of self.now) result }
     {
-        let mut line = Vec::new(alloc);
-        write_line(self, self.comment.as_str(), &mut line)?;
+        let blob = encode_vec(alloc, self)?;
+        let name = self.name(alloc)?;
+        make_line(alloc, name.as_str(), &blob, self.comment.as_str())
+    }
+
+    /// The name of the key's algorithm in certificates. Refused only when out of memory.
+    fn name(&self, alloc: Global) -> Result<String>
+        ensures name { IfOk result
+            (λ name. string_bytes name ≡ name_of_certificate (certificate_of self.now)) }
+        ensures memory { IfErr result (λ e. e ≡ wide.Memory) }
+    {
+        let mut name = Vec::new(alloc);
+        self.write_name(&mut name)?;
         is_text_in_certificates(&self.unsigned.public_key);
-        let Ok(line) = String::from_utf8(line) else {
+        let Ok(name) = String::from_utf8(name) else {
             unreachable!();
         };
-        Ok(line)
+        Ok(name)
     }
 
     /// The same certificate with that comment.

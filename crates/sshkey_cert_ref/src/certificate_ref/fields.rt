@@ -50,7 +50,7 @@ impl<'a> CertificateRef<'a> {
         self.parts.key_id
     }
 
-    /// The principals; where there are none, all are valid.
+    /// The principals; where there are none, `allows_principal` allows all.
     pub fn valid_principals(&self) -> TextsRef<'a>
         ensures { texts_of result ≡ (certificate_of self.now).signed.valid_principals }
     {

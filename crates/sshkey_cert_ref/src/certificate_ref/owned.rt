@@ -1,10 +1,11 @@
 //! Parts of a certificate in memory of their own.
 
-ghost use Rattle.std.specs.Prelude.{◌≡◌, IfOk, IfErr};
+ghost use Rattle.std.specs.Prelude.{◌≡◌, [], IfOk, IfErr};
 ghost use Rattle.sshkey_base.specs.Causes.{NoMemory, cause};
-ghost use Rattle.sshkey_cert.specs.CertificateValues.{certificate_of as owned_certificate_of};
+ghost use Rattle.sshkey_cert.specs.CertificateValues.{certificate_of as owned_certificate_of, comment_of};
 ghost use Rattle.sshkey_keys.specs.Keys.{key_of};
 ghost use Rattle.sshkey_keys.specs.Signatures.{signature_of};
+ghost use Rattle.sshkey_model.specs.Keys.{IsKey};
 ghost use Rattle.sshkey_cert_ref.specs.CertificateRef.{certificate_of};
 
 use super::CertificateRef;
@@ -14,9 +15,10 @@ use sshkey_keys::{KeyData, Signature};
 use std::alloc::Global;
 
 impl CertificateRef<'_> {
-    /// The key that is certified. Refused only when out of memory.
+    /// The key that is certified, which is well-formed. Refused only when out of memory.
     pub fn public_key(&self, alloc: Global) -> Result<KeyData>
         ensures value { IfOk result (λ key. key_of key ≡ (certificate_of self.now).signed.key) }
+        ensures well_formed { IfOk result (λ key. IsKey (key_of key)) }
         ensures memory { IfErr result (λ e. cause e ≡ NoMemory) }
     {
         let algorithm = Algorithm::new_certificate(alloc, self.parts.name)?;
@@ -24,10 +26,11 @@ impl CertificateRef<'_> {
         KeyData::decode_as(alloc, &mut body, algorithm)
     }
 
-    /// The key that signed. Refused only when out of memory.
+    /// The key that signed, which is well-formed. Refused only when out of memory.
     pub fn signature_key(&self, alloc: Global) -> Result<KeyData>
         ensures value { IfOk result
             (λ key. key_of key ≡ (certificate_of self.now).signed.signature_key) }
+        ensures well_formed { IfOk result (λ key. IsKey (key_of key)) }
         ensures memory { IfErr result (λ e. cause e ≡ NoMemory) }
     {
         self.parts.signature_key.to_key_data(alloc)
@@ -43,11 +46,12 @@ impl CertificateRef<'_> {
         self.signature.to_signature(alloc)
     }
 
-    /// The certificate in memory of its own, as `Certificate::from_bytes` reads it. Refused only
-    /// when out of memory.
+    /// The certificate in memory of its own, as `Certificate::from_bytes` reads it, so with an empty
+    /// comment. Refused only when out of memory.
     pub fn to_certificate(&self, alloc: Global) -> Result<Certificate>
         ensures value { IfOk result
             (λ certificate. owned_certificate_of certificate ≡ certificate_of self.now) }
+        ensures comment { IfOk result (λ certificate. comment_of certificate ≡ []) }
         ensures memory { IfErr result (λ e. cause e ≡ NoMemory) }
     {
         Certificate::from_bytes(alloc, self.bytes)

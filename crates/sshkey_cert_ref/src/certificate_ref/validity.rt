@@ -59,8 +59,10 @@ impl CertificateRef<'_> {
         self.judge_at(alloc, unix_timestamp, fingerprints, verifier)
     }
 
-    /// Whether the certificate lists no principals, which allows all of them, or lists that very
-    /// text. Takes no memory.
+    /// Whether the certificate lists no principals, or lists that very text. Takes no memory.
+    ///
+    /// So a certificate without principals allows everybody here (PROTOCOL.certkeys), while sshd(8)
+    /// refuses it for a user: a login asks also that `valid_principals` is not empty.
     pub fn allows_principal(&self, wanted: &str) -> bool
         ensures { IsTrue result ↔ Allows (certificate_of self.now) wanted.now }
     {

@@ -7,7 +7,7 @@ ghost use Rattle.sshkey_model.specs.Reading.{list_whole};
 ghost use Rattle.sshkey_options_ref.specs.OptionLists.{option_of, options_in};
 ghost use Rattle.sshkey_slices.specs.Slices.{is_taken};
 
-use super::first_option;
+use super::{OptionsRef, first_option};
 use std::marker::Model;
 
 /// The options of an `OptionsRef`, each a name and a value, as parts of its bytes. An empty value
@@ -52,5 +52,38 @@ impl<'a> Iterator for Options<'a> {
         let (option, rest) = first_option(self.rest);
         self.rest = rest;
         Some((option.name, option.value))
+    }
+}
+
+/// The names and values of the options, in the order of the names, so that a `for` takes the list
+/// as it is.
+impl<'a> IntoIterator for OptionsRef<'a> {
+    ghost use Rattle.sshkey_model.specs.Options.{AreOptions};
+    ghost use Rattle.sshkey_options_ref.specs.Views.{options_of};
+
+    type Item = (&'a str, &'a str);
+
+    type IntoIter = Options<'a>;
+
+    ghost into_iter_gives = { λ options left. (left ≡ options_of options) × AreOptions left };
+
+    fn into_iter(self) -> Options<'a> {
+        self.iter()
+    }
+}
+
+/// The same options of a list behind a reference.
+impl<'a> IntoIterator for &OptionsRef<'a> {
+    ghost use Rattle.sshkey_model.specs.Options.{AreOptions};
+    ghost use Rattle.sshkey_options_ref.specs.Views.{options_of};
+
+    type Item = (&'a str, &'a str);
+
+    type IntoIter = Options<'a>;
+
+    ghost into_iter_gives = { λ options left. (left ≡ options_of options.now) × AreOptions left };
+
+    fn into_iter(self) -> Options<'a> {
+        self.iter()
     }
 }

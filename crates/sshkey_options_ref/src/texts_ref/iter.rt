@@ -6,7 +6,7 @@ ghost use Rattle.sshkey_base.specs.TextLists.{text_list_at};
 ghost use Rattle.sshkey_slices.specs.Slices.{is_taken};
 ghost use Rattle.sshkey_options_ref.specs.TextLists.{texts_in};
 
-use super::first_text;
+use super::{TextsRef, first_text};
 use std::marker::Model;
 use std::str;
 
@@ -54,5 +54,35 @@ impl<'a> Iterator for Texts<'a> {
             Ok(text) => Some(text),
             Err(_) => unreachable!(),
         }
+    }
+}
+
+/// The texts, in their order, so that a `for` takes the list as it is.
+impl<'a> IntoIterator for TextsRef<'a> {
+    ghost use Rattle.sshkey_options_ref.specs.Views.{texts_of};
+
+    type Item = &'a str;
+
+    type IntoIter = Texts<'a>;
+
+    ghost into_iter_gives = { λ texts left. left ≡ texts_of texts };
+
+    fn into_iter(self) -> Texts<'a> {
+        self.iter()
+    }
+}
+
+/// The same texts of a list behind a reference.
+impl<'a> IntoIterator for &TextsRef<'a> {
+    ghost use Rattle.sshkey_options_ref.specs.Views.{texts_of};
+
+    type Item = &'a str;
+
+    type IntoIter = Texts<'a>;
+
+    ghost into_iter_gives = { λ texts left. left ≡ texts_of texts.now };
+
+    fn into_iter(self) -> Texts<'a> {
+        self.iter()
     }
 }

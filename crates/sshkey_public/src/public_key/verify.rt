@@ -1,13 +1,19 @@
 //! Verifying SSH signatures of messages.
 
-ghost use Rattle.std.specs.Prelude.{◌≡◌, ◌≢◌, true, false, Err, OnOk, IsTrue};
+ghost use Rattle.std.specs.Prelude.{◌≡◌, ◌≢◌, ℕ, List, true, false, Err, OnOk, IsTrue};
+ghost use Rattle.sshkey_base.specs.Acceptance.{AcceptsExactly};
 ghost use Rattle.sshkey_base.specs.declared.error.Error.TheVariants as wide;
 ghost use Rattle.sshkey_keys.specs.Keys.{key_of};
+ghost use Rattle.sshkey_keys.specs.Signatures.{signature_of};
+ghost use Rattle.sshkey_model.specs.Keys.{IsKey};
+ghost use Rattle.sshkey_model.specs.Parts.{BoxesFit, flat};
 ghost use Rattle.sshkey_model.specs.SignedMessages.{IsVerified};
+ghost use Rattle.sshkey_model.specs.Verification.{IsAccepted};
 ghost use Rattle.sshkey_public.specs.PublicKeys.{data_of, public_of};
 ghost use Rattle.sshkey_public.specs.Judging.{JudgesSigned};
 ghost use Rattle.sshkey_sshsig.specs.Signing.{signed_parts};
-ghost use Rattle.sshkey_sshsig.specs.SshSignatures.{ssh_signature_of, signer_of};
+ghost use Rattle.sshkey_sshsig.specs.SshSignatureReaders.{SpellsSshSignature};
+ghost use Rattle.sshkey_sshsig.specs.SshSignatures.{ssh_signature_of, signer_of, given_of};
 
 use super::PublicKey;
 use crate::line::is_same;
@@ -15,6 +21,7 @@ use sshkey_base::{Error, Result};
 use sshkey_keys::laws::compared_keys;
 use sshkey_keys::{KeyData, RawVerifier};
 use sshkey_sshsig::SshSig;
+use sshkey_sshsig::laws::signed_parts_fit;
 use std::alloc::Global;
 
 impl PublicKey {
@@ -25,6 +32,9 @@ impl PublicKey {
     /// is in another namespace. Else the answer is that of `KeyData::verify` over what is signed in
     /// place of the message, by the signature's own namespace, reserved bytes and hash; `Length`
     /// where one of these is longer than 2^32 - 1 bytes.
+    ///
+    /// So under a key and for a signature that readers gave, out of memory aside: Ok exactly where
+    /// the signature is by this key, in this namespace, and the verifier says yes to it.
     pub fn verify<V: RawVerifier>(
         &self,
         alloc: Global,
@@ -46,7 +56,12 @@ impl PublicKey {
             (signed_parts signature.now message.now) result }
         ensures verified { OnOk result (IsVerified (V.accepts verifier.now) (public_of self.now)
             namespace.now message.now (ssh_signature_of signature.now)) }
+        ensures exactly { IsKey (public_of self.now) → (bytes : List ℕ) →
+            SpellsSshSignature (ssh_signature_of signature.now) bytes →
+            AcceptsExactly (IsVerified (V.accepts verifier.now) (public_of self.now)
+            namespace.now message.now (ssh_signature_of signature.now)) result }
     {
+        signed_parts_fit();
         if !is_same_key(&self.key_data, signature.public_key()) {
             return Err(Error::PublicKey);
         }
@@ -64,18 +79,25 @@ fn judge<V: RawVerifier>(
     signature: &SshSig,
     verifier: &V,
 ) -> Result<()>
-    ensures { JudgesSigned (V.accepts verifier.now) signature.now
+    ensures judges { JudgesSigned (V.accepts verifier.now) signature.now
         (signed_parts signature.now message.now) result }
+    ensures exactly { BoxesFit (signed_parts signature.now message.now) →
+        AcceptsExactly (IsAccepted (V.accepts verifier.now) (key_of (signer_of signature.now))
+        (flat (signed_parts signature.now message.now)) (signature_of (given_of signature.now)))
+        result }
 {
     let signed = signature.signed_bytes(alloc, message)?;
     let key = signature.public_key();
     key.verify(alloc, &signed, signature.signature(), verifier)
 }
 
-/// Whether the keys are equal. Those that are mean the same.
+/// Whether the keys are equal. Those that are mean the same, and well-formed ones that mean the
+/// same are.
 fn is_same_key(left: &KeyData, right: &KeyData) -> bool
     ensures is { result ≡ ⟦<KeyData as PartialEq>⟧.eq left.now right.now }
     ensures same { IsTrue result → key_of left.now ≡ key_of right.now }
+    ensures equal { IsKey (key_of left.now) → IsKey (key_of right.now) →
+        key_of left.now ≡ key_of right.now → IsTrue result }
 {
     compared_keys();
     left == right

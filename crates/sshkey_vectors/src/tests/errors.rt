@@ -12,6 +12,8 @@ fn have_texts(alloc: Global) -> bool {
         algorithm: Algorithm::Rsa { hash: None },
     };
     shows(alloc, &unsupported, "unsupported algorithm: ssh-rsa")
+        && shows(alloc, &Error::Decrypted, "private key is already decrypted")
+        && shows(alloc, &Error::Encrypted, "private key is encrypted")
         && shows(alloc, &Error::Io(io::ErrorKind::Other), "I/O error")
         && shows(alloc, &Error::Memory, "out of memory")
         && shows(alloc, &encoding::Error::Memory, "out of memory")

@@ -91,6 +91,62 @@ fn words_with_more_behind_them_are_refused(rt: HostRuntime) {
     }
 }
 
+fn is_length<T: Drop>(answer: Result<T, Error>) -> bool {
+    matches!(answer, Err(Error::Encoding(encoding::Error::Length)))
+}
+
+/// Of the 97 bytes of the line there is room for 96, so nothing of the slice changes.
+fn leaves_the_slice(key: &PublicKey) -> bool {
+    let mut out = [b'*'; 96];
+    let no_text = is_length(key.encode_openssh(&mut out));
+    let no_line = is_length(key.write_openssh(&mut out));
+    no_text && no_line && out == [b'*'; 96]
+}
+
+/// The line is the front of a slice that is longer.
+fn begins_the_slice(key: &PublicKey) -> bool {
+    let mut out = [b'*'; 128];
+    key.write_openssh(&mut out) == Ok(97) && &out[..97] == LINE.as_bytes()
+}
+
+fn fills_slices(alloc: Global) -> bool {
+    match PublicKey::from_openssh(alloc, LINE) {
+        Ok(key) => leaves_the_slice(&key) && begins_the_slice(&key),
+        Err(_) => false,
+    }
+}
+
+#[test]
+fn a_slice_that_is_too_short_is_left_as_it_was(rt: HostRuntime) {
+    assert!(rt; fills_slices(rt.alloc()));
+}
+
+/// Whether the key with that end of its line is one line.
+fn is_one_line(alloc: Global, end: &str) -> Option<bool> {
+    let line = with_end(alloc, end).ok()?;
+    let key = PublicKey::from_openssh(alloc, line.as_str()).ok()?;
+    Some(key.is_one_line())
+}
+
+/// A name of three bytes before its at sign, the second of which is a line feed, and no body.
+const NAME_OF_TWO_LINES: [u8; 13] = *b"\x00\x00\x00\x05a\nb@c\x00\x00\x00\x00";
+
+fn is_named_in_one_line(alloc: Global) -> Option<bool> {
+    let key = PublicKey::from_bytes(alloc, &NAME_OF_TWO_LINES).ok()?;
+    Some(key.is_one_line())
+}
+
+#[test]
+fn a_key_with_a_line_end_is_more_than_one_line(rt: HostRuntime) {
+    for end in ["", " one line", " one line \r\n"] {
+        assert!(rt; is_one_line(rt.alloc(), end) == Some(true), "{end}");
+    }
+    for end in [" two\nlines", " two\rlines", " \n.", " \r\n."] {
+        assert!(rt; is_one_line(rt.alloc(), end) == Some(false), "{end}");
+    }
+    assert!(rt; is_named_in_one_line(rt.alloc()) == Some(false));
+}
+
 /// A word of eleven bytes, read in pieces of one, four and six.
 fn in_pieces() -> encoding::Result<bool> {
     let mut reader = Base64Reader::new("AQIDBAUGBwgJCgs=")?;

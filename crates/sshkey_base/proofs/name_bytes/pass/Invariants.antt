@@ -1,5 +1,4 @@
-use Rattle.std.proofs.Common.{◌≡◌, ◌-◌, ◌≤◌}
-use Rattle.sshkey_base.specs.Source.{Later}
+use Rattle.std.proofs.Common.{◌-◌, ◌≤◌}
 use Rattle.sshkey_base.proofs.NameStrings.{Passed}
 use Rattle.sshkey_base.proofs.name_bytes.pass.Given as goal
 

@@ -6,7 +6,7 @@ use Rattle.sshkey_files.proofs.from_line.entries_of_text.Goals as goal
 pub loop-line-preserved : goal.loop-line-preserved
 loop-line-preserved g c =
     let was = c.loop-line.invariant.2 in
-    rw c.in_ok-push.ensures.items (tt, tt, answered_more (λ entry x. g.E.FromLine.IsEntry entry (g.E.FromLine.means x)) _ was.0 _ _ c.loop-line.found.items c.in-Some.line.now c.in_ok-from_line.field-0 was.1 was.2 c.in-Some.ensures.steps c.in_ok-from_line.ensures)
+    rw c.in_ok-push.ensures.items (tt, tt, answered_more (λ entry x. g.E.FromLine.IsEntry entry (g.E.FromLine.means x)) _ was.0 _ _ c.loop-line.found.items c.in-Some.line.now c.in_ok-from_line.field-0 was.1 was.2 c.in-Some.ensures.steps c.in_ok-from_line.ensures.reads)
 
 pub returns-in_err-from_line : goal.returns-in_err-from_line
 returns-in_err-from_line g c =
@@ -19,5 +19,6 @@ returns-in_err-from_line g c =
       is = was.1 ∙ ap (λ (l : List (List ℕ)). was.0 ++ l) c.in-Some.ensures.steps;
       values = c.loop-line.found.items;
       read = was.2;
-      none = c.in_err-from_line.ensures other;
+      none = c.in_err-from_line.ensures.reads other;
+      fault = c.in_err-from_line.ensures.fault other;
     })

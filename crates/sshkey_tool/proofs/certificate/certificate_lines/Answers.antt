@@ -13,5 +13,5 @@ returns c = lines_are (certificate_of c.args.certificate.now) _ _ _ _ _ _
     (c.in_ok-principals.ensures ∙ ap (λ (ps : List (List ℕ)). in_lines (principal_lines ps)) c.valid_principals.ensures)
     (c.in_ok-critical.ensures ∙ ap (options_text (codes "critical option")) c.critical_options.ensures)
     (c.in_ok-extensions.ensures ∙ ap (options_text (codes "extension")) c.extensions.ensures)
-    (c.in_ok-authority.ensures ∙ ap (λ (k : Key). key_line k []) c.signature_key.ensures)
+    (c.in_ok-authority.ensures ∙ ap (λ (k : Key). key_line k []) c.signature_key.ensures.value)
     c.in_ok-format.ensures.ok

@@ -18,7 +18,7 @@ returns c =
     (λ s. string_bytes s ≡ subject_text name kind serial key_id)
     (λ s. string_bytes s ≡ in_lines (subject_lines it))
     (λ s wrote. subject_is it name kind serial key_id (string_bytes s)
-    (c.algorithm_name-name.ensures ∙ ap key_name c.public_key.ensures)
+    (c.algorithm_name-name.ensures ∙ ap key_name c.public_key.ensures.value)
     (c.type_word-kind.ensures ∙ ap type_word c.cert_type.ensures)
     (ap decimal c.serial-serial.ensures)
     c.key_id-key_id.ensures

@@ -1,5 +1,5 @@
 use Rattle.std.proofs.Common.{sym, ◌∙◌}
-use Rattle.sshkey_cert_ref.specs.CertificateRef.{certificate_of}
+use Rattle.ssh_key.specs.cert_ref.CertificateRef.{certificate_of}
 use Rattle.sshkey_uses.proofs.HostCertificates.{certifies_host}
 use Rattle.sshkey_uses.proofs.host_certificate.check_certificate.Goals as goal
 

@@ -11,4 +11,4 @@ returns-in_err-certificate g c =
 pub returns : goal.returns
 returns g c =
     let read = c.in_ok-certificate.ensures.accepts in
-    certified_host _ _ _ _ _ _ read (λ d spelled. (c.prefix_certificate.ensures _ _ _ _ [] [] spelled read refl).0) c.check_certificate.result c.check_certificate.ensures
+    certified_host _ _ _ _ _ _ read (λ d spelled. (c.one_certificate.ensures _ _ _ _ [] [] spelled read refl).0) c.check_certificate.result c.check_certificate.ensures

@@ -1,7 +1,7 @@
 use Rattle.std.proofs.Common.{[], refl}
 use Rattle.std.proofs.lemmas.Result.{err_from_is_err_and}
-use Rattle.sshkey_keys.specs.Keys.{SpellsKey}
-use Rattle.sshkey_uses.proofs.Accepted.{unspelled}
+use Rattle.ssh_key.specs.keys.Keys.{SpellsKey}
+use Rattle.ssh_key.proofs.Acceptance.{unspelled}
 use Rattle.sshkey_uses.proofs.host_key.is_known.Goals as goal
 
 pub returns-in_err-shown-clause-readable : goal.returns-in_err-shown-clause-readable
@@ -13,5 +13,5 @@ returns-in_err-shown-clause-readable c =
 pub returns-clause-same : goal.returns-clause-same
 returns-clause-same c = (
   λ same. rw (← c.is_same.ensures.0 same) c.in_ok-shown.ensures.accepts.spelled,
-  λ spelled. c.is_same.ensures.1 (c.prefix_key.ensures _ _ _ _ [] [] c.in_ok-shown.ensures.accepts.spelled spelled refl).0,
+  λ spelled. c.is_same.ensures.1 (c.one_key.ensures _ _ _ _ [] [] c.in_ok-shown.ensures.accepts.spelled spelled refl).0,
 )

@@ -8,4 +8,4 @@ returns-in_err-certificate g c =
     rw (p.1, p.2) (no_login _ _ _ _ _ _ c.in_err-certificate.ensures)
 
 pub returns : goal.returns
-returns g c = login _ _ _ _ _ _ _ c.one_certificate_line.ensures c.in_ok-certificate.ensures c.check_login.result c.check_login.ensures
+returns g c = login _ _ _ _ _ _ _ c.lines.ensures.certificates c.in_ok-certificate.ensures c.check_login.result c.check_login.ensures

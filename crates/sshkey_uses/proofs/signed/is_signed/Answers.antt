@@ -1,9 +1,9 @@
 use Rattle.std.proofs.Common.{[], refl, subst, sym}
 use Rattle.std.proofs.lemmas.Result.{err_from_is_err_and}
-use Rattle.sshkey_model.specs.Verification.{IsAccepted}
-use Rattle.sshkey_keys.specs.Keys.{key_of}
-use Rattle.sshkey_keys.specs.SignatureReaders.{SpellsSignature}
-use Rattle.sshkey_uses.proofs.Accepted.{unspelled}
+use Rattle.ssh_key.specs.model.Verification.{IsAccepted}
+use Rattle.ssh_key.specs.keys.Keys.{key_of}
+use Rattle.ssh_key.specs.keys.SignatureReaders.{SpellsSignature}
+use Rattle.ssh_key.proofs.Acceptance.{unspelled}
 use Rattle.sshkey_uses.proofs.Answered.{answered}
 use Rattle.sshkey_uses.proofs.signed.is_signed.Goals as goal
 
@@ -18,5 +18,5 @@ returns-clause-answer g c =
     let spelled = c.in_ok-signature.ensures.accepts.spelled in
     answered _ _ _ _
     (λ accepted. record { signature = _; spelled = spelled; accepted = accepted })
-    (λ signed. subst (λ s. IsAccepted (g.V.RawVerifier.accepts c.args.verifier.now) (key_of c.args.key.now) c.args.message.now s) (sym (c.prefix_signature.ensures _ _ _ _ [] [] spelled signed.spelled refl).0) signed.accepted)
+    (λ signed. subst (λ s. IsAccepted (g.V.RawVerifier.accepts c.args.verifier.now) (key_of c.args.key.now) c.args.message.now s) (sym (c.one_signature.ensures _ _ _ _ [] [] spelled signed.spelled refl).0) signed.accepted)
     c.verify.ensures.accepted c.verify.ensures.refused c.answer_of.ensures

@@ -18,4 +18,4 @@ returns g c =
     let spelled = c.in_ok-signature.ensures.accepts.spelled in
     let fits = signed_fits c.in_ok-signature.signature _ c.args.content.now spelled in
     let judged = verified_exactly _ _ _ _ c.in_ok-signature.signature fits c.verify.result c.verify.ensures.verified (λ key. c.verify.ensures.judged ((c.compared_keys.ensures.equal _ _ line.spelled.is spelled.is.key).1 key)) in
-    signed_file _ _ _ _ _ _ _ _ c.one_key_line.ensures c.prefix_ssh_signature.ensures line spelled c.verify.result judged
+    signed_file _ _ _ _ _ _ _ _ c.lines.ensures.keys c.prefix_ssh_signature.ensures line spelled c.verify.result judged

@@ -8,8 +8,9 @@ use Rattle.sshkey_model.specs.Names.{Algorithm}
 use Rattle.sshkey_model.proofs.CombinedReaders.{ok_is}
 use Rattle.sshkey_cert_ref.specs.Spelled.{spelled_in}
 use Rattle.sshkey_base.proofs.Judging.{only_memory}
-use Rattle.sshkey_cert_ref.proofs.Answered.{given_front}
-use Rattle.sshkey_cert_ref.proofs.Certificates.{spelled_by}
+use Rattle.sshkey_cert.proofs.KeysOfCertificates.{certified_key_is}
+use Rattle.sshkey_cert_ref.proofs.Answered.{given_front, well_formed}
+use Rattle.sshkey_cert_ref.proofs.Certificates.{spelled_by, spells}
 use Rattle.sshkey_cert_ref.proofs.Spellings.{name_is, body_is}
 use Rattle.sshkey_cert_ref.proofs.certificate_ref.CertificateRef.public_key.Goals as goal
 
@@ -35,3 +36,8 @@ returns-clause-memory c =
     let is = name_is r.bytes.now (spelled_in r.bytes.now) s _ r.fields.name in
     let same = ok_is (algorithm_of c.in_ok-algorithm.algorithm) _ (sym c.in_ok-algorithm.ensures.gives ∙ is) in
     (given_front key_of cause (body_at (algorithm_of c.in_ok-algorithm.algorithm)) _ _ _ c.decode_as.result _ (ap (λ (a : Algorithm). body_at a r.parts.key.now) same ∙ body_is r.bytes.now (spelled_in r.bytes.now) s _ r.fields.key) c.decode_as.ensures.gives).1
+
+pub returns-clause-well_formed : goal.returns-clause-well_formed
+returns-clause-well_formed c =
+    let r = c.args.self.now in
+    well_formed _ (certified_key_is _ (spells r.bytes.now r.form).is) c.decode_as.result (returns-clause-value c)

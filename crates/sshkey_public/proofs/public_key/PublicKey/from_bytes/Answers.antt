@@ -8,3 +8,7 @@ returns-in_err-key_data-clause-accepts c =
 pub returns-in_err-key_data-clause-asks : goal.returns-in_err-key_data-clause-asks
 returns-in_err-key_data-clause-asks c =
     let p = err_from_is_err_and c.from_residual.result c.from_residual.ensures.1 in rw (p.1, p.2) c.in_err-key_data.ensures.asks
+
+pub returns-in_err-key_data-clause-gives : goal.returns-in_err-key_data-clause-gives
+returns-in_err-key_data-clause-gives c =
+    let p = err_from_is_err_and c.from_residual.result c.from_residual.ensures.1 in rw (p.1, p.2) c.in_err-key_data.ensures.gives

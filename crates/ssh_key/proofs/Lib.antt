@@ -1,0 +1,9 @@
+pub mod Acceptance
+pub mod Boxes
+pub mod CombinedReaders
+pub mod Grammars
+pub mod Judging
+pub mod Places
+pub mod Steps
+pub mod Writing
+mod NormalForms

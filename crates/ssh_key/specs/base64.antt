@@ -1,0 +1,1 @@
+pub use Rattle.sshkey_base64.specs.Words64

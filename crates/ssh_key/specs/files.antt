@@ -1,0 +1,2 @@
+pub use Rattle.sshkey_files.specs.Answers
+pub use Rattle.sshkey_files.specs.MadeTexts

@@ -1,0 +1,12 @@
+pub use Rattle.sshkey_keys.specs.Keys
+pub use Rattle.sshkey_keys.specs.Needs
+pub use Rattle.sshkey_keys.specs.KeyKinds
+pub use Rattle.sshkey_keys.specs.NameStrings
+pub use Rattle.sshkey_keys.specs.Comparisons
+pub use Rattle.sshkey_keys.specs.KeyReaders
+pub use Rattle.sshkey_keys.specs.Fingerprints
+pub use Rattle.sshkey_keys.specs.SignatureForms
+pub use Rattle.sshkey_keys.specs.Signatures
+pub use Rattle.sshkey_keys.specs.Verdicts
+pub use Rattle.sshkey_keys.specs.Blobs
+pub use Rattle.sshkey_keys.specs.SignatureReaders

@@ -1,0 +1,5 @@
+pub use Rattle.sshkey_authorized_keys.specs.declared.authorized_keys.AuthorizedKeys
+pub use Rattle.sshkey_authorized_keys.specs.declared.config_opts.ConfigOpts
+pub use Rattle.sshkey_authorized_keys.specs.declared.config_opts.ConfigOptsIter
+pub use Rattle.sshkey_authorized_keys.specs.declared.entry.Entry
+pub use Rattle.sshkey_authorized_keys.specs.declared.authorized_keys.StrictAuthorizedKeys

@@ -1,0 +1,16 @@
+pub use Rattle.sshkey_keypairs.specs.declared.keypair_data.KeypairData
+pub use Rattle.sshkey_keypairs.specs.declared.opaque.OpaqueKeypair
+pub use Rattle.sshkey_keypairs.specs.declared.opaque.OpaqueKeypairBytes
+pub use Rattle.sshkey_keypairs.specs.declared.opaque.OpaquePrivateKeyBytes
+pub use Rattle.sshkey_keypairs.specs.declared.sk_ecdsa.SkEcdsaSha2NistP256
+pub use Rattle.sshkey_keypairs.specs.declared.sk_ed25519.SkEd25519
+pub use Rattle.sshkey_pairs.specs.declared.dsa.DsaKeypair
+pub use Rattle.sshkey_pairs.specs.declared.dsa.DsaPrivateKey
+pub use Rattle.sshkey_pairs.specs.declared.ecdsa.EcdsaKeypair
+pub use Rattle.sshkey_pairs.specs.declared.ecdsa.EcdsaPrivateKey
+pub use Rattle.sshkey_pairs.specs.declared.ed25519.Ed25519Keypair
+pub use Rattle.sshkey_pairs.specs.declared.ed25519.Ed25519PrivateKey
+pub use Rattle.sshkey_pairs.specs.declared.rsa.RsaKeypair
+pub use Rattle.sshkey_pairs.specs.declared.rsa.RsaPrivateKey
+pub use Rattle.sshkey_private.specs.declared.private_key.PrivateKey
+pub use Rattle.sshkey_sshsig.specs.declared.sshsig.SshSig

@@ -1,0 +1,12 @@
+pub use Rattle.sshkey_keys.specs.declared.key_data.KeyData
+pub use Rattle.sshkey_keys_ref.specs.declared.key_data_ref.KeyDataRef
+pub use Rattle.sshkey_kinds.specs.declared.dsa.DsaPublicKey
+pub use Rattle.sshkey_kinds.specs.declared.ec_point.EcPoint
+pub use Rattle.sshkey_kinds.specs.declared.ecdsa.EcdsaPublicKey
+pub use Rattle.sshkey_kinds.specs.declared.ed25519.Ed25519PublicKey
+pub use Rattle.sshkey_kinds.specs.declared.opaque.OpaquePublicKey
+pub use Rattle.sshkey_kinds.specs.declared.opaque.OpaquePublicKeyBytes
+pub use Rattle.sshkey_kinds.specs.declared.rsa.RsaPublicKey
+pub use Rattle.sshkey_kinds.specs.declared.sk.SkEcdsaSha2NistP256
+pub use Rattle.sshkey_kinds.specs.declared.sk.SkEd25519
+pub use Rattle.sshkey_public.specs.declared.public_key.PublicKey

@@ -1,0 +1,45 @@
+-- Refusals that are not for memory.
+use Rattle.std.proofs.Common.{◌≡◌, ◌≢◌, ℕ, List, refl}
+use Rattle.sshkey_base.specs.Causes.{NoMemory, cause, inner_cause}
+use Rattle.sshkey_base.specs.Reading.{NoSpelling}
+use Rattle.sshkey_base.specs.Source.{IsSound, all_of}
+use Rattle.sshkey_base.specs.declared.encoding.Error as encoding-error
+use Rattle.sshkey_base.specs.declared.encoding.Error.TheVariants as encoding
+use Rattle.sshkey_base.specs.declared.error.Error.{Error}
+use Rattle.sshkey_base.specs.declared.error.Error.TheVariants as wide
+use Rattle.sshkey_base.specs.Acceptance.{SpellsSome}
+
+never_inner : (e : encoding-error.Error) → inner_cause e ≡ NoMemory → ⊥
+never_inner encoding.Base64 is = cc
+never_inner encoding.CharacterEncoding is = cc
+never_inner encoding.Label is = cc
+never_inner encoding.Length is = cc
+never_inner (encoding.TrailingData n) is = cc
+never_inner encoding.Memory is = cc
+
+is_memory : (e : Error) → cause e ≡ NoMemory → e ≡ wide.Memory
+is_memory wide.AlgorithmUnknown is = absurd cc
+is_memory (wide.AlgorithmUnsupported algorithm) is = absurd cc
+is_memory wide.Crypto is = absurd cc
+is_memory wide.Decrypted is = absurd cc
+is_memory wide.Ecdsa is = absurd cc
+is_memory (wide.CertificateFieldInvalid field) is = absurd cc
+is_memory wide.CertificateValidation is = absurd cc
+is_memory (wide.Encoding e) is = absurd (never_inner e is)
+is_memory wide.Encrypted is = absurd cc
+is_memory wide.FormatEncoding is = absurd cc
+is_memory (wide.Io kind) is = absurd cc
+is_memory wide.Memory is = refl
+is_memory wide.Namespace is = absurd cc
+is_memory wide.PublicKey is = absurd cc
+is_memory (wide.Version number) is = absurd cc
+is_memory wide.Time is = absurd cc
+is_memory (wide.TrailingData n) is = absurd cc
+
+-- an error but `Memory` says that it is another
+pub other_cause : (e : Error) → e ≢ wide.Memory → cause e ≢ NoMemory
+other_cause e other memory = other (is_memory e memory)
+
+-- what a reader refuses for anything but memory spells nothing
+pub unspelled : {Y : Type 0} (Spells : Y → List ℕ → Type 0) (b : List ℕ) (e : Error) → (cause e ≢ NoMemory → IsSound (all_of b) → NoSpelling Spells b) → e ≢ wide.Memory → SpellsSome Spells b → ⊥
+unspelled Spells b e none other some = none (other_cause e other) refl some.0 some.1

@@ -1,6 +1,0 @@
-use Rattle.sshkey_model.proofs.Grammars.{one_front}
-use Rattle.sshkey_keys.specs.KeyReaders.{key_grammar}
-use Rattle.sshkey_keys.proofs.laws.prefix_key.Goals as goal
-
-pub returns : goal.returns
-returns c = one_front key_grammar

@@ -1,6 +1,0 @@
-use Rattle.sshkey_model.proofs.Grammars.{one_front}
-use Rattle.sshkey_keys.specs.SignatureReaders.{signature_grammar}
-use Rattle.sshkey_keys.proofs.laws.prefix_signature.Goals as goal
-
-pub returns : goal.returns
-returns c = one_front signature_grammar

@@ -1,0 +1,49 @@
+-- Why a text is that of no hosts, and a line no entry of known_hosts.
+use Rattle.std.specs.Prelude.{◌≡◌, ◌≢◌, ◌⊎◌, ℕ, List, [], ◌∷◌, ◌++◌, length, Option}
+use Rattle.base64.specs.Engines.{standard}
+use Rattle.base64.specs.GeneralPurpose.{encode_of, IsBytes}
+use Rattle.sshkey_base.specs.declared.encoding.Error.TheVariants.{Base64, Length}
+use Rattle.sshkey_base.specs.declared.error.Error.{Error}
+use Rattle.sshkey_base.specs.declared.error.Error.TheVariants.{Encoding, FormatEncoding, Memory}
+use Rattle.sshkey_model.specs.Lines.{space, IsWithout}
+use Rattle.sshkey_entries.specs.Entries.{IsNoEntry}
+use Rattle.sshkey_entries.specs.KnownHosts.{Marker, IsHosts, IsMarked, bar, hashed_mark, hashed_text}
+
+-- The word is that of no bytes.
+abbrev pub IsNoBase64 : List ℕ → Type 0
+IsNoBase64 word = (b : List ℕ) → IsBytes b → word ≡ encode_of standard b → ⊥
+
+-- the mark, and no bar behind it
+abbrev pub HasNoBar : List ℕ → Type 0
+HasNoBar text = (rest : List ℕ) × (text ≡ hashed_mark ++ rest) × IsWithout bar rest
+
+-- the mark and two words, of which one is no Base64
+pub record HasNoBase64 (text : List ℕ) : Type 0 where
+  pub salt : List ℕ
+  pub hash : List ℕ
+  pub is : text ≡ hashed_mark ++ (salt ++ (bar ∷ hash))
+  pub one_word : IsWithout bar salt
+  pub none : IsNoBase64 salt ⊎ IsNoBase64 hash
+
+-- a hashed name, but of another size
+pub record HasOtherSize (text : List ℕ) : Type 0 where
+  pub salt : List ℕ
+  pub hash : List ℕ
+  pub is : text ≡ hashed_text salt hash
+  pub salt_bytes : IsBytes salt
+  pub hash_bytes : IsBytes hash
+  pub size : length hash ≢ 20
+
+-- for each error, where a text is refused with it
+abbrev pub RefusesHosts : List ℕ → Error → Type 0
+RefusesHosts text FormatEncoding = (text ≡ []) ⊎ HasNoBar text
+RefusesHosts text (Encoding Base64) = HasNoBase64 text
+RefusesHosts text (Encoding Length) = HasOtherSize text
+RefusesHosts text Memory = Unit {0}
+RefusesHosts text _ = ⊥
+
+-- `FormatEncoding` for another marker and for a space that is missing behind the hosts, and then the fault of the hosts. Of others the fault of the key's line is open.
+pub record HasFault (line : List ℕ) (e : Error) : Type 0 where
+  pub no_marker : ((m : Option Marker) (rest : List ℕ) → IsMarked m line rest → ⊥) → e ≡ FormatEncoding
+  pub no_space : (m : Option Marker) (rest : List ℕ) → IsMarked m line rest → IsWithout space rest → e ≡ FormatEncoding
+  pub no_hosts : (m : Option Marker) (hosts rest : List ℕ) → IsMarked m line (hosts ++ (space ∷ rest)) → IsWithout space hosts → IsNoEntry IsHosts hosts → RefusesHosts hosts e

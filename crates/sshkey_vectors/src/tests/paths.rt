@@ -1,0 +1,191 @@
+//! Every path under `ssh_key`, once. A path that the crate does not give is not found here, and the
+//! tests do not compile.
+
+/// The crate itself.
+pub mod root {
+    pub use ssh_key::{
+        Algorithm, AlgorithmName, AuthorizedKeys, Base64Reader, Blob, Certificate, CertificateRef,
+        Cipher, EcdsaCurve, Error, Fingerprint, HashAlg, Kdf, KdfAlg, KnownHosts, Mpint,
+        PrivateKey, PublicKey, RawVerifier, Result, Signature, SignatureRef, SigningKey, SshSig,
+        read_line, write_line,
+    };
+}
+
+/// Who may log in.
+pub mod authorized_keys {
+    pub use ssh_key::authorized_keys::{
+        AuthorizedKeys, ConfigOpts, ConfigOptsIter, Entry, StrictAuthorizedKeys,
+    };
+}
+
+/// Certificates.
+pub mod certificate {
+    pub use ssh_key::certificate::{
+        Builder, CertType, Certificate, CertificateRef, EndTime, FOREVER, Field, MAX_SECS, Options,
+        OptionsMap, OptionsRef, Texts, TextsRef, UnixTime, Unsigned,
+    };
+}
+
+/// The wire encoding.
+pub mod encoding {
+    pub use ssh_key::encoding::{
+        Bytes, Decode, Encode, Error, Label, LabelError, NestedReader, NormalForm, Reader, Refusal,
+        Result, ShortBytes, SliceWriter, Text, Writer, array_from, both_len, decode_boxed,
+        decode_front, decode_whole, encode_both, encode_list, encode_string, encode_vec,
+        length_from, list_len, string_len,
+    };
+}
+
+/// Which keys hosts have.
+pub mod known_hosts {
+    pub use ssh_key::known_hosts::{Entry, HostPatterns, KnownHosts, Marker};
+}
+
+/// Private keys.
+pub mod private {
+    pub use ssh_key::private::{
+        DsaKeypair, DsaPrivateKey, EcdsaKeypair, EcdsaPrivateKey, Ed25519Keypair,
+        Ed25519PrivateKey, KeypairData, OpaqueKeypair, OpaqueKeypairBytes, OpaquePrivateKeyBytes,
+        PrivateKey, RsaKeypair, RsaPrivateKey, SkEcdsaSha2NistP256, SkEd25519, SshSig,
+    };
+}
+
+/// Public keys.
+pub mod public {
+    pub use ssh_key::public::{
+        DsaPublicKey, EcPoint, EcdsaNistP256PublicKey, EcdsaNistP384PublicKey,
+        EcdsaNistP521PublicKey, EcdsaPublicKey, Ed25519PublicKey, KeyData, KeyDataRef,
+        OpaquePublicKey, OpaquePublicKeyBytes, PublicKey, RsaPublicKey, SkEcdsaSha2NistP256,
+        SkEd25519, take_body,
+    };
+}
+
+/// The laws.
+pub mod laws {
+    pub use ssh_key::laws::apart;
+    pub use ssh_key::laws::certificate_fields;
+    pub use ssh_key::laws::certificate_fits;
+    pub use ssh_key::laws::certificates;
+    pub use ssh_key::laws::compared_algorithm_names;
+    pub use ssh_key::laws::compared_algorithms;
+    pub use ssh_key::laws::compared_certificates;
+    pub use ssh_key::laws::compared_ciphers;
+    pub use ssh_key::laws::compared_curves;
+    pub use ssh_key::laws::compared_dsa_keys;
+    pub use ssh_key::laws::compared_ecdsa_keys;
+    pub use ssh_key::laws::compared_ed25519_keys;
+    pub use ssh_key::laws::compared_ends;
+    pub use ssh_key::laws::compared_fields;
+    pub use ssh_key::laws::compared_fingerprints;
+    pub use ssh_key::laws::compared_hashes;
+    pub use ssh_key::laws::compared_kdf_algorithms;
+    pub use ssh_key::laws::compared_keys;
+    pub use ssh_key::laws::compared_mpints;
+    pub use ssh_key::laws::compared_opaque_bytes;
+    pub use ssh_key::laws::compared_opaque_keys;
+    pub use ssh_key::laws::compared_options;
+    pub use ssh_key::laws::compared_private_keys;
+    pub use ssh_key::laws::compared_public_keys;
+    pub use ssh_key::laws::compared_rsa_keys;
+    pub use ssh_key::laws::compared_signatures;
+    pub use ssh_key::laws::compared_signed_fields;
+    pub use ssh_key::laws::compared_sk_ecdsa_keys;
+    pub use ssh_key::laws::compared_sk_ed25519_keys;
+    pub use ssh_key::laws::compared_ssh_signatures;
+    pub use ssh_key::laws::compared_times;
+    pub use ssh_key::laws::compared_types;
+    pub use ssh_key::laws::decode_private_key;
+    pub use ssh_key::laws::equal_authorized_keys;
+    pub use ssh_key::laws::equal_config_opts;
+    pub use ssh_key::laws::equal_dsa_pairs;
+    pub use ssh_key::laws::equal_dsa_private_keys;
+    pub use ssh_key::laws::equal_ecdsa_pairs;
+    pub use ssh_key::laws::equal_ecdsa_private_keys;
+    pub use ssh_key::laws::equal_ed25519_pairs;
+    pub use ssh_key::laws::equal_ed25519_private_keys;
+    pub use ssh_key::laws::equal_hosts;
+    pub use ssh_key::laws::equal_kdfs;
+    pub use ssh_key::laws::equal_known_hosts;
+    pub use ssh_key::laws::equal_markers;
+    pub use ssh_key::laws::equal_opaque_pair_bytes;
+    pub use ssh_key::laws::equal_opaque_pairs;
+    pub use ssh_key::laws::equal_opaque_private_keys;
+    pub use ssh_key::laws::equal_pairs;
+    pub use ssh_key::laws::equal_rsa_pairs;
+    pub use ssh_key::laws::equal_rsa_private_keys;
+    pub use ssh_key::laws::equal_sk_ecdsa_pairs;
+    pub use ssh_key::laws::equal_sk_ed25519_pairs;
+    pub use ssh_key::laws::fingerprint_texts;
+    pub use ssh_key::laws::key_fits;
+    pub use ssh_key::laws::lines;
+    pub use ssh_key::laws::lines_apart;
+    pub use ssh_key::laws::normal_bodies;
+    pub use ssh_key::laws::normal_certificate_names;
+    pub use ssh_key::laws::normal_certificates;
+    pub use ssh_key::laws::normal_forms;
+    pub use ssh_key::laws::normal_kdfs;
+    pub use ssh_key::laws::normal_keypairs;
+    pub use ssh_key::laws::normal_keys;
+    pub use ssh_key::laws::normal_mpints;
+    pub use ssh_key::laws::normal_names;
+    pub use ssh_key::laws::normal_options;
+    pub use ssh_key::laws::normal_points;
+    pub use ssh_key::laws::normal_private_keys;
+    pub use ssh_key::laws::normal_signatures;
+    pub use ssh_key::laws::normal_ssh_signatures;
+    pub use ssh_key::laws::normal_texts;
+    pub use ssh_key::laws::one_authorized_key;
+    pub use ssh_key::laws::one_certificate;
+    pub use ssh_key::laws::one_certificate_line;
+    pub use ssh_key::laws::one_end;
+    pub use ssh_key::laws::one_front;
+    pub use ssh_key::laws::one_hosts;
+    pub use ssh_key::laws::one_key;
+    pub use ssh_key::laws::one_key_line;
+    pub use ssh_key::laws::one_known_host;
+    pub use ssh_key::laws::one_options;
+    pub use ssh_key::laws::one_signature;
+    pub use ssh_key::laws::options_fit;
+    pub use ssh_key::laws::ordered_sk_ecdsa_pairs;
+    pub use ssh_key::laws::ordered_sk_ed25519_pairs;
+    pub use ssh_key::laws::prefix_body;
+    pub use ssh_key::laws::prefix_certificate;
+    pub use ssh_key::laws::prefix_certificate_name;
+    pub use ssh_key::laws::prefix_cipher;
+    pub use ssh_key::laws::prefix_curve;
+    pub use ssh_key::laws::prefix_ecdsa_pair;
+    pub use ssh_key::laws::prefix_hash;
+    pub use ssh_key::laws::prefix_kdf;
+    pub use ssh_key::laws::prefix_kdf_name;
+    pub use ssh_key::laws::prefix_key;
+    pub use ssh_key::laws::prefix_keypair;
+    pub use ssh_key::laws::prefix_mpint;
+    pub use ssh_key::laws::prefix_name;
+    pub use ssh_key::laws::prefix_options;
+    pub use ssh_key::laws::prefix_pair;
+    pub use ssh_key::laws::prefix_point;
+    pub use ssh_key::laws::prefix_private_key;
+    pub use ssh_key::laws::prefix_rsa_private;
+    pub use ssh_key::laws::prefix_scalar;
+    pub use ssh_key::laws::prefix_signature;
+    pub use ssh_key::laws::prefix_ssh_signature;
+    pub use ssh_key::laws::prefix_text;
+    pub use ssh_key::laws::prefix_texts;
+    pub use ssh_key::laws::read_back;
+    pub use ssh_key::laws::read_back_certificate;
+    pub use ssh_key::laws::read_back_certificate_line;
+    pub use ssh_key::laws::read_back_kdf;
+    pub use ssh_key::laws::read_back_key;
+    pub use ssh_key::laws::read_back_key_line;
+    pub use ssh_key::laws::read_back_keypair;
+    pub use ssh_key::laws::read_back_options;
+    pub use ssh_key::laws::read_back_private_key;
+    pub use ssh_key::laws::read_back_signature;
+    pub use ssh_key::laws::read_back_ssh_signature;
+    pub use ssh_key::laws::readers;
+    pub use ssh_key::laws::readings_apart;
+    pub use ssh_key::laws::signed_fields;
+    pub use ssh_key::laws::signed_fields_fit;
+    pub use ssh_key::laws::ssh_signature_fits;
+    pub use ssh_key::laws::strict_is_read;
+}
