@@ -279,8 +279,9 @@ impl Decode for SkEd25519 {
     ghost grammar = { sk_ed25519_grammar };
 
     fn decode<R: Reader>(alloc: Global, reader: &mut R) -> Result<SkEd25519> {
-        let Then(Wide(bytes), Wide(application)) =
-            Then::<Wide<[u8; 32]>, Wide<Text>>::decode(alloc, reader)?;
+        let Then(Wide(bytes), Wide(application)) = Then::<Wide<[u8; 32]>, Wide<Text>>::decode(
+            alloc, reader,
+        )?;
         Ok(SkEd25519 {
             public_key: Ed25519PublicKey(bytes),
             application,
