@@ -1,2 +1,3 @@
 mod HeldOrders
 pub mod SameReaders
+pub mod Parts

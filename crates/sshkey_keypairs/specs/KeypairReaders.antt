@@ -4,13 +4,12 @@ use Rattle.sshkey_model.specs.Reading.{Fault, AlgorithmUnknown, ◌>>=◌, Front
 use Rattle.sshkey_model.specs.Grammar.{IsGrammar, SpellsWith, value_at}
 use Rattle.sshkey_model.specs.Names.{Algorithm, Curve, Dsa, Ecdsa, Ed25519, Rsa, SkEcdsa, SkEd25519, Other, algorithm_from, algorithm_at}
 use Rattle.sshkey_model.specs.Keys.{head_of, has_curve, wanted_curve}
-use Rattle.sshkey_model.specs.KeyPairs.{LeadingZeros, KeyPair, KeyPairChoices, IsKeyPair, HasKeyPairPlaces, keypair, public_half, any_ecdsa_pair_at, ecdsa_pair_at, ed25519_pair_at, rsa_pair_at, opaque_pair_at, pair_at, keypair_at}
+use Rattle.sshkey_model.specs.KeyPairs.{LeadingZeros, KeyPair, KeyPairChoices, IsKeyPair, HasKeyPairPlaces, keypair, public_half, any_ecdsa_pair_at, ecdsa_pair_at, dsa_pair_at, ed25519_pair_at, rsa_pair_at, sk_ecdsa_pair_at, sk_ed25519_pair_at, opaque_pair_at, pair_at, keypair_at}
 use Rattle.sshkey_model.proofs.CombinedReaders.{bind_ok, ok_is}
 use Rattle.sshkey_model.proofs.Grammars.{grammar_with, same_grammar}
 use Rattle.sshkey_model.proofs.KeyPairReaders.{keypair_reads}
 use Rattle.sshkey_base.specs.Labels.{label_at}
-use Rattle.sshkey_pairs.specs.PairReaders.{dsa_steps_at, dsa_steps, ecdsa_steps_at, ecdsa_steps}
-use Rattle.sshkey_keypairs.specs.SecurityPairs.{sk_ecdsa_steps_at, sk_ecdsa_steps, sk_ed25519_steps_at, sk_ed25519_steps}
+use Rattle.sshkey_pairs.specs.PairReaders.{ecdsa_steps_at, ecdsa_steps}
 
 -- the pair that was read, as one that is not encrypted
 abbrev pub some_at : {A : Type 0} → Front A → Front (Option A)
@@ -34,12 +33,12 @@ abbrev pub ecdsa_under : Curve → Front KeyPair
 ecdsa_under wanted = checked_at (wanted_curve public_half wanted) ecdsa_steps_at
 
 abbrev pub steps_at : Algorithm → Front KeyPair
-steps_at Dsa = dsa_steps_at
+steps_at Dsa = value_at dsa_pair_at
 steps_at (Ecdsa curve) = ecdsa_under curve
 steps_at Ed25519 = value_at ed25519_pair_at
 steps_at (Rsa hash) = value_at rsa_pair_at
-steps_at SkEcdsa = sk_ecdsa_steps_at
-steps_at SkEd25519 = sk_ed25519_steps_at
+steps_at SkEcdsa = value_at sk_ecdsa_pair_at
+steps_at SkEd25519 = value_at sk_ed25519_pair_at
 steps_at (Other name) = value_at (opaque_pair_at name)
 
 abbrev bare : (KeyPair × LeadingZeros) × List ℕ → Result (KeyPair × List ℕ) Fault
@@ -61,12 +60,12 @@ ecdsa_under_same wanted b = rw (← ecdsa_steps b) (go (any_ecdsa_pair_at b))
     go (Err e) = refl
 
 pub same_steps : (a : Algorithm) (b : List ℕ) → value_at (pair_at a) b ≡ steps_at a b
-same_steps Dsa b = dsa_steps b
+same_steps Dsa b = refl
 same_steps (Ecdsa curve) b = ecdsa_under_same curve b
 same_steps Ed25519 b = refl
 same_steps (Rsa hash) b = refl
-same_steps SkEcdsa b = sk_ecdsa_steps b
-same_steps SkEd25519 b = sk_ed25519_steps b
+same_steps SkEcdsa b = refl
+same_steps SkEd25519 b = refl
 same_steps (Other name) b = refl
 
 -- ---- it takes exactly the spellings

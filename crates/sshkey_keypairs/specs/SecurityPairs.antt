@@ -1,14 +1,12 @@
--- What the pairs of security keys mean, and their readers, which take exactly the spellings.
-use Rattle.std.specs.Prelude.{◌≡◌, ℕ, List, [], ◌∷◌, ◌++◌, Result, Ok, Err}
+-- What the pairs of security keys mean, and where their readers need memory.
+use Rattle.std.specs.Prelude.{ℕ, List, [], ◌∷◌, ◌++◌}
 use Rattle.std.specs.Int.{w8}
-use Rattle.sshkey_model.specs.Reading.{Fault, Length, ◌>>=◌, Front, number_at, string_at}
-use Rattle.sshkey_model.specs.Grammar.{IsGrammar, Spells, value_at}
-use Rattle.sshkey_model.specs.Names.{Algorithm}
-use Rattle.sshkey_model.specs.Keys.{Key, SkEcdsa, SkEd25519, sk_ecdsa_at, sk_ed25519_at}
-use Rattle.sshkey_model.specs.KeyPairs.{KeyPair, SkEcdsaPair, SkEd25519Pair, SecurityPrivate, security_private}
+use Rattle.sshkey_model.specs.Reading.{number_at, string_at}
+use Rattle.sshkey_model.specs.Grammar.{IsGrammar, Spells}
+use Rattle.sshkey_model.specs.Keys.{sk_ecdsa_at, sk_ed25519_at}
+use Rattle.sshkey_model.specs.KeyPairs.{KeyPair, SkEcdsaPair, SkEd25519Pair, SecurityPrivate, security_private, security_private_at}
 use Rattle.sshkey_model.specs.Parts.{Any}
-use Rattle.sshkey_model.proofs.CombinedReaders.{bind_assoc}
-use Rattle.sshkey_model.proofs.Grammars.{grammar, same_grammar}
+use Rattle.sshkey_model.proofs.Grammars.{grammar}
 use Rattle.sshkey_model.proofs.KeyPairReaders.{security_private_reads}
 use Rattle.sshkey_base.specs.Needs.{NoNeed, NeedsString, NeedsBoth}
 use Rattle.sshkey_kinds.specs.BodyNeeds.{NeedsSkEcdsa, NeedsSkEd25519}
@@ -17,12 +15,9 @@ use Rattle.sshkey_kinds.specs.EcPoint.{point_of}
 use Rattle.sshkey_kinds.specs.Kinds.{sk_ecdsa_point, sk_ecdsa_application, sk_ed25519_key, sk_ed25519_application}
 use Rattle.sshkey_kinds.specs.declared.sk.SkEcdsaSha2NistP256 as public_ecdsa
 use Rattle.sshkey_kinds.specs.declared.sk.SkEd25519 as public_ed25519
-use Rattle.sshkey_pairs.specs.PairReaders.{SpellsPair, pair_grammar}
 use Rattle.sshkey_keypairs.specs.declared.held.Held.{Held}
 use Rattle.sshkey_keypairs.specs.declared.sk_ecdsa.SkEcdsaSha2NistP256.{SkEcdsaSha2NistP256}
 use Rattle.sshkey_keypairs.specs.declared.sk_ed25519.SkEd25519 as sk
--- under names that an attribute of this crate can unfold
-unfoldable pub use Rattle.sshkey_model.specs.KeyPairs.{security_private_at, sk_ecdsa_pair_at, sk_ed25519_pair_at}
 
 -- ---- what is kept of a key that a security key holds
 
@@ -77,36 +72,7 @@ sk_ecdsa_pair_parts k = sk_ecdsa_parts (sk_ecdsa_public k) ++ held_parts (sk_ecd
 abbrev pub sk_ed25519_pair_parts : sk.SkEd25519 → List (List ℕ)
 sk_ed25519_pair_parts k = sk_ed25519_parts (sk_ed25519_public k) ++ held_parts (sk_ed25519_held k)
 
--- ---- their readers
-
--- what is kept of a key that a security key holds
-abbrev pub held_with : Key → SecurityPrivate → Result KeyPair Fault
-held_with (SkEcdsa k) r = Ok (SkEcdsaPair k r)
-held_with (SkEd25519 k) r = Ok (SkEd25519Pair k r)
-held_with _ r = Err Length
-
-abbrev pub held_behind : Key × List ℕ → Result (KeyPair × List ℕ) Fault
-held_behind k = security_private_at k.1 >>= λ r. held_with k.0 r.0 >>= λ p. Ok (p, r.1)
-
-unfoldable pub sk_ecdsa_steps_at : Front KeyPair
-sk_ecdsa_steps_at b = sk_ecdsa_at b >>= held_behind
-
-unfoldable pub sk_ed25519_steps_at : Front KeyPair
-sk_ed25519_steps_at b = sk_ed25519_at b >>= held_behind
-
-pub sk_ecdsa_steps : (b : List ℕ) → value_at sk_ecdsa_pair_at b ≡ sk_ecdsa_steps_at b
-unfolding sk_ecdsa_pair_at sk_ecdsa_steps_at sk_ecdsa_at
-sk_ecdsa_steps b = simp bind_assoc
-
-pub sk_ed25519_steps : (b : List ℕ) → value_at sk_ed25519_pair_at b ≡ sk_ed25519_steps_at b
-unfolding sk_ed25519_pair_at sk_ed25519_steps_at sk_ed25519_at
-sk_ed25519_steps b = simp bind_assoc
-
-pub sk_ecdsa_grammar : IsGrammar (SpellsPair Algorithm.SkEcdsa) sk_ecdsa_steps_at
-sk_ecdsa_grammar = same_grammar (pair_grammar Algorithm.SkEcdsa) sk_ecdsa_steps
-
-pub sk_ed25519_grammar : IsGrammar (SpellsPair Algorithm.SkEd25519) sk_ed25519_steps_at
-sk_ed25519_grammar = same_grammar (pair_grammar Algorithm.SkEd25519) sk_ed25519_steps
+-- ---- where their readers need memory
 
 -- the public key, or what is kept of it
 abbrev pub NeedsSkEcdsaPair : List ℕ → Type 0

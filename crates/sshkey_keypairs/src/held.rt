@@ -3,10 +3,11 @@
 ghost use Rattle.std.specs.Prelude.{◌≡◌, ◌≤◌, ◌+◌, ◌*◌, ◌^◌, length, IfOk, IsOk, ◌↔◌, IfErr};
 ghost use Rattle.sshkey_base.specs.declared.error.Error.TheVariants as wide;
 ghost use Rattle.sshkey_base.specs.declared.encoding.Error.TheVariants as encoding;
-ghost use Rattle.sshkey_model.specs.KeyPairs.{SecurityPrivate, security_private};
-ghost use Rattle.sshkey_keypairs.specs.SecurityPairs.{SpellsHeld, security_private_at, held_anew, held_grammar, held_of};
+ghost use Rattle.sshkey_model.specs.KeyPairs.{SecurityPrivate, security_private, security_private_at};
+ghost use Rattle.sshkey_keypairs.specs.SecurityPairs.{SpellsHeld, held_anew, held_grammar, held_of};
 
 use sshkey_base::{Bytes, Decode, Encode, Error, Reader, Result, Writer, encoding};
+use sshkey_format::Then;
 use std::alloc::Global;
 
 /// What is kept of a key that a security key holds.
@@ -63,7 +64,7 @@ impl Held {
 }
 
 /// The flags, the key handle and the reserved bytes.
-#[tactic(auto, using(sshkey_base::proofs::Steps::steps), unfolding(crate::specs::SecurityPairs::security_private_at))]
+#[tactic(auto, using(sshkey_format::proofs::Mapped::mapped, crate::proofs::Parts::security_private_parts_read))]
 impl Decode for Held {
     ghost use Rattle.sshkey_keypairs.specs.SecurityPairs.{NeedsHeld};
 
@@ -82,9 +83,8 @@ impl Decode for Held {
     ghost grammar = { held_grammar };
 
     fn decode<R: Reader>(alloc: Global, reader: &mut R) -> encoding::Result<Held> {
-        let flags = u8::decode(alloc, reader)?;
-        let key_handle = Bytes::decode(alloc, reader)?;
-        let reserved = Bytes::decode(alloc, reader)?;
+        type Parts = Then<u8, Then<Bytes, Bytes>>;
+        let Then(flags, Then(key_handle, reserved)) = Parts::decode(alloc, reader)?;
         Ok(Held {
             flags,
             key_handle,

@@ -3,14 +3,15 @@
 ghost use Rattle.std.specs.Prelude.{◌≡◌, ◌≤◌, ◌+◌, ◌*◌, ◌^◌, length, IfOk, IsOk, ◌↔◌, IfErr};
 ghost use Rattle.sshkey_base.specs.declared.error.Error.TheVariants as wide;
 ghost use Rattle.sshkey_base.specs.declared.encoding.Error.TheVariants as encoding;
-ghost use Rattle.sshkey_model.specs.KeyPairs.{KeyPair, pair, Plain};
+ghost use Rattle.sshkey_model.specs.Grammar.{value_at};
+ghost use Rattle.sshkey_model.specs.KeyPairs.{KeyPair, pair, Plain, sk_ecdsa_pair_at};
 ghost use Rattle.sshkey_model.specs.Names.{SkEcdsa};
-ghost use Rattle.sshkey_pairs.specs.PairReaders.{SpellsPair};
-ghost use Rattle.sshkey_keypairs.specs.SecurityPairs.{sk_ecdsa_steps_at, sk_ecdsa_grammar};
+ghost use Rattle.sshkey_pairs.specs.PairReaders.{SpellsPair, pair_grammar};
 ghost use Rattle.sshkey_keypairs.specs.SecurityPairs.{sk_ecdsa_pair_of, sk_ecdsa_public, sk_ecdsa_held, held_anew};
 
 use crate::held::Held;
 use sshkey_base::{Decode, Encode, Error, Reader, Result, Writer, both_len, encode_both, encoding};
+use sshkey_format::{Then, Wide};
 use sshkey_kinds::SkEcdsaSha2NistP256 as PublicSkEcdsa;
 use std::alloc::Global;
 use std::fmt;
@@ -83,7 +84,7 @@ impl fmt::Debug for SkEcdsaSha2NistP256 {
 ///
 /// The refusals of the public key, and then `Length` where a string passes what is left. The key
 /// handle may have any number of bytes.
-#[tactic(auto, using(sshkey_base::proofs::Steps::steps), unfolding(crate::specs::SecurityPairs::sk_ecdsa_steps_at))]
+#[tactic(auto, using(sshkey_format::proofs::Mapped::mapped, crate::proofs::Parts::sk_ecdsa_pair_parts_read))]
 impl Decode for SkEcdsaSha2NistP256 {
     ghost use Rattle.sshkey_keypairs.specs.SecurityPairs.{NeedsSkEcdsaPair};
 
@@ -93,17 +94,16 @@ impl Decode for SkEcdsaSha2NistP256 {
 
     ghost means = { sk_ecdsa_pair_of };
 
-    ghost parse = { sk_ecdsa_steps_at };
+    ghost parse = { value_at sk_ecdsa_pair_at };
 
     ghost Spells = { SpellsPair SkEcdsa };
 
     ghost needs = { NeedsSkEcdsaPair };
 
-    ghost grammar = { sk_ecdsa_grammar };
+    ghost grammar = { pair_grammar SkEcdsa };
 
     fn decode<R: Reader>(alloc: Global, reader: &mut R) -> Result<SkEcdsaSha2NistP256> {
-        let public = PublicSkEcdsa::decode(alloc, reader)?;
-        let held = Held::decode(alloc, reader)?;
+        let Then(public, Wide(held)) = Then::<PublicSkEcdsa, Wide<Held>>::decode(alloc, reader)?;
         Ok(SkEcdsaSha2NistP256 { public, held })
     }
 }

@@ -3,14 +3,15 @@
 ghost use Rattle.std.specs.Prelude.{◌≡◌, ◌≤◌, ◌+◌, ◌*◌, ◌^◌, length, IfOk, IsOk, ◌↔◌, IfErr};
 ghost use Rattle.sshkey_base.specs.declared.error.Error.TheVariants as wide;
 ghost use Rattle.sshkey_base.specs.declared.encoding.Error.TheVariants as encoding;
-ghost use Rattle.sshkey_model.specs.KeyPairs.{KeyPair, pair, Plain};
+ghost use Rattle.sshkey_model.specs.Grammar.{value_at};
+ghost use Rattle.sshkey_model.specs.KeyPairs.{KeyPair, pair, Plain, sk_ed25519_pair_at};
 ghost use Rattle.sshkey_model.specs.Names.{SkEd25519 as AlgorithmSkEd25519};
-ghost use Rattle.sshkey_pairs.specs.PairReaders.{SpellsPair};
-ghost use Rattle.sshkey_keypairs.specs.SecurityPairs.{sk_ed25519_steps_at, sk_ed25519_grammar};
+ghost use Rattle.sshkey_pairs.specs.PairReaders.{SpellsPair, pair_grammar};
 ghost use Rattle.sshkey_keypairs.specs.SecurityPairs.{sk_ed25519_pair_of, sk_ed25519_public, sk_ed25519_held, held_anew};
 
 use crate::held::Held;
 use sshkey_base::{Decode, Encode, Error, Reader, Result, Writer, both_len, encode_both, encoding};
+use sshkey_format::{Then, Wide};
 use sshkey_kinds::SkEd25519 as PublicSkEd25519;
 use std::alloc::Global;
 use std::fmt;
@@ -83,7 +84,7 @@ impl fmt::Debug for SkEd25519 {
 ///
 /// The refusals of the public key, and then `Length` where a string passes what is left. The key
 /// handle may have any number of bytes.
-#[tactic(auto, using(sshkey_base::proofs::Steps::steps), unfolding(crate::specs::SecurityPairs::sk_ed25519_steps_at))]
+#[tactic(auto, using(sshkey_format::proofs::Mapped::mapped, crate::proofs::Parts::sk_ed25519_pair_parts_read))]
 impl Decode for SkEd25519 {
     ghost use Rattle.sshkey_keypairs.specs.SecurityPairs.{NeedsSkEd25519Pair};
 
@@ -93,17 +94,16 @@ impl Decode for SkEd25519 {
 
     ghost means = { sk_ed25519_pair_of };
 
-    ghost parse = { sk_ed25519_steps_at };
+    ghost parse = { value_at sk_ed25519_pair_at };
 
     ghost Spells = { SpellsPair AlgorithmSkEd25519 };
 
     ghost needs = { NeedsSkEd25519Pair };
 
-    ghost grammar = { sk_ed25519_grammar };
+    ghost grammar = { pair_grammar AlgorithmSkEd25519 };
 
     fn decode<R: Reader>(alloc: Global, reader: &mut R) -> Result<SkEd25519> {
-        let public = PublicSkEd25519::decode(alloc, reader)?;
-        let held = Held::decode(alloc, reader)?;
+        let Then(public, Wide(held)) = Then::<PublicSkEd25519, Wide<Held>>::decode(alloc, reader)?;
         Ok(SkEd25519 { public, held })
     }
 }

@@ -6,6 +6,7 @@ ghost use Rattle.sshkey_model.specs.Keys.{dsa_at};
 ghost use Rattle.sshkey_kinds.specs.Bodies.{SpellsDsa, dsa_grammar};
 
 use sshkey_base::{Decode, Encode, Error, Mpint, Reader, Result, Writer, encoding};
+use sshkey_format::Then;
 use std::alloc::Global;
 
 /// A DSA public key (RFC 4253, section 6.6).
@@ -41,7 +42,7 @@ impl DsaPublicKey {
 }
 
 /// The four numbers p, q, g and y, each as a string.
-#[tactic(auto, using(sshkey_base::proofs::Steps::steps), unfolding(sshkey_model::specs::Keys::dsa_at))]
+#[tactic(auto, using(sshkey_format::proofs::Mapped::mapped, crate::proofs::Parts::dsa_parts_read))]
 impl Decode for DsaPublicKey {
     ghost use Rattle.sshkey_kinds.specs.BodyNeeds.{NeedsDsa};
     ghost use Rattle.sshkey_kinds.specs.Kinds.{dsa_of};
@@ -61,10 +62,8 @@ impl Decode for DsaPublicKey {
     ghost grammar = { dsa_grammar };
 
     fn decode<R: Reader>(alloc: Global, reader: &mut R) -> Result<DsaPublicKey> {
-        let p = Mpint::decode(alloc, reader)?;
-        let q = Mpint::decode(alloc, reader)?;
-        let g = Mpint::decode(alloc, reader)?;
-        let y = Mpint::decode(alloc, reader)?;
+        type Numbers = Then<Mpint, Then<Mpint, Then<Mpint, Mpint>>>;
+        let Then(p, Then(q, Then(g, y))) = Numbers::decode(alloc, reader)?;
         Ok(DsaPublicKey { p, q, g, y })
     }
 }

@@ -8,6 +8,7 @@ ghost use Rattle.sshkey_kinds.specs.Bodies.{SpellsRsa, rsa_grammar};
 use sshkey_base::{
     Decode, Encode, Error, Mpint, Reader, Result, Writer, both_len, encode_both, encoding,
 };
+use sshkey_format::Then;
 use std::alloc::Global;
 
 /// An RSA public key (RFC 4253, section 6.6).
@@ -37,7 +38,7 @@ impl RsaPublicKey {
 }
 
 /// The two numbers, e and then n, each as a string.
-#[tactic(auto, using(sshkey_base::proofs::Steps::steps), unfolding(sshkey_model::specs::Keys::rsa_at))]
+#[tactic(auto, using(sshkey_format::proofs::Mapped::mapped, crate::proofs::Parts::rsa_parts_read))]
 impl Decode for RsaPublicKey {
     ghost use Rattle.sshkey_kinds.specs.BodyNeeds.{NeedsRsa};
     ghost use Rattle.sshkey_kinds.specs.Kinds.{rsa_of};
@@ -57,8 +58,7 @@ impl Decode for RsaPublicKey {
     ghost grammar = { rsa_grammar };
 
     fn decode<R: Reader>(alloc: Global, reader: &mut R) -> Result<RsaPublicKey> {
-        let e = Mpint::decode(alloc, reader)?;
-        let n = Mpint::decode(alloc, reader)?;
+        let Then(e, n) = Then::<Mpint, Mpint>::decode(alloc, reader)?;
         Ok(RsaPublicKey { e, n })
     }
 }

@@ -18,6 +18,7 @@ use sshkey_base::{
     Decode, EcdsaCurve, Encode, Error, Reader, Result, ShortBytes, Text, Writer, both_len,
     encode_both, encoding, length_from,
 };
+use sshkey_format::{Then, Wide};
 use std::alloc::Global;
 
 /// The application of keys for SSH.
@@ -258,7 +259,7 @@ impl From<SkEd25519> for Ed25519PublicKey {
 }
 
 /// A string of 32 bytes, and the application as a text.
-#[tactic(auto, using(sshkey_base::proofs::Steps::steps), unfolding(sshkey_model::specs::Keys::sk_ed25519_at, crate::specs::Bodies::ed25519_body_at, sshkey_model::specs::Keys::ed25519_at))]
+#[tactic(auto, using(sshkey_format::proofs::Mapped::mapped, crate::proofs::Parts::sk_ed25519_parts_read))]
 impl Decode for SkEd25519 {
     ghost use Rattle.sshkey_kinds.specs.BodyNeeds.{NeedsSkEd25519};
     ghost use Rattle.sshkey_kinds.specs.Kinds.{sk_ed25519_of};
@@ -278,8 +279,9 @@ impl Decode for SkEd25519 {
     ghost grammar = { sk_ed25519_grammar };
 
     fn decode<R: Reader>(alloc: Global, reader: &mut R) -> Result<SkEd25519> {
-        let bytes = <[u8; 32]>::decode(alloc, reader)?;
-        let application = Text::decode(alloc, reader)?;
+        let Then(Wide(bytes), Wide(application)) = Then::<Wide<[u8; 32]>, Wide<Text>>::decode(
+            alloc, reader,
+        )?;
         Ok(SkEd25519 {
             public_key: Ed25519PublicKey(bytes),
             application,

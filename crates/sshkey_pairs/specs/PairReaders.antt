@@ -39,17 +39,6 @@ SpellsEcdsaPair = SpellsWith IsEcdsaPair HasPairPlaces pair
 
 -- ---- a public key, and what is kept beside it
 
--- the private number of a DSA key
-abbrev pub number_with : Key → List ℕ → Result KeyPair Fault
-number_with (Dsa k) x = Ok (DsaPair k x)
-number_with _ x = Err Length
-
-abbrev pub number_behind : Key × List ℕ → Result (KeyPair × List ℕ) Fault
-number_behind k = mpint_at k.1 >>= λ x. number_with k.0 x.0 >>= λ p. Ok (p, x.1)
-
-unfoldable pub dsa_steps_at : Front KeyPair
-dsa_steps_at b = dsa_at b >>= number_behind
-
 -- the scalar of the key's curve
 abbrev pub scalar_behind : Key × List ℕ → Result (KeyPair × List ℕ) Fault
 scalar_behind (Ecdsa c point, rest) = value_at (scalar_at (field_size c)) rest >>= λ s. Ok (EcdsaPair c point s.0, s.1)
@@ -58,16 +47,9 @@ scalar_behind _ = Err Length
 unfoldable pub ecdsa_steps_at : Front KeyPair
 ecdsa_steps_at b = any_ecdsa_at b >>= scalar_behind
 
-pub dsa_steps : (b : List ℕ) → value_at dsa_pair_at b ≡ dsa_steps_at b
-unfolding dsa_pair_at dsa_steps_at dsa_at
-dsa_steps b = simp bind_assoc
-
 pub ecdsa_steps : (b : List ℕ) → value_at any_ecdsa_pair_at b ≡ ecdsa_steps_at b
 unfolding any_ecdsa_pair_at ecdsa_steps_at any_ecdsa_at
 ecdsa_steps b = simp bind_assoc
-
-pub dsa_grammar : IsGrammar (SpellsPair Algorithm.Dsa) dsa_steps_at
-dsa_grammar = same_grammar (pair_grammar Algorithm.Dsa) dsa_steps
 
 pub ecdsa_grammar : IsGrammar SpellsEcdsaPair ecdsa_steps_at
 ecdsa_grammar = same_grammar (grammar_with any_ecdsa_pair_reads) ecdsa_steps

@@ -2,17 +2,19 @@
 
 ghost use Rattle.std.specs.Fmt.{WritesOnOk};
 ghost use Rattle.std.specs.Prelude.{◌≡◌, ◌+◌, ◌*◌, ◌^◌, List, ℕ, IfOk, IfErr, codes};
-ghost use Rattle.sshkey_model.specs.KeyPairs.{KeyPair, pair, Plain};
+ghost use Rattle.sshkey_model.specs.Grammar.{value_at};
+ghost use Rattle.sshkey_model.specs.KeyPairs.{KeyPair, pair, Plain, dsa_pair_at};
 ghost use Rattle.sshkey_model.specs.Mpints.{mpint_at};
 ghost use Rattle.sshkey_model.specs.Names.{Dsa};
 ghost use Rattle.sshkey_model.specs.Texts.{string};
 ghost use Rattle.sshkey_base.specs.Mpint.{SpellsMpint, mpint_grammar, mpint_of};
-ghost use Rattle.sshkey_pairs.specs.PairReaders.{SpellsPair, dsa_steps_at, dsa_grammar};
+ghost use Rattle.sshkey_pairs.specs.PairReaders.{SpellsPair, pair_grammar};
 ghost use Rattle.sshkey_pairs.specs.PrivateHalves.{dsa_private_of};
 
 use sshkey_base::{
     Decode, Encode, Error, Mpint, Reader, Result, Writer, both_len, encode_both, encoding,
 };
+use sshkey_format::Then;
 use sshkey_kinds::DsaPublicKey;
 use std::alloc::Global;
 use std::convert::AsSlice;
@@ -164,7 +166,7 @@ impl From<DsaKeypair> for DsaPublicKey {
 ///
 /// `Length` where a string passes what is left, and `FormatEncoding` where its bytes are those of
 /// no number.
-#[tactic(auto, using(sshkey_base::proofs::Steps::steps), unfolding(crate::specs::PairReaders::dsa_steps_at))]
+#[tactic(auto, using(sshkey_format::proofs::Mapped::mapped, crate::proofs::Parts::dsa_pair_parts_read))]
 impl Decode for DsaKeypair {
     ghost use Rattle.sshkey_pairs.specs.PairNeeds.{NeedsDsaPair};
     ghost use Rattle.sshkey_pairs.specs.Pairs.{dsa_pair_of};
@@ -175,17 +177,16 @@ impl Decode for DsaKeypair {
 
     ghost means = { dsa_pair_of };
 
-    ghost parse = { dsa_steps_at };
+    ghost parse = { value_at dsa_pair_at };
 
     ghost Spells = { SpellsPair Dsa };
 
     ghost needs = { NeedsDsaPair };
 
-    ghost grammar = { dsa_grammar };
+    ghost grammar = { pair_grammar Dsa };
 
     fn decode<R: Reader>(alloc: Global, reader: &mut R) -> Result<DsaKeypair> {
-        let public = DsaPublicKey::decode(alloc, reader)?;
-        let private = DsaPrivateKey::decode(alloc, reader)?;
+        let Then(public, private) = Then::<DsaPublicKey, DsaPrivateKey>::decode(alloc, reader)?;
         Ok(DsaKeypair { public, private })
     }
 }

@@ -7,6 +7,7 @@ ghost use Rattle.sshkey_model.specs.Names.{Rsa};
 ghost use Rattle.sshkey_pairs.specs.PairReaders.{SpellsPair, SpellsRsaPrivate, rsa_pair_at, rsa_private_at, rsa_private_grammar, pair_grammar};
 
 use sshkey_base::{Decode, Encode, Error, Mpint, Reader, Result, Writer, encoding};
+use sshkey_format::Then;
 use sshkey_kinds::RsaPublicKey;
 use std::alloc::Global;
 use std::fmt;
@@ -56,7 +57,7 @@ impl RsaPrivateKey {
 ///
 /// `Length` where a string passes what is left, and `FormatEncoding` where its bytes are those of
 /// no number.
-#[tactic(auto, using(sshkey_base::proofs::Steps::steps), unfolding(crate::specs::PairReaders::rsa_private_at))]
+#[tactic(auto, using(sshkey_format::proofs::Mapped::mapped, crate::proofs::Parts::rsa_private_parts_read))]
 impl Decode for RsaPrivateKey {
     ghost use Rattle.sshkey_pairs.specs.PairNeeds.{NeedsRsaPrivate};
     ghost use Rattle.sshkey_pairs.specs.PrivateHalves.{rsa_private_of};
@@ -76,10 +77,8 @@ impl Decode for RsaPrivateKey {
     ghost grammar = { rsa_private_grammar };
 
     fn decode<R: Reader>(alloc: Global, reader: &mut R) -> Result<RsaPrivateKey> {
-        let d = Mpint::decode(alloc, reader)?;
-        let iqmp = Mpint::decode(alloc, reader)?;
-        let p = Mpint::decode(alloc, reader)?;
-        let q = Mpint::decode(alloc, reader)?;
+        type Numbers = Then<Mpint, Then<Mpint, Then<Mpint, Mpint>>>;
+        let Then(d, Then(iqmp, Then(p, q))) = Numbers::decode(alloc, reader)?;
         Ok(RsaPrivateKey { d, iqmp, p, q })
     }
 }
@@ -156,7 +155,7 @@ impl From<RsaKeypair> for RsaPublicKey {
 ///
 /// `Length` where a string passes what is left, and `FormatEncoding` where its bytes are those of
 /// no number.
-#[tactic(auto, using(sshkey_base::proofs::Steps::steps), unfolding(crate::specs::PairReaders::rsa_pair_at))]
+#[tactic(auto, using(sshkey_format::proofs::Mapped::mapped, crate::proofs::Parts::rsa_pair_parts_read))]
 impl Decode for RsaKeypair {
     ghost use Rattle.sshkey_pairs.specs.PairNeeds.{NeedsRsaPair};
     ghost use Rattle.sshkey_pairs.specs.Pairs.{rsa_pair_of};
@@ -176,9 +175,8 @@ impl Decode for RsaKeypair {
     ghost grammar = { pair_grammar (Rsa None) };
 
     fn decode<R: Reader>(alloc: Global, reader: &mut R) -> Result<RsaKeypair> {
-        let n = Mpint::decode(alloc, reader)?;
-        let e = Mpint::decode(alloc, reader)?;
-        let private = RsaPrivateKey::decode(alloc, reader)?;
+        type Parts = Then<Mpint, Then<Mpint, RsaPrivateKey>>;
+        let Then(n, Then(e, private)) = Parts::decode(alloc, reader)?;
         Ok(RsaKeypair {
             public: RsaPublicKey { e, n },
             private,

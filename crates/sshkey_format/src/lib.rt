@@ -1,0 +1,19 @@
+//! The terms that a format is made of: a value behind another, a value in a string, and a value
+//! that fails with the wider error.
+//!
+//! Each term is a [`Decode`](sshkey_base::Decode), proved once, so that a record of several fields
+//! is one term and a pattern:
+//!
+//! ```text
+//! let Then(e, n) = Then::<Mpint, Mpint>::decode(alloc, reader)?;
+//! Ok(RsaPublicKey { e, n })
+//! ```
+#![tactic(auto)]
+
+mod boxed;
+mod then;
+mod wide;
+
+pub use boxed::Boxed;
+pub use then::Then;
+pub use wide::Wide;
