@@ -3,6 +3,7 @@ pub mod Boxes
 pub mod CombinedReaders
 pub mod Grammars
 pub mod Judging
+pub mod Mapped
 pub mod Places
 pub mod Steps
 pub mod Writing

@@ -7,3 +7,4 @@ pub use sshkey_base::{
     decode_whole, encode_both, encode_list, encode_string, encode_vec, length_from, list_len,
     string_len,
 };
+pub use sshkey_format::{Boxed, Then, Wide};
