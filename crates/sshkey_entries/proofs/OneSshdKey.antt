@@ -1,5 +1,5 @@
 -- sshd(8) reads one key of a line at most.
-use Rattle.std.proofs.Common.{◌≡◌, ◌⊎◌, ℕ, zero, suc, ◌<◌, ◌≤◌, ◌+◌, List, [], ◌∷◌, ◌++◌, length, drop, slice_index, Bool, true, false, cond, not, ne_eqb, None, Some, refl, sym, ap, subst, ◌∙◌, arith, tests, inl, inr, nat_lt, ◌==◌, ◌-◌}
+use Rattle.std.proofs.Common.{◌≡◌, ◌⊎◌, ℕ, zero, suc, ◌<◌, ◌+◌, List, [], ◌∷◌, ◌++◌, length, drop, slice_index, Bool, true, false, cond, not, ne_eqb, None, Some, refl, sym, ap, subst, ◌∙◌, arith, tests, inl, inr, nat_lt, ◌==◌, ◌-◌}
 use Rattle.std.proofs.lemmas.Bool.{and_parts}
 use Rattle.std.proofs.lemmas.List.{length-append, get_or_append_left, drop_at}
 use Rattle.std.proofs.Math.Seq.{get_or-append_seam}

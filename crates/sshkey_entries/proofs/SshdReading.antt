@@ -8,7 +8,7 @@ use Rattle.std.specs.Str.{IsAscii, chars, trim_end, drop_trailing_whitespace, en
 use Rattle.base64.specs.Engines.{standard}
 use Rattle.base64.specs.GeneralPurpose.{encode_of}
 use Rattle.sshkey_model.specs.Keys.{Key}
-use Rattle.sshkey_model.specs.Lines.{space, joined, after_space, key_name, IsKeyLine}
+use Rattle.sshkey_model.specs.Lines.{space, after_space, key_name, IsKeyLine}
 use Rattle.sshkey_entries.specs.AuthorizedKeys.{AuthorizedKey}
 use Rattle.sshkey_entries.specs.ConfigOptions.{AreOptions, is_option_character}
 use Rattle.sshkey_entries.specs.Entries.{uncommented}

@@ -7,10 +7,10 @@ use Rattle.sshkey_model.specs.LineExamples.{rsa_line}
 use Rattle.sshkey_model.proofs.LineExamples.{line_ends}
 use Rattle.sshkey_model.proofs.LineTests.{no_character}
 use Rattle.sshkey_entries.specs.AuthorizedKeys.{HasOptions}
-use Rattle.sshkey_entries.specs.Entries.{IsNoEntry, uncommented}
+use Rattle.sshkey_entries.specs.Entries.{uncommented}
 use Rattle.sshkey_entries.specs.EntryExamples.{Strict, StrictLines, authorized, no_break_space, quoted_line}
 use Rattle.sshkey_entries.specs.Items.{is_odd}
-use Rattle.sshkey_entries.specs.StrictReading.{is_ascii_space, is_blank, is_inside, AreAsciiSpaces, IsComment, IsLeftOut, IsReadStrictly, IsLineReadStrictly}
+use Rattle.sshkey_entries.specs.StrictReading.{is_ascii_space, is_blank, is_inside, AreAsciiSpaces, IsComment, IsLeftOut}
 use Rattle.sshkey_entries.proofs.EntryExamples.{with_comment, alone, behind}
 use Rattle.sshkey_entries.proofs.StrictReading.{strictly, not_inside}
 

@@ -1,7 +1,7 @@
 //! Hosts of lines of known_hosts.
 
-ghost use Rattle.std.specs.Prelude.{◌≡◌, ◌<◌, ◌∷◌, ◌++◌, ◌↔◌, [], length, EachIndex, slice_index_or, IsTrue, IfOk, IfErr, OnOk, string_bytes};
-ghost use Rattle.std.specs.List.{join_with_byte};
+ghost use Rattle.std.specs.Prelude.{◌≡◌, ◌<◌, ◌∷◌, ◌++◌, ◌↔◌, length, IsTrue, IfOk, IfErr, OnOk, string_bytes};
+ghost use Rattle.std.specs.List.{All, join_with_byte};
 ghost use Rattle.sshkey_base.specs.declared.error.Error.TheVariants as wide;
 ghost use Rattle.sshkey_entries.specs.Items.{patterns};
 ghost use Rattle.sshkey_entries.specs.KnownHosts.{IsHosts, comma, hosts_text};
@@ -190,7 +190,12 @@ fn copied(alloc: Global, texts: &[Text]) -> Result<Vec<Text>>
 
 /// Whether no text holds a line end.
 fn are_one_line(texts: &[Text]) -> bool
-    ensures { IsTrue result ↔ EachIndex texts.now (λ i. IsOneLine (slice_index_or texts.now i [])) }
+    ensures { IsTrue result ↔ All IsOneLine texts.now }
 {
-    texts.iter().all(|text| is_one_line(text.as_str()))
+    for text in texts {
+        if !is_one_line(text.as_str()) {
+            return false;
+        }
+    }
+    true
 }
