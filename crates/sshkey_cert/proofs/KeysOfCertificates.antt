@@ -1,5 +1,4 @@
 -- The keys of a well-formed certificate are well-formed.
-use Rattle.std.proofs.Common.{◌×◌}
 use Rattle.sshkey_model.specs.CertificateNames.{IsCertified}
 use Rattle.sshkey_model.specs.Certificates.{Certificate, IsCertificate}
 use Rattle.sshkey_model.specs.Keys.{IsKey}

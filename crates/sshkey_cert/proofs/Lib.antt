@@ -1,6 +1,7 @@
 pub mod CertificateFields
 pub mod NormalFits
 pub mod Given
+pub mod Finished
 pub mod Signing
 pub mod Lines
 pub mod OneLines

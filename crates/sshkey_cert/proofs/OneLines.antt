@@ -15,16 +15,15 @@ abbrev lacks : ℕ → List ℕ → Bool
 lacks other [] = true
 lacks other (c ∷ cs) = not (eqb c other) && lacks other cs
 
+first_without : (other c : ℕ) (cs : List ℕ) → not (eqb c other) ≡ true → IsWithout other cs → (i : ℕ) → i < length (c ∷ cs) → get_or (c ∷ cs) i 0 ≢ other
+first_without other c cs first later zero lt = λ same. let no : true ≡ false = sym first ∙ ap not (eq-eqb c other same) in absurd (cc no)
+first_without other c cs first later (suc i) lt = later i (omega (arith, lt))
+
 without : (other : ℕ) (b : List ℕ) → lacks other b ≡ true → IsWithout other b
 without other [] e = λ i lt. absurd (omega (arith, lt))
-without other (c ∷ cs) e = λ i. at i
-  where
-    parts : (not (eqb c other) ≡ true) × (lacks other cs ≡ true)
-    parts = and_parts (not (eqb c other)) (lacks other cs) e
-
-    at : (i : ℕ) → i < length (c ∷ cs) → get_or (c ∷ cs) i 0 ≢ other
-    at zero lt same = let no : true ≡ false = sym parts.0 ∙ ap not (eq-eqb c other same) in absurd (cc no)
-    at (suc i) lt = without other cs parts.1 i (omega (arith, lt))
+without other (c ∷ cs) e =
+    let parts = and_parts (not (eqb c other)) (lacks other cs) e in
+    first_without other c cs parts.0 (without other cs parts.1)
 
 plain : (b : List ℕ) → lacks line_feed b ≡ true → lacks carriage_return b ≡ true → IsOneLine b
 plain b feed carriage = (without line_feed b feed, without carriage_return b carriage)

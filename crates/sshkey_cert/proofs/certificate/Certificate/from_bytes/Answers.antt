@@ -1,4 +1,4 @@
-use Rattle.std.proofs.Common.{ap, ◌∙◌}
+use Rattle.std.proofs.Common.{Ok, ap, ◌∙◌}
 use Rattle.std.proofs.lemmas.Result.{err_from_is_err_and}
 use Rattle.sshkey_base.specs.Causes.{cause, same_cause}
 use Rattle.sshkey_base.specs.Source.{all_of}
@@ -6,6 +6,7 @@ use Rattle.sshkey_base.proofs.Accepted.{accepts_whole, finish_refused, finish_as
 use Rattle.sshkey_base.proofs.Steps.{refused_first}
 use Rattle.sshkey_cert.specs.CertificateReaders.{certificate_grammar, certificate_value_at}
 use Rattle.sshkey_cert.specs.CertificateValues.{certificate_of}
+use Rattle.sshkey_cert.proofs.Finished.{finished}
 use Rattle.sshkey_cert.proofs.certificate.Certificate.from_bytes.Goals as goal
 
 pub returns-in_err-certificate-clause-gives : goal.returns-in_err-certificate-clause-gives
@@ -33,3 +34,9 @@ pub returns-in_err-finish-clause-asks : goal.returns-in_err-finish-clause-asks
 returns-in_err-finish-clause-asks c =
     let p = err_from_is_err_and c.from_residual-in_err-finish.result c.from_residual-in_err-finish.ensures.1 in
     rw p.1 (λ memory _. finish_asks certificate_of cause certificate_value_at _ _ _ _ c.in_err-finish.ensures (ap cause p.2 ∙ same_cause _) memory)
+
+pub returns-clause-gives : goal.returns-clause-gives
+returns-clause-gives c = finished certificate_of certificate_value_at (all_of c.args.bytes.now) _ _ _ _ c.in_ok-certificate.ensures.gives c.in_ok-finish.ensures
+
+pub returns-clause-accepts : goal.returns-clause-accepts
+returns-clause-accepts c = accepts_whole certificate_grammar certificate_of cause (all_of c.args.bytes.now) (Ok c.in_ok-finish.field-0) (returns-clause-gives c)
