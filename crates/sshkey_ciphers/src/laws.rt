@@ -7,7 +7,6 @@ ghost use Rattle.sshkey_ciphers.specs.Comparisons.{cipher_key, kdf_algorithm_key
 use crate::cipher::Cipher;
 use crate::kdf::Kdf;
 use crate::kdf_alg::KdfAlg;
-
 pub use sshkey_model::laws::private::{prefix_cipher, prefix_kdf, prefix_kdf_name};
 
 /// Two ciphers are equal exactly if they mean the same, and they are ordered as they are listed.

@@ -10,11 +10,10 @@ use crate::opaque::{OpaqueKeypair, OpaqueKeypairBytes, OpaquePrivateKeyBytes};
 use crate::sk_ecdsa::SkEcdsaSha2NistP256;
 use crate::sk_ed25519::SkEd25519;
 use sshkey_kinds::laws::{compared_sk_ecdsa_keys, compared_sk_ed25519_keys};
+pub use sshkey_model::laws::private::{prefix_keypair, prefix_pair};
 use sshkey_pairs::laws::{
     equal_dsa_pairs, equal_ecdsa_pairs, equal_ed25519_pairs, equal_rsa_pairs,
 };
-
-pub use sshkey_model::laws::private::{prefix_keypair, prefix_pair};
 
 /// Two P-256 pairs of security keys are equal exactly if they mean the same.
 pub fn equal_sk_ecdsa_pairs()

@@ -13,7 +13,6 @@ use crate::key_data::KeyData;
 use crate::signature::Signature;
 use sshkey_kinds::laws;
 use sshkey_model::laws::normal_keys;
-
 pub use sshkey_model::laws::{prefix_key, prefix_signature};
 
 /// No spelling of a key begins another: what follows it does not matter, and it is that of one key.

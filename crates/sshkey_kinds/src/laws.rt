@@ -11,7 +11,6 @@ use crate::ed25519::Ed25519PublicKey;
 use crate::opaque::{OpaquePublicKey, OpaquePublicKeyBytes};
 use crate::rsa::RsaPublicKey;
 use crate::sk::{SkEcdsaSha2NistP256, SkEd25519};
-
 pub use sshkey_model::laws::{prefix_body, prefix_point};
 
 /// Two DSA keys are equal exactly if they mean the same, and they are ordered by p, q, g and y.

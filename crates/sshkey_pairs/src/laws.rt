@@ -8,7 +8,6 @@ use crate::dsa::{DsaKeypair, DsaPrivateKey};
 use crate::ecdsa::{EcdsaKeypair, EcdsaPrivateKey};
 use crate::ed25519::{Ed25519Keypair, Ed25519PrivateKey};
 use crate::rsa::{RsaKeypair, RsaPrivateKey};
-
 pub use sshkey_model::laws::private::{
     prefix_ecdsa_pair, prefix_pair, prefix_rsa_private, prefix_scalar,
 };

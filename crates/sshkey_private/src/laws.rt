@@ -6,9 +6,8 @@ ghost use Rattle.sshkey_private.specs.Comparisons.{IsBesideKey, seen};
 use crate::private_key::PrivateKey;
 use sshkey_ciphers::laws::{compared_ciphers, equal_kdfs};
 use sshkey_keypairs::laws::equal_pairs;
-use sshkey_public::laws::compared_public_keys;
-
 pub use sshkey_model::laws::private::prefix_private_key;
+use sshkey_public::laws::compared_public_keys;
 
 /// Two private keys that are equal have the same cipher and derivation, public keys that mean the
 /// same with one comment, and the same pair or ciphertext; two beside well-formed public keys are
