@@ -38,12 +38,15 @@ cut_behind : (text spaces comment rest : List ℕ) (blank : ℕ) → text ≡ sp
 cut_behind text spaces comment rest blank is e = is ∙ ap (λ (l : List ℕ). spaces ++ l) e ∙ sym (append_assoc spaces (blank ∷ []) (hash ∷ rest))
 
 pub left_out_none : (text : List ℕ) → IsSplitOnceResult hash text None → (AreAsciiSpaces text → IsLeftOut text) × (IsLeftOut text → AreAsciiSpaces text)
-left_out_none text none = (inl, λ left. elim left [
-  | inl white ↦ white
-  | inr x ↦
-    let c = x.4 in
-    absurd (split_after hash text (x.0 ++ (c.0 ∷ [])) c.1 None none (omega arith) (cut_behind text x.0 x.1 c.1 c.0 x.2 c.2) (no_hash_before x.0 c.0 x.3 c.3))
-])
+left_out_none text none = (
+  inl,
+  λ left. elim left [
+    | inl white ↦ white
+    | inr x ↦
+        let c = x.4 in
+        absurd (split_after hash text (x.0 ++ (c.0 ∷ [])) c.1 None none (omega arith) (cut_behind text x.0 x.1 c.1 c.0 x.2 c.2) (no_hash_before x.0 c.0 x.3 c.3))
+  ],
+)
 
 pub left_out_some : (text : List ℕ) (front rest : Bor (List ℕ)) → IsSplitOnceResult hash text (Some (front, rest)) → (AreSpacesAndBlank front.now → IsLeftOut text) × (IsLeftOut text → AreSpacesAndBlank front.now)
 left_out_some text front rest cut =
@@ -51,11 +54,11 @@ left_out_some text front rest cut =
       λ f. inr (f.0, f.1 ∷ hash ∷ rest.now, parts.0 ∙ ap (λ (l : List ℕ). l ++ (hash ∷ rest.now)) f.2 ∙ append_assoc f.0 (f.1 ∷ []) (hash ∷ rest.now), f.3, (f.1, rest.now, refl, f.4)),
       λ left. elim left [
         | inl white ↦
-          let here : slice_index text (length front.now) ≡ hash = ap (λ (l : List ℕ). slice_index l (length front.now)) parts.0 ∙ get_or-append_seam front.now hash rest.now 0 in
-          absurd (no_hash text white (length front.now) (omega (arith, ap length parts.0, length-append front.now (hash ∷ rest.now))) here)
+            let here : slice_index text (length front.now) ≡ hash = ap (λ (l : List ℕ). slice_index l (length front.now)) parts.0 ∙ get_or-append_seam front.now hash rest.now 0 in
+            absurd (no_hash text white (length front.now) (omega (arith, ap length parts.0, length-append front.now (hash ∷ rest.now))) here)
         | inr x ↦
-          let c = x.4 in
-          let same = split_after hash text (x.0 ++ (c.0 ∷ [])) c.1 (Some (front, rest)) cut (omega arith) (cut_behind text x.0 x.1 c.1 c.0 x.2 c.2) (no_hash_before x.0 c.0 x.3 c.3) in
-          (x.0, c.0, same.0, x.3, c.3)
+            let c = x.4 in
+            let same = split_after hash text (x.0 ++ (c.0 ∷ [])) c.1 (Some (front, rest)) cut (omega arith) (cut_behind text x.0 x.1 c.1 c.0 x.2 c.2) (no_hash_before x.0 c.0 x.3 c.3) in
+            (x.0, c.0, same.0, x.3, c.3)
       ],
     )

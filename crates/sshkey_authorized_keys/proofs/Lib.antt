@@ -2,3 +2,4 @@ pub mod Dividers
 pub mod Options
 pub mod LeftOut
 pub mod Strictly
+pub mod OneLine

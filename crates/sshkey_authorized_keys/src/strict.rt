@@ -1,7 +1,8 @@
 //! Whether sshd(8) reads the key of a line that is read here.
 
-ghost use Rattle.std.specs.Prelude.{◌≡◌, ◌<◌, ◌≤◌, ◌↔◌, length, IsTrue};
+ghost use Rattle.std.specs.Prelude.{◌≡◌, ◌<◌, ◌≤◌, ◌↔◌, length, slice_index, IsTrue};
 ghost use Rattle.sshkey_authorized_keys.specs.LeftOut.{AreSpacesAndBlank};
+ghost use Rattle.sshkey_entries.specs.Entries.{hash};
 ghost use Rattle.sshkey_entries.specs.StrictReading.{is_mark, is_inside, is_blank, is_ascii_space, AreAsciiSpaces, EndsInAscii, IsLeftOut};
 
 fn is_mark(line: &[u8], place: usize) -> bool
@@ -41,6 +42,13 @@ fn are_ascii_spaces(text: &[u8]) -> bool
     ensures { IsTrue result ↔ AreAsciiSpaces text.now }
 {
     text.iter().all(|byte| is_ascii_space(*byte))
+}
+
+/// Whether the line is a comment to sshd(8).
+pub(crate) fn is_comment(line: &str) -> bool
+    ensures { IsTrue result ↔ (slice_index line.now 0 ≡ hash) }
+{
+    line.starts_with('#')
 }
 
 /// Whether the white space at the end of the text is all ASCII.

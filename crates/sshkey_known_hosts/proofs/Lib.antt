@@ -1,3 +1,4 @@
 pub mod Hosts
 pub mod Joins
 pub mod Marked
+pub mod OneLine

@@ -1,6 +1,6 @@
 //! Entries of known_hosts.
 
-ghost use Rattle.std.specs.Prelude.{◌≡◌, IfErr, IfOk, string_bytes};
+ghost use Rattle.std.specs.Prelude.{◌≡◌, ◌↔◌, IsTrue, IfErr, IfOk, string_bytes};
 ghost use Rattle.sshkey_base.specs.declared.error.Error.TheVariants as wide;
 ghost use Rattle.sshkey_entries.specs.KnownHosts.{KnownHost, IsKnownHost, known_text};
 ghost use Rattle.sshkey_files.specs.Answers.{ReadsEntry, RefusesFor};
@@ -8,6 +8,7 @@ ghost use Rattle.sshkey_known_hosts.specs.HostEntries.{key_in, hosts_in, known_h
 ghost use Rattle.sshkey_known_hosts.specs.HostFaults.{HasFault};
 ghost use Rattle.sshkey_files.specs.MadeTexts.{MakesEntry};
 ghost use Rattle.sshkey_keys.specs.Keys.{algorithm_beside};
+ghost use Rattle.sshkey_public.specs.OneLine.{IsOneLine};
 ghost use Rattle.sshkey_public.specs.PublicKeys.{data_of};
 
 use crate::host_patterns::HostPatterns;
@@ -121,7 +122,8 @@ impl Entry {
     /// key's line in its normal form.
     ///
     /// Exactly where a part of the key is longer than 2^32 - 1 bytes, the answer is `Length`;
-    /// otherwise it is refused only when out of memory.
+    /// otherwise it is refused only when out of memory. Hosts and comment may hold line ends: see
+    /// `is_one_line`.
     pub fn to_string(&self, alloc: Global) -> Result<String>
         ensures { MakesEntry (known_host_of self.now).key
             (known_text (known_host_of self.now)) result }
@@ -132,6 +134,17 @@ impl Entry {
         text.push(' ')?;
         text.push_str(&key_line)?;
         Ok(text)
+    }
+
+    /// Whether `to_string` writes one line: no line feed and no carriage return stands in it. Takes
+    /// no memory.
+    ///
+    /// The hosts and the comment of an entry that was read, and its key's name, may hold line ends.
+    /// So ask before an entry is added to a file: behind a line end stands another entry.
+    pub fn is_one_line(&self) -> bool
+        ensures { IsTrue result ↔ IsOneLine (known_text (known_host_of self.now)) }
+    {
+        self.host_patterns.is_one_line() && self.public_key.is_one_line()
     }
 
     /// The same in memory of its own. Refused only when out of memory.

@@ -1,17 +1,19 @@
 //! Hosts of lines of known_hosts.
 
-ghost use Rattle.std.specs.Prelude.{◌≡◌, ◌<◌, ◌∷◌, ◌++◌, length, IfOk, IfErr, OnOk, string_bytes};
-ghost use Rattle.std.specs.List.{join_with_byte};
+ghost use Rattle.std.specs.Prelude.{◌≡◌, ◌<◌, ◌∷◌, ◌++◌, ◌↔◌, length, IsTrue, IfOk, IfErr, OnOk, string_bytes};
+ghost use Rattle.std.specs.List.{All, join_with_byte};
 ghost use Rattle.sshkey_base.specs.declared.error.Error.TheVariants as wide;
 ghost use Rattle.sshkey_entries.specs.Items.{patterns};
 ghost use Rattle.sshkey_entries.specs.KnownHosts.{IsHosts, comma, hosts_text};
 ghost use Rattle.sshkey_files.specs.Answers.{ReadsEntry};
+ghost use Rattle.sshkey_public.specs.OneLine.{IsOneLine};
 ghost use Rattle.sshkey_known_hosts.specs.HostEntries.{hosts_of, ReadsHashed, ReadsPatterns, ReadsWord};
 ghost use Rattle.sshkey_known_hosts.specs.HostFaults.{RefusesHosts};
 
 use base64::DecodeAllocError;
 use base64::engine::general_purpose::STANDARD;
 use sshkey_base::{Bytes, Error, Result, Text, encoding};
+use sshkey_public::is_one_line;
 use std::alloc::Global;
 
 /// The hosts of a line (sshd(8), "SSH_KNOWN_HOSTS FILE FORMAT").
@@ -95,6 +97,17 @@ impl HostPatterns {
         }
     }
 
+    /// Whether `to_string` writes one line: no pattern holds a line feed or a carriage return. Takes
+    /// no memory.
+    pub fn is_one_line(&self) -> bool
+        ensures { IsTrue result ↔ IsOneLine (hosts_text (hosts_of self.now)) }
+    {
+        match self {
+            HostPatterns::Patterns(patterns) => are_one_line(patterns),
+            HostPatterns::HashedName { .. } => true,
+        }
+    }
+
     /// The same in memory of its own. Refused only when out of memory.
     pub fn try_clone(&self, alloc: Global) -> Result<HostPatterns>
         ensures value { IfOk result (λ h. hosts_of h ≡ hosts_of self.now) }
@@ -173,4 +186,16 @@ fn copied(alloc: Global, texts: &[Text]) -> Result<Vec<Text>>
         copies.push(text.try_clone(alloc)?)?;
     }
     Ok(copies)
+}
+
+/// Whether no text holds a line end.
+fn are_one_line(texts: &[Text]) -> bool
+    ensures { IsTrue result ↔ All IsOneLine texts.now }
+{
+    for text in texts {
+        if !is_one_line(text.as_str()) {
+            return false;
+        }
+    }
+    true
 }

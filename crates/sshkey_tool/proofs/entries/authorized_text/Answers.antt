@@ -4,7 +4,7 @@ use Rattle.sshkey_tool.proofs.ShownEntries.{writes_authorized}
 use Rattle.sshkey_tool.proofs.entries.authorized_text.Goals as goal
 
 pub returns-in_err-entry : goal.returns-in_err-entry
-returns-in_err-entry c = let p = err_from_is_err_and c.from_residual.result c.from_residual.ensures.1 in rw (p.1, p.2) c.in_err-entry.ensures
+returns-in_err-entry c = let p = err_from_is_err_and c.from_residual.result c.from_residual.ensures.1 in rw (p.1, p.2) c.in_err-entry.ensures.reads
 
 pub returns : goal.returns
-returns c = writes_authorized c.args.line.now (authorized_key_of c.in_ok-entry.entry) c.to_string.result c.in_ok-entry.ensures c.to_string.ensures
+returns c = writes_authorized c.args.line.now (authorized_key_of c.in_ok-entry.entry) c.to_string.result c.in_ok-entry.ensures.reads c.to_string.ensures

@@ -9,3 +9,9 @@ returns-in_err-entry-clause-reads c = let p = err_from_is_err_and c.from_residua
 
 pub returns-in_err-entry-clause-fault : goal.returns-in_err-entry-clause-fault
 returns-in_err-entry-clause-fault c = let p = err_from_is_err_and c.from_residual.result c.from_residual.ensures.1 in rw (p.1, p.2) (λ other. none_fault c.args.line.now _ (c.in_err-entry.ensures.reads other) (c.in_err-entry.ensures.fault other))
+
+pub returns-then-not-is_read_strictly-clause-reads : goal.returns-then-not-is_read_strictly-clause-reads
+returns-then-not-is_read_strictly-clause-reads c = λ _. not_strictly c.args.line.now _ c.in_ok-entry.ensures.reads (λ s. cc (sym c.if-not-is_read_strictly.true ∙ c.is_read_strictly.ensures.1 s))
+
+pub returns-then-not-is_read_strictly-clause-fault : goal.returns-then-not-is_read_strictly-clause-fault
+returns-then-not-is_read_strictly-clause-fault c = λ _. strict_fault c.args.line.now _ c.in_ok-entry.ensures.reads
