@@ -89,7 +89,10 @@ impl Certificate {
         ensures { IsTrue result
             ↔ IsOneLine (certificate_line (certificate_of self.now) (comment_of self.now)) }
     {
-        makes_one_line(self.unsigned.public_key.algorithm_name(), self.comment.as_str())
+        makes_one_line(
+            self.unsigned.public_key.algorithm_name(),
+            self.comment.as_str(),
+        )
     }
 
     /// The name of the key's algorithm in certificates. Refused only when out of memory.
