@@ -1,5 +1,6 @@
 use Rattle.std.proofs.Common.{◌≡◌, ◌≢◌, ℕ, List, [], ◌∷◌, length, Bool, true, false, Result, Ok, Err, inl, inr, sym, subst, ◌∙◌, arith}
 use Rattle.std.specs.Prelude.{◌==◌, Contains, String, map, string_bytes}
+use Rattle.std.proofs.lemmas.Bool.{eqb-true}
 use Rattle.ssh_key.specs.base.Causes.{NoMemory, cause}
 use Rattle.ssh_key.specs.types.Error.{Error}
 use Rattle.ssh_key.specs.types.Error.TheVariants.{Memory}
@@ -24,7 +25,7 @@ listed (n ∷ names) c user is some (inr among) = among
 -- one that lists nobody lists no user
 unlisted : {Y : Type 0} (names : List (String Y)) (c : Certificate) (user : List ℕ) → map string_bytes names ≡ c.signed.valid_principals → (length names == 0) ≡ true → Contains c.signed.valid_principals user → ⊥
 unlisted [] c user is none among = let at = subst (λ (l : List (List ℕ)). Contains l user) (sym is) among in omega (arith, at.1)
-unlisted (n ∷ names) c user is none among = absurd cc
+unlisted (n ∷ names) c user is none among = let e = eqb-true (length (n ∷ names)) 0 none in omega (arith, e)
 
 -- so nobody is let in
 pub lets_nobody_in : {Y : Type 0} (accepts : Question → Bool) (authorities : List Fingerprint) (t : ℕ) (user : List ℕ) (c : Certificate) (names : List (String Y)) → map string_bytes names ≡ c.signed.valid_principals → (length names == 0) ≡ true → LetsIn accepts authorities t user c → ⊥

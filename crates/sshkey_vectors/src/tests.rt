@@ -15,6 +15,7 @@ mod keys;
 mod kinds;
 mod laws;
 mod lines;
+mod lists;
 mod made_pairs;
 mod names;
 mod openssh;
