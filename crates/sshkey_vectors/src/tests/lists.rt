@@ -2,44 +2,32 @@
 
 use ssh_key::certificate::{OptionsRef, TextsRef};
 
-/// Whether a `for` over the texts, and over what is lent of them, gives these, in order.
+/// Whether a `for` over the texts gives these, in order.
 fn are_texts(bytes: &[u8], expected: &[&str]) -> bool {
     let Ok(texts) = TextsRef::from_bytes(bytes) else {
         return false;
     };
     let mut wanted = expected.iter();
-    for text in &texts {
+    for text in texts {
         if wanted.next() != Some(&text) {
             return false;
         }
     }
-    let mut again = expected.iter();
-    for text in texts {
-        if again.next() != Some(&text) {
-            return false;
-        }
-    }
-    wanted.next().is_none() && again.next().is_none()
+    wanted.next().is_none()
 }
 
-/// Whether a `for` over the options, and over what is lent of them, gives these names, in order.
+/// Whether a `for` over the options gives these names, in order.
 fn are_names(bytes: &[u8], expected: &[&str]) -> bool {
     let Ok(options) = OptionsRef::from_bytes(bytes) else {
         return false;
     };
     let mut wanted = expected.iter();
-    for (name, _) in &options {
+    for (name, _) in options {
         if wanted.next() != Some(&name) {
             return false;
         }
     }
-    let mut again = expected.iter();
-    for (name, _) in options {
-        if again.next() != Some(&name) {
-            return false;
-        }
-    }
-    wanted.next().is_none() && again.next().is_none()
+    wanted.next().is_none()
 }
 
 #[test]
