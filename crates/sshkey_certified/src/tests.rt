@@ -4,4 +4,6 @@ mod certificates;
 mod certified;
 mod hashed_authorities;
 mod issued;
+mod setters;
 mod slices;
+mod times;
