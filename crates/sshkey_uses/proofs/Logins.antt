@@ -1,6 +1,5 @@
-use Rattle.std.proofs.Common.{◌≡◌, ◌≢◌, ℕ, List, [], ◌∷◌, length, Bool, true, false, Result, Ok, Err, inl, inr, sym, subst, ◌∙◌, arith}
+use Rattle.std.proofs.Common.{◌≡◌, ◌≢◌, ℕ, List, [], ◌∷◌, length, Bool, false, Result, Ok, Err, inl, inr, subst}
 use Rattle.std.specs.Prelude.{◌==◌, Contains, String, map, string_bytes}
-use Rattle.std.proofs.lemmas.Bool.{eqb-true}
 use Rattle.ssh_key.specs.base.Causes.{NoMemory, cause}
 use Rattle.ssh_key.specs.types.Error.{Error}
 use Rattle.ssh_key.specs.types.Error.TheVariants.{Memory}
@@ -21,15 +20,6 @@ listed : {Y : Type 0} (names : List (String Y)) (c : Certificate) (user : List �
 listed [] c user is some allowed = absurd cc
 listed (n ∷ names) c user is some (inl none) = absurd cc
 listed (n ∷ names) c user is some (inr among) = among
-
--- one that lists nobody lists no user
-unlisted : {Y : Type 0} (names : List (String Y)) (c : Certificate) (user : List ℕ) → map string_bytes names ≡ c.signed.valid_principals → (length names == 0) ≡ true → Contains c.signed.valid_principals user → ⊥
-unlisted [] c user is none among = let at = subst (λ (l : List (List ℕ)). Contains l user) (sym is) among in omega (arith, at.1)
-unlisted (n ∷ names) c user is none among = let e = eqb-true (length (n ∷ names)) 0 none in omega (arith, e)
-
--- so nobody is let in
-pub lets_nobody_in : {Y : Type 0} (accepts : Question → Bool) (authorities : List Fingerprint) (t : ℕ) (user : List ℕ) (c : Certificate) (names : List (String Y)) → map string_bytes names ≡ c.signed.valid_principals → (length names == 0) ≡ true → LetsIn accepts authorities t user c → ⊥
-lets_nobody_in accepts authorities t user c names is none lets = unlisted names c user is none lets.listed
 
 -- the validation decides
 pub lets_in : {Y : Type 0} (accepts : Question → Bool) (given : List code.Fingerprint) (t : ℕ) (user : List ℕ) (c : Certificate) (names : List (String Y)) → c.signed.certificate_type ≡ User → c.signed.critical_options ≡ [] → map string_bytes names ≡ c.signed.valid_principals → (length names == 0) ≡ false → (r : Result (Unit {0}) Error) → JudgesFor accepts given t user c r → AcceptsExactly (LetsIn accepts (fingerprints_of given) t user c) r

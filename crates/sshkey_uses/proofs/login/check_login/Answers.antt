@@ -1,6 +1,6 @@
 use Rattle.std.proofs.Common.{sym, ◌∙◌}
 use Rattle.ssh_key.specs.cert.CertificateValues.{certificate_of}
-use Rattle.sshkey_uses.proofs.Logins.{lets_in, lets_nobody_in}
+use Rattle.sshkey_uses.proofs.Logins.{lets_in}
 use Rattle.sshkey_uses.proofs.login.check_login.Goals as goal
 
 pub returns : goal.returns
