@@ -1,5 +1,5 @@
 -- A length, and a part of that length that is read whole.
-use Rattle.std.proofs.Common.{◌≡◌, ℕ, ◌-◌, ◌<◌, ◌≤◌, List, [], ◌∷◌, length, take, drop, Result, Ok, Err, refl, sym, ap, ◌∙◌, arith, inl, inr}
+use Rattle.std.proofs.Common.{◌≡◌, ◌⊎◌, IsOk, ℕ, ◌+◌, ◌-◌, ◌<◌, ◌≤◌, List, [], ◌∷◌, length, take, drop, Result, Ok, Err, refl, sym, ap, ◌∙◌, arith, inl, inr}
 use Rattle.std.proofs.lemmas.Bool.{le-ltb, lt-ltb, cases_lt}
 use Rattle.std.proofs.lemmas.List.{length-take}
 use Rattle.std.proofs.lemmas.Result.{err_from_is_err_and}
@@ -11,9 +11,12 @@ use Rattle.sshkey_base.specs.declared.encoding.Error.{Error}
 use Rattle.sshkey_base.specs.declared.encoding.Error.TheVariants as encoding
 use Rattle.sshkey_base.specs.Causes.{Cause, NoMemory, Faulty, encoding_cause}
 use Rattle.sshkey_base.specs.Source.{Outer, Source, IsSound, announced_len, part}
-use Rattle.sshkey_base.specs.Reading.{Reads, Refuses, IsRefused, Gives, GivesAlways, LengthPast}
-use Rattle.sshkey_base.specs.Needs.{Asks, NeedsBoxed}
-use Rattle.sshkey_base.specs.Nested.{ReadsBy, AsksBy, Calls, Past, Trails, Finishes, NoLength, Prefixed, PastIs}
+use Rattle.sshkey_base.specs.Reading.{Reads, Refuses, IsRefused, Gives, GivesAlways}
+use Rattle.sshkey_base.specs.Needs.{Asks, NeedsString, NeedsBoxed}
+use Rattle.sshkey_base.specs.Stops.{OverrunsString, OverrunsBoxed, AreLengths, RanOut, Stopped, StopsBy}
+use Rattle.sshkey_base.specs.Nested.{ReadsBy, AsksBy, Calls, Past, Trails, Finishes, NoLength, Prefixed}
+use Rattle.sshkey_base.proofs.Judging.{only_memory}
+use Rattle.sshkey_base.proofs.Stopping.{passes, step_ok, not_taken, refused_stopped}
 use Rattle.sshkey_base.proofs.Steps.{never_asks, refuses_first, refuses_sound, gives_sound}
 
 -- the head of the readers around, apart from where it lies
@@ -79,6 +82,65 @@ module _ {X Y : Type 0} (means : X → Y) (read : Front Y) (s t : Source) (n : �
         outer = outer.1 ∙ a.outer;
       }
 
+-- How the call stops that reads a box.
+module _ {Y : Type 0} (read : Front Y) where
+  -- a length that was announced does not pass
+  within_not : (n : ℕ) (s t : Source) → Reads (λ k. k) (number_at w32) s n t → n ≤ announced_len t → OverrunsString s.left s.missing → ⊥
+  within_not n s t a le o = let lt = passes n s t a o in omega arith
+
+  module _ (needs overruns : List ℕ → ℕ → Type 0) where
+    no_length : {Z : Type 0} (s : Source) (c : Cause) → Refuses s.missing c (number_at w32 s.left) → OverrunsBoxed overruns s.left s.missing → Z
+    no_length s c h (inl o) = absurd (rw h.is at o)
+    no_length s c h (inr o) = absurd (rw h.is at o)
+
+    box_stopped : (c : Cause) (s t : Source) (n name : ℕ) → Reads (λ k. k) (number_at w32) s n t → n ≤ announced_len t → Stopped c read needs overruns (part name n t) → Stopped c (box_at (whole read)) (NeedsBoxed needs) (OverrunsBoxed overruns) s
+    unfolding box_at
+    box_stopped c s t n name a le k = record {
+      takes = λ ok. more (k.takes (inner_ok ok));
+      past = go;
+    }
+      where
+        more : RanOut c needs (part name n t) → RanOut c (NeedsBoxed needs) s
+        more m = record { memory = m.memory; needed = rw (a.value, ← a.missing) (le, m.needed) }
+
+        inner_ok : IsOk (box_at (whole read) s.left) → IsOk (read (take n t.left))
+        inner_ok ok = elim (cases_lt (length t.left) n) [
+          | inl lt ↦ not_taken (box_at (whole read) s.left) Length (rw (a.value, lt-ltb _ _ lt) refl) ok
+          | inr ge ↦ step_ok (read (take n t.left)) _ (step_ok (whole read (take n t.left)) _ (rw (a.value, le-ltb _ _ ge) at ok))
+        ]
+
+        go : OverrunsBoxed overruns s.left s.missing → (c ≡ Faulty Length) ⊎ RanOut c (NeedsBoxed needs) s
+        go (inl o) = absurd (within_not n s t a le o)
+        go (inr o) =
+            let i : (n ≤ length t.left + s.missing) × overruns (take n t.left) (n - length t.left) = rw a.value at o in
+            elim (k.past i.1) [
+              | inl is ↦ inl is
+              | inr m ↦ inr (more m)
+            ]
+
+    took : {X Z : Type 0} (means : X → Y) (s t : Source) (n name other rest : ℕ) (u : Source) (x : X) → AreLengths read overruns → Reads (λ k. k) (number_at w32) s n t → n ≤ announced_len t → Reads means read (part name n t) x (part other rest u) → OverrunsBoxed overruns s.left s.missing → Z
+    took means s t n name other rest u x never a le h (inl o) = absurd (within_not n s t a le o)
+    took means s t n name other rest u x never a le h (inr o) =
+        let i : (n ≤ length t.left + s.missing) × overruns (take n t.left) (n - length t.left) = rw a.value at o in
+        let e = never _ _ i.1 in
+        let v = h.value in
+        absurd cc
+
+  box_stopped_outside : (c : Cause) (s t : Source) (n name : ℕ) → Reads (λ k. k) (number_at w32) s n t → n ≤ announced_len t → IsRefused (n - length t.left) c (read (take n t.left)) → Stopped c (box_at (whole read)) NeedsString OverrunsString s
+  unfolding box_at
+  box_stopped_outside c s t n name a le k = record {
+    takes = λ ok. elim (cases_lt (length t.left) n) [
+      | inl lt ↦ not_taken (box_at (whole read) s.left) Length (rw (a.value, lt-ltb _ _ lt) refl) ok
+      | inr ge ↦
+          let inner : IsOk (read (take n t.left)) = step_ok (read (take n t.left)) _ (step_ok (whole read (take n t.left)) _ (rw (a.value, le-ltb _ _ ge) at ok)) in
+          record {
+            memory = only_memory c (λ other. let f = err_from_is_err_and (read (take n t.left)) (k.fault other (omega (arith, ge))) in not_taken (read (take n t.left)) f.0 f.1 inner);
+            needed = rw (a.value, ← a.missing) le;
+          }
+    ];
+    past = λ o. absurd (within_not n s t a le o);
+  }
+
 -- A call of a closure over a part, seen as reading a box.
 module _ {F N T E Y : Type 0} (call : Once F (MutBor N × Unit {0}) (Result T E × (MutBor N × Unit {0}))) (source : N → Source) (from_gives : Error → E → Type 0) (cause : E → Cause) (f : F) (means : T → Y) (read : Front Y) (keeps : (x : Error) (e : E) → from_gives x e → cause e ≡ encoding_cause x) where
   module _ (by : ReadsBy call source cause f means read) where
@@ -136,12 +198,22 @@ module _ {F N T E Y : Type 0} (call : Once F (MutBor N × Unit {0}) (Result T E 
     prefixed_gives_always s u (Err e) (inr (inr (inl h))) = always_calls s e h
     prefixed_gives_always s u (Err e) (inr (inr (inr h))) = of_trails also s e h
 
+    pub prefixed_stops_always : (needs : List ℕ → ℕ → Type 0) (s u : Source) (r : Result T E) → Prefixed call source from_gives f s r u → StopsBy cause (box_at (whole read)) needs OverrunsString s r
+    prefixed_stops_always needs s u (Ok x) h = tt
+    prefixed_stops_always needs s u (Err e) h = refused_stopped _ _ _ _ s (prefixed_gives_always s u (Err e) h) (past_of h)
+      where
+        past_of : Prefixed call source from_gives f s (Err e) u → OverrunsString s.left s.missing → cause e ≡ Faulty Length
+        past_of (inl h) o = no_length read needs (λ _ _. ⊥) s _ h.refused (inl o)
+        past_of (inr (inl h)) o = keeps encoding.Length e h.is
+        past_of (inr (inr (inl h))) o = absurd (within_not read h.len s h.after h.number h.within o)
+        past_of (inr (inr (inr h))) o = absurd (within_not read h.calls.len s h.calls.after h.calls.number h.calls.within o)
+
   -- Memory is asked for behind a length that is there.
-  module _ (needs : List ℕ → Type 0) (by : AsksBy call source cause f needs) where
-    asks_inside : (s : Source) (e : E) (h : Calls call source from_gives f s (Err e)) → cause e ≡ NoMemory → IsSound s → NeedsBoxed needs s.left
+  module _ (needs : List ℕ → ℕ → Type 0) (by : AsksBy call source cause f needs) where
+    asks_inside : (s : Source) (e : E) (h : Calls call source from_gives f s (Err e)) → cause e ≡ NoMemory → IsSound s → NeedsBoxed needs s.left s.missing
     asks_inside s e h memory sound =
         let m = h.number.missing in
-        let a : cause e ≡ NoMemory → IsSound (part h.name h.len h.after) → needs (part h.name h.len h.after).left = rw h.starts at (by h.given h.left (Err e) h.met) in
+        let a : cause e ≡ NoMemory → IsSound (part h.name h.len h.after) → needs (part h.name h.len h.after).left (part h.name h.len h.after).missing = rw h.starts at (by h.given h.left (Err e) h.met) in
         rw h.number.value (omega (arith, h.within), a memory (omega (arith, h.within)))
 
     pub prefixed_asks : (s u : Source) (r : Result T E) → Prefixed call source from_gives f s r u → Asks cause (NeedsBoxed needs) s r
@@ -151,9 +223,34 @@ module _ {F N T E Y : Type 0} (call : Once F (MutBor N × Unit {0}) (Result T E 
     prefixed_asks s u (Err e) (inr (inr (inl h))) = asks_inside s e h
     prefixed_asks s u (Err e) (inr (inr (inr h))) = λ memory _. let is = keeps (encoding.TrailingData h.rest) e h.is in absurd cc
 
--- A length that passes what was announced has the cause that it says.
-pub past_keeps : {X E : Type 0} (from_gives : Error → E → Type 0) (cause : E → Cause) (keeps : (x : Error) (e : E) → from_gives x e → cause e ≡ encoding_cause x) (s : Source) (r : Result X E) → PastIs from_gives s r → LengthPast cause s r
-past_keeps from_gives cause keeps s (Ok x) h = λ n rest is lt. h n rest is lt
-past_keeps from_gives cause keeps s (Err e) h = λ n rest is lt. keeps encoding.Length e (h n rest is lt)
+  -- A closure that stops as a format says makes the call stop as the box of it does.
+  abbrev pub StopsInside : (needs overruns : List ℕ → ℕ → Type 0) → Type 0
+  StopsInside needs overruns = (p q : MutBor N) (r : Result T E) → call.post f (p, tt) (r, (q, tt)) → StopsBy cause read needs overruns (source p.now) r
 
-pub ruleset boxes = (prefixed_asks, prefixed_gives, prefixed_gives_always, gives_sound, past_keeps)
+  module _ (needs overruns : List ℕ → ℕ → Type 0) (never : AreLengths read overruns) (by : ReadsBy call source cause f means read) (stops : StopsInside needs overruns) where
+    pub prefixed_stops : (s u : Source) (r : Result T E) → Prefixed call source from_gives f s r u → StopsBy cause (box_at (whole read)) (NeedsBoxed needs) (OverrunsBoxed overruns) s r
+    prefixed_stops s u (Ok x) h = tt
+    prefixed_stops s u (Err e) (inl h) = refused_stopped _ _ _ _ s (of_length by s e h) (λ o. no_length read needs overruns s _ h.refused o)
+    prefixed_stops s u (Err e) (inr (inl h)) = refused_stopped _ _ _ _ s (of_past by s e h) (λ o. keeps encoding.Length e h.is)
+    prefixed_stops s u (Err e) (inr (inr (inl h))) =
+        let k : Stopped (cause e) read needs overruns (part h.name h.len h.after) = rw h.starts at (stops h.given h.left (Err e) h.met) in
+        box_stopped read needs overruns (cause e) s h.after h.len h.name h.number h.within k
+    prefixed_stops s u (Err e) (inr (inr (inr h))) =
+        let c = h.calls in
+        let g : Reads means read (part c.name c.len c.after) h.value (part h.other h.rest h.now) = rw (c.starts, h.ends) at (by c.given c.left (Ok h.value) c.met) in
+        refused_stopped _ _ _ _ s (of_trails by s e h) (λ o. took read needs overruns means s c.after c.len c.name h.other h.rest h.now h.value never c.number c.within g o)
+
+  -- Of any closure, where nothing is said of how it stops on a source with a fault: the length of the box alone.
+  module _ (by : ReadsBy call source cause f means read) where
+    pub prefixed_stops_outside : (s u : Source) (r : Result T E) → Prefixed call source from_gives f s r u → StopsBy cause (box_at (whole read)) NeedsString OverrunsString s r
+    prefixed_stops_outside s u (Ok x) h = tt
+    prefixed_stops_outside s u (Err e) (inl h) = refused_stopped _ _ _ _ s (of_length by s e h) (λ o. no_length read NeedsString (λ _ _. ⊥) s _ h.refused (inl o))
+    prefixed_stops_outside s u (Err e) (inr (inl h)) = refused_stopped _ _ _ _ s (of_past by s e h) (λ o. keeps encoding.Length e h.is)
+    prefixed_stops_outside s u (Err e) (inr (inr (inl h))) =
+        let g : IsRefused (part h.name h.len h.after).missing (cause e) (read (part h.name h.len h.after).left) = rw h.starts at (by h.given h.left (Err e) h.met) in
+        box_stopped_outside read (cause e) s h.after h.len h.name h.number h.within g
+    prefixed_stops_outside s u (Err e) (inr (inr (inr h))) =
+        let c = h.calls in
+        refused_stopped _ _ _ _ s (of_trails by s e h) (λ o. absurd (within_not read c.len s c.after c.number c.within o))
+
+pub ruleset boxes = (prefixed_asks, prefixed_gives, prefixed_gives_always, prefixed_stops_always, gives_sound)

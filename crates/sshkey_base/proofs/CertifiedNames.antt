@@ -158,13 +158,13 @@ no_certificate_name = not_named certified_checks certified_ascii certified_refus
 pub certified_asked : (t : List ℕ) (r : Result value.Algorithm wide-error.Error) → ((a : Algorithm) → named certificate_name certified t ≡ Some a → IsOk r) → (certified_from t ≡ Err Label → r ≡ Err (wide.Encoding encoding.Label)) → AsksNamed cause NeedsCertified t r
 unfolding certificate_algorithm_at
 certified_asked t (Ok x) fixed refused = tt
-certified_asked t (Err e) fixed refused = λ memory b rest read. by_table memory b rest read (named certificate_name certified t) refl
+certified_asked t (Err e) fixed refused = λ memory b rest m read. by_table memory b rest m read (named certificate_name certified t) refl
   where
-    by_table : cause e ≡ NoMemory → (b rest : List ℕ) → string_at b ≡ Ok (t, rest) → (o : Option Algorithm) → named certificate_name certified t ≡ o → NeedsCertified b
-    by_table memory b rest read (Some a) is = absurd (cc (fixed a is))
-    by_table memory b rest read None is = by_suffix (certified_from t) refl (certified_is t is)
+    by_table : cause e ≡ NoMemory → (b rest : List ℕ) (m : ℕ) → string_at b ≡ Ok (t, rest) → (o : Option Algorithm) → named certificate_name certified t ≡ o → NeedsCertified b m
+    by_table memory b rest m read (Some a) is = absurd (cc (fixed a is))
+    by_table memory b rest m read None is = by_suffix (certified_from t) refl (certified_is t is)
       where
-        by_suffix : (found : Result Algorithm Fault) → certified_from t ≡ found → IsStripped t found → NeedsCertified b
+        by_suffix : (found : Result Algorithm Fault) → certified_from t ≡ found → IsStripped t found → NeedsCertified b m
         by_suffix (Ok a) from stripped = rw (read, from, stripped.1) tt
         by_suffix (Err fault) from stripped =
             let none : certified_from t ≡ Err Label = from ∙ ap (λ (f : Fault). Err f) stripped in

@@ -25,7 +25,7 @@ only_memory (Faulty f) h = absurd (h (λ e. cc e))
 only_memory Other h = absurd (h (λ e. cc e))
 
 -- a judgement asks for no memory
-pub judged_asks : {A B C X E : Type 0} (first : A → B) (means : X → C) (cause : E → Cause) (needs : List ℕ → Type 0) (read : Front B) (found : Result C Fault) (s t : Source) (x : A) (r : Result X E) → Reads first read s x t → AnswersAlways means cause found r → Asks cause needs s r
+pub judged_asks : {A B C X E : Type 0} (first : A → B) (means : X → C) (cause : E → Cause) (needs : List ℕ → ℕ → Type 0) (read : Front B) (found : Result C Fault) (s t : Source) (x : A) (r : Result X E) → Reads first read s x t → AnswersAlways means cause found r → Asks cause needs s r
 judged_asks first means cause needs read found s t x (Ok y) h a = tt
 judged_asks first means cause needs read (Ok c) s t x (Err d) h a = absurd a
 judged_asks first means cause needs read (Err f) s t x (Err d) h a = λ memory sound. absurd cc

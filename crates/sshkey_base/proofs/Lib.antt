@@ -1,6 +1,7 @@
 pub mod HexDigits
 pub mod NestedSources
 pub mod Steps
+pub mod Stopping
 pub mod Places
 pub mod Lending
 pub mod Boxes

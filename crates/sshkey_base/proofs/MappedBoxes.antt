@@ -5,10 +5,8 @@ use Rattle.std.proofs.lemmas.List.{length-drop}
 use Rattle.sshkey_model.specs.Parts.{number, flat}
 use Rattle.sshkey_model.specs.Reading.{Fault, Length, ◌>>=◌, Whole, number_at, box_at}
 use Rattle.sshkey_model.proofs.CombinedReaders.{bind_ok, ok_is, passed, number_reads, wide32}
+use Rattle.sshkey_base.specs.Lengths.{with_rest, box_step}
 use Rattle.sshkey_base.proofs.ReadLists.{leaves_less}
-
-abbrev pub with_rest : {A : Type 0} → List ℕ → A → Result (A × List ℕ) Fault
-with_rest rest x = Ok (x, rest)
 
 -- another value, with the same rest
 abbrev pub on_value : {A B : Type 0} → (A → B) → A × List ℕ → Result (B × List ℕ) Fault
@@ -30,9 +28,6 @@ through false fault r f = refl
 made_rest : {A B : Type 0} (f : A → B) (r : Result A Fault) (rest : List ℕ) → ((r >>= made f) >>= with_rest rest) ≡ ((r >>= with_rest rest) >>= on_value f)
 made_rest f (Ok x) rest = refl
 made_rest f (Err e) rest = refl
-
-abbrev box_step : {A : Type 0} → Whole A → ℕ × List ℕ → Result (A × List ℕ) Fault
-box_step read n = cond (ltb (length n.1) n.0) (Err Length) (read (take n.0 n.1) >>= with_rest (drop n.0 n.1))
 
 -- what a box holds is read by another reader, and its value made from that one's
 pub box_map : {A B : Type 0} (read : Whole A) (other : Whole B) (f : A → B) → ((b : List ℕ) → other b ≡ (read b >>= made f)) → (b : List ℕ) → box_at other b ≡ (box_at read b >>= on_value f)

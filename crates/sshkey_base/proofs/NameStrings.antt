@@ -12,13 +12,17 @@ use Rattle.sshkey_base.specs.declared.encoding.Error.{Error}
 use Rattle.sshkey_base.specs.declared.short_bytes.ShortBytes.{ShortBytes}
 use Rattle.sshkey_base.specs.Answers.{Names}
 use Rattle.sshkey_base.specs.Causes.{Cause, NoMemory, Faulty, encoding_cause}
-use Rattle.sshkey_base.specs.Labels.{AsksNamed, NeedsBehind}
+use Rattle.sshkey_base.specs.Labels.{AsksNamed, LooksUp, NeedsBehind}
 use Rattle.sshkey_base.specs.NameBytes.{not_too_long, name_of, name_at, passed_at}
 use Rattle.sshkey_base.specs.Needs.{Asks}
 use Rattle.sshkey_base.specs.Reading.{Reads, Refuses, IsRefused, Gives}
 use Rattle.sshkey_base.specs.ShortBytes.{short_of}
 use Rattle.sshkey_base.specs.Source.{Source, IsSound, Advances, TooFew}
 use Rattle.sshkey_base.proofs.Labels.{same_bytes}
+use Rattle.sshkey_base.specs.Lengths.{bytes_lengths}
+use Rattle.sshkey_base.specs.Stops.{OverrunsBytes, Stopped, StopsBy}
+use Rattle.sshkey_base.proofs.Judging.{only_memory}
+use Rattle.sshkey_base.proofs.Stopping.{not_taken, read_past}
 use Rattle.sshkey_base.proofs.Places.{advances_both}
 use Rattle.sshkey_base.proofs.Steps.{few_refused, front_reads, refuses_first}
 
@@ -143,18 +147,24 @@ module _ {N : Type 0} {IsNamed : N → Type 0} {name : N → List ℕ} {named : 
   pub long_refused : (n : ℕ) (s t : Source) → IsLong n s t → IsRefused s.missing (Faulty Label) (checked_at named (bytes_at n) s.left)
   long_refused n s t h = record { fault = λ _ _. rw (h.reads.value, long_unnamed h.string h.long) refl }
 
--- Where memory was refused for the value, the string of the name needs it.
-pub named_asked : (needs : List ℕ → Type 0) (n : ℕ) (s t : Source) (b : List ℕ) (c : Cause) → Reads (λ x. x) (bytes_at n) s b t → (c ≡ NoMemory → (a rest : List ℕ) → string_at a ≡ Ok (b, rest) → needs a) → c ≡ NoMemory → IsSound s → NeedsBehind needs n s.left
-unfolding string_at
-named_asked needs n s t b c h asks memory sound a length = asks memory a t.left (rw (length, h.value) refl)
+  pub long_stopped : (n : ℕ) (needs : List ℕ → ℕ → Type 0) (s t : Source) → IsLong n s t → Stopped (Faulty Label) (checked_at named (bytes_at n)) needs (OverrunsBytes n) s
+  long_stopped n needs s t h = record {
+    takes = λ ok. not_taken (checked_at named (bytes_at n) s.left) Label (rw (h.reads.value, long_unnamed h.string h.long) refl) ok;
+    past = λ o. read_past (λ x. x) (bytes_at n) (OverrunsBytes n) s t h.string (bytes_lengths n) h.reads o;
+  }
 
-pub named_asks : {X E : Type 0} (cause : E → Cause) (needs : List ℕ → Type 0) (n : ℕ) (s t : Source) (b : List ℕ) (r : Result X E) → Reads (λ x. x) (bytes_at n) s b t → AsksNamed cause needs b r → Asks cause (NeedsBehind needs n) s r
+-- Where memory was refused for the value, the string of the name needs it.
+pub named_asked : (needs : List ℕ → ℕ → Type 0) (n : ℕ) (s t : Source) (b : List ℕ) (c : Cause) → Reads (λ x. x) (bytes_at n) s b t → (c ≡ NoMemory → (a rest : List ℕ) (m : ℕ) → string_at a ≡ Ok (b, rest) → needs a m) → c ≡ NoMemory → IsSound s → NeedsBehind needs n s.left s.missing
+unfolding string_at
+named_asked needs n s t b c h asks memory sound a length = asks memory a t.left s.missing (rw (length, h.value) refl)
+
+pub named_asks : {X E : Type 0} (cause : E → Cause) (needs : List ℕ → ℕ → Type 0) (n : ℕ) (s t : Source) (b : List ℕ) (r : Result X E) → Reads (λ x. x) (bytes_at n) s b t → AsksNamed cause needs b r → Asks cause (NeedsBehind needs n) s r
 named_asks cause needs n s t b (Ok x) h asks = tt
 named_asks cause needs n s t b (Err e) h asks = named_asked needs n s t b (cause e) h asks
 
-pub behind_asks : {X E : Type 0} (cause : E → Cause) (needs : List ℕ → Type 0) (n : ℕ) (s t : Source) (r : Result X E) → Reads (λ k. k) (number_at w32) s n t → Asks cause (NeedsBehind needs n) t r → Asks cause needs s r
+pub behind_asks : {X E : Type 0} (cause : E → Cause) (needs : List ℕ → ℕ → Type 0) (n : ℕ) (s t : Source) (r : Result X E) → Reads (λ k. k) (number_at w32) s n t → Asks cause (NeedsBehind needs n) t r → Asks cause needs s r
 behind_asks cause needs n s t (Ok x) h asks = tt
-behind_asks cause needs n s t (Err e) h asks = λ memory sound. asks memory (h.missing ∙ sound) s.left h.value
+behind_asks cause needs n s t (Err e) h asks = λ memory sound. rw (← h.missing) (asks memory (h.missing ∙ sound) s.left h.value)
 
 -- what the bytes name
 pub named_gives : {X Y E : Type 0} (means : X → Y) (cause : E → Cause) (judge : Whole Y) (n : ℕ) (s t : Source) (b : List ℕ) (r : Result X E) → Reads (λ x. x) (bytes_at n) s b t → Names means cause (judge b) r → Gives means cause (checked_at judge (bytes_at n)) s r t
@@ -164,6 +174,28 @@ named_gives means cause judge n s t b (Err e) h l = record {
       let found = l other in
       rw (h.value, found.none) found.label;
 }
+
+-- ---- how they stop
+
+named_needed : (needs : List ℕ → ℕ → Type 0) (n : ℕ) (s t : Source) (b : List ℕ) → Reads (λ x. x) (bytes_at n) s b t → ((a rest : List ℕ) (m : ℕ) → string_at a ≡ Ok (b, rest) → needs a m) → NeedsBehind needs n s.left s.missing
+unfolding string_at
+named_needed needs n s t b h asks a length = asks a t.left s.missing (rw (length, h.value) refl)
+
+-- the bytes are there, and what they name is asked for
+pub named_stops : {X Y E : Type 0} (means : X → Y) (cause : E → Cause) (judge : Whole Y) (needs : List ℕ → ℕ → Type 0) (n : ℕ) (s t : Source) (b : List ℕ) (r : Result X E) → Reads (λ x. x) (bytes_at n) s b t → Names means cause (judge b) r → AsksNamed cause needs b r → StopsBy cause (checked_at judge (bytes_at n)) (NeedsBehind needs n) (OverrunsBytes n) s r
+named_stops means cause judge needs n s t b (Ok x) h l asks = tt
+named_stops means cause judge needs n s t b (Err e) h l asks = record {
+  takes = λ ok.
+      let memory = only_memory (cause e) (λ other. not_taken (checked_at judge (bytes_at n) s.left) Label (rw (h.value, (l other).none) refl) ok) in
+      record { memory = memory; needed = named_needed needs n s t b h (asks memory) };
+  past = λ o. read_past (λ x. x) (bytes_at n) (OverrunsBytes n) s t b (bytes_lengths n) h o;
+}
+
+pub looked_up_names : {X N : Type 0} (stands_for : X → N) (named : Whole N) (b : List ℕ) (r : Result X Error) → LooksUp stands_for named b r → Names stands_for encoding_cause (named b) r
+looked_up_names stands_for named b (Ok x) l = l
+looked_up_names stands_for named b (Err e) l = λ other.
+    let f = l (λ memory. other (ap encoding_cause memory)) in
+    record { none = f.0; label = ap encoding_cause f.1 }
 
 -- ---- passing them
 

@@ -71,11 +71,11 @@ looked_up means t e (Err x) is none met = λ some.
     (unknown_from t none unknown.0, is ∙ unknown.1)
 
 -- where memory was refused, the name is a private-use one
-pub other_asked : (t : List ℕ) (c : Cause) → named algorithm_name algorithms t ≡ None → (is_own_name t ≡ false → c ≡ Faulty Label) → c ≡ NoMemory → (b rest : List ℕ) → string_at b ≡ Ok (t, rest) → NeedsAlgorithm b
+pub other_asked : (t : List ℕ) (c : Cause) → named algorithm_name algorithms t ≡ None → (is_own_name t ≡ false → c ≡ Faulty Label) → c ≡ NoMemory → (b rest : List ℕ) (m : ℕ) → string_at b ≡ Ok (t, rest) → NeedsAlgorithm b m
 unfolding label_at
-other_asked t c none refused memory b rest read = go (is_own_name t) refl
+other_asked t c none refused memory b rest m read = go (is_own_name t) refl
   where
-    go : (own : Bool) → is_own_name t ≡ own → NeedsAlgorithm b
+    go : (own : Bool) → is_own_name t ≡ own → NeedsAlgorithm b m
     go true own =
         let from : algorithm_from t ≡ Ok (Other t) = own_or t (Ok (Other t)) none (rw own refl) in
         rw (read, from) tt

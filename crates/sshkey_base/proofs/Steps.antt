@@ -1,5 +1,5 @@
 -- The steps of a reading function, as the plain reader takes them.
-use Rattle.std.proofs.Common.{inl, inr, ◌≤◌, ◌≡◌, ℕ, false, true, ltb, List, ◌++◌, length, Result, Ok, Err, refl, ap, ◌∙◌, arith, lt-ltb}
+use Rattle.std.proofs.Common.{inl, inr, ◌≤◌, ◌+◌, ◌≡◌, ℕ, false, true, ltb, List, ◌++◌, length, Result, Ok, Err, refl, ap, ◌∙◌, arith, lt-ltb}
 use Rattle.std.specs.Int.{w32}
 use Rattle.std.specs.Prelude.{IsOkAnd}
 use Rattle.std.proofs.lemmas.Bool.{le-ltb, cases_lt}
@@ -40,35 +40,35 @@ gives_sound means cause read s t (Err e) h = refuses_sound _ _ _ h
 pub never_asks : {A : Type 0} {X : Type 0} (m : ℕ) (c : Cause) (r : Result A Fault) → Refuses m c r → c ≡ NoMemory → m ≡ 0 → X
 never_asks m c r h memory sound = let f = h.same sound in absurd cc
 
-pub asks_number : (s t : Source) (n : ℕ) → Reads (λ k. k) (number_at w32) s n t → n ≤ length t.left → NeedsString s.left
-asks_number s t n h le = rw h.value le
+pub asks_number : (s t : Source) (n : ℕ) → Reads (λ k. k) (number_at w32) s n t → n ≤ length t.left + t.missing → NeedsString s.left s.missing
+asks_number s t n h le = rw (h.value, ← h.missing) le
 
-pub asks_string : (s t : Source) (n : ℕ) (c : Cause) → Reads (λ k. k) (number_at w32) s n t → (c ≡ NoMemory → IsSound t → n ≤ length t.left) → c ≡ NoMemory → IsSound s → NeedsString s.left
+pub asks_string : (s t : Source) (n : ℕ) (c : Cause) → Reads (λ k. k) (number_at w32) s n t → (c ≡ NoMemory → IsSound t → n ≤ length t.left + t.missing) → c ≡ NoMemory → IsSound s → NeedsString s.left s.missing
 asks_string s t n c h asks memory sound = asks_number s t n h (asks memory (h.missing ∙ sound))
 
-pub asks_first : {A : Type 0} (first : List ℕ → Type 0) (second : A → List ℕ → Type 0) (read : Front A) (s : Source) (c : Cause) → (c ≡ NoMemory → IsSound s → first s.left) → c ≡ NoMemory → IsSound s → NeedsThen first read second s.left
+pub asks_first : {A : Type 0} (first : List ℕ → ℕ → Type 0) (second : A → List ℕ → ℕ → Type 0) (read : Front A) (s : Source) (c : Cause) → (c ≡ NoMemory → IsSound s → first s.left s.missing) → c ≡ NoMemory → IsSound s → NeedsThen first read second s.left s.missing
 asks_first first second read s c h memory sound = inl (h memory sound)
 
-pub asks_later : {A C : Type 0} (means : C → A) (first : List ℕ → Type 0) (second : A → List ℕ → Type 0) (read : Front A) (s t : Source) (x : C) (c : Cause) → Reads means read s x t → (c ≡ NoMemory → IsSound t → second (means x) t.left) → c ≡ NoMemory → IsSound s → NeedsThen first read second s.left
-asks_later means first second read s t x c a h memory sound = inr (rw a.value (h memory (a.missing ∙ sound)))
+pub asks_later : {A C : Type 0} (means : C → A) (first : List ℕ → ℕ → Type 0) (second : A → List ℕ → ℕ → Type 0) (read : Front A) (s t : Source) (x : C) (c : Cause) → Reads means read s x t → (c ≡ NoMemory → IsSound t → second (means x) t.left t.missing) → c ≡ NoMemory → IsSound s → NeedsThen first read second s.left s.missing
+asks_later means first second read s t x c a h memory sound = inr (rw (a.value, ← a.missing) (h memory (a.missing ∙ sound)))
 
 pub ruleset steps = (never_asks, asks_string, asks_first, asks_later, refused_first, refused_later, refuses_first, refuses_later, refuses_sound, gives_sound, later_none, later_then)
 
 -- a string that was read stood whole at the front
-pub string_stood : {X : Type 0} (means : X → List ℕ) (s t : Source) (x : X) → Reads means string_at s x t → NeedsString s.left
+pub string_stood : {X : Type 0} (means : X → List ℕ) (s t : Source) (x : X) → Reads means string_at s x t → NeedsString s.left s.missing
 unfolding string_at bytes_at
 string_stood {X} means s t x h = go (number_at w32 s.left) h.value
   where
-    go : (n : Result (ℕ × List ℕ) Fault) → (n >>= λ n. bytes_at n.0 n.1) ≡ Ok (means x, t.left) → IsOkAnd n (λ n. n.0 ≤ length n.1)
+    go : (n : Result (ℕ × List ℕ) Fault) → (n >>= λ n. bytes_at n.0 n.1) ≡ Ok (means x, t.left) → IsOkAnd n (λ n. n.0 ≤ length n.1 + s.missing)
     go (Err f) e = absurd cc
     go (Ok n) e =
         elim (cases_lt (length n.1) n.0) [
           | inl lt ↦ let few = rw (lt-ltb _ _ lt) at e in absurd cc
-          | inr le ↦ le
+          | inr le ↦ omega arith
         ]
 
 -- where memory is needed, it may be asked for
-pub asks_needed : {X E : Type 0} (cause : E → Cause) (needs : List ℕ → Type 0) (s : Source) (r : Result X E) → needs s.left → Asks cause needs s r
+pub asks_needed : {X E : Type 0} (cause : E → Cause) (needs : List ℕ → ℕ → Type 0) (s : Source) (r : Result X E) → needs s.left s.missing → Asks cause needs s r
 asks_needed cause needs s (Ok x) h = tt
 asks_needed cause needs s (Err e) h = λ memory sound. h
 

@@ -22,13 +22,13 @@ LooksUpAlways stands_for named name (Ok x) = named name ≡ Ok (stands_for x)
 LooksUpAlways stands_for named name (Err e) = (named name ≡ Err Label) × (e ≡ encoding.Label)
 
 -- Memory was refused only where the string of that name needs some.
-abbrev pub AsksNamed : {X E : Type 0} → (E → Cause) → (List ℕ → Type 0) → List ℕ → Result X E → Type 0
+abbrev pub AsksNamed : {X E : Type 0} → (E → Cause) → (List ℕ → ℕ → Type 0) → List ℕ → Result X E → Type 0
 AsksNamed cause needs name (Ok x) = Unit {0}
-AsksNamed cause needs name (Err e) = cause e ≡ NoMemory → (b rest : List ℕ) → string_at b ≡ Ok (name, rest) → needs b
+AsksNamed cause needs name (Err e) = cause e ≡ NoMemory → (b rest : List ℕ) (m : ℕ) → string_at b ≡ Ok (name, rest) → needs b m
 
 -- Where what stands behind a length of n needs memory.
-abbrev pub NeedsBehind : (List ℕ → Type 0) → ℕ → List ℕ → Type 0
-NeedsBehind needs n b = (a : List ℕ) → number_at w32 a ≡ Ok (n, b) → needs a
+abbrev pub NeedsBehind : (List ℕ → ℕ → Type 0) → ℕ → List ℕ → ℕ → Type 0
+NeedsBehind needs n b m = (a : List ℕ) → number_at w32 a ≡ Ok (n, b) → needs a m
 
 -- a string that is looked up
 unfoldable pub label_at : {N : Type 0} → Whole N → Front N

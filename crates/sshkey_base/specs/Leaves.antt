@@ -3,6 +3,8 @@ use Rattle.std.specs.Prelude.{◌≡◌, ℕ, ◌^◌, List, length, replicate, 
 use Rattle.std.specs.Int.{w8, w32, w64}
 use Rattle.sshkey_model.specs.Parts.{Parts, Any, bytes, number, box, flat, Fits, HasLength}
 use Rattle.sshkey_model.specs.Texts.{string}
+use Rattle.sshkey_model.specs.Mpints.{IsMpint, mpint_at}
+use Rattle.sshkey_model.proofs.MpintReaders.{mpint_reads}
 use Rattle.sshkey_model.specs.Reading.{whole, bytes_at, number_at, string_at, box_at}
 use Rattle.sshkey_model.specs.Grammar.{IsGrammar, Spells}
 use Rattle.sshkey_model.proofs.CombinedReaders.{wide8, wide32, wide64, bytes_reads, number_reads, string_reads, box_reads, whole_reads}
@@ -30,6 +32,10 @@ SpellsString = Spells Any string
 abbrev pub SpellsArray : ℕ → List ℕ → List ℕ → Type 0
 SpellsArray n = Spells (HasLength n) string
 
+-- a string that is a number's bytes
+abbrev pub SpellsMpint : List ℕ → List ℕ → Type 0
+SpellsMpint = Spells IsMpint string
+
 pub byte_grammar : IsGrammar SpellsByte (number_at w8)
 byte_grammar = grammar (number_reads w8 wide8)
 
@@ -44,6 +50,9 @@ string_grammar = grammar string_reads
 
 pub array_grammar : (n : ℕ) → IsGrammar (SpellsArray n) (box_at (whole (bytes_at n)))
 array_grammar n = grammar (box_reads (whole_reads (bytes_reads n)))
+
+pub mpint_grammar : IsGrammar SpellsMpint mpint_at
+mpint_grammar = grammar mpint_reads
 
 -- ---- what is written is a spelling
 

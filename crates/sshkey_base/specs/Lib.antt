@@ -4,6 +4,9 @@ pub mod Acceptance
 pub mod Source
 pub mod Reading
 pub mod Needs
+pub mod Stops
+pub mod Lengths
+pub mod Formats
 pub mod Nested
 pub mod Sink
 pub mod SliceWriter
@@ -22,6 +25,7 @@ pub mod TextLists
 pub mod Equality
 pub mod Names
 pub mod NameNeeds
+pub mod NameFormats
 pub mod AlgorithmName
 pub mod Digests
 pub mod Fields

@@ -6,9 +6,9 @@ use Rattle.sshkey_base.specs.Labels.{label_at}
 use Rattle.sshkey_base.specs.Names.{IsPrivateUse}
 
 -- The name of a private-use algorithm stands at the front.
-abbrev pub NeedsAlgorithm : List ℕ → Type 0
-NeedsAlgorithm b = IsOkAnd (label_at algorithm_from b) (λ x. IsPrivateUse x.0)
+abbrev pub NeedsAlgorithm : List ℕ → ℕ → Type 0
+NeedsAlgorithm b m = IsOkAnd (label_at algorithm_from b) (λ x. IsPrivateUse x.0)
 
 -- The same of its name in a certificate.
-abbrev pub NeedsCertified : List ℕ → Type 0
-NeedsCertified b = IsOkAnd (certificate_algorithm_at b) (λ x. IsPrivateUse x.0)
+abbrev pub NeedsCertified : List ℕ → ℕ → Type 0
+NeedsCertified b m = IsOkAnd (certificate_algorithm_at b) (λ x. IsPrivateUse x.0)

@@ -1,31 +1,37 @@
 -- What memory may be asked for by a reading call.
-use Rattle.std.specs.Prelude.{◌≡◌, ◌≤◌, ℕ, List, length, take, IsOkAnd, Result, Ok, Err, ◌⊎◌}
+use Rattle.std.specs.Prelude.{◌≡◌, ◌≤◌, ◌+◌, ◌-◌, ℕ, List, length, take, IsOkAnd, Result, Ok, Err, ◌⊎◌}
 use Rattle.std.specs.Int.{w32}
 use Rattle.sshkey_model.specs.Reading.{Front, number_at}
 use Rattle.sshkey_base.specs.Causes.{Cause, NoMemory}
 use Rattle.sshkey_base.specs.Source.{Source, IsSound}
 
--- no memory
-abbrev pub NoNeed : List ℕ → Type 0
-NoNeed b = ⊥
+-- Each of these is asked about the bytes before the end or the fault, and how many more were announced behind them.
 
--- A string stands whole at the front.
-abbrev pub NeedsString : List ℕ → Type 0
-NeedsString b = IsOkAnd (number_at w32 b) (λ x. x.0 ≤ length x.1)
+-- no memory
+abbrev pub NoNeed : List ℕ → ℕ → Type 0
+NoNeed b m = ⊥
+
+-- A string stands at the front that is no longer than was announced.
+abbrev pub NeedsString : List ℕ → ℕ → Type 0
+NeedsString b m = IsOkAnd (number_at w32 b) (λ x. x.0 ≤ length x.1 + m)
+
+-- So do n bytes.
+abbrev pub NeedsBytes : ℕ → List ℕ → ℕ → Type 0
+NeedsBytes n b m = n ≤ length b + m
 
 -- What the first value needs, or the second behind it, which may depend on the first.
-abbrev pub NeedsThen : {A : Type 0} → (List ℕ → Type 0) → Front A → (A → List ℕ → Type 0) → List ℕ → Type 0
-NeedsThen first read second b = first b ⊎ IsOkAnd (read b) (λ x. second x.0 x.1)
+abbrev pub NeedsThen : {A : Type 0} → (List ℕ → ℕ → Type 0) → Front A → (A → List ℕ → ℕ → Type 0) → List ℕ → ℕ → Type 0
+NeedsThen first read second b m = first b m ⊎ IsOkAnd (read b) (λ x. second x.0 x.1 m)
 
 -- The same of a second that needs the same whatever the first is.
-abbrev pub NeedsBoth : {A : Type 0} → (List ℕ → Type 0) → Front A → (List ℕ → Type 0) → List ℕ → Type 0
+abbrev pub NeedsBoth : {A : Type 0} → (List ℕ → ℕ → Type 0) → Front A → (List ℕ → ℕ → Type 0) → List ℕ → ℕ → Type 0
 NeedsBoth first read second = NeedsThen first read (λ x. second)
 
--- A box stands whole at the front, and the value in it needs memory.
-abbrev pub NeedsBoxed : (List ℕ → Type 0) → List ℕ → Type 0
-NeedsBoxed needs b = IsOkAnd (number_at w32 b) (λ x. (x.0 ≤ length x.1) × needs (take x.0 x.1))
+-- A box stands at the front that is no longer than was announced, and the value in it needs memory.
+abbrev pub NeedsBoxed : (List ℕ → ℕ → Type 0) → List ℕ → ℕ → Type 0
+NeedsBoxed needs b m = IsOkAnd (number_at w32 b) (λ x. (x.0 ≤ length x.1 + m) × needs (take x.0 x.1) (x.0 - length x.1))
 
 -- From a sound source memory was refused only where it is needed.
-abbrev pub Asks : {X E : Type 0} → (E → Cause) → (List ℕ → Type 0) → Source → Result X E → Type 0
+abbrev pub Asks : {X E : Type 0} → (E → Cause) → (List ℕ → ℕ → Type 0) → Source → Result X E → Type 0
 Asks cause needs s (Ok x) = Unit {0}
-Asks cause needs s (Err e) = cause e ≡ NoMemory → IsSound s → needs s.left
+Asks cause needs s (Err e) = cause e ≡ NoMemory → IsSound s → needs s.left s.missing

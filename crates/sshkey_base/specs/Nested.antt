@@ -22,7 +22,7 @@ module _ {F N T E : Type 0} (call : Once F (MutBor N × Unit {0}) (Result T E ×
   ReadsBy means read = (p q : MutBor N) (r : Result T E) → call.post f (p, tt) (r, (q, tt)) → Gives means cause read (source p.now) r (source q.now)
 
   -- Each call of the closure asks for memory only where it is needed.
-  abbrev pub AsksBy : (List ℕ → Type 0) → Type 0
+  abbrev pub AsksBy : (List ℕ → ℕ → Type 0) → Type 0
   AsksBy needs = (p q : MutBor N) (r : Result T E) → call.post f (p, tt) (r, (q, tt)) → Asks cause needs (source p.now) r
 
 module _ {F N T E : Type 0} (call : Once F (MutBor N × Unit {0}) (Result T E × (MutBor N × Unit {0}))) (source : N → Source) (f : F) where

@@ -1,7 +1,7 @@
 -- What a reading call gives, measured by a plain reader on lists, and in the words of the grammar.
 use Rattle.std.specs.Prelude.{◌≡◌, ◌≢◌, ℕ, ◌<◌, ◌+◌, IsErrAnd, List, [], length, Result, Ok, Err, ◌++◌, ◌^◌}
 use Rattle.std.specs.Int.{w32, to_be_bytes}
-use Rattle.sshkey_model.specs.Reading.{Fault, Length, ◌>>=◌, Front, Whole, number_at}
+use Rattle.sshkey_model.specs.Reading.{Fault, ◌>>=◌, Front, Whole}
 use Rattle.sshkey_base.specs.declared.encoding.Error.{Error}
 use Rattle.sshkey_base.specs.declared.error.Error as wide
 use Rattle.sshkey_base.specs.Causes.{Cause, NoMemory, Faulty, encoding_cause, cause}
@@ -44,10 +44,6 @@ DecodesWide means read source before result after = Gives means cause read (sour
 -- As `Decodes`, of a call that takes no memory.
 abbrev pub DecodesAlways : {R X Y : Type 0} → (X → Y) → Front Y → (R → Source) → R → Result X Error → R → Type 0
 DecodesAlways means read source before result after = GivesAlways means encoding_cause read (source before) result (source after)
-
--- A stated length that passes all that was announced is `Length`, whatever memory there is.
-abbrev pub LengthPast : {X E : Type 0} → (E → Cause) → Source → Result X E → Type 0
-LengthPast cause s result = (n : ℕ) (rest : List ℕ) → number_at w32 s.left ≡ Ok (n, rest) → length rest + s.missing < n → IsErrAnd result (λ e. cause e ≡ Faulty Length)
 
 -- The plain reader takes all the bytes, and none is missing.
 pub record ReadsAll {X Y : Type 0} (means : X → Y) (read : Whole Y) (s : Source) (x : X) : Type 0 where

@@ -1,12 +1,13 @@
 //! Byte strings.
 
-ghost use Rattle.std.specs.Prelude.{◌≡◌, ◌<◌, ℕ, List, Err, IfOk, IfErr, ◌≤◌, length, replicate};
+ghost use Rattle.std.specs.Prelude.{◌≡◌, ℕ, List, IfOk, IfErr, length, replicate};
 ghost use Rattle.sshkey_model.specs.Reading.{bytes_at, string_at};
 ghost use Rattle.sshkey_base.specs.Causes.{encoding_cause};
-ghost use Rattle.sshkey_base.specs.Leaves.{SpellsString, string_grammar};
-ghost use Rattle.sshkey_base.specs.Needs.{Asks, NeedsString};
-ghost use Rattle.sshkey_base.specs.Reading.{Decodes, LengthPast};
-ghost use Rattle.sshkey_base.specs.Source.{announced_len, Later};
+ghost use Rattle.sshkey_base.specs.Formats.{Stops, string_format};
+ghost use Rattle.sshkey_base.specs.Needs.{Asks, NeedsBytes, NeedsString};
+ghost use Rattle.sshkey_base.specs.Reading.{Decodes};
+ghost use Rattle.sshkey_base.specs.Source.{Later};
+ghost use Rattle.sshkey_base.specs.Stops.{OverrunsBytes, StopsBy};
 
 mod compare;
 
@@ -63,7 +64,7 @@ impl Bytes {
 
     /// Reads a string as `decode` does. Where the reader lends its bytes, the memory that they are
     /// copied into has room for `spare` more, which no contract can say.
-    #[tactic(auto, using(crate::proofs::Steps::steps), unfolding(sshkey_model::specs::Reading::string_at))]
+    #[tactic(auto, using(crate::proofs::Steps::steps, crate::proofs::Stopping::stopping), unfolding(sshkey_model::specs::Reading::string_at))]
     pub fn decode_with_spare<R: Reader>(
         alloc: Global,
         reader: &mut R,
@@ -72,7 +73,7 @@ impl Bytes {
         ensures gives { Decodes (λ x. x) string_at R.source reader.old result reader.new }
         ensures later { Later (R.source reader.old) (R.source reader.new) }
         ensures asks { Asks encoding_cause NeedsString (R.source reader.old) result }
-        ensures past { LengthPast encoding_cause (R.source reader.old) result }
+        ensures past { Stops encoding_cause string_format (R.source reader.old) result }
     {
         let len = length_from(reader)?;
         bytes_from(alloc, len, spare, reader)
@@ -106,19 +107,13 @@ impl Decode for Bytes {
 
     ghost means = { λ b. b };
 
-    ghost parse = { string_at };
-
-    ghost Spells = { SpellsString };
-
-    ghost needs = { NeedsString };
-
-    ghost grammar = { string_grammar };
+    ghost format = { string_format };
 
     fn decode<R: Reader>(alloc: Global, reader: &mut R) -> Result<Bytes, Error>
         ensures gives { Decodes (λ x. x) string_at R.source reader.old result reader.new }
         ensures later { Later (R.source reader.old) (R.source reader.new) }
         ensures asks { Asks encoding_cause NeedsString (R.source reader.old) result }
-        ensures past { LengthPast encoding_cause (R.source reader.old) result }
+        ensures past { Stops encoding_cause string_format (R.source reader.old) result }
     {
         Bytes::decode_with_spare(alloc, reader, 0)
     }
@@ -136,8 +131,9 @@ pub(crate) fn bytes_from<R: Reader>(
 ) -> Result<Bytes, Error>
     ensures gives { Decodes (λ x. x) (bytes_at len) R.source reader.old result reader.new }
     ensures later { Later (R.source reader.old) (R.source reader.new) }
-    ensures asks { Asks encoding_cause (λ b. len ≤ length b) (R.source reader.old) result }
-    ensures past { announced_len (R.source reader.old) < len → result ≡ Err Error.Length }
+    ensures asks { Asks encoding_cause (NeedsBytes len) (R.source reader.old) result }
+    ensures past { StopsBy encoding_cause (bytes_at len) (NeedsBytes len) (OverrunsBytes len)
+        (R.source reader.old) result }
 {
     if reader.remaining_len() < len {
         return Err(Error::Length);
@@ -154,7 +150,7 @@ pub(crate) fn bytes_from<R: Reader>(
 }
 
 /// The same as a vector.
-#[tactic(auto, using(crate::proofs::Steps::steps))]
+#[tactic(auto, using(crate::proofs::Steps::steps, crate::proofs::Stopping::stopping))]
 impl Decode for Vec<u8> {
     type Error = Error;
 
@@ -162,19 +158,13 @@ impl Decode for Vec<u8> {
 
     ghost means = { λ v. v.items };
 
-    ghost parse = { string_at };
-
-    ghost Spells = { SpellsString };
-
-    ghost needs = { NeedsString };
-
-    ghost grammar = { string_grammar };
+    ghost format = { string_format };
 
     fn decode<R: Reader>(alloc: Global, reader: &mut R) -> Result<Vec<u8>, Error>
         ensures gives { Decodes (λ v. v.items) string_at R.source reader.old result reader.new }
         ensures later { Later (R.source reader.old) (R.source reader.new) }
         ensures asks { Asks encoding_cause NeedsString (R.source reader.old) result }
-        ensures past { LengthPast encoding_cause (R.source reader.old) result }
+        ensures past { Stops encoding_cause string_format (R.source reader.old) result }
     {
         let bytes = Bytes::decode(alloc, reader)?;
         Ok(bytes.into_vec())

@@ -2,11 +2,11 @@
 
 ghost use Rattle.std.specs.Prelude.{ℕ, List};
 ghost use Rattle.std.specs.Int.{w8, w32, w64};
-ghost use Rattle.sshkey_model.specs.Grammar.{IsGrammar};
-ghost use Rattle.sshkey_model.specs.Reading.{Front, whole, bytes_at, number_at, box_at};
-ghost use Rattle.sshkey_base.specs.Reading.{Decodes, DecodesAlways, AcceptsFront, AcceptsWhole, SpellsBoxed, Gives, GivesWhole, LengthPast};
+ghost use Rattle.sshkey_model.specs.Reading.{whole, bytes_at, number_at, box_at};
+ghost use Rattle.sshkey_base.specs.Reading.{Decodes, DecodesAlways, AcceptsFront, AcceptsWhole, SpellsBoxed, Gives, GivesWhole};
+ghost use Rattle.sshkey_base.specs.Formats.{Format, Stops, byte_format, number32_format, number64_format, array_format};
+ghost use Rattle.sshkey_base.specs.Stops.{StopsBy, OverrunsBoxed};
 ghost use Rattle.sshkey_base.specs.Causes.{encoding_cause};
-ghost use Rattle.sshkey_base.specs.Leaves.{SpellsByte, SpellsNumber32, SpellsNumber64, SpellsArray, byte_grammar, number32_grammar, number64_grammar, array_grammar};
 ghost use Rattle.sshkey_base.specs.Nested.{nested_source};
 ghost use Rattle.sshkey_base.specs.Needs.{Asks, NeedsBoxed, NoNeed};
 ghost use Rattle.sshkey_base.specs.Source.{Later};
@@ -27,33 +27,29 @@ pub trait Decode: Sized {
     /// The meaning of a value.
     ghost means: { Self → Meaning };
 
-    /// The plain reader of lists, with the fault of each refusal.
-    ghost parse: { Front Meaning };
-
-    /// The bytes are a spelling of the value.
-    ghost Spells: { Meaning → List ℕ → Type 0 };
-
-    /// Where a sound source may be refused for memory that ran out.
-    ghost needs: { List ℕ → Type 0 };
+    /// How it is spelled, and what a reading call makes of bytes.
+    ghost format: { Format Meaning };
 
     /// Reads a value from the front, and leaves what follows it.
     ///
     /// It is what the plain reader gives of the bytes that are left. A sound source is refused with
-    /// the fault of the plain reader, and for memory that ran out only where `needs` says so. How a
-    /// source with a fault is refused is open. After a refusal some of the bytes that were left may
-    /// be passed, and nothing else changed.
+    /// the fault of the plain reader, and for memory that ran out only where the value needs it.
+    ///
+    /// A source with a fault is refused like this: what stands whole before the fault is refused
+    /// only for memory that it needs, and where a stated length passes all that was announced, the
+    /// call fails with `Length`, unless memory ran out for a value before it. What else is refused
+    /// of such a source is open. After a refusal some of the bytes that were left may be passed,
+    /// and nothing else changed.
     fn decode<R: Reader>(alloc: Global, reader: &mut R) -> Result<Self, Self::Error>
-        ensures gives { Gives means Self.Error.cause parse
+        ensures gives { Gives means Self.Error.cause format.read
             (R.source reader.old) result (R.source reader.new) }
         ensures later { Later (R.source reader.old) (R.source reader.new) }
-        ensures asks { Asks Self.Error.cause needs (R.source reader.old) result };
-
-    /// The plain reader takes exactly the spellings.
-    ghost grammar: { IsGrammar Spells parse };
+        ensures asks { Asks Self.Error.cause format.needs (R.source reader.old) result }
+        ensures past { Stops Self.Error.cause format (R.source reader.old) result };
 }
 
 /// One byte (RFC 4251, section 5). Takes no memory.
-#[tactic(auto, using(crate::proofs::Steps::steps), unfolding(sshkey_model::specs::Reading::number_at))]
+#[tactic(auto, using(crate::proofs::Steps::steps, crate::proofs::Stopping::stopping), unfolding(sshkey_model::specs::Reading::number_at))]
 impl Decode for u8 {
     type Error = encoding::Error;
 
@@ -61,13 +57,7 @@ impl Decode for u8 {
 
     ghost means = { λ n. n };
 
-    ghost parse = { number_at w8 };
-
-    ghost Spells = { SpellsByte };
-
-    ghost needs = { NoNeed };
-
-    ghost grammar = { byte_grammar };
+    ghost format = { byte_format };
 
     fn decode<R: Reader>(_alloc: Global, reader: &mut R) -> Result<u8, encoding::Error>
         ensures gives { Decodes (λ x. x) (number_at w8) R.source reader.old result reader.new }
@@ -75,6 +65,7 @@ impl Decode for u8 {
         ensures asks { Asks encoding_cause NoNeed (R.source reader.old) result }
         ensures always { DecodesAlways (λ x. x) (number_at w8)
             R.source reader.old result reader.new }
+        ensures past { Stops encoding_cause byte_format (R.source reader.old) result }
     {
         let bytes = array_from::<1, R>(reader)?;
         Ok(u8::from_be_bytes(bytes))
@@ -82,7 +73,7 @@ impl Decode for u8 {
 }
 
 /// A number of four bytes, most significant first (RFC 4251, section 5). Takes no memory.
-#[tactic(auto, using(crate::proofs::Steps::steps), unfolding(sshkey_model::specs::Reading::number_at))]
+#[tactic(auto, using(crate::proofs::Steps::steps, crate::proofs::Stopping::stopping), unfolding(sshkey_model::specs::Reading::number_at))]
 impl Decode for u32 {
     type Error = encoding::Error;
 
@@ -90,13 +81,7 @@ impl Decode for u32 {
 
     ghost means = { λ n. n };
 
-    ghost parse = { number_at w32 };
-
-    ghost Spells = { SpellsNumber32 };
-
-    ghost needs = { NoNeed };
-
-    ghost grammar = { number32_grammar };
+    ghost format = { number32_format };
 
     fn decode<R: Reader>(_alloc: Global, reader: &mut R) -> Result<u32, encoding::Error>
         ensures gives { Decodes (λ x. x) (number_at w32) R.source reader.old result reader.new }
@@ -104,6 +89,7 @@ impl Decode for u32 {
         ensures asks { Asks encoding_cause NoNeed (R.source reader.old) result }
         ensures always { DecodesAlways (λ x. x) (number_at w32)
             R.source reader.old result reader.new }
+        ensures past { Stops encoding_cause number32_format (R.source reader.old) result }
     {
         let bytes = array_from::<4, R>(reader)?;
         Ok(u32::from_be_bytes(bytes))
@@ -111,7 +97,7 @@ impl Decode for u32 {
 }
 
 /// A number of eight bytes, most significant first (RFC 4251, section 5). Takes no memory.
-#[tactic(auto, using(crate::proofs::Steps::steps), unfolding(sshkey_model::specs::Reading::number_at))]
+#[tactic(auto, using(crate::proofs::Steps::steps, crate::proofs::Stopping::stopping), unfolding(sshkey_model::specs::Reading::number_at))]
 impl Decode for u64 {
     type Error = encoding::Error;
 
@@ -119,13 +105,7 @@ impl Decode for u64 {
 
     ghost means = { λ n. n };
 
-    ghost parse = { number_at w64 };
-
-    ghost Spells = { SpellsNumber64 };
-
-    ghost needs = { NoNeed };
-
-    ghost grammar = { number64_grammar };
+    ghost format = { number64_format };
 
     fn decode<R: Reader>(_alloc: Global, reader: &mut R) -> Result<u64, encoding::Error>
         ensures gives { Decodes (λ x. x) (number_at w64) R.source reader.old result reader.new }
@@ -133,6 +113,7 @@ impl Decode for u64 {
         ensures asks { Asks encoding_cause NoNeed (R.source reader.old) result }
         ensures always { DecodesAlways (λ x. x) (number_at w64)
             R.source reader.old result reader.new }
+        ensures past { Stops encoding_cause number64_format (R.source reader.old) result }
     {
         let bytes = array_from::<8, R>(reader)?;
         Ok(u64::from_be_bytes(bytes))
@@ -149,13 +130,7 @@ impl<const N: usize> Decode for [u8; N] {
 
     ghost means = { λ b. b };
 
-    ghost parse = { box_at (whole (bytes_at N)) };
-
-    ghost Spells = { SpellsArray N };
-
-    ghost needs = { NoNeed };
-
-    ghost grammar = { array_grammar N };
+    ghost format = { array_format N };
 
     fn decode<R: Reader>(_alloc: Global, reader: &mut R) -> Result<[u8; N], encoding::Error>
         ensures gives { Decodes (λ b. b) (box_at (whole (bytes_at N)))
@@ -164,7 +139,7 @@ impl<const N: usize> Decode for [u8; N] {
         ensures asks { Asks encoding_cause NoNeed (R.source reader.old) result }
         ensures always { DecodesAlways (λ b. b) (box_at (whole (bytes_at N)))
             R.source reader.old result reader.new }
-        ensures past { LengthPast encoding_cause (R.source reader.old) result }
+        ensures past { Stops encoding_cause (array_format N) (R.source reader.old) result }
     {
         reader.read_prefixed(
             |part: &mut NestedReader<'_, R>| -> encoding::Result<[u8; N]>
@@ -188,12 +163,13 @@ pub fn decode_boxed<T: Decode + Drop, R: Reader>(
     alloc: Global,
     reader: &mut R,
 ) -> Result<T, T::Error>
-    ensures past { LengthPast T.Error.cause (R.source reader.old) result }
-    ensures gives { Gives T.means T.Error.cause (box_at (whole T.parse))
+    ensures past { StopsBy T.Error.cause (box_at (whole T.format.read)) (NeedsBoxed T.format.needs)
+        (OverrunsBoxed T.format.overruns) (R.source reader.old) result }
+    ensures gives { Gives T.means T.Error.cause (box_at (whole T.format.read))
         (R.source reader.old) result (R.source reader.new) }
     ensures later { Later (R.source reader.old) (R.source reader.new) }
-    ensures asks { Asks T.Error.cause (NeedsBoxed T.needs) (R.source reader.old) result }
-    ensures accepts { AcceptsFront T.means (SpellsBoxed T.Spells) T.Error.cause
+    ensures asks { Asks T.Error.cause (NeedsBoxed T.format.needs) (R.source reader.old) result }
+    ensures accepts { AcceptsFront T.means (SpellsBoxed T.format.Spells) T.Error.cause
         (R.source reader.old) result (R.source reader.new) }
 {
     reader.read_prefixed(|part| T::decode(alloc, part))
@@ -205,11 +181,11 @@ pub fn decode_boxed<T: Decode + Drop, R: Reader>(
 /// refused only where no front of it spells any value, and out of memory is answered only where
 /// the value needs some: a stated length that passes what is left is `Length`.
 pub fn decode_front<T: Decode, R: Reader>(alloc: Global, reader: &mut R) -> Result<T, T::Error>
-    ensures gives { Gives T.means T.Error.cause T.parse
+    ensures gives { Gives T.means T.Error.cause T.format.read
         (R.source reader.old) result (R.source reader.new) }
     ensures later { Later (R.source reader.old) (R.source reader.new) }
-    ensures asks { Asks T.Error.cause T.needs (R.source reader.old) result }
-    ensures accepts { AcceptsFront T.means T.Spells T.Error.cause
+    ensures asks { Asks T.Error.cause T.format.needs (R.source reader.old) result }
+    ensures accepts { AcceptsFront T.means T.format.Spells T.Error.cause
         (R.source reader.old) result (R.source reader.new) }
 {
     T::decode(alloc, reader)
@@ -225,9 +201,9 @@ pub fn decode_whole<T: Decode + Drop, R: Reader + Drop>(
     alloc: Global,
     mut reader: R,
 ) -> Result<T, T::Error>
-    ensures gives { GivesWhole T.means T.Error.cause (whole T.parse) (R.source reader) result }
-    ensures asks { Asks T.Error.cause T.needs (R.source reader) result }
-    ensures accepts { AcceptsWhole T.means T.Spells T.Error.cause (R.source reader) result }
+    ensures gives { GivesWhole T.means T.Error.cause (whole T.format.read) (R.source reader) result }
+    ensures asks { Asks T.Error.cause T.format.needs (R.source reader) result }
+    ensures accepts { AcceptsWhole T.means T.format.Spells T.Error.cause (R.source reader) result }
 {
     let value = T::decode(alloc, &mut reader)?;
     Ok(reader.finish(value)?)

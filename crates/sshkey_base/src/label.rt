@@ -1,18 +1,18 @@
 //! Names that are read and written as strings.
 
-ghost use Rattle.std.specs.Prelude.{◌≡◌, ◌<◌, ◌+◌, ◌^◌, ℕ, List, true, Err, length, nat_le};
+ghost use Rattle.std.specs.Prelude.{◌≡◌, ◌+◌, ◌^◌, ℕ, List, true, Err, length, nat_le};
 ghost use Rattle.sshkey_model.specs.Names.{are_ascii};
 ghost use Rattle.sshkey_model.specs.Parts.{Parts, Any, bytes};
 ghost use Rattle.sshkey_model.specs.Reading.{Fault, Whole, Label as label_fault, bytes_at, checked_at};
 ghost use Rattle.sshkey_model.specs.Texts.{string};
-ghost use Rattle.sshkey_model.specs.Grammar.{Spells, Checks};
-ghost use Rattle.sshkey_model.proofs.CombinedReaders.{checked_string_reads};
-ghost use Rattle.sshkey_model.proofs.Grammars.{grammar};
+ghost use Rattle.sshkey_model.specs.Grammar.{Checks};
 ghost use Rattle.sshkey_base.specs.Causes.{encoding_cause};
 ghost use Rattle.sshkey_base.specs.Needs.{Asks};
-ghost use Rattle.sshkey_base.specs.Reading.{Decodes, LengthPast};
-ghost use Rattle.sshkey_base.specs.Source.{Later, announced_len};
-ghost use Rattle.sshkey_base.specs.Labels.{AsksNamed, LooksUp, NeedsBehind, label_at, label_grammar};
+ghost use Rattle.sshkey_base.specs.Formats.{label_format};
+ghost use Rattle.sshkey_base.specs.Reading.{Decodes};
+ghost use Rattle.sshkey_base.specs.Source.{Later};
+ghost use Rattle.sshkey_base.specs.Stops.{OverrunsBytes, OverrunsString, StopsBy};
+ghost use Rattle.sshkey_base.specs.Labels.{AsksNamed, LooksUp, NeedsBehind, label_at};
 
 use crate::decode::Decode;
 use crate::encode::{Encode, encode_string, string_len};
@@ -40,8 +40,11 @@ pub trait Label: Sized {
     /// The value of a name.
     ghost named: { Whole Named };
 
+    /// A name gives the value that has it.
+    ghost checks: { Checks Any bytes IsNamed (λ n. bytes (name n)) named };
+
     /// The string at the front needs memory, since the value keeps some.
-    ghost needs: { List ℕ → Type 0 };
+    ghost needs: { List ℕ → ℕ → Type 0 };
 
     /// The name, a text.
     fn label(&self) -> &str
@@ -52,9 +55,6 @@ pub trait Label: Sized {
     fn from_label(alloc: Global, text: &str) -> Result<Self>
         ensures gives { LooksUp stands_for named text.now result }
         ensures asks { AsksNamed encoding_cause needs text.now result };
-
-    /// A name gives the value that has it.
-    ghost checks: { Checks Any bytes IsNamed (λ n. bytes (name n)) named };
 
     /// Names are ASCII.
     ghost ascii: { (n : Named) → IsNamed n → are_ascii (name n) ≡ true };
@@ -76,13 +76,7 @@ impl<T: Label> Decode for T {
 
     ghost means = { T.stands_for };
 
-    ghost parse = { label_at T.named };
-
-    ghost Spells = { Spells T.IsNamed (λ n. string (T.name n)) };
-
-    ghost needs = { T.needs };
-
-    ghost grammar = { label_grammar T.checks };
+    ghost format = { label_format T.needs T.checks };
 
     #[inline(always)]
     fn decode<R: Reader>(alloc: Global, reader: &mut R) -> Result<T>
@@ -90,7 +84,8 @@ impl<T: Label> Decode for T {
             R.source reader.old result reader.new }
         ensures later { Later (R.source reader.old) (R.source reader.new) }
         ensures asks { Asks encoding_cause T.needs (R.source reader.old) result }
-        ensures past { LengthPast encoding_cause (R.source reader.old) result }
+        ensures past { StopsBy encoding_cause (label_at T.named) T.needs OverrunsString
+            (R.source reader.old) result }
     {
         let len = length_from(reader)?;
         name_from(alloc, len, reader)
@@ -106,7 +101,8 @@ fn name_from<T: Label, R: Reader>(alloc: Global, len: usize, reader: &mut R) -> 
         R.source reader.old result reader.new }
     ensures later { Later (R.source reader.old) (R.source reader.new) }
     ensures asks { Asks encoding_cause (NeedsBehind T.needs len) (R.source reader.old) result }
-    ensures past { announced_len (R.source reader.old) < len → result ≡ Err Error.Length }
+    ensures past { StopsBy encoding_cause (checked_at T.named (bytes_at len))
+        (NeedsBehind T.needs len) (OverrunsBytes len) (R.source reader.old) result }
 {
     if let Some(name) = reader.ahead(len) {
         let value = named(alloc, name)?;

@@ -23,12 +23,12 @@ pub use sshkey_model::laws::{
 
 /// What is written of a well-formed value that fits is read back as that value, whatever follows.
 pub fn read_back<T: NormalForm>()
-    ensures { ReadBackBefore T.IsWellFormed T.normal T.means T.parse }
+    ensures { ReadBackBefore T.IsWellFormed T.normal T.means T.format.read }
 {}
 
 /// No spelling begins another, and no bytes spell two values.
 pub fn one_front<T: Decode>()
-    ensures { OneFront T.Spells }
+    ensures { OneFront T.format.Spells }
 {}
 
 /// Two numbers are equal exactly if their bytes are. They are ordered by the first byte that

@@ -4,12 +4,13 @@ ghost use Rattle.std.specs.Prelude.{◌≡◌, ◌+◌, ◌<◌, ◌^◌, ℕ, L
 ghost use Rattle.sshkey_model.specs.Parts.{box, each};
 ghost use Rattle.sshkey_model.specs.Texts.{texts, texts_at};
 ghost use Rattle.sshkey_base.specs.Causes.{encoding_cause};
+ghost use Rattle.sshkey_base.specs.Formats.{Stops, texts_format};
 ghost use Rattle.sshkey_base.specs.Nested.{nested_source};
 ghost use Rattle.sshkey_base.specs.Needs.{Asks, NeedsString};
-ghost use Rattle.sshkey_base.specs.Reading.{Decodes, LengthPast, to_end};
+ghost use Rattle.sshkey_base.specs.Reading.{Decodes, to_end};
 ghost use Rattle.sshkey_base.specs.Source.{Later};
 ghost use Rattle.sshkey_base.specs.Sink.{Encodes, Measures, MeasuresBoxed};
-ghost use Rattle.sshkey_base.specs.TextLists.{SpellsTexts, texts_of, text_list_at, texts_grammar, texts_normal};
+ghost use Rattle.sshkey_base.specs.TextLists.{texts_of, text_list_at, texts_normal};
 
 use crate::decode::Decode;
 use crate::encode::{Encode, u32_of};
@@ -92,19 +93,13 @@ impl Decode for Vec<String> {
 
     ghost means = { texts_of };
 
-    ghost parse = { texts_at };
-
-    ghost Spells = { SpellsTexts };
-
-    ghost needs = { NeedsString };
-
-    ghost grammar = { texts_grammar };
+    ghost format = { texts_format };
 
     fn decode<R: Reader>(alloc: Global, reader: &mut R) -> Result<Vec<String>>
         ensures gives { Decodes texts_of texts_at R.source reader.old result reader.new }
         ensures later { Later (R.source reader.old) (R.source reader.new) }
         ensures asks { Asks encoding_cause NeedsString (R.source reader.old) result }
-        ensures past { LengthPast encoding_cause (R.source reader.old) result }
+        ensures past { Stops encoding_cause texts_format (R.source reader.old) result }
     {
         reader.read_prefixed(
             |part: &mut NestedReader<'_, R>| -> Result<Vec<String>>

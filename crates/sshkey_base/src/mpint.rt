@@ -214,13 +214,14 @@ impl fmt::Display for Mpint {
 ///
 /// `Length` where the string passes what is left, which no memory is asked for, and
 /// `FormatEncoding` where its bytes are those of no number.
-#[tactic(auto, using(crate::proofs::Steps::steps), unfolding(sshkey_model::specs::Mpints::mpint_at))]
+#[tactic(auto, using(crate::proofs::Steps::steps, crate::proofs::Stopping::stopping), unfolding(sshkey_model::specs::Mpints::mpint_at))]
 impl Decode for Mpint {
     ghost use Rattle.std.specs.Prelude.{ℕ, List};
     ghost use Rattle.sshkey_base.specs.Causes.{cause};
-    ghost use Rattle.sshkey_base.specs.Mpint.{SpellsMpint, mpint_grammar, mpint_of};
+    ghost use Rattle.sshkey_base.specs.Mpint.{mpint_of};
     ghost use Rattle.sshkey_model.specs.Mpints.{mpint_at};
-    ghost use Rattle.sshkey_base.specs.Reading.{DecodesWide, LengthPast};
+    ghost use Rattle.sshkey_base.specs.Reading.{DecodesWide};
+    ghost use Rattle.sshkey_base.specs.Formats.{Stops, mpint_format};
     ghost use Rattle.sshkey_base.specs.Needs.{Asks, NeedsString};
     ghost use Rattle.sshkey_base.specs.Source.{Later};
 
@@ -230,19 +231,13 @@ impl Decode for Mpint {
 
     ghost means = { mpint_of };
 
-    ghost parse = { mpint_at };
-
-    ghost Spells = { SpellsMpint };
-
-    ghost needs = { NeedsString };
-
-    ghost grammar = { mpint_grammar };
+    ghost format = { mpint_format };
 
     fn decode<R: Reader>(alloc: Global, reader: &mut R) -> Result<Mpint>
         ensures gives { DecodesWide mpint_of mpint_at R.source reader.old result reader.new }
         ensures later { Later (R.source reader.old) (R.source reader.new) }
         ensures asks { Asks cause NeedsString (R.source reader.old) result }
-        ensures past { LengthPast cause (R.source reader.old) result }
+        ensures past { Stops cause mpint_format (R.source reader.old) result }
     {
         let bytes = Bytes::decode(alloc, reader)?;
         Mpint::from_vec(bytes.into_vec())

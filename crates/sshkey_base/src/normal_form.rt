@@ -20,7 +20,7 @@ pub trait NormalForm: Decode + Encode {
     ghost IsWellFormed: { Self → Type 0 };
 
     /// The normal form is a spelling of the value.
-    ghost normal_spells: { (x : Self) → IsWellFormed x → Fits (Self.normal x) → Self.Spells (Self.means x) (flat (Self.normal x)) };
+    ghost normal_spells: { (x : Self) → IsWellFormed x → Fits (Self.normal x) → Self.format.Spells (Self.means x) (flat (Self.normal x)) };
 }
 
 impl NormalForm for u8 {

@@ -3,9 +3,10 @@
 ghost use Rattle.std.specs.Prelude.{◌≡◌, ◌<◌, ◌≤◌, ℕ, List, Err, IfSome, length};
 ghost use Rattle.sshkey_model.specs.Reading.{bytes_at, checked_at};
 ghost use Rattle.sshkey_base.specs.Causes.{encoding_cause};
+ghost use Rattle.sshkey_base.specs.Formats.{Stops, short_format};
 ghost use Rattle.sshkey_base.specs.Needs.{Asks, NoNeed};
-ghost use Rattle.sshkey_base.specs.Reading.{Decodes, DecodesAlways, GivesAlways, LengthPast, Reads};
-ghost use Rattle.sshkey_base.specs.ShortStrings.{SpellsShort, at_most, short_at, short_grammar};
+ghost use Rattle.sshkey_base.specs.Reading.{Decodes, DecodesAlways, GivesAlways, Reads};
+ghost use Rattle.sshkey_base.specs.ShortStrings.{at_most, short_at};
 ghost use Rattle.sshkey_base.specs.Source.{Later, behind, announced_len};
 
 use crate::decode::Decode;
@@ -66,7 +67,7 @@ impl<const MAX: usize> ShortBytes<MAX> {
 /// A string of at most `MAX` bytes: a length of four bytes, and the bytes (RFC 4251, section 5).
 ///
 /// `Length` for a longer one, and for a length that passes what is left. Takes no memory.
-#[tactic(auto, using(crate::proofs::Steps::steps), unfolding(crate::specs::ShortStrings::short_at, sshkey_model::specs::Reading::string_at))]
+#[tactic(auto, using(crate::proofs::Steps::steps, crate::proofs::Stopping::stopping), unfolding(crate::specs::ShortStrings::short_at, sshkey_model::specs::Reading::string_at))]
 impl<const MAX: usize> Decode for ShortBytes<MAX> {
     ghost use Rattle.sshkey_base.specs.ShortBytes.{short_of};
 
@@ -76,13 +77,7 @@ impl<const MAX: usize> Decode for ShortBytes<MAX> {
 
     ghost means = { short_of };
 
-    ghost parse = { short_at MAX };
-
-    ghost Spells = { SpellsShort MAX };
-
-    ghost needs = { NoNeed };
-
-    ghost grammar = { short_grammar MAX };
+    ghost format = { short_format MAX };
 
     fn decode<R: Reader>(_alloc: Global, reader: &mut R) -> Result<ShortBytes<MAX>>
         ensures gives { Decodes short_of (short_at MAX) R.source reader.old result reader.new }
@@ -90,7 +85,7 @@ impl<const MAX: usize> Decode for ShortBytes<MAX> {
         ensures asks { Asks encoding_cause NoNeed (R.source reader.old) result }
         ensures always { DecodesAlways short_of (short_at MAX)
             R.source reader.old result reader.new }
-        ensures past { LengthPast encoding_cause (R.source reader.old) result }
+        ensures past { Stops encoding_cause (short_format MAX) (R.source reader.old) result }
     {
         let len = length_from(reader)?;
         ShortBytes::take_from(len, reader)

@@ -5,7 +5,8 @@ ghost use Rattle.std.specs.Int.{w32};
 ghost use Rattle.sshkey_model.specs.Reading.{number_at};
 ghost use Rattle.sshkey_base.specs.Causes.{encoding_cause};
 ghost use Rattle.sshkey_base.specs.Counts.{count_normal};
-ghost use Rattle.sshkey_base.specs.Leaves.{SpellsNumber32, number32_grammar, count};
+ghost use Rattle.sshkey_base.specs.Leaves.{count};
+ghost use Rattle.sshkey_base.specs.Formats.{Stops, number32_format};
 ghost use Rattle.sshkey_base.specs.Needs.{Asks, NoNeed};
 ghost use Rattle.sshkey_base.specs.Reading.{Decodes, DecodesAlways};
 ghost use Rattle.sshkey_base.specs.Sink.{Encodes};
@@ -20,7 +21,7 @@ use crate::writer::Writer;
 use std::alloc::Global;
 
 /// A number of four bytes, most significant first (RFC 4251, section 5). Takes no memory.
-#[tactic(auto, using(crate::proofs::Steps::steps))]
+#[tactic(auto, using(crate::proofs::Steps::steps, crate::proofs::Stopping::stopping))]
 impl Decode for usize {
     type Error = Error;
 
@@ -28,13 +29,7 @@ impl Decode for usize {
 
     ghost means = { λ n. n };
 
-    ghost parse = { number_at w32 };
-
-    ghost Spells = { SpellsNumber32 };
-
-    ghost needs = { NoNeed };
-
-    ghost grammar = { number32_grammar };
+    ghost format = { number32_format };
 
     fn decode<R: Reader>(_alloc: Global, reader: &mut R) -> Result<usize>
         ensures gives { Decodes (λ x. x) (number_at w32) R.source reader.old result reader.new }
@@ -42,6 +37,7 @@ impl Decode for usize {
         ensures asks { Asks encoding_cause NoNeed (R.source reader.old) result }
         ensures always { DecodesAlways (λ x. x) (number_at w32)
             R.source reader.old result reader.new }
+        ensures past { Stops encoding_cause number32_format (R.source reader.old) result }
     {
         length_from(reader)
     }

@@ -3,11 +3,12 @@
 ghost use Rattle.std.specs.Prelude.{ℕ, ◌+◌, ◌^◌, List, string_bytes};
 ghost use Rattle.sshkey_model.specs.Texts.{string};
 ghost use Rattle.sshkey_base.specs.Causes.{encoding_cause};
+ghost use Rattle.sshkey_base.specs.Formats.{Stops, text_format};
 ghost use Rattle.sshkey_base.specs.Needs.{Asks, NeedsString};
-ghost use Rattle.sshkey_base.specs.Reading.{Decodes, LengthPast};
+ghost use Rattle.sshkey_base.specs.Reading.{Decodes};
 ghost use Rattle.sshkey_base.specs.Source.{Later};
 ghost use Rattle.sshkey_model.specs.Texts.{text_at};
-ghost use Rattle.sshkey_base.specs.Texts.{SpellsText, text_grammar, string_text_normal};
+ghost use Rattle.sshkey_base.specs.Texts.{string_text_normal};
 
 use crate::decode::Decode;
 use crate::encode::{Encode, encode_string, string_len};
@@ -21,7 +22,7 @@ use std::alloc::Global;
 /// A string whose bytes are UTF-8, else `CharacterEncoding` (RFC 4251, section 5).
 ///
 /// A length that passes what is left is `Length`, and no memory is asked for it.
-#[tactic(auto, using(crate::proofs::Steps::steps))]
+#[tactic(auto, using(crate::proofs::Steps::steps, crate::proofs::Stopping::stopping))]
 impl Decode for String {
     type Error = Error;
 
@@ -29,19 +30,13 @@ impl Decode for String {
 
     ghost means = { string_bytes };
 
-    ghost parse = { text_at };
-
-    ghost Spells = { SpellsText };
-
-    ghost needs = { NeedsString };
-
-    ghost grammar = { text_grammar };
+    ghost format = { text_format };
 
     fn decode<R: Reader>(alloc: Global, reader: &mut R) -> Result<String>
         ensures gives { Decodes string_bytes text_at R.source reader.old result reader.new }
         ensures later { Later (R.source reader.old) (R.source reader.new) }
         ensures asks { Asks encoding_cause NeedsString (R.source reader.old) result }
-        ensures past { LengthPast encoding_cause (R.source reader.old) result }
+        ensures past { Stops encoding_cause text_format (R.source reader.old) result }
     {
         let text = Text::decode(alloc, reader)?;
         Ok(text.into_string())

@@ -4,11 +4,11 @@ ghost use Rattle.std.specs.Prelude.{◌≡◌, ℕ, ◌+◌, ◌^◌, List, IfOk
 ghost use Rattle.sshkey_model.specs.Texts.{string, text_from};
 ghost use Rattle.sshkey_base.specs.Answers.{AnswersAlways};
 ghost use Rattle.sshkey_base.specs.Causes.{encoding_cause};
+ghost use Rattle.sshkey_base.specs.Formats.{Stops, text_format};
 ghost use Rattle.sshkey_base.specs.Needs.{Asks, NeedsString};
-ghost use Rattle.sshkey_base.specs.Reading.{Decodes, LengthPast};
+ghost use Rattle.sshkey_base.specs.Reading.{Decodes};
 ghost use Rattle.sshkey_base.specs.Source.{Later};
 ghost use Rattle.sshkey_model.specs.Texts.{text_at};
-ghost use Rattle.sshkey_base.specs.Texts.{SpellsText, text_grammar};
 
 mod compare;
 
@@ -69,7 +69,7 @@ impl Text {
 /// A string whose bytes are UTF-8, else `CharacterEncoding` (RFC 4251, section 5).
 ///
 /// A length that passes what is left is `Length`, and no memory is asked for it.
-#[tactic(auto, using(crate::proofs::Steps::steps), unfolding(sshkey_model::specs::Texts::text_at))]
+#[tactic(auto, using(crate::proofs::Steps::steps, crate::proofs::Stopping::stopping), unfolding(sshkey_model::specs::Texts::text_at))]
 impl Decode for Text {
     type Error = Error;
 
@@ -77,19 +77,13 @@ impl Decode for Text {
 
     ghost means = { λ t. t };
 
-    ghost parse = { text_at };
-
-    ghost Spells = { SpellsText };
-
-    ghost needs = { NeedsString };
-
-    ghost grammar = { text_grammar };
+    ghost format = { text_format };
 
     fn decode<R: Reader>(alloc: Global, reader: &mut R) -> Result<Text>
         ensures gives { Decodes (λ t. t) text_at R.source reader.old result reader.new }
         ensures later { Later (R.source reader.old) (R.source reader.new) }
         ensures asks { Asks encoding_cause NeedsString (R.source reader.old) result }
-        ensures past { LengthPast encoding_cause (R.source reader.old) result }
+        ensures past { Stops encoding_cause text_format (R.source reader.old) result }
     {
         let bytes = Bytes::decode(alloc, reader)?;
         text_of(bytes)

@@ -6,10 +6,8 @@ use Rattle.sshkey_base.specs.Causes.{Cause}
 use Rattle.sshkey_base.specs.Source.{Source}
 use Rattle.sshkey_base.specs.Reading.{Reads, IsRefused, Gives}
 use Rattle.sshkey_base.proofs.Steps.{refused_first}
-
--- The record's reader gives what the test makes of the parts that the term's reader gives.
-pub record IsMapped {Y Z : Type 0} (record_at : Front Z) (form : Y → Result Z Fault) (read : Front Y) : Type 0 where
-  pub same : (b : List ℕ) → record_at b ≡ checked_at form read b
+use Rattle.sshkey_format.specs.Terms.{IsMapped}
+use Rattle.sshkey_format.proofs.Stopping.{mapped_stopped, mapped_stops}
 
 pub mapped_reads : {X Y Z W : Type 0} (parts : X → Y) (read : Front Y) (s t : Source) (x : X) (form : Y → Result Z Fault) (record_at : Front Z) (means : W → Z) (w : W) → Reads parts read s x t → IsMapped record_at form read → form (parts x) ≡ Ok (means w) → Reads means record_at s w t
 mapped_reads parts read s t x form record_at means w h same is = record { value = rw (same.same s.left, h.value, is) refl; missing = h.missing; outer = h.outer }
@@ -22,4 +20,4 @@ pub mapped_handed : {Y Z W E : Type 0} (read : Front Y) (s t : Source) (form : Y
 mapped_handed read s t form record_at means why (Ok w) e is same h = absurd is
 mapped_handed read s t form record_at means why (Err x) e is same h = rw is (mapped_refused read s.missing (why e) s.left form record_at same h)
 
-pub ruleset mapped = (mapped_reads, mapped_refused, mapped_handed)
+pub ruleset mapped = (mapped_reads, mapped_refused, mapped_handed, mapped_stopped, mapped_stops)

@@ -1,10 +1,6 @@
 //! A value in a string.
 
-ghost use Rattle.std.specs.Prelude.{◌≡◌, ℕ, List};
-ghost use Rattle.sshkey_model.specs.Reading.{box_at, whole};
-ghost use Rattle.sshkey_base.specs.Needs.{NeedsBoxed};
-ghost use Rattle.sshkey_base.specs.Reading.{SpellsBoxed};
-ghost use Rattle.sshkey_base.proofs.BoxGrammars.{box_grammar};
+ghost use Rattle.sshkey_format.specs.Terms.{boxed};
 
 use sshkey_base::{Decode, Reader, decode_boxed};
 use std::alloc::Global;
@@ -24,13 +20,7 @@ impl<T: Decode + Drop> Decode for Boxed<T> {
 
     ghost means = { λ x. T.means x.0 };
 
-    ghost parse = { box_at (whole T.parse) };
-
-    ghost Spells = { SpellsBoxed T.Spells };
-
-    ghost needs = { NeedsBoxed T.needs };
-
-    ghost grammar = { box_grammar T.grammar };
+    ghost format = { boxed T.format };
 
     #[inline(always)]
     fn decode<R: Reader>(alloc: Global, reader: &mut R) -> Result<Boxed<T>, T::Error> {

@@ -1,8 +1,6 @@
 //! A value behind another.
 
-ghost use Rattle.std.specs.Prelude.{◌≡◌, ℕ, List};
-ghost use Rattle.sshkey_base.specs.Needs.{NeedsBoth};
-ghost use Rattle.sshkey_format.specs.Behind.{SpellsBoth, both_at, both_grammar};
+ghost use Rattle.sshkey_format.specs.Terms.{◌then◌};
 
 use sshkey_base::{Decode, Reader};
 use std::alloc::Global;
@@ -14,7 +12,7 @@ use std::alloc::Global;
 #[derive(Drop)]
 pub struct Then<A, B>(pub A, pub B);
 
-#[tactic(auto, using(sshkey_base::proofs::Steps::steps), unfolding(crate::specs::Behind::behind_at))]
+#[tactic(auto, using(sshkey_base::proofs::Steps::steps, crate::proofs::Stopping::stopping), unfolding(crate::specs::Behind::behind_at))]
 impl<A: Decode + Drop, B: Decode<Error = A::Error>> Decode for Then<A, B> {
     type Error = A::Error;
 
@@ -22,13 +20,7 @@ impl<A: Decode + Drop, B: Decode<Error = A::Error>> Decode for Then<A, B> {
 
     ghost means = { λ x. (A.means x.0, B.means x.1) };
 
-    ghost parse = { both_at A.parse B.parse };
-
-    ghost Spells = { SpellsBoth A.Spells B.Spells };
-
-    ghost needs = { NeedsBoth A.needs A.parse B.needs };
-
-    ghost grammar = { both_grammar A.grammar B.grammar };
+    ghost format = { A.format then B.format };
 
     #[inline(always)]
     fn decode<R: Reader>(alloc: Global, reader: &mut R) -> Result<Then<A, B>, A::Error> {

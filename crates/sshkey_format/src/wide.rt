@@ -1,7 +1,5 @@
 //! A value of the encoding among values of keys.
 
-ghost use Rattle.std.specs.Prelude.{◌≡◌, ℕ, List};
-
 use sshkey_base::{Decode, Error, Reader, Result, encoding};
 use std::alloc::Global;
 
@@ -19,13 +17,7 @@ impl<T: Decode<Error = encoding::Error>> Decode for Wide<T> {
 
     ghost means = { λ x. T.means x.0 };
 
-    ghost parse = { T.parse };
-
-    ghost Spells = { T.Spells };
-
-    ghost needs = { T.needs };
-
-    ghost grammar = { T.grammar };
+    ghost format = { T.format };
 
     #[inline(always)]
     fn decode<R: Reader>(alloc: Global, reader: &mut R) -> Result<Wide<T>> {

@@ -7,7 +7,9 @@ ghost use Rattle.sshkey_model.specs.Names.{named};
 ghost use Rattle.sshkey_model.specs.Names as model;
 ghost use Rattle.sshkey_model.specs.Parts.{bytes};
 ghost use Rattle.sshkey_model.specs.Reading as fault;
-ghost use Rattle.sshkey_base.specs.Reading.{AcceptsFront, DecodesWide, LengthPast};
+ghost use Rattle.sshkey_base.specs.Reading.{AcceptsFront, DecodesWide};
+ghost use Rattle.sshkey_base.specs.Formats.{Stops};
+ghost use Rattle.sshkey_base.specs.NameFormats.{certified_format};
 ghost use Rattle.sshkey_base.specs.Causes.{cause};
 ghost use Rattle.sshkey_base.specs.Names.{IsFixed, algorithm_of};
 ghost use Rattle.sshkey_base.specs.Answers.{Judges, Names};
@@ -119,7 +121,7 @@ impl Algorithm {
     /// `Length` where the string is not there whole, and no memory is asked for it then; `Label`
     /// where it is no such name. After a refusal some of the bytes may be passed.
     pub fn decode_certificate<R: Reader>(alloc: Global, reader: &mut R) -> Result<Algorithm>
-        ensures past { LengthPast cause (R.source reader.old) result }
+        ensures past { Stops cause certified_format (R.source reader.old) result }
         ensures gives { DecodesWide algorithm_of certificate_algorithm_at
             R.source reader.old result reader.new }
         ensures later { Later (R.source reader.old) (R.source reader.new) }
@@ -171,7 +173,7 @@ impl Algorithm {
 
 #[tactic(auto, using(crate::proofs::Steps::steps), unfolding(sshkey_model::specs::CertificateNames::certificate_algorithm_at))]
 fn read_certificate_type<R: Reader>(alloc: Global, reader: &mut R) -> Result<Algorithm>
-    ensures past { LengthPast cause (R.source reader.old) result }
+    ensures past { Stops cause certified_format (R.source reader.old) result }
     ensures gives { DecodesWide algorithm_of certificate_algorithm_at
         R.source reader.old result reader.new }
     ensures later { Later (R.source reader.old) (R.source reader.new) }

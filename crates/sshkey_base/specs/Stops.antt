@@ -1,0 +1,50 @@
+-- How a reading call refuses on any source, also on one with a fault.
+use Rattle.std.specs.Prelude.{◌≡◌, ◌≤◌, ◌<◌, ◌+◌, ◌-◌, ℕ, List, length, take, IsOk, IsOkAnd, Result, Ok, Err, ◌⊎◌}
+use Rattle.std.specs.Int.{w32}
+use Rattle.sshkey_model.specs.Reading.{Length, Front, number_at}
+use Rattle.sshkey_base.specs.Causes.{Cause, NoMemory, Faulty}
+use Rattle.sshkey_base.specs.Source.{Source}
+
+-- Each of these is asked about the bytes before the end or the fault, and how many more were announced behind them: a
+-- stated length passes all of that.
+
+-- no length stands in it
+abbrev pub NoOverrun : List ℕ → ℕ → Type 0
+NoOverrun b m = ⊥
+
+-- The length of the string at the front passes.
+abbrev pub OverrunsString : List ℕ → ℕ → Type 0
+OverrunsString b m = IsOkAnd (number_at w32 b) (λ x. length x.1 + m < x.0)
+
+-- So do n bytes.
+abbrev pub OverrunsBytes : ℕ → List ℕ → ℕ → Type 0
+OverrunsBytes n b m = length b + m < n
+
+-- The first value overruns, or it stands there and the second overruns behind it, which may depend on the first.
+abbrev pub OverrunsThen : {A : Type 0} → (List ℕ → ℕ → Type 0) → Front A → (A → List ℕ → ℕ → Type 0) → List ℕ → ℕ → Type 0
+OverrunsThen first read second b m = first b m ⊎ IsOkAnd (read b) (λ x. second x.0 x.1 m)
+
+-- The length of the box passes, or the value overruns in as much of the box as was announced.
+abbrev pub OverrunsBoxed : (List ℕ → ℕ → Type 0) → List ℕ → ℕ → Type 0
+OverrunsBoxed inner b m = OverrunsString b m ⊎ IsOkAnd (number_at w32 b) (λ x. (x.0 ≤ length x.1 + m) × inner (take x.0 x.1) (x.0 - length x.1))
+
+-- What overruns is a fault of the plain reader: so nothing that overruns is accepted.
+abbrev pub AreLengths : {Y : Type 0} → Front Y → (List ℕ → ℕ → Type 0) → Type 0
+AreLengths read overruns = (b : List ℕ) (m : ℕ) → overruns b m → read b ≡ Err Length
+
+-- Memory ran out where it is needed.
+pub record RanOut (cause : Cause) (needs : List ℕ → ℕ → Type 0) (s : Source) : Type 0 where
+  pub memory : cause ≡ NoMemory
+  pub needed : needs s.left s.missing
+
+-- What is said of a refusal.
+pub record Stopped {Y : Type 0} (cause : Cause) (read : Front Y) (needs overruns : List ℕ → ℕ → Type 0) (s : Source) : Type 0 where
+  -- What the plain reader takes of the bytes before the fault is refused only for memory that it needs.
+  pub takes : IsOk (read s.left) → RanOut cause needs s
+  -- A length that passes all that was announced is `Length`, unless memory ran out for a value before it.
+  pub past : overruns s.left s.missing → (cause ≡ Faulty Length) ⊎ RanOut cause needs s
+
+-- a call, whatever source it reads
+abbrev pub StopsBy : {X Y E : Type 0} → (E → Cause) → Front Y → (needs overruns : List ℕ → ℕ → Type 0) → Source → Result X E → Type 0
+StopsBy cause read needs overruns s (Ok x) = Unit {0}
+StopsBy cause read needs overruns s (Err e) = Stopped (cause e) read needs overruns s

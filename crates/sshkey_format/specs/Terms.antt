@@ -1,0 +1,81 @@
+-- The terms that formats are made of. A format is read aloud as it stands: `mpint_format then mpint_format` is two
+-- numbers, one behind the other.
+use Rattle.std.proofs.Common.{◌≡◌, inl, inr, ℕ, List, Result, Ok, Err, refl}
+use Rattle.std.specs.Prelude.{IsOkAnd}
+use Rattle.sshkey_model.specs.Reading.{Fault, Length, ◌>>=◌, Front, whole, box_at, checked_at}
+use Rattle.sshkey_model.specs.Grammar.{IsGrammar}
+use Rattle.sshkey_base.specs.Formats.{Format}
+use Rattle.sshkey_base.specs.Lengths.{boxed_lengths}
+use Rattle.sshkey_base.specs.Needs.{NeedsThen, NeedsBoxed}
+use Rattle.sshkey_base.specs.Reading.{SpellsBoxed}
+use Rattle.sshkey_base.specs.Stops.{OverrunsThen, OverrunsBoxed, AreLengths}
+use Rattle.sshkey_base.proofs.BoxGrammars.{box_grammar}
+use Rattle.sshkey_format.specs.Behind.{behind_at, both_at, SpellsThen, SpellsBoth, then_grammar, both_grammar}
+
+-- Where a length passes in the first value, or behind it in the second, `Length` is met.
+module _ {A B : Type 0} {over : List ℕ → ℕ → Type 0} {read : Front A} {overs : A → List ℕ → ℕ → Type 0} {next : A → Front B} where
+  abbrev with_first : A → B × List ℕ → Result ((A × B) × List ℕ) Fault
+  with_first a y = Ok ((a, y.0), y.1)
+
+  pub then_lengths : AreLengths read over → ((a : A) → AreLengths (next a) (overs a)) → AreLengths (behind_at read next) (OverrunsThen over read overs)
+  unfolding behind_at
+  then_lengths f g b m (inl o) = rw (f b m o) refl
+  then_lengths f g b m (inr o) = go (read b) o
+    where
+      go : (r : Result (A × List ℕ) Fault) → IsOkAnd r (λ x. overs x.0 x.1 m) → (r >>= λ x. next x.0 x.1 >>= with_first x.0) ≡ Err Length
+      go (Ok x) o = rw (g x.0 x.1 m o) refl
+      go (Err e) o = absurd o
+
+-- a value, and another one behind it
+infixr 5 ◌then◌
+abbrev pub ◌then◌ : {A B : Type 0} → Format A → Format B → Format (A × B)
+first then second = record {
+  Spells = SpellsBoth first.Spells second.Spells;
+  read = both_at first.read second.read;
+  needs = NeedsThen first.needs first.read (λ _. second.needs);
+  overruns = OverrunsThen first.overruns first.read (λ _. second.overruns);
+  grammar = both_grammar first.grammar second.grammar;
+  lengths = then_lengths first.lengths (λ _. second.lengths);
+}
+
+-- a value, and behind it what that value calls for
+abbrev pub choice : {A B : Type 0} → Format A → (A → Format B) → Format (A × B)
+choice first second = record {
+  Spells = SpellsThen first.Spells (λ a. (second a).Spells);
+  read = behind_at first.read (λ a. (second a).read);
+  needs = NeedsThen first.needs first.read (λ a. (second a).needs);
+  overruns = OverrunsThen first.overruns first.read (λ a. (second a).overruns);
+  grammar = then_grammar first.grammar (λ a. (second a).grammar);
+  lengths = then_lengths first.lengths (λ a. (second a).lengths);
+}
+
+-- a value in a string: a length of four bytes, and the bytes of the value (RFC 4251, section 5)
+abbrev pub boxed : {A : Type 0} → Format A → Format A
+boxed inner = record {
+  Spells = SpellsBoxed inner.Spells;
+  read = box_at (whole inner.read);
+  needs = NeedsBoxed inner.needs;
+  overruns = OverrunsBoxed inner.overruns;
+  grammar = box_grammar inner.grammar;
+  lengths = boxed_lengths inner.lengths;
+}
+
+-- ---- a record, which has a spelling and a plain reader of its own
+
+-- The record's reader gives what the test makes of the parts that the term's reader gives.
+pub record IsMapped {Y Z : Type 0} (record_at : Front Z) (form : Y → Result Z Fault) (read : Front Y) : Type 0 where
+  pub same : (b : List ℕ) → record_at b ≡ checked_at form read b
+
+mapped_lengths : {Y Z : Type 0} {record_at : Front Z} {form : Y → Result Z Fault} {read : Front Y} {overruns : List ℕ → ℕ → Type 0} → IsMapped record_at form read → AreLengths read overruns → AreLengths record_at overruns
+mapped_lengths m h b n o = rw (m.same b, h b n o) refl
+
+-- It needs memory where its parts do, and its lengths are theirs.
+abbrev pub made_of : {Y Z : Type 0} {record_at : Front Z} {form : Y → Result Z Fault} {Spells : Z → List ℕ → Type 0} (parts : Format Y) → IsMapped record_at form parts.read → IsGrammar Spells record_at → Format Z
+made_of {Y} {Z} {record_at} {form} {Spells} parts mapped grammar = record {
+  Spells = Spells;
+  read = record_at;
+  needs = parts.needs;
+  overruns = parts.overruns;
+  grammar = grammar;
+  lengths = mapped_lengths mapped parts.lengths;
+}
