@@ -6,5 +6,6 @@ pub mod Judging
 pub mod Mapped
 pub mod Places
 pub mod Steps
+pub mod Stopping
 pub mod Writing
 mod NormalForms

@@ -4,6 +4,9 @@ pub use Rattle.sshkey_base.specs.Acceptance
 pub use Rattle.sshkey_base.specs.Source
 pub use Rattle.sshkey_base.specs.Reading
 pub use Rattle.sshkey_base.specs.Needs
+pub use Rattle.sshkey_base.specs.Stops
+pub use Rattle.sshkey_base.specs.Lengths
+pub use Rattle.sshkey_base.specs.Formats
 pub use Rattle.sshkey_base.specs.Nested
 pub use Rattle.sshkey_base.specs.Sink
 pub use Rattle.sshkey_base.specs.SliceWriter
@@ -22,6 +25,7 @@ pub use Rattle.sshkey_base.specs.TextLists
 pub use Rattle.sshkey_base.specs.Equality
 pub use Rattle.sshkey_base.specs.Names
 pub use Rattle.sshkey_base.specs.NameNeeds
+pub use Rattle.sshkey_base.specs.NameFormats
 pub use Rattle.sshkey_base.specs.AlgorithmName
 pub use Rattle.sshkey_base.specs.Digests
 pub use Rattle.sshkey_base.specs.Fields

@@ -1,1 +1,2 @@
 pub use Rattle.sshkey_format.specs.Behind
+pub use Rattle.sshkey_format.specs.Terms

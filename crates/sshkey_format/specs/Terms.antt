@@ -12,11 +12,11 @@ use Rattle.sshkey_base.specs.Stops.{OverrunsThen, OverrunsBoxed, AreLengths}
 use Rattle.sshkey_base.proofs.BoxGrammars.{box_grammar}
 use Rattle.sshkey_format.specs.Behind.{behind_at, both_at, SpellsThen, SpellsBoth, then_grammar, both_grammar}
 
+abbrev with_first : {A B : Type 0} → A → B × List ℕ → Result ((A × B) × List ℕ) Fault
+with_first a y = Ok ((a, y.0), y.1)
+
 -- Where a length passes in the first value, or behind it in the second, `Length` is met.
 module _ {A B : Type 0} {over : List ℕ → ℕ → Type 0} {read : Front A} {overs : A → List ℕ → ℕ → Type 0} {next : A → Front B} where
-  abbrev with_first : A → B × List ℕ → Result ((A × B) × List ℕ) Fault
-  with_first a y = Ok ((a, y.0), y.1)
-
   pub then_lengths : AreLengths read over → ((a : A) → AreLengths (next a) (overs a)) → AreLengths (behind_at read next) (OverrunsThen over read overs)
   unfolding behind_at
   then_lengths f g b m (inl o) = rw (f b m o) refl
@@ -66,7 +66,7 @@ boxed inner = record {
 pub record IsMapped {Y Z : Type 0} (record_at : Front Z) (form : Y → Result Z Fault) (read : Front Y) : Type 0 where
   pub same : (b : List ℕ) → record_at b ≡ checked_at form read b
 
-mapped_lengths : {Y Z : Type 0} {record_at : Front Z} {form : Y → Result Z Fault} {read : Front Y} {overruns : List ℕ → ℕ → Type 0} → IsMapped record_at form read → AreLengths read overruns → AreLengths record_at overruns
+pub mapped_lengths : {Y Z : Type 0} {record_at : Front Z} {form : Y → Result Z Fault} {read : Front Y} {overruns : List ℕ → ℕ → Type 0} → IsMapped record_at form read → AreLengths read overruns → AreLengths record_at overruns
 mapped_lengths m h b n o = rw (m.same b, h b n o) refl
 
 -- It needs memory where its parts do, and its lengths are theirs.

@@ -9,9 +9,9 @@ use Rattle.sshkey_public.specs.LineNeeds.{AsksWord}
 use Rattle.sshkey_public.specs.Words.{IsFaultOfWords}
 
 -- a call that reads all of a source of the word's bytes
-pub word_asks : {X : Type 0} (needs : List ℕ → Type 0) (word : List ℕ) (s : Source) (r : Result X wide.Error) → IsSourceOf word s → Asks cause needs s r → AsksWord needs word r
+pub word_asks : {X : Type 0} (needs : List ℕ → ℕ → Type 0) (word : List ℕ) (s : Source) (r : Result X wide.Error) → IsSourceOf word s → Asks cause needs s r → AsksWord needs word r
 word_asks needs word s (Ok x) of h = tt
-word_asks needs word s (Err e) of h = λ memory blob are is. let all = of.every blob are is in subst needs all.1 (h memory all.0)
+word_asks needs word s (Err e) of h = λ memory blob are is. let all = of.every blob are is in rw (all.1, all.0) at (h memory all.0)
 
 -- a line without words asks for none
 pub words_given : (e : wide.Error) → IsFaultOfWords e → cause e ≡ NoMemory → ⊥

@@ -7,16 +7,16 @@ use Rattle.sshkey_base.specs.declared.error.Error.{Error}
 use Rattle.sshkey_model.specs.Lines.{IsCut, IsLineOf}
 
 -- The bytes need memory whose word in Base64 it is. Nothing is said of a word of no bytes.
-abbrev pub NeedsWord : (List ℕ → Type 0) → List ℕ → Type 0
-NeedsWord needs word = (blob : List ℕ) → IsBytes blob → word ≡ encode_of standard blob → needs blob
+abbrev pub NeedsWord : (List ℕ → ℕ → Type 0) → List ℕ → Type 0
+NeedsWord needs word = (blob : List ℕ) → IsBytes blob → word ≡ encode_of standard blob → needs blob 0
 
 -- Memory was refused only where the bytes of the word need it.
-abbrev pub AsksWord : {X : Type 0} → (List ℕ → Type 0) → List ℕ → Result X Error → Type 0
+abbrev pub AsksWord : {X : Type 0} → (List ℕ → ℕ → Type 0) → List ℕ → Result X Error → Type 0
 AsksWord needs word (Ok x) = Unit {0}
 AsksWord needs word (Err e) = cause e ≡ NoMemory → NeedsWord needs word
 
 -- The text is cut into words, and the bytes of the second need memory.
-pub record NeedsValue (needs : List ℕ → Type 0) (text : List ℕ) : Type 0 where
+pub record NeedsValue (needs : List ℕ → ℕ → Type 0) (text : List ℕ) : Type 0 where
   pub first : List ℕ
   pub word : List ℕ
   pub comment : List ℕ
@@ -31,6 +31,6 @@ pub record HasComment {V : Type 0} (name : V → List ℕ) (Spelling : V → Lis
   pub some : 0 < length comment
 
 -- Memory was refused only for the value in the text, or for the comment of a line.
-abbrev pub AsksLine : {X V : Type 0} → (V → List ℕ) → (V → List ℕ → Type 0) → (List ℕ → Type 0) → List ℕ → Result X Error → Type 0
+abbrev pub AsksLine : {X V : Type 0} → (V → List ℕ) → (V → List ℕ → Type 0) → (List ℕ → ℕ → Type 0) → List ℕ → Result X Error → Type 0
 AsksLine name Spelling needs text (Ok x) = Unit {0}
 AsksLine name Spelling needs text (Err e) = cause e ≡ NoMemory → NeedsValue needs text ⊎ HasComment name Spelling text

@@ -5,10 +5,10 @@ ghost use Rattle.std.specs.Prelude.{◌+◌, ◌*◌, ◌^◌};
 ghost use Rattle.ssh_key.specs.base.Causes.{encoding_cause};
 ghost use Rattle.ssh_key.specs.base.Reading.{AcceptsWhole};
 ghost use Rattle.ssh_key.specs.base.Source.{all_of};
-ghost use Rattle.sshkey_uses.specs.SignRequests.{NeedsRequest, Request, SpellsRequest, request, request_at, request_grammar, request_normal, request_of};
+ghost use Rattle.sshkey_uses.specs.SignRequests.{Request, SpellsRequest, request, request_format, request_normal, request_of};
 
 use ssh_key::encoding::{
-    Bytes, Decode, Encode, Error, NormalForm, Reader, Result, Writer, both_len, decode_whole,
+    Bytes, Decode, Encode, Error, NormalForm, Reader, Result, Then, Writer, both_len, decode_whole,
 };
 use std::alloc::Global;
 
@@ -23,7 +23,7 @@ pub struct SignRequest {
     pub flags: u32,
 }
 
-#[tactic(auto, using(ssh_key::proofs::Steps::steps), unfolding(crate::specs::SignRequests::request_at))]
+#[tactic(auto, using(ssh_key::proofs::Mapped::mapped, crate::specs::SignRequests::request_parts_read))]
 impl Decode for SignRequest {
     type Error = Error;
 
@@ -31,18 +31,11 @@ impl Decode for SignRequest {
 
     ghost means = { request_of };
 
-    ghost parse = { request_at };
-
-    ghost Spells = { SpellsRequest };
-
-    ghost needs = { NeedsRequest };
-
-    ghost grammar = { request_grammar };
+    ghost format = { request_format };
 
     fn decode<R: Reader>(alloc: Global, reader: &mut R) -> Result<SignRequest> {
-        let key = Bytes::decode(alloc, reader)?;
-        let message = Bytes::decode(alloc, reader)?;
-        let flags = u32::decode(alloc, reader)?;
+        let Then(key, Then(message, flags)) =
+            Then::<Bytes, Then<Bytes, u32>>::decode(alloc, reader)?;
         Ok(SignRequest {
             key,
             message,
