@@ -1,6 +1,6 @@
 //! Values from sources that break off.
 
-use crate::bytes::NO_LINE;
+use crate::bytes::{NO_LINE, part};
 use sshkey_base::{Algorithm, Decode, Error, Mpint, Reader, Result, encoding};
 use sshkey_cert::Certificate;
 use sshkey_ciphers::Kdf;
@@ -34,6 +34,47 @@ pub(crate) fn value(alloc: Global, kind: &str, bytes: &[u8]) -> Result<String> {
         "private-key" => each_of_private(alloc, bytes),
         _ => Err(NO_LINE),
     }
+}
+
+/// At how many of the places the length that is `ffffffff` there is refused as such, where the
+/// source breaks off behind it and what is left of the value is missing, or at which it is not. A
+/// place is two bytes.
+pub(crate) fn overlong(alloc: Global, kind: &str, parts: &[Vec<u8>]) -> Result<String> {
+    let (bytes, places) = (part(parts, 0), part(parts, 1));
+    match kind {
+        "algorithm" => each_place::<Algorithm>(alloc, bytes, places),
+        "mpint" => each_place::<Mpint>(alloc, bytes, places),
+        "list" => each_place::<Vec<String>>(alloc, bytes, places),
+        "key" => each_place::<KeyData>(alloc, bytes, places),
+        "signature" => each_place::<Signature>(alloc, bytes, places),
+        "options" => each_place::<OptionsMap>(alloc, bytes, places),
+        "certificate" => each_place::<Certificate>(alloc, bytes, places),
+        "ssh-signature" => each_place::<SshSig>(alloc, bytes, places),
+        "scalar" => each_place::<EcdsaPrivateKey<32>>(alloc, bytes, places),
+        "derivation" => each_place::<Kdf>(alloc, bytes, places),
+        "pair" => each_place::<KeypairData>(alloc, bytes, places),
+        _ => Err(NO_LINE),
+    }
+}
+
+fn each_place<T>(alloc: Global, bytes: &[u8], places: &[u8]) -> Result<String>
+where
+    T: Decode + Drop,
+    Error: From<T::Error>,
+{
+    for place in places.chunks_exact(2) {
+        let at = place.iter().fold(0, |number, byte| number * 256 + usize::from(*byte));
+        let mut front = Vec::from_slice(alloc, bytes.get(..at).unwrap_or(bytes))?;
+        front.extend_from_slice(&[0xff; 4])?;
+        let missing = u32::try_from(bytes.len().saturating_sub(front.len())).unwrap_or(u32::MAX);
+        match refusal::<T>(alloc, &mut Faulty::new(&front, missing)) {
+            Some(Error::Encoding(encoding::Error::Length)) => {}
+            Some(Error::Memory) => return Err(Error::Memory),
+            Some(error) => return Ok(format!(in alloc; "at {at}: {error}")?),
+            None => return Ok(format!(in alloc; "at {at}: read")?),
+        }
+    }
+    Ok(format!(in alloc; "invalid at each of {}", places.len() / 2)?)
 }
 
 /// The source of the first `len` bytes, which lacks the others.

@@ -30,6 +30,7 @@ pub(crate) fn answer_line<R: Files>(rt: &R, alloc: Global, line: &str) -> Result
         "beginnings" => beginnings(alloc, kind, part(&parts(alloc, behind)?, 0)),
         "copy" => copies::value(alloc, kind, &parts(alloc, behind)?),
         "faulty" => faulty::value(alloc, kind, part(&parts(alloc, behind)?, 0)),
+        "overlong" => faulty::overlong(alloc, kind, &parts(alloc, behind)?),
         "file" => files::value(rt, alloc, kind, &parts(alloc, behind)?),
         "narrow" => narrow::value(alloc, kind, part(&parts(alloc, behind)?, 0)),
         "without-memory" | "with-memory" => without_memory::value(
