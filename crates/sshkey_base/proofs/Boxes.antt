@@ -13,7 +13,7 @@ use Rattle.sshkey_base.specs.Causes.{Cause, NoMemory, Faulty, encoding_cause}
 use Rattle.sshkey_base.specs.Source.{Outer, Source, IsSound, announced_len, part}
 use Rattle.sshkey_base.specs.Reading.{Reads, Refuses, IsRefused, Gives, GivesAlways}
 use Rattle.sshkey_base.specs.Needs.{Asks, NeedsString, NeedsBoxed}
-use Rattle.sshkey_base.specs.Stops.{OverrunsString, OverrunsBoxed, AreLengths, RanOut, Stopped, StopsBy}
+use Rattle.sshkey_base.specs.Stops.{OverrunsString, OverrunsBoxed, AreLengths, RanOut, Stopped, StopsBy, StopsToEnd}
 use Rattle.sshkey_base.specs.Nested.{ReadsBy, AsksBy, Calls, Past, Trails, Finishes, NoLength, Prefixed}
 use Rattle.sshkey_base.proofs.Judging.{only_memory}
 use Rattle.sshkey_base.proofs.Stopping.{passes, step_ok, not_taken, refused_stopped}
@@ -126,20 +126,30 @@ module _ {Y : Type 0} (read : Front Y) where
         let v = h.value in
         absurd cc
 
-  box_stopped_outside : (c : Cause) (s t : Source) (n name : ℕ) → Reads (λ k. k) (number_at w32) s n t → n ≤ announced_len t → IsRefused (n - length t.left) c (read (take n t.left)) → Stopped c (box_at (whole read)) NeedsString OverrunsString s
+  -- of a value that is read to the end
+  box_stopped_to_end : (overruns : List ℕ → ℕ → Type 0) (c : Cause) (s t : Source) (n name : ℕ) → Reads (λ k. k) (number_at w32) s n t → n ≤ announced_len t → IsRefused (n - length t.left) c (read (take n t.left)) → (overruns (take n t.left) (n - length t.left) → (c ≡ Faulty Length) ⊎ (c ≡ NoMemory)) → Stopped c (box_at (whole read)) NeedsString (OverrunsBoxed overruns) s
   unfolding box_at
-  box_stopped_outside c s t n name a le k = record {
+  box_stopped_to_end overruns c s t n name a le k past = record {
     takes = λ ok. elim (cases_lt (length t.left) n) [
       | inl lt ↦ not_taken (box_at (whole read) s.left) Length (rw (a.value, lt-ltb _ _ lt) refl) ok
       | inr ge ↦
           let inner : IsOk (read (take n t.left)) = step_ok (read (take n t.left)) _ (step_ok (whole read (take n t.left)) _ (rw (a.value, le-ltb _ _ ge) at ok)) in
-          record {
-            memory = only_memory c (λ other. let f = err_from_is_err_and (read (take n t.left)) (k.fault other (omega (arith, ge))) in not_taken (read (take n t.left)) f.0 f.1 inner);
-            needed = rw (a.value, ← a.missing) le;
-          }
+          ran (only_memory c (λ other. let f = err_from_is_err_and (read (take n t.left)) (k.fault other (omega (arith, ge))) in not_taken (read (take n t.left)) f.0 f.1 inner))
     ];
-    past = λ o. absurd (within_not n s t a le o);
+    past = go;
   }
+    where
+      ran : c ≡ NoMemory → RanOut c NeedsString s
+      ran memory = record { memory = memory; needed = rw (a.value, ← a.missing) le }
+
+      go : OverrunsBoxed overruns s.left s.missing → (c ≡ Faulty Length) ⊎ RanOut c NeedsString s
+      go (inl o) = absurd (within_not n s t a le o)
+      go (inr o) =
+          let i : (n ≤ length t.left + s.missing) × overruns (take n t.left) (n - length t.left) = rw a.value at o in
+          elim (past i.1) [
+            | inl is ↦ inl is
+            | inr memory ↦ inr (ran memory)
+          ]
 
 -- A call of a closure over a part, seen as reading a box.
 module _ {F N T E Y : Type 0} (call : Once F (MutBor N × Unit {0}) (Result T E × (MutBor N × Unit {0}))) (source : N → Source) (from_gives : Error → E → Type 0) (cause : E → Cause) (f : F) (means : T → Y) (read : Front Y) (keeps : (x : Error) (e : E) → from_gives x e → cause e ≡ encoding_cause x) where
@@ -240,17 +250,22 @@ module _ {F N T E Y : Type 0} (call : Once F (MutBor N × Unit {0}) (Result T E 
         let g : Reads means read (part c.name c.len c.after) h.value (part h.other h.rest h.now) = rw (c.starts, h.ends) at (by c.given c.left (Ok h.value) c.met) in
         refused_stopped _ _ _ _ s (of_trails by s e h) (λ o. took read needs overruns means s c.after c.len c.name h.other h.rest h.now h.value never c.number c.within g o)
 
-  -- Of any closure, where nothing is said of how it stops on a source with a fault: the length of the box alone.
-  module _ (by : ReadsBy call source cause f means read) where
-    pub prefixed_stops_outside : (s u : Source) (r : Result T E) → Prefixed call source from_gives f s r u → StopsBy cause (box_at (whole read)) NeedsString OverrunsString s r
-    prefixed_stops_outside s u (Ok x) h = tt
-    prefixed_stops_outside s u (Err e) (inl h) = refused_stopped _ _ _ _ s (of_length by s e h) (λ o. no_length read NeedsString (λ _ _. ⊥) s _ h.refused (inl o))
-    prefixed_stops_outside s u (Err e) (inr (inl h)) = refused_stopped _ _ _ _ s (of_past by s e h) (λ o. keeps encoding.Length e h.is)
-    prefixed_stops_outside s u (Err e) (inr (inr (inl h))) =
+  -- Of a closure that reads to the end.
+  abbrev pub StopsInsideToEnd : (overruns : List ℕ → ℕ → Type 0) → Type 0
+  StopsInsideToEnd overruns = (p q : MutBor N) (r : Result T E) → call.post f (p, tt) (r, (q, tt)) → StopsToEnd cause overruns (source p.now) r
+
+  module _ (overruns : List ℕ → ℕ → Type 0) (never : AreLengths read overruns) (by : ReadsBy call source cause f means read) (stops : StopsInsideToEnd overruns) where
+    pub prefixed_stops_to_end : (s u : Source) (r : Result T E) → Prefixed call source from_gives f s r u → StopsBy cause (box_at (whole read)) NeedsString (OverrunsBoxed overruns) s r
+    prefixed_stops_to_end s u (Ok x) h = tt
+    prefixed_stops_to_end s u (Err e) (inl h) = refused_stopped _ _ _ _ s (of_length by s e h) (λ o. no_length read NeedsString overruns s _ h.refused o)
+    prefixed_stops_to_end s u (Err e) (inr (inl h)) = refused_stopped _ _ _ _ s (of_past by s e h) (λ o. keeps encoding.Length e h.is)
+    prefixed_stops_to_end s u (Err e) (inr (inr (inl h))) =
         let g : IsRefused (part h.name h.len h.after).missing (cause e) (read (part h.name h.len h.after).left) = rw h.starts at (by h.given h.left (Err e) h.met) in
-        box_stopped_outside read (cause e) s h.after h.len h.name h.number h.within g
-    prefixed_stops_outside s u (Err e) (inr (inr (inr h))) =
+        let k : StopsToEnd {X = T} cause overruns (part h.name h.len h.after) (Err e) = rw h.starts at (stops h.given h.left (Err e) h.met) in
+        box_stopped_to_end read overruns (cause e) s h.after h.len h.name h.number h.within g k
+    prefixed_stops_to_end s u (Err e) (inr (inr (inr h))) =
         let c = h.calls in
-        refused_stopped _ _ _ _ s (of_trails by s e h) (λ o. absurd (within_not read c.len s c.after c.number c.within o))
+        let g : Reads means read (part c.name c.len c.after) h.value (part h.other h.rest h.now) = rw (c.starts, h.ends) at (by c.given c.left (Ok h.value) c.met) in
+        refused_stopped _ _ _ _ s (of_trails by s e h) (λ o. took read NeedsString overruns means s c.after c.len c.name h.other h.rest h.now h.value never c.number c.within g o)
 
 pub ruleset boxes = (prefixed_asks, prefixed_gives, prefixed_gives_always, prefixed_stops_always, gives_sound)

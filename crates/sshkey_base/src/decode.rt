@@ -185,6 +185,7 @@ pub fn decode_front<T: Decode, R: Reader>(alloc: Global, reader: &mut R) -> Resu
         (R.source reader.old) result (R.source reader.new) }
     ensures later { Later (R.source reader.old) (R.source reader.new) }
     ensures asks { Asks T.Error.cause T.format.needs (R.source reader.old) result }
+    ensures past { Stops T.Error.cause T.format (R.source reader.old) result }
     ensures accepts { AcceptsFront T.means T.format.Spells T.Error.cause
         (R.source reader.old) result (R.source reader.new) }
 {

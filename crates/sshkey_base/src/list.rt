@@ -2,13 +2,14 @@
 
 ghost use Rattle.std.specs.Prelude.{◌≡◌, ◌+◌, ◌<◌, ◌^◌, ℕ, List, IfOk};
 ghost use Rattle.sshkey_model.specs.Parts.{box, each};
-ghost use Rattle.sshkey_model.specs.Texts.{texts, texts_at};
+ghost use Rattle.sshkey_model.specs.Texts.{texts, text_at, texts_at};
 ghost use Rattle.sshkey_base.specs.Causes.{encoding_cause};
 ghost use Rattle.sshkey_base.specs.Formats.{Stops, texts_format};
 ghost use Rattle.sshkey_base.specs.Nested.{nested_source};
 ghost use Rattle.sshkey_base.specs.Needs.{Asks, NeedsString};
 ghost use Rattle.sshkey_base.specs.Reading.{Decodes, to_end};
 ghost use Rattle.sshkey_base.specs.Source.{Later};
+ghost use Rattle.sshkey_base.specs.Stops.{OverrunsList, OverrunsString, StopsToEnd};
 ghost use Rattle.sshkey_base.specs.Sink.{Encodes, Measures, MeasuresBoxed};
 ghost use Rattle.sshkey_base.specs.TextLists.{texts_of, text_list_at, texts_normal};
 
@@ -72,6 +73,8 @@ pub fn encode_list<T: Encode, W: Writer>(values: &[T], writer: &mut W) -> Result
 fn texts_from<R: Reader>(alloc: Global, reader: &mut R) -> Result<Vec<String>>
     ensures gives { Decodes texts_of (to_end text_list_at) R.source reader.old result reader.new }
     ensures later { Later (R.source reader.old) (R.source reader.new) }
+    ensures past { StopsToEnd encoding_cause (OverrunsList (λ before. text_at) OverrunsString)
+        (R.source reader.old) result }
 {
     let mut texts = Vec::new(alloc);
     'reads: while !reader.is_finished() {
@@ -107,6 +110,9 @@ impl Decode for Vec<String> {
                     (nested_source R.source) part.old result part.new }
                 ensures later { Later (nested_source R.source part.old)
                     (nested_source R.source part.new) }
+                ensures past { StopsToEnd encoding_cause
+                    (OverrunsList (λ before. text_at) OverrunsString)
+                    (nested_source R.source part.old) result }
             { texts_from(alloc, part) },
         )
     }
