@@ -8,3 +8,4 @@ pub mod Bodies
 pub mod BodyNeeds
 pub mod Comparisons
 pub mod Ed25519PublicKey
+pub mod PointStrings

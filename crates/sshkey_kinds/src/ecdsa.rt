@@ -5,12 +5,11 @@ ghost use Rattle.std.specs.Prelude.{◌≡◌};
 ghost use Rattle.hex.specs.Hex.{encode_lower, encode_upper};
 ghost use Rattle.sshkey_base.specs.Answers.{AnswersAlways};
 ghost use Rattle.sshkey_base.specs.Causes.{cause};
-ghost use Rattle.sshkey_base.specs.Needs.{Asks, NoNeed};
-ghost use Rattle.sshkey_base.specs.Reading.{DecodesWide};
+ghost use Rattle.sshkey_base.specs.Names.{curve_of};
+ghost use Rattle.sshkey_base.specs.Reading.{GivesAlways};
 ghost use Rattle.sshkey_base.specs.Source.{Later};
 ghost use Rattle.sshkey_model.specs.Points.{curve_of_size, point_curve, point_from};
-ghost use Rattle.sshkey_base.specs.Names.{curve_of};
-ghost use Rattle.sshkey_model.specs.Reading.{bytes_at, checked_at, string_at};
+ghost use Rattle.sshkey_model.specs.Reading.{bytes_at, checked_at};
 ghost use Rattle.sshkey_kinds.specs.EcdsaPublicKey.{ecdsa_of};
 
 use crate::ec_point::{
@@ -20,6 +19,7 @@ use sshkey_base::{
     Algorithm, Decode, EcdsaCurve, Encode, Error, Reader, Result, ShortBytes, Writer,
     encode_string, encoding, length_from, string_len, write_lower_hex, write_upper_hex,
 };
+use sshkey_format::{Then, Wide};
 use std::alloc::Global;
 use std::convert::AsSlice;
 use std::fmt;
@@ -115,8 +115,9 @@ impl EcdsaPublicKey {
 ///
 /// `Length` for a point string of more than 133 bytes, the faults of `from_sec1_bytes`, and
 /// `AlgorithmUnknown` for a point of another curve than the stated one.
-#[tactic(auto, using(sshkey_base::proofs::Steps::steps), unfolding(sshkey_model::specs::Keys::any_ecdsa_at, sshkey_model::specs::Names::curve_at, sshkey_base::specs::Labels::label_at))]
+#[tactic(auto, using(sshkey_format::proofs::Mapped::mapped, crate::proofs::Parts::tested))]
 impl Decode for EcdsaPublicKey {
+    ghost use Rattle.sshkey_base.specs.Needs.{NoNeed};
     ghost use Rattle.sshkey_model.specs.Keys.{Key};
     ghost use Rattle.sshkey_model.specs.Keys.{any_ecdsa_at};
     ghost use Rattle.sshkey_kinds.specs.Bodies.{SpellsEcdsa, any_ecdsa_grammar};
@@ -137,8 +138,9 @@ impl Decode for EcdsaPublicKey {
     ghost grammar = { any_ecdsa_grammar };
 
     fn decode<R: Reader>(alloc: Global, reader: &mut R) -> Result<EcdsaPublicKey> {
-        let stated = EcdsaCurve::decode(alloc, reader)?;
-        let key = decode_point(reader)?;
+        let Then(Wide(stated), AnyPoint(key)) = Then::<Wide<EcdsaCurve>, AnyPoint>::decode(
+            alloc, reader,
+        )?;
         if !key.is_on(stated) {
             return Err(Error::AlgorithmUnknown);
         }
@@ -147,24 +149,43 @@ impl Decode for EcdsaPublicKey {
 }
 
 /// A point string of any of the curves, none of which is longer than 133 bytes.
-#[tactic(auto, using(sshkey_base::proofs::Steps::steps))]
-fn decode_point<R: Reader>(reader: &mut R) -> Result<EcdsaPublicKey>
-    ensures gives { DecodesWide ecdsa_of (checked_at point_from string_at)
-        R.source reader.old result reader.new }
-    ensures later { Later (R.source reader.old) (R.source reader.new) }
-    ensures asks { Asks cause NoNeed (R.source reader.old) result }
-{
-    let len = length_from(reader)?;
-    point_from(len, reader)
+struct AnyPoint(EcdsaPublicKey);
+
+#[tactic(auto, using(sshkey_base::proofs::Steps::steps), unfolding(sshkey_model::specs::Reading::string_at))]
+impl Decode for AnyPoint {
+    ghost use Rattle.std.specs.Prelude.{List, ℕ};
+    ghost use Rattle.sshkey_base.specs.Needs.{NoNeed};
+    ghost use Rattle.sshkey_model.specs.Names.{Curve};
+    ghost use Rattle.sshkey_model.specs.Points.{point_at};
+    ghost use Rattle.sshkey_kinds.specs.EcdsaPublicKey.{ecdsa_of};
+    ghost use Rattle.sshkey_kinds.specs.PointStrings.{SpellsPoint, point_grammar};
+
+    type Error = Error;
+
+    ghost Meaning = { Curve × List ℕ };
+
+    ghost means = { λ point. ecdsa_of point.0 };
+
+    ghost parse = { point_at };
+
+    ghost Spells = { SpellsPoint };
+
+    ghost needs = { NoNeed };
+
+    ghost grammar = { point_grammar };
+
+    fn decode<R: Reader>(_alloc: Global, reader: &mut R) -> Result<AnyPoint> {
+        let len = length_from(reader)?;
+        Ok(AnyPoint(point_from(len, reader)?))
+    }
 }
 
 /// The point that the next `len` bytes spell.
 #[tactic(auto, using(sshkey_base::proofs::Lending::lending, sshkey_base::proofs::Places::places))]
 fn point_from<R: Reader>(len: usize, reader: &mut R) -> Result<EcdsaPublicKey>
-    ensures gives { DecodesWide ecdsa_of (checked_at point_from (bytes_at len))
-        R.source reader.old result reader.new }
+    ensures gives { GivesAlways ecdsa_of cause (checked_at point_from (bytes_at len))
+        (R.source reader.old) result (R.source reader.new) }
     ensures later { Later (R.source reader.old) (R.source reader.new) }
-    ensures asks { Asks cause NoNeed (R.source reader.old) result }
 {
     if let Some(bytes) = ShortBytes::<P521_POINT_LEN>::ahead(len, reader) {
         let key = EcdsaPublicKey::from_sec1_bytes(bytes)?;

@@ -1,14 +1,13 @@
 //! Public keys that a security key holds.
 
-ghost use Rattle.std.specs.Prelude.{◌≡◌, ℕ, ◌+◌, ◌*◌, ◌^◌, codes, string_bytes, IfOk, IfErr};
-ghost use Rattle.sshkey_base.specs.Causes.{cause};
-ghost use Rattle.sshkey_base.specs.Needs.{Asks, NoNeed};
-ghost use Rattle.sshkey_base.specs.Reading.{DecodesWide};
-ghost use Rattle.sshkey_base.specs.Source.{Later};
+ghost use Rattle.std.specs.Prelude.{◌≡◌, ℕ, List, ◌+◌, ◌*◌, ◌^◌, codes, string_bytes, IfOk, IfErr};
 ghost use Rattle.sshkey_model.specs.Keys.{Key, SkEcdsa, SkEd25519 as SkEd25519Key, body};
-ghost use Rattle.sshkey_model.specs.Points.{p256_point_from};
-ghost use Rattle.sshkey_model.specs.Reading.{bytes_at, checked_at, string_at};
+ghost use Rattle.sshkey_base.specs.Causes.{cause};
+ghost use Rattle.sshkey_base.specs.Reading.{GivesAlways};
+ghost use Rattle.sshkey_base.specs.Source.{Later};
 ghost use Rattle.sshkey_model.specs.Keys.{sk_ecdsa_at, sk_ed25519_at};
+ghost use Rattle.sshkey_model.specs.Points.{p256_point_from};
+ghost use Rattle.sshkey_model.specs.Reading.{bytes_at, checked_at};
 ghost use Rattle.sshkey_kinds.specs.Bodies.{SpellsSkEcdsa, sk_ecdsa_grammar, SpellsSkEd25519, sk_ed25519_grammar};
 ghost use Rattle.sshkey_kinds.specs.EcPoint.{point_of};
 
@@ -100,7 +99,7 @@ impl From<SkEcdsaSha2NistP256> for EcdsaNistP256PublicKey {
 ///
 /// `Crypto` for another curve, `Length` for a point string of more than 65 bytes, and `Ecdsa` for
 /// one that is no point of P-256.
-#[tactic(auto, using(sshkey_base::proofs::Steps::steps), unfolding(sshkey_model::specs::Keys::sk_ecdsa_at, sshkey_model::specs::Names::curve_at, sshkey_base::specs::Labels::label_at))]
+#[tactic(auto, using(sshkey_format::proofs::Mapped::mapped, crate::proofs::Parts::sk_ecdsa_parts_read))]
 impl Decode for SkEcdsaSha2NistP256 {
     ghost use Rattle.sshkey_kinds.specs.BodyNeeds.{NeedsSkEcdsa};
     ghost use Rattle.sshkey_kinds.specs.Kinds.{sk_ecdsa_of};
@@ -120,38 +119,83 @@ impl Decode for SkEcdsaSha2NistP256 {
     ghost grammar = { sk_ecdsa_grammar };
 
     fn decode<R: Reader>(alloc: Global, reader: &mut R) -> Result<SkEcdsaSha2NistP256> {
-        let stated = EcdsaCurve::decode(alloc, reader)?;
-        if !matches!(stated, EcdsaCurve::NistP256) {
-            return Err(Error::Crypto);
-        }
-        let point = decode_point(reader)?;
-        let application = Text::decode(alloc, reader)?;
+        type Parts = Then<P256Name, Then<P256Point, Wide<Text>>>;
+        let Then(_, Then(P256Point(ec_point), Wide(application))) = Parts::decode(alloc, reader)?;
         Ok(SkEcdsaSha2NistP256 {
-            ec_point: point,
+            ec_point,
             application,
         })
     }
 }
 
-/// A point string of P-256, none of which is longer than 65 bytes.
+/// The name of P-256. `Crypto` for that of another curve.
+#[derive(Drop)]
+struct P256Name;
+
 #[tactic(auto, using(sshkey_base::proofs::Steps::steps))]
-fn decode_point<R: Reader>(reader: &mut R) -> Result<EcdsaNistP256PublicKey>
-    ensures gives { DecodesWide point_of (checked_at p256_point_from string_at)
-        R.source reader.old result reader.new }
-    ensures later { Later (R.source reader.old) (R.source reader.new) }
-    ensures asks { Asks cause NoNeed (R.source reader.old) result }
-{
-    let len = length_from(reader)?;
-    point_from(len, reader)
+impl Decode for P256Name {
+    ghost use Rattle.sshkey_base.specs.Needs.{NoNeed};
+    ghost use Rattle.sshkey_model.specs.Names.{Curve, Nistp256};
+    ghost use Rattle.sshkey_kinds.specs.PointStrings.{SpellsP256Name, p256_name_at, p256_name_grammar};
+
+    type Error = Error;
+
+    ghost Meaning = { Curve };
+
+    ghost means = { λ _. Nistp256 };
+
+    ghost parse = { p256_name_at };
+
+    ghost Spells = { SpellsP256Name };
+
+    ghost needs = { NoNeed };
+
+    ghost grammar = { p256_name_grammar };
+
+    fn decode<R: Reader>(alloc: Global, reader: &mut R) -> Result<P256Name> {
+        let Wide(stated) = Wide::<EcdsaCurve>::decode(alloc, reader)?;
+        if !matches!(stated, EcdsaCurve::NistP256) {
+            return Err(Error::Crypto);
+        }
+        Ok(P256Name)
+    }
+}
+
+/// A point string of P-256, none of which is longer than 65 bytes.
+#[derive(Drop)]
+struct P256Point(EcdsaNistP256PublicKey);
+
+#[tactic(auto, using(sshkey_base::proofs::Steps::steps), unfolding(sshkey_model::specs::Reading::string_at))]
+impl Decode for P256Point {
+    ghost use Rattle.sshkey_base.specs.Needs.{NoNeed};
+    ghost use Rattle.sshkey_kinds.specs.PointStrings.{SpellsP256Point, p256_point_at, p256_point_grammar};
+
+    type Error = Error;
+
+    ghost Meaning = { List ℕ };
+
+    ghost means = { λ point. point_of point.0 };
+
+    ghost parse = { p256_point_at };
+
+    ghost Spells = { SpellsP256Point };
+
+    ghost needs = { NoNeed };
+
+    ghost grammar = { p256_point_grammar };
+
+    fn decode<R: Reader>(_alloc: Global, reader: &mut R) -> Result<P256Point> {
+        let len = length_from(reader)?;
+        Ok(P256Point(point_from(len, reader)?))
+    }
 }
 
 /// The point that the next `len` bytes spell.
 #[tactic(auto, using(sshkey_base::proofs::Lending::lending, sshkey_base::proofs::Places::places))]
 fn point_from<R: Reader>(len: usize, reader: &mut R) -> Result<EcdsaNistP256PublicKey>
-    ensures gives { DecodesWide point_of (checked_at p256_point_from (bytes_at len))
-        R.source reader.old result reader.new }
+    ensures gives { GivesAlways point_of cause (checked_at p256_point_from (bytes_at len))
+        (R.source reader.old) result (R.source reader.new) }
     ensures later { Later (R.source reader.old) (R.source reader.new) }
-    ensures asks { Asks cause NoNeed (R.source reader.old) result }
 {
     if let Some(bytes) = ShortBytes::<P256_POINT_LEN>::ahead(len, reader) {
         let point = EcPoint::from_bytes(bytes)?;

@@ -1,25 +1,24 @@
 use Rattle.std.proofs.Common.{Ok, Err}
 use Rattle.std.proofs.lemmas.Result.{err_from_is_err_and}
-use Rattle.sshkey_base.proofs.Judging.{judged}
-use Rattle.sshkey_base.proofs.ShortStrings.{bounded_refused, bounded_gives}
-use Rattle.sshkey_base.specs.Causes.{cause, same_cause}
+use Rattle.sshkey_base.specs.Causes.{same_cause}
+use Rattle.sshkey_base.specs.ShortBytes.{short_of}
 use Rattle.sshkey_base.specs.Source.{behind}
-use Rattle.sshkey_model.specs.Reading.{bytes_at}
 use Rattle.sshkey_kinds.specs.EcdsaPublicKey.{sec1_from, ecdsa_of}
+use Rattle.sshkey_kinds.proofs.PointStrings.{judged_short, refused_short}
 use Rattle.sshkey_kinds.proofs.ecdsa.point_from.Goals as goal
-
-pub returns-in_err-bytes-clause-gives : goal.returns-in_err-bytes-clause-gives
-returns-in_err-bytes-clause-gives g c =
-    let p = err_from_is_err_and c.from_residual-in_err-bytes.result c.from_residual-in_err-bytes.ensures.1 in
-    rw (p.1, p.2, same_cause c.in_err-bytes.field-0.0) (bounded_refused 133 sec1_from (bytes_at c.args.len) (g.R.Reader.source c.args.reader.now) _ c.in_err-bytes.ensures.gives)
-
-pub returns-clause-gives : goal.returns-clause-gives
-returns-clause-gives g c = bounded_gives 133 sec1_from (bytes_at c.args.len) _ ecdsa_of cause _ _ (judged _ _ _ _ _ _ _ _ _ c.in_ok-bytes.ensures.gives (rw c.as_slice.ensures at c.from_sec1_bytes-2.ensures.answer))
 
 pub returns-in_err-key-clause-gives : goal.returns-in_err-key-clause-gives
 returns-in_err-key-clause-gives g c =
     let p = err_from_is_err_and c.from_residual.result c.from_residual.ensures.1 in
-    rw (p.1, p.2) (bounded_gives 133 sec1_from (bytes_at c.args.len) (g.R.Reader.source c.args.reader.now) ecdsa_of cause (Err c.in_err-key.field-0.0) (behind c.args.len (g.R.Reader.source c.args.reader.now)) (judged (λ b. b) ecdsa_of cause _ sec1_from _ _ c.in-Some.bytes.now (Err c.in_err-key.field-0.0) c.in-Some.ensures.lent c.in_err-key.ensures.answer))
+    rw (p.1, p.2) (judged_short 133 c.args.len sec1_from (g.R.Reader.source c.args.reader.now) (λ b. b) ecdsa_of (behind c.args.len (g.R.Reader.source c.args.reader.now)) c.in-Some.bytes.now (Err c.in_err-key.field-0.0) c.in-Some.ensures.lent c.in_err-key.ensures.answer)
 
 pub returns-in-Some-clause-gives : goal.returns-in-Some-clause-gives
-returns-in-Some-clause-gives g c = rw c.skip.ensures (bounded_gives 133 sec1_from (bytes_at c.args.len) (g.R.Reader.source c.args.reader.now) ecdsa_of cause (Ok c.in_ok-key.key) (behind c.args.len (g.R.Reader.source c.args.reader.now)) (judged (λ b. b) ecdsa_of cause _ sec1_from _ _ c.in-Some.bytes.now (Ok c.in_ok-key.key) c.in-Some.ensures.lent c.in_ok-key.ensures.answer))
+returns-in-Some-clause-gives g c = rw c.skip.ensures (judged_short 133 c.args.len sec1_from (g.R.Reader.source c.args.reader.now) (λ b. b) ecdsa_of (behind c.args.len (g.R.Reader.source c.args.reader.now)) c.in-Some.bytes.now (Ok c.in_ok-key.key) c.in-Some.ensures.lent c.in_ok-key.ensures.answer)
+
+pub returns-in_err-bytes-clause-gives : goal.returns-in_err-bytes-clause-gives
+returns-in_err-bytes-clause-gives g c =
+    let p = err_from_is_err_and c.from_residual-in_err-bytes.result c.from_residual-in_err-bytes.ensures.1 in
+    rw (p.1, p.2, same_cause c.in_err-bytes.field-0.0) (refused_short 133 c.args.len sec1_from (g.R.Reader.source c.args.reader.now) _ c.in_err-bytes.ensures.gives)
+
+pub returns-clause-gives : goal.returns-clause-gives
+returns-clause-gives g c = judged_short 133 c.args.len sec1_from (g.R.Reader.source c.args.reader.now) short_of ecdsa_of _ _ _ c.in_ok-bytes.ensures.gives (rw c.as_slice.ensures at c.from_sec1_bytes-2.ensures.answer)
