@@ -5,7 +5,7 @@ pub mod EcdsaPublicKey
 pub mod EcdsaEquality
 pub mod Kinds
 pub mod Bodies
-pub mod BodyNeeds
 pub mod Comparisons
 pub mod Ed25519PublicKey
 pub mod PointStrings
+pub mod KeyFormats

@@ -2,8 +2,7 @@
 
 ghost use Rattle.std.specs.Prelude.{◌≡◌, ℕ, IfOk, IfErr, ◌+◌, ◌*◌, ◌^◌};
 ghost use Rattle.sshkey_model.specs.Keys.{Key, body};
-ghost use Rattle.sshkey_model.specs.Keys.{dsa_at};
-ghost use Rattle.sshkey_kinds.specs.Bodies.{SpellsDsa, dsa_grammar};
+ghost use Rattle.sshkey_kinds.specs.KeyFormats.{dsa_format};
 
 use sshkey_base::{Decode, Encode, Error, Mpint, Reader, Result, Writer, encoding};
 use sshkey_format::Then;
@@ -42,9 +41,8 @@ impl DsaPublicKey {
 }
 
 /// The four numbers p, q, g and y, each as a string.
-#[tactic(auto, using(sshkey_format::proofs::Mapped::mapped, crate::proofs::Parts::dsa_parts_read))]
+#[tactic(auto, using(sshkey_format::proofs::Mapped::mapped, crate::specs::KeyFormats::dsa_parts_read))]
 impl Decode for DsaPublicKey {
-    ghost use Rattle.sshkey_kinds.specs.BodyNeeds.{NeedsDsa};
     ghost use Rattle.sshkey_kinds.specs.Kinds.{dsa_of};
 
     type Error = Error;
@@ -53,13 +51,7 @@ impl Decode for DsaPublicKey {
 
     ghost means = { dsa_of };
 
-    ghost parse = { dsa_at };
-
-    ghost Spells = { SpellsDsa };
-
-    ghost needs = { NeedsDsa };
-
-    ghost grammar = { dsa_grammar };
+    ghost format = { dsa_format };
 
     fn decode<R: Reader>(alloc: Global, reader: &mut R) -> Result<DsaPublicKey> {
         type Numbers = Then<Mpint, Then<Mpint, Then<Mpint, Mpint>>>;

@@ -5,9 +5,12 @@ ghost use Rattle.std.specs.Prelude.{◌≡◌};
 ghost use Rattle.hex.specs.Hex.{encode_lower, encode_upper};
 ghost use Rattle.sshkey_base.specs.Answers.{AnswersAlways};
 ghost use Rattle.sshkey_base.specs.Causes.{cause};
+ghost use Rattle.sshkey_base.specs.Labels.{NeedsBehind};
 ghost use Rattle.sshkey_base.specs.Names.{curve_of};
+ghost use Rattle.sshkey_base.specs.Needs.{NoNeed};
 ghost use Rattle.sshkey_base.specs.Reading.{GivesAlways};
 ghost use Rattle.sshkey_base.specs.Source.{Later};
+ghost use Rattle.sshkey_base.specs.Stops.{OverrunsBytes, StopsBy};
 ghost use Rattle.sshkey_model.specs.Points.{curve_of_size, point_curve, point_from};
 ghost use Rattle.sshkey_model.specs.Reading.{bytes_at, checked_at};
 ghost use Rattle.sshkey_kinds.specs.EcdsaPublicKey.{ecdsa_of};
@@ -115,13 +118,11 @@ impl EcdsaPublicKey {
 ///
 /// `Length` for a point string of more than 133 bytes, the faults of `from_sec1_bytes`, and
 /// `AlgorithmUnknown` for a point of another curve than the stated one.
-#[tactic(auto, using(sshkey_format::proofs::Mapped::mapped, crate::proofs::Parts::tested))]
+#[tactic(auto, using(sshkey_format::proofs::Mapped::mapped, crate::proofs::Parts::ecdsa))]
 impl Decode for EcdsaPublicKey {
-    ghost use Rattle.sshkey_base.specs.Needs.{NoNeed};
     ghost use Rattle.sshkey_model.specs.Keys.{Key};
-    ghost use Rattle.sshkey_model.specs.Keys.{any_ecdsa_at};
-    ghost use Rattle.sshkey_kinds.specs.Bodies.{SpellsEcdsa, any_ecdsa_grammar};
     ghost use Rattle.sshkey_kinds.specs.EcdsaPublicKey.{ecdsa_key_of};
+    ghost use Rattle.sshkey_kinds.specs.KeyFormats.{ecdsa_format};
 
     type Error = Error;
 
@@ -129,13 +130,7 @@ impl Decode for EcdsaPublicKey {
 
     ghost means = { ecdsa_key_of };
 
-    ghost parse = { any_ecdsa_at };
-
-    ghost Spells = { SpellsEcdsa };
-
-    ghost needs = { NoNeed };
-
-    ghost grammar = { any_ecdsa_grammar };
+    ghost format = { ecdsa_format };
 
     fn decode<R: Reader>(alloc: Global, reader: &mut R) -> Result<EcdsaPublicKey> {
         let Then(Wide(stated), AnyPoint(key)) = Then::<Wide<EcdsaCurve>, AnyPoint>::decode(
@@ -154,11 +149,9 @@ struct AnyPoint(EcdsaPublicKey);
 #[tactic(auto, using(sshkey_base::proofs::Steps::steps), unfolding(sshkey_model::specs::Reading::string_at))]
 impl Decode for AnyPoint {
     ghost use Rattle.std.specs.Prelude.{List, ℕ};
-    ghost use Rattle.sshkey_base.specs.Needs.{NoNeed};
     ghost use Rattle.sshkey_model.specs.Names.{Curve};
-    ghost use Rattle.sshkey_model.specs.Points.{point_at};
     ghost use Rattle.sshkey_kinds.specs.EcdsaPublicKey.{ecdsa_of};
-    ghost use Rattle.sshkey_kinds.specs.PointStrings.{SpellsPoint, point_grammar};
+    ghost use Rattle.sshkey_kinds.specs.KeyFormats.{any_point_format};
 
     type Error = Error;
 
@@ -166,13 +159,7 @@ impl Decode for AnyPoint {
 
     ghost means = { λ point. ecdsa_of point.0 };
 
-    ghost parse = { point_at };
-
-    ghost Spells = { SpellsPoint };
-
-    ghost needs = { NoNeed };
-
-    ghost grammar = { point_grammar };
+    ghost format = { any_point_format };
 
     fn decode<R: Reader>(_alloc: Global, reader: &mut R) -> Result<AnyPoint> {
         let len = length_from(reader)?;
@@ -186,6 +173,8 @@ fn point_from<R: Reader>(len: usize, reader: &mut R) -> Result<EcdsaPublicKey>
     ensures gives { GivesAlways ecdsa_of cause (checked_at point_from (bytes_at len))
         (R.source reader.old) result (R.source reader.new) }
     ensures later { Later (R.source reader.old) (R.source reader.new) }
+    ensures past { StopsBy cause (checked_at point_from (bytes_at len)) (NeedsBehind NoNeed len)
+        (OverrunsBytes len) (R.source reader.old) result }
 {
     if let Some(bytes) = ShortBytes::<P521_POINT_LEN>::ahead(len, reader) {
         let key = EcdsaPublicKey::from_sec1_bytes(bytes)?;

@@ -5,10 +5,12 @@ ghost use Rattle.std.specs.Prelude.{◌≡◌, ℕ, Some, ◌+◌, ◌^◌};
 ghost use Rattle.hex.specs.Hex.{encode_lower, encode_upper};
 ghost use Rattle.sshkey_base.specs.Answers.{AnswersAlways};
 ghost use Rattle.sshkey_base.specs.Causes.{cause, encoding_cause};
-ghost use Rattle.sshkey_base.specs.Reading.{Decodes, DecodesAlways, LengthPast};
+ghost use Rattle.sshkey_base.specs.Reading.{Decodes, DecodesAlways};
 ghost use Rattle.sshkey_base.specs.Source.{Later};
 ghost use Rattle.sshkey_model.specs.Keys.{Key, body};
-ghost use Rattle.sshkey_kinds.specs.Bodies.{SpellsEd25519, ed25519_body_at, ed25519_body_grammar};
+ghost use Rattle.sshkey_base.specs.Formats.{Stops};
+ghost use Rattle.sshkey_kinds.specs.Bodies.{ed25519_body_at};
+ghost use Rattle.sshkey_kinds.specs.KeyFormats.{ed25519_format};
 ghost use Rattle.sshkey_kinds.specs.Ed25519PublicKey.{ed25519_from};
 
 use sshkey_base::{
@@ -29,7 +31,7 @@ impl Ed25519PublicKey {
 
 /// A string of 32 bytes: `Length` for a shorter one, `TrailingData` for a longer one. Takes no
 /// memory.
-#[tactic(auto, using(sshkey_base::proofs::Steps::steps), unfolding(crate::specs::Bodies::ed25519_body_at, sshkey_model::specs::Keys::ed25519_at))]
+#[tactic(auto, using(sshkey_base::proofs::Steps::steps, sshkey_format::proofs::Mapped::mapped, crate::specs::KeyFormats::ed25519_read), unfolding(crate::specs::Bodies::ed25519_body_at, sshkey_model::specs::Keys::ed25519_at))]
 impl Decode for Ed25519PublicKey {
     ghost use Rattle.sshkey_base.specs.Needs.{Asks, NoNeed};
     ghost use Rattle.sshkey_kinds.specs.Kinds.{ed25519_of};
@@ -40,13 +42,7 @@ impl Decode for Ed25519PublicKey {
 
     ghost means = { ed25519_of };
 
-    ghost parse = { ed25519_body_at };
-
-    ghost Spells = { SpellsEd25519 };
-
-    ghost needs = { NoNeed };
-
-    ghost grammar = { ed25519_body_grammar };
+    ghost format = { ed25519_format };
 
     fn decode<R: Reader>(alloc: Global, reader: &mut R) -> encoding::Result<Ed25519PublicKey>
         ensures gives { Decodes ed25519_of ed25519_body_at R.source reader.old result reader.new }
@@ -54,7 +50,7 @@ impl Decode for Ed25519PublicKey {
         ensures asks { Asks encoding_cause NoNeed (R.source reader.old) result }
         ensures always { DecodesAlways ed25519_of ed25519_body_at
             R.source reader.old result reader.new }
-        ensures past { LengthPast encoding_cause (R.source reader.old) result }
+        ensures past { Stops encoding_cause ed25519_format (R.source reader.old) result }
     {
         Ok(Ed25519PublicKey(<[u8; 32]>::decode(alloc, reader)?))
     }

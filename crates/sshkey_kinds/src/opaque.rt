@@ -1,7 +1,7 @@
 //! Public keys under private-use names.
 
 ghost use Rattle.std.specs.Prelude.{◌≡◌, ℕ, List, IfOk, IfErr, ◌+◌, ◌^◌};
-ghost use Rattle.sshkey_base.specs.Leaves.{SpellsString, string_grammar};
+ghost use Rattle.sshkey_base.specs.Formats.{Stops, string_format};
 ghost use Rattle.sshkey_model.specs.Reading.{string_at};
 ghost use Rattle.sshkey_model.specs.Keys.{body};
 ghost use Rattle.sshkey_model.specs.Texts.{string};
@@ -61,7 +61,7 @@ impl AsSlice<u8> for OpaquePublicKeyBytes {
 impl Decode for OpaquePublicKeyBytes {
     ghost use Rattle.sshkey_base.specs.Causes.{encoding_cause};
     ghost use Rattle.sshkey_base.specs.Needs.{Asks, NeedsString};
-    ghost use Rattle.sshkey_base.specs.Reading.{Decodes, LengthPast};
+    ghost use Rattle.sshkey_base.specs.Reading.{Decodes};
     ghost use Rattle.sshkey_base.specs.Source.{Later};
 
     type Error = encoding::Error;
@@ -70,19 +70,13 @@ impl Decode for OpaquePublicKeyBytes {
 
     ghost means = { λ k. k };
 
-    ghost parse = { string_at };
-
-    ghost Spells = { SpellsString };
-
-    ghost needs = { NeedsString };
-
-    ghost grammar = { string_grammar };
+    ghost format = { string_format };
 
     fn decode<R: Reader>(alloc: Global, reader: &mut R) -> encoding::Result<OpaquePublicKeyBytes>
         ensures gives { Decodes (λ k. k) string_at R.source reader.old result reader.new }
         ensures later { Later (R.source reader.old) (R.source reader.new) }
         ensures asks { Asks encoding_cause NeedsString (R.source reader.old) result }
-        ensures past { LengthPast encoding_cause (R.source reader.old) result }
+        ensures past { Stops encoding_cause string_format (R.source reader.old) result }
     {
         let bytes = Bytes::decode(alloc, reader)?;
         Ok(OpaquePublicKeyBytes { bytes })

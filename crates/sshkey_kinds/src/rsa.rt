@@ -2,8 +2,7 @@
 
 ghost use Rattle.std.specs.Prelude.{◌≡◌, ℕ, IfOk, IfErr, ◌+◌, ◌*◌, ◌^◌};
 ghost use Rattle.sshkey_model.specs.Keys.{Key, body};
-ghost use Rattle.sshkey_model.specs.Keys.{rsa_at};
-ghost use Rattle.sshkey_kinds.specs.Bodies.{SpellsRsa, rsa_grammar};
+ghost use Rattle.sshkey_kinds.specs.KeyFormats.{rsa_format};
 
 use sshkey_base::{
     Decode, Encode, Error, Mpint, Reader, Result, Writer, both_len, encode_both, encoding,
@@ -38,9 +37,8 @@ impl RsaPublicKey {
 }
 
 /// The two numbers, e and then n, each as a string.
-#[tactic(auto, using(sshkey_format::proofs::Mapped::mapped, crate::proofs::Parts::rsa_parts_read))]
+#[tactic(auto, using(sshkey_format::proofs::Mapped::mapped, crate::specs::KeyFormats::rsa_parts_read))]
 impl Decode for RsaPublicKey {
-    ghost use Rattle.sshkey_kinds.specs.BodyNeeds.{NeedsRsa};
     ghost use Rattle.sshkey_kinds.specs.Kinds.{rsa_of};
 
     type Error = Error;
@@ -49,13 +47,7 @@ impl Decode for RsaPublicKey {
 
     ghost means = { rsa_of };
 
-    ghost parse = { rsa_at };
-
-    ghost Spells = { SpellsRsa };
-
-    ghost needs = { NeedsRsa };
-
-    ghost grammar = { rsa_grammar };
+    ghost format = { rsa_format };
 
     fn decode<R: Reader>(alloc: Global, reader: &mut R) -> Result<RsaPublicKey> {
         let Then(e, n) = Then::<Mpint, Mpint>::decode(alloc, reader)?;

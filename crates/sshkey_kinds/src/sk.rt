@@ -3,12 +3,14 @@
 ghost use Rattle.std.specs.Prelude.{◌≡◌, ℕ, List, ◌+◌, ◌*◌, ◌^◌, codes, string_bytes, IfOk, IfErr};
 ghost use Rattle.sshkey_model.specs.Keys.{Key, SkEcdsa, SkEd25519 as SkEd25519Key, body};
 ghost use Rattle.sshkey_base.specs.Causes.{cause};
+ghost use Rattle.sshkey_base.specs.Labels.{NeedsBehind};
+ghost use Rattle.sshkey_base.specs.Needs.{NoNeed};
 ghost use Rattle.sshkey_base.specs.Reading.{GivesAlways};
 ghost use Rattle.sshkey_base.specs.Source.{Later};
-ghost use Rattle.sshkey_model.specs.Keys.{sk_ecdsa_at, sk_ed25519_at};
+ghost use Rattle.sshkey_base.specs.Stops.{OverrunsBytes, StopsBy};
 ghost use Rattle.sshkey_model.specs.Points.{p256_point_from};
 ghost use Rattle.sshkey_model.specs.Reading.{bytes_at, checked_at};
-ghost use Rattle.sshkey_kinds.specs.Bodies.{SpellsSkEcdsa, sk_ecdsa_grammar, SpellsSkEd25519, sk_ed25519_grammar};
+ghost use Rattle.sshkey_kinds.specs.KeyFormats.{sk_ecdsa_format, sk_ed25519_format};
 ghost use Rattle.sshkey_kinds.specs.EcPoint.{point_of};
 
 use crate::ec_point::{EcPoint, EcdsaNistP256PublicKey, P256_POINT_LEN};
@@ -99,9 +101,8 @@ impl From<SkEcdsaSha2NistP256> for EcdsaNistP256PublicKey {
 ///
 /// `Crypto` for another curve, `Length` for a point string of more than 65 bytes, and `Ecdsa` for
 /// one that is no point of P-256.
-#[tactic(auto, using(sshkey_format::proofs::Mapped::mapped, crate::proofs::Parts::sk_ecdsa_parts_read))]
+#[tactic(auto, using(sshkey_format::proofs::Mapped::mapped, crate::specs::KeyFormats::sk_ecdsa_parts_read))]
 impl Decode for SkEcdsaSha2NistP256 {
-    ghost use Rattle.sshkey_kinds.specs.BodyNeeds.{NeedsSkEcdsa};
     ghost use Rattle.sshkey_kinds.specs.Kinds.{sk_ecdsa_of};
 
     type Error = Error;
@@ -110,13 +111,7 @@ impl Decode for SkEcdsaSha2NistP256 {
 
     ghost means = { sk_ecdsa_of };
 
-    ghost parse = { sk_ecdsa_at };
-
-    ghost Spells = { SpellsSkEcdsa };
-
-    ghost needs = { NeedsSkEcdsa };
-
-    ghost grammar = { sk_ecdsa_grammar };
+    ghost format = { sk_ecdsa_format };
 
     fn decode<R: Reader>(alloc: Global, reader: &mut R) -> Result<SkEcdsaSha2NistP256> {
         type Parts = Then<P256Name, Then<P256Point, Wide<Text>>>;
@@ -132,11 +127,10 @@ impl Decode for SkEcdsaSha2NistP256 {
 #[derive(Drop)]
 struct P256Name;
 
-#[tactic(auto, using(sshkey_base::proofs::Steps::steps))]
+#[tactic(auto, using(sshkey_base::proofs::Steps::steps, sshkey_format::proofs::Mapped::mapped, crate::proofs::Parts::tested, crate::specs::KeyFormats::p256_name_read, sshkey_base::specs::Lengths::label_lengths))]
 impl Decode for P256Name {
-    ghost use Rattle.sshkey_base.specs.Needs.{NoNeed};
     ghost use Rattle.sshkey_model.specs.Names.{Curve, Nistp256};
-    ghost use Rattle.sshkey_kinds.specs.PointStrings.{SpellsP256Name, p256_name_at, p256_name_grammar};
+    ghost use Rattle.sshkey_kinds.specs.KeyFormats.{p256_name_format};
 
     type Error = Error;
 
@@ -144,13 +138,7 @@ impl Decode for P256Name {
 
     ghost means = { λ _. Nistp256 };
 
-    ghost parse = { p256_name_at };
-
-    ghost Spells = { SpellsP256Name };
-
-    ghost needs = { NoNeed };
-
-    ghost grammar = { p256_name_grammar };
+    ghost format = { p256_name_format };
 
     fn decode<R: Reader>(alloc: Global, reader: &mut R) -> Result<P256Name> {
         let Wide(stated) = Wide::<EcdsaCurve>::decode(alloc, reader)?;
@@ -167,8 +155,7 @@ struct P256Point(EcdsaNistP256PublicKey);
 
 #[tactic(auto, using(sshkey_base::proofs::Steps::steps), unfolding(sshkey_model::specs::Reading::string_at))]
 impl Decode for P256Point {
-    ghost use Rattle.sshkey_base.specs.Needs.{NoNeed};
-    ghost use Rattle.sshkey_kinds.specs.PointStrings.{SpellsP256Point, p256_point_at, p256_point_grammar};
+    ghost use Rattle.sshkey_kinds.specs.KeyFormats.{p256_point_format};
 
     type Error = Error;
 
@@ -176,13 +163,7 @@ impl Decode for P256Point {
 
     ghost means = { λ point. point_of point.0 };
 
-    ghost parse = { p256_point_at };
-
-    ghost Spells = { SpellsP256Point };
-
-    ghost needs = { NoNeed };
-
-    ghost grammar = { p256_point_grammar };
+    ghost format = { p256_point_format };
 
     fn decode<R: Reader>(_alloc: Global, reader: &mut R) -> Result<P256Point> {
         let len = length_from(reader)?;
@@ -196,6 +177,8 @@ fn point_from<R: Reader>(len: usize, reader: &mut R) -> Result<EcdsaNistP256Publ
     ensures gives { GivesAlways point_of cause (checked_at p256_point_from (bytes_at len))
         (R.source reader.old) result (R.source reader.new) }
     ensures later { Later (R.source reader.old) (R.source reader.new) }
+    ensures past { StopsBy cause (checked_at p256_point_from (bytes_at len))
+        (NeedsBehind NoNeed len) (OverrunsBytes len) (R.source reader.old) result }
 {
     if let Some(bytes) = ShortBytes::<P256_POINT_LEN>::ahead(len, reader) {
         let point = EcPoint::from_bytes(bytes)?;
@@ -303,9 +286,8 @@ impl From<SkEd25519> for Ed25519PublicKey {
 }
 
 /// A string of 32 bytes, and the application as a text.
-#[tactic(auto, using(sshkey_format::proofs::Mapped::mapped, crate::proofs::Parts::sk_ed25519_parts_read))]
+#[tactic(auto, using(sshkey_format::proofs::Mapped::mapped, crate::specs::KeyFormats::sk_ed25519_parts_read))]
 impl Decode for SkEd25519 {
-    ghost use Rattle.sshkey_kinds.specs.BodyNeeds.{NeedsSkEd25519};
     ghost use Rattle.sshkey_kinds.specs.Kinds.{sk_ed25519_of};
 
     type Error = Error;
@@ -314,13 +296,7 @@ impl Decode for SkEd25519 {
 
     ghost means = { sk_ed25519_of };
 
-    ghost parse = { sk_ed25519_at };
-
-    ghost Spells = { SpellsSkEd25519 };
-
-    ghost needs = { NeedsSkEd25519 };
-
-    ghost grammar = { sk_ed25519_grammar };
+    ghost format = { sk_ed25519_format };
 
     fn decode<R: Reader>(alloc: Global, reader: &mut R) -> Result<SkEd25519> {
         let Then(Wide(bytes), Wide(application)) = Then::<Wide<[u8; 32]>, Wide<Text>>::decode(
