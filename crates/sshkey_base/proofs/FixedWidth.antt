@@ -16,9 +16,12 @@ use Rattle.sshkey_base.specs.declared.encoding.Error.{Error}
 use Rattle.sshkey_base.specs.declared.error.Error.{Error as WideError}
 use Rattle.sshkey_base.specs.Answers.{AnswersAlways}
 use Rattle.sshkey_base.specs.Causes.{Cause, cause, encoding_cause}
-use Rattle.sshkey_base.specs.Source.{Source, Advances, TooFew}
+use Rattle.sshkey_base.specs.Source.{Source, Advances, TooFew, announced_len}
 use Rattle.sshkey_base.specs.Reading.{Reads, Refuses, GivesAlways}
-use Rattle.sshkey_base.specs.FixedWidth.{fixed_from, fixed_step, fixed_at}
+use Rattle.sshkey_base.specs.FixedWidth.{fixed_from, fixed_step, fixed_at, LengthIs}
+use Rattle.sshkey_base.specs.Needs.{NoNeed}
+use Rattle.sshkey_base.specs.Stops.{OverrunsString, StopsBy}
+use Rattle.sshkey_base.proofs.Stopping.{passes, refused_stopped}
 
 abbrev Scalar : Type 0
 Scalar = List ℕ × LeadingZeros
@@ -180,3 +183,17 @@ judged_always {C} {X} {E} means cause n judge s t front r h answer = go (judge f
 pub same_gives_always : {X Y E : Type 0} (means : X → Y) (cause : E → Cause) (read other : Front Y) (s t : Source) (r : Result X E) → ((b : List ℕ) → other b ≡ read b) → GivesAlways means cause read s r t → GivesAlways means cause other s r t
 same_gives_always means cause read other s t (Ok x) same h = record { value = same s.left ∙ h.value; missing = h.missing; outer = h.outer }
 same_gives_always means cause read other s t (Err e) same h = record { met = h.met; is = same s.left ∙ h.is; same = h.same }
+
+-- ---- a length that passes all that was announced
+
+pub no_length : (c : Cause) (s : Source) (r : Result (List ℕ) WideError) → Refuses s.missing c (number_at w32 s.left) → LengthIs s r
+no_length c s r h = λ o. let is = h.is in absurd (rw is at o)
+
+pub length_within : (n : ℕ) (s t : Source) (r : Result (List ℕ) WideError) → Reads (λ x. x) (number_at w32) s n t → n ≤ announced_len t → LengthIs s r
+length_within n s t r h le = λ o. let past = passes n s t h o in absurd (omega arith)
+
+pub fixed_stops : (read : Front (List ℕ)) (s t : Source) (r : Result (List ℕ) WideError) → GivesAlways (λ b. b) cause read s r t → LengthIs s r → StopsBy cause read NoNeed OverrunsString s r
+fixed_stops read s t (Ok x) h past = tt
+fixed_stops read s t (Err e) h past = refused_stopped (cause e) read NoNeed OverrunsString s h past
+
+pub ruleset lengths_of_fixed = (no_length, length_within)

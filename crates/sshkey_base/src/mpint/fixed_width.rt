@@ -4,8 +4,11 @@ ghost use Rattle.std.specs.Prelude.{◌≡◌, ◌<◌, ◌≤◌, suc};
 ghost use Rattle.sshkey_model.specs.KeyPairs.{is_natural, scalar_at};
 ghost use Rattle.sshkey_model.specs.Grammar.{value_at};
 ghost use Rattle.sshkey_model.specs.Reading.{bytes_at, checked_at};
+ghost use Rattle.sshkey_base.specs.Causes.{cause};
+ghost use Rattle.sshkey_base.specs.Needs.{NoNeed};
 ghost use Rattle.sshkey_base.specs.Source.{Later};
-ghost use Rattle.sshkey_base.specs.FixedWidth.{fixed_from, fixed_at, GivesBytes};
+ghost use Rattle.sshkey_base.specs.Stops.{OverrunsString, StopsBy};
+ghost use Rattle.sshkey_base.specs.FixedWidth.{fixed_from, fixed_at, GivesBytes, LengthIs};
 
 use super::Mpint;
 use crate::encoding;
@@ -24,16 +27,19 @@ impl Mpint {
         ensures gives { GivesBytes (value_at (scalar_at SIZE))
             R.source reader.old result reader.new }
         ensures later { Later (R.source reader.old) (R.source reader.new) }
+        ensures past { StopsBy cause (value_at (scalar_at SIZE)) NoNeed OverrunsString
+            (R.source reader.old) result }
     {
         number_from::<SIZE, R>(reader)
     }
 }
 
 /// The number, judged by its length before any of its bytes is read.
-#[tactic(auto, using(crate::proofs::Steps::steps), unfolding(crate::specs::FixedWidth::fixed_at))]
+#[tactic(auto, using(crate::proofs::Steps::steps, crate::proofs::FixedWidth::lengths_of_fixed), unfolding(crate::specs::FixedWidth::fixed_at))]
 fn number_from<const SIZE: usize, R: Reader>(reader: &mut R) -> Result<[u8; SIZE]>
     ensures gives { GivesBytes (fixed_at SIZE) R.source reader.old result reader.new }
     ensures later { Later (R.source reader.old) (R.source reader.new) }
+    ensures past { LengthIs (R.source reader.old) result }
 {
     let len = length_from(reader)?;
     if reader.remaining_len() < len {
