@@ -1,19 +1,31 @@
 -- A key's body that is read under an algorithm.
 use Rattle.std.specs.Prelude.{◌≡◌, Result, Ok, Err, IfOk, Bool, true, false}
 use Rattle.std.proofs.Common.{refl, sym, ◌∙◌}
-use Rattle.sshkey_model.specs.Keys.{body_at, key_algorithm, unhashed}
-use Rattle.sshkey_model.specs.Names.{Algorithm}
+use Rattle.sshkey_model.specs.Reading.{AlgorithmUnknown}
+use Rattle.sshkey_model.specs.Keys.{Key, any_ecdsa_at, body_at, ecdsa_at, has_curve, key_algorithm, unhashed, wanted_curve}
+use Rattle.sshkey_model.specs.Names.{Algorithm, Curve}
 use Rattle.sshkey_model.proofs.KeyReaders.{body_reads}
+use Rattle.sshkey_base.specs.declared.algorithm.Algorithm as rust
 use Rattle.sshkey_base.specs.declared.error.Error.{Error}
-use Rattle.sshkey_base.specs.Reading.{AcceptsFront, Gives}
-use Rattle.sshkey_base.specs.Causes.{cause}
-use Rattle.sshkey_base.specs.Source.{Source}
+use Rattle.sshkey_base.specs.Reading.{AcceptsFront, Gives, Reads}
+use Rattle.sshkey_base.specs.Causes.{Cause, cause}
+use Rattle.sshkey_base.specs.Formats.{Stops}
+use Rattle.sshkey_base.specs.Names.{algorithm_of}
+use Rattle.sshkey_base.specs.Needs.{Asks, NoNeed}
+use Rattle.sshkey_base.specs.Source.{Source, Later}
+use Rattle.sshkey_base.specs.Stops.{Stopped}
 use Rattle.sshkey_base.proofs.Accepted.{accepts_front}
+use Rattle.sshkey_format.specs.Terms.{IsMapped}
 use Rattle.sshkey_kinds.specs.Bodies.{SpellsBody}
+use Rattle.sshkey_kinds.specs.KeyFormats.{ecdsa_format}
+use Rattle.sshkey_kinds.proofs.Parts.{tested_stopped}
 use Rattle.sshkey_keys.specs.declared.key_data.KeyData.{KeyData}
 use Rattle.sshkey_keys.specs.declared.key_data.KeyData.TheVariants as kinds
 use Rattle.sshkey_keys.specs.Keys.{algorithm_beside, key_of}
+use Rattle.sshkey_keys.specs.KeyFormats.{body_format}
 use Rattle.sshkey_keys.specs.KeyReaders.{body_grammar}
+use Rattle.sshkey_keys.specs.Needs.{NeedsBody}
+use Rattle.sshkey_keys.specs.ReadBodies.{ReadsBody}
 
 pub body_accepted : (a : Algorithm) (s t : Source) (r : Result KeyData Error) → Gives key_of cause (body_at a) s r t → AcceptsFront key_of (SpellsBody a) cause s r t
 body_accepted a s t r gives = accepts_front (body_grammar a) key_of cause s t r gives
@@ -40,3 +52,16 @@ not_opaque (kinds.SkEd25519 k) a named is = is
 pub body_beside : (a : Algorithm) (s t : Source) (r : Result KeyData Error) → is_named (unhashed a) ≡ true → Gives key_of cause (body_at a) s r t → IfOk r (λ k. algorithm_beside k ≡ unhashed a)
 body_beside a s t (Ok k) named gives = not_opaque k (unhashed a) named (((body_reads a).takes s.left (key_of k) t.left gives.value).0.0)
 body_beside a s t (Err e) named gives = tt
+
+-- what a call does that reads the body under a fixed name
+pub fixed_read : (a : rust.Algorithm) (s t : Source) (r : Result KeyData Error) → is_named (unhashed (algorithm_of a)) ≡ true → Gives key_of cause (body_at (algorithm_of a)) s r t → Later s t → Asks cause (NeedsBody (algorithm_of a)) s r → Stops cause (body_format (algorithm_of a)) s r → ReadsBody a s r t
+fixed_read a s t r named gives later asks past = record { gives = gives; later = later; asks = asks; past = past; beside = body_beside (algorithm_of a) s t r named gives }
+
+-- ---- an ECDSA key of another curve than the algorithm's
+
+wanted_read : (wanted : Curve) → IsMapped (ecdsa_at wanted) (wanted_curve (λ k. k) wanted) any_ecdsa_at
+unfolding ecdsa_at
+wanted_read wanted = record { same = λ b. refl }
+
+pub unwanted_stopped : {X : Type 0} (means : X → Key) (wanted : Curve) (s t : Source) (x : X) (c : Cause) → Reads means any_ecdsa_at s x t → has_curve wanted (means x) ≡ false → Stopped c (ecdsa_at wanted) NoNeed ecdsa_format.overruns s
+unwanted_stopped means wanted s t x c h other = tested_stopped means any_ecdsa_at NoNeed ecdsa_format.overruns s t x (wanted_curve (λ k. k) wanted) (ecdsa_at wanted) c AlgorithmUnknown h (wanted_read wanted) (rw other refl) ecdsa_format.lengths

@@ -7,3 +7,4 @@ pub mod Bodies
 pub mod Asking
 pub mod WrittenParts
 mod TrailedBlobs
+pub mod NamedParts

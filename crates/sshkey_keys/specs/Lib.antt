@@ -10,3 +10,5 @@ pub mod Signatures
 pub mod Verdicts
 pub mod Blobs
 pub mod SignatureReaders
+pub mod KeyFormats
+pub mod ReadBodies

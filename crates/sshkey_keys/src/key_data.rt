@@ -7,15 +7,18 @@ ghost use Rattle.sshkey_base.specs.Reading.{AcceptsFront};
 ghost use Rattle.sshkey_base.specs.Causes.{cause};
 ghost use Rattle.sshkey_base.specs.Names.{IsFixed, algorithm_of, curve_of, hash_of};
 ghost use Rattle.sshkey_model.specs.Names.{algorithm_name, Dsa, Ecdsa, Ed25519, Rsa, SkEcdsa, SkEd25519 as AlgorithmSkEd25519, Other};
+ghost use Rattle.sshkey_base.specs.Formats.{Stops};
 ghost use Rattle.sshkey_base.specs.Needs.{Asks};
 ghost use Rattle.sshkey_base.specs.Source.{Later};
 ghost use Rattle.sshkey_base.specs.Sink.{Encodes, Measures};
 ghost use Rattle.sshkey_kinds.specs.Bodies.{SpellsBody};
 ghost use Rattle.sshkey_keys.specs.Fingerprints.{GivesFingerprint, IsShort};
-ghost use Rattle.sshkey_keys.specs.Keys.{DecodesBody, key_of, algorithm_beside, SpellsKey, key_data_at};
+ghost use Rattle.sshkey_keys.specs.Keys.{DecodesBody, key_of, algorithm_beside};
 ghost use Rattle.sshkey_keys.specs.KeyKinds.{is_ecdsa, is_ed25519};
-ghost use Rattle.sshkey_keys.specs.KeyReaders.{key_grammar, key_normal};
-ghost use Rattle.sshkey_keys.specs.Needs.{NeedsBody, NeedsKey};
+ghost use Rattle.sshkey_keys.specs.KeyFormats.{body_format, key_format};
+ghost use Rattle.sshkey_keys.specs.KeyReaders.{key_normal};
+ghost use Rattle.sshkey_keys.specs.Needs.{NeedsBody};
+ghost use Rattle.sshkey_keys.specs.ReadBodies.{ReadsBody};
 
 mod certificate_name;
 mod from;
@@ -164,16 +167,10 @@ impl KeyData {
         ensures beside { IfOk result (λ k. algorithm_beside k ≡ unhashed (algorithm_of algorithm)) }
         ensures asks { Asks cause (NeedsBody (algorithm_of algorithm))
             (R.source reader.old) result }
+        ensures past { Stops cause (body_format (algorithm_of algorithm))
+            (R.source reader.old) result }
     {
-        match algorithm {
-            Algorithm::Dsa => dsa_from(alloc, reader),
-            Algorithm::Ecdsa { curve } => ecdsa_from(alloc, reader, curve),
-            Algorithm::Ed25519 => ed25519_from(alloc, reader),
-            Algorithm::Rsa { hash: _ } => rsa_from(alloc, reader),
-            Algorithm::SkEcdsaSha2NistP256 => sk_ecdsa_from(alloc, reader),
-            Algorithm::SkEd25519 => sk_ed25519_from(alloc, reader),
-            Algorithm::Other(name) => opaque_from(alloc, reader, Algorithm::Other(name)),
-        }
+        body_from(alloc, reader, algorithm)
     }
 
     /// How many bytes stand behind the name of the algorithm. Exactly where a part of the key is
@@ -214,23 +211,40 @@ impl KeyData {
     }
 }
 
+/// What stands behind the name of that algorithm.
+fn body_from<R: Reader>(alloc: Global, reader: &mut R, algorithm: Algorithm) -> Result<KeyData>
+    ensures { ReadsBody algorithm (R.source reader.old) result (R.source reader.new) }
+{
+    match algorithm {
+        Algorithm::Dsa => dsa_from(alloc, reader),
+        Algorithm::Ecdsa { curve } => ecdsa_from(alloc, reader, curve),
+        Algorithm::Ed25519 => ed25519_from(alloc, reader),
+        Algorithm::Rsa { hash: _ } => rsa_from(alloc, reader),
+        Algorithm::SkEcdsaSha2NistP256 => sk_ecdsa_from(alloc, reader),
+        Algorithm::SkEd25519 => sk_ed25519_from(alloc, reader),
+        Algorithm::Other(name) => opaque_from(alloc, reader, Algorithm::Other(name)),
+    }
+}
+
 /// The body of a DSA key.
 #[tactic(auto, using(sshkey_base::proofs::Steps::steps))]
 fn dsa_from<R: Reader>(alloc: Global, reader: &mut R) -> Result<KeyData>
     ensures gives { DecodesBody Dsa R.source reader.old result reader.new }
     ensures later { Later (R.source reader.old) (R.source reader.new) }
     ensures asks { Asks cause (NeedsBody Dsa) (R.source reader.old) result }
+    ensures past { Stops cause (body_format Dsa) (R.source reader.old) result }
 {
     let key = DsaPublicKey::decode(alloc, reader)?;
     Ok(KeyData::Dsa(key))
 }
 
 /// The body of an ECDSA key of that curve. `AlgorithmUnknown` for another curve.
-#[tactic(auto, using(sshkey_base::proofs::Steps::steps), unfolding(sshkey_model::specs::Keys::ecdsa_at))]
+#[tactic(auto, using(sshkey_base::proofs::Steps::steps, sshkey_base::proofs::Stopping::stopping), unfolding(sshkey_model::specs::Keys::ecdsa_at))]
 fn ecdsa_from<R: Reader>(alloc: Global, reader: &mut R, curve: EcdsaCurve) -> Result<KeyData>
     ensures gives { DecodesBody (Ecdsa (curve_of curve)) R.source reader.old result reader.new }
     ensures later { Later (R.source reader.old) (R.source reader.new) }
     ensures asks { Asks cause (NeedsBody (Ecdsa (curve_of curve))) (R.source reader.old) result }
+    ensures past { Stops cause (body_format (Ecdsa (curve_of curve))) (R.source reader.old) result }
 {
     let key = EcdsaPublicKey::decode(alloc, reader)?;
     if !key.is_on(curve) {
@@ -245,6 +259,7 @@ fn ed25519_from<R: Reader>(alloc: Global, reader: &mut R) -> Result<KeyData>
     ensures gives { DecodesBody Ed25519 R.source reader.old result reader.new }
     ensures later { Later (R.source reader.old) (R.source reader.new) }
     ensures asks { Asks cause (NeedsBody Ed25519) (R.source reader.old) result }
+    ensures past { Stops cause (body_format Ed25519) (R.source reader.old) result }
 {
     let key = Ed25519PublicKey::decode(alloc, reader)?;
     Ok(KeyData::Ed25519(key))
@@ -256,6 +271,7 @@ fn rsa_from<R: Reader>(alloc: Global, reader: &mut R) -> Result<KeyData>
     ensures gives { DecodesBody (Rsa None) R.source reader.old result reader.new }
     ensures later { Later (R.source reader.old) (R.source reader.new) }
     ensures asks { Asks cause (NeedsBody (Rsa None)) (R.source reader.old) result }
+    ensures past { Stops cause (body_format (Rsa None)) (R.source reader.old) result }
 {
     let key = RsaPublicKey::decode(alloc, reader)?;
     Ok(KeyData::Rsa(key))
@@ -267,6 +283,7 @@ fn sk_ecdsa_from<R: Reader>(alloc: Global, reader: &mut R) -> Result<KeyData>
     ensures gives { DecodesBody SkEcdsa R.source reader.old result reader.new }
     ensures later { Later (R.source reader.old) (R.source reader.new) }
     ensures asks { Asks cause (NeedsBody SkEcdsa) (R.source reader.old) result }
+    ensures past { Stops cause (body_format SkEcdsa) (R.source reader.old) result }
 {
     let key = SkEcdsaSha2NistP256::decode(alloc, reader)?;
     Ok(KeyData::SkEcdsaSha2NistP256(key))
@@ -278,6 +295,7 @@ fn sk_ed25519_from<R: Reader>(alloc: Global, reader: &mut R) -> Result<KeyData>
     ensures gives { DecodesBody AlgorithmSkEd25519 R.source reader.old result reader.new }
     ensures later { Later (R.source reader.old) (R.source reader.new) }
     ensures asks { Asks cause (NeedsBody AlgorithmSkEd25519) (R.source reader.old) result }
+    ensures past { Stops cause (body_format AlgorithmSkEd25519) (R.source reader.old) result }
 {
     let key = SkEd25519::decode(alloc, reader)?;
     Ok(KeyData::SkEd25519(key))
@@ -290,6 +308,8 @@ fn opaque_from<R: Reader>(alloc: Global, reader: &mut R, algorithm: Algorithm) -
         R.source reader.old result reader.new }
     ensures later { Later (R.source reader.old) (R.source reader.new) }
     ensures asks { Asks cause (NeedsBody (Other (algorithm_name (algorithm_of algorithm))))
+        (R.source reader.old) result }
+    ensures past { Stops cause (body_format (Other (algorithm_name (algorithm_of algorithm))))
         (R.source reader.old) result }
     ensures beside { IfOk result (λ k. algorithm_beside k ≡ algorithm_of algorithm) }
 {
@@ -309,13 +329,7 @@ impl Decode for KeyData {
 
     ghost means = { key_of };
 
-    ghost parse = { key_data_at };
-
-    ghost Spells = { SpellsKey };
-
-    ghost needs = { NeedsKey };
-
-    ghost grammar = { key_grammar };
+    ghost format = { key_format };
 
     fn decode<R: Reader>(alloc: Global, reader: &mut R) -> Result<KeyData> {
         let algorithm = Algorithm::decode(alloc, reader)?;

@@ -4,16 +4,19 @@ ghost use Rattle.std.specs.Prelude.{◌≡◌, ◌++◌, ◌+◌, ◌*◌, ◌^�
 ghost use Rattle.sshkey_base.specs.Reading.{AcceptsWhole, DecodesWide, Gives, GivesWhole};
 ghost use Rattle.sshkey_base.specs.Answers.{AnswersAlways};
 ghost use Rattle.sshkey_base.specs.Causes.{cause};
+ghost use Rattle.sshkey_base.specs.Formats.{Stops};
 ghost use Rattle.sshkey_base.specs.Names.{algorithm_of};
 ghost use Rattle.sshkey_base.specs.Needs.{Asks, NeedsString};
 ghost use Rattle.sshkey_base.specs.Source.{Later, all_of};
+ghost use Rattle.sshkey_base.specs.Stops.{OverrunsString, StopsBy};
 ghost use Rattle.sshkey_base.specs.Sink.{Encodes, Measures};
 ghost use Rattle.sshkey_model.specs.Reading.{checked_at, string_at, whole};
 ghost use Rattle.sshkey_model.specs.Signatures.{Signature as TheSignature, IsSignature, IsSignatureBlob, signature, signature_blob, signature_blob_at, signature_at, trailed_at};
 ghost use Rattle.sshkey_keys.specs.Blobs.{ReadsFrontOf, MakesBlob};
 ghost use Rattle.sshkey_keys.specs.Needs.{NeedsSignature};
 ghost use Rattle.sshkey_keys.specs.SignatureForms.{string_from};
-ghost use Rattle.sshkey_keys.specs.SignatureReaders.{SpellsSignature, signature_grammar, signature_normal};
+ghost use Rattle.sshkey_keys.specs.KeyFormats.{blob_format, signature_format};
+ghost use Rattle.sshkey_keys.specs.SignatureReaders.{SpellsSignature, signature_normal};
 ghost use Rattle.sshkey_keys.specs.Signatures.{signature_of};
 
 use super::Signature;
@@ -77,13 +80,7 @@ impl Decode for Signature {
 
     ghost means = { signature_of };
 
-    ghost parse = { signature_at };
-
-    ghost Spells = { SpellsSignature };
-
-    ghost needs = { NeedsSignature };
-
-    ghost grammar = { signature_grammar };
+    ghost format = { signature_format };
 
     fn decode<R: Reader>(alloc: Global, reader: &mut R) -> Result<Signature> {
         let algorithm = Algorithm::decode(alloc, reader)?;
@@ -98,6 +95,8 @@ fn decode_blob<R: Reader>(alloc: Global, reader: &mut R, algorithm: &Algorithm) 
         R.source reader.old result reader.new }
     ensures later { Later (R.source reader.old) (R.source reader.new) }
     ensures asks { Asks cause NeedsString (R.source reader.old) result }
+    ensures past { Stops cause (blob_format (algorithm_of algorithm.now))
+        (R.source reader.old) result }
     ensures form { IfOk result (IsSignatureBlob (algorithm_of algorithm.now)) }
 {
     if has_trailer(algorithm) {
@@ -108,13 +107,15 @@ fn decode_blob<R: Reader>(alloc: Global, reader: &mut R, algorithm: &Algorithm) 
 }
 
 /// A string of bytes that are well-formed.
-#[tactic(auto, using(sshkey_base::proofs::Steps::steps))]
+#[tactic(auto, using(sshkey_base::proofs::Steps::steps, sshkey_base::proofs::Stopping::stopping))]
 fn decode_string<R: Reader>(alloc: Global, reader: &mut R, algorithm: &Algorithm) -> Result<Bytes>
     ensures gives { Gives (λ b. b) cause
         (checked_at (string_from (algorithm_of algorithm.now)) string_at)
         (R.source reader.old) result (R.source reader.new) }
     ensures later { Later (R.source reader.old) (R.source reader.new) }
     ensures asks { Asks cause NeedsString (R.source reader.old) result }
+    ensures past { StopsBy cause (checked_at (string_from (algorithm_of algorithm.now)) string_at)
+        NeedsString OverrunsString (R.source reader.old) result }
 {
     let bytes = Bytes::decode(alloc, reader)?;
     checked(algorithm, bytes)
@@ -136,6 +137,8 @@ fn decode_trailed<R: Reader>(alloc: Global, reader: &mut R, algorithm: &Algorith
         (R.source reader.old) result (R.source reader.new) }
     ensures later { Later (R.source reader.old) (R.source reader.new) }
     ensures asks { Asks cause NeedsString (R.source reader.old) result }
+    ensures past { StopsBy cause (trailed_at (string_from (algorithm_of algorithm.now)))
+        NeedsString OverrunsString (R.source reader.old) result }
 {
     let bytes = Bytes::decode_with_spare(alloc, reader, TRAILER_LEN)?;
     let trailer = array_from::<5, R>(reader)?;
