@@ -1,17 +1,19 @@
 -- A point string that is judged behind its length.
-use Rattle.std.proofs.Common.{◌≡◌, ℕ, List, Result, Ok, Err, refl, sym, ◌∙◌}
-use Rattle.sshkey_model.specs.Reading.{Fault, Length, Whole, bytes_at, checked_at}
+use Rattle.std.proofs.Common.{◌≡◌, ℕ, ◌<◌, List, Result, Ok, Err, refl, ◌∙◌}
+use Rattle.std.specs.Int.{w32}
+use Rattle.sshkey_model.specs.Reading.{Fault, Length, Whole, number_at, bytes_at, string_at, checked_at}
 use Rattle.sshkey_base.specs.declared.error.Error.{Error}
 use Rattle.sshkey_base.specs.Answers.{AnswersAlways}
 use Rattle.sshkey_base.specs.Causes.{Cause, Faulty, cause}
-use Rattle.sshkey_base.specs.Source.{Source}
+use Rattle.sshkey_base.specs.Labels.{NeedsBehind}
+use Rattle.sshkey_base.specs.Needs.{NoNeed}
+use Rattle.sshkey_base.specs.Source.{Source, announced_len}
+use Rattle.sshkey_base.specs.Stops.{OverrunsBytes, OverrunsString, Stopped}
 use Rattle.sshkey_base.specs.ShortStrings.{at_most}
 use Rattle.sshkey_base.specs.Reading.{Reads, Refuses, GivesAlways}
 use Rattle.sshkey_base.proofs.ShortStrings.{bounded}
-use Rattle.sshkey_base.specs.Lengths.{checked_lengths, bytes_lengths}
-use Rattle.sshkey_base.specs.Stops.{OverrunsBytes, Stopped, StopsBy}
 use Rattle.sshkey_base.proofs.Steps.{refuses_first}
-use Rattle.sshkey_base.proofs.Stopping.{refused_stopped, judged_stops, same_stops}
+use Rattle.sshkey_base.proofs.Stopping.{refused_stopped, behind_judged_stopped}
 use Rattle.sshkey_kinds.specs.PointStrings.{bounded_from}
 
 module _ {C : Type 0} (max n : ℕ) (judge : Whole C) (s : Source) where
@@ -27,10 +29,8 @@ module _ {C : Type 0} (max n : ℕ) (judge : Whole C) (s : Source) where
   pub refused_short : (c : Cause) → Refuses s.missing c (checked_at (at_most max) (bytes_at n) s.left) → Refuses s.missing c (checked_at (bounded_from max judge) (bytes_at n) s.left)
   refused_short c h = rw (bounded max judge (bytes_at n) s.left) (refuses_first _ _ _ _ h)
 
-  pub judged_short_stops : {A X : Type 0} (first : A → List ℕ) (means : X → C) (needs : List ℕ → ℕ → Type 0) (t : Source) (x : A) (r : Result X Error) → Reads first (checked_at (at_most max) (bytes_at n)) s x t → AnswersAlways means cause (judge (first x)) r → StopsBy cause (checked_at (bounded_from max judge) (bytes_at n)) needs (OverrunsBytes n) s r
-  judged_short_stops first means needs t x r h answer =
-      same_stops cause (checked_at judge (checked_at (at_most max) (bytes_at n))) (checked_at (bounded_from max judge) (bytes_at n)) needs (OverrunsBytes n) s r (λ b. sym (bounded max judge (bytes_at n) b))
-      (judged_stops first means cause (checked_at (at_most max) (bytes_at n)) judge needs (OverrunsBytes n) s t x r (checked_lengths (at_most max) (bytes_lengths n)) h answer)
+-- ---- the length before it
 
-  pub refused_short_stopped : (c : Cause) (needs : List ℕ → ℕ → Type 0) → Refuses s.missing c (checked_at (at_most max) (bytes_at n) s.left) → (OverrunsBytes n s.left s.missing → c ≡ Faulty Length) → Stopped c (checked_at (bounded_from max judge) (bytes_at n)) needs (OverrunsBytes n) s
-  refused_short_stopped c needs h past = refused_stopped c (checked_at (bounded_from max judge) (bytes_at n)) needs (OverrunsBytes n) s (refused_short c h) past
+-- its bytes are refused: so `Length` where it passes
+pub behind_refused_stopped : {B : Type 0} (c : Cause) (n : ℕ) (s t : Source) (judge : Whole B) → Reads (λ k. k) (number_at w32) s n t → Refuses t.missing c (checked_at judge (bytes_at n) t.left) → (announced_len t < n → c ≡ Faulty Length) → Stopped c (checked_at judge string_at) NoNeed OverrunsString s
+behind_refused_stopped c n s t judge h refused past = behind_judged_stopped c n s t h judge NoNeed (refused_stopped c (checked_at judge (bytes_at n)) (NeedsBehind NoNeed n) (OverrunsBytes n) t refused past)

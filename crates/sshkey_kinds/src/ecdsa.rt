@@ -1,18 +1,15 @@
 //! ECDSA public keys.
 
 ghost use Rattle.std.specs.Fmt.{WritesOnOk};
-ghost use Rattle.std.specs.Prelude.{◌≡◌};
+ghost use Rattle.std.specs.Prelude.{◌≡◌, ◌<◌, IsErrAnd};
 ghost use Rattle.hex.specs.Hex.{encode_lower, encode_upper};
 ghost use Rattle.sshkey_base.specs.Answers.{AnswersAlways};
-ghost use Rattle.sshkey_base.specs.Causes.{cause};
-ghost use Rattle.sshkey_base.specs.Labels.{NeedsBehind};
+ghost use Rattle.sshkey_base.specs.Causes.{Faulty, cause};
 ghost use Rattle.sshkey_base.specs.Names.{curve_of};
-ghost use Rattle.sshkey_base.specs.Needs.{NoNeed};
 ghost use Rattle.sshkey_base.specs.Reading.{GivesAlways};
-ghost use Rattle.sshkey_base.specs.Source.{Later};
-ghost use Rattle.sshkey_base.specs.Stops.{OverrunsBytes, StopsBy};
+ghost use Rattle.sshkey_base.specs.Source.{Later, announced_len};
 ghost use Rattle.sshkey_model.specs.Points.{curve_of_size, point_curve, point_from};
-ghost use Rattle.sshkey_model.specs.Reading.{bytes_at, checked_at};
+ghost use Rattle.sshkey_model.specs.Reading.{Length, bytes_at, checked_at};
 ghost use Rattle.sshkey_kinds.specs.EcdsaPublicKey.{ecdsa_of};
 
 use crate::ec_point::{
@@ -133,9 +130,8 @@ impl Decode for EcdsaPublicKey {
     ghost format = { ecdsa_format };
 
     fn decode<R: Reader>(alloc: Global, reader: &mut R) -> Result<EcdsaPublicKey> {
-        let Then(Wide(stated), AnyPoint(key)) = Then::<Wide<EcdsaCurve>, AnyPoint>::decode(
-            alloc, reader,
-        )?;
+        type Parts = Then<Wide<EcdsaCurve>, AnyPoint>;
+        let Then(Wide(stated), AnyPoint(key)) = Parts::decode(alloc, reader)?;
         if !key.is_on(stated) {
             return Err(Error::AlgorithmUnknown);
         }
@@ -173,8 +169,8 @@ fn point_from<R: Reader>(len: usize, reader: &mut R) -> Result<EcdsaPublicKey>
     ensures gives { GivesAlways ecdsa_of cause (checked_at point_from (bytes_at len))
         (R.source reader.old) result (R.source reader.new) }
     ensures later { Later (R.source reader.old) (R.source reader.new) }
-    ensures past { StopsBy cause (checked_at point_from (bytes_at len)) (NeedsBehind NoNeed len)
-        (OverrunsBytes len) (R.source reader.old) result }
+    ensures past { announced_len (R.source reader.old) < len →
+        IsErrAnd result (λ e. cause e ≡ Faulty Length) }
 {
     if let Some(bytes) = ShortBytes::<P521_POINT_LEN>::ahead(len, reader) {
         let key = EcdsaPublicKey::from_sec1_bytes(bytes)?;

@@ -1,15 +1,12 @@
 //! Public keys that a security key holds.
 
-ghost use Rattle.std.specs.Prelude.{◌≡◌, ℕ, List, ◌+◌, ◌*◌, ◌^◌, codes, string_bytes, IfOk, IfErr};
+ghost use Rattle.std.specs.Prelude.{◌≡◌, ℕ, List, ◌+◌, ◌*◌, ◌^◌, ◌<◌, codes, string_bytes, IfOk, IfErr, IsErrAnd};
 ghost use Rattle.sshkey_model.specs.Keys.{Key, SkEcdsa, SkEd25519 as SkEd25519Key, body};
-ghost use Rattle.sshkey_base.specs.Causes.{cause};
-ghost use Rattle.sshkey_base.specs.Labels.{NeedsBehind};
-ghost use Rattle.sshkey_base.specs.Needs.{NoNeed};
+ghost use Rattle.sshkey_base.specs.Causes.{Faulty, cause};
 ghost use Rattle.sshkey_base.specs.Reading.{GivesAlways};
-ghost use Rattle.sshkey_base.specs.Source.{Later};
-ghost use Rattle.sshkey_base.specs.Stops.{OverrunsBytes, StopsBy};
+ghost use Rattle.sshkey_base.specs.Source.{Later, announced_len};
 ghost use Rattle.sshkey_model.specs.Points.{p256_point_from};
-ghost use Rattle.sshkey_model.specs.Reading.{bytes_at, checked_at};
+ghost use Rattle.sshkey_model.specs.Reading.{Length, bytes_at, checked_at};
 ghost use Rattle.sshkey_kinds.specs.KeyFormats.{sk_ecdsa_format, sk_ed25519_format};
 ghost use Rattle.sshkey_kinds.specs.EcPoint.{point_of};
 
@@ -115,9 +112,9 @@ impl Decode for SkEcdsaSha2NistP256 {
 
     fn decode<R: Reader>(alloc: Global, reader: &mut R) -> Result<SkEcdsaSha2NistP256> {
         type Parts = Then<P256Name, Then<P256Point, Wide<Text>>>;
-        let Then(_, Then(P256Point(ec_point), Wide(application))) = Parts::decode(alloc, reader)?;
+        let Then(_, Then(P256Point(point), Wide(application))) = Parts::decode(alloc, reader)?;
         Ok(SkEcdsaSha2NistP256 {
-            ec_point,
+            ec_point: point,
             application,
         })
     }
@@ -177,8 +174,8 @@ fn point_from<R: Reader>(len: usize, reader: &mut R) -> Result<EcdsaNistP256Publ
     ensures gives { GivesAlways point_of cause (checked_at p256_point_from (bytes_at len))
         (R.source reader.old) result (R.source reader.new) }
     ensures later { Later (R.source reader.old) (R.source reader.new) }
-    ensures past { StopsBy cause (checked_at p256_point_from (bytes_at len))
-        (NeedsBehind NoNeed len) (OverrunsBytes len) (R.source reader.old) result }
+    ensures past { announced_len (R.source reader.old) < len →
+        IsErrAnd result (λ e. cause e ≡ Faulty Length) }
 {
     if let Some(bytes) = ShortBytes::<P256_POINT_LEN>::ahead(len, reader) {
         let point = EcPoint::from_bytes(bytes)?;
@@ -299,9 +296,8 @@ impl Decode for SkEd25519 {
     ghost format = { sk_ed25519_format };
 
     fn decode<R: Reader>(alloc: Global, reader: &mut R) -> Result<SkEd25519> {
-        let Then(Wide(bytes), Wide(application)) = Then::<Wide<[u8; 32]>, Wide<Text>>::decode(
-            alloc, reader,
-        )?;
+        type Parts = Then<Wide<[u8; 32]>, Wide<Text>>;
+        let Then(Wide(bytes), Wide(application)) = Parts::decode(alloc, reader)?;
         Ok(SkEd25519 {
             public_key: Ed25519PublicKey(bytes),
             application,

@@ -4,9 +4,7 @@ use Rattle.sshkey_base.specs.Causes.{same_cause}
 use Rattle.sshkey_base.specs.ShortBytes.{short_of}
 use Rattle.sshkey_base.specs.Source.{behind}
 use Rattle.sshkey_kinds.specs.EcdsaPublicKey.{sec1_from, ecdsa_of}
-use Rattle.sshkey_base.specs.Labels.{NeedsBehind}
-use Rattle.sshkey_base.specs.Needs.{NoNeed}
-use Rattle.sshkey_kinds.proofs.PointStrings.{judged_short, refused_short, judged_short_stops, refused_short_stopped}
+use Rattle.sshkey_kinds.proofs.PointStrings.{judged_short, refused_short}
 use Rattle.sshkey_kinds.proofs.ecdsa.point_from.Goals as goal
 
 pub returns-in_err-key-clause-gives : goal.returns-in_err-key-clause-gives
@@ -24,16 +22,3 @@ returns-in_err-bytes-clause-gives g c =
 
 pub returns-clause-gives : goal.returns-clause-gives
 returns-clause-gives g c = judged_short 133 c.args.len sec1_from (g.R.Reader.source c.args.reader.now) short_of ecdsa_of _ _ _ c.in_ok-bytes.ensures.gives (rw c.as_slice.ensures at c.from_sec1_bytes-2.ensures.answer)
-
-pub returns-in_err-key-clause-past : goal.returns-in_err-key-clause-past
-returns-in_err-key-clause-past g c =
-    let p = err_from_is_err_and c.from_residual.result c.from_residual.ensures.1 in
-    rw (p.1, p.2) (judged_short_stops 133 c.args.len sec1_from (g.R.Reader.source c.args.reader.now) (λ b. b) ecdsa_of (NeedsBehind NoNeed c.args.len) (behind c.args.len (g.R.Reader.source c.args.reader.now)) c.in-Some.bytes.now (Err c.in_err-key.field-0.0) c.in-Some.ensures.lent c.in_err-key.ensures.answer)
-
-pub returns-in_err-bytes-clause-past : goal.returns-in_err-bytes-clause-past
-returns-in_err-bytes-clause-past g c =
-    let p = err_from_is_err_and c.from_residual-in_err-bytes.result c.from_residual-in_err-bytes.ensures.1 in
-    rw (p.1, p.2, same_cause c.in_err-bytes.field-0.0) (refused_short_stopped 133 c.args.len sec1_from (g.R.Reader.source c.args.reader.now) _ (NeedsBehind NoNeed c.args.len) c.in_err-bytes.ensures.gives (λ o. let is = c.in_err-bytes.ensures.past o in cc))
-
-pub returns-clause-past : goal.returns-clause-past
-returns-clause-past g c = judged_short_stops 133 c.args.len sec1_from (g.R.Reader.source c.args.reader.now) short_of ecdsa_of (NeedsBehind NoNeed c.args.len) _ _ _ c.in_ok-bytes.ensures.gives (rw c.as_slice.ensures at c.from_sec1_bytes-2.ensures.answer)

@@ -5,9 +5,7 @@ use Rattle.sshkey_base.specs.ShortBytes.{short_of}
 use Rattle.sshkey_base.specs.Source.{behind}
 use Rattle.sshkey_kinds.specs.PointSizes.{point_within}
 use Rattle.sshkey_kinds.specs.EcPoint.{point_of}
-use Rattle.sshkey_base.specs.Labels.{NeedsBehind}
-use Rattle.sshkey_base.specs.Needs.{NoNeed}
-use Rattle.sshkey_kinds.proofs.PointStrings.{judged_short, refused_short, judged_short_stops, refused_short_stopped}
+use Rattle.sshkey_kinds.proofs.PointStrings.{judged_short, refused_short}
 use Rattle.sshkey_kinds.proofs.sk.point_from.Goals as goal
 
 pub returns-in_err-point-clause-gives : goal.returns-in_err-point-clause-gives
@@ -25,16 +23,3 @@ returns-in_err-bytes-clause-gives g c =
 
 pub returns-clause-gives : goal.returns-clause-gives
 returns-clause-gives g c = judged_short 65 c.args.len (point_within 65) (g.R.Reader.source c.args.reader.now) short_of point_of _ _ _ c.in_ok-bytes.ensures.gives (rw c.as_slice.ensures at c.from_bytes-2.ensures)
-
-pub returns-in_err-point-clause-past : goal.returns-in_err-point-clause-past
-returns-in_err-point-clause-past g c =
-    let p = err_from_is_err_and c.from_residual.result c.from_residual.ensures.1 in
-    rw (p.1, p.2) (judged_short_stops 65 c.args.len (point_within 65) (g.R.Reader.source c.args.reader.now) (λ b. b) point_of (NeedsBehind NoNeed c.args.len) (behind c.args.len (g.R.Reader.source c.args.reader.now)) c.in-Some.bytes.now (Err c.in_err-point.field-0.0) c.in-Some.ensures.lent c.in_err-point.ensures)
-
-pub returns-in_err-bytes-clause-past : goal.returns-in_err-bytes-clause-past
-returns-in_err-bytes-clause-past g c =
-    let p = err_from_is_err_and c.from_residual-in_err-bytes.result c.from_residual-in_err-bytes.ensures.1 in
-    rw (p.1, p.2, same_cause c.in_err-bytes.field-0.0) (refused_short_stopped 65 c.args.len (point_within 65) (g.R.Reader.source c.args.reader.now) _ (NeedsBehind NoNeed c.args.len) c.in_err-bytes.ensures.gives (λ o. let is = c.in_err-bytes.ensures.past o in cc))
-
-pub returns-clause-past : goal.returns-clause-past
-returns-clause-past g c = judged_short_stops 65 c.args.len (point_within 65) (g.R.Reader.source c.args.reader.now) short_of point_of (NeedsBehind NoNeed c.args.len) _ _ _ c.in_ok-bytes.ensures.gives (rw c.as_slice.ensures at c.from_bytes-2.ensures)

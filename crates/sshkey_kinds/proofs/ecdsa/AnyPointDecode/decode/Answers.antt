@@ -1,8 +1,9 @@
 use Rattle.std.proofs.lemmas.Result.{err_from_is_err_and}
-use Rattle.sshkey_base.specs.Causes.{cause, same_cause}
+use Rattle.sshkey_base.specs.Causes.{same_cause}
 use Rattle.sshkey_base.specs.Needs.{NoNeed}
-use Rattle.sshkey_base.proofs.Stopping.{judged_length_stopped, behind_judged_stopped}
+use Rattle.sshkey_base.proofs.Stopping.{judged_length_stopped}
 use Rattle.sshkey_model.specs.Points.{point_from}
+use Rattle.sshkey_kinds.proofs.PointStrings.{behind_refused_stopped}
 use Rattle.sshkey_kinds.proofs.ecdsa.AnyPointDecode.decode.Goals as goal
 
 pub returns-in_err-len-clause-past : goal.returns-in_err-len-clause-past
@@ -13,4 +14,4 @@ returns-in_err-len-clause-past g c =
 pub returns-in_err-point_from-clause-past : goal.returns-in_err-point_from-clause-past
 returns-in_err-point_from-clause-past g c =
     let p = err_from_is_err_and c.from_residual-in_err-point_from.result c.from_residual-in_err-point_from.ensures.1 in
-    rw (p.1, p.2) (behind_judged_stopped _ c.in_ok-len.len (g.R.Reader.source c.args.reader.now) _ c.in_ok-len.ensures.gives point_from NoNeed c.in_err-point_from.ensures.past)
+    rw (p.1, p.2) (behind_refused_stopped _ c.in_ok-len.len (g.R.Reader.source c.args.reader.now) _ point_from c.in_ok-len.ensures.gives c.in_err-point_from.ensures.gives c.in_err-point_from.ensures.past)
