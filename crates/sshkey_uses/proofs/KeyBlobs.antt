@@ -35,7 +35,7 @@ sized (SkEd25519 k) is = is
 sized (Opaque name k) is = is
 
 -- neither the name of such a key needs memory, nor its body
-no_need : (a : Algorithm) (b : List ℕ) → is_of_one_size (unhashed a) ≡ true → IsPrivateUse a ⊎ NeedsBody a b → ⊥
+no_need : (a : Algorithm) (b : List ℕ) → is_of_one_size (unhashed a) ≡ true → IsPrivateUse a ⊎ NeedsBody a b 0 → ⊥
 no_need names.Dsa b sized needs = cc
 no_need (names.Ecdsa curve) b sized (inl name) = name
 no_need (names.Ecdsa curve) b sized (inr body) = body
@@ -59,7 +59,7 @@ named : (found : Result (Algorithm × List ℕ) Fault) (k : Key) (rest : List �
 named (Ok name) k rest is = ((body_grammar name.0).takes name.1 k rest (body_read (body_at name.0 name.1) k rest is)).1.is.0
 named (Err fault) k rest is = cc
 
-needs_none : (found : Result (Algorithm × List ℕ) Fault) (k : Key) → is_of_one_size (key_algorithm k) ≡ true → IsOkAnd found (λ name. key_algorithm k ≡ unhashed name.0) → IsOkAnd found (λ name. IsPrivateUse name.0) ⊎ IsOkAnd found (λ name. NeedsBody name.0 name.1) → ⊥
+needs_none : (found : Result (Algorithm × List ℕ) Fault) (k : Key) → is_of_one_size (key_algorithm k) ≡ true → IsOkAnd found (λ name. key_algorithm k ≡ unhashed name.0) → IsOkAnd found (λ name. IsPrivateUse name.0) ⊎ IsOkAnd found (λ name. NeedsBody name.0 name.1 0) → ⊥
 needs_none (Ok name) k sized is (inl own) = no_need name.0 name.1 (subst (λ (a : Algorithm). is_of_one_size a ≡ true) is sized) (inl own)
 needs_none (Ok name) k sized is (inr body) = no_need name.0 name.1 (subst (λ (a : Algorithm). is_of_one_size a ≡ true) is sized) (inr body)
 needs_none (Err fault) k sized is needs = is
