@@ -12,7 +12,6 @@ pub use Rattle.sshkey_model.proofs.KeyDerivationReaders.{cipher_checks, kdf_algo
 use Rattle.sshkey_base.specs.LabelLaws.{unlisted_label}
 use Rattle.sshkey_ciphers.specs.declared.cipher.Cipher.{Cipher}
 use Rattle.sshkey_ciphers.specs.declared.cipher.Cipher.TheVariants as cipher
-use Rattle.sshkey_ciphers.specs.declared.kdf.Options.{Options}
 use Rattle.sshkey_ciphers.specs.declared.kdf_alg.KdfAlg.{KdfAlg}
 use Rattle.sshkey_ciphers.specs.declared.kdf_alg.KdfAlg.TheVariants as alg
 use Rattle.sshkey_ciphers.specs.declared.kdf.Kdf.{Kdf}
@@ -41,9 +40,6 @@ kdf_algorithm_of alg.Bcrypt = model.BcryptDerivation
 abbrev pub kdf_of : Kdf → model.Kdf
 kdf_of kdf.None = model.NoKdf
 kdf_of (kdf.Bcrypt salt rounds) = model.Bcrypt (record { salt = salt; rounds = rounds })
-
-abbrev pub options_of : Options → model.BcryptOptions
-options_of o = record { salt = o.salt; rounds = o.rounds }
 
 -- bcrypt with that salt and 16 rounds; where no key is derived there is none to be made
 abbrev pub kdf_with_salt : model.KdfAlgorithm → List ℕ → Result model.Kdf Fault

@@ -3,23 +3,23 @@
 ghost use Rattle.rand_core.specs.Stream.{fill_bytes};
 ghost use Rattle.std.specs.Prelude.{◌≡◌, ◌≢◌, ◌↔◌, ◌+◌, ◌*◌, ◌^◌, IsTrue, OnOk, OnErr, IfOk, IfErr};
 ghost use Rattle.sshkey_base.specs.Answers.{Answers};
-ghost use Rattle.sshkey_base.specs.Causes.{cause, encoding_cause};
-ghost use Rattle.sshkey_base.specs.Needs.{Asks, NoNeed, NeedsString, NeedsBoxed};
-ghost use Rattle.sshkey_base.specs.Reading.{Decodes, Gives};
+ghost use Rattle.sshkey_base.specs.Causes.{cause};
+ghost use Rattle.sshkey_base.specs.Needs.{Asks, NoNeed};
+ghost use Rattle.sshkey_base.specs.Reading.{Gives};
 ghost use Rattle.sshkey_base.specs.Source.{Later};
 ghost use Rattle.sshkey_base.specs.declared.error.Error.TheVariants as wide;
-ghost use Rattle.sshkey_model.specs.KeyDerivation.{Kdf as TheKdf, NoKdf, NoDerivation, BcryptDerivation, bcrypt_options_at, kdf_options_at, kdf, bcrypt_options, derivation};
+ghost use Rattle.sshkey_model.specs.KeyDerivation.{Kdf as TheKdf, NoKdf, NoDerivation, BcryptDerivation, kdf_options_at, kdf, bcrypt_options, derivation};
 ghost use Rattle.sshkey_model.specs.Parts.{Any};
-ghost use Rattle.sshkey_model.specs.Reading.{box_at, whole};
-ghost use Rattle.sshkey_ciphers.specs.Ciphers.{kdf_algorithm_of, kdf_of, options_of, kdf_with_salt, SpellsKdf, kdf_at, kdf_grammar, kdf_normal};
-ghost use Rattle.sshkey_ciphers.specs.Needs.{NeedsKdf};
+ghost use Rattle.sshkey_ciphers.specs.Ciphers.{kdf_algorithm_of, kdf_of, kdf_with_salt, SpellsKdf, kdf_at, kdf_grammar, kdf_normal};
+ghost use Rattle.sshkey_ciphers.specs.Needs.{NeedsKdf, NeedsOptions};
 
 use crate::kdf_alg::KdfAlg;
 use rand_core::{CryptoRng, Rng};
 use sshkey_base::{
-    Bytes, Decode, Encode, Error, NestedReader, NormalForm, Reader, Result, Writer, both_len,
-    encode_both, encoding,
+    Bytes, Decode, Encode, Error, NormalForm, Reader, Result, Writer, both_len, encode_both,
+    encoding,
 };
+use sshkey_format::{Boxed, Then, Wide};
 use std::alloc::Global;
 
 /// How the key of a cipher is derived from a password, with what that takes (OpenSSH,
@@ -160,48 +160,15 @@ fn none_from<R: Reader>(alloc: Global, reader: &mut R) -> Result<Kdf>
 }
 
 /// A string of salt and rounds.
-#[tactic(auto, using(sshkey_base::proofs::Steps::steps))]
+#[tactic(auto, using(sshkey_format::proofs::Mapped::mapped, crate::proofs::Parts::bcrypt_parts_read))]
 fn bcrypt_from<R: Reader>(alloc: Global, reader: &mut R) -> Result<Kdf>
     ensures gives { Gives kdf_of cause (kdf_options_at BcryptDerivation)
         (R.source reader.old) result (R.source reader.new) }
     ensures later { Later (R.source reader.old) (R.source reader.new) }
-    ensures asks { Asks cause (NeedsBoxed NeedsString) (R.source reader.old) result }
+    ensures asks { Asks cause (NeedsOptions BcryptDerivation) (R.source reader.old) result }
 {
-    let options = boxed_options_from(alloc, reader)?;
-    Ok(Kdf::Bcrypt {
-        salt: options.salt,
-        rounds: options.rounds,
-    })
-}
-
-/// What bcrypt takes.
-#[derive(Drop)]
-struct Options {
-    salt: Bytes,
-    rounds: u32,
-}
-
-/// The string of a salt and rounds.
-#[tactic(auto, using(sshkey_base::proofs::Boxes::boxes))]
-fn boxed_options_from<R: Reader>(alloc: Global, reader: &mut R) -> encoding::Result<Options>
-    ensures gives { Decodes options_of (box_at (whole bcrypt_options_at))
-        R.source reader.old result reader.new }
-    ensures later { Later (R.source reader.old) (R.source reader.new) }
-    ensures asks { Asks encoding_cause (NeedsBoxed NeedsString) (R.source reader.old) result }
-{
-    reader.read_prefixed(|part| options_from(alloc, part))
-}
-
-/// A salt as a string, and the rounds.
-#[tactic(auto, using(sshkey_base::proofs::Steps::steps), unfolding(crate::specs::Ciphers::bcrypt_options_at))]
-fn options_from<R: Reader>(alloc: Global, reader: &mut R) -> encoding::Result<Options>
-    ensures gives { Decodes options_of bcrypt_options_at R.source reader.old result reader.new }
-    ensures later { Later (R.source reader.old) (R.source reader.new) }
-    ensures asks { Asks encoding_cause NeedsString (R.source reader.old) result }
-{
-    let salt = Bytes::decode(alloc, reader)?;
-    let rounds = u32::decode(alloc, reader)?;
-    Ok(Options { salt, rounds })
+    let Wide(Boxed(Then(salt, rounds))) = Wide::<Boxed<Then<Bytes, u32>>>::decode(alloc, reader)?;
+    Ok(Kdf::Bcrypt { salt, rounds })
 }
 
 /// The name, and the number 0 or a string of salt and rounds.
