@@ -1,4 +1,5 @@
 -- What an SSH signature means.
+use Rattle.std.specs.Prelude.{ℕ, List}
 use Rattle.sshkey_model.specs.Names.{hash}
 use Rattle.sshkey_model.specs.Parts.{Parts, box, ◌&◌}
 use Rattle.sshkey_model.specs.Signatures.{signature}
@@ -10,6 +11,9 @@ use Rattle.sshkey_keys.specs.Signatures.{signature_of}
 use Rattle.sshkey_keys.specs.declared.key_data.KeyData.{KeyData}
 use Rattle.sshkey_keys.specs.declared.signature.Signature.{Signature}
 use Rattle.sshkey_sshsig.specs.declared.sshsig.SshSig.{SshSig}
+use Rattle.sshkey_sshsig.specs.declared.sshsig.part.Magic.{Magic}
+use Rattle.sshkey_sshsig.specs.declared.sshsig.part.Version.{Version}
+use Rattle.sshkey_sshsig.specs.declared.sshsig.part.Namespace.{Namespace}
 
 -- the key that it is by
 abbrev pub signer_of : SshSig → KeyData
@@ -25,3 +29,14 @@ ssh_signature_of f = record { version = f.version; key = key_of f.public_key; na
 -- what stands behind the key
 abbrev pub statement : model.SshSignature → Parts
 statement f = string f.namespace & string f.reserved & hash f.hash & box (signature f.signature)
+
+-- ---- fields that are judged by themselves
+
+abbrev pub magic_of : Magic → List ℕ
+magic_of m = m.0
+
+abbrev pub version_of : Version → ℕ
+version_of v = v.number
+
+abbrev pub namespace_of : Namespace → List ℕ
+namespace_of n = n.text

@@ -4,6 +4,7 @@ ghost use Rattle.std.specs.Prelude.{◌<◌, length};
 
 mod copy;
 mod fields;
+mod part;
 mod sign;
 mod signed_data;
 mod wire;

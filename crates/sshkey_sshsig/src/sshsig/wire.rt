@@ -1,24 +1,27 @@
 //! How SSH signatures are read and written.
 
-ghost use Rattle.std.specs.Prelude.{◌≡◌, ◌<◌, ◌+◌, ◌*◌, ◌^◌, IfOk, length};
-ghost use Rattle.sshkey_base.specs.Reading.{AcceptsWhole, DecodesWide, GivesWhole};
+ghost use Rattle.std.specs.Prelude.{◌≡◌, ◌<◌, ◌+◌, ◌*◌, ◌^◌, ℕ, List, length};
+ghost use Rattle.sshkey_base.specs.Reading.{AcceptsWhole, GivesWhole};
 ghost use Rattle.sshkey_base.specs.Answers.{AnswersAlways};
 ghost use Rattle.sshkey_base.specs.Causes.{cause};
 ghost use Rattle.sshkey_base.specs.Needs.{Asks, NoNeed, NeedsString};
 ghost use Rattle.sshkey_base.specs.Sink.{Encodes};
-ghost use Rattle.sshkey_base.specs.Source.{Later, all_of};
+ghost use Rattle.sshkey_base.specs.Source.{all_of};
 ghost use Rattle.sshkey_keys.specs.Blobs.{MakesBlob};
 ghost use Rattle.sshkey_model.specs.Reading.{literal_at, literal_from, whole};
 ghost use Rattle.sshkey_model.specs.SshSignatures.{SshSignature, IsSshSignature, normal_ssh_signature, signature_magic, version_at, namespace_at, version_from, namespace_from};
 ghost use Rattle.sshkey_sshsig.specs.Needs.{NeedsSshSignature};
-ghost use Rattle.sshkey_sshsig.specs.SshSignatures.{ssh_signature_of, statement};
+ghost use Rattle.sshkey_sshsig.specs.SshSignatures.{ssh_signature_of, statement, magic_of, version_of, namespace_of};
+ghost use Rattle.sshkey_sshsig.specs.Fields.{SpellsMagic, SpellsVersion, SpellsNamespace, magic_grammar, version_grammar, namespace_grammar};
 ghost use Rattle.sshkey_sshsig.specs.SshSignatureReaders.{ssh_signature_value_at, SpellsSshSignature, ssh_signature_grammar, ssh_signature_normal};
 
 use super::SshSig;
+use super::part::{Magic, Namespace, Version};
 use sshkey_base::{
     Bytes, Decode, Encode, Error, HashAlg, NormalForm, Reader, Result, Text, Writer, array_from,
-    decode_boxed, decode_whole, encode_vec, encoding,
+    decode_whole, encode_vec, encoding,
 };
+use sshkey_format::{Boxed, Then, Wide};
 use sshkey_keys::{KeyData, Signature};
 use std::alloc::Global;
 
@@ -53,70 +56,109 @@ impl SshSig {
 }
 
 /// Whether the bytes are `SSHSIG`. Else `FormatEncoding`.
-fn check_magic(bytes: [u8; 6]) -> Result<[u8; 6]>
-    ensures { AnswersAlways (λ b. b) cause (literal_from signature_magic bytes) result }
+fn check_magic(bytes: [u8; 6]) -> Result<Magic>
+    ensures { AnswersAlways magic_of cause (literal_from signature_magic bytes) result }
 {
     if bytes != MAGIC {
         return Err(Error::FormatEncoding);
     }
-    Ok(bytes)
+    Ok(Magic(bytes))
 }
 
 /// The six bytes `SSHSIG`.
 #[tactic(auto, using(sshkey_base::proofs::Steps::steps), unfolding(sshkey_model::specs::Reading::literal_at))]
-fn decode_magic<R: Reader>(reader: &mut R) -> Result<[u8; 6]>
-    ensures gives { DecodesWide (λ b. b) (literal_at signature_magic)
-        R.source reader.old result reader.new }
-    ensures later { Later (R.source reader.old) (R.source reader.new) }
-    ensures asks { Asks cause NoNeed (R.source reader.old) result }
-{
-    let bytes = array_from::<6, R>(reader)?;
-    check_magic(bytes)
+impl Decode for Magic {
+    type Error = Error;
+
+    ghost Meaning = { List ℕ };
+
+    ghost means = { magic_of };
+
+    ghost parse = { literal_at signature_magic };
+
+    ghost Spells = { SpellsMagic };
+
+    ghost needs = { NoNeed };
+
+    ghost grammar = { magic_grammar };
+
+    fn decode<R: Reader>(_alloc: Global, reader: &mut R) -> Result<Magic> {
+        let bytes = array_from::<6, R>(reader)?;
+        check_magic(bytes)
+    }
 }
 
-/// A version that is read, 0 or 1. Else `Version` with its number.
-fn check_version(number: u32) -> Result<u32>
-    ensures { AnswersAlways (λ n. n) cause (version_from number) result }
+/// A version that is read. Else `Version` with its number.
+fn check_version(number: u32) -> Result<Version>
+    ensures { AnswersAlways version_of cause (version_from number) result }
 {
     if number > SshSig::VERSION {
         return Err(Error::Version { number });
     }
-    Ok(number)
+    Ok(Version { number })
 }
 
 /// A version in four bytes.
 #[tactic(auto, using(sshkey_base::proofs::Steps::steps), unfolding(sshkey_model::specs::SshSignatures::version_at))]
-fn decode_version<R: Reader>(alloc: Global, reader: &mut R) -> Result<u32>
-    ensures gives { DecodesWide (λ n. n) version_at R.source reader.old result reader.new }
-    ensures later { Later (R.source reader.old) (R.source reader.new) }
-    ensures asks { Asks cause NoNeed (R.source reader.old) result }
-    ensures low { IfOk result (λ n. n < 2) }
-{
-    let number = u32::decode(alloc, reader)?;
-    check_version(number)
+impl Decode for Version {
+    type Error = Error;
+
+    ghost Meaning = { ℕ };
+
+    ghost means = { version_of };
+
+    ghost parse = { version_at };
+
+    ghost Spells = { SpellsVersion };
+
+    ghost needs = { NoNeed };
+
+    ghost grammar = { version_grammar };
+
+    fn decode<R: Reader>(alloc: Global, reader: &mut R) -> Result<Version> {
+        let number = u32::decode(alloc, reader)?;
+        check_version(number)
+    }
 }
 
 /// A namespace, which is not empty. Else `Namespace`.
-fn check_namespace(namespace: Text) -> Result<Text>
-    ensures { AnswersAlways (λ t. t) cause (namespace_from namespace) result }
+fn check_namespace(text: Text) -> Result<Namespace>
+    ensures { AnswersAlways namespace_of cause (namespace_from text) result }
 {
-    if namespace.as_str().is_empty() {
+    if text.as_str().is_empty() {
         return Err(Error::Namespace);
     }
-    Ok(namespace)
+    Ok(Namespace { text })
 }
 
 /// A text that is not empty.
 #[tactic(auto, using(sshkey_base::proofs::Steps::steps), unfolding(sshkey_model::specs::SshSignatures::namespace_at))]
-fn decode_namespace<R: Reader>(alloc: Global, reader: &mut R) -> Result<Text>
-    ensures gives { DecodesWide (λ t. t) namespace_at R.source reader.old result reader.new }
-    ensures later { Later (R.source reader.old) (R.source reader.new) }
-    ensures asks { Asks cause NeedsString (R.source reader.old) result }
-    ensures some { IfOk result (λ t. 0 < length t) }
-{
-    let namespace = Text::decode(alloc, reader)?;
-    check_namespace(namespace)
+impl Decode for Namespace {
+    type Error = Error;
+
+    ghost Meaning = { List ℕ };
+
+    ghost means = { namespace_of };
+
+    ghost parse = { namespace_at };
+
+    ghost Spells = { SpellsNamespace };
+
+    ghost needs = { NeedsString };
+
+    ghost grammar = { namespace_grammar };
+
+    fn decode<R: Reader>(alloc: Global, reader: &mut R) -> Result<Namespace> {
+        let text = Text::decode(alloc, reader)?;
+        check_namespace(text)
+    }
 }
+
+/// The bytes `SSHSIG`, the version and the key in a string.
+type Opening = Then<Magic, Then<Version, Boxed<KeyData>>>;
+
+/// The namespace, the reserved bytes, the hash's name and the signature in a string.
+type Statement = Then<Namespace, Then<Wide<Bytes>, Then<Wide<HashAlg>, Boxed<Signature>>>>;
 
 /// The bytes `SSHSIG`, the version, the key in a string, the namespace, the reserved bytes, the
 /// hash's name, and the signature in a string.
@@ -124,7 +166,7 @@ fn decode_namespace<R: Reader>(alloc: Global, reader: &mut R) -> Result<Text>
 /// `FormatEncoding` for other bytes than `SSHSIG`, `Version` with its number for a version above 1,
 /// `Namespace` for an empty namespace, `Label` for the name of no hash, and the refusals of
 /// `KeyData` and `Signature`.
-#[tactic(auto, using(sshkey_base::proofs::Steps::steps), unfolding(crate::specs::SshSignatureReaders::ssh_signature_value_at, sshkey_model::specs::Names::hash_at, sshkey_base::specs::Labels::label_at))]
+#[tactic(auto, using(sshkey_format::proofs::Mapped::mapped, crate::proofs::Parts::ssh_signature_parts_read), unfolding(sshkey_model::specs::Names::hash_at, sshkey_base::specs::Labels::label_at))]
 impl Decode for SshSig {
     type Error = Error;
 
@@ -141,17 +183,14 @@ impl Decode for SshSig {
     ghost grammar = { ssh_signature_grammar };
 
     fn decode<R: Reader>(alloc: Global, reader: &mut R) -> Result<SshSig> {
-        decode_magic(reader)?;
-        let version = decode_version(alloc, reader)?;
-        let public_key: KeyData = decode_boxed(alloc, reader)?;
-        let namespace = decode_namespace(alloc, reader)?;
-        let reserved = Bytes::decode(alloc, reader)?;
-        let hash_alg = HashAlg::decode(alloc, reader)?;
-        let signature: Signature = decode_boxed(alloc, reader)?;
+        let Then(opening, statement) = Then::<Opening, Statement>::decode(alloc, reader)?;
+        let Then(_, Then(version, Boxed(public_key))) = opening;
+        let Then(namespace, Then(Wide(reserved), Then(Wide(hash_alg), Boxed(signature)))) =
+            statement;
         Ok(SshSig {
-            version,
+            version: version.number,
             public_key,
-            namespace,
+            namespace: namespace.text,
             reserved,
             hash_alg,
             signature,
