@@ -9,6 +9,7 @@ use Rattle.sshkey_model.specs.PrivateKeys.{UnencryptedKey, key_eq, of_key, risin
 use Rattle.sshkey_model.proofs.CombinedReaders.{bind_assoc}
 use Rattle.sshkey_base.specs.Labels.{label_at}
 use Rattle.sshkey_base.proofs.MappedBoxes.{with_rest, on_value, made, box_map}
+use Rattle.sshkey_format.specs.Behind.{behind_at}
 use Rattle.sshkey_keypairs.specs.KeypairReaders.{some_at, keypair_data_at}
 use Rattle.sshkey_private.specs.Inner.{half_of, checkint_at, pair_with_at, inner_at}
 
@@ -63,7 +64,7 @@ pair_with_is public b = rw (pair_is b) (go (keypair_at b))
 -- ---- the part
 
 inner_is : (public : Key) (b : List ℕ) → inner_at public b ≡ (private_part_at public b >>= on_value some_part)
-unfolding inner_at checkint_at private_part_at
+unfolding inner_at checkint_at private_part_at behind_at
 inner_is public b = simp (bind_assoc, pair_with_is public)
 
 -- ---- padded, and in its string

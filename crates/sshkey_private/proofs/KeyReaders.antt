@@ -17,6 +17,7 @@ use Rattle.sshkey_base.specs.declared.encoding.Error as encoding
 use Rattle.sshkey_base.specs.declared.encoding.Error.TheVariants as encodings
 use Rattle.sshkey_base.specs.Reading.{Gives, Reads, ReadsAll, GivesWhole, AcceptsWhole}
 use Rattle.sshkey_base.proofs.MappedBoxes.{on_value, made}
+use Rattle.sshkey_format.specs.Behind.{behind_at}
 use Rattle.sshkey_keys.proofs.BoxedKeys.{key_box}
 use Rattle.sshkey_ciphers.specs.Ciphertexts.{blocks_at}
 use Rattle.sshkey_private.specs.PrivateKeyReaders.{SpellsPrivateKey, private_value_at, Opening, one_at, opening_at, last_of, last_encrypted_at, last_content_at, steps_at}
@@ -79,17 +80,23 @@ unencrypted_is public outer b = go (box_at (padded_from (private_part_at public)
     go (Err e) = refl
 
 encrypted_is : (c : Cipher) (k : Kdf) (public : Key) (outer : Head) (b : List ℕ) → (((encrypted_at c k public b >>= with_outer outer) >>= last) >>= bare) ≡ last_encrypted_at c k public b
-unfolding encrypted_at last_encrypted_at blocks_at
+unfolding encrypted_at last_encrypted_at blocks_at behind_at
 encrypted_is c k public outer b = first _
   where
     key : List ℕ → List ℕ → PrivateKey
     key ciphertext tag = Encrypted (record { cipher = c; kdf = k; public = public; ciphertext = ciphertext; tag = tag })
 
-    second : (ciphertext : List ℕ) (r : Result (List ℕ × List ℕ) Fault) → ((((r >>= λ tag. Ok ((key ciphertext tag.0, plain_pair), tag.1)) >>= with_outer outer) >>= last) >>= bare) ≡ (r >>= λ tag. last_of (key ciphertext tag.0, tag.1))
+    abbrev behind : List ℕ → List ℕ × List ℕ → Result ((List ℕ × List ℕ) × List ℕ) Fault
+    behind ciphertext tag = Ok ((ciphertext, tag.0), tag.1)
+
+    abbrev ended : (List ℕ × List ℕ) × List ℕ → Result (PrivateKey × List ℕ) Fault
+    ended x = last_of (key x.0.0 x.0.1, x.1)
+
+    second : (ciphertext : List ℕ) (r : Result (List ℕ × List ℕ) Fault) → ((((r >>= λ tag. Ok ((key ciphertext tag.0, plain_pair), tag.1)) >>= with_outer outer) >>= last) >>= bare) ≡ ((r >>= behind ciphertext) >>= ended)
     second ciphertext (Ok tag) = last_same (key ciphertext tag.0) plain_pair outer tag.1 (may_precede (key ciphertext tag.0) tag.1)
     second ciphertext (Err e) = refl
 
-    first : (r : Result (List ℕ × List ℕ) Fault) → ((((r >>= λ t. bytes_at (tag_size c) t.1 >>= λ tag. Ok ((key t.0 tag.0, plain_pair), tag.1)) >>= with_outer outer) >>= last) >>= bare) ≡ (r >>= λ t. bytes_at (tag_size c) t.1 >>= λ tag. last_of (key t.0 tag.0, tag.1))
+    first : (r : Result (List ℕ × List ℕ) Fault) → ((((r >>= λ t. bytes_at (tag_size c) t.1 >>= λ tag. Ok ((key t.0 tag.0, plain_pair), tag.1)) >>= with_outer outer) >>= last) >>= bare) ≡ ((r >>= λ t. bytes_at (tag_size c) t.1 >>= behind t.0) >>= ended)
     first (Ok t) = second t.0 (bytes_at (tag_size c) t.1)
     first (Err e) = refl
 

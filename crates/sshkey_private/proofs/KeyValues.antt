@@ -1,18 +1,17 @@
 -- A private key of the parts that were read.
 use Rattle.std.proofs.Common.{◌≡◌, ℕ, ◌<◌, List, [], ◌∷◌, length, Option, Some, option_map, Result, Ok, Err, IsErrAnd, sym, ap, ◌∙◌, arith}
-use Rattle.sshkey_model.specs.Reading.{Fault, TrailingKeyData, ◌>>=◌, box_at, bytes_at}
+use Rattle.sshkey_model.specs.Reading.{Fault, TrailingKeyData, ◌>>=◌, box_at}
 use Rattle.sshkey_model.specs.Grammar.{value_at}
 use Rattle.sshkey_model.specs.Keys.{Key}
-use Rattle.sshkey_model.specs.KeyDerivation.{Cipher, tag_size, Kdf}
-use Rattle.sshkey_model.specs.PrivateKeys.{UnencryptedKey, PrivateKey, Unencrypted, Encrypted, padded_from, private_part_at, unencrypted_at}
+use Rattle.sshkey_model.specs.KeyDerivation.{Cipher, Kdf}
+use Rattle.sshkey_model.specs.PrivateKeys.{UnencryptedKey, PrivateKey, Unencrypted, padded_from, private_part_at, unencrypted_at}
 use Rattle.sshkey_model.proofs.CombinedReaders.{bind_ok, ok_is}
 use Rattle.sshkey_base.specs.Causes.{Cause, Faulty}
 use Rattle.sshkey_base.specs.Source.{Source, announced_len}
 use Rattle.sshkey_base.specs.Reading.{Reads, IsRefused}
 use Rattle.sshkey_base.proofs.MappedBoxes.{on_value}
 use Rattle.sshkey_private.specs.Inner.{inner_at}
-use Rattle.sshkey_ciphers.specs.Ciphertexts.{blocks_at}
-use Rattle.sshkey_private.specs.PrivateKeyReaders.{last_of, last_encrypted_at}
+use Rattle.sshkey_private.specs.PrivateKeyReaders.{last_of, sealed_at, sealed_with, last_encrypted_at}
 use Rattle.sshkey_private.proofs.InnerReaders.{Part, some_part, boxed_is}
 use Rattle.sshkey_private.proofs.KeyReaders.{as_unencrypted, bare_content}
 
@@ -40,28 +39,28 @@ module _ {X I : Type 0} (means : X → PrivateKey) (part : I → Option Unencryp
 
 -- ---- encrypted
 
-module _ {X Y : Type 0} (ciphertext : X → List ℕ) (tag : Y → List ℕ) (c : Cipher) (k : Kdf) (public : Key) (s t u : Source) (x : X) (y : Y) (a : Reads ciphertext (blocks_at c) s x t) (b : Reads tag (bytes_at (tag_size c)) t y u) where
+module _ {X : Type 0} (parts : X → List ℕ × List ℕ) (c : Cipher) (k : Kdf) (public : Key) (s t : Source) (x : X) (a : Reads parts (sealed_at c) s x t) where
   abbrev sealed : PrivateKey
-  sealed = Encrypted (record { cipher = c; kdf = k; public = public; ciphertext = ciphertext x; tag = tag y })
+  sealed = sealed_with c k public (parts x).0 (parts x).1
 
-  pub behind_refused : (n : ℕ) → n ≡ announced_len u → 0 < n → IsRefused s.missing (Faulty (TrailingKeyData n)) (last_encrypted_at c k public s.left)
+  pub behind_refused : (n : ℕ) → n ≡ announced_len t → 0 < n → IsRefused s.missing (Faulty (TrailingKeyData n)) (last_encrypted_at c k public s.left)
   unfolding last_encrypted_at
   behind_refused n e some = record {
     fault = λ other sound.
-        let len : length u.left ≡ n = omega (arith, e, a.missing, b.missing, sound) in
-        rw (a.value, b.value) (go u.left len);
+        let len : length t.left ≡ n = omega (arith, e, a.missing, sound) in
+        rw a.value (go t.left len);
   }
     where
       go : (rest : List ℕ) → length rest ≡ n → IsErrAnd (last_of (sealed, rest)) (λ f. Faulty (TrailingKeyData n) ≡ Faulty f)
       go [] len = absurd (omega arith)
       go (d ∷ rest) len = ap (λ (m : ℕ). Faulty (TrailingKeyData m)) (sym len)
 
-  pub none_behind : {Z : Type 0} (means : Z → PrivateKey) (z : Z) → means z ≡ sealed → announced_len u ≡ 0 → Reads means (last_encrypted_at c k public) s z u
+  pub none_behind : {Z : Type 0} (means : Z → PrivateKey) (z : Z) → means z ≡ sealed → announced_len t ≡ 0 → Reads means (last_encrypted_at c k public) s z t
   unfolding last_encrypted_at
   none_behind {Z} means z same none = record {
-    value = rw (a.value, b.value) (go u.left (omega (arith, none)));
-    missing = b.missing ∙ a.missing;
-    outer = b.outer ∙ a.outer;
+    value = rw a.value (go t.left (omega (arith, none)));
+    missing = a.missing;
+    outer = a.outer;
   }
     where
       go : (rest : List ℕ) → length rest ≡ 0 → last_of (sealed, rest) ≡ Ok (means z, rest)

@@ -7,6 +7,7 @@ use Rattle.sshkey_model.specs.Keys.{Key}
 use Rattle.sshkey_model.specs.KeyPairs.{KeyPair}
 use Rattle.sshkey_model.specs.PrivateKeys.{UnencryptedKey, same_checkint}
 use Rattle.sshkey_base.specs.Needs.{NoNeed, NeedsString, NeedsBoth}
+use Rattle.sshkey_format.specs.Behind.{both_at}
 use Rattle.sshkey_keypairs.specs.Keypairs.{pair_of}
 use Rattle.sshkey_keypairs.specs.KeypairReaders.{keypair_data_at}
 use Rattle.sshkey_keypairs.specs.KeypairNeeds.{NeedsKeypair}
@@ -22,11 +23,11 @@ inner_of p = unencrypted p.checkint (pair_of p.pair) p.comment
 -- ---- reading
 
 -- a checkint, and the same again
+abbrev pub one_checkint : ℕ × ℕ → Result ℕ Fault
+one_checkint n = same_checkint n.0 n.1 >>= λ again. Ok n.0
+
 unfoldable pub checkint_at : Front ℕ
-checkint_at b = do
-  checkint ← number_at w32 b
-  again ← checked_at (same_checkint checkint.0) (number_at w32) checkint.1
-  Ok (checkint.0, again.1)
+checkint_at = checked_at one_checkint (both_at (number_at w32) (number_at w32))
 
 abbrev pub half_of : Key → Option KeyPair → Result (Option KeyPair) Fault
 half_of public k = if is_half k public then Ok k else Err PublicKey

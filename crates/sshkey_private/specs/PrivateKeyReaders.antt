@@ -7,6 +7,7 @@ use Rattle.sshkey_model.specs.Keys.{Key}
 use Rattle.sshkey_model.specs.KeyDerivation.{Cipher, NoCipher, tag_size, cipher_at, Kdf, NoKdf, Bcrypt, kdf_at}
 use Rattle.sshkey_model.specs.PrivateKeys.{PrivateKey, Encrypted, IsPrivateKey, HasPrivateKeyPlaces, private_key, private_key_magic, unencrypted_at, one_key, may_precede, decoded_private_key_at}
 use Rattle.sshkey_base.specs.Needs.{NoNeed, NeedsString, NeedsBoxed, NeedsBoth, NeedsThen}
+use Rattle.sshkey_format.specs.Behind.{both_at}
 use Rattle.sshkey_keys.specs.Keys.{key_data_at}
 use Rattle.sshkey_keys.specs.Needs.{NeedsKey}
 use Rattle.sshkey_ciphers.specs.Ciphertexts.{blocks_at}
@@ -43,9 +44,16 @@ opening_at b = do
   public ← box_at (whole key_data_at) one.1
   Ok (record { cipher = c.0; kdf = k.0; public = public.0 }, public.1)
 
+-- what stands before the number of keys
+abbrev pub sealing_at : Front (List ℕ × (Cipher × Kdf))
+sealing_at = both_at (literal_at private_key_magic) (both_at cipher_at kdf_at)
+
+abbrev pub NeedsSealing : List ℕ → Type 0
+NeedsSealing = NeedsBoth NoNeed (literal_at private_key_magic) (NeedsBoth NoNeed cipher_at NeedsKdf)
+
 -- what a derivation takes, or the key
 abbrev pub NeedsOpening : List ℕ → Type 0
-NeedsOpening = NeedsBoth NoNeed (literal_at private_key_magic) (NeedsBoth NoNeed cipher_at (NeedsBoth NeedsKdf kdf_at (NeedsBoth NoNeed one_at (NeedsBoxed NeedsKey))))
+NeedsOpening = NeedsBoth NeedsSealing sealing_at (NeedsBoth NoNeed one_at (NeedsBoxed NeedsKey))
 
 -- ---- the private part
 
@@ -57,11 +65,13 @@ last_of x = if may_precede x.0 x.1 then Ok x else Err (TrailingKeyData (length x
 abbrev pub sealed_with : Cipher → Kdf → Key → List ℕ → List ℕ → PrivateKey
 sealed_with c k public ciphertext tag = Encrypted (record { cipher = c; kdf = k; public = public; ciphertext = ciphertext; tag = tag })
 
+abbrev pub sealed_at : Cipher → Front (List ℕ × List ℕ)
+sealed_at c = both_at (blocks_at c) (bytes_at (tag_size c))
+
 unfoldable pub last_encrypted_at : Cipher → Kdf → Key → Front PrivateKey
 last_encrypted_at c k public b = do
-  ciphertext ← blocks_at c b
-  tag ← bytes_at (tag_size c) ciphertext.1
-  last_of (Encrypted (record { cipher = c; kdf = k; public = public; ciphertext = ciphertext.0; tag = tag.0 }), tag.1)
+  sealed ← sealed_at c b
+  last_of (sealed_with c k public sealed.0.0 sealed.0.1, sealed.1)
 
 abbrev pub last_content_at : Cipher → Kdf → Key → Front PrivateKey
 last_content_at NoCipher NoKdf public b = value_at (unencrypted_at public) b

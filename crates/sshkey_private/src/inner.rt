@@ -11,15 +11,16 @@ ghost use Rattle.sshkey_keypairs.specs.Keypairs.{pair_of};
 ghost use Rattle.sshkey_keys.specs.Keys.{key_of};
 ghost use Rattle.sshkey_kinds.specs.EcdsaPublicKey.{ecdsa_key_of};
 ghost use Rattle.sshkey_model.specs.KeyPairs.{public_half};
-ghost use Rattle.sshkey_model.specs.PrivateKeys.{key_eq, padded_from, same_checkint};
+ghost use Rattle.sshkey_model.specs.PrivateKeys.{key_eq, padded_from};
 ghost use Rattle.sshkey_model.specs.Reading.{box_at};
 ghost use Rattle.sshkey_pairs.specs.Pairs.{ecdsa_pair_of};
 ghost use Rattle.sshkey_private.specs.Halves.{is_half};
-ghost use Rattle.sshkey_private.specs.Inner.{inner_of, inner_at, checkint_at, half_of, pair_with_at, NeedsInner, NeedsPadded};
+ghost use Rattle.sshkey_private.specs.Inner.{inner_of, inner_at, checkint_at, one_checkint, half_of, pair_with_at, NeedsInner, NeedsPadded};
 
 use crate::part::Inner;
 use sshkey_base::{Decode, Error, Reader, Result, Text, encoding};
 use sshkey_ciphers::end_padding;
+use sshkey_format::Then;
 use sshkey_keypairs::KeypairData;
 use sshkey_keys::KeyData;
 use sshkey_kinds::EcdsaPublicKey;
@@ -81,31 +82,29 @@ fn inner_from<R: Reader>(alloc: Global, reader: &mut R, public: &KeyData) -> Res
 }
 
 /// A checkint, and the same again.
-#[tactic(auto, using(sshkey_base::proofs::Steps::steps), unfolding(crate::specs::Inner::checkint_at))]
+#[tactic(auto, using(sshkey_base::proofs::Steps::steps, sshkey_base::proofs::Judging::judged, sshkey_base::proofs::Judging::judged_asks), unfolding(crate::specs::Inner::checkint_at))]
 fn checkint_from<R: Reader>(alloc: Global, reader: &mut R) -> Result<u32>
     ensures gives { Gives (λ n. n) cause checkint_at
         (R.source reader.old) result (R.source reader.new) }
     ensures later { Later (R.source reader.old) (R.source reader.new) }
     ensures asks { Asks cause NoNeed (R.source reader.old) result }
 {
-    let checkint = u32::decode(alloc, reader)?;
-    let again = u32::decode(alloc, reader)?;
+    let Then(checkint, again) = Then::<u32, u32>::decode(alloc, reader)?;
     check_again(checkint, again)
 }
 
 /// The checkint again. Else `Crypto`.
 fn check_again(checkint: u32, again: u32) -> Result<u32>
-    ensures answers { AnswersAlways (λ n. n) cause (same_checkint checkint again) result }
-    ensures same { IfOk result (λ n. n ≡ checkint) }
+    ensures { AnswersAlways (λ n. n) cause (one_checkint (checkint, again)) result }
 {
     if again != checkint {
         return Err(Error::Crypto);
     }
-    Ok(again)
+    Ok(checkint)
 }
 
 /// A pair whose public half is that key.
-#[tactic(auto, using(sshkey_base::proofs::Steps::steps), unfolding(crate::specs::Inner::pair_with_at))]
+#[tactic(auto, using(sshkey_base::proofs::Steps::steps, sshkey_base::proofs::Judging::judged, sshkey_base::proofs::Judging::judged_asks), unfolding(crate::specs::Inner::pair_with_at))]
 fn pair_from<R: Reader>(alloc: Global, reader: &mut R, public: &KeyData) -> Result<KeypairData>
     ensures gives { Gives pair_of cause (pair_with_at (key_of public.now))
         (R.source reader.old) result (R.source reader.new) }

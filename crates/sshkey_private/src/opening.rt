@@ -1,5 +1,6 @@
 //! What stands before the private part of a key.
 
+ghost use Rattle.std.specs.Prelude.{◌≡◌, ℕ, List};
 ghost use Rattle.sshkey_base.specs.Answers.{AnswersAlways};
 ghost use Rattle.sshkey_base.specs.Causes.{cause};
 ghost use Rattle.sshkey_base.specs.Needs.{Asks, NoNeed};
@@ -7,11 +8,12 @@ ghost use Rattle.sshkey_base.specs.Reading.{Gives};
 ghost use Rattle.sshkey_base.specs.Source.{Later};
 ghost use Rattle.sshkey_model.specs.PrivateKeys.{private_key_magic, one_key};
 ghost use Rattle.sshkey_model.specs.Reading.{literal_at, literal_from};
-ghost use Rattle.sshkey_private.specs.Openings.{opening_of};
+ghost use Rattle.sshkey_private.specs.Openings.{opening_of, magic_of, one_of, SpellsMagic, SpellsOne, magic_grammar, one_grammar};
 ghost use Rattle.sshkey_private.specs.PrivateKeyReaders.{opening_at, one_at, NeedsOpening};
 
-use sshkey_base::{Decode, Error, Reader, Result, array_from, decode_boxed, encoding};
+use sshkey_base::{Decode, Error, Reader, Result, array_from, encoding};
 use sshkey_ciphers::{Cipher, Kdf};
+use sshkey_format::{Boxed, Then, Wide};
 use sshkey_keys::KeyData;
 use std::alloc::Global;
 
@@ -26,22 +28,32 @@ pub(crate) struct Opening {
     pub(crate) public: KeyData,
 }
 
+/// The magic bytes.
+#[derive(Drop)]
+struct Magic([u8; 15]);
+
+/// The number of keys, which is 1.
+#[derive(Drop)]
+struct One(u32);
+
+/// What stands before the number of keys: the magic bytes, the cipher and the key derivation.
+type Sealing = Then<Magic, Then<Wide<Cipher>, Kdf>>;
+
 /// The magic bytes, cipher, key derivation, the number 1, and the public key in a string.
 ///
 /// `FormatEncoding` for other bytes than the magic ones, `Label` for names of none, the refusals
 /// of `Kdf`, `Length` for another number of keys, and the refusals of `KeyData`.
-#[tactic(auto, using(sshkey_base::proofs::Steps::steps), unfolding(crate::specs::PrivateKeyReaders::opening_at, crate::specs::PrivateKeyReaders::cipher_at, sshkey_ciphers::specs::Ciphers::label_at))]
+#[tactic(auto, using(sshkey_format::proofs::Mapped::mapped, crate::proofs::Parts::opening_parts_read), unfolding(crate::specs::PrivateKeyReaders::cipher_at, sshkey_ciphers::specs::Ciphers::label_at))]
 pub(crate) fn opening_from<R: Reader>(alloc: Global, reader: &mut R) -> Result<Opening>
     ensures gives { Gives opening_of cause opening_at
         (R.source reader.old) result (R.source reader.new) }
     ensures later { Later (R.source reader.old) (R.source reader.new) }
     ensures asks { Asks cause NeedsOpening (R.source reader.old) result }
 {
-    magic_from(reader)?;
-    let cipher = Cipher::decode(alloc, reader)?;
-    let kdf = Kdf::decode(alloc, reader)?;
-    one_from(alloc, reader)?;
-    let public: KeyData = decode_boxed(alloc, reader)?;
+    let Then(sealing, Then(_, Boxed(public))) = Then::<Sealing, Then<One, Boxed<KeyData>>>::decode(
+        alloc, reader,
+    )?;
+    let Then(_, Then(Wide(cipher), kdf)) = sealing;
     Ok(Opening {
         cipher,
         kdf,
@@ -49,46 +61,68 @@ pub(crate) fn opening_from<R: Reader>(alloc: Global, reader: &mut R) -> Result<O
     })
 }
 
-/// The magic bytes.
+/// The magic bytes. `FormatEncoding` for others.
 #[tactic(auto, using(sshkey_base::proofs::Steps::steps), unfolding(crate::specs::PrivateKeyReaders::literal_at))]
-fn magic_from<R: Reader>(reader: &mut R) -> Result<[u8; 15]>
-    ensures gives { Gives (λ b. b) cause (literal_at private_key_magic)
-        (R.source reader.old) result (R.source reader.new) }
-    ensures later { Later (R.source reader.old) (R.source reader.new) }
-    ensures asks { Asks cause NoNeed (R.source reader.old) result }
-{
-    let bytes = array_from::<15, R>(reader)?;
-    check_magic(bytes)
+impl Decode for Magic {
+    type Error = Error;
+
+    ghost Meaning = { List ℕ };
+
+    ghost means = { magic_of };
+
+    ghost parse = { literal_at private_key_magic };
+
+    ghost Spells = { SpellsMagic };
+
+    ghost needs = { NoNeed };
+
+    ghost grammar = { magic_grammar };
+
+    fn decode<R: Reader>(_alloc: Global, reader: &mut R) -> Result<Magic> {
+        let bytes = array_from::<15, R>(reader)?;
+        check_magic(bytes)
+    }
 }
 
 /// Whether the bytes are the magic ones. Else `FormatEncoding`.
-fn check_magic(bytes: [u8; 15]) -> Result<[u8; 15]>
-    ensures { AnswersAlways (λ b. b) cause (literal_from private_key_magic bytes) result }
+fn check_magic(bytes: [u8; 15]) -> Result<Magic>
+    ensures { AnswersAlways magic_of cause (literal_from private_key_magic bytes) result }
 {
     if bytes != MAGIC {
         return Err(Error::FormatEncoding);
     }
-    Ok(bytes)
+    Ok(Magic(bytes))
 }
 
-/// The number of keys, which is 1.
+/// The number of keys, which is 1. `Length` for another.
 #[tactic(auto, using(sshkey_base::proofs::Steps::steps), unfolding(crate::specs::PrivateKeyReaders::one_at))]
-fn one_from<R: Reader>(alloc: Global, reader: &mut R) -> Result<u32>
-    ensures gives { Gives (λ n. n) cause one_at
-        (R.source reader.old) result (R.source reader.new) }
-    ensures later { Later (R.source reader.old) (R.source reader.new) }
-    ensures asks { Asks cause NoNeed (R.source reader.old) result }
-{
-    let number = u32::decode(alloc, reader)?;
-    check_one(number)
+impl Decode for One {
+    type Error = Error;
+
+    ghost Meaning = { ℕ };
+
+    ghost means = { one_of };
+
+    ghost parse = { one_at };
+
+    ghost Spells = { SpellsOne };
+
+    ghost needs = { NoNeed };
+
+    ghost grammar = { one_grammar };
+
+    fn decode<R: Reader>(alloc: Global, reader: &mut R) -> Result<One> {
+        let number = u32::decode(alloc, reader)?;
+        check_one(number)
+    }
 }
 
 /// One key. Else `Length`.
-fn check_one(number: u32) -> Result<u32>
-    ensures { AnswersAlways (λ n. n) cause (one_key number) result }
+fn check_one(number: u32) -> Result<One>
+    ensures { AnswersAlways one_of cause (one_key number) result }
 {
     if number != 1 {
         return Err(Error::Encoding(encoding::Error::Length));
     }
-    Ok(number)
+    Ok(One(number))
 }

@@ -15,7 +15,7 @@ ghost use Rattle.sshkey_ciphers.specs.Ciphers.{cipher_of, kdf_of};
 ghost use Rattle.sshkey_ciphers.specs.Ciphertexts.{tag_bytes};
 ghost use Rattle.sshkey_private.specs.Halves.{is_half};
 ghost use Rattle.sshkey_private.specs.Inner.{NeedsInner, NeedsPadded, inner_of};
-ghost use Rattle.sshkey_private.specs.PrivateKeyReaders.{steps_at, sealed_with, last_content_at, last_encrypted_at, NeedsContent, NeedsPrivateKey};
+ghost use Rattle.sshkey_private.specs.PrivateKeyReaders.{steps_at, sealed_at, sealed_with, last_content_at, last_encrypted_at, NeedsContent, NeedsPrivateKey};
 ghost use Rattle.sshkey_private.specs.PrivateKeys.{private_of, is_encrypted, outer_of, HasWrittenComment};
 ghost use Rattle.sshkey_public.specs.PublicKeys.{comment_of};
 
@@ -40,7 +40,7 @@ pub(super) fn private_key_from<R: Reader>(alloc: Global, reader: &mut R) -> Resu
     ensures comment { IfOk result HasWrittenComment }
 {
     let opening = opening_from(alloc, reader)?;
-    content_from(alloc, reader, opening)
+    Ok(content_from(alloc, reader, opening)?)
 }
 
 /// The private part behind that opening. `Crypto` for a key derivation without a cipher.
@@ -106,7 +106,7 @@ fn encrypted_from<R: Reader>(alloc: Global, reader: &mut R, opening: Opening) ->
     ensures asks { Asks cause NeedsString (R.source reader.old) result }
     ensures comment { IfOk result (λ k. comment_of (outer_of k) ≡ []) }
 {
-    let (ciphertext, tag) = sealed_from(alloc, reader, opening.cipher)?;
+    let (ciphertext, tag) = last_sealed_from(alloc, reader, opening.cipher)?;
     let Opening {
         cipher,
         kdf,
@@ -122,10 +122,8 @@ fn encrypted_from<R: Reader>(alloc: Global, reader: &mut R, opening: Opening) ->
     })
 }
 
-/// A ciphertext in its string, and its tag, at the end of the reader. `TrailingData` for bytes
-/// behind them.
-#[tactic(auto, using(sshkey_base::proofs::Steps::steps), unfolding(crate::specs::PrivateKeyReaders::last_encrypted_at))]
-fn sealed_from<R: Reader>(
+/// A ciphertext and its tag, at the end of the reader. `TrailingData` for bytes behind them.
+fn last_sealed_from<R: Reader>(
     alloc: Global,
     reader: &mut R,
     cipher: Cipher,
@@ -139,11 +137,29 @@ fn sealed_from<R: Reader>(
     ensures whole { IfOk result (λ p. length p.0.items % block_size (cipher_of cipher) ≡ 0) }
     ensures size { IfOk result (λ p. length (tag_bytes p.1) ≡ tag_size (cipher_of cipher)) }
 {
-    let ciphertext = ciphertext_from(alloc, reader, cipher)?;
-    let tag = tag_from(reader, cipher)?;
+    let sealed = sealed_from(alloc, reader, cipher)?;
     let remaining = reader.remaining_len();
     if remaining > 0 {
         return Err(Error::TrailingData { remaining });
     }
+    Ok(sealed)
+}
+
+/// A ciphertext in its string, and its tag behind it.
+#[tactic(auto, using(sshkey_base::proofs::Steps::steps), unfolding(sshkey_format::specs::Behind::behind_at))]
+fn sealed_from<R: Reader>(
+    alloc: Global,
+    reader: &mut R,
+    cipher: Cipher,
+) -> Result<(Vec<u8>, Option<[u8; 16]>)>
+    ensures gives { Gives (λ p. (p.0.items, tag_bytes p.1)) cause
+        (sealed_at (cipher_of cipher)) (R.source reader.old) result (R.source reader.new) }
+    ensures later { Later (R.source reader.old) (R.source reader.new) }
+    ensures asks { Asks cause NeedsString (R.source reader.old) result }
+    ensures whole { IfOk result (λ p. length p.0.items % block_size (cipher_of cipher) ≡ 0) }
+    ensures size { IfOk result (λ p. length (tag_bytes p.1) ≡ tag_size (cipher_of cipher)) }
+{
+    let ciphertext = ciphertext_from(alloc, reader, cipher)?;
+    let tag = tag_from(reader, cipher)?;
     Ok((ciphertext, tag))
 }

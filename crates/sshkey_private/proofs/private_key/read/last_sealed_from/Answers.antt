@@ -1,0 +1,19 @@
+use Rattle.std.proofs.Common.{refl, arith}
+use Rattle.std.proofs.lemmas.Result.{err_from_is_err_and}
+use Rattle.sshkey_base.proofs.Steps.{refused_first}
+use Rattle.sshkey_ciphers.specs.Ciphers.{cipher_of}
+use Rattle.sshkey_private.specs.PrivateKeyReaders.{last_encrypted_at}
+use Rattle.sshkey_private.proofs.KeyValues.{behind_refused, none_behind}
+use Rattle.sshkey_private.proofs.private_key.read.last_sealed_from.Goals as goal
+
+pub returns-in_err-sealed-clause-gives : goal.returns-in_err-sealed-clause-gives
+unfolding last_encrypted_at
+returns-in_err-sealed-clause-gives g c =
+    let p = err_from_is_err_and c.from_residual.result c.from_residual.ensures.1 in
+    rw (p.1, p.2) (λ k public. refused_first _ _ _ _ c.in_err-sealed.ensures.gives)
+
+pub returns-then-remaining-gt0-clause-gives : goal.returns-then-remaining-gt0-clause-gives
+returns-then-remaining-gt0-clause-gives g c = λ k public. behind_refused _ (cipher_of c.args.cipher) k public _ _ _ c.in_ok-sealed.ensures.gives _ c.remaining_len-remaining.ensures c.if-remaining-gt0.true
+
+pub returns-clause-gives : goal.returns-clause-gives
+returns-clause-gives g c = λ k public. none_behind _ (cipher_of c.args.cipher) k public _ _ _ c.in_ok-sealed.ensures.gives _ _ refl (let n = c.remaining_len-remaining.ensures in let few = c.if-remaining-gt0.false in omega arith)
