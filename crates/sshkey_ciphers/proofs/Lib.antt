@@ -1,3 +1,3 @@
+pub mod Chosen
 pub mod Paddings
 pub mod Tags
-pub mod Parts

@@ -1,5 +1,5 @@
 pub mod Ciphers
 pub mod Ciphertexts
 pub mod Comparisons
-pub mod Needs
+pub mod KdfFormats
 pub mod Paddings

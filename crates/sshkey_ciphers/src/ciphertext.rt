@@ -4,8 +4,9 @@ ghost use Rattle.std.specs.Prelude.{◌≡◌, ◌%◌, IfOk, length};
 ghost use Rattle.sshkey_base.specs.Answers.{AnswersAlways};
 ghost use Rattle.sshkey_base.specs.Causes.{cause};
 ghost use Rattle.sshkey_base.specs.Needs.{Asks, NoNeed, NeedsString};
-ghost use Rattle.sshkey_base.specs.Reading.{Gives, LengthPast};
+ghost use Rattle.sshkey_base.specs.Reading.{Gives};
 ghost use Rattle.sshkey_base.specs.Source.{Later};
+ghost use Rattle.sshkey_base.specs.Stops.{NoOverrun, OverrunsString, StopsBy};
 ghost use Rattle.sshkey_model.specs.KeyDerivation.{block_size, tag_size};
 ghost use Rattle.sshkey_model.specs.PrivateKeys.{blocks_from};
 ghost use Rattle.sshkey_model.specs.Reading.{bytes_at};
@@ -22,13 +23,14 @@ use std::alloc::Global;
 /// A sound source is refused as `Vec<u8>` refuses it, or with `Crypto` where the ciphertext is no
 /// multiple of a block. Takes memory for the ciphertext alone, and none for a length that passes
 /// what is left, which is `Length`.
-#[tactic(auto, using(sshkey_base::proofs::Steps::steps), unfolding(crate::specs::Ciphertexts::blocks_at))]
+#[tactic(auto, using(sshkey_base::proofs::Steps::steps, sshkey_base::proofs::Stopping::stopping), unfolding(crate::specs::Ciphertexts::blocks_at))]
 pub fn ciphertext_from<R: Reader>(alloc: Global, reader: &mut R, cipher: Cipher) -> Result<Vec<u8>>
     ensures gives { Gives (λ v. v.items) cause (blocks_at (cipher_of cipher))
         (R.source reader.old) result (R.source reader.new) }
     ensures later { Later (R.source reader.old) (R.source reader.new) }
     ensures asks { Asks cause NeedsString (R.source reader.old) result }
-    ensures past { LengthPast cause (R.source reader.old) result }
+    ensures past { StopsBy cause (blocks_at (cipher_of cipher)) NeedsString OverrunsString
+        (R.source reader.old) result }
     ensures whole { IfOk result (λ v. length v.items % block_size (cipher_of cipher) ≡ 0) }
 {
     let ciphertext = Vec::<u8>::decode(alloc, reader)?;
@@ -51,11 +53,14 @@ fn check_blocks(ciphertext: Vec<u8>, cipher: Cipher) -> Result<Vec<u8>>
 /// ciphers it is none, and nothing is read.
 ///
 /// A sound source is refused only with `Length`, where fewer bytes are left. Takes no memory.
+#[tactic(auto, using(sshkey_base::proofs::Steps::steps, sshkey_base::proofs::Stopping::stopping))]
 pub fn tag_from<R: Reader>(reader: &mut R, cipher: Cipher) -> Result<Option<[u8; 16]>>
     ensures gives { Gives tag_bytes cause (bytes_at (tag_size (cipher_of cipher)))
         (R.source reader.old) result (R.source reader.new) }
     ensures later { Later (R.source reader.old) (R.source reader.new) }
     ensures asks { Asks cause NoNeed (R.source reader.old) result }
+    ensures past { StopsBy cause (bytes_at (tag_size (cipher_of cipher))) NoNeed NoOverrun
+        (R.source reader.old) result }
     ensures size { IfOk result (λ t. length (tag_bytes t) ≡ tag_size (cipher_of cipher)) }
 {
     if !cipher.has_tag() {

@@ -2,16 +2,17 @@
 
 ghost use Rattle.rand_core.specs.Stream.{fill_bytes};
 ghost use Rattle.std.specs.Prelude.{◌≡◌, ◌≢◌, ◌↔◌, ◌+◌, ◌*◌, ◌^◌, IsTrue, OnOk, OnErr, IfOk, IfErr};
-ghost use Rattle.sshkey_base.specs.Answers.{Answers};
+ghost use Rattle.sshkey_base.specs.Answers.{Answers, AnswersAlways};
 ghost use Rattle.sshkey_base.specs.Causes.{cause};
+ghost use Rattle.sshkey_base.specs.Formats.{Stops};
 ghost use Rattle.sshkey_base.specs.Needs.{Asks, NoNeed};
 ghost use Rattle.sshkey_base.specs.Reading.{Gives};
 ghost use Rattle.sshkey_base.specs.Source.{Later};
 ghost use Rattle.sshkey_base.specs.declared.error.Error.TheVariants as wide;
-ghost use Rattle.sshkey_model.specs.KeyDerivation.{Kdf as TheKdf, NoKdf, NoDerivation, BcryptDerivation, kdf_options_at, kdf, bcrypt_options, derivation};
+ghost use Rattle.sshkey_model.specs.KeyDerivation.{Kdf as TheKdf, NoKdf, BcryptDerivation, no_options, kdf, bcrypt_options, derivation};
 ghost use Rattle.sshkey_model.specs.Parts.{Any};
-ghost use Rattle.sshkey_ciphers.specs.Ciphers.{kdf_algorithm_of, kdf_of, kdf_with_salt, SpellsKdf, kdf_at, kdf_grammar, kdf_normal};
-ghost use Rattle.sshkey_ciphers.specs.Needs.{NeedsKdf, NeedsOptions};
+ghost use Rattle.sshkey_ciphers.specs.Ciphers.{kdf_algorithm_of, kdf_of, kdf_with_salt, kdf_normal};
+ghost use Rattle.sshkey_ciphers.specs.KdfFormats.{kdf_format, options_format, none_format, bcrypt_format};
 
 use crate::kdf_alg::KdfAlg;
 use rand_core::{CryptoRng, Rng};
@@ -119,7 +120,7 @@ impl Default for Kdf {
 /// `Length` where a number or a string passes what is left, `Label` for another name,
 /// `AlgorithmUnknown` for another number, and `TrailingData` for bytes behind the rounds in their
 /// string.
-#[tactic(auto, using(sshkey_base::proofs::Steps::steps), unfolding(crate::specs::Ciphers::kdf_at, crate::specs::Ciphers::kdf_algorithm_at, crate::specs::Ciphers::label_at))]
+#[tactic(auto, using(sshkey_base::proofs::Steps::steps))]
 impl Decode for Kdf {
     type Error = Error;
 
@@ -127,32 +128,48 @@ impl Decode for Kdf {
 
     ghost means = { kdf_of };
 
-    ghost parse = { kdf_at };
-
-    ghost Spells = { SpellsKdf };
-
-    ghost needs = { NeedsKdf };
-
-    ghost grammar = { kdf_grammar };
+    ghost format = { kdf_format };
 
     fn decode<R: Reader>(alloc: Global, reader: &mut R) -> Result<Kdf> {
         let algorithm = KdfAlg::decode(alloc, reader)?;
-        match algorithm {
-            KdfAlg::None => none_from(alloc, reader),
-            KdfAlg::Bcrypt => bcrypt_from(alloc, reader),
-        }
+        options_from(alloc, reader, algorithm)
+    }
+}
+
+/// What stands behind that name.
+#[tactic(auto)]
+fn options_from<R: Reader>(alloc: Global, reader: &mut R, algorithm: KdfAlg) -> Result<Kdf>
+    ensures gives { Gives kdf_of cause (options_format (kdf_algorithm_of algorithm)).read
+        (R.source reader.old) result (R.source reader.new) }
+    ensures later { Later (R.source reader.old) (R.source reader.new) }
+    ensures asks { Asks cause (options_format (kdf_algorithm_of algorithm)).needs
+        (R.source reader.old) result }
+    ensures past { Stops cause (options_format (kdf_algorithm_of algorithm))
+        (R.source reader.old) result }
+{
+    match algorithm {
+        KdfAlg::None => none_from(alloc, reader),
+        KdfAlg::Bcrypt => bcrypt_from(alloc, reader),
     }
 }
 
 /// The number 0.
-#[tactic(auto, using(sshkey_base::proofs::Steps::steps))]
+#[tactic(auto, using(sshkey_base::proofs::Steps::steps, sshkey_base::proofs::Stopping::stopping, sshkey_base::proofs::Judging::judged, sshkey_base::proofs::Judging::judged_asks))]
 fn none_from<R: Reader>(alloc: Global, reader: &mut R) -> Result<Kdf>
-    ensures gives { Gives kdf_of cause (kdf_options_at NoDerivation)
+    ensures gives { Gives kdf_of cause none_format.read
         (R.source reader.old) result (R.source reader.new) }
     ensures later { Later (R.source reader.old) (R.source reader.new) }
     ensures asks { Asks cause NoNeed (R.source reader.old) result }
+    ensures past { Stops cause none_format (R.source reader.old) result }
 {
     let len = u32::decode(alloc, reader)?;
+    check_none(len)
+}
+
+/// No options. Else `AlgorithmUnknown`.
+fn check_none(len: u32) -> Result<Kdf>
+    ensures { AnswersAlways kdf_of cause (no_options len) result }
+{
     if len != 0 {
         return Err(Error::AlgorithmUnknown);
     }
@@ -160,12 +177,13 @@ fn none_from<R: Reader>(alloc: Global, reader: &mut R) -> Result<Kdf>
 }
 
 /// A string of salt and rounds.
-#[tactic(auto, using(sshkey_format::proofs::Mapped::mapped, crate::proofs::Parts::bcrypt_parts_read))]
+#[tactic(auto, using(sshkey_format::proofs::Mapped::mapped, crate::specs::KdfFormats::bcrypt_parts_read))]
 fn bcrypt_from<R: Reader>(alloc: Global, reader: &mut R) -> Result<Kdf>
-    ensures gives { Gives kdf_of cause (kdf_options_at BcryptDerivation)
+    ensures gives { Gives kdf_of cause bcrypt_format.read
         (R.source reader.old) result (R.source reader.new) }
     ensures later { Later (R.source reader.old) (R.source reader.new) }
-    ensures asks { Asks cause (NeedsOptions BcryptDerivation) (R.source reader.old) result }
+    ensures asks { Asks cause bcrypt_format.needs (R.source reader.old) result }
+    ensures past { Stops cause bcrypt_format (R.source reader.old) result }
 {
     let Wide(Boxed(Then(salt, rounds))) = Wide::<Boxed<Then<Bytes, u32>>>::decode(alloc, reader)?;
     Ok(Kdf::Bcrypt { salt, rounds })
