@@ -79,6 +79,9 @@ unencrypted_is public outer b = go (box_at (padded_from (private_part_at public)
     go (Ok part) = refl
     go (Err e) = refl
 
+abbrev behind : List ℕ → List ℕ × List ℕ → Result ((List ℕ × List ℕ) × List ℕ) Fault
+behind ciphertext tag = Ok ((ciphertext, tag.0), tag.1)
+
 encrypted_is : (c : Cipher) (k : Kdf) (public : Key) (outer : Head) (b : List ℕ) → (((encrypted_at c k public b >>= with_outer outer) >>= last) >>= bare) ≡ last_encrypted_at c k public b
 unfolding encrypted_at last_encrypted_at blocks_at behind_at
 encrypted_is c k public outer b = first _
@@ -86,10 +89,7 @@ encrypted_is c k public outer b = first _
     key : List ℕ → List ℕ → PrivateKey
     key ciphertext tag = Encrypted (record { cipher = c; kdf = k; public = public; ciphertext = ciphertext; tag = tag })
 
-    abbrev behind : List ℕ → List ℕ × List ℕ → Result ((List ℕ × List ℕ) × List ℕ) Fault
-    behind ciphertext tag = Ok ((ciphertext, tag.0), tag.1)
-
-    abbrev ended : (List ℕ × List ℕ) × List ℕ → Result (PrivateKey × List ℕ) Fault
+    ended : (List ℕ × List ℕ) × List ℕ → Result (PrivateKey × List ℕ) Fault
     ended x = last_of (key x.0.0 x.0.1, x.1)
 
     second : (ciphertext : List ℕ) (r : Result (List ℕ × List ℕ) Fault) → ((((r >>= λ tag. Ok ((key ciphertext tag.0, plain_pair), tag.1)) >>= with_outer outer) >>= last) >>= bare) ≡ ((r >>= behind ciphertext) >>= ended)

@@ -6,4 +6,4 @@ pub mod KeyValues
 pub mod KeyForms
 pub mod NewKeys
 pub mod WrittenKeys
-pub mod Parts
+pub mod Passing

@@ -77,5 +77,5 @@ module _ {A : Type 0} (read : Front A) where
         go (Err f) e = absurd cc
 
 -- memory is asked for by the value alone, in whole blocks
-pub asks_padded : (needs : List ℕ → Type 0) (s : Source) (c : Cause) → announced_len s % 8 ≡ 0 → (c ≡ NoMemory → IsSound s → needs s.left) → c ≡ NoMemory → IsSound s → NeedsPadded needs s.left
-asks_padded needs s c multiple h memory sound = (omega (arith, multiple, sound), h memory sound)
+pub asks_padded : (needs : List ℕ → ℕ → Type 0) (s : Source) (c : Cause) → announced_len s % 8 ≡ 0 → (c ≡ NoMemory → IsSound s → needs s.left s.missing) → c ≡ NoMemory → IsSound s → NeedsPadded needs s.left s.missing
+asks_padded needs s c multiple h memory sound = (multiple, h memory sound)

@@ -1,5 +1,5 @@
 -- The private part of a key that is not encrypted.
-use Rattle.std.specs.Prelude.{◌≡◌, ℕ, ◌%◌, List, length, Option, option_map, Result, Ok, Err, if◌then◌else◌}
+use Rattle.std.specs.Prelude.{◌≡◌, ℕ, ◌+◌, ◌%◌, List, length, Option, option_map, Result, Ok, Err, if◌then◌else◌}
 use Rattle.std.specs.Int.{w32}
 use Rattle.sshkey_model.specs.Reading.{Fault, PublicKey, ◌>>=◌, Front, number_at, checked_at}
 use Rattle.sshkey_model.specs.Texts.{text_at}
@@ -10,7 +10,7 @@ use Rattle.sshkey_base.specs.Needs.{NoNeed, NeedsString, NeedsBoth}
 use Rattle.sshkey_format.specs.Behind.{both_at}
 use Rattle.sshkey_keypairs.specs.Keypairs.{pair_of}
 use Rattle.sshkey_keypairs.specs.KeypairReaders.{keypair_data_at}
-use Rattle.sshkey_keypairs.specs.KeypairNeeds.{NeedsKeypair}
+use Rattle.sshkey_keypairs.specs.KeypairFormats.{keypair_format}
 use Rattle.sshkey_private.specs.declared.part.Inner.{Inner}
 use Rattle.sshkey_private.specs.Halves.{is_half}
 
@@ -44,9 +44,9 @@ inner_at public b = do
   Ok (unencrypted checkint.0 pair.0 comment.0, comment.1)
 
 -- the pair or the comment
-abbrev pub NeedsInner : Key → List ℕ → Type 0
-NeedsInner public = NeedsBoth NoNeed checkint_at (NeedsBoth NeedsKeypair (pair_with_at public) NeedsString)
+abbrev pub NeedsInner : Key → List ℕ → ℕ → Type 0
+NeedsInner public = NeedsBoth NoNeed checkint_at (NeedsBoth keypair_format.needs (pair_with_at public) NeedsString)
 
 -- where bytes that are whole blocks need memory
-abbrev pub NeedsPadded : (List ℕ → Type 0) → List ℕ → Type 0
-NeedsPadded needs b = (length b % 8 ≡ 0) × needs b
+abbrev pub NeedsPadded : (List ℕ → ℕ → Type 0) → List ℕ → ℕ → Type 0
+NeedsPadded needs b m = ((length b + m) % 8 ≡ 0) × needs b m

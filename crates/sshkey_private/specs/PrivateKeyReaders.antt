@@ -6,13 +6,9 @@ use Rattle.sshkey_model.specs.Grammar.{SpellsWith, value_at}
 use Rattle.sshkey_model.specs.Keys.{Key}
 use Rattle.sshkey_model.specs.KeyDerivation.{Cipher, NoCipher, tag_size, cipher_at, Kdf, NoKdf, Bcrypt, kdf_at}
 use Rattle.sshkey_model.specs.PrivateKeys.{PrivateKey, Encrypted, IsPrivateKey, HasPrivateKeyPlaces, private_key, private_key_magic, unencrypted_at, one_key, may_precede, decoded_private_key_at}
-use Rattle.sshkey_base.specs.Needs.{NoNeed, NeedsString, NeedsBoxed, NeedsBoth, NeedsThen}
 use Rattle.sshkey_format.specs.Behind.{both_at}
 use Rattle.sshkey_keys.specs.Keys.{key_data_at}
-use Rattle.sshkey_keys.specs.Needs.{NeedsKey}
 use Rattle.sshkey_ciphers.specs.Ciphertexts.{blocks_at}
-use Rattle.sshkey_ciphers.specs.Needs.{NeedsKdf}
-use Rattle.sshkey_private.specs.Inner.{NeedsInner, NeedsPadded}
 -- under names that an attribute of this crate can unfold
 unfoldable pub use Rattle.sshkey_model.specs.Reading.{literal_at, bytes_at}
 unfoldable pub use Rattle.sshkey_model.specs.KeyDerivation.{cipher_at}
@@ -44,17 +40,6 @@ opening_at b = do
   public ← box_at (whole key_data_at) one.1
   Ok (record { cipher = c.0; kdf = k.0; public = public.0 }, public.1)
 
--- what stands before the number of keys
-abbrev pub sealing_at : Front (List ℕ × (Cipher × Kdf))
-sealing_at = both_at (literal_at private_key_magic) (both_at cipher_at kdf_at)
-
-abbrev pub NeedsSealing : List ℕ → Type 0
-NeedsSealing = NeedsBoth NoNeed (literal_at private_key_magic) (NeedsBoth NoNeed cipher_at NeedsKdf)
-
--- what a derivation takes, or the key
-abbrev pub NeedsOpening : List ℕ → Type 0
-NeedsOpening = NeedsBoth NeedsSealing sealing_at (NeedsBoth NoNeed one_at (NeedsBoxed NeedsKey))
-
 -- ---- the private part
 
 -- nothing may stand behind an encrypted key
@@ -78,17 +63,7 @@ last_content_at NoCipher NoKdf public b = value_at (unencrypted_at public) b
 last_content_at NoCipher (Bcrypt o) public b = Err Crypto
 last_content_at c k public b = last_encrypted_at c k public b
 
--- what the part of a key that is not encrypted needs, or the ciphertext
-abbrev pub NeedsContent : Cipher → Kdf → Key → List ℕ → Type 0
-NeedsContent NoCipher NoKdf public = NeedsBoxed (NeedsPadded (NeedsInner public))
-NeedsContent NoCipher (Bcrypt o) public = NoNeed
-NeedsContent c k public = NeedsString
-
 unfoldable pub steps_at : Front PrivateKey
 steps_at b = do
   h ← opening_at b
   last_content_at h.0.cipher h.0.kdf h.0.public h.1
-
--- what stands before the private part, or that part
-abbrev pub NeedsPrivateKey : List ℕ → Type 0
-NeedsPrivateKey = NeedsThen NeedsOpening opening_at (λ h. NeedsContent h.cipher h.kdf h.public)

@@ -3,10 +3,11 @@
 ghost use Rattle.std.specs.Prelude.{◌≡◌, true, IfOk};
 ghost use Rattle.sshkey_base.specs.Answers.{AnswersAlways};
 ghost use Rattle.sshkey_base.specs.Causes.{cause};
-ghost use Rattle.sshkey_base.specs.Needs.{Asks, NoNeed, NeedsBoxed};
+ghost use Rattle.sshkey_base.specs.Needs.{Asks, NoNeed, NeedsBoxed, NeedsString};
 ghost use Rattle.sshkey_base.specs.Reading.{Gives, to_end};
 ghost use Rattle.sshkey_base.specs.Source.{Later};
-ghost use Rattle.sshkey_keypairs.specs.KeypairNeeds.{NeedsKeypair};
+ghost use Rattle.sshkey_base.specs.Stops.{OverrunsString};
+ghost use Rattle.sshkey_keypairs.specs.KeypairFormats.{keypair_format};
 ghost use Rattle.sshkey_keypairs.specs.Keypairs.{pair_of};
 ghost use Rattle.sshkey_keys.specs.Keys.{key_of};
 ghost use Rattle.sshkey_kinds.specs.EcdsaPublicKey.{ecdsa_key_of};
@@ -15,6 +16,7 @@ ghost use Rattle.sshkey_model.specs.PrivateKeys.{key_eq, padded_from};
 ghost use Rattle.sshkey_model.specs.Reading.{box_at};
 ghost use Rattle.sshkey_pairs.specs.Pairs.{ecdsa_pair_of};
 ghost use Rattle.sshkey_private.specs.Halves.{is_half};
+ghost use Rattle.sshkey_private.specs.PrivateKeyFormats.{PassesAs};
 ghost use Rattle.sshkey_private.specs.Inner.{inner_of, inner_at, checkint_at, one_checkint, half_of, pair_with_at, NeedsInner, NeedsPadded};
 
 use crate::part::Inner;
@@ -43,6 +45,7 @@ pub(crate) fn decode_inner<R: Reader>(
     ensures later { Later (R.source reader.old) (R.source reader.new) }
     ensures asks { Asks cause (NeedsBoxed (NeedsPadded (NeedsInner (key_of public.now))))
         (R.source reader.old) result }
+    ensures past { PassesAs cause NeedsString OverrunsString (R.source reader.old) result }
 {
     reader.read_prefixed(|part| padded_inner_from(alloc, part, public))
 }
@@ -109,7 +112,7 @@ fn pair_from<R: Reader>(alloc: Global, reader: &mut R, public: &KeyData) -> Resu
     ensures gives { Gives pair_of cause (pair_with_at (key_of public.now))
         (R.source reader.old) result (R.source reader.new) }
     ensures later { Later (R.source reader.old) (R.source reader.new) }
-    ensures asks { Asks cause NeedsKeypair (R.source reader.old) result }
+    ensures asks { Asks cause keypair_format.needs (R.source reader.old) result }
     ensures half { IfOk result (λ k. is_half (pair_of k) (key_of public.now) ≡ true) }
 {
     let pair = KeypairData::decode(alloc, reader)?;

@@ -3,13 +3,15 @@
 ghost use Rattle.std.specs.Prelude.{◌≡◌, ℕ, List};
 ghost use Rattle.sshkey_base.specs.Answers.{AnswersAlways};
 ghost use Rattle.sshkey_base.specs.Causes.{cause};
-ghost use Rattle.sshkey_base.specs.Needs.{Asks, NoNeed};
+ghost use Rattle.sshkey_base.specs.Needs.{Asks};
 ghost use Rattle.sshkey_base.specs.Reading.{Gives};
 ghost use Rattle.sshkey_base.specs.Source.{Later};
+ghost use Rattle.sshkey_base.specs.Stops.{StopsBy};
 ghost use Rattle.sshkey_model.specs.PrivateKeys.{private_key_magic, one_key};
 ghost use Rattle.sshkey_model.specs.Reading.{literal_at, literal_from};
-ghost use Rattle.sshkey_private.specs.Openings.{opening_of, magic_of, one_of, SpellsMagic, SpellsOne, magic_grammar, one_grammar};
-ghost use Rattle.sshkey_private.specs.PrivateKeyReaders.{opening_at, one_at, NeedsOpening};
+ghost use Rattle.sshkey_private.specs.Openings.{opening_of, magic_of, one_of};
+ghost use Rattle.sshkey_private.specs.PrivateKeyReaders.{opening_at, one_at};
+ghost use Rattle.sshkey_private.specs.PrivateKeyFormats.{magic_format, one_format, opening_parts};
 
 use sshkey_base::{Decode, Error, Reader, Result, array_from, encoding};
 use sshkey_ciphers::{Cipher, Kdf};
@@ -43,12 +45,14 @@ type Sealing = Then<Magic, Then<Wide<Cipher>, Kdf>>;
 ///
 /// `FormatEncoding` for other bytes than the magic ones, `Label` for names of none, the refusals
 /// of `Kdf`, `Length` for another number of keys, and the refusals of `KeyData`.
-#[tactic(auto, using(sshkey_format::proofs::Mapped::mapped, crate::proofs::Parts::opening_parts_read), unfolding(crate::specs::PrivateKeyReaders::cipher_at, sshkey_ciphers::specs::Ciphers::label_at))]
+#[tactic(auto, using(sshkey_format::proofs::Mapped::mapped, crate::specs::PrivateKeyFormats::opening_parts_read), unfolding(crate::specs::PrivateKeyReaders::cipher_at, sshkey_ciphers::specs::Ciphers::label_at))]
 pub(crate) fn opening_from<R: Reader>(alloc: Global, reader: &mut R) -> Result<Opening>
     ensures gives { Gives opening_of cause opening_at
         (R.source reader.old) result (R.source reader.new) }
     ensures later { Later (R.source reader.old) (R.source reader.new) }
-    ensures asks { Asks cause NeedsOpening (R.source reader.old) result }
+    ensures asks { Asks cause opening_parts.needs (R.source reader.old) result }
+    ensures past { StopsBy cause opening_at opening_parts.needs opening_parts.overruns
+        (R.source reader.old) result }
 {
     let Then(sealing, Then(_, Boxed(public))) = Then::<Sealing, Then<One, Boxed<KeyData>>>::decode(
         alloc, reader,
@@ -62,7 +66,7 @@ pub(crate) fn opening_from<R: Reader>(alloc: Global, reader: &mut R) -> Result<O
 }
 
 /// The magic bytes. `FormatEncoding` for others.
-#[tactic(auto, using(sshkey_base::proofs::Steps::steps), unfolding(crate::specs::PrivateKeyReaders::literal_at))]
+#[tactic(auto, using(sshkey_base::proofs::Steps::steps, sshkey_base::proofs::Stopping::stopping), unfolding(crate::specs::PrivateKeyReaders::literal_at))]
 impl Decode for Magic {
     type Error = Error;
 
@@ -70,13 +74,7 @@ impl Decode for Magic {
 
     ghost means = { magic_of };
 
-    ghost parse = { literal_at private_key_magic };
-
-    ghost Spells = { SpellsMagic };
-
-    ghost needs = { NoNeed };
-
-    ghost grammar = { magic_grammar };
+    ghost format = { magic_format };
 
     fn decode<R: Reader>(_alloc: Global, reader: &mut R) -> Result<Magic> {
         let bytes = array_from::<15, R>(reader)?;
@@ -95,7 +93,7 @@ fn check_magic(bytes: [u8; 15]) -> Result<Magic>
 }
 
 /// The number of keys, which is 1. `Length` for another.
-#[tactic(auto, using(sshkey_base::proofs::Steps::steps), unfolding(crate::specs::PrivateKeyReaders::one_at))]
+#[tactic(auto, using(sshkey_base::proofs::Steps::steps, sshkey_base::proofs::Stopping::stopping), unfolding(crate::specs::PrivateKeyReaders::one_at))]
 impl Decode for One {
     type Error = Error;
 
@@ -103,13 +101,7 @@ impl Decode for One {
 
     ghost means = { one_of };
 
-    ghost parse = { one_at };
-
-    ghost Spells = { SpellsOne };
-
-    ghost needs = { NoNeed };
-
-    ghost grammar = { one_grammar };
+    ghost format = { one_format };
 
     fn decode<R: Reader>(alloc: Global, reader: &mut R) -> Result<One> {
         let number = u32::decode(alloc, reader)?;

@@ -67,7 +67,8 @@ impl PrivateKey {
     ghost use Rattle.sshkey_model.specs.Reading.{whole};
     ghost use Rattle.sshkey_ciphers.specs.Ciphers.{cipher_of, kdf_of};
     ghost use Rattle.sshkey_private.specs.Comparisons.{seen};
-    ghost use Rattle.sshkey_private.specs.PrivateKeyReaders.{SpellsPrivateKey, private_value_at, NeedsPrivateKey};
+    ghost use Rattle.sshkey_private.specs.PrivateKeyReaders.{SpellsPrivateKey, private_value_at};
+    ghost use Rattle.sshkey_private.specs.PrivateKeyFormats.{NeedsPrivateKey, OverrunsPrivateKey, MayRunOut, PassesAs};
     ghost use Rattle.sshkey_private.specs.PrivateKeys.{private_of, is_encrypted, data_of, outer_of, with_comment, HasWrittenComment, GivesNew};
     ghost use Rattle.sshkey_public.specs.PublicKeys.{public_of, comment_of, data_of as key_data_of};
 
@@ -118,12 +119,15 @@ impl PrivateKey {
     /// refusals of `KeypairData`, `PublicKey` where the pair has another public half, `Length` for
     /// eight bytes or more behind the comment, `FormatEncoding` for other padding, `Crypto` for a
     /// ciphertext that is not whole blocks, and `TrailingData` with the number of bytes behind an
-    /// encrypted key. How a source with a fault is refused is open.
+    /// encrypted key. Of a source with a fault, a stated length of the opening, or of the private
+    /// part, that passes all that was announced is `Length`, unless memory ran out for a value
+    /// before it; how else it is refused is open.
     pub fn decode<R: Reader>(alloc: Global, reader: &mut R) -> Result<PrivateKey>
         ensures gives { Gives private_of cause private_value_at
             (R.source reader.old) result (R.source reader.new) }
         ensures later { Later (R.source reader.old) (R.source reader.new) }
         ensures asks { Asks cause NeedsPrivateKey (R.source reader.old) result }
+        ensures past { PassesAs cause MayRunOut OverrunsPrivateKey (R.source reader.old) result }
         ensures comment { IfOk result HasWrittenComment }
         ensures form { IfOk result (λ k. IsPrivateKey (private_of k)) }
     {

@@ -1,6 +1,5 @@
 pub mod SshSignatures
 pub mod SshSignatureReaders
-pub mod Needs
 pub mod Signing
 pub mod Comparisons
-pub mod Fields
+pub mod SshSignatureFormats

@@ -5,6 +5,7 @@ ghost use Rattle.sshkey_base.specs.Causes.{cause};
 ghost use Rattle.sshkey_base.specs.Needs.{Asks, NeedsBoxed, NeedsString};
 ghost use Rattle.sshkey_base.specs.Reading.{Gives};
 ghost use Rattle.sshkey_base.specs.Source.{Later};
+ghost use Rattle.sshkey_base.specs.Stops.{OverrunsString};
 ghost use Rattle.sshkey_keypairs.specs.Keypairs.{pair_of};
 ghost use Rattle.sshkey_keys.specs.Keys.{key_of};
 ghost use Rattle.sshkey_model.specs.Grammar.{value_at};
@@ -15,7 +16,8 @@ ghost use Rattle.sshkey_ciphers.specs.Ciphers.{cipher_of, kdf_of};
 ghost use Rattle.sshkey_ciphers.specs.Ciphertexts.{tag_bytes};
 ghost use Rattle.sshkey_private.specs.Halves.{is_half};
 ghost use Rattle.sshkey_private.specs.Inner.{NeedsInner, NeedsPadded, inner_of};
-ghost use Rattle.sshkey_private.specs.PrivateKeyReaders.{steps_at, sealed_at, sealed_with, last_content_at, last_encrypted_at, NeedsContent, NeedsPrivateKey};
+ghost use Rattle.sshkey_private.specs.PrivateKeyReaders.{steps_at, sealed_at, sealed_with, last_content_at, last_encrypted_at};
+ghost use Rattle.sshkey_private.specs.PrivateKeyFormats.{NeedsContent, NeedsPrivateKey, OverrunsContent, OverrunsPrivateKey, MayRunOut, PassesAs};
 ghost use Rattle.sshkey_private.specs.PrivateKeys.{private_of, is_encrypted, outer_of, HasWrittenComment};
 ghost use Rattle.sshkey_public.specs.PublicKeys.{comment_of};
 
@@ -37,6 +39,7 @@ pub(super) fn private_key_from<R: Reader>(alloc: Global, reader: &mut R) -> Resu
         (R.source reader.old) result (R.source reader.new) }
     ensures later { Later (R.source reader.old) (R.source reader.new) }
     ensures asks { Asks cause NeedsPrivateKey (R.source reader.old) result }
+    ensures past { PassesAs cause MayRunOut OverrunsPrivateKey (R.source reader.old) result }
     ensures comment { IfOk result HasWrittenComment }
 {
     let opening = opening_from(alloc, reader)?;
@@ -51,6 +54,9 @@ fn content_from<R: Reader>(alloc: Global, reader: &mut R, opening: Opening) -> R
     ensures later { Later (R.source reader.old) (R.source reader.new) }
     ensures asks { Asks cause
         (NeedsContent (cipher_of opening.cipher) (kdf_of opening.kdf) (key_of opening.public))
+        (R.source reader.old) result }
+    ensures past { PassesAs cause NeedsString
+        (OverrunsContent (cipher_of opening.cipher) (kdf_of opening.kdf))
         (R.source reader.old) result }
     ensures comment { IfOk result HasWrittenComment }
 {
@@ -70,6 +76,7 @@ fn unencrypted_from<R: Reader>(alloc: Global, reader: &mut R, public: KeyData) -
     ensures later { Later (R.source reader.old) (R.source reader.new) }
     ensures asks { Asks cause (NeedsBoxed (NeedsPadded (NeedsInner (key_of public))))
         (R.source reader.old) result }
+    ensures past { PassesAs cause NeedsString OverrunsString (R.source reader.old) result }
     ensures plain { IfOk result (λ k. is_encrypted (private_of k) ≡ false) }
 {
     let inner = decode_inner(alloc, reader, &public)?;
@@ -104,6 +111,7 @@ fn encrypted_from<R: Reader>(alloc: Global, reader: &mut R, opening: Opening) ->
         (R.source reader.old) result (R.source reader.new) }
     ensures later { Later (R.source reader.old) (R.source reader.new) }
     ensures asks { Asks cause NeedsString (R.source reader.old) result }
+    ensures past { PassesAs cause NeedsString OverrunsString (R.source reader.old) result }
     ensures comment { IfOk result (λ k. comment_of (outer_of k) ≡ []) }
 {
     let (ciphertext, tag) = last_sealed_from(alloc, reader, opening.cipher)?;
@@ -134,6 +142,7 @@ fn last_sealed_from<R: Reader>(
         (R.source reader.old) result (R.source reader.new) }
     ensures later { Later (R.source reader.old) (R.source reader.new) }
     ensures asks { Asks cause NeedsString (R.source reader.old) result }
+    ensures past { PassesAs cause NeedsString OverrunsString (R.source reader.old) result }
     ensures whole { IfOk result (λ p. length p.0.items % block_size (cipher_of cipher) ≡ 0) }
     ensures size { IfOk result (λ p. length (tag_bytes p.1) ≡ tag_size (cipher_of cipher)) }
 {
@@ -146,7 +155,7 @@ fn last_sealed_from<R: Reader>(
 }
 
 /// A ciphertext in its string, and its tag behind it.
-#[tactic(auto, using(sshkey_base::proofs::Steps::steps), unfolding(sshkey_format::specs::Behind::behind_at))]
+#[tactic(auto, using(sshkey_base::proofs::Steps::steps, crate::proofs::Passing::blocks_lengths, sshkey_base::proofs::Stopping::read_past), unfolding(sshkey_format::specs::Behind::behind_at))]
 fn sealed_from<R: Reader>(
     alloc: Global,
     reader: &mut R,
@@ -156,6 +165,7 @@ fn sealed_from<R: Reader>(
         (sealed_at (cipher_of cipher)) (R.source reader.old) result (R.source reader.new) }
     ensures later { Later (R.source reader.old) (R.source reader.new) }
     ensures asks { Asks cause NeedsString (R.source reader.old) result }
+    ensures past { PassesAs cause NeedsString OverrunsString (R.source reader.old) result }
     ensures whole { IfOk result (λ p. length p.0.items % block_size (cipher_of cipher) ≡ 0) }
     ensures size { IfOk result (λ p. length (tag_bytes p.1) ≡ tag_size (cipher_of cipher)) }
 {

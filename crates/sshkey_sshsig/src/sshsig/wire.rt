@@ -4,16 +4,15 @@ ghost use Rattle.std.specs.Prelude.{◌≡◌, ◌<◌, ◌+◌, ◌*◌, ◌^�
 ghost use Rattle.sshkey_base.specs.Reading.{AcceptsWhole, GivesWhole};
 ghost use Rattle.sshkey_base.specs.Answers.{AnswersAlways};
 ghost use Rattle.sshkey_base.specs.Causes.{cause};
-ghost use Rattle.sshkey_base.specs.Needs.{Asks, NoNeed, NeedsString};
+ghost use Rattle.sshkey_base.specs.Needs.{Asks};
 ghost use Rattle.sshkey_base.specs.Sink.{Encodes};
 ghost use Rattle.sshkey_base.specs.Source.{all_of};
 ghost use Rattle.sshkey_keys.specs.Blobs.{MakesBlob};
 ghost use Rattle.sshkey_model.specs.Reading.{literal_at, literal_from, whole};
 ghost use Rattle.sshkey_model.specs.SshSignatures.{SshSignature, IsSshSignature, normal_ssh_signature, signature_magic, version_at, namespace_at, version_from, namespace_from};
-ghost use Rattle.sshkey_sshsig.specs.Needs.{NeedsSshSignature};
 ghost use Rattle.sshkey_sshsig.specs.SshSignatures.{ssh_signature_of, statement, magic_of, version_of, namespace_of};
-ghost use Rattle.sshkey_sshsig.specs.Fields.{SpellsMagic, SpellsVersion, SpellsNamespace, magic_grammar, version_grammar, namespace_grammar};
-ghost use Rattle.sshkey_sshsig.specs.SshSignatureReaders.{ssh_signature_value_at, SpellsSshSignature, ssh_signature_grammar, ssh_signature_normal};
+ghost use Rattle.sshkey_sshsig.specs.SshSignatureFormats.{magic_format, version_format, namespace_format, ssh_signature_format};
+ghost use Rattle.sshkey_sshsig.specs.SshSignatureReaders.{ssh_signature_value_at, SpellsSshSignature, ssh_signature_normal};
 
 use super::SshSig;
 use super::part::{Magic, Namespace, Version};
@@ -37,7 +36,7 @@ impl SshSig {
     pub fn from_bytes(alloc: Global, bytes: &[u8]) -> Result<SshSig>
         ensures gives { GivesWhole ssh_signature_of cause (whole ssh_signature_value_at)
             (all_of bytes.now) result }
-        ensures asks { Asks cause NeedsSshSignature (all_of bytes.now) result }
+        ensures asks { Asks cause ssh_signature_format.needs (all_of bytes.now) result }
         ensures accepts { AcceptsWhole ssh_signature_of SpellsSshSignature cause
             (all_of bytes.now) result }
     {
@@ -66,7 +65,7 @@ fn check_magic(bytes: [u8; 6]) -> Result<Magic>
 }
 
 /// The six bytes `SSHSIG`.
-#[tactic(auto, using(sshkey_base::proofs::Steps::steps), unfolding(sshkey_model::specs::Reading::literal_at))]
+#[tactic(auto, using(sshkey_base::proofs::Steps::steps, sshkey_base::proofs::Stopping::stopping), unfolding(sshkey_model::specs::Reading::literal_at))]
 impl Decode for Magic {
     type Error = Error;
 
@@ -74,13 +73,7 @@ impl Decode for Magic {
 
     ghost means = { magic_of };
 
-    ghost parse = { literal_at signature_magic };
-
-    ghost Spells = { SpellsMagic };
-
-    ghost needs = { NoNeed };
-
-    ghost grammar = { magic_grammar };
+    ghost format = { magic_format };
 
     fn decode<R: Reader>(_alloc: Global, reader: &mut R) -> Result<Magic> {
         let bytes = array_from::<6, R>(reader)?;
@@ -99,7 +92,7 @@ fn check_version(number: u32) -> Result<Version>
 }
 
 /// A version in four bytes.
-#[tactic(auto, using(sshkey_base::proofs::Steps::steps), unfolding(sshkey_model::specs::SshSignatures::version_at))]
+#[tactic(auto, using(sshkey_base::proofs::Steps::steps, sshkey_base::proofs::Stopping::stopping), unfolding(sshkey_model::specs::SshSignatures::version_at))]
 impl Decode for Version {
     type Error = Error;
 
@@ -107,13 +100,7 @@ impl Decode for Version {
 
     ghost means = { version_of };
 
-    ghost parse = { version_at };
-
-    ghost Spells = { SpellsVersion };
-
-    ghost needs = { NoNeed };
-
-    ghost grammar = { version_grammar };
+    ghost format = { version_format };
 
     fn decode<R: Reader>(alloc: Global, reader: &mut R) -> Result<Version> {
         let number = u32::decode(alloc, reader)?;
@@ -132,7 +119,7 @@ fn check_namespace(text: Text) -> Result<Namespace>
 }
 
 /// A text that is not empty.
-#[tactic(auto, using(sshkey_base::proofs::Steps::steps), unfolding(sshkey_model::specs::SshSignatures::namespace_at))]
+#[tactic(auto, using(sshkey_base::proofs::Steps::steps, sshkey_base::proofs::Stopping::stopping), unfolding(sshkey_model::specs::SshSignatures::namespace_at))]
 impl Decode for Namespace {
     type Error = Error;
 
@@ -140,13 +127,7 @@ impl Decode for Namespace {
 
     ghost means = { namespace_of };
 
-    ghost parse = { namespace_at };
-
-    ghost Spells = { SpellsNamespace };
-
-    ghost needs = { NeedsString };
-
-    ghost grammar = { namespace_grammar };
+    ghost format = { namespace_format };
 
     fn decode<R: Reader>(alloc: Global, reader: &mut R) -> Result<Namespace> {
         let text = Text::decode(alloc, reader)?;
@@ -166,7 +147,7 @@ type Statement = Then<Namespace, Then<Wide<Bytes>, Then<Wide<HashAlg>, Boxed<Sig
 /// `FormatEncoding` for other bytes than `SSHSIG`, `Version` with its number for a version above 1,
 /// `Namespace` for an empty namespace, `Label` for the name of no hash, and the refusals of
 /// `KeyData` and `Signature`.
-#[tactic(auto, using(sshkey_format::proofs::Mapped::mapped, crate::proofs::Parts::ssh_signature_parts_read), unfolding(sshkey_model::specs::Names::hash_at, sshkey_base::specs::Labels::label_at))]
+#[tactic(auto, using(sshkey_format::proofs::Mapped::mapped, crate::specs::SshSignatureFormats::ssh_signature_parts_read), unfolding(sshkey_model::specs::Names::hash_at, sshkey_base::specs::Labels::label_at))]
 impl Decode for SshSig {
     type Error = Error;
 
@@ -174,13 +155,7 @@ impl Decode for SshSig {
 
     ghost means = { ssh_signature_of };
 
-    ghost parse = { ssh_signature_value_at };
-
-    ghost Spells = { SpellsSshSignature };
-
-    ghost needs = { NeedsSshSignature };
-
-    ghost grammar = { ssh_signature_grammar };
+    ghost format = { ssh_signature_format };
 
     fn decode<R: Reader>(alloc: Global, reader: &mut R) -> Result<SshSig> {
         let Then(opening, statement) = Then::<Opening, Statement>::decode(alloc, reader)?;

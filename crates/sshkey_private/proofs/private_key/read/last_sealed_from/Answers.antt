@@ -4,6 +4,10 @@ use Rattle.sshkey_base.proofs.Steps.{refused_first}
 use Rattle.sshkey_ciphers.specs.Ciphers.{cipher_of}
 use Rattle.sshkey_private.specs.PrivateKeyReaders.{last_encrypted_at}
 use Rattle.sshkey_private.proofs.KeyValues.{behind_refused, none_behind}
+use Rattle.sshkey_base.specs.Stops.{OverrunsString}
+use Rattle.sshkey_base.proofs.Stopping.{read_past}
+use Rattle.sshkey_private.specs.PrivateKeyReaders.{sealed_at}
+use Rattle.sshkey_private.proofs.Passing.{sealed_lengths}
 use Rattle.sshkey_private.proofs.private_key.read.last_sealed_from.Goals as goal
 
 pub returns-in_err-sealed-clause-gives : goal.returns-in_err-sealed-clause-gives
@@ -17,3 +21,11 @@ returns-then-remaining-gt0-clause-gives g c = λ k public. behind_refused _ (cip
 
 pub returns-clause-gives : goal.returns-clause-gives
 returns-clause-gives g c = λ k public. none_behind _ (cipher_of c.args.cipher) k public _ _ _ c.in_ok-sealed.ensures.gives _ _ refl (let n = c.remaining_len-remaining.ensures in let few = c.if-remaining-gt0.false in omega arith)
+
+pub returns-in_err-sealed-clause-past : goal.returns-in_err-sealed-clause-past
+returns-in_err-sealed-clause-past g c =
+    let p = err_from_is_err_and c.from_residual.result c.from_residual.ensures.1 in
+    rw (p.1, p.2) c.in_err-sealed.ensures.past
+
+pub returns-then-remaining-gt0-clause-past : goal.returns-then-remaining-gt0-clause-past
+returns-then-remaining-gt0-clause-past g c = λ o. read_past _ (sealed_at (cipher_of c.args.cipher)) OverrunsString _ _ _ (sealed_lengths (cipher_of c.args.cipher)) c.in_ok-sealed.ensures.gives o

@@ -16,3 +16,8 @@ from_inner-requires g c = read_half (key_of c.args.public) _ _ _ _ _ c.in_ok-inn
 
 pub returns-clause-gives : goal.returns-clause-gives
 returns-clause-gives g c = unencrypted_read private_of inner_of (key_of c.args.public) _ _ _ _ c.in_ok-inner.ensures.gives c.from_inner.ensures
+
+pub returns-in_err-inner-clause-past : goal.returns-in_err-inner-clause-past
+returns-in_err-inner-clause-past g c =
+    let p = err_from_is_err_and c.from_residual.result c.from_residual.ensures.1 in
+    rw (p.1, p.2) c.in_err-inner.ensures.past

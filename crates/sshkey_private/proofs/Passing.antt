@@ -1,0 +1,63 @@
+-- How a private key is refused where a stated length passes.
+use Rattle.std.proofs.Common.{◌≡◌, ◌≢◌, ◌⊎◌, inl, inr, ℕ, List, true, Result, Ok, Err, refl, ◌∙◌}
+use Rattle.std.specs.Prelude.{IsOkAnd}
+use Rattle.sshkey_model.specs.Reading.{Fault, Length, ◌>>=◌, Front}
+use Rattle.sshkey_model.specs.KeyDerivation.{Cipher, NoCipher, Kdf, NoKdf, Bcrypt}
+use Rattle.sshkey_model.specs.PrivateKeys.{blocks_from}
+use Rattle.sshkey_base.specs.Causes.{Cause, Faulty}
+use Rattle.sshkey_base.specs.Lengths.{checked_lengths, string_lengths}
+use Rattle.sshkey_base.specs.Needs.{NeedsString}
+use Rattle.sshkey_base.specs.Reading.{Reads}
+use Rattle.sshkey_base.specs.Source.{Source}
+use Rattle.sshkey_base.specs.Stops.{OverrunsString, AreLengths, RanOut, Stopped, StopsBy}
+use Rattle.sshkey_base.proofs.Stopping.{read_past}
+use Rattle.sshkey_format.specs.Behind.{behind_at}
+use Rattle.sshkey_format.specs.Terms.{mapped_lengths}
+use Rattle.sshkey_format.proofs.Stopping.{stopped_first}
+use Rattle.sshkey_ciphers.specs.Ciphertexts.{blocks_at}
+use Rattle.sshkey_private.specs.PrivateKeyReaders.{Opening, one_at, opening_at, sealed_at}
+use Rattle.sshkey_private.specs.PrivateKeyFormats.{opening_parts, opening_parts_read, is_held, OverrunsContent, OverrunsPrivateKey, MayRunOut, PassesAs}
+
+pub stops_pass : {X Y E : Type 0} (cause : E → Cause) (read : Front Y) (needs overruns : List ℕ → ℕ → Type 0) (s : Source) (r : Result X E) → StopsBy cause read needs overruns s r → PassesAs cause needs overruns s r
+stops_pass cause read needs overruns s (Ok x) h = tt
+stops_pass cause read needs overruns s (Err e) h = h.past
+
+-- ---- an encrypted key
+
+pub blocks_lengths : (c : Cipher) → AreLengths (blocks_at c) OverrunsString
+unfolding blocks_at
+blocks_lengths c = checked_lengths (blocks_from c) string_lengths
+
+pub sealed_lengths : (c : Cipher) → AreLengths (sealed_at c) OverrunsString
+unfolding behind_at
+sealed_lengths c b m o = rw (blocks_lengths c b m o) refl
+
+-- ---- the private part
+
+pub held_passes : {X E : Type 0} (cause : E → Cause) (c : Cipher) (k : Kdf) (s : Source) (r : Result X E) → PassesAs cause NeedsString OverrunsString s r → PassesAs cause NeedsString (OverrunsContent c k) s r
+held_passes cause c k s (Ok x) h = tt
+held_passes cause c k s (Err e) h = λ o. h o.1
+
+pub not_held : {A : Type 0} (c : Cipher) (k : Kdf) → c ≡ NoCipher → k ≢ NoKdf → is_held c k ≡ true → A
+not_held c NoKdf none some held = absurd (some refl)
+not_held c (Bcrypt o) none some held = let h = rw none at held in absurd cc
+
+-- ---- behind the opening
+
+opening_lengths : AreLengths opening_at opening_parts.overruns
+opening_lengths = mapped_lengths opening_parts_read opening_parts.lengths
+
+pub opening_passes : (c : Cause) (s : Source) → Stopped c opening_at opening_parts.needs opening_parts.overruns s → OverrunsPrivateKey s.left s.missing → (c ≡ Faulty Length) ⊎ RanOut c MayRunOut s
+opening_passes c s h = (stopped_first opening_parts.needs opening_parts.overruns opening_at (λ h. NeedsString) (λ h. OverrunsContent h.cipher h.kdf) (λ h. one_at) c s h).past
+
+module _ {C X E : Type 0} (means : C → Opening) (cause : E → Cause) (s t : Source) (x : C) (h : Reads means opening_at s x t) where
+  pub content_passes : (r : Result X E) → PassesAs cause NeedsString (OverrunsContent (means x).cipher (means x).kdf) t r → PassesAs cause MayRunOut OverrunsPrivateKey s r
+  content_passes (Ok k) p = tt
+  content_passes (Err e) p = go
+    where
+      go : OverrunsPrivateKey s.left s.missing → (cause e ≡ Faulty Length) ⊎ RanOut (cause e) MayRunOut s
+      go (inl o) = read_past means opening_at opening_parts.overruns s t x opening_lengths h o
+      go (inr o) = elim (p (rw (h.value, ← h.missing) at o)) [
+        | inl is ↦ inl is
+        | inr m ↦ inr (record { memory = m.memory; needed = inr (rw (h.value, ← h.missing) m.needed) })
+      ]
