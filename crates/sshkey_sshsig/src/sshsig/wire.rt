@@ -119,7 +119,7 @@ fn check_namespace(text: Text) -> Result<Namespace>
 }
 
 /// A text that is not empty.
-#[tactic(auto, using(sshkey_base::proofs::Steps::steps, sshkey_base::proofs::Stopping::stopping), unfolding(sshkey_model::specs::SshSignatures::namespace_at))]
+#[tactic(auto, using(sshkey_base::proofs::Steps::steps, sshkey_base::proofs::Stopping::stopping, sshkey_base::specs::Lengths::text_lengths), unfolding(sshkey_model::specs::SshSignatures::namespace_at))]
 impl Decode for Namespace {
     type Error = Error;
 
