@@ -1,6 +1,6 @@
 //! Key lines, read and written.
 
-use super::support::{is_text, shows};
+use super::support::{is_debugged, is_text, shows};
 use ssh_key::encoding::{Reader, SliceWriter};
 use ssh_key::public::KeyData;
 use ssh_key::{Base64Reader, Error, HashAlg, PublicKey, encoding, read_line, write_line};
@@ -167,6 +167,20 @@ fn in_pieces() -> encoding::Result<bool> {
 #[test]
 fn a_word_is_read_in_pieces(rt: HostRuntime) {
     assert!(rt; in_pieces() == Ok(true));
+}
+
+/// What a word of three bytes shows before one of them is read, and after it: how many are left.
+fn shows_lengths(alloc: Global) -> encoding::Result<bool> {
+    let mut reader = Base64Reader::new("KioK")?;
+    let three = is_debugged(alloc, &reader, "Base64Reader { remaining: 3, .. }");
+    let mut first = [0u8; 1];
+    reader.read(&mut first)?;
+    Ok(three && is_debugged(alloc, &reader, "Base64Reader { remaining: 2, .. }"))
+}
+
+#[test]
+fn a_word_shows_no_bytes(rt: HostRuntime) {
+    assert!(rt; shows_lengths(rt.alloc()) == Ok(true));
 }
 
 /// The padding stands in the second of three groups.

@@ -1,5 +1,6 @@
 //! Readers: slices, parts of them, and a source that has a fault of its own behind its bytes.
 
+use super::support::is_debugged;
 use sshkey_base::encoding::{Error, Result};
 use sshkey_base::{Algorithm, Bytes, Decode, NestedReader, Reader, ShortBytes, decode_whole};
 use sshkey_doubles::Faulty;
@@ -47,6 +48,23 @@ fn bytes_that_are_lent(rt: HostRuntime) {
     assert!(rt; left.finish(4) == Err(Error::TrailingData { remaining: 11 }));
     left.skip(11);
     assert!(rt; left.is_finished() && left.finish(4) == Ok(4));
+}
+
+/// What a part of three bytes shows before one of them is read, and after it: how many are left.
+fn shows_lengths(alloc: Global, bytes: &[u8]) -> Result<bool> {
+    let mut left = bytes;
+    left.read_prefixed(|part: &mut NestedReader<'_, &[u8]>| -> Result<bool> {
+        let three = is_debugged(alloc, part, "NestedReader { remaining: 3, .. }");
+        let first = u8::decode(alloc, part)?;
+        let two = is_debugged(alloc, part, "NestedReader { remaining: 2, .. }");
+        part.skip(2);
+        Ok(three && first == 42 && two)
+    })
+}
+
+#[test]
+fn a_part_shows_no_bytes(rt: HostRuntime) {
+    assert!(rt; shows_lengths(rt.alloc(), &[0, 0, 0, 3, 42, 42, 42]) == Ok(true));
 }
 
 /// The first `len` bytes of the name, and behind them a fault in place of the next `missing`.

@@ -4,7 +4,7 @@ ghost use Rattle.std.specs.Iterator.{IsFinite};
 
 use ssh_key::Result;
 use std::alloc::Global;
-use std::fmt::Display;
+use std::fmt::{Debug, Display};
 use std::hash::{DefaultHasher, Hash, Hasher};
 
 /// The answer is this text.
@@ -26,6 +26,14 @@ pub(crate) fn is_equal<T: Eq + Drop>(answer: Result<T>, other: &T) -> Option<boo
 /// The value is printed as this text.
 pub(crate) fn shows<T: Display>(alloc: Global, value: &T, text: &str) -> bool {
     match value.to_string(alloc) {
+        Ok(shown) => shown.as_str() == text,
+        Err(_) => false,
+    }
+}
+
+/// This text is what `{:?}` prints of the value.
+pub(crate) fn is_debugged<T: Debug>(alloc: Global, value: &T, text: &str) -> bool {
+    match format!(in alloc; "{value:?}") {
         Ok(shown) => shown.as_str() == text,
         Err(_) => false,
     }

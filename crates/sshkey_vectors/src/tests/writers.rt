@@ -2,6 +2,7 @@
 
 ghost use Rattle.std.specs.Prelude.{◌≤◌};
 
+use super::support::is_debugged;
 use sshkey_base::encoding::{Error, Result};
 use sshkey_base::{
     Encode, SliceWriter, Writer, both_len, encode_both, encode_list, encode_string, encode_vec,
@@ -92,6 +93,16 @@ fn a_slice_of_each_length(rt: HostRuntime) {
     for len in 0..32 {
         assert!(rt; is_filled(len), "{len}");
     }
+}
+
+/// Both lengths are shown, and neither the bytes that stood in the slice nor those written to it.
+#[test]
+fn a_writer_shows_no_bytes(rt: HostRuntime) {
+    let mut room = [0x2au8; 8];
+    let mut writer = SliceWriter::new(&mut room);
+    assert!(rt; is_debugged(rt.alloc(), &writer, "SliceWriter { len: 0, room: 8, .. }"));
+    assert!(rt; writer.write(&[42, 42, 42]).is_ok());
+    assert!(rt; is_debugged(rt.alloc(), &writer, "SliceWriter { len: 3, room: 8, .. }"));
 }
 
 #[test]
