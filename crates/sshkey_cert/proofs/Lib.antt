@@ -1,8 +1,0 @@
-pub mod CertificateFields
-pub mod NormalFits
-pub mod Given
-pub mod Finished
-pub mod Signing
-pub mod Lines
-pub mod OneLines
-pub mod KeysOfCertificates

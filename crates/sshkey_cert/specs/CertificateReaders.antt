@@ -1,14 +1,12 @@
 -- How certificates are read, without the choices that their spelling leaves.
-use Rattle.std.specs.Prelude.{ℕ, List, Ok, refl}
+use Rattle.std.specs.Prelude.{ℕ, List, refl}
 use Rattle.sshkey_model.specs.Parts.{Fits, flat}
-use Rattle.sshkey_model.specs.Reading.{◌>>=◌, Front, whole, box_at}
+use Rattle.sshkey_model.specs.Reading.{Front}
 use Rattle.sshkey_model.specs.Grammar.{IsGrammar, SpellsWith, value_at}
-use Rattle.sshkey_model.specs.Signatures.{signature_at}
 use Rattle.sshkey_model.specs.Certificates.{Certificate, IsCertificate, HasCertificatePlaces, certificate, plain_certificate, normal_certificate, certificate_at}
 use Rattle.sshkey_model.proofs.CertificateReaders.{certificate_reads}
 use Rattle.sshkey_model.proofs.NormalForms.{plain_certificate_has}
 use Rattle.sshkey_model.proofs.Grammars.{grammar_with}
-use Rattle.sshkey_unsigned.specs.UnsignedReaders.{unsigned_value_at}
 
 -- the bytes spell the certificate
 abbrev pub SpellsCertificate : Certificate → List ℕ → Type 0
@@ -24,10 +22,3 @@ certificate_grammar = grammar_with certificate_reads
 -- what is written is a spelling
 pub certificate_normal : (c : Certificate) → IsCertificate c → Fits (normal_certificate c) → SpellsCertificate c (flat (normal_certificate c))
 certificate_normal c is fits = record { is = is; choices = plain_certificate c.signed; place = plain_certificate_has c.signed; fits = fits; shape = refl }
-
--- the fields, and then the signature
-unfoldable pub signed_at : Front Certificate
-signed_at b = do
-  c ← unsigned_value_at b
-  g ← box_at (whole signature_at) c.1
-  Ok (record { signed = c.0; signature = g.0 }, g.1)

@@ -1,3 +1,3 @@
-pub mod UnsignedFields
+pub mod Parts
 pub mod Names
 pub mod Copies

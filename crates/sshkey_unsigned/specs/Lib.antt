@@ -1,4 +1,5 @@
 pub mod UnsignedReaders
+pub mod Subjects
 pub mod Needs
 pub mod UnsignedValues
 pub mod UnsignedParts

@@ -1,17 +1,11 @@
 -- What a certificate's value means.
-use Rattle.std.specs.Prelude.{ℕ, List, Vec, String}
-use Rattle.std.specs.Global.{Global}
+use Rattle.std.specs.Prelude.{ℕ, List}
 use Rattle.sshkey_model.specs.Certificates as model
 use Rattle.sshkey_model.specs.Keys.{Key}
-use Rattle.sshkey_model.specs.Options.{CertificateOption}
 use Rattle.sshkey_base.specs.TextLists.{texts_of}
-use Rattle.sshkey_keys.specs.declared.key_data.KeyData.{KeyData}
 use Rattle.sshkey_keys.specs.Keys.{key_of}
-use Rattle.sshkey_options.specs.declared.cert_type.CertType.{CertType}
-use Rattle.sshkey_options.specs.declared.options_map.OptionsMap.{OptionsMap}
-use Rattle.sshkey_options.specs.declared.end_time.EndTime.{EndTime}
-use Rattle.sshkey_options.specs.declared.unix_time.UnixTime.{UnixTime}
 use Rattle.sshkey_unsigned.specs.declared.unsigned.Unsigned.{Unsigned}
+use Rattle.sshkey_unsigned.specs.declared.unsigned.subject.Subject.{Subject}
 use Rattle.sshkey_options.specs.CertTypes.{type_of}
 use Rattle.sshkey_options.specs.OptionMaps.{options_of}
 use Rattle.sshkey_options.specs.Times.{time_of, end_of}
@@ -32,19 +26,6 @@ unsigned_of u = record {
   signature_key = key_of u.signature_key;
 }
 
--- ---- part by part
-
-abbrev pub subject_of : List ℕ × KeyData → List ℕ × Key
-subject_of p = (p.0, key_of p.1)
-
-abbrev pub grant_of : ℕ × CertType × List ℕ × Vec (String Global) Global → ℕ × model.CertificateType × List ℕ × List (List ℕ)
-grant_of p = (p.0, type_of p.1, p.2, texts_of p.3)
-
-abbrev pub window_of : UnixTime × EndTime → ℕ × ℕ
-window_of p = (time_of p.0, end_of p.1)
-
-abbrev pub limits_of : OptionsMap × OptionsMap → List CertificateOption × List CertificateOption
-limits_of p = (options_of p.0, options_of p.1)
-
-abbrev pub authority_of : List ℕ × KeyData → List ℕ × Key
-authority_of p = (p.0, key_of p.1)
+-- the nonce and the certified key
+abbrev pub subject_of : Subject → List ℕ × Key
+subject_of s = (s.nonce, key_of s.key)

@@ -9,16 +9,17 @@ ghost use Rattle.sshkey_unsigned.specs.Needs.{NeedsUnsigned};
 ghost use Rattle.sshkey_unsigned.specs.UnsignedReaders.{SpellsUnsigned, unsigned_value_at, unsigned_grammar};
 
 mod copy;
-mod read;
+mod subject;
 mod write;
 
-use read::unsigned_from;
 use sshkey_base::{
     Bytes, Decode, Encode, Error, Reader, Result, Text, Writer, encode_vec, encoding,
 };
+use sshkey_format::{Boxed, Then, Wide};
 use sshkey_keys::KeyData;
 use sshkey_options::{CertType, EndTime, OptionsMap, UnixTime};
 use std::alloc::Global;
+use subject::Subject;
 
 /// All of a certificate but its signature and its comment (PROTOCOL.certkeys).
 #[derive(Debug, Drop, PartialEq, Eq, PartialOrd, Ord)]
@@ -71,6 +72,7 @@ impl Unsigned {
 /// type other than 1 and 2 and for options that do not rise, `Time` for a time above 2^63 - 1 that
 /// is not the end 2^64 - 1, the faults of keys, and `TrailingData` with the number of bytes that
 /// stand in a string behind the key or the value that it holds.
+#[tactic(auto, using(sshkey_format::proofs::Mapped::mapped, crate::proofs::Parts::unsigned_parts_read))]
 impl Decode for Unsigned {
     ghost use Rattle.sshkey_unsigned.specs.UnsignedValues.{unsigned_of};
 
@@ -89,7 +91,33 @@ impl Decode for Unsigned {
     ghost grammar = { unsigned_grammar };
 
     fn decode<R: Reader>(alloc: Global, reader: &mut R) -> Result<Unsigned> {
-        unsigned_from(alloc, reader)
+        type Grant = Then<Then<Wide<u64>, CertType>, Then<Wide<Text>, Wide<Vec<String>>>>;
+        type Window = Then<UnixTime, EndTime>;
+        type Limits = Then<OptionsMap, OptionsMap>;
+        type Authority = Then<Wide<Bytes>, Boxed<KeyData>>;
+        type Fields = Then<Then<Subject, Grant>, Then<Window, Then<Limits, Authority>>>;
+        let Then(Then(subject, grant), Then(window, Then(limits, authority))) = Fields::decode(
+            alloc, reader,
+        )?;
+        let Subject { nonce, key } = subject;
+        let Then(Then(Wide(serial), cert_type), Then(Wide(key_id), Wide(valid_principals))) = grant;
+        let Then(valid_after, valid_before) = window;
+        let Then(critical_options, extensions) = limits;
+        let Then(Wide(reserved), Boxed(signature_key)) = authority;
+        Ok(Unsigned {
+            nonce,
+            public_key: key,
+            serial,
+            cert_type,
+            key_id,
+            valid_principals,
+            valid_after,
+            valid_before,
+            critical_options,
+            extensions,
+            reserved,
+            signature_key,
+        })
     }
 }
 

@@ -1,0 +1,78 @@
+//! What a certificate begins with.
+
+ghost use Rattle.std.specs.Prelude.{ℕ, List};
+ghost use Rattle.sshkey_model.specs.CertificateNames.{certificate_algorithm_at};
+ghost use Rattle.sshkey_model.specs.Keys.{Key};
+ghost use Rattle.sshkey_model.specs.Names as names;
+ghost use Rattle.sshkey_base.specs.NameNeeds.{NeedsCertified};
+ghost use Rattle.sshkey_base.specs.Names.{algorithm_of};
+ghost use Rattle.sshkey_unsigned.specs.Needs.{NeedsSubject};
+ghost use Rattle.sshkey_unsigned.specs.UnsignedReaders.{SpellsCertified, SpellsSubject, certified_grammar, subject_at};
+ghost use Rattle.sshkey_unsigned.specs.Subjects.{subject_grammar};
+
+use sshkey_base::{Algorithm, Bytes, Decode, Error, Reader, Result};
+use sshkey_format::{Then, Wide};
+use sshkey_keys::KeyData;
+use std::alloc::Global;
+
+/// The algorithm of a key that is certified, under its name in certificates.
+#[derive(Drop)]
+struct Certified(Algorithm);
+
+/// The string of the name. `Label` for a string that is none of the names.
+impl Decode for Certified {
+    type Error = Error;
+
+    ghost Meaning = { names.Algorithm };
+
+    ghost means = { λ x. algorithm_of x.0 };
+
+    ghost parse = { certificate_algorithm_at };
+
+    ghost Spells = { SpellsCertified };
+
+    ghost needs = { NeedsCertified };
+
+    ghost grammar = { certified_grammar };
+
+    #[inline(always)]
+    fn decode<R: Reader>(alloc: Global, reader: &mut R) -> Result<Certified> {
+        Ok(Certified(Algorithm::decode_certificate(alloc, reader)?))
+    }
+}
+
+/// The nonce, and the key that is certified.
+#[derive(Drop)]
+pub(super) struct Subject {
+    /// Bytes that nobody can foretell.
+    pub(super) nonce: Bytes,
+    /// The certified key.
+    pub(super) key: KeyData,
+}
+
+/// The name of the key's algorithm, the nonce, and the key's body under that name.
+#[tactic(auto, using(sshkey_base::proofs::Steps::steps), unfolding(crate::specs::UnsignedReaders::subject_at))]
+impl Decode for Subject {
+    ghost use Rattle.sshkey_unsigned.specs.UnsignedValues.{subject_of};
+
+    type Error = Error;
+
+    ghost Meaning = { List ℕ × Key };
+
+    ghost means = { subject_of };
+
+    ghost parse = { subject_at };
+
+    ghost Spells = { SpellsSubject };
+
+    ghost needs = { NeedsSubject };
+
+    ghost grammar = { subject_grammar };
+
+    fn decode<R: Reader>(alloc: Global, reader: &mut R) -> Result<Subject> {
+        type Opening = Then<Certified, Wide<Bytes>>;
+        let Then(Certified(algorithm), Wide(nonce)) = Opening::decode(alloc, reader)?;
+        let key = KeyData::decode_as(alloc, reader, algorithm)?;
+        Ok(Subject { nonce, key })
+    }
+}
