@@ -1,0 +1,8 @@
+pub mod Parts
+pub mod NormalFits
+pub mod Given
+pub mod Finished
+pub mod Signing
+pub mod Lines
+pub mod OneLines
+pub mod KeysOfCertificates

@@ -3,8 +3,7 @@ use Rattle.std.proofs.Common.{◌≡◌, ℕ, List, Ok}
 use Rattle.sshkey_model.specs.Reading.{◌>>=◌, Front}
 use Rattle.sshkey_model.specs.Certificates.{SignedFields, CertificateChoices, signed_fields_at}
 use Rattle.sshkey_model.proofs.CombinedReaders.{bind_assoc}
-use Rattle.sshkey_unsigned.specs.UnsignedReaders.{subject_at, grant_at, window_at}
-use Rattle.sshkey_cert_ref.specs.Taking.{limits_at, authority_at}
+use Rattle.sshkey_cert_ref.specs.Taking.{subject_at, grant_at, window_at, limits_at, authority_at}
 
 unfoldable pub fields_at : Front (SignedFields × CertificateChoices)
 fields_at b = do

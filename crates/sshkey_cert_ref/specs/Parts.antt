@@ -16,6 +16,8 @@ use Rattle.sshkey_keys_ref.specs.declared.signature_ref.SignatureRef.{SignatureR
 use Rattle.sshkey_options.specs.CertTypes.{type_of}
 use Rattle.sshkey_options.specs.Times.{time_of, end_of}
 use Rattle.sshkey_options.specs.declared.cert_type.CertType.{CertType}
+use Rattle.sshkey_options.specs.declared.end_time.EndTime.{EndTime}
+use Rattle.sshkey_options.specs.declared.unix_time.UnixTime.{UnixTime}
 use Rattle.sshkey_options_ref.specs.Views.{texts_of, spelled_options_of}
 use Rattle.sshkey_options_ref.specs.declared.options_ref.OptionsRef.{OptionsRef}
 use Rattle.sshkey_options_ref.specs.declared.texts_ref.TextsRef.{TextsRef}
@@ -58,6 +60,9 @@ pub record AreSubject (p : Bor (List ℕ) × Bor (List ℕ) × Bor (List ℕ)) (
 
 abbrev pub grant_of : ℕ × CertType × Bor (List ℕ) × TextsRef → ℕ × CertificateType × List ℕ × List (List ℕ)
 grant_of p = (p.0, type_of p.1, p.2.now, texts_of p.3)
+
+abbrev pub window_of : UnixTime × EndTime → ℕ × ℕ
+window_of p = (time_of p.0, end_of p.1)
 
 abbrev pub limits_of : OptionsRef × OptionsRef → (List CertificateOption × List Nesting) × (List CertificateOption × List Nesting)
 limits_of p = (spelled_options_of p.0, spelled_options_of p.1)

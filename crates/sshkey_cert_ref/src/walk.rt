@@ -4,10 +4,8 @@ ghost use Rattle.std.specs.Prelude.{◌≡◌};
 ghost use Rattle.sshkey_base.specs.Causes.{cause};
 ghost use Rattle.sshkey_model.specs.Certificates.{signed_fields_at};
 ghost use Rattle.sshkey_slices.specs.Slices.{Splits};
-ghost use Rattle.sshkey_unsigned.specs.UnsignedReaders.{subject_at, grant_at, window_at};
-ghost use Rattle.sshkey_unsigned.specs.UnsignedValues.{window_of};
-ghost use Rattle.sshkey_cert_ref.specs.Parts.{AreParts, AreSubject, AreAuthority, grant_of, limits_of};
-ghost use Rattle.sshkey_cert_ref.specs.Taking.{Cuts, limits_at, authority_at};
+ghost use Rattle.sshkey_cert_ref.specs.Parts.{AreParts, AreSubject, AreAuthority, grant_of, window_of, limits_of};
+ghost use Rattle.sshkey_cert_ref.specs.Taking.{Cuts, subject_at, grant_at, window_at, limits_at, authority_at};
 
 use crate::leaves::{split_end, split_key, split_name, split_time, split_type};
 use crate::parts::Parts;

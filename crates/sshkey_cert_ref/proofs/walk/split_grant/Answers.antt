@@ -7,7 +7,7 @@ use Rattle.sshkey_model.specs.Certificates.{type_at}
 use Rattle.sshkey_model.specs.Reading.{number_at}
 use Rattle.sshkey_model.specs.Texts.{text_at, texts_at}
 use Rattle.sshkey_slices.proofs.Fronts.{answers_ok}
-use Rattle.sshkey_unsigned.specs.UnsignedReaders.{grant_at}
+use Rattle.sshkey_cert_ref.specs.Taking.{grant_at}
 use Rattle.sshkey_cert_ref.proofs.walk.split_grant.Goals as goal
 
 pub returns-in_err-serial : goal.returns-in_err-serial

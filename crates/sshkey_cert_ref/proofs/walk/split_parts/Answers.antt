@@ -6,8 +6,7 @@ use Rattle.sshkey_options.specs.CertTypes.{type_of}
 use Rattle.sshkey_options.specs.Times.{time_of, end_of}
 use Rattle.sshkey_options_ref.specs.Views.{texts_of, spelled_options_of}
 use Rattle.sshkey_slices.proofs.Fronts.{answers_ok}
-use Rattle.sshkey_unsigned.specs.UnsignedReaders.{subject_at, grant_at, window_at}
-use Rattle.sshkey_cert_ref.specs.Taking.{limits_at, authority_at}
+use Rattle.sshkey_cert_ref.specs.Taking.{subject_at, grant_at, window_at, limits_at, authority_at}
 use Rattle.sshkey_cert_ref.proofs.Cutting.{refused_first}
 use Rattle.sshkey_cert_ref.proofs.Fields.{fields_at, fields_are}
 use Rattle.sshkey_cert_ref.proofs.walk.split_parts.Goals as goal

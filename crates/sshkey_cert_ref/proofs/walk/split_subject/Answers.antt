@@ -6,7 +6,7 @@ use Rattle.sshkey_model.specs.CertificateNames.{certificate_algorithm_at}
 use Rattle.sshkey_model.specs.Keys.{body_at}
 use Rattle.sshkey_model.specs.Reading.{string_at}
 use Rattle.sshkey_slices.proofs.Fronts.{answers_ok}
-use Rattle.sshkey_unsigned.specs.UnsignedReaders.{subject_at}
+use Rattle.sshkey_cert_ref.specs.Taking.{subject_at}
 use Rattle.sshkey_cert_ref.proofs.Cutting.{refused_first}
 use Rattle.sshkey_cert_ref.proofs.Subjects.{certified_body, refused_body, named_key, key_bytes}
 use Rattle.sshkey_cert_ref.proofs.walk.split_subject.Goals as goal

@@ -4,7 +4,7 @@ use Rattle.sshkey_base.specs.Causes.{cause}
 use Rattle.sshkey_base.proofs.Judging.{answers_first}
 use Rattle.sshkey_model.specs.Certificates.{time_at, end_at}
 use Rattle.sshkey_slices.proofs.Fronts.{answers_ok}
-use Rattle.sshkey_unsigned.specs.UnsignedReaders.{window_at}
+use Rattle.sshkey_cert_ref.specs.Taking.{window_at}
 use Rattle.sshkey_cert_ref.proofs.walk.split_window.Goals as goal
 
 pub returns-in_err-valid_after : goal.returns-in_err-valid_after
