@@ -11,7 +11,8 @@ use Rattle.sshkey_base.specs.Causes.{Cause}
 use Rattle.sshkey_base.specs.Source.{Source, announced_len}
 use Rattle.sshkey_base.specs.Reading.{Reads, Gives}
 use Rattle.sshkey_base.proofs.ReadLists.{leaves_less}
-use Rattle.sshkey_base.proofs.MappedBoxes.{with_rest, on_value, made, first_same, box_map, box_leaves}
+use Rattle.sshkey_base.specs.Lengths.{with_rest}
+use Rattle.sshkey_base.proofs.MappedBoxes.{on_value, made, first_same, box_map, box_leaves}
 use Rattle.sshkey_options.specs.OptionReaders.{value_front, option_box_at, may_follow, option_behind, name_before, item, option_list_at, options_value_at}
 
 -- ---- a value

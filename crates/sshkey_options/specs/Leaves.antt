@@ -1,4 +1,4 @@
--- Types and times of certificates: what spells them.
+-- Types and times of certificates: what spells them, and their formats.
 use Rattle.std.specs.Prelude.{ℕ, List, Result, Ok, Err, if◌then◌else◌}
 use Rattle.std.specs.Int.{w64}
 use Rattle.sshkey_model.specs.Parts.{Any, number}
@@ -7,6 +7,10 @@ use Rattle.sshkey_model.specs.Grammar.{IsGrammar, Spells}
 use Rattle.sshkey_model.specs.Certificates.{CertificateType, certificate_type, is_time, is_end, IsTime, IsEnd, type_at, time_at, end_at}
 use Rattle.sshkey_model.proofs.CertificateReaders.{type_reads, time_reads, end_reads}
 use Rattle.sshkey_model.proofs.Grammars.{grammar}
+use Rattle.sshkey_base.specs.Formats.{Format}
+use Rattle.sshkey_base.specs.Lengths.{no_lengths}
+use Rattle.sshkey_base.specs.Needs.{NoNeed}
+use Rattle.sshkey_base.specs.Stops.{NoOverrun}
 
 abbrev pub SpellsType : CertificateType → List ℕ → Type 0
 SpellsType = Spells Any certificate_type
@@ -25,3 +29,14 @@ time_grammar = grammar time_reads
 
 pub end_grammar : IsGrammar SpellsEnd end_at
 end_grammar = grammar end_reads
+
+-- ---- four or eight bytes, which need no memory
+
+abbrev pub type_format : Format CertificateType
+type_format = record { Spells = SpellsType; read = type_at; needs = NoNeed; overruns = NoOverrun; grammar = type_grammar; lengths = no_lengths type_at }
+
+abbrev pub time_format : Format ℕ
+time_format = record { Spells = SpellsTime; read = time_at; needs = NoNeed; overruns = NoOverrun; grammar = time_grammar; lengths = no_lengths time_at }
+
+abbrev pub end_format : Format ℕ
+end_format = record { Spells = SpellsEnd; read = end_at; needs = NoNeed; overruns = NoOverrun; grammar = end_grammar; lengths = no_lengths end_at }

@@ -5,10 +5,8 @@ ghost use Rattle.sshkey_model.specs.Certificates as model;
 ghost use Rattle.sshkey_model.specs.Certificates.{CertificateType, certificate_type, type_number, type_from};
 ghost use Rattle.sshkey_base.specs.Answers.{AnswersAlways};
 ghost use Rattle.sshkey_base.specs.Causes.{cause};
-ghost use Rattle.sshkey_base.specs.Needs.{NoNeed};
 ghost use Rattle.sshkey_options.specs.CertTypes.{type_of};
-ghost use Rattle.sshkey_model.specs.Certificates.{type_at};
-ghost use Rattle.sshkey_options.specs.Leaves.{SpellsType, type_grammar};
+ghost use Rattle.sshkey_options.specs.Leaves.{type_format};
 
 use sshkey_base::{Decode, Encode, Error, Reader, Result, Writer, encoding};
 use std::alloc::Global;
@@ -75,7 +73,7 @@ impl TryFrom<u32> for CertType {
 }
 
 /// Four bytes, 1 or 2; `FormatEncoding` for any other number. Takes no memory.
-#[tactic(auto, using(sshkey_base::proofs::Steps::steps, sshkey_base::proofs::Judging::judged), unfolding(sshkey_model::specs::Certificates::type_at))]
+#[tactic(auto, using(sshkey_base::proofs::Steps::steps, sshkey_base::proofs::Judging::judged, sshkey_base::proofs::Stopping::stopping), unfolding(sshkey_model::specs::Certificates::type_at))]
 impl Decode for CertType {
     type Error = Error;
 
@@ -83,13 +81,7 @@ impl Decode for CertType {
 
     ghost means = { type_of };
 
-    ghost parse = { type_at };
-
-    ghost Spells = { SpellsType };
-
-    ghost needs = { NoNeed };
-
-    ghost grammar = { type_grammar };
+    ghost format = { type_format };
 
     fn decode<R: Reader>(alloc: Global, reader: &mut R) -> Result<CertType> {
         let number = u32::decode(alloc, reader)?;

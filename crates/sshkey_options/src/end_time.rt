@@ -6,9 +6,8 @@ ghost use Rattle.sshkey_model.specs.Certificates.{is_end, forever};
 ghost use Rattle.sshkey_model.specs.Parts.{number};
 ghost use Rattle.sshkey_base.specs.Answers.{AnswersAlways};
 ghost use Rattle.sshkey_base.specs.Causes.{cause};
-ghost use Rattle.sshkey_base.specs.Needs.{NoNeed};
-ghost use Rattle.sshkey_model.specs.Certificates.{end_at, end_from};
-ghost use Rattle.sshkey_options.specs.Leaves.{SpellsEnd, end_grammar};
+ghost use Rattle.sshkey_model.specs.Certificates.{end_from};
+ghost use Rattle.sshkey_options.specs.Leaves.{end_format};
 
 use crate::unix_time::{MAX_SECS, UnixTime};
 use sshkey_base::{Decode, Encode, Error, Reader, Result, Writer, encoding};
@@ -72,7 +71,7 @@ impl From<UnixTime> for EndTime {
 }
 
 /// Eight bytes, most significant first; `Time` above 2^63 - 1, but for `FOREVER`. Takes no memory.
-#[tactic(auto, using(sshkey_base::proofs::Steps::steps, sshkey_base::proofs::Judging::judged), unfolding(sshkey_model::specs::Certificates::end_at))]
+#[tactic(auto, using(sshkey_base::proofs::Steps::steps, sshkey_base::proofs::Judging::judged, sshkey_base::proofs::Stopping::stopping), unfolding(sshkey_model::specs::Certificates::end_at))]
 impl Decode for EndTime {
     ghost use Rattle.sshkey_options.specs.Times.{end_of};
 
@@ -82,13 +81,7 @@ impl Decode for EndTime {
 
     ghost means = { end_of };
 
-    ghost parse = { end_at };
-
-    ghost Spells = { SpellsEnd };
-
-    ghost needs = { NoNeed };
-
-    ghost grammar = { end_grammar };
+    ghost format = { end_format };
 
     fn decode<R: Reader>(alloc: Global, reader: &mut R) -> Result<EndTime> {
         let secs = u64::decode(alloc, reader)?;

@@ -7,11 +7,12 @@ ghost use Rattle.std.specs.BTreeMap.{get_by_text, IsUnchanged};
 ghost use Rattle.sshkey_model.specs.OptionMaps.{value_of, with_option, with_options};
 ghost use Rattle.sshkey_model.specs.Options.{CertificateOption, AreOptions, normal_options};
 ghost use Rattle.sshkey_base.specs.Causes.{cause};
+ghost use Rattle.sshkey_base.specs.Formats.{Stops};
 ghost use Rattle.sshkey_base.specs.Nested.{nested_source};
 ghost use Rattle.sshkey_base.specs.Needs.{Asks, NeedsString};
-ghost use Rattle.sshkey_base.specs.Reading.{DecodesWide, Gives, LengthPast, to_end};
+ghost use Rattle.sshkey_base.specs.Reading.{DecodesWide, Gives, to_end};
 ghost use Rattle.sshkey_base.specs.Source.{Later};
-ghost use Rattle.sshkey_options.specs.OptionReaders.{SpellsOptions, option_list_at, options_value_at, options_grammar, options_normal};
+ghost use Rattle.sshkey_options.specs.OptionReaders.{option_list_at, options_value_at, options_format, options_normal};
 ghost use Rattle.sshkey_options.specs.OptionMaps.{option_of, options_of};
 
 mod read;
@@ -146,20 +147,14 @@ impl Decode for OptionsMap {
 
     ghost means = { options_of };
 
-    ghost parse = { options_value_at };
-
-    ghost Spells = { SpellsOptions };
-
-    ghost needs = { NeedsString };
-
-    ghost grammar = { options_grammar };
+    ghost format = { options_format };
 
     fn decode<R: Reader>(alloc: Global, reader: &mut R) -> Result<OptionsMap>
         ensures gives { DecodesWide options_of options_value_at
             R.source reader.old result reader.new }
         ensures later { Later (R.source reader.old) (R.source reader.new) }
         ensures asks { Asks cause NeedsString (R.source reader.old) result }
-        ensures past { LengthPast cause (R.source reader.old) result }
+        ensures past { Stops cause options_format (R.source reader.old) result }
     {
         reader.read_prefixed(
             |part: &mut NestedReader<'_, R>| -> Result<OptionsMap>

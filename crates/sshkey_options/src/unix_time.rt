@@ -6,9 +6,8 @@ ghost use Rattle.sshkey_model.specs.Parts.{number};
 ghost use Rattle.std.specs.Int.{w64};
 ghost use Rattle.sshkey_base.specs.Answers.{AnswersAlways};
 ghost use Rattle.sshkey_base.specs.Causes.{cause};
-ghost use Rattle.sshkey_base.specs.Needs.{NoNeed};
-ghost use Rattle.sshkey_model.specs.Certificates.{time_at, time_from};
-ghost use Rattle.sshkey_options.specs.Leaves.{SpellsTime, time_grammar};
+ghost use Rattle.sshkey_model.specs.Certificates.{time_from};
+ghost use Rattle.sshkey_options.specs.Leaves.{time_format};
 
 use sshkey_base::{Decode, Encode, Error, Reader, Result, Writer, encoding};
 use std::alloc::Global;
@@ -56,7 +55,7 @@ impl From<UnixTime> for u64 {
 }
 
 /// Eight bytes, most significant first; `Time` above 2^63 - 1. Takes no memory.
-#[tactic(auto, using(sshkey_base::proofs::Steps::steps, sshkey_base::proofs::Judging::judged), unfolding(sshkey_model::specs::Certificates::time_at))]
+#[tactic(auto, using(sshkey_base::proofs::Steps::steps, sshkey_base::proofs::Judging::judged, sshkey_base::proofs::Stopping::stopping), unfolding(sshkey_model::specs::Certificates::time_at))]
 impl Decode for UnixTime {
     ghost use Rattle.sshkey_options.specs.Times.{time_of};
 
@@ -66,13 +65,7 @@ impl Decode for UnixTime {
 
     ghost means = { time_of };
 
-    ghost parse = { time_at };
-
-    ghost Spells = { SpellsTime };
-
-    ghost needs = { NoNeed };
-
-    ghost grammar = { time_grammar };
+    ghost format = { time_format };
 
     fn decode<R: Reader>(alloc: Global, reader: &mut R) -> Result<UnixTime> {
         let secs = u64::decode(alloc, reader)?;
