@@ -1,4 +1,4 @@
-pub mod Parts
+pub mod FieldFits
 pub mod NormalFits
 pub mod Given
 pub mod Finished

@@ -1,6 +1,6 @@
 pub mod Fitting
 pub mod CertificateReaders
-pub mod Needs
+pub mod CertificateFormats
 pub mod CertificateValues
 pub mod Validity
 pub mod Signing

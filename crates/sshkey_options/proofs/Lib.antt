@@ -1,4 +1,5 @@
 pub mod OptionNames
 pub mod OptionValues
+pub mod OptionStops
 pub mod WrittenOptions
 pub mod OptionPairs

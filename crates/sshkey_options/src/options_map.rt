@@ -12,7 +12,9 @@ ghost use Rattle.sshkey_base.specs.Nested.{nested_source};
 ghost use Rattle.sshkey_base.specs.Needs.{Asks, NeedsString};
 ghost use Rattle.sshkey_base.specs.Reading.{DecodesWide, Gives, to_end};
 ghost use Rattle.sshkey_base.specs.Source.{Later};
-ghost use Rattle.sshkey_options.specs.OptionReaders.{option_list_at, options_value_at, options_format, options_normal};
+ghost use Rattle.sshkey_base.specs.Stops.{OverrunsList, StopsToEnd};
+ghost use Rattle.sshkey_options.specs.OptionReaders.{item, option_list_at, options_value_at, options_normal, OverrunsOption};
+ghost use Rattle.sshkey_options.specs.OptionLists.{options_format};
 ghost use Rattle.sshkey_options.specs.OptionMaps.{option_of, options_of};
 
 mod read;
@@ -162,6 +164,8 @@ impl Decode for OptionsMap {
                     (nested_source R.source part.old) result (nested_source R.source part.new) }
                 ensures later { Later (nested_source R.source part.old)
                     (nested_source R.source part.new) }
+                ensures past { StopsToEnd cause (OverrunsList item OverrunsOption)
+                    (nested_source R.source part.old) result }
             { options_from(alloc, part) },
         )
     }

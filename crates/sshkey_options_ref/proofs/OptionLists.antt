@@ -8,8 +8,9 @@ use Rattle.sshkey_model.proofs.OptionReaders.{option_list_reads}
 use Rattle.sshkey_base.specs.Answers.{AnswersAlways}
 use Rattle.sshkey_base.specs.Causes.{Cause}
 use Rattle.sshkey_base.specs.Reading.{NoSpelling}
-use Rattle.sshkey_base.proofs.MappedBoxes.{with_rest, on_value, made}
-use Rattle.sshkey_options.proofs.OptionValues.{two_lists}
+use Rattle.sshkey_base.specs.Lengths.{with_rest}
+use Rattle.sshkey_base.proofs.MappedBoxes.{on_value, made}
+use Rattle.sshkey_options.specs.OptionLists.{two_lists}
 use Rattle.sshkey_options_ref.specs.declared.options_ref.OptionsRef.{OptionsRef}
 use Rattle.sshkey_options_ref.specs.OptionLists.{SpellsEachOption, options_in, nestings_in, are_plain, plainness_from}
 use Rattle.sshkey_options_ref.specs.Views.{bytes_of_options, spelled_options_of}

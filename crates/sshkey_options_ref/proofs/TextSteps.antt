@@ -18,7 +18,7 @@ use Rattle.sshkey_options_ref.specs.TextLists.{SpellsEachText, texts_in}
 use Rattle.sshkey_slices.specs.Slices.{Splits, Keeps, is_taken}
 use Rattle.sshkey_options_ref.specs.Views.{bytes_of_texts, texts_of}
 use Rattle.sshkey_options_ref.specs.declared.texts_ref.TextsRef.{TextsRef}
-use Rattle.sshkey_base.proofs.MappedBoxes.{with_rest}
+use Rattle.sshkey_base.specs.Lengths.{with_rest}
 use Rattle.sshkey_slices.proofs.Fronts.{answers_ok, answers_err, taken_value}
 use Rattle.sshkey_options_ref.proofs.ListSteps.{first_of, empty_list, all_refused, all_taken}
 

@@ -1,6 +1,5 @@
 pub mod UnsignedReaders
-pub mod Subjects
-pub mod Needs
+pub mod UnsignedFormats
 pub mod UnsignedValues
 pub mod UnsignedParts
 pub mod Comparisons

@@ -5,8 +5,7 @@ ghost use Rattle.sshkey_base.specs.Causes.{cause};
 ghost use Rattle.sshkey_base.specs.Sink.{Encodes, Measures};
 ghost use Rattle.sshkey_model.specs.Certificates.{SignedFields, normal_to_be_signed};
 ghost use Rattle.sshkey_keys.specs.Blobs.{MakesBlob};
-ghost use Rattle.sshkey_unsigned.specs.Needs.{NeedsUnsigned};
-ghost use Rattle.sshkey_unsigned.specs.UnsignedReaders.{SpellsUnsigned, unsigned_value_at, unsigned_grammar};
+ghost use Rattle.sshkey_unsigned.specs.UnsignedFormats.{unsigned_format};
 
 mod copy;
 mod subject;
@@ -72,7 +71,7 @@ impl Unsigned {
 /// type other than 1 and 2 and for options that do not rise, `Time` for a time above 2^63 - 1 that
 /// is not the end 2^64 - 1, the faults of keys, and `TrailingData` with the number of bytes that
 /// stand in a string behind the key or the value that it holds.
-#[tactic(auto, using(sshkey_format::proofs::Mapped::mapped, crate::proofs::Parts::unsigned_parts_read))]
+#[tactic(auto, using(sshkey_format::proofs::Mapped::mapped, crate::specs::UnsignedFormats::unsigned_parts_read))]
 impl Decode for Unsigned {
     ghost use Rattle.sshkey_unsigned.specs.UnsignedValues.{unsigned_of};
 
@@ -82,13 +81,7 @@ impl Decode for Unsigned {
 
     ghost means = { unsigned_of };
 
-    ghost parse = { unsigned_value_at };
-
-    ghost Spells = { SpellsUnsigned };
-
-    ghost needs = { NeedsUnsigned };
-
-    ghost grammar = { unsigned_grammar };
+    ghost format = { unsigned_format };
 
     fn decode<R: Reader>(alloc: Global, reader: &mut R) -> Result<Unsigned> {
         type Grant = Then<Then<Wide<u64>, CertType>, Then<Wide<Text>, Wide<Vec<String>>>>;

@@ -11,10 +11,10 @@ ghost use Rattle.sshkey_keys.specs.Keys.{key_of};
 ghost use Rattle.sshkey_public.specs.LineNeeds.{AsksLine};
 ghost use Rattle.sshkey_public.specs.OneLine.{IsOneLine};
 ghost use Rattle.sshkey_public.specs.PublicKeys.{MakesLine};
+ghost use Rattle.sshkey_cert.specs.CertificateFormats.{certificate_format};
 ghost use Rattle.sshkey_cert.specs.CertificateReaders.{SpellsCertificate};
 ghost use Rattle.sshkey_cert.specs.CertificateValues.{certificate_of, comment_of};
 ghost use Rattle.sshkey_cert.specs.Lines.{ReadsCertificate, certificates_stand};
-ghost use Rattle.sshkey_cert.specs.Needs.{NeedsCertificate};
 
 use super::Certificate;
 use sshkey_base::{Result, Text, Writer, encode_vec, encoding};
@@ -58,7 +58,7 @@ impl Certificate {
     /// `is_one_line` says no, the text held more lines than one, and only the first was judged.
     pub fn from_openssh(alloc: Global, text: &str) -> Result<Certificate>
         ensures reads { ReadsCertificate text.now result }
-        ensures asks { AsksLine name_of_certificate SpellsCertificate NeedsCertificate
+        ensures asks { AsksLine name_of_certificate SpellsCertificate certificate_format.needs
             text.now result }
     {
         let (certificate, comment) = read_line::<Certificate>(alloc, text)?;

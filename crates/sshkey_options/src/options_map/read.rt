@@ -6,8 +6,10 @@ ghost use Rattle.std.specs.String.{string_cmp};
 ghost use Rattle.sshkey_base.specs.Causes.{cause, encoding_cause};
 ghost use Rattle.sshkey_base.specs.Nested.{nested_source};
 ghost use Rattle.sshkey_base.specs.Reading.{Decodes, DecodesWide, Gives, to_end};
+ghost use Rattle.sshkey_base.specs.Needs.{NeedsString};
 ghost use Rattle.sshkey_base.specs.Source.{Later};
-ghost use Rattle.sshkey_options.specs.OptionReaders.{may_follow, value_front, option_box_at, option_behind, option_list_at};
+ghost use Rattle.sshkey_base.specs.Stops.{OverrunsString, OverrunsList, StopsBy, StopsToEnd};
+ghost use Rattle.sshkey_options.specs.OptionReaders.{may_follow, value_front, option_box_at, option_behind, item, option_list_at, NeedsOption, OverrunsValue, OverrunsOption};
 ghost use Rattle.sshkey_options.specs.OptionMaps.{option_of, options_of, last_name, GoesLast};
 
 use super::OptionsMap;
@@ -21,6 +23,8 @@ pub(super) fn options_from<R: Reader>(alloc: Global, reader: &mut R) -> Result<O
     ensures gives { DecodesWide options_of (to_end option_list_at)
         R.source reader.old result reader.new }
     ensures later { Later (R.source reader.old) (R.source reader.new) }
+    ensures past { StopsToEnd cause (OverrunsList item OverrunsOption)
+        (R.source reader.old) result }
 {
     let mut options = BTreeMap::new(alloc);
     'reads: while !reader.is_finished() {
@@ -62,6 +66,8 @@ fn option_from<R: Reader>(
         (option_behind (option_map (λ name. name.now) before.entry))
         (R.source reader.old) result (R.source reader.new) }
     ensures later { Later (R.source reader.old) (R.source reader.new) }
+    ensures past { StopsBy cause (option_behind (option_map (λ name. name.now) before.entry))
+        NeedsOption OverrunsOption (R.source reader.old) result }
 {
     let name = String::decode(alloc, reader)?;
     let value = boxed_value(alloc, reader)?;
@@ -85,6 +91,8 @@ fn may_follow(before: Option<&str>, name: &str) -> bool
 fn boxed_value<R: Reader>(alloc: Global, reader: &mut R) -> encoding::Result<String>
     ensures gives { Decodes string_bytes option_box_at R.source reader.old result reader.new }
     ensures later { Later (R.source reader.old) (R.source reader.new) }
+    ensures past { StopsBy encoding_cause option_box_at NeedsString OverrunsValue
+        (R.source reader.old) result }
 {
     reader.read_prefixed(
         |part: &mut NestedReader<'_, R>| -> encoding::Result<String>
@@ -92,6 +100,8 @@ fn boxed_value<R: Reader>(alloc: Global, reader: &mut R) -> encoding::Result<Str
                 (nested_source R.source) part.old result part.new }
             ensures later { Later (nested_source R.source part.old)
                 (nested_source R.source part.new) }
+            ensures past { StopsToEnd encoding_cause OverrunsString
+                (nested_source R.source part.old) result }
         { value_from(alloc, part) },
     )
 }
@@ -100,6 +110,7 @@ fn boxed_value<R: Reader>(alloc: Global, reader: &mut R) -> encoding::Result<Str
 fn value_from<R: Reader>(alloc: Global, reader: &mut R) -> encoding::Result<String>
     ensures gives { Decodes string_bytes value_front R.source reader.old result reader.new }
     ensures later { Later (R.source reader.old) (R.source reader.new) }
+    ensures past { StopsToEnd encoding_cause OverrunsString (R.source reader.old) result }
 {
     if reader.is_finished() {
         return Ok(String::new(alloc));

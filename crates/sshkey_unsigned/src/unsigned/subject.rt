@@ -1,14 +1,11 @@
 //! What a certificate begins with.
 
 ghost use Rattle.std.specs.Prelude.{ℕ, List};
-ghost use Rattle.sshkey_model.specs.CertificateNames.{certificate_algorithm_at};
 ghost use Rattle.sshkey_model.specs.Keys.{Key};
 ghost use Rattle.sshkey_model.specs.Names as names;
-ghost use Rattle.sshkey_base.specs.NameNeeds.{NeedsCertified};
+ghost use Rattle.sshkey_base.specs.NameFormats.{certified_format};
 ghost use Rattle.sshkey_base.specs.Names.{algorithm_of};
-ghost use Rattle.sshkey_unsigned.specs.Needs.{NeedsSubject};
-ghost use Rattle.sshkey_unsigned.specs.UnsignedReaders.{SpellsCertified, SpellsSubject, certified_grammar, subject_at};
-ghost use Rattle.sshkey_unsigned.specs.Subjects.{subject_grammar};
+ghost use Rattle.sshkey_unsigned.specs.UnsignedFormats.{subject_format};
 
 use sshkey_base::{Algorithm, Bytes, Decode, Error, Reader, Result};
 use sshkey_format::{Then, Wide};
@@ -27,13 +24,7 @@ impl Decode for Certified {
 
     ghost means = { λ x. algorithm_of x.0 };
 
-    ghost parse = { certificate_algorithm_at };
-
-    ghost Spells = { SpellsCertified };
-
-    ghost needs = { NeedsCertified };
-
-    ghost grammar = { certified_grammar };
+    ghost format = { certified_format };
 
     #[inline(always)]
     fn decode<R: Reader>(alloc: Global, reader: &mut R) -> Result<Certified> {
@@ -51,7 +42,7 @@ pub(super) struct Subject {
 }
 
 /// The name of the key's algorithm, the nonce, and the key's body under that name.
-#[tactic(auto, using(sshkey_base::proofs::Steps::steps), unfolding(crate::specs::UnsignedReaders::subject_at))]
+#[tactic(auto, using(sshkey_base::proofs::Steps::steps, sshkey_format::proofs::Stopping::stopping, sshkey_format::proofs::Mapped::mapped, crate::specs::UnsignedFormats::subject_parts_read), unfolding(crate::specs::UnsignedReaders::subject_at))]
 impl Decode for Subject {
     ghost use Rattle.sshkey_unsigned.specs.UnsignedValues.{subject_of};
 
@@ -61,13 +52,7 @@ impl Decode for Subject {
 
     ghost means = { subject_of };
 
-    ghost parse = { subject_at };
-
-    ghost Spells = { SpellsSubject };
-
-    ghost needs = { NeedsSubject };
-
-    ghost grammar = { subject_grammar };
+    ghost format = { subject_format };
 
     fn decode<R: Reader>(alloc: Global, reader: &mut R) -> Result<Subject> {
         type Opening = Then<Certified, Wide<Bytes>>;

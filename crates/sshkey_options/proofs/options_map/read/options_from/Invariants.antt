@@ -1,13 +1,14 @@
 use Rattle.std.proofs.Common.{◌≡◌, Option, map}
 use Rattle.sshkey_model.specs.Options.{CertificateOption}
 use Rattle.sshkey_base.specs.Source.{Later, announced_len}
-use Rattle.sshkey_base.proofs.ReadLists.{Collects}
-use Rattle.sshkey_options.specs.OptionReaders.{item, name_before}
+use Rattle.sshkey_base.proofs.ReadLists.{Collects, StillOverruns}
+use Rattle.sshkey_options.specs.OptionReaders.{item, name_before, OverrunsOption}
+use Rattle.sshkey_options.specs.OptionLists.{option_lengths}
 use Rattle.sshkey_options.specs.OptionMaps.{option_of, last_name}
 use Rattle.sshkey_options.proofs.options_map.read.options_from.Given as goal
 
 abbrev pub invariant-reads : goal.invariant-reads
-invariant-reads g l = ((before : Option CertificateOption) × (name_before before ≡ last_name l.options) × Collects item (g.R.Reader.source l.fn.reader) before (map option_of l.options.entries) (g.R.Reader.source l.reader)) × Later (g.R.Reader.source l.fn.reader) (g.R.Reader.source l.reader)
+invariant-reads g l = ((before : Option CertificateOption) × (name_before before ≡ last_name l.options) × Collects item (g.R.Reader.source l.fn.reader) before (map option_of l.options.entries) (g.R.Reader.source l.reader) × StillOverruns item OverrunsOption option_lengths (g.R.Reader.source l.fn.reader) before (g.R.Reader.source l.reader)) × Later (g.R.Reader.source l.fn.reader) (g.R.Reader.source l.reader)
 
 abbrev pub decreases-reads : goal.decreases-reads
 decreases-reads g l = announced_len (g.R.Reader.source l.reader)

@@ -1,7 +1,11 @@
 use Rattle.std.proofs.Common.{◌≢◌}
 use Rattle.std.specs.Prelude.{string_bytes}
 use Rattle.sshkey_base.specs.Source.{announced_len}
+use Rattle.sshkey_model.specs.Texts.{text_at}
 use Rattle.sshkey_base.specs.Causes.{encoding_cause}
+use Rattle.sshkey_base.specs.Needs.{NeedsString}
+use Rattle.sshkey_base.specs.Stops.{OverrunsString}
+use Rattle.sshkey_options.proofs.OptionStops.{stops_to_end}
 use Rattle.sshkey_options.proofs.OptionValues.{value_read, value_none}
 use Rattle.sshkey_options.proofs.options_map.read.value_from.Goals as goal
 
@@ -12,3 +16,6 @@ pub returns-clause-gives : goal.returns-clause-gives
 returns-clause-gives g c =
     let some : announced_len (g.R.Reader.source c.args.reader.now) ≢ 0 = (λ none. let t = c.is_finished.ensures.1 none in cc) in
     value_read string_bytes encoding_cause _ _ _ some c.decode.ensures.gives
+
+pub returns-clause-past : goal.returns-clause-past
+returns-clause-past g c = stops_to_end encoding_cause text_at NeedsString OverrunsString _ _ c.decode.ensures.past
