@@ -1,6 +1,6 @@
 pub use Rattle.sshkey_cert.specs.Fitting
 pub use Rattle.sshkey_cert.specs.CertificateReaders
-pub use Rattle.sshkey_cert.specs.Needs
+pub use Rattle.sshkey_cert.specs.CertificateFormats
 pub use Rattle.sshkey_cert.specs.CertificateValues
 pub use Rattle.sshkey_cert.specs.Validity
 pub use Rattle.sshkey_cert.specs.Signing

@@ -1,5 +1,5 @@
 pub use Rattle.sshkey_ciphers.specs.Ciphers
 pub use Rattle.sshkey_ciphers.specs.Ciphertexts
 pub use Rattle.sshkey_ciphers.specs.Comparisons
-pub use Rattle.sshkey_ciphers.specs.Needs
+pub use Rattle.sshkey_ciphers.specs.KdfFormats
 pub use Rattle.sshkey_ciphers.specs.Paddings

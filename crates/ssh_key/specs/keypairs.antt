@@ -1,6 +1,6 @@
 pub use Rattle.sshkey_keypairs.specs.SecurityPairs
 pub use Rattle.sshkey_keypairs.specs.OpaquePairs
-pub use Rattle.sshkey_keypairs.specs.KeypairNeeds
+pub use Rattle.sshkey_keypairs.specs.KeypairFormats
 pub use Rattle.sshkey_keypairs.specs.KeypairReaders
 pub use Rattle.sshkey_keypairs.specs.Keypairs
 pub use Rattle.sshkey_keypairs.specs.PairKinds

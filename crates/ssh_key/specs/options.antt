@@ -4,3 +4,4 @@ pub use Rattle.sshkey_options.specs.CertTypes
 pub use Rattle.sshkey_options.specs.OptionReaders
 pub use Rattle.sshkey_options.specs.OptionMaps
 pub use Rattle.sshkey_options.specs.Comparisons
+pub use Rattle.sshkey_options.specs.OptionLists

@@ -6,3 +6,4 @@ pub use Rattle.sshkey_private.specs.Forms
 pub use Rattle.sshkey_private.specs.PrivateKeys
 pub use Rattle.sshkey_private.specs.Written
 pub use Rattle.sshkey_private.specs.Comparisons
+pub use Rattle.sshkey_private.specs.PrivateKeyFormats
