@@ -1,5 +1,5 @@
 -- The lines of a text, one by one, and what they leave of its entries.
-use Rattle.std.proofs.Common.{◌≡◌, ◌≢◌, ℕ, ◌<◌, ◌≤◌, ◌+◌, ◌-◌, List, [], ◌∷◌, ◌++◌, length, get_or, take, drop, map, filter, Bool, true, false, cond, eqb, sym, ap, subst, ◌∙◌, refl, arith, inl, inr, ⊎_elim, eqb-true, eq-eqb, ne_eqb, length-drop, take-append-drop, take_all, lt-ltb, nat_lt, Some}
+use Rattle.std.proofs.Common.{◌≡◌, ◌≢◌, ℕ, ◌<◌, ◌≤◌, ◌+◌, ◌-◌, List, [], ◌∷◌, ◌++◌, length, get_or, take, drop, filter, Bool, true, false, cond, eqb, sym, ap, subst, ◌∙◌, refl, arith, inl, inr, ⊎_elim, eqb-true, eq-eqb, ne_eqb, length-drop, take-append-drop, take_all, lt-ltb, nat_lt, Some}
 use Rattle.std.proofs.lemmas.Bool.{cases_lt, eqb-false}
 use Rattle.std.specs.Prelude.{⊤}
 use Rattle.std.specs.Iterator.{MakesProgress, item_count}

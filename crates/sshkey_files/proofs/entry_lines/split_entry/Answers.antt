@@ -1,4 +1,4 @@
-use Rattle.std.proofs.Common.{◌≡◌, ◌++◌, ◌≤◌, List, ℕ, take, drop, length, ap, sym, subst, ◌∙◌, take-append-drop}
+use Rattle.std.proofs.Common.{◌++◌, ◌≤◌, ℕ, take, length, ap, sym, subst, ◌∙◌, take-append-drop}
 use Rattle.std.proofs.lemmas.Str.{IsCharBoundary-from_take}
 use Rattle.std.specs.List.{position_or_len}
 use Rattle.std.specs.Str.{IsUtf8, trim_end}
