@@ -3,6 +3,8 @@ pub mod OneHost
 pub mod StrictReading
 pub mod SshdReading
 pub mod OneSshdKey
+pub mod Fields
+pub mod OneOpenSshLine
 pub mod Cuts
 pub mod EntryExamples
 pub mod StrictExamples

@@ -21,7 +21,7 @@ one_key_line text k l m n a b = one_line key_name (SpellsWith IsKey HasKeyPlaces
 pub readings_apart : (entry : List ℕ) (a b : AuthorizedKey) → IsWithoutOptions entry a → HasOptions entry b → ⊥
 readings_apart entry a b x y = y.no_line a.key a.comment x.line
 
-same_entry : (a b : AuthorizedKey) → a.options ≡ b.options → a.key ≡ b.key → a.comment ≡ b.comment → a ≡ b
+pub same_entry : (a b : AuthorizedKey) → a.options ≡ b.options → a.key ≡ b.key → a.comment ≡ b.comment → a ≡ b
 same_entry a b o k m = λ j. record { options = o j; key = k j; comment = m j }
 
 pub one_entry : (line : List ℕ) (a b : AuthorizedKey) → IsAuthorizedKey line a → IsAuthorizedKey line b → a ≡ b

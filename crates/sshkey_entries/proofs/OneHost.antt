@@ -34,7 +34,7 @@ one_marker text (Some CertAuthority) (Some Revoked) r s a b = let e : 0x63 ≡ 0
 one_marker text (Some Revoked) (Some CertAuthority) r s a b = let e : 0x72 ≡ 0x63 = ap (λ (l : List ℕ). slice_index l 1) (sym a ∙ b) in absurd (omega (arith, e))
 one_marker text (Some Revoked) (Some Revoked) r s a b = (refl, ap (drop 9) (sym a ∙ b))
 
-same_host : (a b : KnownHost) → a.marker ≡ b.marker → a.hosts ≡ b.hosts → a.key ≡ b.key → a.comment ≡ b.comment → a ≡ b
+pub same_host : (a b : KnownHost) → a.marker ≡ b.marker → a.hosts ≡ b.hosts → a.key ≡ b.key → a.comment ≡ b.comment → a ≡ b
 same_host a b m x k c = λ j. record { marker = m j; hosts = x j; key = k j; comment = c j }
 
 pub one_host : (entry : List ℕ) (a b : KnownHost) → IsKnownHost entry a → IsKnownHost entry b → a ≡ b

@@ -5,6 +5,8 @@ pub mod AuthorizedKeys
 pub mod KnownHosts
 pub mod StrictReading
 pub mod SshdReading
+pub mod Fields
+pub mod OpenSshLines
 pub mod Laws
 pub mod Computed
 pub mod Examples

@@ -2,6 +2,7 @@
 
 ghost use Rattle.sshkey_entries.specs.AuthorizedKeys.{IsAuthorizedKey};
 ghost use Rattle.sshkey_entries.specs.KnownHosts.{IsHosts, IsKnownHost};
+ghost use Rattle.sshkey_entries.specs.OpenSshLines.{IsAuthorizedLine, IsHostLine};
 ghost use Rattle.sshkey_entries.specs.Laws.{EntriesDetermineValues, OneEnd, ReadingsAreApart, OneSshdKey, StrictIsRead, StrictLineIsRead};
 
 /// A line is one entry of authorized_keys at most.
@@ -40,4 +41,14 @@ pub fn strict_is_read()
 /// sshd(8) reads one key of a line at most, with options or without.
 pub fn one_sshd_key()
     ensures { OneSshdKey }
+{}
+
+/// A line is one entry of authorized_keys at most, as OpenSSH reads it.
+pub fn one_authorized_line()
+    ensures { EntriesDetermineValues IsAuthorizedLine }
+{}
+
+/// A line is one entry of known_hosts at most, as OpenSSH reads it.
+pub fn one_host_line()
+    ensures { EntriesDetermineValues IsHostLine }
 {}

@@ -1,2 +1,4 @@
 pub mod TextLines
 pub mod AnswerLists
+pub mod BlankPlaces
+pub mod FilledTexts
