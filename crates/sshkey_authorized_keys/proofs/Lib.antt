@@ -3,3 +3,4 @@ pub mod Options
 pub mod LeftOut
 pub mod Strictly
 pub mod OneLine
+pub mod OptionEnds

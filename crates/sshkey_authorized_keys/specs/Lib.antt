@@ -4,3 +4,5 @@ pub mod AuthorizedEntries
 pub mod EntryFaults
 pub mod LeftOut
 pub mod StrictAnswers
+pub mod OpenSshEntries
+pub mod OpenSshFaults

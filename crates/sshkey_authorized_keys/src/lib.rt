@@ -5,8 +5,10 @@ mod authorized_keys;
 mod config_opts;
 mod entry;
 pub mod laws;
+mod openssh;
 mod strict;
 
 pub use authorized_keys::{AuthorizedKeys, StrictAuthorizedKeys};
 pub use config_opts::{ConfigOpts, ConfigOptsIter};
 pub use entry::Entry;
+pub use openssh::{OpenSshAuthorizedKeys, OpenSshEntry, OpenSshOptions};

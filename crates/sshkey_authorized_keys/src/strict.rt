@@ -5,7 +5,7 @@ ghost use Rattle.sshkey_authorized_keys.specs.LeftOut.{AreSpacesAndBlank};
 ghost use Rattle.sshkey_entries.specs.Entries.{hash};
 ghost use Rattle.sshkey_entries.specs.StrictReading.{is_mark, is_inside, is_blank, is_ascii_space, AreAsciiSpaces, EndsInAscii, IsLeftOut};
 
-fn is_mark(line: &[u8], place: usize) -> bool
+pub(crate) fn is_mark(line: &[u8], place: usize) -> bool
     requires { place < length line.now }
     ensures { result ≡ is_mark line.now place }
 {
@@ -26,7 +26,7 @@ pub(crate) fn is_inside(line: &[u8], place: usize) -> bool
     inside
 }
 
-fn is_blank(byte: u8) -> bool
+pub(crate) fn is_blank(byte: u8) -> bool
     ensures { result ≡ is_blank byte }
 {
     byte == b' ' || byte == b'\t'

@@ -1,0 +1,18 @@
+use Rattle.std.proofs.Common.{sym, ap, ◌∙◌}
+use Rattle.sshkey_authorized_keys.proofs.OptionEnds.{comment_read, comment_fault, alone_read, behind_read, behind_fault}
+use Rattle.sshkey_authorized_keys.proofs.openssh.Entry.from_line_openssh.Goals as goal
+
+pub returns-then-is_comment-clause-reads : goal.returns-then-is_comment-clause-reads
+returns-then-is_comment-clause-reads c = λ _. comment_read c.args.line.now c.skip_blanks-text.result.now c.skip_blanks-text.ensures (c.is_comment.ensures.0 c.if-is_comment.true)
+
+pub returns-then-is_comment-clause-fault : goal.returns-then-is_comment-clause-fault
+returns-then-is_comment-clause-fault c = λ _. comment_fault c.args.line.now c.skip_blanks-text.result.now c.skip_blanks-text.ensures (c.is_comment.ensures.0 c.if-is_comment.true)
+
+pub behind_options-requires : goal.behind_options-requires
+behind_options-requires c = c.in-Err.ensures.reads (λ memory. cc (sym c.if-is_memory.false ∙ c.is_memory.ensures.1 memory))
+
+pub returns-clause-reads : goal.returns-clause-reads
+returns-clause-reads c = behind_read c.args.line.now c.skip_blanks-text.result.now c.skip_blanks-text.ensures (λ here. cc (sym c.if-is_comment.false ∙ c.is_comment.ensures.1 here)) c.behind_options.result (c.in-Err.ensures.reads (λ memory. cc (sym c.if-is_memory.false ∙ c.is_memory.ensures.1 memory))) c.behind_options.ensures.reads
+
+pub returns-clause-fault : goal.returns-clause-fault
+returns-clause-fault c = behind_fault c.args.line.now c.skip_blanks-text.result.now c.skip_blanks-text.ensures (λ here. cc (sym c.if-is_comment.false ∙ c.is_comment.ensures.1 here)) c.behind_options.result c.behind_options.ensures.fault

@@ -1,0 +1,229 @@
+//! Entries as sshd(8) reads them.
+
+ghost use Rattle.std.specs.Prelude.{◌≡◌, ◌↔◌, ℕ, List, [], IfErr, IfOk, IsTrue};
+ghost use Rattle.std.specs.Iterator.{item_count};
+ghost use Rattle.sshkey_base.specs.declared.error.Error.TheVariants as wide;
+ghost use Rattle.sshkey_entries.specs.Fields.{AreNoKeyFields};
+ghost use Rattle.sshkey_entries.specs.OpenSshLines.{IsAuthorizedLine, IsBehindOptions};
+ghost use Rattle.sshkey_files.specs.Answers.{AnswersEntry, ReadsEntry, RefusesFor, YieldsAnswers};
+ghost use Rattle.sshkey_authorized_keys.specs.OpenSshEntries.{openssh_entry_of, openssh_key_in, openssh_options_of};
+ghost use Rattle.sshkey_authorized_keys.specs.OpenSshFaults.{CutsOptions, FindsEnd, HasLineFault, HasTextFault, EndsHere};
+
+use crate::entry::{Entry, is_memory};
+use crate::strict::{is_blank, is_comment, is_mark};
+use sshkey_base::{Error, Result, Text};
+use sshkey_fields::read_key_fields;
+use sshkey_files::{FilledLines, skip_blanks};
+use sshkey_public::PublicKey;
+use std::alloc::Global;
+use std::marker::Model;
+
+/// The options before a key, as they stand in its line. Contracts see their text.
+#[derive(Debug, Drop)]
+pub struct OpenSshOptions {
+    text: Text,
+}
+
+impl Model for OpenSshOptions {
+    ghost Value = { List ℕ };
+
+    ghost view = { λ o. o.text };
+}
+
+impl OpenSshOptions {
+    /// No options. Takes no memory.
+    fn none(alloc: Global) -> OpenSshOptions
+        ensures { result ≡ [] }
+    {
+        OpenSshOptions {
+            text: Text::new(String::new(alloc)),
+        }
+    }
+
+    fn copied(alloc: Global, text: &str) -> Result<OpenSshOptions>
+        ensures copy { IfOk result (λ o. o ≡ text.now) }
+        ensures memory { IfErr result (λ e. e ≡ wide.Memory) }
+    {
+        Ok(OpenSshOptions {
+            text: Text::new(String::from_str(alloc, text)?),
+        })
+    }
+
+    /// The options as they stand in the line.
+    pub fn as_str(&self) -> &str
+        ensures { result.now ≡ self.now }
+    {
+        self.text.as_str()
+    }
+
+    /// Whether there are none.
+    pub fn is_empty(&self) -> bool
+        ensures { IsTrue result ↔ (self.now ≡ []) }
+    {
+        self.as_str().is_empty()
+    }
+}
+
+/// An entry as sshd(8) reads it: options, which may be empty, and a key with its comment.
+#[derive(Debug, Drop)]
+pub struct OpenSshEntry {
+    options: OpenSshOptions,
+    public_key: PublicKey,
+}
+
+fn ends_here(byte: u8, inside: bool) -> bool
+    ensures { IsTrue result ↔ EndsHere byte inside }
+{
+    is_blank(byte) && !inside
+}
+
+/// The place of the first space or tab outside quotes.
+fn options_end(text: &[u8]) -> Option<usize>
+    ensures { FindsEnd text.now result }
+{
+    let mut inside = false;
+    for index in 0..text.len() {
+        if ends_here(text[index], inside) {
+            return Some(index);
+        }
+        if is_mark(text, index) {
+            inside = !inside;
+        }
+    }
+    None
+}
+
+/// The text up to its first space or tab outside quotes, and what follows from there.
+fn split_options(text: &str) -> Option<(&str, &str)>
+    ensures { CutsOptions text.now result }
+{
+    match options_end(text.as_bytes()) {
+        Some(end) => Some(text.split_at(end)),
+        None => None,
+    }
+}
+
+impl Entry {
+    /// The entry of a line as sshd(8) reads it ("AUTHORIZED_KEYS FILE FORMAT").
+    ///
+    /// Spaces and tabs in front are passed over. If a key stands there, the name of its algorithm
+    /// and its padded Base64, there are no options. Else options come first and end at the first
+    /// space or tab outside double quotes, where a quote behind a backslash is none, and the key
+    /// follows. Behind the key stands the comment, which is all the rest, a `#` too. Any number of
+    /// spaces and tabs stands between. So these lines are read, which `from_line` refuses:
+    ///
+    ///     command="dump /home",no-pty ssh-ed25519 AAAA..
+    ///     restrict    ssh-ed25519 AAAA.. nightly job # 3
+    ///
+    /// Out of memory aside, it is refused exactly where the line is no such entry: `FormatEncoding`
+    /// where a `#` begins it, and where neither a key begins it nor options have an end, as in an
+    /// empty line and where quotes stay open; `Length` where behind options, or alone, no Base64
+    /// stands; and else the refusals of `sshkey_fields::read_key_fields`.
+    ///
+    /// The options are kept as they stand, also those that sshd does not know; sshd refuses a line
+    /// with one of these. A key of whatever kind this library reads is read, private-use names too,
+    /// and a name is compared as it stands.
+    pub fn from_line_openssh(alloc: Global, line: &str) -> Result<OpenSshEntry>
+        ensures reads { ReadsEntry openssh_entry_of IsAuthorizedLine line.now result }
+        ensures fault { RefusesFor HasLineFault line.now result }
+    {
+        let text = skip_blanks(line);
+        if is_comment(text) {
+            return Err(Error::FormatEncoding);
+        }
+        let error = match read_key_fields(alloc, text) {
+            Ok(public_key) => return Ok(OpenSshEntry::alone(alloc, public_key)),
+            Err(error) => error,
+        };
+        if is_memory(&error) {
+            return Err(error);
+        }
+        OpenSshEntry::behind_options(alloc, text)
+    }
+}
+
+impl OpenSshEntry {
+    /// The entry of a key without options. Takes no memory.
+    fn alone(alloc: Global, public_key: PublicKey) -> OpenSshEntry
+        ensures options { openssh_options_of result ≡ [] }
+        ensures key { openssh_key_in result ≡ public_key }
+    {
+        OpenSshEntry {
+            options: OpenSshOptions::none(alloc),
+            public_key,
+        }
+    }
+
+    /// The entry of a text that no key begins.
+    fn behind_options(alloc: Global, text: &str) -> Result<OpenSshEntry>
+        requires { AreNoKeyFields text.now }
+        ensures reads { ReadsEntry openssh_entry_of IsBehindOptions text.now result }
+        ensures fault { RefusesFor HasTextFault text.now result }
+    {
+        let Some((front, rest)) = split_options(text) else {
+            return Err(Error::FormatEncoding);
+        };
+        let public_key = read_key_fields(alloc, skip_blanks(rest))?;
+        let options = OpenSshOptions::copied(alloc, front)?;
+        Ok(OpenSshEntry {
+            options,
+            public_key,
+        })
+    }
+
+    /// The options.
+    pub fn options(&self) -> &OpenSshOptions
+        ensures { result.now ≡ openssh_options_of self.now }
+    {
+        &self.options
+    }
+
+    /// The key and its comment.
+    pub fn public_key(&self) -> &PublicKey
+        ensures { result.now ≡ openssh_key_in self.now }
+    {
+        &self.public_key
+    }
+}
+
+/// The entries of a text as sshd(8) reads it: one answer for each, in order, which
+/// `Entry::from_line_openssh` gives.
+///
+/// An entry is a line in which something stands besides spaces and tabs, and which no `#` begins
+/// behind these. A line that is refused ends nothing: the next call answers the entry behind it. The
+/// text is borrowed, and what an entry keeps is copied.
+///
+/// Contracts see the list of the lines that are left, without the spaces and tabs at their front.
+#[derive(Drop)]
+pub struct OpenSshAuthorizedKeys<'a> {
+    alloc: Global,
+    lines: FilledLines<'a>,
+}
+
+impl<'a> Model for OpenSshAuthorizedKeys<'a> {
+    ghost Value = { List (List ℕ) };
+
+    ghost view = { λ s. s.lines };
+}
+
+impl<'a> OpenSshAuthorizedKeys<'a> {
+    pub(crate) fn new(alloc: Global, lines: FilledLines<'a>) -> OpenSshAuthorizedKeys<'a>
+        ensures { result ≡ lines }
+    {
+        OpenSshAuthorizedKeys { alloc, lines }
+    }
+}
+
+impl<'a> Iterator for OpenSshAuthorizedKeys<'a> {
+    type Item = Result<OpenSshEntry>;
+
+    ghost next_gives = { YieldsAnswers
+        (AnswersEntry openssh_entry_of IsAuthorizedLine HasLineFault) };
+
+    ghost remaining = { item_count (λ left. left) };
+
+    fn next(&mut self) -> Option<Result<OpenSshEntry>> {
+        let line = self.lines.next()?;
+        Some(Entry::from_line_openssh(self.alloc, line))
+    }
+}
