@@ -14,6 +14,7 @@ pub mod sshsig
 pub mod public
 pub mod entries
 pub mod files
+pub mod fields
 pub mod authorized_keys
 pub mod known_hosts
 pub mod ciphers

@@ -5,4 +5,6 @@ pub use Rattle.sshkey_entries.specs.AuthorizedKeys
 pub use Rattle.sshkey_entries.specs.KnownHosts
 pub use Rattle.sshkey_entries.specs.StrictReading
 pub use Rattle.sshkey_entries.specs.SshdReading
+pub use Rattle.sshkey_entries.specs.Fields
+pub use Rattle.sshkey_entries.specs.OpenSshLines
 pub use Rattle.sshkey_entries.specs.Laws

@@ -1,2 +1,3 @@
 pub use Rattle.sshkey_files.specs.Answers
 pub use Rattle.sshkey_files.specs.MadeTexts
+pub use Rattle.sshkey_files.specs.Cuts

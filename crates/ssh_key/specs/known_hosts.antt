@@ -1,2 +1,3 @@
 pub use Rattle.sshkey_known_hosts.specs.HostEntries
 pub use Rattle.sshkey_known_hosts.specs.HostFaults
+pub use Rattle.sshkey_known_hosts.specs.OpenSshHosts

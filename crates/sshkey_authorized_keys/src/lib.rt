@@ -6,9 +6,11 @@ mod config_opts;
 mod entry;
 pub mod laws;
 mod openssh;
+mod openssh_options;
 mod strict;
 
 pub use authorized_keys::{AuthorizedKeys, StrictAuthorizedKeys};
 pub use config_opts::{ConfigOpts, ConfigOptsIter};
 pub use entry::Entry;
-pub use openssh::{OpenSshAuthorizedKeys, OpenSshEntry, OpenSshOptions};
+pub use openssh::{OpenSshAuthorizedKeys, OpenSshEntry};
+pub use openssh_options::OpenSshOptions;

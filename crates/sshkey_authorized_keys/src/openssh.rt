@@ -1,68 +1,22 @@
 //! Entries as sshd(8) reads them.
 
-ghost use Rattle.std.specs.Prelude.{◌≡◌, ◌↔◌, ℕ, List, [], IfErr, IfOk, IsTrue};
+ghost use Rattle.std.specs.Prelude.{◌≡◌, ◌<◌, ◌↔◌, ℕ, List, [], length, slice_index, IsTrue};
 ghost use Rattle.std.specs.Iterator.{item_count};
-ghost use Rattle.sshkey_base.specs.declared.error.Error.TheVariants as wide;
-ghost use Rattle.sshkey_entries.specs.Fields.{AreNoKeyFields};
+ghost use Rattle.sshkey_entries.specs.Fields.{AreNoKeyFields, filled_lines};
 ghost use Rattle.sshkey_entries.specs.OpenSshLines.{IsAuthorizedLine, IsBehindOptions};
 ghost use Rattle.sshkey_files.specs.Answers.{AnswersEntry, ReadsEntry, RefusesFor, YieldsAnswers};
 ghost use Rattle.sshkey_authorized_keys.specs.OpenSshEntries.{openssh_entry_of, openssh_key_in, openssh_options_of};
 ghost use Rattle.sshkey_authorized_keys.specs.OpenSshFaults.{CutsOptions, FindsEnd, HasLineFault, HasTextFault, EndsHere};
 
 use crate::entry::{Entry, is_memory};
+use crate::openssh_options::OpenSshOptions;
 use crate::strict::{is_blank, is_comment, is_mark};
-use sshkey_base::{Error, Result, Text};
+use sshkey_base::{Error, Result};
 use sshkey_fields::read_key_fields;
 use sshkey_files::{FilledLines, skip_blanks};
 use sshkey_public::PublicKey;
 use std::alloc::Global;
 use std::marker::Model;
-
-/// The options before a key, as they stand in its line. Contracts see their text.
-#[derive(Debug, Drop)]
-pub struct OpenSshOptions {
-    text: Text,
-}
-
-impl Model for OpenSshOptions {
-    ghost Value = { List ℕ };
-
-    ghost view = { λ o. o.text };
-}
-
-impl OpenSshOptions {
-    /// No options. Takes no memory.
-    fn none(alloc: Global) -> OpenSshOptions
-        ensures { result ≡ [] }
-    {
-        OpenSshOptions {
-            text: Text::new(String::new(alloc)),
-        }
-    }
-
-    fn copied(alloc: Global, text: &str) -> Result<OpenSshOptions>
-        ensures copy { IfOk result (λ o. o ≡ text.now) }
-        ensures memory { IfErr result (λ e. e ≡ wide.Memory) }
-    {
-        Ok(OpenSshOptions {
-            text: Text::new(String::from_str(alloc, text)?),
-        })
-    }
-
-    /// The options as they stand in the line.
-    pub fn as_str(&self) -> &str
-        ensures { result.now ≡ self.now }
-    {
-        self.text.as_str()
-    }
-
-    /// Whether there are none.
-    pub fn is_empty(&self) -> bool
-        ensures { IsTrue result ↔ (self.now ≡ []) }
-    {
-        self.as_str().is_empty()
-    }
-}
 
 /// An entry as sshd(8) reads it: options, which may be empty, and a key with its comment.
 #[derive(Debug, Drop)]
@@ -71,10 +25,11 @@ pub struct OpenSshEntry {
     public_key: PublicKey,
 }
 
-fn ends_here(byte: u8, inside: bool) -> bool
-    ensures { IsTrue result ↔ EndsHere byte inside }
+fn ends_here(text: &[u8], place: usize, inside: bool) -> bool
+    requires { place < length text.now }
+    ensures { IsTrue result ↔ EndsHere (slice_index text.now place) inside }
 {
-    is_blank(byte) && !inside
+    is_blank(text[place]) && !inside
 }
 
 /// The place of the first space or tab outside quotes.
@@ -83,7 +38,7 @@ fn options_end(text: &[u8]) -> Option<usize>
 {
     let mut inside = false;
     for index in 0..text.len() {
-        if ends_here(text[index], inside) {
+        if ends_here(text, index, inside) {
             return Some(index);
         }
         if is_mark(text, index) {
@@ -207,10 +162,13 @@ impl<'a> Model for OpenSshAuthorizedKeys<'a> {
 }
 
 impl<'a> OpenSshAuthorizedKeys<'a> {
-    pub(crate) fn new(alloc: Global, lines: FilledLines<'a>) -> OpenSshAuthorizedKeys<'a>
-        ensures { result ≡ lines }
+    pub(crate) fn new(alloc: Global, text: &'a str) -> OpenSshAuthorizedKeys<'a>
+        ensures { result ≡ filled_lines text.now }
     {
-        OpenSshAuthorizedKeys { alloc, lines }
+        OpenSshAuthorizedKeys {
+            alloc,
+            lines: FilledLines::new(text),
+        }
     }
 }
 

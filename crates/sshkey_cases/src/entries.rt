@@ -7,7 +7,7 @@ use sshkey_public::PublicKey;
 use std::alloc::Global;
 
 /// The name of the key's algorithm and its comment, with ` | ` between.
-fn key_parts(alloc: Global, key: &PublicKey) -> Result<String> {
+pub(crate) fn key_parts(alloc: Global, key: &PublicKey) -> Result<String> {
     let name = key.key_data().algorithm_name();
     let comment = key.comment();
     Ok(format!(in alloc; "{name} | {comment}")?)
@@ -32,7 +32,7 @@ pub(crate) fn host(alloc: Global, line: &str) -> Result<String> {
     host_parts(alloc, &sshkey_known_hosts::Entry::from_line(alloc, line)?)
 }
 
-fn host_parts(alloc: Global, entry: &sshkey_known_hosts::Entry) -> Result<String> {
+pub(crate) fn host_parts(alloc: Global, entry: &sshkey_known_hosts::Entry) -> Result<String> {
     let key = key_parts(alloc, entry.public_key())?;
     let hosts = entry.host_patterns().to_string(alloc)?;
     match entry.marker() {

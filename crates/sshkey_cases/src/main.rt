@@ -17,6 +17,7 @@ mod kinds;
 mod messages;
 mod names;
 mod narrow;
+mod openssh_lines;
 mod pairs;
 mod privates;
 mod questions;

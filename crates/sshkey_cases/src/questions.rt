@@ -4,7 +4,8 @@ use crate::bytes::{NO_LINE, part, parts, text};
 use crate::wire::shown;
 use crate::{
     again, certificates, copies, drawn, entries, faulty, files, issued, keys, kinds, messages,
-    names, narrow, pairs, privates, signatures, slices, validity, wire, without_memory,
+    names, narrow, openssh_lines, pairs, privates, signatures, slices, validity, wire,
+    without_memory,
 };
 use sshkey_base::{Algorithm, AlgorithmName, EcdsaCurve, Error, HashAlg, Mpint, Result};
 use sshkey_cert::Certificate;
@@ -237,6 +238,10 @@ fn answer_of_entries(alloc: Global, question: &str, parts: &[Vec<u8>]) -> Result
         "authorized-key" => entries::authorized(alloc, text(parts, 0)?),
         "strict-keys" => entries::strict(alloc, text(parts, 0)?),
         "strict-key" => entries::strict_key(alloc, text(parts, 0)?),
+        "openssh-keys" => openssh_lines::keys(alloc, text(parts, 0)?),
+        "openssh-key" => openssh_lines::key(alloc, text(parts, 0)?),
+        "openssh-hosts" => openssh_lines::hosts(alloc, text(parts, 0)?),
+        "openssh-host" => openssh_lines::host(alloc, text(parts, 0)?),
         "config-options" => entries::options(alloc, text(parts, 0)?),
         "known-host" => entries::host(alloc, text(parts, 0)?),
         "host-patterns" => entries::hosts(alloc, text(parts, 0)?),

@@ -2,3 +2,4 @@ pub mod Hosts
 pub mod Joins
 pub mod Marked
 pub mod OneLine
+pub mod HostLines

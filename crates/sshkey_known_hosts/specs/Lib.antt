@@ -1,2 +1,3 @@
 pub mod HostEntries
 pub mod HostFaults
+pub mod OpenSshHosts

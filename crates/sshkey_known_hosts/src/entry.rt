@@ -22,9 +22,9 @@ use std::str::FromStr;
 /// An entry: a marker or none, hosts, and a key with its comment.
 #[derive(Debug, Drop, PartialEq, Eq)]
 pub struct Entry {
-    marker: Option<Marker>,
-    host_patterns: HostPatterns,
-    public_key: PublicKey,
+    pub(crate) marker: Option<Marker>,
+    pub(crate) host_patterns: HostPatterns,
+    pub(crate) public_key: PublicKey,
 }
 
 /// The marker of a line, and what follows it.

@@ -3,12 +3,14 @@
 ghost use Rattle.std.specs.Prelude.{◌≡◌, ℕ, List};
 ghost use Rattle.std.specs.Iterator.{item_count};
 ghost use Rattle.sshkey_entries.specs.Entries.{entries};
+ghost use Rattle.sshkey_entries.specs.Fields.{filled_lines};
 ghost use Rattle.sshkey_entries.specs.KnownHosts.{IsKnownHost};
 ghost use Rattle.sshkey_files.specs.Answers.{AnswersEntry, ReadsFile, YieldsAnswers};
 ghost use Rattle.sshkey_known_hosts.specs.HostEntries.{known_host_of};
 ghost use Rattle.sshkey_known_hosts.specs.HostFaults.{HasFault};
 
 use crate::entry::Entry;
+use crate::openssh::OpenSshKnownHosts;
 use sshkey_base::Result;
 use sshkey_files::{EntryTexts, entries_of_file};
 use std::alloc::Global;
@@ -43,6 +45,13 @@ impl<'a> KnownHosts<'a> {
             alloc,
             texts: EntryTexts::new(text),
         }
+    }
+
+    /// The entries of a text as OpenSSH reads it. Takes no memory.
+    pub fn openssh(alloc: Global, text: &'a str) -> OpenSshKnownHosts<'a>
+        ensures { result ≡ filled_lines text.now }
+    {
+        OpenSshKnownHosts::new(alloc, text)
     }
 }
 

@@ -14,7 +14,8 @@ pub mod root {
 /// Who may log in.
 pub mod authorized_keys {
     pub use ssh_key::authorized_keys::{
-        AuthorizedKeys, ConfigOpts, ConfigOptsIter, Entry, StrictAuthorizedKeys,
+        AuthorizedKeys, ConfigOpts, ConfigOptsIter, Entry, OpenSshAuthorizedKeys, OpenSshEntry,
+        OpenSshOptions, StrictAuthorizedKeys,
     };
 }
 
@@ -38,7 +39,7 @@ pub mod encoding {
 
 /// Which keys hosts have.
 pub mod known_hosts {
-    pub use ssh_key::known_hosts::{Entry, HostPatterns, KnownHosts, Marker};
+    pub use ssh_key::known_hosts::{Entry, HostPatterns, KnownHosts, Marker, OpenSshKnownHosts};
 }
 
 /// Private keys.
@@ -137,9 +138,11 @@ pub mod laws {
     pub use ssh_key::laws::normal_ssh_signatures;
     pub use ssh_key::laws::normal_texts;
     pub use ssh_key::laws::one_authorized_key;
+    pub use ssh_key::laws::one_authorized_line;
     pub use ssh_key::laws::one_certificate;
     pub use ssh_key::laws::one_certificate_line;
     pub use ssh_key::laws::one_end;
+    pub use ssh_key::laws::one_host_line;
     pub use ssh_key::laws::one_front;
     pub use ssh_key::laws::one_hosts;
     pub use ssh_key::laws::one_key;

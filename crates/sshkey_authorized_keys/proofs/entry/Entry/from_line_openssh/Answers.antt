@@ -1,12 +1,19 @@
-use Rattle.std.proofs.Common.{sym, ap, ◌∙◌}
+use Rattle.std.proofs.Common.{sym, ap, subst, ◌∙◌}
+use Rattle.sshkey_entries.specs.Fields.{AreKeyFields}
+use Rattle.sshkey_public.specs.PublicKeys.{public_of, comment_of}
+use Rattle.sshkey_public.specs.declared.public_key.PublicKey.{PublicKey}
 use Rattle.sshkey_authorized_keys.proofs.OptionEnds.{comment_read, comment_fault, alone_read, behind_read, behind_fault}
-use Rattle.sshkey_authorized_keys.proofs.openssh.Entry.from_line_openssh.Goals as goal
+use Rattle.sshkey_authorized_keys.proofs.entry.Entry.from_line_openssh.Goals as goal
 
 pub returns-then-is_comment-clause-reads : goal.returns-then-is_comment-clause-reads
 returns-then-is_comment-clause-reads c = λ _. comment_read c.args.line.now c.skip_blanks-text.result.now c.skip_blanks-text.ensures (c.is_comment.ensures.0 c.if-is_comment.true)
 
 pub returns-then-is_comment-clause-fault : goal.returns-then-is_comment-clause-fault
 returns-then-is_comment-clause-fault c = λ _. comment_fault c.args.line.now c.skip_blanks-text.result.now c.skip_blanks-text.ensures (c.is_comment.ensures.0 c.if-is_comment.true)
+
+pub returns-in-Ok-clause-reads : goal.returns-in-Ok-clause-reads
+returns-in-Ok-clause-reads c = alone_read c.args.line.now c.skip_blanks-text.result.now c.skip_blanks-text.ensures (λ here. cc (sym c.if-is_comment.false ∙ c.is_comment.ensures.1 here)) _ c.alone.ensures.options
+    (subst (λ (k : PublicKey). AreKeyFields c.skip_blanks-text.result.now (public_of k) (comment_of k)) (sym c.alone.ensures.key) c.in-Ok.ensures.reads)
 
 pub behind_options-requires : goal.behind_options-requires
 behind_options-requires c = c.in-Err.ensures.reads (λ memory. cc (sym c.if-is_memory.false ∙ c.is_memory.ensures.1 memory))

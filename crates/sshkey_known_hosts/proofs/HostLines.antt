@@ -1,0 +1,116 @@
+-- When a line is an entry of known_hosts as OpenSSH reads it.
+use Rattle.std.proofs.Common.{◌≡◌, ◌≢◌, ℕ, List, [], ◌++◌, length, slice_index, Option, None, Some, Bool, not, refl, sym, ap, subst, ◌∙◌, arith}
+use Rattle.std.proofs.lemmas.Bool.{not-true}
+use Rattle.sshkey_base.specs.Causes.{cause, NoMemory}
+use Rattle.sshkey_base.specs.declared.error.Error.{Error}
+use Rattle.sshkey_base.specs.declared.error.Error.TheVariants.{FormatEncoding}
+use Rattle.sshkey_model.proofs.LineTests.{each}
+use Rattle.sshkey_entries.specs.Entries.{hash, IsNoEntry}
+use Rattle.sshkey_entries.specs.Fields.{without_blanks, IsField, EndsField, AreKeyFields, AreNoKeyFields}
+use Rattle.sshkey_entries.specs.KnownHosts.{Marker, CertAuthority, Revoked, marker_text, at_sign, Hosts, IsHosts, KnownHost}
+use Rattle.sshkey_entries.specs.OpenSshLines.{IsMarkedLine, IsHostLine}
+use Rattle.sshkey_entries.specs.StrictReading.{is_blank}
+use Rattle.sshkey_entries.proofs.Fields.{same_field}
+use Rattle.sshkey_entries.proofs.OneOpenSshLine.{one_marked}
+use Rattle.sshkey_files.specs.Cuts.{CutsField}
+use Rattle.sshkey_fields.specs.KeyFields.{HasKeyFault}
+use Rattle.sshkey_known_hosts.specs.HostFaults.{RefusesHosts}
+use Rattle.sshkey_known_hosts.specs.OpenSshHosts.{HasHostsField, HasTextFault, HasLineFault}
+
+-- ---- markers
+
+abbrev is_no_blank : ℕ → Bool
+is_no_blank c = not (is_blank c)
+
+-- a marker is a field
+marker_field : (m : Marker) → IsField (marker_text m)
+marker_field CertAuthority i l = not-true _ (each is_no_blank (marker_text CertAuthority) refl i l)
+marker_field Revoked i l = not-true _ (each is_no_blank (marker_text Revoked) refl i l)
+
+begins : (m : Marker) (rest : List ℕ) → slice_index (marker_text m ++ rest) 0 ≡ at_sign
+begins CertAuthority rest = refl
+begins Revoked rest = refl
+
+module _ (text word behind rest : List ℕ) (cut : CutsField text word behind) (skips : rest ≡ without_blanks behind) where
+  pub marked : (m : Marker) → word ≡ marker_text m → slice_index rest 0 ≢ at_sign → IsMarkedLine (Some m) text rest
+  marked m is one = (behind, cut.is ∙ ap (λ (w : List ℕ). w ++ behind) is, cut.ends, skips, one)
+
+  same_word : (m : Marker) (other : List ℕ) → text ≡ marker_text m ++ other → EndsField other → (word ≡ marker_text m) × (behind ≡ other)
+  same_word m other is ends = same_field word (marker_text m) behind other cut.one_word (marker_field m) cut.ends ends (sym cut.is ∙ is)
+
+  pub no_marker : slice_index text 0 ≡ at_sign → ((m : Marker) → word ≢ marker_text m) → (m : Option Marker) (r : List ℕ) → IsMarkedLine m text r → ⊥
+  no_marker at none None r is = is.1 at
+  no_marker at none (Some m) r is = none m (same_word m is.0 is.1 is.2).0
+
+  pub two_markers : slice_index text 0 ≡ at_sign → slice_index rest 0 ≡ at_sign → (m : Option Marker) (r : List ℕ) → IsMarkedLine m text r → ⊥
+  two_markers at also None r is = is.1 at
+  two_markers at also (Some m) r is = is.4 (ap (λ (l : List ℕ). slice_index l 0) (is.3 ∙ ap without_blanks (sym (same_word m is.0 is.1 is.2).1) ∙ sym skips) ∙ also)
+
+-- ---- a text
+
+module _ (text : List ℕ) (m : Option Marker) (unmarked hosts rest fields : List ℕ) (is_marked : IsMarkedLine m text unmarked) (cut : CutsField unmarked hosts rest) (skips : fields ≡ without_blanks rest) where
+  same_hosts : (x y : List ℕ) → HasHostsField text x y → (hosts ≡ x) × (rest ≡ y)
+  same_hosts x y f = same_field hosts x rest y cut.one_word f.one_word cut.ends f.ends (sym cut.is ∙ (one_marked text m f.marker unmarked (x ++ y) is_marked f.marked).1)
+
+  pub hosts_fault : (e : Error) → RefusesHosts hosts e → (cause e ≢ NoMemory → IsNoEntry IsHosts hosts) → cause e ≢ NoMemory → HasTextFault text e
+  hosts_fault e refused none other = record {
+    no_marker = λ nothing. absurd (nothing m unmarked is_marked);
+    no_hosts = λ x y f bad. subst (λ (t : List ℕ). RefusesHosts t e) (same_hosts x y f).0 refused;
+    no_key = λ x y h f are. absurd (none other h (subst (λ (t : List ℕ). IsHosts t h) (sym (same_hosts x y f).0) are));
+  }
+
+  pub key_fault : (e : Error) (h : Hosts) → IsHosts hosts h → HasKeyFault fields e → HasTextFault text e
+  key_fault e h are fault = record {
+    no_marker = λ nothing. absurd (nothing m unmarked is_marked);
+    no_hosts = λ x y f bad. absurd (bad h (subst (λ (t : List ℕ). IsHosts t h) (same_hosts x y f).0 are));
+    no_key = λ x y g f also. subst (λ (t : List ℕ). HasKeyFault t e) (skips ∙ ap without_blanks (same_hosts x y f).1) fault;
+  }
+
+pub marker_fault : (text : List ℕ) → ((m : Option Marker) (rest : List ℕ) → IsMarkedLine m text rest → ⊥) → HasTextFault text FormatEncoding
+marker_fault text none = record {
+  no_marker = λ _. refl;
+  no_hosts = λ x y f bad. absurd (none f.marker (x ++ y) f.marked);
+  no_key = λ x y h f are. absurd (none f.marker (x ++ y) f.marked);
+}
+
+-- ---- a line
+
+module _ (line text : List ℕ) (is : text ≡ without_blanks line) where
+  pub comment_read : slice_index text 0 ≡ hash → IsNoEntry IsHostLine line
+  comment_read here h k = k.no_comment (ap (λ (t : List ℕ). slice_index t 0) (sym is) ∙ here)
+
+  pub comment_fault : slice_index text 0 ≡ hash → HasLineFault line FormatEncoding
+  comment_fault here = record { comment = λ _. refl; text = λ other. absurd (other (ap (λ (t : List ℕ). slice_index t 0) (sym is) ∙ here)) }
+
+  pub no_marker_read : ((m : Option Marker) (rest : List ℕ) → IsMarkedLine m text rest → ⊥) → IsNoEntry IsHostLine line
+  no_marker_read none h k = none h.marker (k.hosts_part ++ k.behind_hosts) (subst (λ (t : List ℕ). IsMarkedLine h.marker t (k.hosts_part ++ k.behind_hosts)) (sym is) k.marked)
+
+  module _ (no_comment : slice_index text 0 ≢ hash) where
+    not_comment : slice_index (without_blanks line) 0 ≢ hash
+    not_comment here = no_comment (ap (λ (t : List ℕ). slice_index t 0) is ∙ here)
+
+    pub text_fault : (e : Error) → HasTextFault text e → HasLineFault line e
+    text_fault e fault = record { comment = λ here. absurd (not_comment here); text = λ _. subst (λ (t : List ℕ). HasTextFault t e) is fault }
+
+    module _ (m : Option Marker) (unmarked hosts rest fields : List ℕ) (is_marked : IsMarkedLine m text unmarked) (cut : CutsField unmarked hosts rest) (skips : fields ≡ without_blanks rest) where
+      parts : (h : KnownHost) (k : IsHostLine line h) → (hosts ≡ k.hosts_part) × (rest ≡ k.behind_hosts)
+      parts h k = same_hosts text m unmarked hosts rest fields is_marked cut skips k.hosts_part k.behind_hosts
+          (record { marker = h.marker; marked = subst (λ (t : List ℕ). IsMarkedLine h.marker t (k.hosts_part ++ k.behind_hosts)) (sym is) k.marked; one_word = k.one_word; ends = k.hosts_end })
+
+      pub bad_hosts : (e : Error) → (cause e ≢ NoMemory → IsNoEntry IsHosts hosts) → cause e ≢ NoMemory → IsNoEntry IsHostLine line
+      bad_hosts e none other h k = none other h.hosts (subst (λ (t : List ℕ). IsHosts t h.hosts) (sym (parts h k).0) k.hosts)
+
+      pub bad_host_key : (e : Error) → (cause e ≢ NoMemory → AreNoKeyFields fields) → cause e ≢ NoMemory → IsNoEntry IsHostLine line
+      bad_host_key e none other h k = none other h.key h.comment (subst (λ (t : List ℕ). AreKeyFields t h.key h.comment) (ap without_blanks (sym (parts h k).1) ∙ sym skips) k.fields)
+
+      pub line_read : (h : KnownHost) → m ≡ h.marker → IsHosts hosts h.hosts → AreKeyFields fields h.key h.comment → IsHostLine line h
+      line_read h same are key = record {
+        hosts_part = hosts;
+        behind_hosts = rest;
+        no_comment = not_comment;
+        marked = subst (λ (n : Option Marker). IsMarkedLine n (without_blanks line) (hosts ++ rest)) same (subst (IsMarkedLine m (without_blanks line)) cut.is (subst (λ (t : List ℕ). IsMarkedLine m t unmarked) is is_marked));
+        one_word = cut.one_word;
+        hosts_end = cut.ends;
+        hosts = are;
+        fields = subst (λ (t : List ℕ). AreKeyFields t h.key h.comment) skips key;
+      }

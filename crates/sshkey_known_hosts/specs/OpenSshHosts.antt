@@ -1,0 +1,37 @@
+-- How a line of known_hosts is read as OpenSSH reads it, and why one is no entry.
+use Rattle.std.specs.Prelude.{◌≡◌, ◌≢◌, ℕ, List, ◌++◌, slice_index, Option, option_map, Result, Ok, Err}
+use Rattle.sshkey_base.specs.declared.error.Error.{Error}
+use Rattle.sshkey_base.specs.declared.error.Error.TheVariants.{FormatEncoding}
+use Rattle.sshkey_entries.specs.Entries.{hash, IsNoEntry}
+use Rattle.sshkey_entries.specs.Fields.{without_blanks, IsField, EndsField}
+use Rattle.sshkey_entries.specs.KnownHosts as known
+use Rattle.sshkey_entries.specs.KnownHosts.{Hosts, IsHosts}
+use Rattle.sshkey_entries.specs.OpenSshLines.{IsMarkedLine}
+use Rattle.sshkey_fields.specs.KeyFields.{HasKeyFault}
+use Rattle.sshkey_known_hosts.specs.HostEntries.{marker_of}
+use Rattle.sshkey_known_hosts.specs.HostFaults.{RefusesHosts}
+use Rattle.sshkey_known_hosts.specs.declared.marker.Marker.{Marker}
+use denote.Ref.{Bor}
+
+-- The marker and what follows it; or the text has a marker of no kind, or two.
+abbrev pub SplitsMarkerField : List ℕ → Result (Option Marker × Bor (List ℕ)) Error → Type 0
+SplitsMarkerField text (Ok x) = IsMarkedLine (option_map marker_of x.0) text x.1.now
+SplitsMarkerField text (Err e) = (e ≡ FormatEncoding) × ((m : Option known.Marker) (rest : List ℕ) → IsMarkedLine m text rest → ⊥)
+
+-- Behind a marker or none the text is a field and what follows it.
+pub record HasHostsField (text hosts rest : List ℕ) : Type 0 where
+  pub marker : Option known.Marker
+  pub marked : IsMarkedLine marker text (hosts ++ rest)
+  pub one_word : IsField hosts
+  pub ends : EndsField rest
+
+-- `FormatEncoding` for another marker, then the fault of the hosts, and then that of the key's fields.
+pub record HasTextFault (text : List ℕ) (e : Error) : Type 0 where
+  pub no_marker : ((m : Option known.Marker) (rest : List ℕ) → IsMarkedLine m text rest → ⊥) → e ≡ FormatEncoding
+  pub no_hosts : (hosts rest : List ℕ) → HasHostsField text hosts rest → IsNoEntry IsHosts hosts → RefusesHosts hosts e
+  pub no_key : (hosts rest : List ℕ) (h : Hosts) → HasHostsField text hosts rest → IsHosts hosts h → HasKeyFault (without_blanks rest) e
+
+-- `FormatEncoding` of a comment.
+pub record HasLineFault (line : List ℕ) (e : Error) : Type 0 where
+  pub comment : slice_index (without_blanks line) 0 ≡ hash → e ≡ FormatEncoding
+  pub text : slice_index (without_blanks line) 0 ≢ hash → HasTextFault (without_blanks line) e

@@ -1,0 +1,127 @@
+//! Entries as OpenSSH reads them.
+
+ghost use Rattle.std.specs.Prelude.{◌≡◌, ◌↔◌, ℕ, List, IsTrue, slice_index};
+ghost use Rattle.std.specs.Iterator.{item_count};
+ghost use Rattle.sshkey_entries.specs.Entries.{hash};
+ghost use Rattle.sshkey_entries.specs.Fields.{filled_lines};
+ghost use Rattle.sshkey_entries.specs.KnownHosts.{at_sign};
+ghost use Rattle.sshkey_entries.specs.OpenSshLines.{IsHostLine};
+ghost use Rattle.sshkey_files.specs.Answers.{AnswersEntry, ReadsEntry, RefusesFor, YieldsAnswers};
+ghost use Rattle.sshkey_known_hosts.specs.HostEntries.{known_host_of};
+ghost use Rattle.sshkey_known_hosts.specs.OpenSshHosts.{HasLineFault, SplitsMarkerField};
+
+use crate::entry::Entry;
+use crate::host_patterns::HostPatterns;
+use crate::marker::Marker;
+use sshkey_base::{Error, Result};
+use sshkey_fields::read_key_fields;
+use sshkey_files::{FilledLines, skip_blanks, split_field};
+use std::alloc::Global;
+use std::marker::Model;
+use std::str::FromStr;
+
+fn is_comment(text: &str) -> bool
+    ensures { IsTrue result ↔ (slice_index text.now 0 ≡ hash) }
+{
+    text.starts_with('#')
+}
+
+fn is_marked(text: &str) -> bool
+    ensures { IsTrue result ↔ (slice_index text.now 0 ≡ at_sign) }
+{
+    text.starts_with('@')
+}
+
+/// The marker of a text, and what follows it: no second marker.
+fn split_marker_field(text: &str) -> Result<(Option<Marker>, &str)>
+    ensures { SplitsMarkerField text.now result }
+{
+    if !is_marked(text) {
+        return Ok((None, text));
+    }
+    let (word, behind) = split_field(text);
+    let marker = Marker::from_str(word)?;
+    let rest = skip_blanks(behind);
+    if is_marked(rest) {
+        return Err(Error::FormatEncoding);
+    }
+    Ok((Some(marker), rest))
+}
+
+impl Entry {
+    /// The entry of a line as OpenSSH reads it (sshd(8), "SSH_KNOWN_HOSTS FILE FORMAT").
+    ///
+    /// Spaces and tabs in front are passed over, and any number of them stands between the fields:
+    /// a marker, where an `@` stands at the front, the hosts, the name of the key's algorithm and its
+    /// padded Base64. All the rest is the comment, a `#` too.
+    ///
+    /// Out of memory aside, it is refused exactly where the line is no such entry: `FormatEncoding`
+    /// where a `#` begins it, for another marker and for a second one; then the refusals of
+    /// `HostPatterns::from_text`, and then `Length` where no Base64 stands behind the hosts, or else
+    /// the refusals of `sshkey_fields::read_key_fields`.
+    ///
+    /// A line that is refused says nothing of its hosts: treat an `Err` as no verdict on any host,
+    /// and do not pass over it.
+    pub fn from_line_openssh(alloc: Global, line: &str) -> Result<Entry>
+        ensures reads { ReadsEntry known_host_of IsHostLine line.now result }
+        ensures fault { RefusesFor HasLineFault line.now result }
+    {
+        let text = skip_blanks(line);
+        if is_comment(text) {
+            return Err(Error::FormatEncoding);
+        }
+        let (marker, unmarked) = split_marker_field(text)?;
+        let (hosts, rest) = split_field(unmarked);
+        let host_patterns = HostPatterns::from_text(alloc, hosts)?;
+        let public_key = read_key_fields(alloc, skip_blanks(rest))?;
+        Ok(Entry {
+            marker,
+            host_patterns,
+            public_key,
+        })
+    }
+}
+
+/// The entries of a text as OpenSSH reads it: one answer for each, in order, which
+/// `Entry::from_line_openssh` gives.
+///
+/// An entry is a line in which something stands besides spaces and tabs, and which no `#` begins
+/// behind these. A line that is refused ends nothing: the next call answers the entry behind it. The
+/// text is borrowed, and what an entry keeps is copied.
+///
+/// Contracts see the list of the lines that are left, without the spaces and tabs at their front.
+#[derive(Drop)]
+pub struct OpenSshKnownHosts<'a> {
+    alloc: Global,
+    lines: FilledLines<'a>,
+}
+
+impl<'a> Model for OpenSshKnownHosts<'a> {
+    ghost Value = { List (List ℕ) };
+
+    ghost view = { λ s. s.lines };
+}
+
+impl<'a> OpenSshKnownHosts<'a> {
+    pub(crate) fn new(alloc: Global, text: &'a str) -> OpenSshKnownHosts<'a>
+        ensures { result ≡ filled_lines text.now }
+    {
+        OpenSshKnownHosts {
+            alloc,
+            lines: FilledLines::new(text),
+        }
+    }
+}
+
+impl<'a> Iterator for OpenSshKnownHosts<'a> {
+    type Item = Result<Entry>;
+
+    ghost next_gives = { YieldsAnswers (AnswersEntry known_host_of IsHostLine HasLineFault) };
+
+    ghost remaining = { item_count (λ left. left) };
+
+    fn next(&mut self) -> Option<Result<Entry>> {
+        let line = self.lines.next()?;
+        Some(Entry::from_line_openssh(self.alloc, line))
+    }
+}
