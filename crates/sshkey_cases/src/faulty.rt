@@ -63,7 +63,9 @@ where
     Error: From<T::Error>,
 {
     for place in places.chunks_exact(2) {
-        let at = place.iter().fold(0, |number, byte| number * 256 + usize::from(*byte));
+        let at = place
+            .iter()
+            .fold(0, |number, byte| number * 256 + usize::from(*byte));
         let mut front = Vec::from_slice(alloc, bytes.get(..at).unwrap_or(bytes))?;
         front.extend_from_slice(&[0xff; 4])?;
         let missing = u32::try_from(bytes.len().saturating_sub(front.len())).unwrap_or(u32::MAX);

@@ -8,7 +8,6 @@ ghost use Rattle.sshkey_model.specs.Lines.{key_name};
 ghost use Rattle.sshkey_public.specs.Lines.{ReadsWord};
 ghost use Rattle.sshkey_fields.specs.KeyFields.{HasKeyFault, ReadsKeyFields};
 
-
 use sshkey_base::{Error, Result, decode_whole, encoding};
 use sshkey_base64::Base64Reader;
 use sshkey_files::{skip_blanks, split_field};

@@ -34,8 +34,9 @@ impl Decode for SignRequest {
     ghost format = { request_format };
 
     fn decode<R: Reader>(alloc: Global, reader: &mut R) -> Result<SignRequest> {
-        let Then(key, Then(message, flags)) =
-            Then::<Bytes, Then<Bytes, u32>>::decode(alloc, reader)?;
+        let Then(key, Then(message, flags)) = Then::<Bytes, Then<Bytes, u32>>::decode(
+            alloc, reader,
+        )?;
         Ok(SignRequest {
             key,
             message,

@@ -142,8 +142,8 @@ pub mod laws {
     pub use ssh_key::laws::one_certificate;
     pub use ssh_key::laws::one_certificate_line;
     pub use ssh_key::laws::one_end;
-    pub use ssh_key::laws::one_host_line;
     pub use ssh_key::laws::one_front;
+    pub use ssh_key::laws::one_host_line;
     pub use ssh_key::laws::one_hosts;
     pub use ssh_key::laws::one_key;
     pub use ssh_key::laws::one_key_line;
