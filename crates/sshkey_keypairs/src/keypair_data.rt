@@ -23,6 +23,7 @@ use sshkey_base::{
     Algorithm, Decode, EcdsaCurve, Encode, Error, NormalForm, Reader, Result, Writer, both_len,
     encode_both, encoding,
 };
+use sshkey_format::{Then, Wide};
 use sshkey_keys::KeyData;
 use sshkey_kinds::{EcdsaPublicKey, OpaquePublicKey, OpaquePublicKeyBytes};
 use sshkey_pairs::{DsaKeypair, EcdsaKeypair, Ed25519Keypair, RsaKeypair};
@@ -178,7 +179,7 @@ impl KeypairData {
 ///
 /// An RSA pair may stand under a name with a hash, which is not kept. `Label` for a name of no
 /// algorithm, and the faults of the kind.
-#[tactic(auto, using(sshkey_base::proofs::Steps::steps), unfolding(crate::specs::KeypairReaders::keypair_data_at))]
+#[tactic(auto, using(sshkey_base::proofs::Steps::steps, sshkey_pairs::proofs::Next::next), unfolding(crate::specs::KeypairReaders::keypair_data_at))]
 impl Decode for KeypairData {
     ghost use Rattle.sshkey_model.specs.KeyPairs.{KeyPair};
     ghost use Rattle.sshkey_keypairs.specs.KeypairReaders.{SpellsKeypair, keypair_data_at, keypair_grammar};
@@ -199,7 +200,7 @@ impl Decode for KeypairData {
     ghost grammar = { keypair_grammar };
 
     fn decode<R: Reader>(alloc: Global, reader: &mut R) -> Result<KeypairData> {
-        let algorithm = Algorithm::decode(alloc, reader)?;
+        let Wide(algorithm) = Wide::<Algorithm>::decode(alloc, reader)?;
         KeypairData::decode_as(alloc, reader, algorithm)
     }
 }
@@ -299,7 +300,7 @@ fn sk_ed25519_from<R: Reader>(alloc: Global, reader: &mut R) -> Result<KeypairDa
 }
 
 /// A pair under a private-use name.
-#[tactic(auto, using(sshkey_base::proofs::Steps::steps), unfolding(crate::specs::OpaquePairs::opaque_pair_at))]
+#[tactic(auto, using(sshkey_format::proofs::Mapped::mapped, crate::proofs::Parts::some_opaque_parts_read))]
 fn opaque_from<R: Reader>(
     alloc: Global,
     reader: &mut R,
@@ -312,8 +313,8 @@ fn opaque_from<R: Reader>(
     ensures asks { Asks cause (NeedsPair (Other (algorithm_name (algorithm_of algorithm))))
         (R.source reader.old) result }
 {
-    let key = OpaquePublicKeyBytes::decode(alloc, reader)?;
-    let private = OpaquePrivateKeyBytes::decode(alloc, reader)?;
+    type Parts = Then<Wide<OpaquePublicKeyBytes>, Wide<OpaquePrivateKeyBytes>>;
+    let Then(Wide(key), Wide(private)) = Parts::decode(alloc, reader)?;
     Ok(KeypairData::Other(OpaqueKeypair {
         public: OpaquePublicKey { algorithm, key },
         private,

@@ -14,6 +14,7 @@ use sshkey_base::{
     Algorithm, Bytes, Decode, Encode, Error, Reader, Result, Writer, both_len, encode_both,
     encoding,
 };
+use sshkey_format::Then;
 use sshkey_kinds::{OpaquePublicKey, OpaquePublicKeyBytes};
 use std::alloc::Global;
 use std::convert::AsSlice;
@@ -134,7 +135,7 @@ impl OpaqueKeypairBytes {
 
 /// A string of the public bytes, and one of the private bytes. `Length` where one passes what is
 /// left.
-#[tactic(auto, using(sshkey_base::proofs::Steps::steps), unfolding(crate::specs::OpaquePairs::opaque_pair_at))]
+#[tactic(auto, using(sshkey_format::proofs::Mapped::mapped, crate::proofs::Parts::opaque_pair_parts_read))]
 impl Decode for OpaqueKeypairBytes {
     ghost use Rattle.std.specs.Prelude.{[]};
     ghost use Rattle.sshkey_model.specs.Grammar.{value_at};
@@ -158,8 +159,8 @@ impl Decode for OpaqueKeypairBytes {
     ghost grammar = { pair_grammar (Other []) };
 
     fn decode<R: Reader>(alloc: Global, reader: &mut R) -> encoding::Result<OpaqueKeypairBytes> {
-        let public = OpaquePublicKeyBytes::decode(alloc, reader)?;
-        let private = OpaquePrivateKeyBytes::decode(alloc, reader)?;
+        type Parts = Then<OpaquePublicKeyBytes, OpaquePrivateKeyBytes>;
+        let Then(public, private) = Parts::decode(alloc, reader)?;
         Ok(OpaqueKeypairBytes { public, private })
     }
 }

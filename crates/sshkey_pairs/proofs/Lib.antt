@@ -1,3 +1,4 @@
 pub mod Halves
 pub mod SignedScalars
 pub mod Parts
+pub mod Next

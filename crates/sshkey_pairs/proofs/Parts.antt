@@ -1,10 +1,11 @@
 -- The readers of pairs made of several parts, as readers of the parts one behind the other.
 use Rattle.std.proofs.Common.{◌≡◌, ℕ, List, Result, Ok, Err}
-use Rattle.sshkey_model.specs.Reading.{Fault, Length, ◌>>=◌, checked_at}
+use Rattle.sshkey_model.specs.Reading.{Fault, Length, ◌>>=◌, checked_at, box_at, whole, bytes_at}
 use Rattle.sshkey_model.specs.Grammar.{value_at}
 use Rattle.sshkey_model.specs.Keys.{Key, Dsa, dsa_at}
 use Rattle.sshkey_model.specs.Mpints.{mpint_at}
 use Rattle.sshkey_model.specs.KeyPairs.{KeyPair, DsaPair, RsaPair, RsaPrivate, dsa_pair_at, rsa_pair_at, rsa_private_at}
+use Rattle.sshkey_pairs.specs.PairReaders.{ed25519_pair_at, ed25519_at, ed25519_pair_of_halves}
 use Rattle.sshkey_model.proofs.CombinedReaders.{bind_assoc}
 use Rattle.sshkey_format.specs.Behind.{both_at, behind_at}
 use Rattle.sshkey_format.proofs.Mapped.{IsMapped}
@@ -33,3 +34,7 @@ rsa_private_parts_read = record { same = λ b. simp bind_assoc }
 pub rsa_pair_parts_read : IsMapped (value_at rsa_pair_at) rsa_pair_of_parts (both_at mpint_at (both_at mpint_at rsa_private_at))
 unfolding rsa_pair_at behind_at
 rsa_pair_parts_read = record { same = λ b. simp bind_assoc }
+
+pub ed25519_pair_parts_read : IsMapped (value_at ed25519_pair_at) ed25519_pair_of_halves (both_at (box_at (whole (bytes_at 32))) (box_at (whole (bytes_at 64))))
+unfolding ed25519_pair_at ed25519_at behind_at
+ed25519_pair_parts_read = record { same = λ b. simp bind_assoc }

@@ -1,3 +1,4 @@
+pub mod Next
 pub mod PairReaders
 pub mod PairNeeds
 pub mod PrivateHalves

@@ -7,8 +7,12 @@ ghost use Rattle.sshkey_model.specs.Grammar.{value_at};
 ghost use Rattle.sshkey_model.specs.KeyPairs.{KeyPair, is_high, zero_if, scalar, scalar_at, pair, Plain};
 ghost use Rattle.sshkey_model.specs.Parts.{bytes};
 ghost use Rattle.sshkey_base.specs.Names.{curve_of};
-ghost use Rattle.sshkey_base.specs.Needs.{NoNeed};
-ghost use Rattle.sshkey_pairs.specs.PairReaders.{SpellsScalar, scalar_grammar, SpellsEcdsaPair, ecdsa_steps_at, ecdsa_grammar};
+ghost use Rattle.sshkey_base.specs.Causes.{cause};
+ghost use Rattle.sshkey_base.specs.Needs.{Asks, NoNeed};
+ghost use Rattle.sshkey_base.specs.Reading.{Gives};
+ghost use Rattle.sshkey_base.specs.Source.{Later};
+ghost use Rattle.sshkey_kinds.specs.EcdsaPublicKey.{ecdsa_key_of};
+ghost use Rattle.sshkey_pairs.specs.PairReaders.{SpellsScalar, scalar_grammar, SpellsEcdsaPair, ecdsa_behind, ecdsa_steps_at, ecdsa_grammar};
 ghost use Rattle.sshkey_pairs.specs.Pairs.{ecdsa_pair_of};
 ghost use Rattle.sshkey_pairs.specs.PrivateHalves.{ecdsa_private_of};
 
@@ -201,7 +205,6 @@ pub enum EcdsaKeypair {
 impl EcdsaKeypair {
     ghost use Rattle.sshkey_base.specs.Names.{algorithm_of};
     ghost use Rattle.sshkey_model.specs.KeyPairs.{pair_algorithm, public_half, private_bytes};
-    ghost use Rattle.sshkey_kinds.specs.EcdsaPublicKey.{ecdsa_key_of};
     ghost use Rattle.sshkey_pairs.specs.Pairs.{ecdsa_curve_of, ecdsa_point_of};
 
     /// The curve of the pair.
@@ -259,7 +262,6 @@ impl EcdsaKeypair {
 /// The public key of the pair.
 impl From<EcdsaKeypair> for EcdsaPublicKey {
     ghost use Rattle.sshkey_model.specs.KeyPairs.{public_half};
-    ghost use Rattle.sshkey_kinds.specs.EcdsaPublicKey.{ecdsa_key_of};
 
     ghost from_gives = { λ k key. ecdsa_key_of key ≡ public_half (ecdsa_pair_of k) };
 
@@ -272,7 +274,7 @@ impl From<EcdsaKeypair> for EcdsaPublicKey {
 ///
 /// The refusals of `EcdsaPublicKey`, and then those of `EcdsaPrivateKey`, as wide as the field of
 /// that key's curve.
-#[tactic(auto, using(sshkey_base::proofs::Steps::steps), unfolding(crate::specs::PairReaders::ecdsa_steps_at))]
+#[tactic(auto, using(sshkey_base::proofs::Steps::steps, crate::proofs::Next::next_gives), unfolding(crate::specs::PairReaders::ecdsa_steps_at))]
 impl Decode for EcdsaKeypair {
     type Error = Error;
 
@@ -289,19 +291,36 @@ impl Decode for EcdsaKeypair {
     ghost grammar = { ecdsa_grammar };
 
     fn decode<R: Reader>(alloc: Global, reader: &mut R) -> Result<EcdsaKeypair> {
-        match EcdsaPublicKey::decode(alloc, reader)? {
-            EcdsaPublicKey::NistP256(public) => {
-                let private = EcdsaPrivateKey::<32>::decode(alloc, reader)?;
-                Ok(EcdsaKeypair::NistP256 { public, private })
-            }
-            EcdsaPublicKey::NistP384(public) => {
-                let private = EcdsaPrivateKey::<48>::decode(alloc, reader)?;
-                Ok(EcdsaKeypair::NistP384 { public, private })
-            }
-            EcdsaPublicKey::NistP521(public) => {
-                let private = EcdsaPrivateKey::<66>::decode(alloc, reader)?;
-                Ok(EcdsaKeypair::NistP521 { public, private })
-            }
+        let public = EcdsaPublicKey::decode(alloc, reader)?;
+        pair_with(alloc, reader, public)
+    }
+}
+
+/// The pair of that public key and of the scalar that stands at the front.
+#[tactic(auto, using(sshkey_base::proofs::Steps::steps))]
+#[inline(always)]
+fn pair_with<R: Reader>(
+    alloc: Global,
+    reader: &mut R,
+    public: EcdsaPublicKey,
+) -> Result<EcdsaKeypair>
+    ensures gives { Gives ecdsa_pair_of cause (ecdsa_behind (ecdsa_key_of public))
+        (R.source reader.old) result (R.source reader.new) }
+    ensures later { Later (R.source reader.old) (R.source reader.new) }
+    ensures asks { Asks cause NoNeed (R.source reader.old) result }
+{
+    match public {
+        EcdsaPublicKey::NistP256(public) => {
+            let private = EcdsaPrivateKey::<32>::decode(alloc, reader)?;
+            Ok(EcdsaKeypair::NistP256 { public, private })
+        }
+        EcdsaPublicKey::NistP384(public) => {
+            let private = EcdsaPrivateKey::<48>::decode(alloc, reader)?;
+            Ok(EcdsaKeypair::NistP384 { public, private })
+        }
+        EcdsaPublicKey::NistP521(public) => {
+            let private = EcdsaPrivateKey::<66>::decode(alloc, reader)?;
+            Ok(EcdsaKeypair::NistP521 { public, private })
         }
     }
 }

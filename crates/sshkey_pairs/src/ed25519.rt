@@ -10,7 +10,7 @@ ghost use Rattle.sshkey_base.specs.Needs.{NoNeed};
 ghost use Rattle.sshkey_model.specs.Grammar.{value_at};
 ghost use Rattle.sshkey_model.specs.KeyPairs.{KeyPair, Ed25519Pair, pair, Plain};
 ghost use Rattle.sshkey_model.specs.Names.{Ed25519};
-ghost use Rattle.sshkey_pairs.specs.PairReaders.{SpellsPair, ed25519_pair_at, pair_grammar};
+ghost use Rattle.sshkey_pairs.specs.PairReaders.{SpellsPair, ed25519_pair_at, ed25519_pair_of_halves, pair_grammar};
 ghost use Rattle.sshkey_kinds.specs.Ed25519PublicKey.{ed25519_from};
 ghost use Rattle.sshkey_pairs.specs.Pairs.{ed25519_pair_of, ed25519_pair_from};
 ghost use Rattle.sshkey_pairs.specs.PrivateHalves.{ed25519_private_of};
@@ -20,6 +20,7 @@ use sshkey_base::{
     Decode, Encode, Error, Reader, Result, Writer, both_len, encode_both, encoding,
     write_lower_hex, write_upper_hex,
 };
+use sshkey_format::{Then, Wide};
 use sshkey_kinds::Ed25519PublicKey;
 use std::alloc::Global;
 use std::convert::{AsSlice, TryFrom};
@@ -186,7 +187,7 @@ impl From<Ed25519Keypair> for Ed25519PublicKey {
 ///
 /// `Length` for a string that is too short, `TrailingData` for one that is too long, and `Crypto`
 /// where the public bytes differ. Takes no memory.
-#[tactic(auto, using(sshkey_base::proofs::Steps::steps), unfolding(crate::specs::PairReaders::ed25519_pair_at, crate::specs::PairReaders::ed25519_at))]
+#[tactic(auto, using(sshkey_format::proofs::Mapped::mapped, crate::proofs::Parts::ed25519_pair_parts_read))]
 impl Decode for Ed25519Keypair {
     type Error = Error;
 
@@ -203,13 +204,22 @@ impl Decode for Ed25519Keypair {
     ghost grammar = { pair_grammar Ed25519 };
 
     fn decode<R: Reader>(alloc: Global, reader: &mut R) -> Result<Ed25519Keypair> {
-        let public = <[u8; 32]>::decode(alloc, reader)?;
-        let bytes = <[u8; 64]>::decode(alloc, reader)?;
-        if bytes[32..] != public[..] {
-            return Err(Error::Crypto);
-        }
-        Ok(Ed25519Keypair::from_bytes(&bytes))
+        type Halves = Then<Wide<[u8; 32]>, Wide<[u8; 64]>>;
+        let Then(Wide(public), Wide(bytes)) = Halves::decode(alloc, reader)?;
+        from_halves(&public, &bytes)
     }
+}
+
+/// The pair of these bytes. `Crypto` where the last 32 of them are not the public ones.
+#[inline(always)]
+fn from_halves(public: &[u8; 32], bytes: &[u8; 64]) -> Result<Ed25519Keypair>
+    ensures { AnswersAlways ed25519_pair_of cause
+        (ed25519_pair_of_halves (public.now, bytes.now)) result }
+{
+    if bytes[32..] != public[..] {
+        return Err(Error::Crypto);
+    }
+    Ok(Ed25519Keypair::from_bytes(bytes))
 }
 
 /// A string of the 32 public bytes, and one of the private bytes and again the public ones.
