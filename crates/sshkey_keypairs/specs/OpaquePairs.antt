@@ -9,8 +9,6 @@ use Rattle.sshkey_base.specs.Needs.{NeedsString, NeedsBoth}
 use Rattle.sshkey_keypairs.specs.declared.opaque.OpaqueKeypair.{OpaqueKeypair}
 use Rattle.sshkey_keypairs.specs.declared.opaque.OpaqueKeypairBytes.{OpaqueKeypairBytes}
 use Rattle.sshkey_keypairs.specs.declared.opaque.OpaquePrivateKeyBytes.{OpaquePrivateKeyBytes}
--- under a name that an attribute of this crate can unfold
-unfoldable pub use Rattle.sshkey_model.specs.KeyPairs.{opaque_pair_at}
 
 abbrev pub opaque_private_of : OpaquePrivateKeyBytes → List ℕ
 opaque_private_of k = k.bytes

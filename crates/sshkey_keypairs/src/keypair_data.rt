@@ -179,7 +179,7 @@ impl KeypairData {
 ///
 /// An RSA pair may stand under a name with a hash, which is not kept. `Label` for a name of no
 /// algorithm, and the faults of the kind.
-#[tactic(auto, using(sshkey_base::proofs::Steps::steps, sshkey_pairs::proofs::Next::next), unfolding(crate::specs::KeypairReaders::keypair_data_at))]
+#[tactic(auto, using(sshkey_base::proofs::Steps::steps, sshkey_pairs::proofs::Next::next_gives), unfolding(crate::specs::KeypairReaders::keypair_data_at))]
 impl Decode for KeypairData {
     ghost use Rattle.sshkey_model.specs.KeyPairs.{KeyPair};
     ghost use Rattle.sshkey_keypairs.specs.KeypairReaders.{SpellsKeypair, keypair_data_at, keypair_grammar};

@@ -139,9 +139,9 @@ impl OpaqueKeypairBytes {
 impl Decode for OpaqueKeypairBytes {
     ghost use Rattle.std.specs.Prelude.{[]};
     ghost use Rattle.sshkey_model.specs.Grammar.{value_at};
-    ghost use Rattle.sshkey_model.specs.KeyPairs.{KeyPair};
+    ghost use Rattle.sshkey_model.specs.KeyPairs.{KeyPair, opaque_pair_at};
     ghost use Rattle.sshkey_model.specs.Names.{Other};
-    ghost use Rattle.sshkey_keypairs.specs.OpaquePairs.{NeedsOpaquePair, opaque_pair_at};
+    ghost use Rattle.sshkey_keypairs.specs.OpaquePairs.{NeedsOpaquePair};
     ghost use Rattle.sshkey_pairs.specs.PairReaders.{SpellsPair, pair_grammar};
 
     type Error = encoding::Error;
