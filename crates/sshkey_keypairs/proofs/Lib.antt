@@ -1,3 +1,2 @@
 mod HeldOrders
 pub mod SameReaders
-pub mod Parts

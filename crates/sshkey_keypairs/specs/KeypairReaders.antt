@@ -9,11 +9,11 @@ use Rattle.sshkey_model.proofs.CombinedReaders.{bind_ok, ok_is}
 use Rattle.sshkey_model.proofs.Grammars.{grammar_with, same_grammar}
 use Rattle.sshkey_model.proofs.KeyPairReaders.{keypair_reads}
 use Rattle.sshkey_base.specs.Labels.{label_at}
-use Rattle.sshkey_pairs.specs.PairReaders.{ecdsa_steps_at, ecdsa_steps}
+use Rattle.sshkey_format.specs.Terms.{IsMapped}
 
 -- the pair that was read, as one that is not encrypted
 abbrev pub some_at : {A : Type 0} → Front A → Front (Option A)
-some_at read b = read b >>= λ x. Ok (Some x.0, x.1)
+some_at read = checked_at (λ x. Ok (Some x)) read
 
 -- the bytes spell the pair, whose name stands before it; an encrypted one has no spelling
 abbrev pub SpellsKeypair : Option KeyPair → List ℕ → Type 0
@@ -30,7 +30,7 @@ keypair_data_at b = do
 
 -- on the curve that the algorithm names
 abbrev pub ecdsa_under : Curve → Front KeyPair
-ecdsa_under wanted = checked_at (wanted_curve public_half wanted) ecdsa_steps_at
+ecdsa_under wanted = checked_at (wanted_curve public_half wanted) (value_at any_ecdsa_pair_at)
 
 abbrev pub steps_at : Algorithm → Front KeyPair
 steps_at Dsa = value_at dsa_pair_at
@@ -53,11 +53,14 @@ wanted_same k zeros rest false = refl
 
 ecdsa_under_same : (wanted : Curve) (b : List ℕ) → value_at (ecdsa_pair_at wanted) b ≡ ecdsa_under wanted b
 unfolding ecdsa_pair_at
-ecdsa_under_same wanted b = rw (← ecdsa_steps b) (go (any_ecdsa_pair_at b))
+ecdsa_under_same wanted b = go (any_ecdsa_pair_at b)
   where
     go : (r : Result ((KeyPair × LeadingZeros) × List ℕ) Fault) → ((r >>= λ x. wanted_curve (λ y. public_half y.0) wanted x.0 >>= with_rest x.1) >>= bare) ≡ ((r >>= bare) >>= λ x. wanted_curve public_half wanted x.0 >>= with_rest x.1)
     go (Ok x) = wanted_same x.0.0 x.0.1 x.1 (has_curve wanted (public_half x.0.0))
     go (Err e) = refl
+
+pub ecdsa_under_read : (wanted : Curve) → IsMapped (value_at (ecdsa_pair_at wanted)) (wanted_curve public_half wanted) (value_at any_ecdsa_pair_at)
+ecdsa_under_read wanted = record { same = ecdsa_under_same wanted }
 
 pub same_steps : (a : Algorithm) (b : List ℕ) → value_at (pair_at a) b ≡ steps_at a b
 same_steps Dsa b = refl

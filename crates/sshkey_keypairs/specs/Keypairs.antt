@@ -12,6 +12,8 @@ use Rattle.sshkey_base.specs.Reading.{Gives}
 use Rattle.sshkey_base.specs.Source.{Source}
 use Rattle.sshkey_keypairs.specs.declared.keypair_data.KeypairData.{KeypairData}
 use Rattle.sshkey_keypairs.specs.declared.keypair_data.KeypairData.TheVariants as kinds
+use Rattle.sshkey_base.specs.Stops.{StopsBy}
+use Rattle.sshkey_keypairs.specs.KeypairFormats.{NeedsPair, OverrunsPair}
 use Rattle.sshkey_keypairs.specs.KeypairReaders.{some_at, steps_at}
 use Rattle.sshkey_pairs.specs.Pairs.{dsa_pair_of, rsa_pair_of, ecdsa_pair_of, ed25519_pair_of}
 use Rattle.sshkey_keypairs.specs.SecurityPairs.{sk_ecdsa_pair_of, sk_ed25519_pair_of}
@@ -70,3 +72,10 @@ GivesModelPair a source before result after = Gives pair_of cause (some_at (valu
 -- the same, step by step
 abbrev pub GivesPair : {R : Type 0} → Algorithm → (R → Source) → R → Result KeypairData Error → R → Type 0
 GivesPair a source before result after = Gives pair_of cause (some_at (steps_at a)) (source before) result (source after)
+
+-- how such a call stops
+abbrev pub StopsPair : {R : Type 0} → Algorithm → (R → Source) → R → Result KeypairData Error → Type 0
+StopsPair a source before result = StopsBy cause (some_at (steps_at a)) (NeedsPair a) (OverrunsPair a) (source before) result
+
+abbrev pub StopsModelPair : {R : Type 0} → Algorithm → (R → Source) → R → Result KeypairData Error → Type 0
+StopsModelPair a source before result = StopsBy cause (some_at (value_at (pair_at a))) (NeedsPair a) (OverrunsPair a) (source before) result

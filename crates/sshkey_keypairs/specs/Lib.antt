@@ -1,7 +1,7 @@
 pub mod SecurityPairs
 pub mod OpaquePairs
-pub mod KeypairNeeds
 pub mod KeypairReaders
+pub mod KeypairFormats
 pub mod Keypairs
 pub mod PairKinds
 pub mod NormalPairs

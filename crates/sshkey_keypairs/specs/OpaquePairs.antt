@@ -1,11 +1,9 @@
--- What pairs under private-use names mean, and where their reader needs memory.
+-- What pairs under private-use names mean.
 use Rattle.std.specs.Prelude.{ℕ, List, []}
-use Rattle.sshkey_model.specs.Reading.{string_at}
 use Rattle.sshkey_model.specs.Names.{Algorithm, algorithm_name}
 use Rattle.sshkey_model.specs.KeyPairs.{KeyPair, OpaquePair}
 use Rattle.sshkey_base.specs.Names.{algorithm_of}
 use Rattle.sshkey_kinds.specs.Comparisons.{opaque_fields}
-use Rattle.sshkey_base.specs.Needs.{NeedsString, NeedsBoth}
 use Rattle.sshkey_keypairs.specs.declared.opaque.OpaqueKeypair.{OpaqueKeypair}
 use Rattle.sshkey_keypairs.specs.declared.opaque.OpaqueKeypairBytes.{OpaqueKeypairBytes}
 use Rattle.sshkey_keypairs.specs.declared.opaque.OpaquePrivateKeyBytes.{OpaquePrivateKeyBytes}
@@ -23,7 +21,3 @@ opaque_pair_fields k = (opaque_fields k.public, opaque_private_of k.private)
 -- the bytes alone, as a pair under the empty name
 abbrev pub nameless_pair_of : OpaqueKeypairBytes → KeyPair
 nameless_pair_of k = OpaquePair [] k.public (opaque_private_of k.private)
-
--- the public or the private bytes
-abbrev pub NeedsOpaquePair : List ℕ → Type 0
-NeedsOpaquePair = NeedsBoth NeedsString string_at NeedsString

@@ -1,15 +1,6 @@
--- What the pairs of security keys mean, and where their readers need memory.
+-- What the pairs of security keys mean.
 use Rattle.std.specs.Prelude.{ℕ, List, [], ◌∷◌, ◌++◌}
-use Rattle.std.specs.Int.{w8}
-use Rattle.sshkey_model.specs.Reading.{number_at, string_at}
-use Rattle.sshkey_model.specs.Grammar.{IsGrammar, Spells}
-use Rattle.sshkey_model.specs.Keys.{sk_ecdsa_at, sk_ed25519_at}
-use Rattle.sshkey_model.specs.KeyPairs.{KeyPair, SkEcdsaPair, SkEd25519Pair, SecurityPrivate, security_private, security_private_at}
-use Rattle.sshkey_model.specs.Parts.{Any}
-use Rattle.sshkey_model.proofs.Grammars.{grammar}
-use Rattle.sshkey_model.proofs.KeyPairReaders.{security_private_reads}
-use Rattle.sshkey_base.specs.Needs.{NoNeed, NeedsString, NeedsBoth}
-use Rattle.sshkey_kinds.specs.BodyNeeds.{NeedsSkEcdsa, NeedsSkEd25519}
+use Rattle.sshkey_model.specs.KeyPairs.{KeyPair, SkEcdsaPair, SkEd25519Pair, SecurityPrivate}
 use Rattle.sshkey_kinds.specs.Comparisons.{sk_ecdsa_parts, sk_ed25519_parts}
 use Rattle.sshkey_kinds.specs.EcPoint.{point_of}
 use Rattle.sshkey_kinds.specs.Kinds.{sk_ecdsa_point, sk_ecdsa_application, sk_ed25519_key, sk_ed25519_application}
@@ -27,16 +18,6 @@ held_of h = record { flags = h.flags; handle = h.key_handle; reserved = h.reserv
 -- of a new key, with no reserved bytes
 abbrev pub held_anew : ℕ → List ℕ → SecurityPrivate
 held_anew flags handle = record { flags = flags; handle = handle; reserved = [] }
-
-abbrev pub SpellsHeld : SecurityPrivate → List ℕ → Type 0
-SpellsHeld = Spells Any security_private
-
-pub held_grammar : IsGrammar SpellsHeld security_private_at
-held_grammar = grammar security_private_reads
-
--- the key handle or the reserved bytes
-abbrev pub NeedsHeld : List ℕ → Type 0
-NeedsHeld = NeedsBoth NoNeed (number_at w8) (NeedsBoth NeedsString string_at NeedsString)
 
 -- ---- the pairs
 
@@ -71,12 +52,3 @@ sk_ecdsa_pair_parts k = sk_ecdsa_parts (sk_ecdsa_public k) ++ held_parts (sk_ecd
 
 abbrev pub sk_ed25519_pair_parts : sk.SkEd25519 → List (List ℕ)
 sk_ed25519_pair_parts k = sk_ed25519_parts (sk_ed25519_public k) ++ held_parts (sk_ed25519_held k)
-
--- ---- where their readers need memory
-
--- the public key, or what is kept of it
-abbrev pub NeedsSkEcdsaPair : List ℕ → Type 0
-NeedsSkEcdsaPair = NeedsBoth NeedsSkEcdsa sk_ecdsa_at NeedsHeld
-
-abbrev pub NeedsSkEd25519Pair : List ℕ → Type 0
-NeedsSkEd25519Pair = NeedsBoth NeedsSkEd25519 sk_ed25519_at NeedsHeld

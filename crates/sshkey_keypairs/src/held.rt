@@ -3,8 +3,8 @@
 ghost use Rattle.std.specs.Prelude.{◌≡◌, ◌≤◌, ◌+◌, ◌*◌, ◌^◌, length, IfOk, IsOk, ◌↔◌, IfErr};
 ghost use Rattle.sshkey_base.specs.declared.error.Error.TheVariants as wide;
 ghost use Rattle.sshkey_base.specs.declared.encoding.Error.TheVariants as encoding;
-ghost use Rattle.sshkey_model.specs.KeyPairs.{SecurityPrivate, security_private, security_private_at};
-ghost use Rattle.sshkey_keypairs.specs.SecurityPairs.{SpellsHeld, held_anew, held_grammar, held_of};
+ghost use Rattle.sshkey_model.specs.KeyPairs.{SecurityPrivate, security_private};
+ghost use Rattle.sshkey_keypairs.specs.SecurityPairs.{held_anew, held_of};
 
 use sshkey_base::{Bytes, Decode, Encode, Error, Reader, Result, Writer, encoding};
 use sshkey_format::Then;
@@ -64,9 +64,9 @@ impl Held {
 }
 
 /// The flags, the key handle and the reserved bytes.
-#[tactic(auto, using(sshkey_format::proofs::Mapped::mapped, crate::proofs::Parts::security_private_parts_read))]
+#[tactic(auto, using(sshkey_format::proofs::Mapped::mapped, crate::specs::KeypairFormats::held_parts_read))]
 impl Decode for Held {
-    ghost use Rattle.sshkey_keypairs.specs.SecurityPairs.{NeedsHeld};
+    ghost use Rattle.sshkey_keypairs.specs.KeypairFormats.{held_format};
 
     type Error = encoding::Error;
 
@@ -74,13 +74,7 @@ impl Decode for Held {
 
     ghost means = { held_of };
 
-    ghost parse = { security_private_at };
-
-    ghost Spells = { SpellsHeld };
-
-    ghost needs = { NeedsHeld };
-
-    ghost grammar = { held_grammar };
+    ghost format = { held_format };
 
     fn decode<R: Reader>(alloc: Global, reader: &mut R) -> encoding::Result<Held> {
         type Parts = Then<u8, Then<Bytes, Bytes>>;

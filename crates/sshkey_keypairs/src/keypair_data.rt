@@ -9,8 +9,8 @@ ghost use Rattle.sshkey_keys.specs.Keys.{key_of, algorithm_beside as key_algorit
 ghost use Rattle.sshkey_model.specs.KeyPairs.{IsKeyPair, xor_all, words};
 ghost use Rattle.sshkey_model.specs.Keys.{IsKey, unhashed};
 ghost use Rattle.sshkey_model.specs.Names.{Dsa, Ecdsa, Ed25519, Rsa, SkEcdsa, SkEd25519 as AlgorithmSkEd25519, Other, algorithm_name};
-ghost use Rattle.sshkey_keypairs.specs.Keypairs.{pair_fields, pair_of, keypair_parts, public_of, algorithm_beside, checkint_of, GivesPair, GivesModelPair};
-ghost use Rattle.sshkey_keypairs.specs.KeypairNeeds.{NeedsPair};
+ghost use Rattle.sshkey_keypairs.specs.Keypairs.{pair_fields, pair_of, keypair_parts, public_of, algorithm_beside, checkint_of, GivesPair, GivesModelPair, StopsPair, StopsModelPair};
+ghost use Rattle.sshkey_keypairs.specs.KeypairFormats.{NeedsPair};
 ghost use Rattle.sshkey_keypairs.specs.PairKinds.{is_encrypted, is_opaque};
 
 mod from;
@@ -84,6 +84,7 @@ impl KeypairData {
         ensures later { Later (R.source reader.old) (R.source reader.new) }
         ensures asks { Asks cause (NeedsPair (algorithm_of algorithm))
             (R.source reader.old) result }
+        ensures past { StopsModelPair (algorithm_of algorithm) R.source reader.old result }
     {
         pair_from(alloc, reader, algorithm)
     }
@@ -179,11 +180,10 @@ impl KeypairData {
 ///
 /// An RSA pair may stand under a name with a hash, which is not kept. `Label` for a name of no
 /// algorithm, and the faults of the kind.
-#[tactic(auto, using(sshkey_base::proofs::Steps::steps, sshkey_pairs::proofs::Next::next_gives), unfolding(crate::specs::KeypairReaders::keypair_data_at))]
+#[tactic(auto, using(sshkey_base::proofs::Steps::steps), unfolding(crate::specs::KeypairReaders::keypair_data_at))]
 impl Decode for KeypairData {
     ghost use Rattle.sshkey_model.specs.KeyPairs.{KeyPair};
-    ghost use Rattle.sshkey_keypairs.specs.KeypairReaders.{SpellsKeypair, keypair_data_at, keypair_grammar};
-    ghost use Rattle.sshkey_keypairs.specs.KeypairNeeds.{NeedsKeypair};
+    ghost use Rattle.sshkey_keypairs.specs.KeypairFormats.{keypair_format};
 
     type Error = Error;
 
@@ -191,13 +191,7 @@ impl Decode for KeypairData {
 
     ghost means = { pair_of };
 
-    ghost parse = { keypair_data_at };
-
-    ghost Spells = { SpellsKeypair };
-
-    ghost needs = { NeedsKeypair };
-
-    ghost grammar = { keypair_grammar };
+    ghost format = { keypair_format };
 
     fn decode<R: Reader>(alloc: Global, reader: &mut R) -> Result<KeypairData> {
         let Wide(algorithm) = Wide::<Algorithm>::decode(alloc, reader)?;
@@ -212,6 +206,7 @@ fn pair_from<R: Reader>(alloc: Global, reader: &mut R, algorithm: Algorithm) -> 
         (λ k. algorithm_beside k ≡ Some (unhashed (algorithm_of algorithm))) }
     ensures later { Later (R.source reader.old) (R.source reader.new) }
     ensures asks { Asks cause (NeedsPair (algorithm_of algorithm)) (R.source reader.old) result }
+    ensures past { StopsPair (algorithm_of algorithm) R.source reader.old result }
 {
     match algorithm {
         Algorithm::Dsa => dsa_from(alloc, reader),
@@ -225,24 +220,26 @@ fn pair_from<R: Reader>(alloc: Global, reader: &mut R, algorithm: Algorithm) -> 
 }
 
 /// A DSA pair.
-#[tactic(auto, using(sshkey_base::proofs::Steps::steps))]
+#[tactic(auto, using(sshkey_base::proofs::Steps::steps, sshkey_base::proofs::Stopping::stopping))]
 fn dsa_from<R: Reader>(alloc: Global, reader: &mut R) -> Result<KeypairData>
     ensures gives { GivesPair Dsa R.source reader.old result reader.new }
     ensures algorithm { IfOk result (λ k. algorithm_beside k ≡ Some Dsa) }
     ensures later { Later (R.source reader.old) (R.source reader.new) }
     ensures asks { Asks cause (NeedsPair Dsa) (R.source reader.old) result }
+    ensures past { StopsPair Dsa R.source reader.old result }
 {
     let pair = DsaKeypair::decode(alloc, reader)?;
     Ok(KeypairData::Dsa(pair))
 }
 
 /// An ECDSA pair on that curve. `AlgorithmUnknown` for another curve, after the scalar was read.
-#[tactic(auto, using(sshkey_base::proofs::Steps::steps))]
+#[tactic(auto, using(sshkey_base::proofs::Steps::steps, sshkey_base::proofs::Stopping::stopping))]
 fn ecdsa_from<R: Reader>(alloc: Global, reader: &mut R, curve: EcdsaCurve) -> Result<KeypairData>
     ensures gives { GivesPair (Ecdsa (curve_of curve)) R.source reader.old result reader.new }
     ensures algorithm { IfOk result (λ k. algorithm_beside k ≡ Some (Ecdsa (curve_of curve))) }
     ensures later { Later (R.source reader.old) (R.source reader.new) }
     ensures asks { Asks cause (NeedsPair (Ecdsa (curve_of curve))) (R.source reader.old) result }
+    ensures past { StopsPair (Ecdsa (curve_of curve)) R.source reader.old result }
 {
     let pair = EcdsaKeypair::decode(alloc, reader)?;
     if !pair.public_key().is_on(curve) {
@@ -252,55 +249,59 @@ fn ecdsa_from<R: Reader>(alloc: Global, reader: &mut R, curve: EcdsaCurve) -> Re
 }
 
 /// An Ed25519 pair.
-#[tactic(auto, using(sshkey_base::proofs::Steps::steps))]
+#[tactic(auto, using(sshkey_base::proofs::Steps::steps, sshkey_base::proofs::Stopping::stopping))]
 fn ed25519_from<R: Reader>(alloc: Global, reader: &mut R) -> Result<KeypairData>
     ensures gives { GivesPair Ed25519 R.source reader.old result reader.new }
     ensures algorithm { IfOk result (λ k. algorithm_beside k ≡ Some Ed25519) }
     ensures later { Later (R.source reader.old) (R.source reader.new) }
     ensures asks { Asks cause (NeedsPair Ed25519) (R.source reader.old) result }
+    ensures past { StopsPair Ed25519 R.source reader.old result }
 {
     let pair = Ed25519Keypair::decode(alloc, reader)?;
     Ok(KeypairData::Ed25519(pair))
 }
 
 /// An RSA pair.
-#[tactic(auto, using(sshkey_base::proofs::Steps::steps))]
+#[tactic(auto, using(sshkey_base::proofs::Steps::steps, sshkey_base::proofs::Stopping::stopping))]
 fn rsa_from<R: Reader>(alloc: Global, reader: &mut R) -> Result<KeypairData>
     ensures gives { GivesPair (Rsa None) R.source reader.old result reader.new }
     ensures algorithm { IfOk result (λ k. algorithm_beside k ≡ Some (Rsa None)) }
     ensures later { Later (R.source reader.old) (R.source reader.new) }
     ensures asks { Asks cause (NeedsPair (Rsa None)) (R.source reader.old) result }
+    ensures past { StopsPair (Rsa None) R.source reader.old result }
 {
     let pair = RsaKeypair::decode(alloc, reader)?;
     Ok(KeypairData::Rsa(pair))
 }
 
 /// A P-256 pair of a security key.
-#[tactic(auto, using(sshkey_base::proofs::Steps::steps))]
+#[tactic(auto, using(sshkey_base::proofs::Steps::steps, sshkey_base::proofs::Stopping::stopping))]
 fn sk_ecdsa_from<R: Reader>(alloc: Global, reader: &mut R) -> Result<KeypairData>
     ensures gives { GivesPair SkEcdsa R.source reader.old result reader.new }
     ensures algorithm { IfOk result (λ k. algorithm_beside k ≡ Some SkEcdsa) }
     ensures later { Later (R.source reader.old) (R.source reader.new) }
     ensures asks { Asks cause (NeedsPair SkEcdsa) (R.source reader.old) result }
+    ensures past { StopsPair SkEcdsa R.source reader.old result }
 {
     let pair = SkEcdsaSha2NistP256::decode(alloc, reader)?;
     Ok(KeypairData::SkEcdsaSha2NistP256(pair))
 }
 
 /// An Ed25519 pair of a security key.
-#[tactic(auto, using(sshkey_base::proofs::Steps::steps))]
+#[tactic(auto, using(sshkey_base::proofs::Steps::steps, sshkey_base::proofs::Stopping::stopping))]
 fn sk_ed25519_from<R: Reader>(alloc: Global, reader: &mut R) -> Result<KeypairData>
     ensures gives { GivesPair AlgorithmSkEd25519 R.source reader.old result reader.new }
     ensures algorithm { IfOk result (λ k. algorithm_beside k ≡ Some AlgorithmSkEd25519) }
     ensures later { Later (R.source reader.old) (R.source reader.new) }
     ensures asks { Asks cause (NeedsPair AlgorithmSkEd25519) (R.source reader.old) result }
+    ensures past { StopsPair AlgorithmSkEd25519 R.source reader.old result }
 {
     let pair = SkEd25519::decode(alloc, reader)?;
     Ok(KeypairData::SkEd25519(pair))
 }
 
 /// A pair under a private-use name.
-#[tactic(auto, using(sshkey_format::proofs::Mapped::mapped, crate::proofs::Parts::some_opaque_parts_read))]
+#[tactic(auto, using(sshkey_format::proofs::Mapped::mapped, crate::specs::KeypairFormats::some_opaque_parts_read))]
 fn opaque_from<R: Reader>(
     alloc: Global,
     reader: &mut R,
@@ -312,6 +313,8 @@ fn opaque_from<R: Reader>(
     ensures later { Later (R.source reader.old) (R.source reader.new) }
     ensures asks { Asks cause (NeedsPair (Other (algorithm_name (algorithm_of algorithm))))
         (R.source reader.old) result }
+    ensures past { StopsPair (Other (algorithm_name (algorithm_of algorithm)))
+        R.source reader.old result }
 {
     type Parts = Then<Wide<OpaquePublicKeyBytes>, Wide<OpaquePrivateKeyBytes>>;
     let Then(Wide(key), Wide(private)) = Parts::decode(alloc, reader)?;

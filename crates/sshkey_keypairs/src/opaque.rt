@@ -1,7 +1,6 @@
 //! Key pairs under private-use names.
 
 ghost use Rattle.std.specs.Prelude.{◌≡◌, ◌+◌, ◌*◌, ◌^◌, List, ℕ, IfOk, IfErr};
-ghost use Rattle.sshkey_base.specs.Leaves.{SpellsString, string_grammar};
 ghost use Rattle.sshkey_model.specs.Reading.{string_at};
 ghost use Rattle.sshkey_model.specs.KeyPairs.{OpaquePair, pair, Plain};
 ghost use Rattle.sshkey_model.specs.Names.{algorithm_name};
@@ -66,8 +65,9 @@ impl AsSlice<u8> for OpaquePrivateKeyBytes {
 #[tactic(auto, using(sshkey_base::proofs::Steps::steps))]
 impl Decode for OpaquePrivateKeyBytes {
     ghost use Rattle.sshkey_base.specs.Causes.{encoding_cause};
+    ghost use Rattle.sshkey_base.specs.Formats.{Stops, string_format};
     ghost use Rattle.sshkey_base.specs.Needs.{Asks, NeedsString};
-    ghost use Rattle.sshkey_base.specs.Reading.{Decodes, LengthPast};
+    ghost use Rattle.sshkey_base.specs.Reading.{Decodes};
     ghost use Rattle.sshkey_base.specs.Source.{Later};
 
     type Error = encoding::Error;
@@ -76,20 +76,14 @@ impl Decode for OpaquePrivateKeyBytes {
 
     ghost means = { opaque_private_of };
 
-    ghost parse = { string_at };
-
-    ghost Spells = { SpellsString };
-
-    ghost needs = { NeedsString };
-
-    ghost grammar = { string_grammar };
+    ghost format = { string_format };
 
     fn decode<R: Reader>(alloc: Global, reader: &mut R) -> encoding::Result<OpaquePrivateKeyBytes>
         ensures gives { Decodes opaque_private_of string_at
             R.source reader.old result reader.new }
         ensures later { Later (R.source reader.old) (R.source reader.new) }
         ensures asks { Asks encoding_cause NeedsString (R.source reader.old) result }
-        ensures past { LengthPast encoding_cause (R.source reader.old) result }
+        ensures past { Stops encoding_cause string_format (R.source reader.old) result }
     {
         let bytes = Bytes::decode(alloc, reader)?;
         Ok(OpaquePrivateKeyBytes { bytes })
@@ -135,14 +129,11 @@ impl OpaqueKeypairBytes {
 
 /// A string of the public bytes, and one of the private bytes. `Length` where one passes what is
 /// left.
-#[tactic(auto, using(sshkey_format::proofs::Mapped::mapped, crate::proofs::Parts::opaque_pair_parts_read))]
+#[tactic(auto, using(sshkey_format::proofs::Mapped::mapped, crate::specs::KeypairFormats::opaque_pair_parts_read))]
 impl Decode for OpaqueKeypairBytes {
     ghost use Rattle.std.specs.Prelude.{[]};
-    ghost use Rattle.sshkey_model.specs.Grammar.{value_at};
-    ghost use Rattle.sshkey_model.specs.KeyPairs.{KeyPair, opaque_pair_at};
-    ghost use Rattle.sshkey_model.specs.Names.{Other};
-    ghost use Rattle.sshkey_keypairs.specs.OpaquePairs.{NeedsOpaquePair};
-    ghost use Rattle.sshkey_pairs.specs.PairReaders.{SpellsPair, pair_grammar};
+    ghost use Rattle.sshkey_model.specs.KeyPairs.{KeyPair};
+    ghost use Rattle.sshkey_keypairs.specs.KeypairFormats.{opaque_pair_format};
 
     type Error = encoding::Error;
 
@@ -150,13 +141,7 @@ impl Decode for OpaqueKeypairBytes {
 
     ghost means = { nameless_pair_of };
 
-    ghost parse = { value_at (opaque_pair_at []) };
-
-    ghost Spells = { SpellsPair (Other []) };
-
-    ghost needs = { NeedsOpaquePair };
-
-    ghost grammar = { pair_grammar (Other []) };
+    ghost format = { opaque_pair_format [] };
 
     fn decode<R: Reader>(alloc: Global, reader: &mut R) -> encoding::Result<OpaqueKeypairBytes> {
         type Parts = Then<OpaquePublicKeyBytes, OpaquePrivateKeyBytes>;

@@ -3,10 +3,7 @@
 ghost use Rattle.std.specs.Prelude.{◌≡◌, ◌≤◌, ◌+◌, ◌*◌, ◌^◌, length, IfOk, IsOk, ◌↔◌, IfErr};
 ghost use Rattle.sshkey_base.specs.declared.error.Error.TheVariants as wide;
 ghost use Rattle.sshkey_base.specs.declared.encoding.Error.TheVariants as encoding;
-ghost use Rattle.sshkey_model.specs.Grammar.{value_at};
-ghost use Rattle.sshkey_model.specs.KeyPairs.{KeyPair, pair, Plain, sk_ecdsa_pair_at};
-ghost use Rattle.sshkey_model.specs.Names.{SkEcdsa};
-ghost use Rattle.sshkey_pairs.specs.PairReaders.{SpellsPair, pair_grammar};
+ghost use Rattle.sshkey_model.specs.KeyPairs.{KeyPair, pair, Plain};
 ghost use Rattle.sshkey_keypairs.specs.SecurityPairs.{sk_ecdsa_pair_of, sk_ecdsa_public, sk_ecdsa_held, held_anew};
 
 use crate::held::Held;
@@ -84,9 +81,9 @@ impl fmt::Debug for SkEcdsaSha2NistP256 {
 ///
 /// The refusals of the public key, and then `Length` where a string passes what is left. The key
 /// handle may have any number of bytes.
-#[tactic(auto, using(sshkey_format::proofs::Mapped::mapped, crate::proofs::Parts::sk_ecdsa_pair_parts_read))]
+#[tactic(auto, using(sshkey_format::proofs::Mapped::mapped, crate::specs::KeypairFormats::sk_ecdsa_pair_parts_read))]
 impl Decode for SkEcdsaSha2NistP256 {
-    ghost use Rattle.sshkey_keypairs.specs.SecurityPairs.{NeedsSkEcdsaPair};
+    ghost use Rattle.sshkey_keypairs.specs.KeypairFormats.{sk_ecdsa_pair_format};
 
     type Error = Error;
 
@@ -94,13 +91,7 @@ impl Decode for SkEcdsaSha2NistP256 {
 
     ghost means = { sk_ecdsa_pair_of };
 
-    ghost parse = { value_at sk_ecdsa_pair_at };
-
-    ghost Spells = { SpellsPair SkEcdsa };
-
-    ghost needs = { NeedsSkEcdsaPair };
-
-    ghost grammar = { pair_grammar SkEcdsa };
+    ghost format = { sk_ecdsa_pair_format };
 
     fn decode<R: Reader>(alloc: Global, reader: &mut R) -> Result<SkEcdsaSha2NistP256> {
         let Then(public, Wide(held)) = Then::<PublicSkEcdsa, Wide<Held>>::decode(alloc, reader)?;

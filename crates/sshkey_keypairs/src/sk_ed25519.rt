@@ -3,10 +3,7 @@
 ghost use Rattle.std.specs.Prelude.{◌≡◌, ◌≤◌, ◌+◌, ◌*◌, ◌^◌, length, IfOk, IsOk, ◌↔◌, IfErr};
 ghost use Rattle.sshkey_base.specs.declared.error.Error.TheVariants as wide;
 ghost use Rattle.sshkey_base.specs.declared.encoding.Error.TheVariants as encoding;
-ghost use Rattle.sshkey_model.specs.Grammar.{value_at};
-ghost use Rattle.sshkey_model.specs.KeyPairs.{KeyPair, pair, Plain, sk_ed25519_pair_at};
-ghost use Rattle.sshkey_model.specs.Names.{SkEd25519 as AlgorithmSkEd25519};
-ghost use Rattle.sshkey_pairs.specs.PairReaders.{SpellsPair, pair_grammar};
+ghost use Rattle.sshkey_model.specs.KeyPairs.{KeyPair, pair, Plain};
 ghost use Rattle.sshkey_keypairs.specs.SecurityPairs.{sk_ed25519_pair_of, sk_ed25519_public, sk_ed25519_held, held_anew};
 
 use crate::held::Held;
@@ -84,9 +81,9 @@ impl fmt::Debug for SkEd25519 {
 ///
 /// The refusals of the public key, and then `Length` where a string passes what is left. The key
 /// handle may have any number of bytes.
-#[tactic(auto, using(sshkey_format::proofs::Mapped::mapped, crate::proofs::Parts::sk_ed25519_pair_parts_read))]
+#[tactic(auto, using(sshkey_format::proofs::Mapped::mapped, crate::specs::KeypairFormats::sk_ed25519_pair_parts_read))]
 impl Decode for SkEd25519 {
-    ghost use Rattle.sshkey_keypairs.specs.SecurityPairs.{NeedsSkEd25519Pair};
+    ghost use Rattle.sshkey_keypairs.specs.KeypairFormats.{sk_ed25519_pair_format};
 
     type Error = Error;
 
@@ -94,13 +91,7 @@ impl Decode for SkEd25519 {
 
     ghost means = { sk_ed25519_pair_of };
 
-    ghost parse = { value_at sk_ed25519_pair_at };
-
-    ghost Spells = { SpellsPair AlgorithmSkEd25519 };
-
-    ghost needs = { NeedsSkEd25519Pair };
-
-    ghost grammar = { pair_grammar AlgorithmSkEd25519 };
+    ghost format = { sk_ed25519_pair_format };
 
     fn decode<R: Reader>(alloc: Global, reader: &mut R) -> Result<SkEd25519> {
         let Then(public, Wide(held)) = Then::<PublicSkEd25519, Wide<Held>>::decode(alloc, reader)?;

@@ -1,4 +1,3 @@
 pub mod Halves
 pub mod SignedScalars
-pub mod Parts
 pub mod Next

@@ -1,5 +1,4 @@
-pub mod Next
 pub mod PairReaders
-pub mod PairNeeds
+pub mod PairFormats
 pub mod PrivateHalves
 pub mod Pairs

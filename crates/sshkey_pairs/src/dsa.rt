@@ -2,13 +2,10 @@
 
 ghost use Rattle.std.specs.Fmt.{WritesOnOk};
 ghost use Rattle.std.specs.Prelude.{◌≡◌, ◌+◌, ◌*◌, ◌^◌, List, ℕ, IfOk, IfErr, codes};
-ghost use Rattle.sshkey_model.specs.Grammar.{value_at};
-ghost use Rattle.sshkey_model.specs.KeyPairs.{KeyPair, pair, Plain, dsa_pair_at};
+ghost use Rattle.sshkey_model.specs.KeyPairs.{KeyPair, pair, Plain};
 ghost use Rattle.sshkey_model.specs.Mpints.{mpint_at};
-ghost use Rattle.sshkey_model.specs.Names.{Dsa};
 ghost use Rattle.sshkey_model.specs.Texts.{string};
-ghost use Rattle.sshkey_base.specs.Mpint.{SpellsMpint, mpint_grammar, mpint_of};
-ghost use Rattle.sshkey_pairs.specs.PairReaders.{SpellsPair, pair_grammar};
+ghost use Rattle.sshkey_base.specs.Mpint.{mpint_of};
 ghost use Rattle.sshkey_pairs.specs.PrivateHalves.{dsa_private_of};
 
 use sshkey_base::{
@@ -85,8 +82,9 @@ impl fmt::Debug for DsaPrivateKey {
 #[tactic(auto, using(sshkey_base::proofs::Steps::steps))]
 impl Decode for DsaPrivateKey {
     ghost use Rattle.sshkey_base.specs.Causes.{cause};
+    ghost use Rattle.sshkey_base.specs.Formats.{Stops, mpint_format};
     ghost use Rattle.sshkey_base.specs.Needs.{Asks, NeedsString};
-    ghost use Rattle.sshkey_base.specs.Reading.{DecodesWide, LengthPast};
+    ghost use Rattle.sshkey_base.specs.Reading.{DecodesWide};
     ghost use Rattle.sshkey_base.specs.Source.{Later};
 
     type Error = Error;
@@ -95,19 +93,13 @@ impl Decode for DsaPrivateKey {
 
     ghost means = { dsa_private_of };
 
-    ghost parse = { mpint_at };
-
-    ghost Spells = { SpellsMpint };
-
-    ghost needs = { NeedsString };
-
-    ghost grammar = { mpint_grammar };
+    ghost format = { mpint_format };
 
     fn decode<R: Reader>(alloc: Global, reader: &mut R) -> Result<DsaPrivateKey>
         ensures gives { DecodesWide dsa_private_of mpint_at R.source reader.old result reader.new }
         ensures later { Later (R.source reader.old) (R.source reader.new) }
         ensures asks { Asks cause NeedsString (R.source reader.old) result }
-        ensures past { LengthPast cause (R.source reader.old) result }
+        ensures past { Stops cause mpint_format (R.source reader.old) result }
     {
         let inner = Mpint::decode(alloc, reader)?;
         Ok(DsaPrivateKey { inner })
@@ -166,9 +158,9 @@ impl From<DsaKeypair> for DsaPublicKey {
 ///
 /// `Length` where a string passes what is left, and `FormatEncoding` where its bytes are those of
 /// no number.
-#[tactic(auto, using(sshkey_format::proofs::Mapped::mapped, crate::proofs::Parts::dsa_pair_parts_read))]
+#[tactic(auto, using(sshkey_format::proofs::Mapped::mapped, crate::specs::PairFormats::dsa_pair_parts_read))]
 impl Decode for DsaKeypair {
-    ghost use Rattle.sshkey_pairs.specs.PairNeeds.{NeedsDsaPair};
+    ghost use Rattle.sshkey_pairs.specs.PairFormats.{dsa_pair_format};
     ghost use Rattle.sshkey_pairs.specs.Pairs.{dsa_pair_of};
 
     type Error = Error;
@@ -177,13 +169,7 @@ impl Decode for DsaKeypair {
 
     ghost means = { dsa_pair_of };
 
-    ghost parse = { value_at dsa_pair_at };
-
-    ghost Spells = { SpellsPair Dsa };
-
-    ghost needs = { NeedsDsaPair };
-
-    ghost grammar = { pair_grammar Dsa };
+    ghost format = { dsa_pair_format };
 
     fn decode<R: Reader>(alloc: Global, reader: &mut R) -> Result<DsaKeypair> {
         let Then(public, private) = Then::<DsaPublicKey, DsaPrivateKey>::decode(alloc, reader)?;

@@ -3,16 +3,16 @@
 ghost use Rattle.std.specs.Fmt.{WritesOnOk};
 ghost use Rattle.std.specs.Prelude.{◌≡◌, ◌+◌, ◌*◌, ◌^◌, List, ℕ, codes};
 ghost use Rattle.hex.specs.Hex.{encode_lower, encode_upper};
-ghost use Rattle.sshkey_model.specs.Grammar.{value_at};
-ghost use Rattle.sshkey_model.specs.KeyPairs.{KeyPair, is_high, zero_if, scalar, scalar_at, pair, Plain};
+ghost use Rattle.sshkey_model.specs.KeyPairs.{KeyPair, is_high, zero_if, scalar, pair, Plain};
 ghost use Rattle.sshkey_model.specs.Parts.{bytes};
 ghost use Rattle.sshkey_base.specs.Names.{curve_of};
 ghost use Rattle.sshkey_base.specs.Causes.{cause};
 ghost use Rattle.sshkey_base.specs.Needs.{Asks, NoNeed};
 ghost use Rattle.sshkey_base.specs.Reading.{Gives};
 ghost use Rattle.sshkey_base.specs.Source.{Later};
+ghost use Rattle.sshkey_base.specs.Stops.{OverrunsString, StopsBy};
 ghost use Rattle.sshkey_kinds.specs.EcdsaPublicKey.{ecdsa_key_of};
-ghost use Rattle.sshkey_pairs.specs.PairReaders.{SpellsScalar, scalar_grammar, SpellsEcdsaPair, ecdsa_behind, ecdsa_steps_at, ecdsa_grammar};
+ghost use Rattle.sshkey_pairs.specs.PairFormats.{ecdsa_pair_format, pair_of_key_at, scalar_format};
 ghost use Rattle.sshkey_pairs.specs.Pairs.{ecdsa_pair_of};
 ghost use Rattle.sshkey_pairs.specs.PrivateHalves.{ecdsa_private_of};
 
@@ -110,13 +110,7 @@ impl<const SIZE: usize> Decode for EcdsaPrivateKey<SIZE> {
 
     ghost means = { ecdsa_private_of };
 
-    ghost parse = { value_at (scalar_at SIZE) };
-
-    ghost Spells = { SpellsScalar SIZE };
-
-    ghost needs = { NoNeed };
-
-    ghost grammar = { scalar_grammar SIZE };
+    ghost format = { scalar_format SIZE };
 
     fn decode<R: Reader>(_alloc: Global, reader: &mut R) -> Result<EcdsaPrivateKey<SIZE>> {
         let bytes = Mpint::decode_fixed::<SIZE, R>(reader)?;
@@ -274,7 +268,7 @@ impl From<EcdsaKeypair> for EcdsaPublicKey {
 ///
 /// The refusals of `EcdsaPublicKey`, and then those of `EcdsaPrivateKey`, as wide as the field of
 /// that key's curve.
-#[tactic(auto, using(sshkey_base::proofs::Steps::steps, crate::proofs::Next::next_gives), unfolding(crate::specs::PairReaders::ecdsa_steps_at))]
+#[tactic(auto, using(sshkey_base::proofs::Steps::steps))]
 impl Decode for EcdsaKeypair {
     type Error = Error;
 
@@ -282,13 +276,7 @@ impl Decode for EcdsaKeypair {
 
     ghost means = { ecdsa_pair_of };
 
-    ghost parse = { ecdsa_steps_at };
-
-    ghost Spells = { SpellsEcdsaPair };
-
-    ghost needs = { NoNeed };
-
-    ghost grammar = { ecdsa_grammar };
+    ghost format = { ecdsa_pair_format };
 
     fn decode<R: Reader>(alloc: Global, reader: &mut R) -> Result<EcdsaKeypair> {
         let public = EcdsaPublicKey::decode(alloc, reader)?;
@@ -297,17 +285,19 @@ impl Decode for EcdsaKeypair {
 }
 
 /// The pair of that public key and of the scalar that stands at the front.
-#[tactic(auto, using(sshkey_base::proofs::Steps::steps))]
+#[tactic(auto, using(sshkey_base::proofs::Steps::steps, sshkey_base::proofs::Stopping::stopping))]
 #[inline(always)]
 fn pair_with<R: Reader>(
     alloc: Global,
     reader: &mut R,
     public: EcdsaPublicKey,
 ) -> Result<EcdsaKeypair>
-    ensures gives { Gives ecdsa_pair_of cause (ecdsa_behind (ecdsa_key_of public))
+    ensures gives { Gives ecdsa_pair_of cause (pair_of_key_at (ecdsa_key_of public))
         (R.source reader.old) result (R.source reader.new) }
     ensures later { Later (R.source reader.old) (R.source reader.new) }
     ensures asks { Asks cause NoNeed (R.source reader.old) result }
+    ensures past { StopsBy cause (pair_of_key_at (ecdsa_key_of public)) NoNeed OverrunsString
+        (R.source reader.old) result }
 {
     match public {
         EcdsaPublicKey::NistP256(public) => {

@@ -1,16 +1,13 @@
 //! Ed25519 key pairs.
 
 ghost use Rattle.std.specs.Fmt.{WritesOnOk};
-ghost use Rattle.std.specs.Prelude.{◌≡◌, ◌+◌, ◌*◌, ◌^◌, ◌++◌, List, ℕ, take, drop, codes};
+ghost use Rattle.std.specs.Prelude.{◌≡◌, ◌+◌, ◌*◌, ◌^◌, ◌++◌, take, drop, codes};
 ghost use Rattle.hex.specs.Hex.{encode_lower, encode_upper};
 ghost use Rattle.rand_core.specs.Stream.{fill_bytes};
 ghost use Rattle.sshkey_base.specs.Answers.{AnswersAlways};
 ghost use Rattle.sshkey_base.specs.Causes.{cause};
-ghost use Rattle.sshkey_base.specs.Needs.{NoNeed};
-ghost use Rattle.sshkey_model.specs.Grammar.{value_at};
 ghost use Rattle.sshkey_model.specs.KeyPairs.{KeyPair, Ed25519Pair, pair, Plain};
-ghost use Rattle.sshkey_model.specs.Names.{Ed25519};
-ghost use Rattle.sshkey_pairs.specs.PairReaders.{SpellsPair, ed25519_pair_at, ed25519_pair_of_halves, pair_grammar};
+ghost use Rattle.sshkey_pairs.specs.PairFormats.{ed25519_pair_of_parts, ed25519_pair_format};
 ghost use Rattle.sshkey_kinds.specs.Ed25519PublicKey.{ed25519_from};
 ghost use Rattle.sshkey_pairs.specs.Pairs.{ed25519_pair_of, ed25519_pair_from};
 ghost use Rattle.sshkey_pairs.specs.PrivateHalves.{ed25519_private_of};
@@ -187,7 +184,7 @@ impl From<Ed25519Keypair> for Ed25519PublicKey {
 ///
 /// `Length` for a string that is too short, `TrailingData` for one that is too long, and `Crypto`
 /// where the public bytes differ. Takes no memory.
-#[tactic(auto, using(sshkey_format::proofs::Mapped::mapped, crate::proofs::Parts::ed25519_pair_parts_read))]
+#[tactic(auto, using(sshkey_format::proofs::Mapped::mapped, crate::specs::PairFormats::ed25519_pair_parts_read))]
 impl Decode for Ed25519Keypair {
     type Error = Error;
 
@@ -195,13 +192,7 @@ impl Decode for Ed25519Keypair {
 
     ghost means = { ed25519_pair_of };
 
-    ghost parse = { value_at ed25519_pair_at };
-
-    ghost Spells = { SpellsPair Ed25519 };
-
-    ghost needs = { NoNeed };
-
-    ghost grammar = { pair_grammar Ed25519 };
+    ghost format = { ed25519_pair_format };
 
     fn decode<R: Reader>(alloc: Global, reader: &mut R) -> Result<Ed25519Keypair> {
         type Halves = Then<Wide<[u8; 32]>, Wide<[u8; 64]>>;
@@ -214,7 +205,7 @@ impl Decode for Ed25519Keypair {
 #[inline(always)]
 fn from_halves(public: &[u8; 32], bytes: &[u8; 64]) -> Result<Ed25519Keypair>
     ensures { AnswersAlways ed25519_pair_of cause
-        (ed25519_pair_of_halves (public.now, bytes.now)) result }
+        (ed25519_pair_of_parts (public.now, bytes.now)) result }
 {
     if bytes[32..] != public[..] {
         return Err(Error::Crypto);

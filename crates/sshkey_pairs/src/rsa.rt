@@ -1,10 +1,7 @@
 //! RSA key pairs.
 
-ghost use Rattle.std.specs.Prelude.{◌≡◌, ◌+◌, ◌*◌, ◌^◌, List, ℕ, None, IfOk, IfErr};
-ghost use Rattle.sshkey_model.specs.Grammar.{value_at};
+ghost use Rattle.std.specs.Prelude.{◌≡◌, ◌+◌, ◌*◌, ◌^◌, IfOk, IfErr};
 ghost use Rattle.sshkey_model.specs.KeyPairs.{KeyPair, RsaPrivate, rsa_private, pair, Plain};
-ghost use Rattle.sshkey_model.specs.Names.{Rsa};
-ghost use Rattle.sshkey_pairs.specs.PairReaders.{SpellsPair, SpellsRsaPrivate, rsa_pair_at, rsa_private_at, rsa_private_grammar, pair_grammar};
 
 use sshkey_base::{Decode, Encode, Error, Mpint, Reader, Result, Writer, encoding};
 use sshkey_format::Then;
@@ -57,9 +54,9 @@ impl RsaPrivateKey {
 ///
 /// `Length` where a string passes what is left, and `FormatEncoding` where its bytes are those of
 /// no number.
-#[tactic(auto, using(sshkey_format::proofs::Mapped::mapped, crate::proofs::Parts::rsa_private_parts_read))]
+#[tactic(auto, using(sshkey_format::proofs::Mapped::mapped, crate::specs::PairFormats::rsa_private_parts_read))]
 impl Decode for RsaPrivateKey {
-    ghost use Rattle.sshkey_pairs.specs.PairNeeds.{NeedsRsaPrivate};
+    ghost use Rattle.sshkey_pairs.specs.PairFormats.{rsa_private_format};
     ghost use Rattle.sshkey_pairs.specs.PrivateHalves.{rsa_private_of};
 
     type Error = Error;
@@ -68,13 +65,7 @@ impl Decode for RsaPrivateKey {
 
     ghost means = { rsa_private_of };
 
-    ghost parse = { rsa_private_at };
-
-    ghost Spells = { SpellsRsaPrivate };
-
-    ghost needs = { NeedsRsaPrivate };
-
-    ghost grammar = { rsa_private_grammar };
+    ghost format = { rsa_private_format };
 
     fn decode<R: Reader>(alloc: Global, reader: &mut R) -> Result<RsaPrivateKey> {
         type Numbers = Then<Mpint, Then<Mpint, Then<Mpint, Mpint>>>;
@@ -155,9 +146,9 @@ impl From<RsaKeypair> for RsaPublicKey {
 ///
 /// `Length` where a string passes what is left, and `FormatEncoding` where its bytes are those of
 /// no number.
-#[tactic(auto, using(sshkey_format::proofs::Mapped::mapped, crate::proofs::Parts::rsa_pair_parts_read))]
+#[tactic(auto, using(sshkey_format::proofs::Mapped::mapped, crate::specs::PairFormats::rsa_pair_parts_read))]
 impl Decode for RsaKeypair {
-    ghost use Rattle.sshkey_pairs.specs.PairNeeds.{NeedsRsaPair};
+    ghost use Rattle.sshkey_pairs.specs.PairFormats.{rsa_pair_format};
     ghost use Rattle.sshkey_pairs.specs.Pairs.{rsa_pair_of};
 
     type Error = Error;
@@ -166,13 +157,7 @@ impl Decode for RsaKeypair {
 
     ghost means = { rsa_pair_of };
 
-    ghost parse = { value_at rsa_pair_at };
-
-    ghost Spells = { SpellsPair (Rsa None) };
-
-    ghost needs = { NeedsRsaPair };
-
-    ghost grammar = { pair_grammar (Rsa None) };
+    ghost format = { rsa_pair_format };
 
     fn decode<R: Reader>(alloc: Global, reader: &mut R) -> Result<RsaKeypair> {
         type Parts = Then<Mpint, Then<Mpint, RsaPrivateKey>>;

@@ -1,6 +1,6 @@
 use Rattle.std.proofs.lemmas.Result.{err_from_is_err_and}
 use Rattle.sshkey_format.proofs.Mapped.{mapped_refused}
-use Rattle.sshkey_keypairs.proofs.Parts.{sk_ed25519_pair_parts_read}
+use Rattle.sshkey_keypairs.specs.KeypairFormats.{sk_ed25519_pair_parts_read}
 use Rattle.sshkey_keypairs.proofs.sk_ed25519.SkEd25519Decode.decode.Goals as goal
 
 pub returns-in_err-public-clause-gives : goal.returns-in_err-public-clause-gives

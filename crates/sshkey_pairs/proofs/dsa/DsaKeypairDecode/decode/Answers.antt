@@ -1,6 +1,6 @@
 use Rattle.std.proofs.lemmas.Result.{err_from_is_err_and}
 use Rattle.sshkey_format.proofs.Mapped.{mapped_refused}
-use Rattle.sshkey_pairs.proofs.Parts.{dsa_pair_parts_read}
+use Rattle.sshkey_pairs.specs.PairFormats.{dsa_pair_parts_read}
 use Rattle.sshkey_pairs.proofs.dsa.DsaKeypairDecode.decode.Goals as goal
 
 pub returns-in_err-public-clause-gives : goal.returns-in_err-public-clause-gives
