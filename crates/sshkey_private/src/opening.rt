@@ -41,6 +41,9 @@ struct One(u32);
 /// What stands before the number of keys: the magic bytes, the cipher and the key derivation.
 type Sealing = Then<Magic, Then<Wide<Cipher>, Kdf>>;
 
+/// The number of keys, and the public key in a string.
+type Keys = Then<One, Boxed<KeyData>>;
+
 /// The magic bytes, cipher, key derivation, the number 1, and the public key in a string.
 ///
 /// `FormatEncoding` for other bytes than the magic ones, `Label` for names of none, the refusals
@@ -54,10 +57,9 @@ pub(crate) fn opening_from<R: Reader>(alloc: Global, reader: &mut R) -> Result<O
     ensures past { StopsBy cause opening_at opening_parts.needs opening_parts.overruns
         (R.source reader.old) result }
 {
-    let Then(sealing, Then(_, Boxed(public))) = Then::<Sealing, Then<One, Boxed<KeyData>>>::decode(
-        alloc, reader,
-    )?;
+    let Then(sealing, keys) = Then::<Sealing, Keys>::decode(alloc, reader)?;
     let Then(_, Then(Wide(cipher), kdf)) = sealing;
+    let Then(_, Boxed(public)) = keys;
     Ok(Opening {
         cipher,
         kdf,
