@@ -1,5 +1,5 @@
 -- A pair is read as the model reads it.
-use Rattle.std.proofs.Common.{Option, Result, refl, sym, ℕ, List}
+use Rattle.std.proofs.Common.{Option, Result, refl, ℕ, List}
 use Rattle.sshkey_model.specs.Grammar.{value_at}
 use Rattle.sshkey_model.specs.Names.{Algorithm}
 use Rattle.sshkey_model.specs.KeyPairs.{KeyPair, pair_at}

@@ -1,13 +1,13 @@
 -- What stands behind the name of each kind of pair, and a pair behind its name, by the terms that they are read as.
-use Rattle.std.proofs.Common.{◌≡◌, ℕ, List, Option, Some, None, Result, Ok, Err, refl}
+use Rattle.std.proofs.Common.{ℕ, List, [], Option, Some, Result, Ok, Err}
 use Rattle.std.specs.Int.{w8}
-use Rattle.sshkey_model.specs.Reading.{Fault, Length, ◌>>=◌, checked_at, number_at, string_at}
+use Rattle.sshkey_model.specs.Reading.{Fault, Length, number_at, string_at}
 use Rattle.sshkey_model.specs.Grammar.{IsGrammar, Spells, value_at}
 use Rattle.sshkey_model.specs.Names.{Algorithm, algorithm_from}
 use Rattle.sshkey_model.specs.Names as names
 use Rattle.sshkey_model.specs.Parts.{Any}
-use Rattle.sshkey_model.specs.Keys.{Key, SkEcdsa, SkEd25519, sk_ecdsa_at, sk_ed25519_at, wanted_curve}
-use Rattle.sshkey_model.specs.KeyPairs.{KeyPair, SkEcdsaPair, SkEd25519Pair, OpaquePair, SecurityPrivate, public_half, security_private, security_private_at, sk_ecdsa_pair_at, sk_ed25519_pair_at, opaque_pair_at, pair_at}
+use Rattle.sshkey_model.specs.Keys.{Key, SkEcdsa, SkEd25519, sk_ecdsa_at, sk_ed25519_at}
+use Rattle.sshkey_model.specs.KeyPairs.{KeyPair, SkEcdsaPair, SkEd25519Pair, OpaquePair, SecurityPrivate, security_private, security_private_at, sk_ecdsa_pair_at, sk_ed25519_pair_at, opaque_pair_at, pair_at}
 use Rattle.sshkey_model.proofs.CombinedReaders.{bind_assoc}
 use Rattle.sshkey_model.proofs.Grammars.{grammar}
 use Rattle.sshkey_model.proofs.KeyPairReaders.{security_private_reads}
@@ -70,6 +70,10 @@ opaque_pair_of_parts name a = Ok (OpaquePair name a.0 a.1)
 pub opaque_pair_parts_read : (name : List ℕ) → IsMapped (value_at (opaque_pair_at name)) (opaque_pair_of_parts name) (both_at string_at string_at)
 unfolding opaque_pair_at behind_at
 opaque_pair_parts_read name = record { same = λ b. simp bind_assoc }
+
+-- under the empty name
+pub nameless_parts_read : IsMapped (value_at (opaque_pair_at [])) (opaque_pair_of_parts []) (both_at string_at string_at)
+nameless_parts_read = opaque_pair_parts_read []
 
 -- the same, as a pair that is not encrypted
 pub some_opaque_parts_read : (name : List ℕ) → IsMapped (some_at (value_at (opaque_pair_at name))) (λ a. Ok (Some (OpaquePair name a.0 a.1))) (both_at string_at string_at)

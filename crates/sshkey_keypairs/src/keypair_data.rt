@@ -72,6 +72,9 @@ impl KeypairData {
     ///
     /// A sound source is refused only where no front is such a pair, with the first fault from the
     /// left, or for memory that ran out, where the pair needs some.
+    /// Of a source with a fault, what stands whole before it is refused only for memory that it
+    /// needs, and where a stated length passes all that was announced, the call fails with
+    /// `Length`, unless memory ran out for a value before it.
     pub fn decode_as<R: Reader>(
         alloc: Global,
         reader: &mut R,
@@ -301,7 +304,6 @@ fn sk_ed25519_from<R: Reader>(alloc: Global, reader: &mut R) -> Result<KeypairDa
 }
 
 /// A pair under a private-use name.
-#[tactic(auto, using(sshkey_format::proofs::Mapped::mapped, crate::specs::KeypairFormats::some_opaque_parts_read))]
 fn opaque_from<R: Reader>(
     alloc: Global,
     reader: &mut R,

@@ -129,7 +129,7 @@ impl OpaqueKeypairBytes {
 
 /// A string of the public bytes, and one of the private bytes. `Length` where one passes what is
 /// left.
-#[tactic(auto, using(sshkey_format::proofs::Mapped::mapped, crate::specs::KeypairFormats::opaque_pair_parts_read))]
+#[tactic(auto, using(sshkey_format::proofs::Mapped::mapped, crate::specs::KeypairFormats::nameless_parts_read))]
 impl Decode for OpaqueKeypairBytes {
     ghost use Rattle.std.specs.Prelude.{[]};
     ghost use Rattle.sshkey_model.specs.KeyPairs.{KeyPair};
