@@ -1,8 +1,7 @@
 -- How a private key is refused where a stated length passes.
-use Rattle.std.proofs.Common.{◌≡◌, ◌≢◌, ◌⊎◌, inl, inr, ℕ, List, true, Result, Ok, Err, refl, ◌∙◌}
-use Rattle.std.specs.Prelude.{IsOkAnd}
-use Rattle.sshkey_model.specs.Reading.{Fault, Length, ◌>>=◌, Front}
-use Rattle.sshkey_model.specs.KeyDerivation.{Cipher, NoCipher, Kdf, NoKdf, Bcrypt}
+use Rattle.std.proofs.Common.{◌≡◌, ◌⊎◌, inl, inr, ℕ, List, Result, Ok, Err, refl}
+use Rattle.sshkey_model.specs.Reading.{Length, ◌>>=◌, Front}
+use Rattle.sshkey_model.specs.KeyDerivation.{Cipher}
 use Rattle.sshkey_model.specs.PrivateKeys.{blocks_from}
 use Rattle.sshkey_base.specs.Causes.{Cause, Faulty}
 use Rattle.sshkey_base.specs.Lengths.{checked_lengths, string_lengths}
@@ -16,7 +15,7 @@ use Rattle.sshkey_format.specs.Terms.{mapped_lengths}
 use Rattle.sshkey_format.proofs.Stopping.{stopped_first}
 use Rattle.sshkey_ciphers.specs.Ciphertexts.{blocks_at}
 use Rattle.sshkey_private.specs.PrivateKeyReaders.{Opening, one_at, opening_at, sealed_at}
-use Rattle.sshkey_private.specs.PrivateKeyFormats.{opening_parts, opening_parts_read, is_held, OverrunsContent, OverrunsPrivateKey, MayRunOut, PassesAs}
+use Rattle.sshkey_private.specs.PrivateKeyFormats.{opening_parts, opening_parts_read, OverrunsContent, OverrunsPrivateKey, MayRunOut, PassesAs}
 
 pub stops_pass : {X Y E : Type 0} (cause : E → Cause) (read : Front Y) (needs overruns : List ℕ → ℕ → Type 0) (s : Source) (r : Result X E) → StopsBy cause read needs overruns s r → PassesAs cause needs overruns s r
 stops_pass cause read needs overruns s (Ok x) h = tt
@@ -31,16 +30,6 @@ blocks_lengths c = checked_lengths (blocks_from c) string_lengths
 pub sealed_lengths : (c : Cipher) → AreLengths (sealed_at c) OverrunsString
 unfolding behind_at
 sealed_lengths c b m o = rw (blocks_lengths c b m o) refl
-
--- ---- the private part
-
-pub held_passes : {X E : Type 0} (cause : E → Cause) (c : Cipher) (k : Kdf) (s : Source) (r : Result X E) → PassesAs cause NeedsString OverrunsString s r → PassesAs cause NeedsString (OverrunsContent c k) s r
-held_passes cause c k s (Ok x) h = tt
-held_passes cause c k s (Err e) h = λ o. h o.1
-
-pub not_held : {A : Type 0} (c : Cipher) (k : Kdf) → c ≡ NoCipher → k ≢ NoKdf → is_held c k ≡ true → A
-not_held c NoKdf none some held = absurd (some refl)
-not_held c (Bcrypt o) none some held = let h = rw none at held in absurd cc
 
 -- ---- behind the opening
 

@@ -7,7 +7,7 @@ use Rattle.sshkey_model.specs.Keys.{Key}
 use Rattle.sshkey_model.specs.KeyPairs.{KeyPair}
 use Rattle.sshkey_model.specs.PrivateKeys.{UnencryptedKey, rising, end_padding, padded_from}
 use Rattle.sshkey_model.proofs.CombinedReaders.{bind_ok, ok_is, passed}
-use Rattle.sshkey_base.proofs.MappedBoxes.{with_rest}
+use Rattle.sshkey_base.specs.Lengths.{with_rest}
 use Rattle.sshkey_keypairs.specs.KeypairReaders.{keypair_data_at}
 use Rattle.sshkey_private.specs.Halves.{is_half}
 use Rattle.sshkey_private.specs.Inner.{unencrypted, half_of, checkint_at, pair_with_at, inner_at}
