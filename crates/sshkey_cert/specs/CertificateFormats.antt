@@ -7,7 +7,7 @@ use Rattle.sshkey_model.proofs.CombinedReaders.{bind_assoc}
 use Rattle.sshkey_base.specs.Formats.{Format}
 use Rattle.sshkey_format.specs.Behind.{behind_at}
 use Rattle.sshkey_format.specs.Terms.{◌then◌, boxed, IsMapped, made_of}
-use Rattle.sshkey_keys.specs.SignatureReaders.{signature_format}
+use Rattle.sshkey_keys.specs.KeyFormats.{signature_format}
 use Rattle.sshkey_unsigned.specs.UnsignedReaders.{unsigned_value_at}
 use Rattle.sshkey_unsigned.specs.UnsignedFormats.{unsigned_format}
 use Rattle.sshkey_cert.specs.CertificateReaders.{certificate_value_at, certificate_grammar}

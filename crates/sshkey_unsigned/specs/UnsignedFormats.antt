@@ -12,7 +12,7 @@ use Rattle.sshkey_base.specs.Formats.{Format, number64_format, string_format, te
 use Rattle.sshkey_base.specs.NameFormats.{certified_format}
 use Rattle.sshkey_format.specs.Behind.{behind_at}
 use Rattle.sshkey_format.specs.Terms.{◌then◌, choice, boxed, IsMapped, made_of}
-use Rattle.sshkey_keys.specs.KeyReaders.{body_format, key_format}
+use Rattle.sshkey_keys.specs.KeyFormats.{body_format, key_format}
 use Rattle.sshkey_keys.proofs.BoxedKeys.{key_box}
 use Rattle.sshkey_options.specs.Leaves.{type_format, time_format, end_format}
 use Rattle.sshkey_options.specs.OptionReaders.{options_value_at}
@@ -21,9 +21,13 @@ use Rattle.sshkey_unsigned.specs.UnsignedReaders.{unsigned_value_at, unsigned_gr
 
 -- ---- what stands before the serial number
 
--- the name and the nonce, and the key's body under that name
+-- the name and the nonce
+abbrev pub opening_format : Format (Algorithm × List ℕ)
+opening_format = certified_format then string_format
+
+-- and the key's body under that name
 abbrev pub named_format : Format ((Algorithm × List ℕ) × Key)
-named_format = choice (certified_format then string_format) (λ x. body_format x.0)
+named_format = choice opening_format (λ x. body_format x.0)
 
 -- The bytes spell these behind some name.
 pub record SpellsSubject (subject : List ℕ × Key) (bytes : List ℕ) : Type 0 where
