@@ -8,7 +8,7 @@ use Rattle.sshkey_base.specs.Lengths.{checked_lengths, string_lengths}
 use Rattle.sshkey_base.specs.Needs.{NeedsString}
 use Rattle.sshkey_base.specs.Reading.{Reads}
 use Rattle.sshkey_base.specs.Source.{Source}
-use Rattle.sshkey_base.specs.Stops.{OverrunsString, AreLengths, RanOut, Stopped, StopsBy}
+use Rattle.sshkey_base.specs.Stops.{NoOverrun, OverrunsString, OverrunsBoxed, AreLengths, RanOut, Stopped, StopsBy, StopsToEnd}
 use Rattle.sshkey_base.proofs.Stopping.{read_past}
 use Rattle.sshkey_format.specs.Behind.{behind_at}
 use Rattle.sshkey_format.specs.Terms.{mapped_lengths}
@@ -17,9 +17,15 @@ use Rattle.sshkey_ciphers.specs.Ciphertexts.{blocks_at}
 use Rattle.sshkey_private.specs.PrivateKeyReaders.{Opening, one_at, opening_at, sealed_at}
 use Rattle.sshkey_private.specs.PrivateKeyFormats.{opening_parts, opening_parts_read, OverrunsContent, OverrunsPrivateKey, MayRunOut, PassesAs}
 
-pub stops_pass : {X Y E : Type 0} (cause : E → Cause) (read : Front Y) (needs overruns : List ℕ → ℕ → Type 0) (s : Source) (r : Result X E) → StopsBy cause read needs overruns s r → PassesAs cause needs overruns s r
-stops_pass cause read needs overruns s (Ok x) h = tt
-stops_pass cause read needs overruns s (Err e) h = h.past
+-- ---- a box that is read to its end, of whose inside nothing is said
+
+pub none_over : {X E : Type 0} (cause : E → Cause) (s : Source) (r : Result X E) → StopsToEnd cause NoOverrun s r
+none_over cause s (Ok x) = tt
+none_over cause s (Err e) = λ o. absurd o
+
+pub box_passes : {X Y E : Type 0} (cause : E → Cause) (read : Front Y) (needs inner : List ℕ → ℕ → Type 0) (s : Source) (r : Result X E) → StopsBy cause read needs (OverrunsBoxed inner) s r → PassesAs cause needs OverrunsString s r
+box_passes cause read needs inner s (Ok x) h = tt
+box_passes cause read needs inner s (Err e) h = λ o. h.past (inl o)
 
 -- ---- an encrypted key
 
