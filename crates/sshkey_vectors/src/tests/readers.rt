@@ -54,11 +54,12 @@ fn bytes_that_are_lent(rt: HostRuntime) {
 fn shows_lengths(alloc: Global, bytes: &[u8]) -> Result<bool> {
     let mut left = bytes;
     left.read_prefixed(|part: &mut NestedReader<'_, &[u8]>| -> Result<bool> {
-        let three = is_debugged(alloc, part, "NestedReader { remaining: 3, .. }");
-        let first = u8::decode(alloc, part)?;
-        let two = is_debugged(alloc, part, "NestedReader { remaining: 2, .. }");
-        part.skip(2);
-        Ok(three && first == 42 && two)
+        let three = is_debugged(alloc, &*part, "NestedReader { remaining: 3, .. }");
+        let (mut first, mut rest) = ([0u8; 1], [0u8; 2]);
+        part.read(&mut first)?;
+        let two = is_debugged(alloc, &*part, "NestedReader { remaining: 2, .. }");
+        part.read(&mut rest)?;
+        Ok(three && two)
     })
 }
 
