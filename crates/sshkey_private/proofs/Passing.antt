@@ -1,20 +1,14 @@
 -- How a private key is refused where a stated length passes.
 use Rattle.std.proofs.Common.{◌≡◌, ◌⊎◌, inl, inr, ℕ, List, Result, Ok, Err, refl}
-use Rattle.std.proofs.Common.{◌+◌, ◌<◌, length}
-use Rattle.std.specs.Prelude.{IsOkAnd}
-use Rattle.std.specs.Int.{w32}
-use Rattle.sshkey_model.specs.Reading.{Fault, Length, ◌>>=◌, Front, number_at}
+use Rattle.sshkey_model.specs.Reading.{Length, ◌>>=◌, Front}
 use Rattle.sshkey_model.specs.KeyDerivation.{Cipher}
 use Rattle.sshkey_model.specs.PrivateKeys.{blocks_from}
-use Rattle.sshkey_base.specs.declared.encoding.Error.{Error}
-use Rattle.sshkey_base.specs.declared.encoding.Error.TheVariants as encoding
-use Rattle.sshkey_base.specs.Causes.{Cause, Faulty, encoding_cause}
-use Rattle.sshkey_base.specs.Nested.{PastIs}
+use Rattle.sshkey_base.specs.Causes.{Cause, Faulty}
 use Rattle.sshkey_base.specs.Lengths.{checked_lengths, string_lengths}
 use Rattle.sshkey_base.specs.Needs.{NeedsString}
 use Rattle.sshkey_base.specs.Reading.{Reads}
 use Rattle.sshkey_base.specs.Source.{Source}
-use Rattle.sshkey_base.specs.Stops.{OverrunsString, AreLengths, RanOut, Stopped, StopsBy}
+use Rattle.sshkey_base.specs.Stops.{NoOverrun, OverrunsString, OverrunsBoxed, AreLengths, RanOut, Stopped, StopsBy, StopsToEnd}
 use Rattle.sshkey_base.proofs.Stopping.{read_past}
 use Rattle.sshkey_format.specs.Behind.{behind_at}
 use Rattle.sshkey_format.specs.Terms.{mapped_lengths}
@@ -23,9 +17,15 @@ use Rattle.sshkey_ciphers.specs.Ciphertexts.{blocks_at}
 use Rattle.sshkey_private.specs.PrivateKeyReaders.{Opening, one_at, opening_at, sealed_at}
 use Rattle.sshkey_private.specs.PrivateKeyFormats.{opening_parts, opening_parts_read, OverrunsContent, OverrunsPrivateKey, MayRunOut, PassesAs}
 
-pub stops_pass : {X Y E : Type 0} (cause : E → Cause) (read : Front Y) (needs overruns : List ℕ → ℕ → Type 0) (s : Source) (r : Result X E) → StopsBy cause read needs overruns s r → PassesAs cause needs overruns s r
-stops_pass cause read needs overruns s (Ok x) h = tt
-stops_pass cause read needs overruns s (Err e) h = h.past
+-- ---- a box that is read to its end, of whose inside nothing is said
+
+pub none_over : {X E : Type 0} (cause : E → Cause) (s : Source) (r : Result X E) → StopsToEnd cause NoOverrun s r
+none_over cause s (Ok x) = tt
+none_over cause s (Err e) = λ o. absurd o
+
+pub box_passes : {X Y E : Type 0} (cause : E → Cause) (read : Front Y) (needs inner : List ℕ → ℕ → Type 0) (s : Source) (r : Result X E) → StopsBy cause read needs (OverrunsBoxed inner) s r → PassesAs cause needs OverrunsString s r
+box_passes cause read needs inner s (Ok x) h = tt
+box_passes cause read needs inner s (Err e) h = λ o. h.past (inl o)
 
 -- ---- an encrypted key
 
@@ -56,12 +56,3 @@ module _ {C X E : Type 0} (means : C → Opening) (cause : E → Cause) (s t : S
         | inl is ↦ inl is
         | inr m ↦ inr (record { memory = m.memory; needed = inr (rw (h.value, ← h.missing) m.needed) })
       ]
-
--- a length before a part that `read_prefixed` reads
-pub past_passes : {X E : Type 0} (from_gives : Error → E → Type 0) (cause : E → Cause) (keeps : (x : Error) (e : E) → from_gives x e → cause e ≡ encoding_cause x) (needs : List ℕ → ℕ → Type 0) (s : Source) (r : Result X E) → PastIs from_gives s r → PassesAs cause needs OverrunsString s r
-past_passes from_gives cause keeps needs s (Ok x) h = tt
-past_passes {X} {E} from_gives cause keeps needs s (Err e) h = λ o. inl (keeps encoding.Length e (go (number_at w32 s.left) refl o))
-  where
-    go : (found : Result (ℕ × List ℕ) Fault) → number_at w32 s.left ≡ found → IsOkAnd found (λ x. length x.1 + s.missing < x.0) → from_gives encoding.Length e
-    go (Ok n) is o = h n.0 n.1 is o
-    go (Err f) is o = absurd o
