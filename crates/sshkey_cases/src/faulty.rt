@@ -63,9 +63,10 @@ where
     Error: From<T::Error>,
 {
     for place in places.chunks_exact(2) {
-        let at = place
-            .iter()
-            .fold(0, |number, byte| number * 256 + usize::from(*byte));
+        let at = match place {
+            [high, low] => u16::from_be_bytes([*high, *low]) as usize,
+            _ => return Err(NO_LINE),
+        };
         let mut front = Vec::from_slice(alloc, bytes.get(..at).unwrap_or(bytes))?;
         front.extend_from_slice(&[0xff; 4])?;
         let missing = u32::try_from(bytes.len().saturating_sub(front.len())).unwrap_or(u32::MAX);
