@@ -1,0 +1,66 @@
+"""What the checks of built programs share: how they count, what they make with ssh-keygen, and how they ask the table."""
+import os
+import struct
+import subprocess
+
+ROOT = os.path.dirname(os.path.dirname(os.path.dirname(os.path.abspath(__file__))))
+# the built program that answers lines of questions
+TABLE = os.path.join(ROOT, "crates", "sshkey_cases", "out", "sshkey_cases")
+
+
+class Count:
+    """Counts what holds, and says the name of each check."""
+
+    def __init__(self):
+        self.passed = self.failed = 0
+
+    def check(self, name, holds, *details):
+        self.passed += bool(holds)
+        self.failed += not holds
+        print(*([f"ok: {name}"] if holds else [f"FAILED: {name}", *(f"  {it}" for it in details)]), sep="\n", flush=True)
+
+    def finish(self):
+        """Prints the last line of a check and returns its status."""
+        print(f"{self.passed} passed, {self.failed} failed")
+        return 1 if self.failed or not self.passed else 0
+
+
+def string(data):
+    """A string as SSH writes it: its length in four bytes, and its bytes."""
+    return struct.pack(">I", len(data)) + data
+
+
+def take(data):
+    """The string in front of the bytes, and what follows it."""
+    length = struct.unpack(">I", data[:4])[0]
+    return data[4 : 4 + length], data[4 + length :]
+
+
+def ssh_keygen(*words, **how):
+    """A run of ssh-keygen, which has to succeed unless check=False is given."""
+    return subprocess.run(["ssh-keygen", *words], **{"check": True, "capture_output": True, "stdin": subprocess.DEVNULL, **how})
+
+
+def new_key(path, kind, comment=""):
+    """The line of a new public key, whose parts stand in the files path and path.pub; None where ssh-keygen makes no such key,
+    as newer versions do for DSA."""
+    for file in (path, f"{path}.pub"):
+        if os.path.exists(file):
+            os.remove(file)
+    run = ssh_keygen("-q", "-t", *kind.split(), "-N", "", "-C", comment, "-f", path, check=kind != "dsa")
+    if run.returncode:
+        return None
+    with open(f"{path}.pub", "rb") as file:
+        return file.read().removesuffix(b"\n")
+
+
+def spelled(text):
+    """The text as a question of the table spells it."""
+    return " ".join(byte.encode().hex() for byte in text) if text else '""'
+
+
+def answers_of(program, questions):
+    """What the program answers to each of the questions that it answers."""
+    lines = "".join(f"{it}\n" for it in questions)
+    run = subprocess.run([program], input=lines, capture_output=True, encoding="utf-8", check=False)
+    return dict(it.split(" = ", 1) for it in run.stdout.splitlines() if " = " in it)
