@@ -1,10 +1,9 @@
 -- How reading calls refuse on any source, step by step.
-use Rattle.std.proofs.Common.{◌≡◌, ◌⊎◌, inl, inr, ◌≤◌, ◌<◌, ◌+◌, ◌-◌, ℕ, List, length, take, IsOk, Result, Ok, Err, refl, sym, ◌∙◌, arith}
-use Rattle.std.specs.Prelude.{IsOkAnd}
+use Rattle.std.proofs.Common.{◌≡◌, inl, inr, ◌<◌, ◌-◌, ℕ, List, length, IsOk, Result, Ok, Err, refl}
 use Rattle.std.specs.Int.{w32}
 use Rattle.sshkey_model.specs.Reading.{Fault, Length, ◌>>=◌, Front, number_at, bytes_at, string_at, checked_at}
 use Rattle.sshkey_base.specs.Answers.{AnswersAlways}
-use Rattle.sshkey_base.specs.Causes.{Cause, NoMemory, Faulty}
+use Rattle.sshkey_base.specs.Causes.{Cause, Faulty}
 use Rattle.sshkey_base.specs.Source.{Source, announced_len}
 use Rattle.sshkey_base.specs.Needs.{NeedsString, NeedsBytes}
 use Rattle.sshkey_base.specs.Reading.{Reads, Refuses, GivesAlways}

@@ -2,7 +2,7 @@
 use Rattle.std.proofs.Common.{◌≡◌, inl, inr, ◌≤◌, ◌<◌, ◌+◌, ◌-◌, ℕ, zero, suc, Bool, true, false, ltb, Option, Some, None, List, [], ◌∷◌, length, take, drop, Result, Ok, Err, refl, arith}
 use Rattle.std.specs.Prelude.{IsOkAnd, cond}
 use Rattle.std.specs.Int.{w32}
-use Rattle.std.proofs.lemmas.Bool.{lt-ltb, le-ltb, cases_lt}
+use Rattle.std.proofs.lemmas.Bool.{lt-ltb}
 use Rattle.sshkey_model.specs.Reading.{Fault, Length, ◌>>=◌, Front, Whole, whole, number_at, bytes_at, string_at, box_at, checked_at, list_within, list_whole}
 use Rattle.sshkey_model.specs.CertificateNames.{certified_from, certificate_algorithm_at}
 use Rattle.sshkey_model.specs.Mpints.{mpint_at, mpint_from}

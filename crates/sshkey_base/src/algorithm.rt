@@ -57,8 +57,8 @@ pub enum Algorithm {
 }
 
 impl Algorithm {
-    /// The algorithm of that name: one of the fixed ones, or else a private-use one, and
-    /// `Label` where it is no name. Memory is asked for only for a private-use name.
+    /// The algorithm of that name: one of the fixed ones, or else a private-use one, and `Label`
+    /// where it is no name. Memory is allocated only for a private-use name.
     pub fn new(alloc: Global, name: &str) -> Result<Algorithm>
         ensures gives { Names algorithm_of cause (algorithm_from name.now) result }
         ensures fixed { (a : model.Algorithm) → named algorithm_name algorithms name.now ≡ Some a →
@@ -94,7 +94,7 @@ impl Algorithm {
         Some(algorithm)
     }
 
-    /// Whether it is the name of an algorithm: Ok exactly where `new` with enough memory is, else
+    /// Whether it is the name of an algorithm: `Ok` exactly if `new` with enough memory is, else
     /// `Label`. Takes no memory.
     pub fn check(name: &str) -> Result<()>
         ensures { Judges cause (algorithm_from name.now) result }
@@ -156,7 +156,7 @@ impl Algorithm {
         matches!(self, Algorithm::Rsa { .. })
     }
 
-    /// The same algorithm. It is refused only when out of memory, and only for a private-use name.
+    /// The same algorithm. Fails only when out of memory, and only for a private-use name.
     pub fn try_clone(&self, alloc: Global) -> Result<Algorithm>
         ensures ok { IfOk result (λ clone. clone ≡ self.now) }
         ensures fixed { IsFixed (algorithm_of self.now) → IsOk result }

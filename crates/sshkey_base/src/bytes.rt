@@ -37,7 +37,7 @@ impl Bytes {
         Bytes { bytes }
     }
 
-    /// A copy of the bytes. Refused only when out of memory.
+    /// A copy of the bytes. Fails only when out of memory.
     pub fn from_slice(alloc: Global, bytes: &[u8]) -> Result<Bytes, Error>
         ensures copy { IfOk result (λ b. b ≡ bytes.now) }
         ensures memory { IfErr result (λ e. e ≡ Error.Memory) }
@@ -47,7 +47,7 @@ impl Bytes {
         })
     }
 
-    /// A copy. Refused only when out of memory.
+    /// A copy. Fails only when out of memory.
     pub fn try_clone(&self, alloc: Global) -> Result<Bytes, Error>
         ensures copy { IfOk result (λ b. b ≡ self.now) }
         ensures memory { IfErr result (λ e. e ≡ Error.Memory) }
@@ -79,8 +79,8 @@ impl Bytes {
         bytes_from(alloc, len, spare, reader)
     }
 
-    /// Writes zeros over the bytes, and gives the memory that held them. Where that is let go unread,
-    /// a compiler may leave the writing out. Takes no memory.
+    /// Writes zeros over the bytes, and returns the memory that held them. If that memory is
+    /// dropped unread, a compiler may omit the writes. Takes no memory.
     pub fn erase(self) -> Vec<u8>
         ensures { result.items ≡ replicate (length self) 0 }
     {
@@ -99,7 +99,7 @@ impl Bytes {
 
 /// A length of four bytes, and the bytes (RFC 4251, section 5).
 ///
-/// A length that passes what is left is `Length`, and no memory is asked for it.
+/// A length larger than the remaining input fails with `Length`, and nothing is allocated for it.
 impl Decode for Bytes {
     type Error = Error;
 
@@ -119,8 +119,8 @@ impl Decode for Bytes {
     }
 }
 
-/// The next `len` bytes; where they are lent, in memory that has room for `spare` more. `Length`
-/// where more are asked for than are announced.
+/// The next `len` bytes; where they are lent, in memory that has room for `spare` more. Fails with
+/// `Length` if more are asked for than are announced.
 #[tactic(auto, using(crate::proofs::Lending::lending))]
 #[inline(always)]
 pub(crate) fn bytes_from<R: Reader>(

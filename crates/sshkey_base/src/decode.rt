@@ -38,8 +38,8 @@ pub trait Decode: Sized {
     /// A source with a fault is refused like this: what stands whole before the fault is refused
     /// only for memory that it needs, and where a stated length passes all that was announced, the
     /// call fails with `Length`, unless memory ran out for a value before it. What else is refused
-    /// of such a source is open. After a refusal some of the bytes that were left may be passed,
-    /// and nothing else changed.
+    /// of such a source is open. After an error some of the remaining bytes may have been consumed;
+    /// nothing else has changed.
     fn decode<R: Reader>(alloc: Global, reader: &mut R) -> Result<Self, Self::Error>
         ensures gives { Gives means Self.Error.cause format.read
             (R.source reader.old) result (R.source reader.new) }
@@ -121,7 +121,7 @@ impl Decode for u64 {
 }
 
 /// A string of exactly `N` bytes: a length of four bytes, and the bytes (RFC 4251, section 5).
-/// `Length` for a shorter one, `TrailingData` for a longer one. Takes no memory.
+/// Fails with `Length` for a shorter one, with `TrailingData` for a longer one. Takes no memory.
 #[tactic(auto, using(crate::proofs::Boxes::boxes))]
 impl<const N: usize> Decode for [u8; N] {
     type Error = encoding::Error;
@@ -152,12 +152,12 @@ impl<const N: usize> Decode for [u8; N] {
     }
 }
 
-/// Reads a length of four bytes, and a value that takes exactly so many bytes.
+/// Reads a length of four bytes, and a value that takes exactly that many bytes.
 ///
-/// Out of memory aside, a sound source is refused only where no front of it is a length and so many
-/// bytes that spell a value.
-/// `Length` where the length passes what is left, `TrailingData` with the number of bytes that
-/// the value leaves. Memory is asked for only by the value, in a part that stands whole.
+/// Unless memory runs out, a sound source is refused only where no front of it is a length and that
+/// many bytes that spell a value. Fails with `Length` if the length passes what is left, with
+/// `TrailingData` and the number of bytes that the value leaves. Memory is allocated only by the
+/// value, in a part that stands whole.
 #[tactic(auto, using(crate::proofs::Boxes::boxes))]
 pub fn decode_boxed<T: Decode + Drop, R: Reader>(
     alloc: Global,
@@ -177,9 +177,9 @@ pub fn decode_boxed<T: Decode + Drop, R: Reader>(
 
 /// Reads a value from the front, in the words of the grammar.
 ///
-/// The bytes taken spell the value, and the rest is left. Out of memory aside, a sound source is
-/// refused only where no front of it spells any value, and out of memory is answered only where
-/// the value needs some: a stated length that passes what is left is `Length`.
+/// The bytes taken spell the value, and the rest is left. Unless memory runs out, a sound source is
+/// refused only where no front of it spells any value, and with `Memory` only where the value needs
+/// some: a stated length that passes what is left is `Length`.
 pub fn decode_front<T: Decode, R: Reader>(alloc: Global, reader: &mut R) -> Result<T, T::Error>
     ensures gives { Gives T.means T.Error.cause T.format.read
         (R.source reader.old) result (R.source reader.new) }
@@ -194,15 +194,16 @@ pub fn decode_front<T: Decode, R: Reader>(alloc: Global, reader: &mut R) -> Resu
 
 /// Reads a value that is all there is.
 ///
-/// Out of memory aside, a sound source is accepted exactly if all its bytes together spell a
-/// value, which then is the answer. `TrailingData` with the number of bytes behind a value, and
-/// `Length` for a stated length that passes what is left, before any memory is asked for. A source
-/// with a fault is never accepted.
+/// Unless memory runs out, a sound source is accepted exactly if all its bytes together spell a
+/// value, which is then returned. Fails with `TrailingData` and the number of bytes behind a value,
+/// and with `Length` for a stated length that passes what is left, before anything is allocated. A
+/// source with a fault is never accepted.
 pub fn decode_whole<T: Decode + Drop, R: Reader + Drop>(
     alloc: Global,
     mut reader: R,
 ) -> Result<T, T::Error>
-    ensures gives { GivesWhole T.means T.Error.cause (whole T.format.read) (R.source reader) result }
+    ensures gives { GivesWhole T.means T.Error.cause
+        (whole T.format.read) (R.source reader) result }
     ensures asks { Asks T.Error.cause T.format.needs (R.source reader) result }
     ensures accepts { AcceptsWhole T.means T.format.Spells T.Error.cause (R.source reader) result }
 {

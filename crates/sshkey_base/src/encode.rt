@@ -20,23 +20,23 @@ pub trait Encode {
     /// No value that fits has more bytes.
     ghost max_len: { ℕ };
 
-    /// How many bytes the normal form has. Exactly where a box in it would pass 2^32 - 1 bytes,
-    /// the answer is `Length`. Takes no memory.
+    /// How many bytes the normal form has. Fails with `Length` exactly if a box in it would exceed
+    /// 2^32 - 1 bytes. Takes no memory.
     fn encoded_len(&self) -> Result<usize>
         ensures measures { Measures (normal self.now) result }
         ensures short { IfOk result (λ n. n ≤ max_len) };
 
     /// Writes the bytes of the normal form.
     ///
-    /// Where a box in it would pass 2^32 - 1 bytes, the answer is `Length`; any other refusal is
-    /// the writer's own. After a refusal the writer holds what it held, and a beginning of the
+    /// Fails with `Length` if a box in it would exceed 2^32 - 1 bytes; any other error is the
+    /// writer's own. After an error the writer holds what it held before, and a prefix of the
     /// bytes. Takes no memory of its own.
     fn encode<W: Writer>(&self, writer: &mut W) -> Result<()>
         ensures { Encodes W.fault (normal self.now)
             (W.sink writer.old) result (W.sink writer.new) };
 
-    /// How many bytes the value has behind its length. Exactly where it or a box in it would pass
-    /// 2^32 - 1 bytes, the answer is `Length`. Takes no memory.
+    /// How many bytes the value has behind its length. Fails with `Length` exactly if it or a box
+    /// in it would exceed 2^32 - 1 bytes. Takes no memory.
     final fn encoded_len_prefixed(&self) -> Result<usize>
     where
         Self: Sized,
@@ -49,7 +49,7 @@ pub trait Encode {
 
     /// Writes a length of four bytes, and the bytes of the normal form (RFC 4251, section 5).
     ///
-    /// The refusals are those of `encode`, and `Length` where the bytes pass 2^32 - 1.
+    /// Fails as `encode` does, and with `Length` if there are more than 2^32 - 1 bytes.
     final fn encode_prefixed<W: Writer>(&self, writer: &mut W) -> Result<()>
     where
         Self: Sized,
@@ -61,7 +61,7 @@ pub trait Encode {
     }
 }
 
-/// The number in four bytes. `Length` where it needs more. Takes no memory.
+/// The number in four bytes. Fails with `Length` if it needs more. Takes no memory.
 pub fn u32_of(len: usize) -> Result<u32>
     ensures { IsLength len result }
 {
@@ -73,7 +73,7 @@ pub fn u32_of(len: usize) -> Result<u32>
 
 /// Writes a length of four bytes, and the bytes (RFC 4251, section 5).
 ///
-/// `Length` where there are more than 2^32 - 1; any other refusal is the writer's own.
+/// Fails with `Length` if there are more than 2^32 - 1; any other error is the writer's own.
 pub fn encode_string<W: Writer>(bytes: &[u8], writer: &mut W) -> Result<()>
     ensures { Encodes W.fault (string bytes.now) (W.sink writer.old) result (W.sink writer.new) }
 {
@@ -81,8 +81,8 @@ pub fn encode_string<W: Writer>(bytes: &[u8], writer: &mut W) -> Result<()>
     writer.write(bytes)
 }
 
-/// How many bytes a string has with its length before it. `Length` exactly where it is longer than
-/// 2^32 - 1 bytes. Takes no memory.
+/// How many bytes a string has with its length before it. Fails with `Length` exactly if it is
+/// longer than 2^32 - 1 bytes. Takes no memory.
 #[tactic(auto, using(crate::proofs::Writing::measuring_leaves))]
 pub fn string_len(bytes: &[u8]) -> Result<usize>
     ensures measures { Measures (string bytes.now) result }
@@ -92,8 +92,8 @@ pub fn string_len(bytes: &[u8]) -> Result<usize>
     Ok(4 + len as usize)
 }
 
-/// How many bytes two values have, one behind the other. `Length` exactly where a box in one of
-/// them would pass 2^32 - 1 bytes. Takes no memory.
+/// How many bytes two values have, one behind the other. Fails with `Length` exactly if a box in
+/// one of them would exceed 2^32 - 1 bytes. Takes no memory.
 #[tactic(auto, using(crate::proofs::Writing::measuring))]
 pub fn both_len<A: Encode, B: Encode>(first: &A, second: &B) -> Result<usize>
     requires { A.max_len + B.max_len < 2 ^ 64 }
@@ -117,10 +117,10 @@ pub fn encode_both<A: Encode, B: Encode, W: Writer>(
     second.encode(writer)
 }
 
-/// The bytes of the normal form, in memory of their own.
+/// The bytes of the normal form, newly allocated.
 ///
-/// Exactly where a box in it would pass 2^32 - 1 bytes, the answer is `Length`; otherwise it is
-/// refused only when out of memory.
+/// Fails with `Length` exactly if a box in it would exceed 2^32 - 1 bytes, and otherwise only when
+/// out of memory.
 pub fn encode_vec<T: Encode>(alloc: Global, value: &T) -> Result<Vec<u8>>
     ensures { MakesBytes (T.normal value.now) result }
 {

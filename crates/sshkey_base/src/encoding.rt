@@ -16,7 +16,7 @@ pub enum Error {
     /// A text is not UTF-8.
     #[error("character encoding invalid")]
     CharacterEncoding,
-    /// A name is none of those allowed.
+    /// A name is not one of those allowed.
     #[error("label invalid")]
     Label,
     /// A length passes what is left, what can be written, or 2^32 - 1.
@@ -33,7 +33,7 @@ pub enum Error {
     Memory,
 }
 
-/// What a call of the encoding answers.
+/// The result of a call of the encoding.
 pub type Result<T> = std::result::Result<T, Error>;
 
 impl From<AllocError> for Error {

@@ -14,7 +14,7 @@ use std::array::TryFromSliceError;
 use std::io;
 use std::str::Utf8Error;
 
-/// Every refusal of the crates.
+/// Every error of the crates.
 #[derive(Debug, Drop, PartialEq, Eq, thiserror::Error)]
 pub enum Error {
     /// The algorithm or the curve is not the one that was stated: the first word of a line is not
@@ -66,7 +66,7 @@ pub enum Error {
     /// The public key is not the one that was asked for.
     #[error("public key is incorrect")]
     PublicKey,
-    /// The version is none that is read.
+    /// The version is not one that is read.
     #[error("version unsupported: {number}")]
     Version {
         /// The version.
@@ -83,7 +83,7 @@ pub enum Error {
     },
 }
 
-/// What a call of the crates answers.
+/// The result of a call of the crates.
 pub type Result<T> = std::result::Result<T, Error>;
 
 impl From<encoding::Error> for Error {

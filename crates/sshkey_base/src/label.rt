@@ -50,8 +50,8 @@ pub trait Label: Sized {
     fn label(&self) -> &str
         ensures { result.now ≡ name (stands_for self.now) };
 
-    /// The value of that name. `Label` exactly where there is none, out of memory aside; memory is
-    /// asked for only where the value keeps some.
+    /// The value of that name. Fails with `Label` exactly if there is none, unless memory runs out;
+    /// memory is allocated only where the value keeps some.
     fn from_label(alloc: Global, text: &str) -> Result<Self>
         ensures gives { LooksUp stands_for named text.now result }
         ensures asks { AsksNamed encoding_cause needs text.now result };
@@ -66,8 +66,8 @@ pub trait Label: Sized {
     ghost refusals: { (text : List ℕ) (fault : Fault) → named text ≡ Err fault → fault ≡ label_fault };
 }
 
-/// The string of a name. `Label` for a string that is none of the names, for which no memory is
-/// asked.
+/// The string of a name. Fails with `Label` for a string that is none of the names, for which
+/// nothing is allocated.
 #[tactic(auto, using(crate::proofs::Steps::steps), unfolding(crate::specs::Labels::label_at, sshkey_model::specs::Reading::string_at))]
 impl<T: Label> Decode for T {
     type Error = Error;
@@ -92,8 +92,8 @@ impl<T: Label> Decode for T {
     }
 }
 
-/// The value of the name that the next `len` bytes spell. `Length` where more are asked for than
-/// are announced.
+/// The value of the name that the next `len` bytes spell. Fails with `Length` if more are asked for
+/// than are announced.
 #[tactic(auto, using(crate::proofs::Steps::steps, crate::proofs::Lending::lending))]
 #[inline(always)]
 fn name_from<T: Label, R: Reader>(alloc: Global, len: usize, reader: &mut R) -> Result<T>
@@ -115,8 +115,8 @@ fn name_from<T: Label, R: Reader>(alloc: Global, len: usize, reader: &mut R) -> 
     }
 }
 
-/// The value of the name that the bytes spell. `Label` exactly where there is none, out of memory
-/// aside.
+/// The value of the name that the bytes spell. Fails with `Label` exactly if there is none, unless
+/// memory runs out.
 #[inline(always)]
 fn named<T: Label>(alloc: Global, name: &[u8]) -> Result<T>
     ensures gives { LooksUp T.stands_for T.named name.now result }

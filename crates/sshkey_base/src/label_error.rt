@@ -7,7 +7,7 @@ ghost use Rattle.sshkey_base.specs.declared.error.Error.TheVariants as wide;
 use crate::encoding;
 use crate::error::Error;
 
-/// A text is none of those that a type knows. It becomes `Label`.
+/// A text is not one of the names of a type. It becomes `Label`.
 #[derive(Clone, Copy, Debug, PartialEq, Eq, thiserror::Error)]
 #[error("label invalid")]
 pub struct LabelError;

@@ -21,8 +21,8 @@ use crate::reader::{NestedReader, Reader};
 use crate::writer::Writer;
 use std::alloc::Global;
 
-/// How many bytes the values have, one behind the other. `Length` exactly where a box can't hold
-/// them, or a box in one of them is too long.
+/// How many bytes the values have, one behind the other. Fails with `Length` exactly if a box can't
+/// hold them, or a box in one of them is too long.
 fn each_len<T: Encode>(values: &[T]) -> Result<u32>
     ensures { MeasuresBoxed (each T.normal values.now) result }
 {
@@ -47,8 +47,8 @@ fn encode_each<T: Encode, W: Writer>(values: &[T], writer: &mut W) -> Result<()>
 
 /// How many bytes a list has: a length of four bytes, and the values, one behind the other.
 ///
-/// `Length` exactly where the values pass 2^32 - 1 bytes, or a box in one of them does. Takes no
-/// memory.
+/// Fails with `Length` exactly if the values exceed 2^32 - 1 bytes, or a box in one of them does.
+/// Takes no memory.
 pub fn list_len<T: Encode>(values: &[T]) -> Result<usize>
     ensures measures { Measures (box (each T.normal values.now)) result }
     ensures short { IfOk result (λ n. n < 2 ^ 32 + 4) }
@@ -59,7 +59,7 @@ pub fn list_len<T: Encode>(values: &[T]) -> Result<usize>
 
 /// Writes a list: a length of four bytes, and the values, one behind the other.
 ///
-/// The refusals are those of the values, and `Length` where they pass 2^32 - 1 bytes.
+/// Fails as writing the values does, and with `Length` if they have more than 2^32 - 1 bytes.
 pub fn encode_list<T: Encode, W: Writer>(values: &[T], writer: &mut W) -> Result<()>
     ensures { Encodes W.fault (box (each T.normal values.now))
         (W.sink writer.old) result (W.sink writer.new) }
@@ -86,8 +86,9 @@ fn texts_from<R: Reader>(alloc: Global, reader: &mut R) -> Result<Vec<String>>
 /// A list of texts in one string (RFC 4251, section 5; so a certificate holds its principals,
 /// PROTOCOL.certkeys): a length of four bytes, and strings up to the end of that part.
 ///
-/// A length that passes what is left is `Length`, and no memory is asked for it; so is the length
-/// of a text that passes the list. A text that is not UTF-8 is `CharacterEncoding`.
+/// A length larger than the remaining input fails with `Length`, and nothing is allocated for it;
+/// so does the length of a text that passes the list. A text that is not UTF-8 is
+/// `CharacterEncoding`.
 #[tactic(auto, using(crate::proofs::Boxes::boxes))]
 impl Decode for Vec<String> {
     type Error = Error;

@@ -54,8 +54,8 @@ impl Mpint {
 
     /// The number that has these bytes, in two's complement.
     ///
-    /// `FormatEncoding` for the byte 00 alone and for 00 before a byte below 80 hex, and otherwise
-    /// only `Memory`.
+    /// Fails with `FormatEncoding` for the byte 00 alone and for 00 before a byte below 80 hex, and
+    /// otherwise only `Memory`.
     pub fn from_bytes(alloc: Global, bytes: &[u8]) -> Result<Mpint>
         ensures { Answers mpint_of cause (mpint_from bytes.now) result }
     {
@@ -82,7 +82,7 @@ impl Mpint {
     /// The number that is not negative and has these bytes, most significant first.
     ///
     /// Leading bytes 00 are left out, and one 00 is put before a first byte of 80 hex or more.
-    /// Refuses only when out of memory.
+    /// Fails only when out of memory.
     pub fn from_positive_bytes(alloc: Global, bytes: &[u8]) -> Result<Mpint>
         ensures value { IfOk result (λ m. mpint_of m ≡ of_positive bytes.now) }
         ensures refused { IfErr result (λ e. e ≡ Error.Memory) }
@@ -121,15 +121,15 @@ impl Mpint {
         }
     }
 
-    /// Writes zeros over the bytes, and gives the memory that held them. Where that is let go unread,
-    /// a compiler may leave the writing out. Takes no memory.
+    /// Writes zeros over the bytes, and returns the memory that held them. If that memory is
+    /// dropped unread, a compiler may omit the writes. Takes no memory.
     pub fn erase(self) -> Vec<u8>
         ensures { result.items ≡ replicate (length (mpint_of self)) 0 }
     {
         self.bytes.erase()
     }
 
-    /// The same number in memory of its own. Refuses only when out of memory.
+    /// A copy of the number. Fails only when out of memory.
     pub fn try_clone(&self, alloc: Global) -> Result<Mpint>
         ensures value { IfOk result (λ m. mpint_of m ≡ mpint_of self.now) }
         ensures refused { IfErr result (λ e. e ≡ Error.Memory) }
@@ -212,8 +212,8 @@ impl fmt::Display for Mpint {
 
 /// A string whose bytes are those of a number (RFC 4251, section 5).
 ///
-/// `Length` where the string passes what is left, which no memory is asked for, and
-/// `FormatEncoding` where its bytes are those of no number.
+/// Fails with `Length` if the string is longer than the remaining input, and nothing is allocated
+/// for it; with `FormatEncoding` if its bytes are those of no number.
 #[tactic(auto, using(crate::proofs::Steps::steps, crate::proofs::Stopping::stopping), unfolding(sshkey_model::specs::Mpints::mpint_at))]
 impl Decode for Mpint {
     ghost use Rattle.std.specs.Prelude.{ℕ, List};

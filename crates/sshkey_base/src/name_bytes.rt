@@ -13,7 +13,7 @@ use crate::short_bytes::ShortBytes;
 const MAX_LEN: usize = 73;
 
 /// The next `len` bytes, if they are not too many for a name; else they are passed, and the answer
-/// is `None`. Takes no memory. `Length` where more are asked for than are announced.
+/// is `None`. Takes no memory. Fails with `Length` if more are asked for than are announced.
 pub(crate) fn take_name<R: Reader>(
     len: usize,
     reader: &mut R,
@@ -29,7 +29,7 @@ pub(crate) fn take_name<R: Reader>(
     Ok(None)
 }
 
-/// Passes the next `len` bytes. `Length` where more are asked for than are announced.
+/// Passes the next `len` bytes. Fails with `Length` if more are asked for than are announced.
 fn pass<R: Reader>(len: usize, reader: &mut R) -> Result<()>
     ensures gives { DecodesAlways (λ x. x) (passed_at len) R.source reader.old result reader.new }
     ensures later { Later (R.source reader.old) (R.source reader.new) }

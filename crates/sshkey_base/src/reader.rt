@@ -20,8 +20,9 @@ pub trait Reader: Sized {
 
     /// Fills the buffer with the next bytes, as many as it has room for.
     ///
-    /// Where fewer are left, the answer is `Length` from a sound source, and from another one a
-    /// fault of its own; then the buffer is open, and of what was left some bytes may be passed.
+    /// If fewer are left, fails with `Length` on a sound source, and with a fault of its own on
+    /// another one; then the contents of the buffer are unspecified, and some of what was left may
+    /// have been consumed.
     fn read(&mut self, buffer: &mut [u8]) -> Result<()>
         ensures takes { Takes (source self.old) buffer.new result (source self.new) }
         ensures later { Later (source self.old) (source self.new) };
@@ -65,8 +66,8 @@ pub trait Reader: Sized {
         self.remaining_len() == 0
     }
 
-    /// Hands the value back if no byte is left, and otherwise answers `TrailingData` with the
-    /// number of those left. A source with a fault is never finished.
+    /// Returns the value if no byte is left, and otherwise fails with `TrailingData` and the number
+    /// of those left. A source with a fault is never finished.
     final fn finish<T: Drop>(self, value: T) -> Result<T>
     where
         Self: Drop,
@@ -81,12 +82,12 @@ pub trait Reader: Sized {
         }
     }
 
-    /// Reads a length of four bytes, and by `f` the so many bytes that follow, all of them
-    /// (RFC 4251, section 5).
+    /// Reads a length of four bytes and calls `f` on exactly that many bytes, all of which `f` has
+    /// to read (RFC 4251, section 5).
     ///
-    /// `Length` where the length passes `remaining_len`, `TrailingData` with the number of bytes
-    /// that `f` leaves, and otherwise what `f` answers. After a refusal some of the
-    /// bytes that were left may be passed, if `f` does no more than that with its part.
+    /// Fails with `Length` if the length is above `remaining_len`, with `TrailingData` and the
+    /// number of bytes that `f` leaves, and otherwise with the error of `f`. After an error some of
+    /// the remaining bytes may have been consumed, if `f` does no more than that with its part.
     final fn read_prefixed<T, E, F>(&mut self, f: F) -> std::result::Result<T, E>
     where
         T: Drop,
@@ -218,8 +219,8 @@ impl<R: Reader> Reader for NestedReader<'_, R> {
 
 /// Reads the next `N` bytes. Takes no memory.
 ///
-/// Where fewer are left, the answer is `Length` from a sound source, and from another one a fault
-/// of its own.
+/// If fewer are left, fails with `Length` on a sound source, and with a fault of its own on another
+/// one.
 #[inline(always)]
 pub fn array_from<const N: usize, R: Reader>(reader: &mut R) -> Result<[u8; N]>
     ensures gives { DecodesAlways (λ x. x) (bytes_at N) R.source reader.old result reader.new }
@@ -232,8 +233,8 @@ pub fn array_from<const N: usize, R: Reader>(reader: &mut R) -> Result<[u8; N]>
 
 /// Reads the length before a string, four bytes (RFC 4251, section 5). Takes no memory.
 ///
-/// Where fewer are left, the answer is `Length` from a sound source, and from another one a fault
-/// of its own.
+/// If fewer are left, fails with `Length` on a sound source, and with a fault of its own on another
+/// one.
 #[tactic(auto, using(crate::proofs::Steps::steps), unfolding(sshkey_model::specs::Reading::number_at))]
 #[inline(always)]
 pub fn length_from<R: Reader>(reader: &mut R) -> Result<usize>

@@ -46,7 +46,8 @@ impl<const MAX: usize> ShortBytes<MAX> {
         reader.ahead(len)
     }
 
-    /// The next `len` bytes. `Length` where there are more than `MAX`, or more than are announced.
+    /// The next `len` bytes. Fails with `Length` if there are more than `MAX`, or more than are
+    /// announced.
     pub fn take_from<R: Reader>(len: usize, reader: &mut R) -> Result<ShortBytes<MAX>>
         ensures gives { DecodesAlways short_of (checked_at (at_most MAX) (bytes_at len))
             R.source reader.old result reader.new }
@@ -66,7 +67,8 @@ impl<const MAX: usize> ShortBytes<MAX> {
 
 /// A string of at most `MAX` bytes: a length of four bytes, and the bytes (RFC 4251, section 5).
 ///
-/// `Length` for a longer one, and for a length that passes what is left. Takes no memory.
+/// Fails with `Length` for a longer one, and for a length that passes what is left. Takes no
+/// memory.
 #[tactic(auto, using(crate::proofs::Steps::steps, crate::proofs::Stopping::stopping), unfolding(crate::specs::ShortStrings::short_at, sshkey_model::specs::Reading::string_at))]
 impl<const MAX: usize> Decode for ShortBytes<MAX> {
     ghost use Rattle.sshkey_base.specs.ShortBytes.{short_of};

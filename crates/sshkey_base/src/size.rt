@@ -43,8 +43,8 @@ impl Decode for usize {
     }
 }
 
-/// Four bytes, most significant first (RFC 4251, section 5). Exactly a number above 2^32 - 1 is
-/// refused with `Length`, and then nothing is written of it.
+/// Four bytes, most significant first (RFC 4251, section 5). Fails with `Length` exactly for a
+/// number above 2^32 - 1, and then writes nothing.
 #[tactic(auto)]
 impl Encode for usize {
     ghost normal = { count };

@@ -21,7 +21,7 @@ use std::alloc::Global;
 
 /// A string whose bytes are UTF-8, else `CharacterEncoding` (RFC 4251, section 5).
 ///
-/// A length that passes what is left is `Length`, and no memory is asked for it.
+/// A length larger than the remaining input fails with `Length`, and nothing is allocated for it.
 #[tactic(auto, using(crate::proofs::Steps::steps, crate::proofs::Stopping::stopping))]
 impl Decode for String {
     type Error = Error;

@@ -41,7 +41,7 @@ impl Text {
         Text { text }
     }
 
-    /// A copy. Refused only when out of memory.
+    /// A copy. Fails only when out of memory.
     pub fn try_clone(&self, alloc: Global) -> Result<Text>
         ensures copy { IfOk result (λ t. t ≡ self.now) }
         ensures memory { IfErr result (λ e. e ≡ Error.Memory) }
@@ -68,7 +68,7 @@ impl Text {
 
 /// A string whose bytes are UTF-8, else `CharacterEncoding` (RFC 4251, section 5).
 ///
-/// A length that passes what is left is `Length`, and no memory is asked for it.
+/// A length larger than the remaining input fails with `Length`, and nothing is allocated for it.
 #[tactic(auto, using(crate::proofs::Steps::steps, crate::proofs::Stopping::stopping), unfolding(sshkey_model::specs::Texts::text_at))]
 impl Decode for Text {
     type Error = Error;
@@ -90,7 +90,7 @@ impl Decode for Text {
     }
 }
 
-/// The text of the bytes. `CharacterEncoding` where they are not UTF-8. Takes no memory.
+/// The text of the bytes. Fails with `CharacterEncoding` if they are not UTF-8. Takes no memory.
 fn text_of(bytes: Bytes) -> Result<Text>
     ensures { AnswersAlways (λ t. t) encoding_cause (text_from bytes) result }
 {

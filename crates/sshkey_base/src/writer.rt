@@ -13,18 +13,18 @@ pub trait Writer: Sized {
     /// What was written, and how much there is room for.
     ghost sink: { Self → Sink };
 
-    /// What a refused write may answer.
+    /// The errors of a write that fails.
     ghost fault: { narrow.Error → Type 0 };
 
     /// Adds the bytes at the end.
     ///
-    /// A refusal is a fault of the writer's own. A writer of bounded room refuses only where the
-    /// bytes pass it. After a refusal it holds what it held, and a beginning of the bytes.
+    /// An error is the writer's own; a writer with bounded room fails only if the bytes exceed it.
+    /// After an error it holds what it held before, and a prefix of the bytes.
     fn write(&mut self, bytes: &[u8]) -> Result<()>
         ensures { Writes fault (sink self.old) bytes.now result (sink self.new) };
 }
 
-/// A vector that grows. `Memory` where it can't.
+/// A vector that grows. Fails with `Memory` if it can't.
 #[tactic(auto, using(crate::proofs::Writing::wrote_none))]
 impl Writer for Vec<u8> {
     ghost sink = { λ v. record { written = v.items; limit = None } };
@@ -74,7 +74,7 @@ impl fmt::Debug for SliceWriter<'_> {
     }
 }
 
-/// `Length` where the bytes pass the rest of the slice; then none of them is written.
+/// Fails with `Length` if the bytes pass the rest of the slice; then none of them is written.
 #[tactic(auto, using(crate::proofs::Writing::wrote_none))]
 impl Writer for SliceWriter<'_> {
     ghost use Rattle.sshkey_base.specs.SliceWriter.{slice_sink};

@@ -90,7 +90,7 @@ fn is_in_place(count: usize, rest: &[u8]) -> bool
 }
 
 impl<'a> Base64Reader<'a> {
-    /// A reader of that word. `Base64` exactly where its length is no multiple of four.
+    /// A reader of that word. Fails with `Base64` exactly if its length is no multiple of four.
     pub fn new(text: &'a str) -> Result<Base64Reader<'a>>
         ensures groups { OnOk result (length text.now % 4 ≡ 0) }
         ensures source { IfOk result
@@ -200,9 +200,9 @@ impl fmt::Debug for Base64Reader<'_> {
 impl Reader for Base64Reader<'_> {
     ghost source = { λ r. word_source (slice_range r.held r.from r.to) r.text.now };
 
-    /// `Length` where the word announces fewer bytes, and then none is passed. `Base64` where it
-    /// announces so many, but one of the groups that they stand in has a fault; then some of the
-    /// bytes before that group may be passed.
+    /// Fails with `Length` if the word announces fewer bytes, and then none is passed. Fails with
+    /// `Base64` if it announces enough, but one of their groups has a fault; then some of the bytes
+    /// before that group may have been consumed.
     fn read(&mut self, buffer: &mut [u8]) -> Result<()>
         ensures takes { Takes (⟦<Base64Reader<'static> as Reader>⟧.source self.old)
             buffer.new result (⟦<Base64Reader<'static> as Reader>⟧.source self.new) }

@@ -186,7 +186,7 @@ impl Builder {
         hand_back(self.chain_comment(comment))
     }
 
-    /// Names one more principal, also after all were made valid. Refused only when out of memory.
+    /// Names one more principal, also after all were made valid. Fails only when out of memory.
     pub fn valid_principal(&mut self, principal: String) -> Result<&mut Builder>
         ensures* stays { sem 𝓛 (StaysIfRefused self.entry result) }
         ensures same_reference { IsTheBuilder self.entry result }

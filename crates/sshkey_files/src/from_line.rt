@@ -25,8 +25,8 @@ pub trait FromLine: Drop + Sized {
     /// The error is one that names a fault of the line, which spells no entry.
     ghost HasFault: { List ℕ → Error → Type 0 };
 
-    /// The entry of a line, as it stands. Out of memory aside, it is refused exactly where the
-    /// line is no entry, for a fault that it has.
+    /// The entry of a line, as it stands. Unless memory runs out, it fails exactly if the line is
+    /// no entry, for a fault that it has.
     fn from_line(alloc: Global, line: &str) -> Result<Self>
         ensures reads { ReadsEntry means IsEntry line.now result }
         ensures fault { RefusesFor HasFault line.now result };

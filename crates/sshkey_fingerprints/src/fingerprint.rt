@@ -35,9 +35,8 @@ const SHORT_KEY_LEN: usize = 256;
 impl Fingerprint {
     /// The digest by that hash of the key's normal form, which is what it writes.
     ///
-    /// Exactly where a part of the key is longer than 2^32 - 1 bytes, the answer is `Length`;
-    /// otherwise it is refused only when out of memory. A key of at most 256 bytes is never
-    /// refused.
+    /// Fails with `Length` exactly if a part of the key is longer than 2^32 - 1 bytes, and
+    /// otherwise only when out of memory. A key of at most 256 bytes is never rejected.
     pub fn new<K: Encode>(alloc: Global, hash_alg: HashAlg, key: &K) -> Result<Fingerprint>
         ensures gives { GivesDigest (hash_of hash_alg) (K.normal key.now) result }
         ensures short { AreShort (K.normal key.now) → IsOk result }
@@ -115,7 +114,7 @@ impl Fingerprint {
         }
     }
 
-    /// The text that is shown, in a string of its size. Refused only when out of memory.
+    /// The text that is shown, in a string of its size. Fails only when out of memory.
     pub fn to_string(&self, alloc: Global) -> Result<String>
         ensures text { IfOk result (λ text. string_bytes text ≡ shown self.now) }
         ensures refused { IfErr result (λ e. e ≡ Error.Memory) }

@@ -26,9 +26,9 @@ fn file_text<R: Read>(alloc: Global, file: &mut R) -> Result<String>
 
 /// The text of a file, from its beginning to its end.
 ///
-/// `Io` with the machine's fault where the file can't be opened or a read fails, whatever was read
-/// before it, `Io(InvalidData)` where the file is not UTF-8, `Io(Other)` where its end is not met
-/// in 2^32 reads, and `Memory`.
+/// Fails with `Io` and the machine's fault if the file can't be opened or a read fails, whatever
+/// was read before it, with `Io(InvalidData)` if the file is not UTF-8, with `Io(Other)` if its end
+/// is not met in 2^32 reads, and `Memory`.
 pub fn text_of_file<R: Files>(rt: &R, alloc: Global, path: &str) -> Result<String>
     ensures { IfErr result IsMachineFault }
 {

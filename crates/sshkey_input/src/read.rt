@@ -15,9 +15,9 @@ const MOST_READS: u64 = 0x1_0000_0000;
 
 /// All the bytes that an input has left, to its end.
 ///
-/// `Io` with the machine's fault where a read fails, whatever was read before it, but a read that
-/// was interrupted is made again; `Io(Other)` where the end is not met in 2^32 reads, and `Memory`.
-/// After a refusal some of the bytes are passed.
+/// Fails with `Io` and the machine's fault if a read fails, whatever was read before it, but a read
+/// that was interrupted is made again; with `Io(Other)` if the end is not met in 2^32 reads, and
+/// `Memory`. After a refusal some of the bytes are passed.
 pub fn read_all<R: Read>(alloc: Global, input: &mut R) -> Result<Vec<u8>>
     ensures bytes { IfOk result (λ v. IfSome (R.remaining input.old) (λ bytes. v.items ≡ bytes)) }
     ensures end { OnOk result (IsAtEnd (R.remaining input.new)) }
@@ -43,7 +43,7 @@ pub fn read_all<R: Read>(alloc: Global, input: &mut R) -> Result<Vec<u8>>
 
 /// The same as a text: all that an input has left, which has to be UTF-8.
 ///
-/// `CharacterEncoding` where it is not, and else the refusals of `read_all`.
+/// Fails with `CharacterEncoding` if it is not, and else as `read_all` does.
 pub fn read_text<R: Read>(alloc: Global, input: &mut R) -> Result<String>
     ensures text { ReadsText (R.remaining input.old) result }
     ensures end { OnOk result (IsAtEnd (R.remaining input.new)) }

@@ -26,7 +26,7 @@ pub struct DsaPublicKey {
 impl DsaPublicKey {
     ghost use Rattle.sshkey_kinds.specs.Kinds.{dsa_of};
 
-    /// The same key in memory of its own. Refuses only when out of memory.
+    /// A copy of the key. Fails only when out of memory.
     pub fn try_clone(&self, alloc: Global) -> Result<DsaPublicKey>
         ensures value { IfOk result (λ k. dsa_of k ≡ dsa_of self.now) }
         ensures refused { IfErr result (λ e. e ≡ Error.Memory) }

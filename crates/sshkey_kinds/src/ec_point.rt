@@ -45,7 +45,7 @@ impl<const LEN: usize> EcPoint<LEN> {
     ghost use Rattle.sshkey_kinds.specs.PointSizes.{point_within};
     ghost use Rattle.sshkey_kinds.specs.EcPoint.{point_of};
 
-    /// The point of these bytes. `Ecdsa` where they are no point string of this size.
+    /// The point of these bytes. Fails with `Ecdsa` if they are no point string of this size.
     pub fn from_bytes(bytes: &[u8]) -> Result<EcPoint<LEN>>
         ensures { AnswersAlways point_of cause (point_within LEN bytes.now) result }
     {

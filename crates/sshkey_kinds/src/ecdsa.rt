@@ -44,10 +44,10 @@ impl EcdsaPublicKey {
     /// The key of a point string (SEC 1, section 2.3.3), whose curve its tag and its size tell. The
     /// answer is `Ok` exactly where the bytes are a point string of one of the curves.
     ///
-    /// `Length` for no bytes and where the size is that of no curve's coordinates,
-    /// `AlgorithmUnknown` for the tags 00 and 05, and `Ecdsa` for any other tag but 02, 03 and 04,
-    /// and for 04 before an odd number of bytes whose half is the size of a coordinate. Takes no
-    /// memory.
+    /// Fails with `Length` for no bytes and where the size is that of no curve's coordinates, with
+    /// `AlgorithmUnknown` for the tags 00 and 05, and with `Ecdsa` for any other tag but 02, 03 and
+    /// 04, and for 04 before an odd number of bytes whose half is the size of a coordinate. Takes
+    /// no memory.
     pub fn from_sec1_bytes(bytes: &[u8]) -> Result<EcdsaPublicKey>
         ensures exactly { IsOk result ↔ IsAnyPoint bytes.now }
         ensures answer { AnswersAlways ecdsa_of cause (sec1_from bytes.now) result }
@@ -113,8 +113,8 @@ impl EcdsaPublicKey {
 
 /// The name of the curve as a string, and the point string.
 ///
-/// `Length` for a point string of more than 133 bytes, the faults of `from_sec1_bytes`, and
-/// `AlgorithmUnknown` for a point of another curve than the stated one.
+/// Fails with `Length` for a point string of more than 133 bytes, with the faults of
+/// `from_sec1_bytes`, and with `AlgorithmUnknown` for a point of another curve than the stated one.
 #[tactic(auto, using(sshkey_format::proofs::Mapped::mapped, crate::proofs::Parts::ecdsa))]
 impl Decode for EcdsaPublicKey {
     ghost use Rattle.sshkey_model.specs.Keys.{Key};

@@ -73,7 +73,7 @@ impl Encode for Ed25519PublicKey {
     }
 }
 
-/// The key of these bytes. `Length` for any number of bytes but 32. Takes no memory.
+/// The key of these bytes. Fails with `Length` for any number of bytes but 32. Takes no memory.
 impl TryFrom<&[u8]> for Ed25519PublicKey {
     type Error = Error;
 

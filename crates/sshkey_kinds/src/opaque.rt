@@ -35,7 +35,7 @@ impl OpaquePublicKeyBytes {
         self.bytes.as_slice()
     }
 
-    /// The same bytes in memory of their own. Refuses only when out of memory.
+    /// A copy of the bytes. Fails only when out of memory.
     pub fn try_clone(&self, alloc: Global) -> Result<OpaquePublicKeyBytes>
         ensures value { IfOk result (λ k. k ≡ self.now) }
         ensures refused { IfErr result (λ e. e ≡ Error.Memory) }
@@ -55,8 +55,8 @@ impl AsSlice<u8> for OpaquePublicKeyBytes {
     }
 }
 
-/// A string of any bytes. A length that passes what is left is `Length`, and no memory is asked for
-/// it.
+/// A string of any bytes. A length larger than the remaining input fails with `Length`, and nothing
+/// is allocated for it.
 #[tactic(auto, using(sshkey_base::proofs::Steps::steps))]
 impl Decode for OpaquePublicKeyBytes {
     ghost use Rattle.sshkey_base.specs.Causes.{encoding_cause};
@@ -128,7 +128,7 @@ impl OpaquePublicKey {
         }
     }
 
-    /// The same key in memory of its own. Refuses only when out of memory.
+    /// A copy of the key. Fails only when out of memory.
     pub fn try_clone(&self, alloc: Global) -> Result<OpaquePublicKey>
         ensures value { IfOk result (λ k. opaque_of k ≡ opaque_of self.now) }
         ensures fields { IfOk result (λ k. opaque_fields k ≡ opaque_fields self.now) }

@@ -24,7 +24,7 @@ pub struct RsaPublicKey {
 impl RsaPublicKey {
     ghost use Rattle.sshkey_kinds.specs.Kinds.{rsa_of};
 
-    /// The same key in memory of its own. Refuses only when out of memory.
+    /// A copy of the key. Fails only when out of memory.
     pub fn try_clone(&self, alloc: Global) -> Result<RsaPublicKey>
         ensures value { IfOk result (λ k. rsa_of k ≡ rsa_of self.now) }
         ensures refused { IfErr result (λ e. e ≡ Error.Memory) }

@@ -44,7 +44,7 @@ impl SkEcdsaSha2NistP256 {
         }
     }
 
-    /// The key for the application `ssh:`. Refuses only when out of memory.
+    /// The key for the application `ssh:`. Fails only when out of memory.
     pub fn with_default_application(
         alloc: Global,
         ec_point: EcdsaNistP256PublicKey,
@@ -57,7 +57,7 @@ impl SkEcdsaSha2NistP256 {
         Ok(SkEcdsaSha2NistP256::new(ec_point, application))
     }
 
-    /// The same key in memory of its own. Refuses only when out of memory.
+    /// A copy of the key. Fails only when out of memory.
     pub fn try_clone(&self, alloc: Global) -> Result<SkEcdsaSha2NistP256>
         ensures value { IfOk result (λ k. sk_ecdsa_of k ≡ sk_ecdsa_of self.now) }
         ensures refused { IfErr result (λ e. e ≡ Error.Memory) }
@@ -96,8 +96,8 @@ impl From<SkEcdsaSha2NistP256> for EcdsaNistP256PublicKey {
 
 /// The string `nistp256`, the point string and the application as a text.
 ///
-/// `Crypto` for another curve, `Length` for a point string of more than 65 bytes, and `Ecdsa` for
-/// one that is no point of P-256.
+/// Fails with `Crypto` for another curve, with `Length` for a point string of more than 65 bytes,
+/// and with `Ecdsa` for one that is no point of P-256.
 #[tactic(auto, using(sshkey_format::proofs::Mapped::mapped, crate::specs::KeyFormats::sk_ecdsa_parts_read))]
 impl Decode for SkEcdsaSha2NistP256 {
     ghost use Rattle.sshkey_kinds.specs.Kinds.{sk_ecdsa_of};
@@ -120,7 +120,7 @@ impl Decode for SkEcdsaSha2NistP256 {
     }
 }
 
-/// The name of P-256. `Crypto` for that of another curve.
+/// The name of P-256. Fails with `Crypto` for that of another curve.
 #[derive(Drop)]
 struct P256Name;
 
@@ -232,7 +232,7 @@ impl SkEd25519 {
         }
     }
 
-    /// The key for the application `ssh:`. Refuses only when out of memory.
+    /// The key for the application `ssh:`. Fails only when out of memory.
     pub fn with_default_application(
         alloc: Global,
         public_key: Ed25519PublicKey,
@@ -245,7 +245,7 @@ impl SkEd25519 {
         Ok(SkEd25519::new(public_key, application))
     }
 
-    /// The same key in memory of its own. Refuses only when out of memory.
+    /// A copy of the key. Fails only when out of memory.
     pub fn try_clone(&self, alloc: Global) -> Result<SkEd25519>
         ensures value { IfOk result (λ k. sk_ed25519_of k ≡ sk_ed25519_of self.now) }
         ensures refused { IfErr result (λ e. e ≡ Error.Memory) }

@@ -27,7 +27,7 @@ pub fn compared_times()
     ensures ordered { IsOrderOf time_key ⟦<UnixTime as Ord>⟧.cmp }
 {}
 
-/// The same of ends; that there is none comes behind each time.
+/// The same of ends; no end comes after every time.
 pub fn compared_ends()
     ensures equal { IsEqualityOf end_of ⟦<EndTime as PartialEq>⟧.eq }
     ensures ordered { IsOrderOf end_key ⟦<EndTime as Ord>⟧.cmp }

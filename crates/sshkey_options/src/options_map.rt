@@ -42,7 +42,7 @@ impl OptionsMap {
     }
 
     /// The options of these pairs of a name and a value; of two of one name the later one counts.
-    /// Refused only when out of memory.
+    /// Fails only when out of memory.
     pub fn from_pairs(alloc: Global, pairs: Vec<(String, String)>) -> Result<OptionsMap>
         ensures value { IfOk result
             (λ m. options_of m ≡ with_options (map option_of pairs.items) []) }
@@ -55,7 +55,7 @@ impl OptionsMap {
         Ok(options)
     }
 
-    /// The same options in memory of their own. Refused only when out of memory.
+    /// A copy of the options. Fails only when out of memory.
     ///
     /// A map copies itself through the allocator that it holds: the one that is passed stands here
     /// so that all copies are asked for alike.
@@ -76,7 +76,7 @@ impl OptionsMap {
         }
     }
 
-    /// Sets the value of that name, and gives the one before. Refused only when out of memory, and
+    /// Sets the value of that name, and returns the one before. Fails only when out of memory, and
     /// then nothing is changed.
     pub fn insert(&mut self, name: String, value: String) -> Result<Option<String>>
         ensures old { IfOk result (λ before. option_map string_bytes before
@@ -140,7 +140,7 @@ impl From<OptionsMap> for BTreeMap<String, String> {
 /// A string of options: the string of a name, and a string that is empty or holds one text
 /// (PROTOCOL.certkeys). The names rise, by bytes.
 ///
-/// `FormatEncoding` where a name does not rise, and the faults of strings and texts.
+/// Fails with `FormatEncoding` if a name does not rise, and with the faults of strings and texts.
 #[tactic(auto, using(sshkey_base::proofs::Boxes::boxes))]
 impl Decode for OptionsMap {
     type Error = Error;

@@ -58,7 +58,7 @@ impl SshSig {
 
     /// The signature in that namespace by that key, with nothing reserved. Takes no memory.
     ///
-    /// `Namespace` exactly where the namespace is empty.
+    /// Fails with `Namespace` exactly if the namespace is empty.
     pub fn new(
         alloc: Global,
         public_key: KeyData,

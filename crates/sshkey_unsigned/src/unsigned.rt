@@ -23,13 +23,13 @@ use subject::Subject;
 /// All of a certificate but its signature and its comment (PROTOCOL.certkeys).
 #[derive(Debug, Drop, PartialEq, Eq, PartialOrd, Ord)]
 pub struct Unsigned {
-    /// Bytes that nobody can foretell.
+    /// A random nonce.
     pub nonce: Bytes,
     /// The certified key.
     pub public_key: KeyData,
     /// The serial number.
     pub serial: u64,
-    /// Whether it is of a user or of a host.
+    /// Whether the certificate is for a user or for a host.
     pub cert_type: CertType,
     /// A text that names the key.
     pub key_id: Text,
@@ -37,7 +37,7 @@ pub struct Unsigned {
     pub valid_principals: Vec<String>,
     /// The first second of the window.
     pub valid_after: UnixTime,
-    /// The second behind the window, or that there is none.
+    /// The first second after the window, or that there is none.
     pub valid_before: EndTime,
     /// The options that a reader has to know.
     pub critical_options: OptionsMap,
@@ -52,10 +52,10 @@ pub struct Unsigned {
 impl Unsigned {
     ghost use Rattle.sshkey_unsigned.specs.UnsignedValues.{unsigned_of};
 
-    /// The bytes that the signature is over, in memory of their own.
+    /// The bytes that the signature is over, newly allocated.
     ///
-    /// Exactly where a box in them would pass 2^32 - 1 bytes, the answer is `Length`; otherwise
-    /// it is refused only when out of memory.
+    /// Fails with `Length` exactly if a box in them would exceed 2^32 - 1 bytes, and otherwise only
+    /// when out of memory.
     pub fn signed_bytes(&self, alloc: Global) -> Result<Vec<u8>>
         ensures { MakesBlob (normal_to_be_signed (unsigned_of self.now)) result }
     {
@@ -65,12 +65,12 @@ impl Unsigned {
 
 /// The first thirteen fields, read once from left to right.
 ///
-/// A sound source is refused, out of memory aside, only where they are not at its front, with the
-/// first of these from the left: `Length` for a stated length that passes the bytes, `Label` for a
-/// name of no algorithm, `CharacterEncoding` for a text that is not UTF-8, `FormatEncoding` for a
-/// type other than 1 and 2 and for options that do not rise, `Time` for a time above 2^63 - 1 that
-/// is not the end 2^64 - 1, the faults of keys, and `TrailingData` with the number of bytes that
-/// stand in a string behind the key or the value that it holds.
+/// A sound source is rejected, unless memory runs out, only where they are not at its front, with
+/// the first of these from the left: `Length` for a stated length that passes the bytes, `Label`
+/// for a name of no algorithm, `CharacterEncoding` for a text that is not UTF-8, `FormatEncoding`
+/// for a type other than 1 and 2 and for options that do not rise, `Time` for a time above 2^63 - 1
+/// that is not the end 2^64 - 1, the faults of keys, and `TrailingData` with the number of bytes
+/// that stand in a string behind the key or the value that it holds.
 #[tactic(auto, using(sshkey_format::proofs::Mapped::mapped, crate::specs::UnsignedFormats::unsigned_parts_read))]
 impl Decode for Unsigned {
     ghost use Rattle.sshkey_unsigned.specs.UnsignedValues.{unsigned_of};

@@ -33,7 +33,7 @@ use std::str;
 
 impl Algorithm {
     /// The algorithm with that name in a certificate (PROTOCOL.certkeys), and `Label` where it is
-    /// no such name. An RSA algorithm has no hash then. Memory is asked for only for a name that is
+    /// no such name. An RSA algorithm has no hash then. Memory is allocated only for a name that is
     /// none of the fixed ones.
     pub fn new_certificate(alloc: Global, name: &str) -> Result<Algorithm>
         ensures gives { Names algorithm_of cause (certified_from name.now) result }
@@ -83,8 +83,8 @@ impl Algorithm {
     }
 
     /// The name of the algorithm in a certificate (PROTOCOL.certkeys), as
-    /// `ssh-ed25519-cert-v01@openssh.com`. RSA has one name there, with and without a hash. It
-    /// is refused only when out of memory.
+    /// `ssh-ed25519-cert-v01@openssh.com`. RSA has one name there, with and without a hash. Fails
+    /// only when out of memory.
     pub fn to_certificate_type(&self, alloc: Global) -> Result<String>
         ensures ok { IfOk result
             (λ text. string_bytes text ≡ certificate_name (algorithm_of self.now)) }
@@ -118,8 +118,9 @@ impl Algorithm {
 
     /// Reads the string of a name in a certificate from the front, and leaves what follows it.
     ///
-    /// `Length` where the string is not there whole, and no memory is asked for it then; `Label`
-    /// where it is no such name. After a refusal some of the bytes may be passed.
+    /// Fails with `Length` if the string is not there whole, and nothing is allocated then; with
+    /// `Label` if it is no such name. After an error some of the remaining bytes may have been
+    /// consumed.
     pub fn decode_certificate<R: Reader>(alloc: Global, reader: &mut R) -> Result<Algorithm>
         ensures past { Stops cause certified_format (R.source reader.old) result }
         ensures gives { DecodesWide algorithm_of certificate_algorithm_at
@@ -145,8 +146,8 @@ impl Algorithm {
 
     /// Writes the string of the name in a certificate: a length of four bytes, and the name.
     ///
-    /// A refusal is the writer's own; then it holds what it held, and a beginning of the string.
-    /// Takes no memory of its own.
+    /// Fails only with the writer's own error; the writer then holds what it held before, and a
+    /// prefix of the string. Takes no memory of its own.
     pub fn encode_certificate_name<W: Writer>(&self, writer: &mut W) -> encoding::Result<()>
         ensures { Encodes W.fault (certificate_algorithm (algorithm_of self.now))
             (W.sink writer.old) result (W.sink writer.new) }
@@ -157,8 +158,8 @@ impl Algorithm {
 
     /// Writes the name in a certificate, with no length before it.
     ///
-    /// A refusal is the writer's own; then it holds what it held, and a beginning of the name.
-    /// Takes no memory of its own.
+    /// Fails only with the writer's own error; the writer then holds what it held before, and a
+    /// prefix of the name. Takes no memory of its own.
     #[tactic(auto, using(crate::proofs::Writing::plain_bytes))]
     pub fn write_certificate_name<W: Writer>(&self, writer: &mut W) -> encoding::Result<()>
         ensures { Encodes W.fault (bytes (certificate_name (algorithm_of self.now)))

@@ -55,8 +55,8 @@ impl Model for AlgorithmName {
 }
 
 impl AlgorithmName {
-    /// The name with those bytes, and `Label` where they are none. A fixed name with an at sign
-    /// is one too. Memory is asked for only for a name.
+    /// The name with those bytes, and `Label` where they are none. A fixed name with an at sign is
+    /// one too. Memory is allocated only for a name.
     pub fn new(alloc: Global, text: &str) -> Result<AlgorithmName>
         ensures gives { Names (λ name. name) cause (own_name_from text.now) result }
         ensures refused { is_own_name text.now ≡ false →
@@ -87,7 +87,7 @@ impl AlgorithmName {
     }
 
     /// The name in a certificate: with `-cert-v01` before its at sign (PROTOCOL.certkeys). It has
-    /// at most 73 bytes. It is refused only when out of memory.
+    /// at most 73 bytes. Fails only when out of memory.
     pub fn certificate_type(&self, alloc: Global) -> Result<String>
         ensures ok { IfOk result (λ text. string_bytes text ≡ certificate_name (Other self.now)) }
         ensures err { IfErr result (λ e. e ≡ Error.Memory) }
@@ -114,7 +114,7 @@ impl AlgorithmName {
     }
 
     /// The name whose certificate type is that text, and `Label` where it is that of none. Memory
-    /// is asked for only for a name.
+    /// is allocated only for a name.
     pub fn from_certificate_type(alloc: Global, text: &str) -> Result<AlgorithmName>
         ensures gives { NamesCertified cause text.now result }
         ensures refused { IsNoCertificateType text.now →
@@ -148,7 +148,7 @@ impl AlgorithmName {
         Ok(())
     }
 
-    /// A name with the same bytes. It is refused only when out of memory.
+    /// A name with the same bytes. Fails only when out of memory.
     pub fn try_clone(&self, alloc: Global) -> Result<AlgorithmName>
         ensures ok { IfOk result (λ name. name ≡ self.now) }
         ensures err { IfErr result (λ e. e ≡ Error.Memory) }

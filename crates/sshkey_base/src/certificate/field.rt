@@ -13,11 +13,11 @@ use std::fmt;
 pub enum Field {
     /// The certified key.
     PublicKey,
-    /// Bytes that nobody can foretell.
+    /// A random nonce.
     Nonce,
     /// The serial number.
     Serial,
-    /// Whether it is of a user or of a host.
+    /// Whether the certificate is for a user or for a host.
     CertType,
     /// A text that names the key.
     KeyId,

@@ -20,9 +20,10 @@ impl Mpint {
     /// string of so many bytes, or of 00 and so many, or of fewer that are the number's shortest
     /// form (RFC 4251, section 5).
     ///
-    /// `Length` where the string passes what is left, `FormatEncoding` for one more byte that does
-    /// not begin with 00, and for fewer that are no such form; `TrailingData` for two more. Takes
-    /// no memory. After a refusal some of the bytes that were left may be passed.
+    /// Fails with `Length` if the string passes what is left, with `FormatEncoding` for one more
+    /// byte that does not begin with 00, and for fewer that are no such form; with `TrailingData`
+    /// for two more. Takes no memory. After an error some of the remaining bytes may have been
+    /// consumed.
     pub fn decode_fixed<const SIZE: usize, R: Reader>(reader: &mut R) -> Result<[u8; SIZE]>
         ensures gives { GivesBytes (value_at (scalar_at SIZE))
             R.source reader.old result reader.new }

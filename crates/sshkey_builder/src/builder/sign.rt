@@ -27,9 +27,9 @@ impl Builder {
     /// by the signer's `raw`, for whoever gives the fingerprint of the signer's key and for nobody
     /// else.
     ///
-    /// `CertificateFieldInvalid(Field::ValidPrincipals)` where no principal was named and not all
-    /// were made valid, whatever memory there is. Else, out of memory aside, `Length` where the bytes
-    /// to be signed do not fit, and otherwise an error of the signer's own.
+    /// Fails with `CertificateFieldInvalid(Field::ValidPrincipals)` if no principal was named and
+    /// not all were made valid, whatever memory there is. Else, unless memory runs out, `Length`
+    /// where the bytes to be signed do not fit, and otherwise an error of the signer's own.
     pub fn sign<S: SigningKey>(self, alloc: Global, signing_key: &S) -> Result<Certificate>
         ensures unnamed { IsNone (draft_of self).valid_principals → result ≡ Err no_principals }
         ensures signed { IfOk result (λ c. IsSignedDraft (S.Raw.accepts (S.raw_of signing_key.now))

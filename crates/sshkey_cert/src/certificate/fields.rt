@@ -18,10 +18,10 @@ use sshkey_options::{CertType, OptionsMap};
 use std::alloc::Global;
 
 impl Certificate {
-    /// The algorithm of the certified key. That of an opaque key is the one that stands beside its
+    /// The algorithm of the certified key. That of an opaque key is the one that is kept beside its
     /// bytes, and for a well-formed key the one that its name tells.
     ///
-    /// Refused only when out of memory, and only under a private-use name.
+    /// Fails only when out of memory, and only under a private-use name.
     pub fn algorithm(&self, alloc: Global) -> Result<Algorithm>
         ensures ok { IfOk result
             (λ a. algorithm_of a ≡ algorithm_beside (certified_key_of self.now)) }
@@ -34,8 +34,8 @@ impl Certificate {
         self.unsigned.public_key.algorithm(alloc)
     }
 
-    /// Bytes of the signer's choice that nobody can foretell, so that nobody can prepare two
-    /// certificates of one digest (PROTOCOL.certkeys).
+    /// The nonce: random bytes of the signer's choice, so that nobody can prepare two certificates
+    /// with one digest (PROTOCOL.certkeys).
     pub fn nonce(&self) -> &[u8]
         ensures { result.now ≡ (certificate_of self.now).signed.nonce }
     {
@@ -60,7 +60,7 @@ impl Certificate {
         self.unsigned.serial
     }
 
-    /// Whether it is of a user or of a host.
+    /// Whether the certificate is for a user or for a host.
     pub fn cert_type(&self) -> CertType
         ensures { type_of result ≡ (certificate_of self.now).signed.certificate_type }
     {
@@ -89,7 +89,7 @@ impl Certificate {
         self.unsigned.valid_after.secs()
     }
 
-    /// The second behind the window, and 2^64 - 1 where it has no end.
+    /// The first second after the window, or 2^64 - 1 if it has no end.
     pub fn valid_before(&self) -> u64
         ensures value { result ≡ (certificate_of self.now).signed.valid_before }
         ensures end { is_end result ≡ true }
@@ -104,15 +104,15 @@ impl Certificate {
         self.unsigned.valid_before.is_forever()
     }
 
-    /// What limits the use of the certificate: a reader has to refuse it if it does not know one of
-    /// these options.
+    /// Restrictions on the use of the certificate. Refuse a certificate that has one that you do
+    /// not know.
     pub fn critical_options(&self) -> &OptionsMap
         ensures { options_of result.now ≡ (certificate_of self.now).signed.critical_options }
     {
         &self.unsigned.critical_options
     }
 
-    /// What the certificate permits besides; a reader ignores an extension that it does not know.
+    /// What the certificate grants besides. Ignore an extension that you do not know.
     pub fn extensions(&self) -> &OptionsMap
         ensures { options_of result.now ≡ (certificate_of self.now).signed.extensions }
     {

@@ -15,8 +15,8 @@ use std::fs::{self, Files};
 impl Certificate {
     /// Reads the line that a file holds.
     ///
-    /// `Io` with the machine's fault where the file could not be read to its end, `Io(InvalidData)`
-    /// where it is not UTF-8, and else the refusals of `from_openssh`.
+    /// Fails with `Io` and the machine's fault if the file could not be read to its end, with
+    /// `Io(InvalidData)` if it is not UTF-8, and else as `from_openssh` does.
     pub fn read_file<R: Files>(rt: &R, alloc: Global, path: &str) -> Result<Certificate>
         ensures { IfOk result IsOfSomeLine }
     {
@@ -27,8 +27,8 @@ impl Certificate {
     /// Writes the line of the certificate's normal form, with no line end, into a file, which is
     /// created, or emptied first.
     ///
-    /// The refusals of `to_openssh`, which come before the file is touched, and `Io` with the
-    /// machine's fault where it could not be written.
+    /// Fails as `to_openssh` does, before the file is touched, and with `Io` and the machine's
+    /// fault if it could not be written.
     pub fn write_file<R: Files>(&self, rt: &R, alloc: Global, path: &str) -> Result<()>
         ensures { WritesFile (normal_certificate (certificate_of self.now)) result }
     {

@@ -43,16 +43,15 @@ impl Certificate {
     /// Reads a line: the name of the key's algorithm in certificates, the certificate in padded
     /// Base64, and the comment.
     ///
-    /// White space at the end is cut off. Out of memory aside, it is refused exactly where the
-    /// text is a line of no certificate: `Length` where a word is missing or empty,
-    /// `CharacterEncoding` for a character in the first word that no name has, `Base64` where the
-    /// second is no canonical Base64, the refusals of `from_bytes`, also `Length` for a certificate
-    /// that is signed by RSA with SHA-1, and `AlgorithmUnknown` where the first word is not the
-    /// certificate's name.
+    /// White space at the end is cut off. Unless memory runs out, it fails exactly if the text is a
+    /// line of no certificate: `Length` where a word is missing or empty, `CharacterEncoding` for a
+    /// character in the first word that no name has, `Base64` where the second is no canonical
+    /// Base64, the refusals of `from_bytes`, also `Length` for a certificate that is signed by RSA
+    /// with SHA-1, and `AlgorithmUnknown` where the first word is not the certificate's name.
     ///
-    /// Where the second word is canonical Base64, `Memory` is answered only where the certificate
-    /// in it needs some, or for a comment that is not empty, of a line that is a certificate's:
-    /// never for a length that its bytes only state.
+    /// Where the second word is canonical Base64, it fails with `Memory` only if the certificate in
+    /// it needs some, or for a comment that is not empty, of a line that is a certificate's: never
+    /// for a length that its bytes only state.
     ///
     /// The comment is all that stands behind the second word and a space, line ends too: where
     /// `is_one_line` says no, the text held more lines than one, and only the first was judged.
@@ -65,11 +64,11 @@ impl Certificate {
         Ok(certificate.with_comment(comment))
     }
 
-    /// The line of the certificate's normal form, in memory of its own. Its comment may hold line
-    /// ends, so where `is_one_line` says no it is more than one line of a file.
+    /// The line of the certificate's normal form, newly allocated. Its comment may hold line ends,
+    /// so where `is_one_line` says no it is more than one line of a file.
     ///
-    /// Exactly where a box in it would pass 2^32 - 1 bytes, the answer is `Length`; otherwise it
-    /// is refused only when out of memory.
+    /// Fails with `Length` exactly if a box in it would exceed 2^32 - 1 bytes, and otherwise only
+    /// when out of memory.
     pub fn to_openssh(&self, alloc: Global) -> Result<String>
         ensures { MakesLine (name_of_certificate (certificate_of self.now))
             (normal_certificate (certificate_of self.now)) (comment_of self.now) result }
@@ -83,8 +82,8 @@ impl Certificate {
     /// feed and no carriage return. Takes no memory.
     ///
     /// A comment can hold them, and so can a private-use name (RFC 4251, section 6, forbids it
-    /// there; a certificate that a line gave has none in its name). Ask before the line is added to
-    /// a file of lines: what stands behind a line end there is a line of its own.
+    /// there; a certificate that a line gave has none in its name). Check it before you append the
+    /// line to a file of lines: what follows a line end is a line of its own there.
     pub fn is_one_line(&self) -> bool
         ensures { IsTrue result
             ↔ IsOneLine (certificate_line (certificate_of self.now) (comment_of self.now)) }
@@ -95,7 +94,7 @@ impl Certificate {
         )
     }
 
-    /// The name of the key's algorithm in certificates. Refused only when out of memory.
+    /// The name of the key's algorithm in certificates. Fails only when out of memory.
     fn name(&self, alloc: Global) -> Result<String>
         ensures name { IfOk result
             (λ name. string_bytes name ≡ name_of_certificate (certificate_of self.now)) }

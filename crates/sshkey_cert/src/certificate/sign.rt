@@ -20,8 +20,8 @@ use std::alloc::Global;
 impl Certificate {
     /// The certificate of these fields, with the signer's signature and that comment.
     ///
-    /// Out of memory aside, refused with `Length` exactly where a box in the bytes to be signed
-    /// would pass 2^32 - 1 bytes, and else with an error of the signer's own.
+    /// Unless memory runs out, fails with `Length` exactly if a box in the bytes to be signed would
+    /// exceed 2^32 - 1 bytes, and else with an error of the signer's own.
     pub fn sign<S: SigningKey>(
         alloc: Global,
         unsigned: Unsigned,

@@ -24,8 +24,9 @@ fn sized<const N: usize>(bytes: &[u8]) -> Result<[u8; N]>
 
 /// The digest of `N` bytes that the text spells in Base64.
 ///
-/// `Length` where the text is longer than that of any digest, `Base64` where it is not canonical
-/// and unpadded Base64, and `Length` where it spells another number of bytes. Takes no memory.
+/// Fails with `Length` if the text is longer than that of any digest, with `Base64` if it is not
+/// canonical and unpadded Base64, and with `Length` if it spells another number of bytes. Takes no
+/// memory.
 fn digest_from<const N: usize>(text: &str) -> Result<[u8; N]>
     ensures { ReadsDigest N text.now result }
 {
@@ -41,10 +42,10 @@ fn digest_from<const N: usize>(text: &str) -> Result<[u8; N]>
 
 /// A text is read exactly if it is what is shown of a fingerprint, and it is that fingerprint.
 ///
-/// `AlgorithmUnknown` where it does not begin with the name of a hash and a colon; and of what
-/// stands behind the colon, `Length` where it has more than 86 bytes, `Base64` where it is not
-/// canonical and unpadded Base64, and `Length` where the digest has not the size of that hash's.
-/// Takes no memory.
+/// Fails with `AlgorithmUnknown` if it does not begin with the name of a hash and a colon; and of
+/// what stands behind the colon, with `Length` if it has more than 86 bytes, with `Base64` if it is
+/// not canonical and unpadded Base64, and with `Length` if the digest has not the size of that
+/// hash's. Takes no memory.
 impl FromStr for Fingerprint {
     type Err = Error;
 

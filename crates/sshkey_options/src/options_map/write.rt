@@ -59,8 +59,8 @@ impl Encode for PlainOption<'_> {
     }
 }
 
-/// How many bytes the options have, one behind the other. `Length` exactly where a box can't hold
-/// them, or a box in one of them is too long.
+/// How many bytes the options have, one behind the other. Fails with `Length` exactly if a box
+/// can't hold them, or a box in one of them is too long.
 pub(super) fn each_len(options: &OptionsMap) -> encoding::Result<u32>
     ensures { MeasuresBoxed (each plain_option (options_of options.now)) result }
 {

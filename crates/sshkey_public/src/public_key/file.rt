@@ -13,9 +13,9 @@ use std::fs::{self, Files};
 impl PublicKey {
     /// Reads the line that a file holds.
     ///
-    /// `Io` with the machine's fault where the file could not be read to its end, whatever was read
-    /// before, `Io(InvalidData)` where it is not UTF-8, `Io(Other)` where its end is not met in 2^32
-    /// reads, and else the refusals of `from_openssh`.
+    /// Fails with `Io` and the machine's fault if the file could not be read to its end, whatever
+    /// was read before, with `Io(InvalidData)` if it is not UTF-8, with `Io(Other)` if its end is
+    /// not met in 2^32 reads, and else as `from_openssh` does.
     ///
     /// Of a file of many lines this reads the first as the key, and keeps the others as its comment:
     /// `is_one_line` tells. `AuthorizedKeys` and `KnownHosts` read files of many lines.
@@ -29,8 +29,8 @@ impl PublicKey {
     /// Writes the line of the key's normal form and a line end into a file, which is created, or
     /// emptied first.
     ///
-    /// The refusals of `to_openssh`, which come before the file is touched, and `Io` with the
-    /// machine's fault where it could not be written.
+    /// Fails as `to_openssh` does, before the file is touched, and with `Io` and the machine's
+    /// fault if it could not be written.
     pub fn write_openssh_file<R: Files>(&self, rt: &R, alloc: Global, path: &str) -> Result<()>
         ensures { WritesFile (normal_key (public_of self.now)) result }
     {

@@ -25,16 +25,16 @@ use sshkey_sshsig::laws::signed_parts_fit;
 use std::alloc::Global;
 
 impl PublicKey {
-    /// Asks the verifier about an SSH signature of the message, which has to be by this key and in
-    /// that namespace.
+    /// Verifies an SSH signature of the message, which has to be by this key and in that namespace,
+    /// by the caller's verifier.
     ///
-    /// `PublicKey` exactly where the signature is by another key. Else `Namespace` exactly where it
-    /// is in another namespace. Else the answer is that of `KeyData::verify` over what is signed in
-    /// place of the message, by the signature's own namespace, reserved bytes and hash; `Length`
-    /// where one of these is longer than 2^32 - 1 bytes.
+    /// Fails with `PublicKey` exactly if the signature is by another key. Else with `Namespace`
+    /// exactly if it is in another namespace. Else it answers as `KeyData::verify` over what is
+    /// signed in place of the message, by the signature's own namespace, reserved bytes and hash;
+    /// with `Length` if one of these is longer than 2^32 - 1 bytes.
     ///
-    /// So under a key and for a signature that readers gave, out of memory aside: Ok exactly where
-    /// the signature is by this key, in this namespace, and the verifier says yes to it.
+    /// So under a key and for a signature that readers gave, unless memory runs out: `Ok` exactly
+    /// if the signature is by this key, in this namespace, and the verifier says yes to it.
     pub fn verify<V: RawVerifier>(
         &self,
         alloc: Global,

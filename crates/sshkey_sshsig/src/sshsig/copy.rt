@@ -9,8 +9,8 @@ use sshkey_base::{Error, Result};
 use std::alloc::Global;
 
 impl SshSig {
-    /// The same signature in memory of its own. The copy of an opaque key keeps the algorithm that
-    /// stands beside its bytes. Refused only when out of memory.
+    /// A copy of the signature. The copy of an opaque key keeps the algorithm that stands beside
+    /// its bytes. Fails only when out of memory.
     pub fn try_clone(&self, alloc: Global) -> Result<SshSig>
         ensures same { IfOk result (λ f. ssh_signature_of f ≡ ssh_signature_of self.now) }
         ensures algorithm { IfOk result

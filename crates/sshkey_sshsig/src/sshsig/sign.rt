@@ -17,10 +17,10 @@ impl SshSig {
     /// What it makes has version 1, the namespace, the hash and the signer's key, and that key
     /// verifies it by the signer's verifier.
     ///
-    /// `Namespace` exactly where the namespace is empty. Else `AlgorithmUnsupported` with the
-    /// key's algorithm exactly where a security key holds the signer's key, since such a key signs
-    /// in another way. Else `Length` where the namespace is longer than 2^32 - 1 bytes, `Memory`
-    /// where it ran out, and the signer's own refusals of the bytes that are signed.
+    /// Fails with `Namespace` exactly if the namespace is empty. Else with `AlgorithmUnsupported`
+    /// and the key's algorithm exactly if a security key holds the signer's key, since such a key
+    /// signs in another way. Else with `Length` if the namespace is longer than 2^32 - 1 bytes,
+    /// with `Memory` if it ran out, and with the signer's own errors for the bytes that are signed.
     pub fn sign<S: SigningKey>(
         alloc: Global,
         signer: &S,

@@ -99,9 +99,8 @@ impl SshSig {
     /// The bytes that a signature of the message in that namespace signs, with nothing reserved:
     /// `SSHSIG`, the namespace, an empty string, the hash's name and the digest of the message.
     ///
-    /// `Namespace` exactly where the namespace is empty. Else exactly where the namespace is longer
-    /// than 2^32 - 1 bytes, the answer is `Length`; otherwise it is refused only with
-    /// `Memory`.
+    /// Fails with `Namespace` exactly if the namespace is empty. Else fails with `Length` exactly
+    /// if the namespace is longer than 2^32 - 1 bytes, and otherwise only with `Memory`.
     pub fn signed_data(
         alloc: Global,
         namespace: &str,
@@ -121,8 +120,8 @@ impl SshSig {
     /// The bytes that this signature signs, if it is one of the message: `SSHSIG`, its own
     /// namespace, reserved bytes and hash's name, and the digest of the message by that hash.
     ///
-    /// Exactly where the namespace or the reserved bytes are longer than 2^32 - 1 bytes, the answer
-    /// is `Length`; otherwise it is refused only with `Memory`.
+    /// Fails with `Length` exactly if the namespace or the reserved bytes are longer than 2^32 - 1
+    /// bytes, and otherwise only with `Memory`.
     pub fn signed_bytes(&self, alloc: Global, message: &[u8]) -> Result<Vec<u8>>
         ensures { MakesBlob (signed_parts self.now message.now) result }
     {

@@ -43,10 +43,10 @@ impl SshSig {
         decode_whole(alloc, bytes)
     }
 
-    /// The bytes that spell the signature, in memory of their own.
+    /// The bytes that spell the signature, newly allocated.
     ///
-    /// Exactly where a part is longer than 2^32 - 1 bytes, the answer is `Length`; otherwise it is
-    /// refused only when out of memory.
+    /// Fails with `Length` exactly if a part is longer than 2^32 - 1 bytes, and otherwise only when
+    /// out of memory.
     pub fn to_bytes(&self, alloc: Global) -> Result<Vec<u8>>
         ensures { MakesBlob (normal_ssh_signature (ssh_signature_of self.now)) result }
     {
@@ -144,9 +144,9 @@ type Statement = Then<Namespace, Then<Wide<Bytes>, Then<Wide<HashAlg>, Boxed<Sig
 /// The bytes `SSHSIG`, the version, the key in a string, the namespace, the reserved bytes, the
 /// hash's name, and the signature in a string.
 ///
-/// `FormatEncoding` for other bytes than `SSHSIG`, `Version` with its number for a version above 1,
-/// `Namespace` for an empty namespace, `Label` for the name of no hash, and the refusals of
-/// `KeyData` and `Signature`.
+/// Fails with `FormatEncoding` for other bytes than `SSHSIG`, `Version` with its number for a
+/// version above 1, with `Namespace` for an empty namespace, with `Label` for the name of no hash,
+/// and as `KeyData` and `Signature` do.
 #[tactic(auto, using(sshkey_format::proofs::Mapped::mapped, crate::specs::SshSignatureFormats::ssh_signature_parts_read), unfolding(sshkey_model::specs::Names::hash_at, sshkey_base::specs::Labels::label_at))]
 impl Decode for SshSig {
     type Error = Error;

@@ -14,7 +14,7 @@ use sshkey_options::OptionsMap;
 use std::alloc::Global;
 
 impl Unsigned {
-    /// The same fields in memory of their own. Refused only when out of memory.
+    /// A copy of the fields. Fails only when out of memory.
     pub fn try_clone(&self, alloc: Global) -> Result<Unsigned>
         ensures value { IfOk result (λ u. unsigned_of u ≡ unsigned_of self.now) }
         ensures algorithm { IfOk result
@@ -96,7 +96,7 @@ impl Unsigned {
     }
 }
 
-/// The same texts in memory of their own.
+/// A copy of the texts.
 #[tactic(auto, using(crate::proofs::Copies::copied_texts))]
 fn copied(texts: &Vec<String>) -> Result<Vec<String>>
     ensures texts { IfOk result (λ copy. texts_of copy ≡ texts_of texts.now) }

@@ -16,7 +16,7 @@ use std::alloc::Global;
 #[derive(Drop)]
 struct Certified(Algorithm);
 
-/// The string of the name. `Label` for a string that is none of the names.
+/// The string of the name. Fails with `Label` for a string that is none of the names.
 impl Decode for Certified {
     type Error = Error;
 
@@ -35,7 +35,7 @@ impl Decode for Certified {
 /// The nonce, and the key that is certified.
 #[derive(Drop)]
 pub(super) struct Subject {
-    /// Bytes that nobody can foretell.
+    /// A random nonce.
     pub(super) nonce: Bytes,
     /// The certified key.
     pub(super) key: KeyData,
