@@ -8,6 +8,7 @@ pub use Rattle.sshkey_keys.specs.KeyReaders
 pub use Rattle.sshkey_keys.specs.Fingerprints
 pub use Rattle.sshkey_keys.specs.SignatureForms
 pub use Rattle.sshkey_keys.specs.Signatures
+pub use Rattle.sshkey_keys.specs.Questions
 pub use Rattle.sshkey_keys.specs.Verdicts
 pub use Rattle.sshkey_keys.specs.Blobs
 pub use Rattle.sshkey_keys.specs.SignatureReaders

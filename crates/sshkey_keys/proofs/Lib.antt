@@ -4,7 +4,6 @@ pub mod SignatureForms
 pub mod SignatureParts
 pub mod BoxedKeys
 pub mod Bodies
-pub mod Asking
 pub mod WrittenParts
 mod TrailedBlobs
 pub mod NamedParts

@@ -7,6 +7,7 @@ pub mod KeyReaders
 pub mod Fingerprints
 pub mod SignatureForms
 pub mod Signatures
+pub mod Questions
 pub mod Verdicts
 pub mod Blobs
 pub mod SignatureReaders

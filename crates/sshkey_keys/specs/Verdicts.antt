@@ -45,11 +45,6 @@ Verifies answer (Err e) = Says answer e
 abbrev pub NamesFixed : KeyData → List ℕ → Signature → Result Unit Error → Type 0
 NamesFixed key message g result = question (key_of key) message (signature_of g) ≡ None → IsFixed (algorithm_of (unsupported_of key g)) → result ≡ Err (AlgorithmUnsupported (unsupported_of key g))
 
--- what the verifier answers, if it is asked
-abbrev pub IsAnswer : (Question → Bool) → Option Question → Bool → Type 0
-IsAnswer accepts None answer = Unit {0}
-IsAnswer accepts (Some q) answer = answer ≡ accepts q
-
 -- The error names that algorithm, unless memory was refused.
 abbrev pub IsUnsupported : Algorithm → Error → Type 0
 IsUnsupported algorithm Memory = Unit {0}

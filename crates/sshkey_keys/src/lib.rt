@@ -3,6 +3,7 @@
 
 mod key_data;
 pub mod laws;
+mod question;
 mod raw_verifier;
 mod security_key;
 mod signature;
@@ -10,6 +11,7 @@ mod signing_key;
 mod verify;
 
 pub use key_data::KeyData;
+pub use question::Question;
 pub use raw_verifier::RawVerifier;
 pub use security_key::security_key_message;
 pub use signature::{Signature, check_string, has_trailer, split_trailer};
