@@ -6,7 +6,7 @@ pub mod root {
     pub use ssh_key::{
         Algorithm, AlgorithmName, AuthorizedKeys, Base64Reader, Blob, Certificate, CertificateRef,
         Cipher, EcdsaCurve, Error, Fingerprint, HashAlg, Kdf, KdfAlg, KnownHosts, Mpint,
-        PrivateKey, PublicKey, RawVerifier, Result, Signature, SignatureRef, SigningKey, SshSig,
+        PrivateKey, PublicKey, Question, RawVerifier, Result, Signature, SignatureRef, SigningKey, SshSig,
         read_line, write_line,
     };
 }
