@@ -91,7 +91,14 @@ impl Cipher {
     {
         match self {
             Cipher::None | Cipher::TDesCbc | Cipher::ChaCha20Poly1305 => 8,
-            _ => 16,
+            Cipher::Aes128Cbc
+            | Cipher::Aes192Cbc
+            | Cipher::Aes256Cbc
+            | Cipher::Aes128Ctr
+            | Cipher::Aes192Ctr
+            | Cipher::Aes256Ctr
+            | Cipher::Aes128Gcm
+            | Cipher::Aes256Gcm => 16,
         }
     }
 

@@ -52,7 +52,12 @@ impl KeyData {
     {
         match self {
             KeyData::Other(key) => &key.algorithm,
-            _ => signature.algorithm(),
+            KeyData::Dsa(_)
+            | KeyData::Ecdsa(_)
+            | KeyData::Ed25519(_)
+            | KeyData::Rsa(_)
+            | KeyData::SkEcdsaSha2NistP256(_)
+            | KeyData::SkEd25519(_) => signature.algorithm(),
         }
     }
 }
