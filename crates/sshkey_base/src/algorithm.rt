@@ -72,7 +72,7 @@ impl Algorithm {
         }
     }
 
-    /// The algorithm with that fixed name; `None` for any other text. Takes no memory.
+    /// The algorithm with that fixed name; `None` for any other text. Does not allocate.
     #[tactic(auto, unfolding(sshkey_model::specs::Names::named))]
     #[inline(always)]
     pub fn fixed(name: &str) -> Option<Algorithm>
@@ -95,7 +95,7 @@ impl Algorithm {
     }
 
     /// Whether it is the name of an algorithm: `Ok` exactly if `new` with enough memory is, else
-    /// `Label`. Takes no memory.
+    /// `Label`. Does not allocate.
     pub fn check(name: &str) -> Result<()>
         ensures { Judges cause (algorithm_from name.now) result }
     {

@@ -30,7 +30,7 @@ impl Model for Bytes {
 }
 
 impl Bytes {
-    /// The bytes of the vector. Takes no memory.
+    /// The bytes of the vector. Does not allocate.
     pub fn new(bytes: Vec<u8>) -> Bytes
         ensures { result ≡ bytes.items }
     {
@@ -80,7 +80,7 @@ impl Bytes {
     }
 
     /// Writes zeros over the bytes, and returns the memory that held them. If that memory is
-    /// dropped unread, a compiler may omit the writes. Takes no memory.
+    /// dropped unread, a compiler may omit the writes. Does not allocate.
     pub fn erase(self) -> Vec<u8>
         ensures { result.items ≡ replicate (length self) 0 }
     {
@@ -89,7 +89,7 @@ impl Bytes {
         bytes
     }
 
-    /// The vector that holds the bytes. Takes no memory.
+    /// The vector that holds the bytes. Does not allocate.
     pub fn into_vec(self) -> Vec<u8>
         ensures { result.items ≡ self }
     {

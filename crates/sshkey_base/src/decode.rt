@@ -18,7 +18,7 @@ use std::alloc::Global;
 
 /// A value that bytes spell.
 pub trait Decode: Sized {
-    /// Why bytes are refused.
+    /// Why bytes are rejected.
     type Error: Refusal;
 
     /// What a value means: the model's value.
@@ -32,14 +32,15 @@ pub trait Decode: Sized {
 
     /// Reads a value from the front, and leaves what follows it.
     ///
-    /// It is what the plain reader gives of the bytes that are left. A sound source is refused with
-    /// the fault of the plain reader, and for memory that ran out only where the value needs it.
+    /// Returns what the plain reader of the format makes of the remaining bytes (docs/MODEL.md). A
+    /// sound source is rejected with the fault of the plain reader, and with `Memory` only if the
+    /// value needs some.
     ///
-    /// A source with a fault is refused like this: what stands whole before the fault is refused
-    /// only for memory that it needs, and where a stated length passes all that was announced, the
-    /// call fails with `Length`, unless memory ran out for a value before it. What else is refused
-    /// of such a source is open. After an error some of the remaining bytes may have been consumed;
-    /// nothing else has changed.
+    /// On a source with a fault, a value that is complete before the fault fails only with
+    /// `Memory`, and only if it needs some; a stated length that exceeds all that was announced
+    /// fails with `Length`, unless memory ran out for a value before it. Nothing else is promised
+    /// of such a source. After an error some of the remaining bytes may have been consumed; nothing
+    /// else has changed.
     fn decode<R: Reader>(alloc: Global, reader: &mut R) -> Result<Self, Self::Error>
         ensures gives { Gives means Self.Error.cause format.read
             (R.source reader.old) result (R.source reader.new) }
@@ -48,7 +49,7 @@ pub trait Decode: Sized {
         ensures past { Stops Self.Error.cause format (R.source reader.old) result };
 }
 
-/// One byte (RFC 4251, section 5). Takes no memory.
+/// One byte (RFC 4251, section 5). Does not allocate.
 #[tactic(auto, using(crate::proofs::Steps::steps, crate::proofs::Stopping::stopping), unfolding(sshkey_model::specs::Reading::number_at))]
 impl Decode for u8 {
     type Error = encoding::Error;
@@ -72,7 +73,7 @@ impl Decode for u8 {
     }
 }
 
-/// A number of four bytes, most significant first (RFC 4251, section 5). Takes no memory.
+/// A number of four bytes, most significant first (RFC 4251, section 5). Does not allocate.
 #[tactic(auto, using(crate::proofs::Steps::steps, crate::proofs::Stopping::stopping), unfolding(sshkey_model::specs::Reading::number_at))]
 impl Decode for u32 {
     type Error = encoding::Error;
@@ -96,7 +97,7 @@ impl Decode for u32 {
     }
 }
 
-/// A number of eight bytes, most significant first (RFC 4251, section 5). Takes no memory.
+/// A number of eight bytes, most significant first (RFC 4251, section 5). Does not allocate.
 #[tactic(auto, using(crate::proofs::Steps::steps, crate::proofs::Stopping::stopping), unfolding(sshkey_model::specs::Reading::number_at))]
 impl Decode for u64 {
     type Error = encoding::Error;
@@ -121,7 +122,7 @@ impl Decode for u64 {
 }
 
 /// A string of exactly `N` bytes: a length of four bytes, and the bytes (RFC 4251, section 5).
-/// Fails with `Length` for a shorter one, with `TrailingData` for a longer one. Takes no memory.
+/// Fails with `Length` for a shorter one, with `TrailingData` for a longer one. Does not allocate.
 #[tactic(auto, using(crate::proofs::Boxes::boxes))]
 impl<const N: usize> Decode for [u8; N] {
     type Error = encoding::Error;
@@ -154,8 +155,8 @@ impl<const N: usize> Decode for [u8; N] {
 
 /// Reads a length of four bytes, and a value that takes exactly that many bytes.
 ///
-/// Unless memory runs out, a sound source is refused only where no front of it is a length and that
-/// many bytes that spell a value. Fails with `Length` if the length passes what is left, with
+/// Unless memory runs out, a sound source is rejected only if it does not begin with a string that
+/// holds exactly one value. Fails with `Length` if the length passes what is left, with
 /// `TrailingData` and the number of bytes that the value leaves. Memory is allocated only by the
 /// value, in a part that stands whole.
 #[tactic(auto, using(crate::proofs::Boxes::boxes))]
@@ -178,8 +179,8 @@ pub fn decode_boxed<T: Decode + Drop, R: Reader>(
 /// Reads a value from the front, in the words of the grammar.
 ///
 /// The bytes taken spell the value, and the rest is left. Unless memory runs out, a sound source is
-/// refused only where no front of it spells any value, and with `Memory` only where the value needs
-/// some: a stated length that passes what is left is `Length`.
+/// rejected only if no spelling of a value begins it, and with `Memory` only if the value needs
+/// some: a stated length that exceeds what is left fails with `Length`.
 pub fn decode_front<T: Decode, R: Reader>(alloc: Global, reader: &mut R) -> Result<T, T::Error>
     ensures gives { Gives T.means T.Error.cause T.format.read
         (R.source reader.old) result (R.source reader.new) }
@@ -195,9 +196,9 @@ pub fn decode_front<T: Decode, R: Reader>(alloc: Global, reader: &mut R) -> Resu
 /// Reads a value that is all there is.
 ///
 /// Unless memory runs out, a sound source is accepted exactly if all its bytes together spell a
-/// value, which is then returned. Fails with `TrailingData` and the number of bytes behind a value,
-/// and with `Length` for a stated length that passes what is left, before anything is allocated. A
-/// source with a fault is never accepted.
+/// value, which is then returned. Fails with `TrailingData` and the number of bytes after a value,
+/// and with `Length` for a stated length that exceeds what is left, for which nothing is allocated.
+/// A source with a fault is never accepted.
 pub fn decode_whole<T: Decode + Drop, R: Reader + Drop>(
     alloc: Global,
     mut reader: R,

@@ -21,7 +21,7 @@ pub trait Encode {
     ghost max_len: { ℕ };
 
     /// How many bytes the normal form has. Fails with `Length` exactly if a box in it would exceed
-    /// 2^32 - 1 bytes. Takes no memory.
+    /// 2^32 - 1 bytes. Does not allocate.
     fn encoded_len(&self) -> Result<usize>
         ensures measures { Measures (normal self.now) result }
         ensures short { IfOk result (λ n. n ≤ max_len) };
@@ -30,13 +30,13 @@ pub trait Encode {
     ///
     /// Fails with `Length` if a box in it would exceed 2^32 - 1 bytes; any other error is the
     /// writer's own. After an error the writer holds what it held before, and a prefix of the
-    /// bytes. Takes no memory of its own.
+    /// bytes. Does not allocate by itself.
     fn encode<W: Writer>(&self, writer: &mut W) -> Result<()>
         ensures { Encodes W.fault (normal self.now)
             (W.sink writer.old) result (W.sink writer.new) };
 
-    /// How many bytes the value has behind its length. Fails with `Length` exactly if it or a box
-    /// in it would exceed 2^32 - 1 bytes. Takes no memory.
+    /// How many bytes the value has after its length. Fails with `Length` exactly if it or a box in
+    /// it would exceed 2^32 - 1 bytes. Does not allocate.
     final fn encoded_len_prefixed(&self) -> Result<usize>
     where
         Self: Sized,
@@ -61,7 +61,7 @@ pub trait Encode {
     }
 }
 
-/// The number in four bytes. Fails with `Length` if it needs more. Takes no memory.
+/// The number in four bytes. Fails with `Length` if it needs more. Does not allocate.
 pub fn u32_of(len: usize) -> Result<u32>
     ensures { IsLength len result }
 {
@@ -82,7 +82,7 @@ pub fn encode_string<W: Writer>(bytes: &[u8], writer: &mut W) -> Result<()>
 }
 
 /// How many bytes a string has with its length before it. Fails with `Length` exactly if it is
-/// longer than 2^32 - 1 bytes. Takes no memory.
+/// longer than 2^32 - 1 bytes. Does not allocate.
 #[tactic(auto, using(crate::proofs::Writing::measuring_leaves))]
 pub fn string_len(bytes: &[u8]) -> Result<usize>
     ensures measures { Measures (string bytes.now) result }
@@ -92,8 +92,8 @@ pub fn string_len(bytes: &[u8]) -> Result<usize>
     Ok(4 + len as usize)
 }
 
-/// How many bytes two values have, one behind the other. Fails with `Length` exactly if a box in
-/// one of them would exceed 2^32 - 1 bytes. Takes no memory.
+/// How many bytes two values have, one after the other. Fails with `Length` exactly if a box in one
+/// of them would exceed 2^32 - 1 bytes. Does not allocate.
 #[tactic(auto, using(crate::proofs::Writing::measuring))]
 pub fn both_len<A: Encode, B: Encode>(first: &A, second: &B) -> Result<usize>
     requires { A.max_len + B.max_len < 2 ^ 64 }
@@ -103,7 +103,7 @@ pub fn both_len<A: Encode, B: Encode>(first: &A, second: &B) -> Result<usize>
     Ok(first.encoded_len()? + second.encoded_len()?)
 }
 
-/// Writes two values, one behind the other.
+/// Writes two values, one after the other.
 #[tactic(auto, using(crate::proofs::Writing::writing))]
 pub fn encode_both<A: Encode, B: Encode, W: Writer>(
     first: &A,

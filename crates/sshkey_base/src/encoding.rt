@@ -22,7 +22,7 @@ pub enum Error {
     /// A length passes what is left, what can be written, or 2^32 - 1.
     #[error("length invalid")]
     Length,
-    /// Bytes are left behind a value.
+    /// Bytes are left after a value.
     #[error("unexpected trailing data at end of message ({remaining} bytes)")]
     TrailingData {
         /// How many bytes are left.

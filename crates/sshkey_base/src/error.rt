@@ -75,7 +75,7 @@ pub enum Error {
     /// A time is past 2^63 - 1 seconds.
     #[error("invalid time")]
     Time,
-    /// Bytes stand behind an encrypted private key.
+    /// Bytes follow an encrypted private key.
     #[error("unexpected trailing data at end of message ({remaining} bytes)")]
     TrailingData {
         /// How many.

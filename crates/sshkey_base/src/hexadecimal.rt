@@ -7,7 +7,7 @@ use std::fmt;
 
 /// Writes each byte as two digits, with small letters.
 ///
-/// Takes no memory. What was written before an error is unspecified.
+/// Does not allocate. What was written before an error is unspecified.
 pub fn write_lower_hex<W: fmt::Write>(bytes: &[u8], f: &mut fmt::Formatter<W>) -> fmt::Result
     ensures { WritesOnOk W.write_str_gives f.old result (encode_lower bytes.now) f.new }
 {
@@ -19,7 +19,7 @@ pub fn write_lower_hex<W: fmt::Write>(bytes: &[u8], f: &mut fmt::Formatter<W>) -
 
 /// Writes each byte as two digits, with capital letters.
 ///
-/// Takes no memory. What was written before an error is unspecified.
+/// Does not allocate. What was written before an error is unspecified.
 pub fn write_upper_hex<W: fmt::Write>(bytes: &[u8], f: &mut fmt::Formatter<W>) -> fmt::Result
     ensures { WritesOnOk W.write_str_gives f.old result (encode_upper bytes.now) f.new }
 {

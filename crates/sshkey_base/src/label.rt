@@ -62,7 +62,7 @@ pub trait Label: Sized {
     /// No name is longer than that of an algorithm in a certificate.
     ghost short: { (n : Named) → IsNamed n → nat_le (length (name n)) 73 ≡ true };
 
-    /// What is no name is refused as such.
+    /// What is no name is rejected as such.
     ghost refusals: { (text : List ℕ) (fault : Fault) → named text ≡ Err fault → fault ≡ label_fault };
 }
 

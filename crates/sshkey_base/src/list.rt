@@ -21,7 +21,7 @@ use crate::reader::{NestedReader, Reader};
 use crate::writer::Writer;
 use std::alloc::Global;
 
-/// How many bytes the values have, one behind the other. Fails with `Length` exactly if a box can't
+/// How many bytes the values have, one after the other. Fails with `Length` exactly if a box can't
 /// hold them, or a box in one of them is too long.
 fn each_len<T: Encode>(values: &[T]) -> Result<u32>
     ensures { MeasuresBoxed (each T.normal values.now) result }
@@ -34,7 +34,7 @@ fn each_len<T: Encode>(values: &[T]) -> Result<u32>
     Ok(len)
 }
 
-/// Writes the values, one behind the other.
+/// Writes the values, one after the other.
 fn encode_each<T: Encode, W: Writer>(values: &[T], writer: &mut W) -> Result<()>
     ensures { Encodes W.fault (each T.normal values.now)
         (W.sink writer.old) result (W.sink writer.new) }
@@ -45,10 +45,10 @@ fn encode_each<T: Encode, W: Writer>(values: &[T], writer: &mut W) -> Result<()>
     Ok(())
 }
 
-/// How many bytes a list has: a length of four bytes, and the values, one behind the other.
+/// How many bytes a list has: a length of four bytes, and the values, one after the other.
 ///
 /// Fails with `Length` exactly if the values exceed 2^32 - 1 bytes, or a box in one of them does.
-/// Takes no memory.
+/// Does not allocate.
 pub fn list_len<T: Encode>(values: &[T]) -> Result<usize>
     ensures measures { Measures (box (each T.normal values.now)) result }
     ensures short { IfOk result (λ n. n < 2 ^ 32 + 4) }
@@ -57,7 +57,7 @@ pub fn list_len<T: Encode>(values: &[T]) -> Result<usize>
     Ok(4 + len as usize)
 }
 
-/// Writes a list: a length of four bytes, and the values, one behind the other.
+/// Writes a list: a length of four bytes, and the values, one after the other.
 ///
 /// Fails as writing the values does, and with `Length` if they have more than 2^32 - 1 bytes.
 pub fn encode_list<T: Encode, W: Writer>(values: &[T], writer: &mut W) -> Result<()>

@@ -40,8 +40,8 @@ impl Mpint {
     ghost use Rattle.sshkey_base.specs.Causes.{cause};
     ghost use Rattle.sshkey_base.specs.Mpint.{mpint_of};
 
-    /// Whether the bytes are those of a number, in two's complement: Ok exactly where `from_bytes`
-    /// with enough memory is, else `FormatEncoding`. Takes no memory.
+    /// Whether the bytes are those of a number, in two's complement: `Ok` exactly if `from_bytes`
+    /// with enough memory is, else `FormatEncoding`. Does not allocate.
     pub fn check(bytes: &[u8]) -> Result<()>
         ensures { Judges cause (mpint_from bytes.now) result }
     {
@@ -67,7 +67,7 @@ impl Mpint {
         })
     }
 
-    /// The same of a vector, which is kept. Takes no memory.
+    /// The same of a vector, which is kept. Does not allocate.
     pub fn from_vec(bytes: Vec<u8>) -> Result<Mpint>
         ensures { AnswersAlways mpint_of cause (mpint_from bytes.items) result }
     {
@@ -122,7 +122,7 @@ impl Mpint {
     }
 
     /// Writes zeros over the bytes, and returns the memory that held them. If that memory is
-    /// dropped unread, a compiler may omit the writes. Takes no memory.
+    /// dropped unread, a compiler may omit the writes. Does not allocate.
     pub fn erase(self) -> Vec<u8>
         ensures { result.items ≡ replicate (length (mpint_of self)) 0 }
     {

@@ -13,7 +13,7 @@ use crate::short_bytes::ShortBytes;
 const MAX_LEN: usize = 73;
 
 /// The next `len` bytes, if they are not too many for a name; else they are passed, and the answer
-/// is `None`. Takes no memory. Fails with `Length` if more are asked for than are announced.
+/// is `None`. Does not allocate. Fails with `Length` if more are asked for than are announced.
 pub(crate) fn take_name<R: Reader>(
     len: usize,
     reader: &mut R,

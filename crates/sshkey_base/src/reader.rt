@@ -12,10 +12,10 @@ use std::fmt;
 
 /// A source of bytes that is read from its front.
 ///
-/// It has the bytes that are left before its end or its fault. It is sound if it has no fault: then
-/// all the bytes that it announces can be read.
+/// A source may break off early, with a fault. It is sound if it has none: then all the bytes that
+/// it announces can be read.
 pub trait Reader: Sized {
-    /// What is left, how much is missing behind it, and the readers around this one.
+    /// What is left, how much is missing after it, and the readers around this one.
     ghost source: { Self → Source };
 
     /// Fills the buffer with the next bytes, as many as it has room for.
@@ -38,7 +38,7 @@ pub trait Reader: Sized {
         None
     }
 
-    /// Passes the next `len` bytes, which have to be there.
+    /// Skips the next `len` bytes; at least that many have to be left.
     fn skip(&mut self, len: usize)
         requires { len ≤ length (source self.old).left }
         ensures { source self.new ≡ behind len (source self.old) }
@@ -54,12 +54,12 @@ pub trait Reader: Sized {
         }
     }
 
-    /// How many bytes are left. A source with a fault announces more than it has, and the number
-    /// falls by what is read.
+    /// How many bytes are announced and not yet read. A source with a fault announces more than can
+    /// be read.
     fn remaining_len(&self) -> usize
         ensures { result ≡ announced_len (source self.now) };
 
-    /// Whether no byte is left.
+    /// Whether `remaining_len` is 0.
     final fn is_finished(&self) -> bool
         ensures { IsTrue result ↔ (announced_len (source self.now) ≡ 0) }
     {
@@ -85,9 +85,10 @@ pub trait Reader: Sized {
     /// Reads a length of four bytes and calls `f` on exactly that many bytes, all of which `f` has
     /// to read (RFC 4251, section 5).
     ///
-    /// Fails with `Length` if the length is above `remaining_len`, with `TrailingData` and the
-    /// number of bytes that `f` leaves, and otherwise with the error of `f`. After an error some of
-    /// the remaining bytes may have been consumed, if `f` does no more than that with its part.
+    /// Fails as reading four bytes does, with `Length` if the length is above `remaining_len`, with
+    /// the error of `f`, or with `TrailingData` and the number of bytes that `f` leaves. After an
+    /// error some of the remaining bytes may have been consumed, provided that `f` does no more
+    /// than read its part.
     final fn read_prefixed<T, E, F>(&mut self, f: F) -> std::result::Result<T, E>
     where
         T: Drop,
@@ -217,7 +218,7 @@ impl<R: Reader> Reader for NestedReader<'_, R> {
     }
 }
 
-/// Reads the next `N` bytes. Takes no memory.
+/// Reads the next `N` bytes. Does not allocate.
 ///
 /// If fewer are left, fails with `Length` on a sound source, and with a fault of its own on another
 /// one.
@@ -231,7 +232,7 @@ pub fn array_from<const N: usize, R: Reader>(reader: &mut R) -> Result<[u8; N]>
     Ok(bytes)
 }
 
-/// Reads the length before a string, four bytes (RFC 4251, section 5). Takes no memory.
+/// Reads the length before a string, four bytes (RFC 4251, section 5). Does not allocate.
 ///
 /// If fewer are left, fails with `Length` on a sound source, and with a fault of its own on another
 /// one.

@@ -10,7 +10,7 @@ use crate::error::Error;
 
 /// An error type of a reading call: each of its errors has a cause.
 pub trait Refusal: From<encoding::Error> + Drop {
-    /// Why it was refused.
+    /// Why it was rejected.
     ghost cause: { Self → Cause };
 
     /// An error of the encoding keeps its cause.

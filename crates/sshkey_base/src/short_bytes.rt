@@ -67,8 +67,8 @@ impl<const MAX: usize> ShortBytes<MAX> {
 
 /// A string of at most `MAX` bytes: a length of four bytes, and the bytes (RFC 4251, section 5).
 ///
-/// Fails with `Length` for a longer one, and for a length that passes what is left. Takes no
-/// memory.
+/// Fails with `Length` for a longer one, and for a length that passes what is left. Does not
+/// allocate.
 #[tactic(auto, using(crate::proofs::Steps::steps, crate::proofs::Stopping::stopping), unfolding(crate::specs::ShortStrings::short_at, sshkey_model::specs::Reading::string_at))]
 impl<const MAX: usize> Decode for ShortBytes<MAX> {
     ghost use Rattle.sshkey_base.specs.ShortBytes.{short_of};

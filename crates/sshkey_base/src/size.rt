@@ -20,7 +20,7 @@ use crate::reader::{Reader, length_from};
 use crate::writer::Writer;
 use std::alloc::Global;
 
-/// A number of four bytes, most significant first (RFC 4251, section 5). Takes no memory.
+/// A number of four bytes, most significant first (RFC 4251, section 5). Does not allocate.
 #[tactic(auto, using(crate::proofs::Steps::steps, crate::proofs::Stopping::stopping))]
 impl Decode for usize {
     type Error = Error;

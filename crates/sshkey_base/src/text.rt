@@ -34,7 +34,7 @@ impl Model for Text {
 }
 
 impl Text {
-    /// The text of the string. Takes no memory.
+    /// The text of the string. Does not allocate.
     pub fn new(text: String) -> Text
         ensures { result ≡ string_bytes text }
     {
@@ -58,7 +58,7 @@ impl Text {
         self.text.as_str()
     }
 
-    /// The string that holds the text. Takes no memory.
+    /// The string that holds the text. Does not allocate.
     pub fn into_string(self) -> String
         ensures { string_bytes result ≡ self }
     {
@@ -90,7 +90,7 @@ impl Decode for Text {
     }
 }
 
-/// The text of the bytes. Fails with `CharacterEncoding` if they are not UTF-8. Takes no memory.
+/// The text of the bytes. Fails with `CharacterEncoding` if they are not UTF-8. Does not allocate.
 fn text_of(bytes: Bytes) -> Result<Text>
     ensures { AnswersAlways (λ t. t) encoding_cause (text_from bytes) result }
 {

@@ -7,7 +7,7 @@ use std::marker::Model;
 
 /// All the bytes that were written to a writer that keeps only some of them.
 ///
-/// It takes no memory and its methods do nothing when they run: only proofs read it.
+/// It does not allocate and its methods do nothing when they run: only proofs read it.
 #[derive(Drop)]
 pub(crate) struct History {
     ghost bytes: { List ℕ },

@@ -12,7 +12,7 @@ use base64::engine::general_purpose::STANDARD;
 ///
 /// The buffer has room for just these characters: four for each three of the bytes, and four for
 /// the one or two that are left. It goes from the front on, piece by piece, and no byte is
-/// overwritten before it is encoded. Takes no memory.
+/// overwritten before it is encoded. Does not allocate.
 pub fn spread(word: &mut [u8], count: usize)
     requires room { length word.old ≡ 4 * ((count + 2) / 3) }
     requires fits { count ≤ length word.old }

@@ -12,7 +12,7 @@ pub(crate) const ROOM: usize = 3072;
 
 /// The bytes from one place on, as many as there is room for, of all that is written.
 ///
-/// It passes over the others at once, and refuses nothing.
+/// It passes over the others at once, and rejects nothing.
 #[derive(Drop)]
 pub(crate) struct Window {
     start: usize,
@@ -27,7 +27,7 @@ pub(crate) struct Window {
 }
 
 impl Window {
-    /// A window that begins behind so many bytes. Nothing is written yet.
+    /// A window that begins after so many bytes. Nothing is written yet.
     pub(crate) fn new(start: usize) -> Window
         ensures start { result.start ≡ start }
         ensures empty { result.history.bytes ≡ [] }
@@ -49,7 +49,7 @@ impl Window {
     }
 }
 
-/// What was written, behind the number of the place where the window begins: so whoever lends the
+/// What was written, after the number of the place where the window begins: so whoever lends the
 /// window knows afterwards that it still begins there.
 impl Writer for Window {
     ghost sink = { λ w. record { written = w.start ∷ w.history.bytes; limit = None } };

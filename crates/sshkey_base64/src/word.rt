@@ -14,7 +14,7 @@ use sshkey_base::{Encode, Writer};
 /// The bytes that are encoded at once, in whole groups.
 pub(crate) const PIECE: usize = 48;
 
-/// Writes bytes in padded Base64, piece by piece. Takes no memory.
+/// Writes bytes in padded Base64, piece by piece. Does not allocate.
 ///
 /// Any refusal is the writer's own; then it holds what it held, and a beginning of the word.
 pub fn write_base64<W: Writer>(blob: &[u8], writer: &mut W) -> Result<()>
@@ -34,7 +34,7 @@ pub fn write_base64<W: Writer>(blob: &[u8], writer: &mut W) -> Result<()>
     Ok(())
 }
 
-/// Writes a value's normal form, of so many bytes, in padded Base64. Takes no memory.
+/// Writes a value's normal form, of so many bytes, in padded Base64. Does not allocate.
 ///
 /// The value is encoded once for each 3,072 of its bytes, so for n times the bytes it takes n * n
 /// times as long. Any refusal is the writer's own; then it holds what it held, and a beginning of

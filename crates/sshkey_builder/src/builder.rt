@@ -26,7 +26,7 @@ use std::alloc::Global;
 /// Collects the fields of a certificate, and signs them.
 ///
 /// Each setter stands here twice: `serial` hands the builder back, so that calls can be chained;
-/// `set_serial` answers nothing. A refused call of either changes nothing, which a caller's proof
+/// `set_serial` answers nothing. A rejected call of either changes nothing, which a caller's proof
 /// learns by itself of `set_serial` alone.
 pub struct Builder {
     alloc: Global,
@@ -67,7 +67,7 @@ impl Builder {
     pub const RECOMMENDED_NONCE_SIZE: usize = 16;
 
     /// A builder for a certificate of that key, for times from `valid_after` on and before
-    /// `valid_before`, in seconds since 1970. Takes no memory.
+    /// `valid_before`, in seconds since 1970. Does not allocate.
     ///
     /// `CertificateFieldInvalid` of the first time that is above 2^63 - 1, `Field::ValidAfter` or
     /// `Field::ValidBefore`, or of `Field::ValidBefore` where the end is before the beginning.
@@ -86,7 +86,7 @@ impl Builder {
     }
 
     /// A builder for a certificate of that key without an end, for times from `valid_after` on.
-    /// Takes no memory.
+    /// Does not allocate.
     ///
     /// `CertificateFieldInvalid(Field::ValidAfter)` where that is above 2^63 - 1.
     pub fn new_forever(
@@ -149,8 +149,8 @@ impl Builder {
         }
     }
 
-    /// Sets the serial number. `CertificateFieldInvalid(Field::Serial)` if it was set. Takes no
-    /// memory.
+    /// Sets the serial number. `CertificateFieldInvalid(Field::Serial)` if it was set. Does not
+    /// allocate.
     pub fn serial(&mut self, serial: u64) -> Result<&mut Builder>
         ensures* stays { sem 𝓛 (StaysIfRefused self.entry result) }
         ensures same_reference { IsTheBuilder self.entry result }
@@ -159,7 +159,7 @@ impl Builder {
         hand_back(self.chain_serial(serial))
     }
 
-    /// Sets the type. `CertificateFieldInvalid(Field::CertType)` if it was set. Takes no memory.
+    /// Sets the type. `CertificateFieldInvalid(Field::CertType)` if it was set. Does not allocate.
     pub fn cert_type(&mut self, cert_type: CertType) -> Result<&mut Builder>
         ensures* stays { sem 𝓛 (StaysIfRefused self.entry result) }
         ensures same_reference { IsTheBuilder self.entry result }
@@ -168,7 +168,7 @@ impl Builder {
         hand_back(self.chain_cert_type(cert_type))
     }
 
-    /// Sets the key id. `CertificateFieldInvalid(Field::KeyId)` if it was set. Takes no memory.
+    /// Sets the key id. `CertificateFieldInvalid(Field::KeyId)` if it was set. Does not allocate.
     pub fn key_id(&mut self, key_id: String) -> Result<&mut Builder>
         ensures* stays { sem 𝓛 (StaysIfRefused self.entry result) }
         ensures same_reference { IsTheBuilder self.entry result }
@@ -177,7 +177,8 @@ impl Builder {
         hand_back(self.chain_key_id(key_id))
     }
 
-    /// Sets the comment. `CertificateFieldInvalid(Field::Comment)` if it was set. Takes no memory.
+    /// Sets the comment. `CertificateFieldInvalid(Field::Comment)` if it was set. Does not
+    /// allocate.
     pub fn comment(&mut self, comment: String) -> Result<&mut Builder>
         ensures* stays { sem 𝓛 (StaysIfRefused self.entry result) }
         ensures same_reference { IsTheBuilder self.entry result }
@@ -195,7 +196,7 @@ impl Builder {
         hand_back(self.chain_valid_principal(principal))
     }
 
-    /// Makes all principals valid, whichever were named. Never refused, and takes no memory.
+    /// Makes all principals valid, whichever were named. Never rejected, and does not allocate.
     pub fn all_principals_valid(&mut self) -> Result<&mut Builder>
         ensures* stays { sem 𝓛 (StaysIfRefused self.entry result) }
         ensures same_reference { IsTheBuilder self.entry result }
@@ -205,7 +206,7 @@ impl Builder {
     }
 
     /// Adds one of the critical options. `CertificateFieldInvalid(Field::CriticalOptions)` if there
-    /// is one of that name, and else refused only when out of memory.
+    /// is one of that name, and else rejected only when out of memory.
     pub fn critical_option(&mut self, name: String, value: String) -> Result<&mut Builder>
         ensures* stays { sem 𝓛 (StaysIfRefused self.entry result) }
         ensures same_reference { IsTheBuilder self.entry result }
@@ -215,7 +216,7 @@ impl Builder {
     }
 
     /// Adds one of the extensions. `CertificateFieldInvalid(Field::Extensions)` if there is one of
-    /// that name, and else refused only when out of memory.
+    /// that name, and else rejected only when out of memory.
     pub fn extension(&mut self, name: String, value: String) -> Result<&mut Builder>
         ensures* stays { sem 𝓛 (StaysIfRefused self.entry result) }
         ensures same_reference { IsTheBuilder self.entry result }

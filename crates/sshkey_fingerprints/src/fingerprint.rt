@@ -51,7 +51,7 @@ impl Fingerprint {
     }
 
     /// The digest of the bytes by that hash: where they are a key's normal form, its fingerprint.
-    /// Takes no memory.
+    /// Does not allocate.
     pub fn of_bytes(hash_alg: HashAlg, bytes: &[u8]) -> Fingerprint
         ensures by { algorithm_of result ≡ hash_of hash_alg }
         ensures digest { digest_of result ≡ digest (hash_of hash_alg) bytes.now }

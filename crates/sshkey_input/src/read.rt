@@ -17,7 +17,7 @@ const MOST_READS: u64 = 0x1_0000_0000;
 ///
 /// Fails with `Io` and the machine's fault if a read fails, whatever was read before it, but a read
 /// that was interrupted is made again; with `Io(Other)` if the end is not met in 2^32 reads, and
-/// `Memory`. After a refusal some of the bytes are passed.
+/// `Memory`. After an error some of the bytes are passed.
 pub fn read_all<R: Read>(alloc: Global, input: &mut R) -> Result<Vec<u8>>
     ensures bytes { IfOk result (λ v. IfSome (R.remaining input.old) (λ bytes. v.items ≡ bytes)) }
     ensures end { OnOk result (IsAtEnd (R.remaining input.new)) }

@@ -19,8 +19,8 @@ use sshkey_kinds::{EcdsaPublicKey, SkEcdsaSha2NistP256, SkEd25519};
 /// under the key by the algorithm. `KeyData::question` gives it.
 ///
 /// Whoever verifies elsewhere, in another process, on a device or later, takes the four parts from
-/// here: the signature counts exactly if they verify. A security key's question is already the one
-/// about the plain key within and what the device signed.
+/// here: the signature is valid exactly if verification of them succeeds. A security key's question
+/// is already the one about the plain key within and what the device signed.
 #[derive(Drop)]
 pub struct Question<'a>(Contents<'a>);
 
@@ -80,11 +80,12 @@ impl KeyData {
     /// the key and the signature's algorithm do not go together: then no verifier is asked, and the
     /// signature counts for nothing. `verify` asks its verifier just this. Takes no memory.
     ///
-    /// A question is asked under DSA, Ed25519 and RSA with a hash for keys of these kinds, and under
-    /// ECDSA for a key on the same curve: about the message and the signature's bytes. For a
-    /// security key and its algorithm it is about the plain key within, the SHA-256 digest of the
-    /// application, the flags and the counter, and the digest of the message (PROTOCOL.u2f), and the
-    /// bytes before flags and counter.
+    /// A DSA, an Ed25519 or an RSA key goes together with its own algorithm, RSA with a hash, and
+    /// an ECDSA key with that of its curve: the question is about the key, the message and the
+    /// signature's bytes. A security key goes together with its own algorithm: the question is
+    /// about the plain key within; the message is the SHA-256 digest of the application, the flags,
+    /// the counter and the digest of the message (PROTOCOL.u2f); and the signature is what comes
+    /// before flags and counter.
     pub fn question<'a>(
         &'a self,
         message: &'a [u8],

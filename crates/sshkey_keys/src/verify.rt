@@ -15,14 +15,14 @@ use sshkey_base::{Algorithm, Error, Result};
 use std::alloc::Global;
 
 impl KeyData {
-    /// Asks the verifier about a signature of the message under this key: what `question` returns,
-    /// and nothing else. No other answer of it plays a part.
+    /// Verifies a signature of the message under this key: calls the verifier once, with what
+    /// `question` returns.
     ///
-    /// Unless memory runs out, the verifier's included, `Ok` exactly if it is asked and says yes.
-    /// Fails with `AlgorithmUnsupported` and the key's algorithm for a key under a private-use name,
-    /// with `AlgorithmUnsupported` and the signature's if nothing is asked, and with `Crypto` if the
-    /// verifier says no. Memory is taken for a private-use name that an error holds, and else only
-    /// by the verifier.
+    /// Unless memory runs out, the verifier's included, `Ok` exactly if the verifier is called and
+    /// returns true. Fails with `AlgorithmUnsupported` and the key's algorithm for a key under a
+    /// private-use name, with `AlgorithmUnsupported` and the signature's if `question` returns
+    /// `None`, and with `Crypto` if the verifier returns false. Allocates for a private-use name
+    /// that an error holds, and else only in the verifier.
     pub fn verify<V: RawVerifier>(
         &self,
         alloc: Global,

@@ -27,7 +27,7 @@ impl EndTime {
     ghost use Rattle.sshkey_options.specs.Times.{end_of};
 
     /// The end at so many seconds since 1970, or none for `FOREVER`; `Time` for any other number
-    /// above 2^63 - 1. Takes no memory.
+    /// above 2^63 - 1. Does not allocate.
     pub fn new(secs: u64) -> Result<EndTime>
         ensures { AnswersAlways end_of cause (end_from secs) result }
     {
@@ -70,7 +70,8 @@ impl From<UnixTime> for EndTime {
     }
 }
 
-/// Eight bytes, most significant first; `Time` above 2^63 - 1, but for `FOREVER`. Takes no memory.
+/// Eight bytes, most significant first; `Time` above 2^63 - 1, but for `FOREVER`. Does not
+/// allocate.
 #[tactic(auto, using(sshkey_base::proofs::Steps::steps, sshkey_base::proofs::Judging::judged, sshkey_base::proofs::Stopping::stopping), unfolding(sshkey_model::specs::Certificates::end_at))]
 impl Decode for EndTime {
     ghost use Rattle.sshkey_options.specs.Times.{end_of};

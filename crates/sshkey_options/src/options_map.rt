@@ -34,7 +34,7 @@ use write::{each_len, encode_each};
 pub struct OptionsMap(pub BTreeMap<String, String>);
 
 impl OptionsMap {
-    /// No options. Takes no memory.
+    /// No options. Does not allocate.
     pub fn new(alloc: Global) -> OptionsMap
         ensures { options_of result ≡ [] }
     {

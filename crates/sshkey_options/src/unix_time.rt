@@ -25,7 +25,7 @@ pub const MAX_SECS: u64 = i64::MAX as u64;
 impl UnixTime {
     ghost use Rattle.sshkey_options.specs.Times.{time_of};
 
-    /// The time of so many seconds; `Time` where they are above 2^63 - 1. Takes no memory.
+    /// The time of so many seconds; `Time` where they are above 2^63 - 1. Does not allocate.
     pub fn new(secs: u64) -> Result<UnixTime>
         ensures { AnswersAlways time_of cause (time_from secs) result }
     {
@@ -54,7 +54,7 @@ impl From<UnixTime> for u64 {
     }
 }
 
-/// Eight bytes, most significant first; `Time` above 2^63 - 1. Takes no memory.
+/// Eight bytes, most significant first; `Time` above 2^63 - 1. Does not allocate.
 #[tactic(auto, using(sshkey_base::proofs::Steps::steps, sshkey_base::proofs::Judging::judged, sshkey_base::proofs::Stopping::stopping), unfolding(sshkey_model::specs::Certificates::time_at))]
 impl Decode for UnixTime {
     ghost use Rattle.sshkey_options.specs.Times.{time_of};

@@ -10,7 +10,7 @@ fn is_line_end(byte: u8) -> bool
     matches!(byte, b'\n' | b'\r')
 }
 
-/// Whether the text holds no line feed and no carriage return. Takes no memory.
+/// Whether the text holds no line feed and no carriage return. Does not allocate.
 pub fn is_one_line(text: &str) -> bool
     ensures { IsTrue result ↔ IsOneLine text.now }
 {
@@ -18,7 +18,7 @@ pub fn is_one_line(text: &str) -> bool
 }
 
 /// Whether a line of that first word and that comment holds no line feed and no carriage return,
-/// whatever its blob. Takes no memory.
+/// whatever its blob. Does not allocate.
 pub fn makes_one_line(first: &str, comment: &str) -> bool
     ensures { (blob : List ℕ) → IsTrue result ↔ IsOneLine (written first.now blob comment.now) }
 {

@@ -33,7 +33,7 @@ pub fn one_ssh_signature()
 {}
 
 /// What a signature that some bytes spell signs in place of a message has no part that is too long:
-/// `signed_bytes` of one that was read is refused only when out of memory.
+/// `signed_bytes` of one that was read is rejected only when out of memory.
 pub fn signed_parts_fit()
     ensures { (f : SshSig) (bytes message : List ℕ) →
         SpellsSshSignature (ssh_signature_of f) bytes → BoxesFit (signed_parts f message) }

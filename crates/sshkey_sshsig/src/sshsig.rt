@@ -16,7 +16,7 @@ use std::alloc::Global;
 /// A signature of a message in a namespace, with the key that made it (PROTOCOL.sshsig).
 ///
 /// The signature is not over the message but over the namespace, the reserved bytes, the hash's
-/// name and the digest of the message, behind `SSHSIG`. The namespace is not empty, and the version
+/// name and the digest of the message, after `SSHSIG`. The namespace is not empty, and the version
 /// is 0 or 1.
 #[derive(Debug, PartialEq, Eq)]
 pub struct SshSig {
@@ -56,7 +56,7 @@ impl SshSig {
     /// read with version 0 is written with it.
     pub const VERSION: u32 = 1;
 
-    /// The signature in that namespace by that key, with nothing reserved. Takes no memory.
+    /// The signature in that namespace by that key, with nothing reserved. Does not allocate.
     ///
     /// Fails with `Namespace` exactly if the namespace is empty.
     pub fn new(

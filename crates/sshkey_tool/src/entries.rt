@@ -40,7 +40,7 @@ fn entry_text(alloc: Global, file: EntryFile, line: &str) -> Result<String, Erro
     }
 }
 
-/// The line that says why an entry is refused; or memory ran out.
+/// The line that says why an entry is rejected; or memory ran out.
 fn refused_entry(alloc: Global, error: &Error) -> Result<String, Error>
     ensures { RefusesEntry error.now result }
 {
@@ -59,7 +59,7 @@ struct ShownEntry {
     refused: bool,
 }
 
-/// The line of an entry: its text, or why it is refused.
+/// The line of an entry: its text, or why it is rejected.
 fn entry_line(alloc: Global, file: EntryFile, line: &str) -> Result<ShownEntry, Error>
     ensures { ShowsEntryLine file line.now result }
 {
@@ -76,7 +76,7 @@ fn entry_line(alloc: Global, file: EntryFile, line: &str) -> Result<ShownEntry, 
 }
 
 /// Writes the line of each entry of a text, one after the other, and says by a status whether one
-/// of them is refused. The first line that can't be made or written is the end.
+/// of them is rejected. The first line that can't be made or written is the end.
 pub(crate) fn write_entries<W: Write>(
     alloc: Global,
     file: EntryFile,

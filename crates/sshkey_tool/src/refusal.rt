@@ -1,4 +1,4 @@
-//! Why something is refused, in one line.
+//! Why something is rejected, in one line.
 
 ghost use Rattle.std.specs.Prelude.{IfOk, string_bytes};
 ghost use Rattle.sshkey_tool.specs.Outcomes.{WritesRefusal};
@@ -25,7 +25,7 @@ fn first_line(text: &str) -> &str
     }
 }
 
-/// The line that says why an input is refused: one line, whatever the error's text.
+/// The line that says why an input is rejected: one line, whatever the error's text.
 pub(crate) fn refused_line(alloc: Global, error: &Error) -> Result<String, AllocError>
     ensures { IfOk result (λ line. IsRefusalLine (string_bytes line)) }
 {

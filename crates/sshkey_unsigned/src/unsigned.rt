@@ -65,12 +65,12 @@ impl Unsigned {
 
 /// The first thirteen fields, read once from left to right.
 ///
-/// A sound source is rejected, unless memory runs out, only where they are not at its front, with
-/// the first of these from the left: `Length` for a stated length that passes the bytes, `Label`
-/// for a name of no algorithm, `CharacterEncoding` for a text that is not UTF-8, `FormatEncoding`
-/// for a type other than 1 and 2 and for options that do not rise, `Time` for a time above 2^63 - 1
-/// that is not the end 2^64 - 1, the faults of keys, and `TrailingData` with the number of bytes
-/// that stand in a string behind the key or the value that it holds.
+/// A sound source is rejected, unless memory runs out, only if they are not at its front, with the
+/// first of these from the left: `Length` for a stated length that passes the bytes, `Label` for a
+/// name of no algorithm, `CharacterEncoding` for a text that is not UTF-8, `FormatEncoding` for a
+/// type other than 1 and 2 and for options that are not in ascending order of their names, `Time`
+/// for a time above 2^63 - 1 (but 2^64 - 1 is allowed as `valid_before`), the faults of keys, and
+/// `TrailingData` with the number of bytes that follow a key or a value in its string.
 #[tactic(auto, using(sshkey_format::proofs::Mapped::mapped, crate::specs::UnsignedFormats::unsigned_parts_read))]
 impl Decode for Unsigned {
     ghost use Rattle.sshkey_unsigned.specs.UnsignedValues.{unsigned_of};

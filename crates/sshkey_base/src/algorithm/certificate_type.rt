@@ -52,7 +52,7 @@ impl Algorithm {
     }
 
     /// The algorithm with that fixed name in a certificate (PROTOCOL.certkeys), an RSA algorithm
-    /// without a hash; `None` for any other text. Takes no memory.
+    /// without a hash; `None` for any other text. Does not allocate.
     #[tactic(auto, unfolding(sshkey_model::specs::Names::named))]
     pub fn fixed_certificate(name: &str) -> Option<Algorithm>
         ensures { option_map algorithm_of result ≡ named certificate_name certified name.now }
@@ -71,8 +71,8 @@ impl Algorithm {
         Some(algorithm)
     }
 
-    /// Whether it is the name of an algorithm in a certificate (PROTOCOL.certkeys): Ok exactly where
-    /// `new_certificate` with enough memory is, else `Label`. Takes no memory.
+    /// Whether it is the name of an algorithm in a certificate (PROTOCOL.certkeys): `Ok` exactly if
+    /// `new_certificate` with enough memory is, else `Label`. Does not allocate.
     pub fn check_certificate(name: &str) -> Result<()>
         ensures { Judges cause (certified_from name.now) result }
     {
@@ -133,7 +133,7 @@ impl Algorithm {
         read_certificate_type(alloc, reader)
     }
 
-    /// How many bytes the name in a certificate has, at most 73. Takes no memory.
+    /// How many bytes the name in a certificate has, at most 73. Does not allocate.
     pub fn certificate_name_len(&self) -> usize
         ensures value { result ≡ length (certificate_name (algorithm_of self.now)) }
         ensures short { result ≤ 73 }
@@ -147,7 +147,7 @@ impl Algorithm {
     /// Writes the string of the name in a certificate: a length of four bytes, and the name.
     ///
     /// Fails only with the writer's own error; the writer then holds what it held before, and a
-    /// prefix of the string. Takes no memory of its own.
+    /// prefix of the string. Does not allocate by itself.
     pub fn encode_certificate_name<W: Writer>(&self, writer: &mut W) -> encoding::Result<()>
         ensures { Encodes W.fault (certificate_algorithm (algorithm_of self.now))
             (W.sink writer.old) result (W.sink writer.new) }
@@ -159,7 +159,7 @@ impl Algorithm {
     /// Writes the name in a certificate, with no length before it.
     ///
     /// Fails only with the writer's own error; the writer then holds what it held before, and a
-    /// prefix of the name. Takes no memory of its own.
+    /// prefix of the name. Does not allocate by itself.
     #[tactic(auto, using(crate::proofs::Writing::plain_bytes))]
     pub fn write_certificate_name<W: Writer>(&self, writer: &mut W) -> encoding::Result<()>
         ensures { Encodes W.fault (bytes (certificate_name (algorithm_of self.now)))

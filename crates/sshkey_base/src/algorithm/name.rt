@@ -159,7 +159,7 @@ impl AlgorithmName {
     }
 }
 
-/// What stands before the first at sign, and behind it.
+/// What stands before the first at sign, and after it.
 fn split_at_sign(text: &str) -> Option<(&str, &str)>
     ensures { IsCutOf text.now result }
 {
@@ -176,7 +176,7 @@ fn is_own_name(text: &str) -> bool
     }
 }
 
-/// Whether they are what stands before the first at sign of a name, and behind it.
+/// Whether they are what stands before the first at sign of a name, and after it.
 fn are_own_parts(name: &str, domain: &str) -> bool
     ensures { result ≡ are_own_parts name.now domain.now }
 {

@@ -22,7 +22,7 @@ impl Mpint {
     ///
     /// Fails with `Length` if the string passes what is left, with `FormatEncoding` for one more
     /// byte that does not begin with 00, and for fewer that are no such form; with `TrailingData`
-    /// for two more. Takes no memory. After an error some of the remaining bytes may have been
+    /// for two more. Does not allocate. After an error some of the remaining bytes may have been
     /// consumed.
     pub fn decode_fixed<const SIZE: usize, R: Reader>(reader: &mut R) -> Result<[u8; SIZE]>
         ensures gives { GivesBytes (value_at (scalar_at SIZE))

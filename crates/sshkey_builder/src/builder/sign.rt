@@ -28,8 +28,8 @@ impl Builder {
     /// else.
     ///
     /// Fails with `CertificateFieldInvalid(Field::ValidPrincipals)` if no principal was named and
-    /// not all were made valid, whatever memory there is. Else, unless memory runs out, `Length`
-    /// where the bytes to be signed do not fit, and otherwise an error of the signer's own.
+    /// not all were made valid, whatever memory there is. Else, unless memory runs out, with
+    /// `Length` if the bytes to be signed do not fit, and otherwise with the signer's own error.
     pub fn sign<S: SigningKey>(self, alloc: Global, signing_key: &S) -> Result<Certificate>
         ensures unnamed { IsNone (draft_of self).valid_principals → result ≡ Err no_principals }
         ensures signed { IfOk result (λ c. IsSignedDraft (S.Raw.accepts (S.raw_of signing_key.now))
@@ -91,7 +91,7 @@ impl Builder {
     }
 }
 
-/// The text, or an empty one. Takes no memory.
+/// The text, or an empty one. Does not allocate.
 fn or_empty(alloc: Global, text: Option<Text>) -> Text
     ensures { result ≡ or_default [] text }
 {

@@ -18,8 +18,8 @@ use sshkey_options::{CertType, OptionsMap};
 use std::alloc::Global;
 
 impl Certificate {
-    /// The algorithm of the certified key. That of an opaque key is the one that is kept beside its
-    /// bytes, and for a well-formed key the one that its name tells.
+    /// The algorithm of the certified key. For an opaque key it is the one stored beside its bytes,
+    /// which for a well-formed key is the one that its name tells.
     ///
     /// Fails only when out of memory, and only under a private-use name.
     pub fn algorithm(&self, alloc: Global) -> Result<Algorithm>
@@ -42,8 +42,8 @@ impl Certificate {
         self.unsigned.nonce.as_slice()
     }
 
-    /// The key that is certified. It is well-formed where the certificate is, as each is that was
-    /// read. Only `Certificate::sign` can make one that is not: an opaque key's name may be that of
+    /// The certified key. It is well-formed in every certificate that was read; only
+    /// `Certificate::sign` can make one with a key that is not: an opaque key whose name is that of
     /// another kind.
     #[tactic(auto, using(crate::proofs::KeysOfCertificates::certified_key_is))]
     pub fn public_key(&self) -> &KeyData
@@ -53,7 +53,7 @@ impl Certificate {
         &self.unsigned.public_key
     }
 
-    /// The number that the signer gave the certificate, to refer to it; 0 where it numbers none.
+    /// The serial number that the authority gave the certificate, or 0 if it assigns none.
     pub fn serial(&self) -> u64
         ensures { result ≡ (certificate_of self.now).signed.serial }
     {
@@ -67,14 +67,14 @@ impl Certificate {
         self.unsigned.cert_type
     }
 
-    /// A text of the signer's choice that names whom the certificate is for, for logs.
+    /// A text of the authority's choice that identifies the holder, for logs.
     pub fn key_id(&self) -> &str
         ensures { result.now ≡ (certificate_of self.now).signed.key_id }
     {
         self.unsigned.key_id.as_str()
     }
 
-    /// The principals; where there are none, `allows_principal` allows all.
+    /// The principals. If there are none, `allows_principal` allows everybody.
     pub fn valid_principals(&self) -> &[String]
         ensures { map string_bytes result.now ≡ (certificate_of self.now).signed.valid_principals }
     {
@@ -112,14 +112,14 @@ impl Certificate {
         &self.unsigned.critical_options
     }
 
-    /// What the certificate grants besides. Ignore an extension that you do not know.
+    /// What the certificate grants additionally. Ignore an extension that you do not know.
     pub fn extensions(&self) -> &OptionsMap
         ensures { options_of result.now ≡ (certificate_of self.now).signed.extensions }
     {
         &self.unsigned.extensions
     }
 
-    /// The key that signed. It is well-formed where the certificate is, as each is that was read.
+    /// The key that signed. It is well-formed in every certificate that was read.
     pub fn signature_key(&self) -> &KeyData
         ensures value { key_of result.now ≡ (certificate_of self.now).signed.signature_key }
         ensures well_formed { IsCertificate (certificate_of self.now) → IsKey (key_of result.now) }

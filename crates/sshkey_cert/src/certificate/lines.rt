@@ -43,18 +43,19 @@ impl Certificate {
     /// Reads a line: the name of the key's algorithm in certificates, the certificate in padded
     /// Base64, and the comment.
     ///
-    /// White space at the end is cut off. Unless memory runs out, it fails exactly if the text is a
-    /// line of no certificate: `Length` where a word is missing or empty, `CharacterEncoding` for a
-    /// character in the first word that no name has, `Base64` where the second is no canonical
-    /// Base64, the refusals of `from_bytes`, also `Length` for a certificate that is signed by RSA
-    /// with SHA-1, and `AlgorithmUnknown` where the first word is not the certificate's name.
+    /// White space at the end is cut off. Unless memory runs out, it fails exactly if the text is
+    /// not the line of a certificate: with `Length` if a word is missing or empty, with
+    /// `CharacterEncoding` for a character in the first word that no name has, with `Base64` if the
+    /// second is not canonical Base64, with the errors of `from_bytes`, also `Length` for a
+    /// certificate that is signed by RSA with SHA-1, and with `AlgorithmUnknown` if the first word
+    /// is not the certificate's name.
     ///
-    /// Where the second word is canonical Base64, it fails with `Memory` only if the certificate in
-    /// it needs some, or for a comment that is not empty, of a line that is a certificate's: never
-    /// for a length that its bytes only state.
+    /// If the second word is canonical Base64, `Memory` means that an allocation for the
+    /// certificate in it failed, or for the comment of a line that is a certificate's. A length
+    /// that its bytes only state allocates nothing.
     ///
-    /// The comment is all that stands behind the second word and a space, line ends too: where
-    /// `is_one_line` says no, the text held more lines than one, and only the first was judged.
+    /// The comment is all that follows the second word and a space, line ends too: if `is_one_line`
+    /// returns false, further lines are part of it, and were not read as certificates.
     pub fn from_openssh(alloc: Global, text: &str) -> Result<Certificate>
         ensures reads { ReadsCertificate text.now result }
         ensures asks { AsksLine name_of_certificate SpellsCertificate certificate_format.needs
@@ -64,8 +65,8 @@ impl Certificate {
         Ok(certificate.with_comment(comment))
     }
 
-    /// The line of the certificate's normal form, newly allocated. Its comment may hold line ends,
-    /// so where `is_one_line` says no it is more than one line of a file.
+    /// The line of the certificate's normal form, newly allocated. Its comment may hold line ends:
+    /// if `is_one_line` returns false, it is more than one line of a file.
     ///
     /// Fails with `Length` exactly if a box in it would exceed 2^32 - 1 bytes, and otherwise only
     /// when out of memory.
@@ -79,7 +80,7 @@ impl Certificate {
     }
 
     /// Whether the line of the certificate's normal form, which `to_openssh` gives, holds no line
-    /// feed and no carriage return. Takes no memory.
+    /// feed and no carriage return. Does not allocate.
     ///
     /// A comment can hold them, and so can a private-use name (RFC 4251, section 6, forbids it
     /// there; a certificate that a line gave has none in its name). Check it before you append the

@@ -36,10 +36,10 @@ fn write_title<W: fmt::Write>(text: &str, f: &mut fmt::Formatter<W>) -> fmt::Res
 
 impl Fingerprint {
     /// Writes the fingerprint as random art under that header, as `ssh-keygen -lv` does: eleven
-    /// lines, without a line end behind the last.
+    /// lines, without a line end after the last.
     ///
-    /// The header is centred in 17 characters, and a longer one stands whole. Takes no memory. What
-    /// was written before an error is unspecified.
+    /// The header is centred in 17 characters, and a longer one stands whole. Does not allocate.
+    /// What was written before an error is unspecified.
     pub fn fmt_randomart<W: fmt::Write>(
         &self,
         header: &str,
@@ -54,7 +54,7 @@ impl Fingerprint {
     }
 
     /// The fingerprint as random art under that header, as `ssh-keygen -lv` shows it: eleven lines,
-    /// without a line end behind the last. Fails only when out of memory.
+    /// without a line end after the last. Fails only when out of memory.
     pub fn to_randomart(&self, alloc: Global, header: &str) -> Result<String>
         ensures art { IfOk result (λ art. string_bytes art ≡ art_of header.now self.now) }
         ensures refused { IfErr result (λ e. e ≡ Error.Memory) }

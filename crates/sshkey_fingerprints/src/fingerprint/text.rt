@@ -8,13 +8,13 @@ use base64::engine::general_purpose::STANDARD_NO_PAD;
 use sshkey_base::{Error, Result, encoding};
 use std::str::FromStr;
 
-/// No digest has a longer text behind the colon.
+/// No digest has a longer text after the colon.
 const LONGEST_LEN: usize = 86;
 
 /// How many bytes the decoder asks for so long a text.
 const ROOM_LEN: usize = 66;
 
-/// The bytes, if there are `N`, else `Length`. Takes no memory.
+/// The bytes, if there are `N`, else `Length`. Does not allocate.
 fn sized<const N: usize>(bytes: &[u8]) -> Result<[u8; N]>
     ensures is { IsSized N bytes.now result }
     ensures bytes { IsBytes bytes.now }
@@ -25,8 +25,8 @@ fn sized<const N: usize>(bytes: &[u8]) -> Result<[u8; N]>
 /// The digest of `N` bytes that the text spells in Base64.
 ///
 /// Fails with `Length` if the text is longer than that of any digest, with `Base64` if it is not
-/// canonical and unpadded Base64, and with `Length` if it spells another number of bytes. Takes no
-/// memory.
+/// canonical and unpadded Base64, and with `Length` if it spells another number of bytes. Does not
+/// allocate.
 fn digest_from<const N: usize>(text: &str) -> Result<[u8; N]>
     ensures { ReadsDigest N text.now result }
 {
@@ -43,9 +43,9 @@ fn digest_from<const N: usize>(text: &str) -> Result<[u8; N]>
 /// A text is read exactly if it is what is shown of a fingerprint, and it is that fingerprint.
 ///
 /// Fails with `AlgorithmUnknown` if it does not begin with the name of a hash and a colon; and of
-/// what stands behind the colon, with `Length` if it has more than 86 bytes, with `Base64` if it is
+/// what stands after the colon, with `Length` if it has more than 86 bytes, with `Base64` if it is
 /// not canonical and unpadded Base64, and with `Length` if the digest has not the size of that
-/// hash's. Takes no memory.
+/// hash's. Does not allocate.
 impl FromStr for Fingerprint {
     type Err = Error;
 

@@ -19,7 +19,7 @@ pub fn text_values()
     ensures { TextValues }
 {}
 
-/// Equal option names and falling ones are refused.
+/// Equal option names and falling ones are rejected.
 pub fn rising_names()
     ensures { RisingNames }
 {}

@@ -17,7 +17,7 @@ pub fn security_key_questions()
     ensures { SecurityKeyQuestions }
 {}
 
-/// The application's digest stands before flags and counter, the message's behind them.
+/// The application's digest stands before flags and counter, the message's after them.
 pub fn security_key_order()
     ensures { SecurityKeyOrder }
 {}

@@ -23,7 +23,7 @@ pub fn draft_windows()
     ensures { DraftWindows }
 {}
 
-/// The steps of a draft, and those that are refused.
+/// The steps of a draft, and those that are rejected.
 pub fn draft_steps()
     ensures { DraftSteps }
 {}

@@ -2,12 +2,12 @@
 
 ghost use Rattle.sshkey_model.specs.NameExamples.{CurveNames, HashNames, AlgorithmNames, CertificateNames, OwnNames, NameReading, OwnCertificateNames, TakenCertificateName};
 
-/// The three curves have the names of RFC 5656, section 10.1; any other name is refused.
+/// The three curves have the names of RFC 5656, section 10.1; any other name is rejected.
 pub fn curve_names()
     ensures { CurveNames }
 {}
 
-/// The two hashes have the names of PROTOCOL.sshsig; any other name is refused.
+/// The two hashes have the names of PROTOCOL.sshsig; any other name is rejected.
 pub fn hash_names()
     ensures { HashNames }
 {}

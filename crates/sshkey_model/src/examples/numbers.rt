@@ -7,7 +7,7 @@ pub fn mpint_forms()
     ensures { MpintForms }
 {}
 
-/// The mpints that RFC 4251 spells are read, and the refused forms are refused.
+/// The mpints that RFC 4251 spells are read, and the rejected forms are rejected.
 pub fn mpint_reading()
     ensures { MpintReading }
 {}

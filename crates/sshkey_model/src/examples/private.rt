@@ -82,7 +82,7 @@ pub fn written_key()
     ensures { WrittenKey }
 {}
 
-/// They are read as that key, also with a byte behind them that is left over.
+/// They are read as that key, also with a byte after them that is left over.
 pub fn read_key()
     ensures { ReadKey }
 {}
@@ -112,7 +112,8 @@ pub fn encrypted_keys()
     ensures { EncryptedKeys }
 {}
 
-/// A ciphertext that is no multiple of the block, a byte behind the key, and a key derivation without a cipher.
+/// A ciphertext that is no multiple of the block, a byte after the key, and a key derivation
+/// without a cipher.
 pub fn refused_encrypted_keys()
     ensures { RefusedEncryptedKeys }
 {}

@@ -2,7 +2,8 @@
 
 ghost use Rattle.sshkey_model.specs.SignatureExamples.{SecurityKeySignatures, PlainSignatures, SignatureSizes, SecurityKeySizes, ComponentSizes, Components, JudgedLast};
 
-/// Signatures of security keys (PROTOCOL.u2f), read and written with flags and counter behind the string.
+/// Signatures of security keys (PROTOCOL.u2f), read and written with flags and counter after the
+/// string.
 pub fn security_key_signatures()
     ensures { SecurityKeySignatures }
 {}
@@ -17,7 +18,7 @@ pub fn signature_sizes()
     ensures { SignatureSizes }
 {}
 
-/// A security key's Ed25519 signature has 64 bytes in the string and 5 behind it.
+/// A security key's Ed25519 signature has 64 bytes in the string and 5 after it.
 pub fn security_key_sizes()
     ensures { SecurityKeySizes }
 {}

@@ -17,7 +17,7 @@ pub fn key_line()
     ensures { KeyLine }
 {}
 
-/// Versions 0 and 1 are kept, and 2 is refused.
+/// Versions 0 and 1 are kept, and 2 is rejected.
 pub fn versions()
     ensures { Versions }
 {}

@@ -55,7 +55,7 @@ fn greatest_name(options: &BTreeMap<String, String>) -> Option<&str>
     }
 }
 
-/// An option that stands behind that of the name before.
+/// An option that stands after that of the name before.
 #[tactic(auto, using(sshkey_base::proofs::Steps::steps), unfolding(crate::specs::OptionReaders::option_behind))]
 fn option_from<R: Reader>(
     alloc: Global,
@@ -77,7 +77,7 @@ fn option_from<R: Reader>(
     Ok((name, value))
 }
 
-/// Whether the name may stand behind that of the option before: it is above it.
+/// Whether the name may stand after that of the option before: it is above it.
 fn may_follow(before: Option<&str>, name: &str) -> bool
     ensures { result ≡ may_follow (option_map (λ name. name.now) before.entry) name.now }
 {

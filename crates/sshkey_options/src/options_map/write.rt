@@ -59,8 +59,8 @@ impl Encode for PlainOption<'_> {
     }
 }
 
-/// How many bytes the options have, one behind the other. Fails with `Length` exactly if a box
-/// can't hold them, or a box in one of them is too long.
+/// How many bytes the options have, one after the other. Fails with `Length` exactly if a box can't
+/// hold them, or a box in one of them is too long.
 pub(super) fn each_len(options: &OptionsMap) -> encoding::Result<u32>
     ensures { MeasuresBoxed (each plain_option (options_of options.now)) result }
 {
@@ -79,7 +79,7 @@ pub(super) fn each_len(options: &OptionsMap) -> encoding::Result<u32>
     Ok(len)
 }
 
-/// Writes the options, one behind the other.
+/// Writes the options, one after the other.
 pub(super) fn encode_each<W: Writer>(options: &OptionsMap, writer: &mut W) -> encoding::Result<()>
     ensures { Encodes W.fault (each plain_option (options_of options.now))
         (W.sink writer.old) result (W.sink writer.new) }

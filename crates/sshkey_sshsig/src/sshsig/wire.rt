@@ -30,8 +30,8 @@ pub(super) const MAGIC: [u8; 6] = *b"SSHSIG";
 impl SshSig {
     /// Reads an SSH signature that all the bytes spell.
     ///
-    /// They are refused only where they spell none, `TrailingData` with the number of bytes behind
-    /// one, else the refusals of `decode`; or for memory that ran out, never where a stated length
+    /// They are rejected only if they spell none, `TrailingData` with the number of bytes after
+    /// one, else the errors of `decode`; or for memory that ran out, never where a stated length
     /// passes the bytes: that is `Length`.
     pub fn from_bytes(alloc: Global, bytes: &[u8]) -> Result<SshSig>
         ensures gives { GivesWhole ssh_signature_of cause (whole ssh_signature_value_at)

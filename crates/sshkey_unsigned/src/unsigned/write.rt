@@ -10,7 +10,7 @@ use super::Unsigned;
 use sshkey_base::{Encode, Writer, encoding};
 
 impl Unsigned {
-    /// Writes the serial number and all behind it.
+    /// Writes the serial number and all after it.
     #[tactic(auto, using(sshkey_base::proofs::Writing::writing))]
     pub(super) fn encode_grant<W: Writer>(&self, writer: &mut W) -> encoding::Result<()>
         ensures { Encodes W.fault (grant_parts (unsigned_of self.now))
@@ -21,7 +21,7 @@ impl Unsigned {
         self.encode_names(writer)
     }
 
-    /// Writes the key id and all behind it.
+    /// Writes the key id and all after it.
     #[tactic(auto, using(sshkey_base::proofs::Writing::writing))]
     fn encode_names<W: Writer>(&self, writer: &mut W) -> encoding::Result<()>
         ensures { Encodes W.fault (names_parts (unsigned_of self.now))
@@ -32,7 +32,7 @@ impl Unsigned {
         self.encode_limits(writer)
     }
 
-    /// Writes the two times and all behind them.
+    /// Writes the two times and all after them.
     #[tactic(auto, using(sshkey_base::proofs::Writing::writing))]
     fn encode_limits<W: Writer>(&self, writer: &mut W) -> encoding::Result<()>
         ensures { Encodes W.fault (limits_parts (unsigned_of self.now))
@@ -55,7 +55,7 @@ impl Unsigned {
         self.signature_key.encode_prefixed(writer)
     }
 
-    /// How many bytes the serial number has, and all behind it.
+    /// How many bytes the serial number has, and all after it.
     #[tactic(auto, using(sshkey_base::proofs::Writing::measuring))]
     pub(super) fn grant_len(&self) -> encoding::Result<usize>
         ensures measures { Measures (grant_parts (unsigned_of self.now)) result }
@@ -64,7 +64,7 @@ impl Unsigned {
         Ok(self.serial.encoded_len()? + self.cert_type.encoded_len()? + self.names_len()?)
     }
 
-    /// How many bytes the key id has, and all behind it.
+    /// How many bytes the key id has, and all after it.
     #[tactic(auto, using(sshkey_base::proofs::Writing::measuring))]
     fn names_len(&self) -> encoding::Result<usize>
         ensures measures { Measures (names_parts (unsigned_of self.now)) result }
@@ -73,7 +73,7 @@ impl Unsigned {
         Ok(self.key_id.encoded_len()? + self.valid_principals.encoded_len()? + self.limits_len()?)
     }
 
-    /// How many bytes the two times have, and all behind them.
+    /// How many bytes the two times have, and all after them.
     #[tactic(auto, using(sshkey_base::proofs::Writing::measuring))]
     fn limits_len(&self) -> encoding::Result<usize>
         ensures measures { Measures (limits_parts (unsigned_of self.now)) result }
