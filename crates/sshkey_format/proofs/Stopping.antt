@@ -11,7 +11,7 @@ use Rattle.sshkey_base.proofs.Stopping.{step_ok, checked_stopped}
 use Rattle.sshkey_format.specs.Behind.{behind_at}
 use Rattle.sshkey_format.specs.Terms.{IsMapped}
 
-some_ok : {A : Type 0} (P : A → Type 0) (r : Result A Fault) → IsOkAnd r P → IsOk r
+pub some_ok : {A : Type 0} (P : A → Type 0) (r : Result A Fault) → IsOkAnd r P → IsOk r
 some_ok P (Ok x) h = refl
 some_ok P (Err e) h = absurd h
 
