@@ -8,6 +8,7 @@ use Rattle.sshkey_base.specs.Needs.{Asks, NeedsThen}
 use Rattle.sshkey_base.specs.Reading.{Reads, IsRefused, Gives}
 use Rattle.sshkey_base.specs.Source.{Source}
 use Rattle.sshkey_base.specs.Stops.{OverrunsThen, AreLengths, RanOut, Stopped, StopsBy}
+use Rattle.sshkey_base.proofs.Places.{later_none, later_then}
 use Rattle.sshkey_base.proofs.Steps.{refused_first, refused_later, asks_later}
 use Rattle.sshkey_base.proofs.Stopping.{step_ok, read_past}
 use Rattle.sshkey_format.specs.Terms.{IsChosen}
@@ -15,31 +16,33 @@ use Rattle.sshkey_format.proofs.Stopping.{some_ok}
 
 -- ---- the first value is refused
 
-module _ {A Z W E : Type 0} (read : Front A) (next : A → Front Z) (record_at : Front Z) (s t : Source) (why : E → Cause) (r : Result W E) (e : E) where
-  -- what `?` hands on
-  pub chosen_handed : (means : W → Z) → IsErrAnd r (λ x. x ≡ e) → IsChosen record_at read next → IsRefused s.missing (why e) (read s.left) → Gives means why record_at s r t
-  chosen_handed means is same h = go r is
-    where
-      go : (r : Result W E) → IsErrAnd r (λ x. x ≡ e) → Gives means why record_at s r t
-      go (Ok w) is = absurd is
-      go (Err x) is = rw (is, same.same s.left) (refused_first s.missing (why e) (read s.left) _ h)
+pub chosen_refused : {A Z : Type 0} (read : Front A) (next : A → Front Z) (m : ℕ) (c : Cause) (b : List ℕ) (record_at : Front Z) → IsChosen record_at read next → IsRefused m c (read b) → IsRefused m c (record_at b)
+chosen_refused read next m c b record_at same h = rw (same.same b) (refused_first m c (read b) _ h)
 
-  pub chosen_handed_stops : (first over : List ℕ → ℕ → Type 0) (needs overs : A → List ℕ → ℕ → Type 0) → IsErrAnd r (λ x. x ≡ e) → IsChosen record_at read next → Stopped (why e) read first over s → StopsBy why record_at (NeedsThen first read needs) (OverrunsThen over read overs) s r
-  chosen_handed_stops first over needs overs is same h = go r is
-    where
-      more : RanOut (why e) first s → RanOut (why e) (NeedsThen first read needs) s
-      more m = record { memory = m.memory; needed = inl m.needed }
+pub chosen_stopped : {A Z : Type 0} (read : Front A) (next : A → Front Z) (first over : List ℕ → ℕ → Type 0) (needs overs : A → List ℕ → ℕ → Type 0) (c : Cause) (s : Source) (record_at : Front Z) → IsChosen record_at read next → Stopped c read first over s → Stopped c record_at (NeedsThen first read needs) (OverrunsThen over read overs) s
+chosen_stopped read next first over needs overs c s record_at same h = record {
+  takes = λ ok. more (h.takes (step_ok (read s.left) _ (rw (same.same s.left) at ok)));
+  past = past;
+}
+  where
+    more : RanOut c first s → RanOut c (NeedsThen first read needs) s
+    more m = record { memory = m.memory; needed = inl m.needed }
 
-      past : over s.left s.missing ⊎ IsOkAnd (read s.left) (λ x. overs x.0 x.1 s.missing) → (why e ≡ Faulty Length) ⊎ RanOut (why e) (NeedsThen first read needs) s
-      past (inl o) = elim (h.past o) [
-        | inl is ↦ inl is
-        | inr m ↦ inr (more m)
-      ]
-      past (inr o) = inr (more (h.takes (some_ok (λ x. overs x.0 x.1 s.missing) (read s.left) o)))
+    past : over s.left s.missing ⊎ IsOkAnd (read s.left) (λ x. overs x.0 x.1 s.missing) → (c ≡ Faulty Length) ⊎ RanOut c (NeedsThen first read needs) s
+    past (inl o) = elim (h.past o) [
+      | inl is ↦ inl is
+      | inr m ↦ inr (more m)
+    ]
+    past (inr o) = inr (more (h.takes (some_ok (λ x. overs x.0 x.1 s.missing) (read s.left) o)))
 
-      go : (r : Result W E) → IsErrAnd r (λ x. x ≡ e) → StopsBy why record_at (NeedsThen first read needs) (OverrunsThen over read overs) s r
-      go (Ok w) is = absurd is
-      go (Err x) is = rw is (record { takes = λ ok. more (h.takes (step_ok (read s.left) _ (rw (same.same s.left) at ok))); past = past })
+-- what `?` hands on
+pub chosen_handed : {A Z W E : Type 0} (read : Front A) (next : A → Front Z) (s t : Source) (record_at : Front Z) (means : W → Z) (why : E → Cause) (r : Result W E) (e : E) → IsErrAnd r (λ x. x ≡ e) → IsChosen record_at read next → IsRefused s.missing (why e) (read s.left) → Gives means why record_at s r t
+chosen_handed read next s t record_at means why (Ok w) e is same h = absurd is
+chosen_handed read next s t record_at means why (Err x) e is same h = rw is (chosen_refused read next s.missing (why e) s.left record_at same h)
+
+pub chosen_handed_stops : {A Z W E : Type 0} (read : Front A) (next : A → Front Z) (first over : List ℕ → ℕ → Type 0) (needs overs : A → List ℕ → ℕ → Type 0) (s : Source) (record_at : Front Z) (why : E → Cause) (r : Result W E) (e : E) → IsErrAnd r (λ x. x ≡ e) → IsChosen record_at read next → Stopped (why e) read first over s → StopsBy why record_at (NeedsThen first read needs) (OverrunsThen over read overs) s r
+chosen_handed_stops read next first over needs overs s record_at why (Ok w) e is same h = absurd is
+chosen_handed_stops read next first over needs overs s record_at why (Err x) e is same h = rw is (chosen_stopped read next first over needs overs (why e) s record_at same h)
 
 -- ---- the first value was read, and the call behind it decides
 
@@ -75,4 +78,4 @@ module _ {A X Z W E : Type 0} (means : X → A) (read : Front A) (next : A → F
             | inr m ↦ inr (more m)
           ]
 
-pub ruleset chosen = (chosen_handed, chosen_handed_stops, chosen_gives, chosen_asks, chosen_stops)
+pub ruleset chosen = (later_none, later_then, chosen_refused, chosen_stopped, chosen_handed, chosen_handed_stops, chosen_gives, chosen_asks, chosen_stops)

@@ -6,7 +6,7 @@ use Rattle.sshkey_model.specs.Reading.{Fault, Length, ◌>>=◌, Front, whole, b
 use Rattle.sshkey_model.specs.Grammar.{IsGrammar}
 use Rattle.sshkey_base.specs.Formats.{Format}
 use Rattle.sshkey_base.specs.Lengths.{boxed_lengths, checked_lengths}
-use Rattle.sshkey_base.specs.Needs.{NeedsThen, NeedsBoxed}
+use Rattle.sshkey_base.specs.Needs.{NoNeed, NeedsThen, NeedsBoxed}
 use Rattle.sshkey_base.specs.Reading.{SpellsBoxed}
 use Rattle.sshkey_base.specs.Stops.{OverrunsThen, OverrunsBoxed, AreLengths}
 use Rattle.sshkey_base.proofs.BoxGrammars.{box_grammar}
@@ -60,6 +60,10 @@ tested test inner = record {
   grammar = tested_grammar test inner.grammar;
   lengths = checked_lengths test inner.lengths;
 }
+
+-- the same of values that are read without memory
+abbrev pub without_memory : {A : Type 0} → Format A → Format A
+without_memory f = record { Spells = f.Spells; read = f.read; needs = NoNeed; overruns = f.overruns; grammar = f.grammar; lengths = f.lengths }
 
 -- a value in a string: a length of four bytes, and the bytes of the value (RFC 4251, section 5)
 abbrev pub boxed : {A : Type 0} → Format A → Format A

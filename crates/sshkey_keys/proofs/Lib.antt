@@ -7,4 +7,3 @@ pub mod Bodies
 pub mod Asking
 pub mod WrittenParts
 mod TrailedBlobs
-pub mod NamedParts

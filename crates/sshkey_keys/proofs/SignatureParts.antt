@@ -11,6 +11,8 @@ use Rattle.sshkey_base.specs.declared.error.Error.{Error}
 use Rattle.sshkey_base.specs.Causes.{cause}
 use Rattle.sshkey_base.specs.Source.{Source}
 use Rattle.sshkey_base.specs.Reading.{Gives}
+use Rattle.sshkey_format.specs.Terms.{IsMapped}
+use Rattle.sshkey_keys.specs.KeyFormats.{signature_under, signature_with}
 use Rattle.sshkey_keys.specs.SignatureForms.{has_trailer, string_from}
 
 -- ---- reading
@@ -39,6 +41,10 @@ trailed_is _ b e = absurd cc
 -- what is read is well-formed
 pub read_formed : (a : Algorithm) (b blob rest : List ℕ) → signature_blob_at a b ≡ Ok (blob, rest) → IsSignatureBlob a blob
 read_formed a b blob rest e = ((signature_blob_reads a).takes b blob rest e).0
+
+-- the signature is made of it
+pub under_read : (a : Algorithm) → IsMapped (signature_under a).read (signature_with a) (signature_blob_at a)
+under_read a = record { same = λ b. refl }
 
 -- ---- writing
 

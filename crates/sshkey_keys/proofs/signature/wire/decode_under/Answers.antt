@@ -1,0 +1,5 @@
+use Rattle.sshkey_keys.proofs.SignatureForms.{tested}
+use Rattle.sshkey_keys.proofs.signature.wire.decode_under.Goals as goal
+
+pub invariant_of-result : goal.invariant_of-result
+invariant_of-result g c = record { form = tested _ _ c.in_ok-blob.ensures.form }
