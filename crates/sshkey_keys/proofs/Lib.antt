@@ -6,4 +6,4 @@ pub mod BoxedKeys
 pub mod Bodies
 pub mod Asking
 pub mod WrittenParts
-mod TrailedBlobs
+pub mod TrailedBlobs

@@ -57,13 +57,3 @@ pub trailed_parts : (a : Algorithm) (b : List ℕ) → has_trailer a ≡ true �
 trailed_parts Algorithm.SkEcdsa b e = refl
 trailed_parts Algorithm.SkEd25519 b e = refl
 trailed_parts _ b e = absurd cc
-
--- ---- what a call gives
-
-pub string_formed : (a : Algorithm) (s t : Source) (r : Result (List ℕ) Error) → has_trailer a ≡ false → Gives (λ b. b) cause (checked_at (string_from a) string_at) s r t → IfOk r (IsSignatureBlob a)
-string_formed a s t (Ok x) e h = read_formed a s.left x t.left (sym (string_is a s.left e) ∙ h.value)
-string_formed a s t (Err d) e h = tt
-
-pub trailed_formed : (a : Algorithm) (s t : Source) (r : Result (List ℕ) Error) → has_trailer a ≡ true → Gives (λ b. b) cause (trailed_at (string_from a)) s r t → IfOk r (IsSignatureBlob a)
-trailed_formed a s t (Ok x) e h = read_formed a s.left x t.left (sym (trailed_is a s.left e) ∙ h.value)
-trailed_formed a s t (Err d) e h = tt

@@ -2,7 +2,7 @@
 
 ghost use Rattle.std.specs.Prelude.{◌≡◌, ◌++◌, ◌+◌, ◌*◌, ◌^◌, ◌≤◌, IfOk, IfErr};
 ghost use Rattle.sshkey_base.specs.Reading.{AcceptsWhole, DecodesWide, Gives, GivesWhole};
-ghost use Rattle.sshkey_base.specs.Answers.{AnswersAlways};
+ghost use Rattle.sshkey_base.specs.Answers.{Answers, AnswersAlways};
 ghost use Rattle.sshkey_base.specs.Causes.{cause};
 ghost use Rattle.sshkey_base.specs.Formats.{Stops};
 ghost use Rattle.sshkey_base.specs.Names.{algorithm_of};
@@ -13,7 +13,7 @@ ghost use Rattle.sshkey_base.specs.Sink.{Encodes, Measures};
 ghost use Rattle.sshkey_model.specs.Reading.{checked_at, string_at, whole};
 ghost use Rattle.sshkey_model.specs.Signatures.{Signature as TheSignature, IsSignature, IsSignatureBlob, signature, signature_blob, signature_blob_at, signature_at, trailed_at};
 ghost use Rattle.sshkey_keys.specs.Blobs.{ReadsFrontOf, MakesBlob};
-ghost use Rattle.sshkey_keys.specs.SignatureForms.{string_from};
+ghost use Rattle.sshkey_keys.specs.SignatureForms.{joined_from, string_from};
 ghost use Rattle.sshkey_keys.specs.KeyFormats.{blob_format, signature_format, signature_under};
 ghost use Rattle.sshkey_keys.specs.SignatureReaders.{SpellsSignature, signature_normal};
 ghost use Rattle.sshkey_keys.specs.Signatures.{signature_of};
@@ -116,7 +116,6 @@ fn decode_blob<R: Reader>(alloc: Global, reader: &mut R, algorithm: &Algorithm) 
     ensures asks { Asks cause NeedsString (R.source reader.old) result }
     ensures past { Stops cause (blob_format (algorithm_of algorithm.now))
         (R.source reader.old) result }
-    ensures form { IfOk result (IsSignatureBlob (algorithm_of algorithm.now)) }
 {
     if has_trailer(algorithm) {
         decode_trailed(alloc, reader, algorithm)
@@ -150,7 +149,7 @@ fn checked(algorithm: &Algorithm, bytes: Bytes) -> Result<Bytes>
 
 /// A string of bytes that are well-formed, and the five bytes behind it. A source that lends
 /// its bytes is copied with room for the five from the start, so that they take no memory again.
-#[tactic(auto, using(sshkey_base::proofs::Steps::steps))]
+#[tactic(auto, using(sshkey_base::proofs::Steps::steps, sshkey_format::proofs::Stopping::handed, crate::proofs::TrailedBlobs::trailed_blobs))]
 fn decode_trailed<R: Reader>(alloc: Global, reader: &mut R, algorithm: &Algorithm) -> Result<Bytes>
     ensures gives { Gives (λ b. b) cause (trailed_at (string_from (algorithm_of algorithm.now)))
         (R.source reader.old) result (R.source reader.new) }
@@ -161,8 +160,17 @@ fn decode_trailed<R: Reader>(alloc: Global, reader: &mut R, algorithm: &Algorith
 {
     let bytes = Bytes::decode_with_spare(alloc, reader, TRAILER_LEN)?;
     let trailer = array_from::<5, R>(reader)?;
-    check_string(algorithm, bytes.as_slice())?;
-    with_trailer(bytes, &trailer)
+    joined(algorithm, bytes, &trailer)
+}
+
+/// The bytes, where they stand in the string of a signature by the algorithm, and then the trailer.
+#[tactic(auto, using(crate::proofs::TrailedBlobs::joining))]
+fn joined(algorithm: &Algorithm, bytes: Bytes, trailer: &[u8]) -> Result<Bytes>
+    ensures { Answers (λ b. b) cause
+        (joined_from (string_from (algorithm_of algorithm.now)) trailer.now bytes) result }
+{
+    let bytes = checked(algorithm, bytes)?;
+    with_trailer(bytes, trailer)
 }
 
 /// The bytes, and then the trailer. Refused only when out of memory.
