@@ -1,5 +1,4 @@
 pub use Rattle.sshkey_keys.specs.Keys
-pub use Rattle.sshkey_keys.specs.Needs
 pub use Rattle.sshkey_keys.specs.KeyFormats
 pub use Rattle.sshkey_keys.specs.KeyKinds
 pub use Rattle.sshkey_keys.specs.NameStrings

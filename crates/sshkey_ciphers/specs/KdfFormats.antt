@@ -11,40 +11,8 @@ use Rattle.sshkey_base.specs.Lengths.{checked_lengths}
 use Rattle.sshkey_base.specs.Needs.{NoNeed}
 use Rattle.sshkey_base.proofs.MappedBoxes.{on_value, made, box_map}
 use Rattle.sshkey_format.specs.Behind.{both_at, behind_at}
-use Rattle.sshkey_format.specs.Terms.{◌then◌, boxed, choice, IsMapped, made_of}
+use Rattle.sshkey_format.specs.Terms.{◌then◌, boxed, chosen_of, tested, IsChosen, IsMapped}
 use Rattle.sshkey_ciphers.specs.Ciphers.{kdf_algorithm_checks, kdf_grammar}
-
--- ---- a value, and what a test makes of it
-
--- The bytes spell a value of which the test makes this one.
-pub record SpellsTested {A B : Type 0} (Inner : A → List ℕ → Type 0) (test : A → Result B Fault) (value : B) (bytes : List ℕ) : Type 0 where
-  pub inner : A
-  pub spelled : Inner inner bytes
-  pub makes : test inner ≡ Ok value
-
-module _ {A B : Type 0} {S : A → List ℕ → Type 0} {read : Front A} (test : A → Result B Fault) (f : IsGrammar S read) where
-  tested_takes : (b : List ℕ) (value : B) (rest : List ℕ) → checked_at test read b ≡ Ok (value, rest) → (front : List ℕ) × SpellsTested S test value front × (b ≡ front ++ rest)
-  tested_takes b value rest e =
-      let x = bind_ok (read b) _ (value, rest) e in
-      let y = bind_ok (test x.0.0) _ (value, rest) x.2 in
-      let a = f.takes b x.0.0 x.0.1 x.1 in
-      subst (λ (p : B × List ℕ). (front : List ℕ) × SpellsTested S test p.0 front × (b ≡ front ++ p.1)) (ok_is (y.0, x.0.1) (value, rest) y.2) (a.0, record { inner = x.0.0; spelled = a.1; makes = y.1 }, a.2)
-
-  pub tested_grammar : IsGrammar (SpellsTested S test) (checked_at test read)
-  tested_grammar = record {
-    takes = tested_takes;
-    again = λ value front rest s. rw (f.again s.inner front rest s.spelled, s.makes) refl;
-  }
-
-abbrev pub tested : {A B : Type 0} → (A → Result B Fault) → Format A → Format B
-tested test inner = record {
-  Spells = SpellsTested inner.Spells test;
-  read = checked_at test inner.read;
-  needs = inner.needs;
-  overruns = inner.overruns;
-  grammar = tested_grammar test inner.grammar;
-  lengths = checked_lengths test inner.lengths;
-}
 
 -- ---- what a key derivation takes
 
@@ -104,12 +72,6 @@ as_bcrypt o = Ok (Bcrypt o.0, o.1)
 abbrev with_rest : List ℕ → Kdf → Result (Kdf × List ℕ) Fault
 with_rest rest k = Ok (k, rest)
 
-abbrev kdf_parts : KdfAlgorithm → Kdf × List ℕ → Result ((KdfAlgorithm × Kdf) × List ℕ) Fault
-kdf_parts a k = Ok ((a, k.0), k.1)
-
-abbrev pub kdf_of_parts : KdfAlgorithm × Kdf → Result Kdf Fault
-kdf_of_parts x = Ok x.1
-
 bcrypt_is : (b : List ℕ) → kdf_options_at BcryptDerivation b ≡ bcrypt_format.read b
 bcrypt_is b = rw (box_map (whole (both_at string_at (number_at w32))) (whole bcrypt_options_at) options_of_parts options_are b) (go (bcrypt_parts_format.read b))
   where
@@ -121,18 +83,18 @@ options_is : (a : KdfAlgorithm) (b : List ℕ) → kdf_options_at a b ≡ (optio
 options_is NoDerivation b = refl
 options_is BcryptDerivation b = bcrypt_is b
 
-pub kdf_parts_read : IsMapped kdf_at kdf_of_parts (behind_at algorithm_format.read (λ a. (options_format a).read))
-unfolding kdf_at kdf_algorithm_at label_at behind_at
-kdf_parts_read = record { same = λ b. first (kdf_algorithm_at b) }
+pub kdf_chosen : IsChosen kdf_at algorithm_format.read (λ a. (options_format a).read)
+unfolding kdf_at kdf_algorithm_at label_at
+kdf_chosen = record { same = λ b. go (kdf_algorithm_at b) }
   where
-    second : (a : KdfAlgorithm) (r : Result (Kdf × List ℕ) Fault) → (r >>= λ k. Ok k) ≡ ((r >>= kdf_parts a) >>= λ p. kdf_of_parts p.0 >>= with_rest p.1)
-    second a (Ok k) = refl
-    second a (Err e) = refl
+    kept : (r : Result (Kdf × List ℕ) Fault) → (r >>= λ k. Ok k) ≡ r
+    kept (Ok k) = refl
+    kept (Err e) = refl
 
-    first : (r : Result (KdfAlgorithm × List ℕ) Fault) → (r >>= λ n. kdf_options_at n.0 n.1 >>= λ k. Ok k) ≡ ((r >>= λ n. (options_format n.0).read n.1 >>= kdf_parts n.0) >>= λ p. kdf_of_parts p.0 >>= with_rest p.1)
-    first (Ok n) = rw (options_is n.0 n.1) (second n.0 ((options_format n.0).read n.1))
-    first (Err e) = refl
+    go : (r : Result (KdfAlgorithm × List ℕ) Fault) → (r >>= λ n. kdf_options_at n.0 n.1 >>= λ k. Ok k) ≡ (r >>= λ n. (options_format n.0).read n.1)
+    go (Ok n) = rw (options_is n.0 n.1) (kept ((options_format n.0).read n.1))
+    go (Err e) = refl
 
 -- a name, and behind it what that one takes
 abbrev pub kdf_format : Format Kdf
-kdf_format = made_of (choice algorithm_format options_format) kdf_parts_read kdf_grammar
+kdf_format = chosen_of algorithm_format options_format kdf_chosen kdf_grammar

@@ -120,7 +120,7 @@ impl Default for Kdf {
 /// `Length` where a number or a string passes what is left, `Label` for another name,
 /// `AlgorithmUnknown` for another number, and `TrailingData` for bytes behind the rounds in their
 /// string.
-#[tactic(auto, using(sshkey_base::proofs::Steps::steps))]
+#[tactic(auto, using(sshkey_format::proofs::Chosen::chosen, crate::specs::KdfFormats::kdf_chosen, sshkey_base::specs::Lengths::label_lengths))]
 impl Decode for Kdf {
     type Error = Error;
 
@@ -131,7 +131,7 @@ impl Decode for Kdf {
     ghost format = { kdf_format };
 
     fn decode<R: Reader>(alloc: Global, reader: &mut R) -> Result<Kdf> {
-        let algorithm = KdfAlg::decode(alloc, reader)?;
+        let Wide(algorithm) = Wide::<KdfAlg>::decode(alloc, reader)?;
         options_from(alloc, reader, algorithm)
     }
 }

@@ -2,7 +2,9 @@
 use Rattle.std.proofs.Common.{◌≡◌, ◌⊎◌, inl, inr, ℕ, List, IsOk, IsErrAnd, Result, Ok, Err, refl}
 use Rattle.std.specs.Prelude.{IsOkAnd}
 use Rattle.sshkey_model.specs.Reading.{Fault, Length, ◌>>=◌, Front}
-use Rattle.sshkey_base.specs.Causes.{Cause, Faulty}
+use Rattle.sshkey_base.specs.declared.encoding.Error as encoding
+use Rattle.sshkey_base.specs.declared.error.Error.{Error}
+use Rattle.sshkey_base.specs.Causes.{Cause, Faulty, cause, encoding_cause, widened, same_cause}
 use Rattle.sshkey_base.specs.Needs.{NeedsThen}
 use Rattle.sshkey_base.specs.Reading.{Reads}
 use Rattle.sshkey_base.specs.Source.{Source}
@@ -11,7 +13,7 @@ use Rattle.sshkey_base.proofs.Stopping.{step_ok, checked_stopped}
 use Rattle.sshkey_format.specs.Behind.{behind_at}
 use Rattle.sshkey_format.specs.Terms.{IsMapped}
 
-some_ok : {A : Type 0} (P : A → Type 0) (r : Result A Fault) → IsOkAnd r P → IsOk r
+pub some_ok : {A : Type 0} (P : A → Type 0) (r : Result A Fault) → IsOkAnd r P → IsOk r
 some_ok P (Ok x) h = refl
 some_ok P (Err e) h = absurd h
 
@@ -53,6 +55,19 @@ module _ {A B : Type 0} (first : List ℕ → ℕ → Type 0) (over : List ℕ �
       ]
 
 pub ruleset stopping = (stopped_first, stopped_later)
+
+-- ---- what `?` hands on
+
+pub handed_stops : {Y W E : Type 0} (read : Front Y) (needs overruns : List ℕ → ℕ → Type 0) (s : Source) (why : E → Cause) (r : Result W E) (e : E) → IsErrAnd r (λ x. x ≡ e) → Stopped (why e) read needs overruns s → StopsBy why read needs overruns s r
+handed_stops read needs overruns s why (Ok w) e is h = absurd is
+handed_stops read needs overruns s why (Err x) e is h = rw is h
+
+-- an error of the encoding
+pub widened_stops : {Y W : Type 0} (read : Front Y) (needs overruns : List ℕ → ℕ → Type 0) (s : Source) (r : Result W Error) (e : encoding.Error) → IsErrAnd r (λ x. x ≡ widened e) → Stopped (encoding_cause e) read needs overruns s → StopsBy cause read needs overruns s r
+widened_stops read needs overruns s (Ok w) e is h = absurd is
+widened_stops read needs overruns s (Err x) e is h = rw (is, same_cause e) h
+
+pub ruleset handed = (handed_stops, widened_stops)
 
 -- ---- a record that is read as a term
 

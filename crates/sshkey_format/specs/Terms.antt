@@ -5,12 +5,13 @@ use Rattle.std.specs.Prelude.{IsOkAnd}
 use Rattle.sshkey_model.specs.Reading.{Fault, Length, ◌>>=◌, Front, whole, box_at, checked_at}
 use Rattle.sshkey_model.specs.Grammar.{IsGrammar}
 use Rattle.sshkey_base.specs.Formats.{Format}
-use Rattle.sshkey_base.specs.Lengths.{boxed_lengths}
-use Rattle.sshkey_base.specs.Needs.{NeedsThen, NeedsBoxed}
+use Rattle.sshkey_base.specs.Lengths.{boxed_lengths, checked_lengths}
+use Rattle.sshkey_base.specs.Needs.{NoNeed, NeedsThen, NeedsBoxed}
 use Rattle.sshkey_base.specs.Reading.{SpellsBoxed}
 use Rattle.sshkey_base.specs.Stops.{OverrunsThen, OverrunsBoxed, AreLengths}
 use Rattle.sshkey_base.proofs.BoxGrammars.{box_grammar}
 use Rattle.sshkey_format.specs.Behind.{behind_at, both_at, SpellsThen, SpellsBoth, then_grammar, both_grammar}
+use Rattle.sshkey_format.specs.Tested.{SpellsTested, tested_grammar}
 
 abbrev with_first : {A B : Type 0} → A → B × List ℕ → Result ((A × B) × List ℕ) Fault
 with_first a y = Ok ((a, y.0), y.1)
@@ -49,6 +50,21 @@ choice first second = record {
   lengths = then_lengths first.lengths (λ a. (second a).lengths);
 }
 
+-- a value, and what a test makes of it
+abbrev pub tested : {A B : Type 0} → (A → Result B Fault) → Format A → Format B
+tested test inner = record {
+  Spells = SpellsTested inner.Spells test;
+  read = checked_at test inner.read;
+  needs = inner.needs;
+  overruns = inner.overruns;
+  grammar = tested_grammar test inner.grammar;
+  lengths = checked_lengths test inner.lengths;
+}
+
+-- the same of values that are read without memory
+abbrev pub without_memory : {A : Type 0} → Format A → Format A
+without_memory f = record { Spells = f.Spells; read = f.read; needs = NoNeed; overruns = f.overruns; grammar = f.grammar; lengths = f.lengths }
+
 -- a value in a string: a length of four bytes, and the bytes of the value (RFC 4251, section 5)
 abbrev pub boxed : {A : Type 0} → Format A → Format A
 boxed inner = record {
@@ -78,4 +94,30 @@ made_of {Y} {Z} {record_at} {form} {Spells} parts mapped grammar = record {
   overruns = parts.overruns;
   grammar = grammar;
   lengths = mapped_lengths mapped parts.lengths;
+}
+
+-- ---- a record that its first value calls for
+
+-- The record's reader reads a value, and then the record as that value asks for.
+pub record IsChosen {A Z : Type 0} (record_at : Front Z) (read : Front A) (next : A → Front Z) : Type 0 where
+  pub same : (b : List ℕ) → record_at b ≡ (read b >>= λ x. next x.0 x.1)
+
+module _ {A Z : Type 0} {record_at : Front Z} {read : Front A} {next : A → Front Z} {over : List ℕ → ℕ → Type 0} {overs : A → List ℕ → ℕ → Type 0} where
+  pub chosen_lengths : IsChosen record_at read next → AreLengths read over → ((a : A) → AreLengths (next a) (overs a)) → AreLengths record_at (OverrunsThen over read overs)
+  chosen_lengths same f g b m (inl o) = rw (same.same b, f b m o) refl
+  chosen_lengths same f g b m (inr o) = rw (same.same b) (go (read b) o)
+    where
+      go : (r : Result (A × List ℕ) Fault) → IsOkAnd r (λ x. overs x.0 x.1 m) → (r >>= λ x. next x.0 x.1) ≡ Err Length
+      go (Ok x) o = g x.0 x.1 m o
+      go (Err e) o = absurd o
+
+-- The first value is no part of the record, or stands in it.
+abbrev pub chosen_of : {A Z : Type 0} {record_at : Front Z} {Spells : Z → List ℕ → Type 0} (first : Format A) (second : A → Format Z) → IsChosen record_at first.read (λ a. (second a).read) → IsGrammar Spells record_at → Format Z
+chosen_of {A} {Z} {record_at} {Spells} first second same grammar = record {
+  Spells = Spells;
+  read = record_at;
+  needs = NeedsThen first.needs first.read (λ a. (second a).needs);
+  overruns = OverrunsThen first.overruns first.read (λ a. (second a).overruns);
+  grammar = grammar;
+  lengths = chosen_lengths same first.lengths (λ a. (second a).lengths);
 }

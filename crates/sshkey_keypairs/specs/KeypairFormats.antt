@@ -1,5 +1,5 @@
 -- What stands behind the name of each kind of pair, and a pair behind its name, by the terms that they are read as.
-use Rattle.std.proofs.Common.{ℕ, List, [], Option, Some, Result, Ok, Err}
+use Rattle.std.proofs.Common.{ℕ, List, [], Option, Some, Result, Ok, Err, refl}
 use Rattle.std.specs.Int.{w8}
 use Rattle.sshkey_model.specs.Reading.{Fault, Length, number_at, string_at}
 use Rattle.sshkey_model.specs.Grammar.{IsGrammar, Spells, value_at}
@@ -16,7 +16,7 @@ use Rattle.sshkey_base.specs.Labels.{label_at}
 use Rattle.sshkey_base.specs.Needs.{NoNeed}
 use Rattle.sshkey_base.specs.Stops.{AreLengths}
 use Rattle.sshkey_format.specs.Behind.{both_at, behind_at}
-use Rattle.sshkey_format.specs.Terms.{◌then◌, choice, IsMapped, made_of, mapped_lengths}
+use Rattle.sshkey_format.specs.Terms.{◌then◌, chosen_of, tested, IsChosen, IsMapped, made_of, mapped_lengths}
 use Rattle.sshkey_kinds.specs.KeyFormats.{sk_ecdsa_format, sk_ed25519_format}
 use Rattle.sshkey_keys.specs.KeyFormats.{name_format}
 use Rattle.sshkey_pairs.specs.PairFormats.{dsa_pair_format, ecdsa_pair_format, ed25519_pair_format, rsa_pair_format}
@@ -119,12 +119,13 @@ pair_format a = record { Spells = SpellsPair a; read = value_at (pair_at a); nee
 
 -- ---- the name, and the pair under it
 
-abbrev pub keypair_of_parts : Algorithm × KeyPair → Result (Option KeyPair) Fault
-keypair_of_parts a = Ok (Some a.1)
+-- the pair, which is not encrypted
+abbrev pub some_format : Algorithm → Format (Option KeyPair)
+some_format a = tested (λ k. Ok (Some k)) (pair_format a)
 
-pub keypair_parts_read : IsMapped keypair_data_at keypair_of_parts (behind_at (label_at algorithm_from) (λ a. value_at (pair_at a)))
-unfolding keypair_data_at behind_at
-keypair_parts_read = record { same = λ b. simp bind_assoc }
+pub keypair_chosen : IsChosen keypair_data_at (label_at algorithm_from) (λ a. (some_format a).read)
+unfolding keypair_data_at
+keypair_chosen = record { same = λ b. refl }
 
 abbrev pub keypair_format : Format (Option KeyPair)
-keypair_format = made_of (choice name_format pair_format) keypair_parts_read keypair_grammar
+keypair_format = chosen_of name_format some_format keypair_chosen keypair_grammar

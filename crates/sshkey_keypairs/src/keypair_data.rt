@@ -75,6 +75,7 @@ impl KeypairData {
     /// Of a source with a fault, what stands whole before it is refused only for memory that it
     /// needs, and where a stated length passes all that was announced, the call fails with
     /// `Length`, unless memory ran out for a value before it.
+    #[tactic(auto, using(crate::proofs::SameReaders::model_gives, crate::proofs::SameReaders::model_stops))]
     pub fn decode_as<R: Reader>(
         alloc: Global,
         reader: &mut R,
@@ -183,7 +184,7 @@ impl KeypairData {
 ///
 /// An RSA pair may stand under a name with a hash, which is not kept. `Label` for a name of no
 /// algorithm, and the faults of the kind.
-#[tactic(auto, using(sshkey_base::proofs::Steps::steps), unfolding(crate::specs::KeypairReaders::keypair_data_at))]
+#[tactic(auto, using(sshkey_format::proofs::Chosen::chosen, crate::specs::KeypairFormats::keypair_chosen))]
 impl Decode for KeypairData {
     ghost use Rattle.sshkey_model.specs.KeyPairs.{KeyPair};
     ghost use Rattle.sshkey_keypairs.specs.KeypairFormats.{keypair_format};

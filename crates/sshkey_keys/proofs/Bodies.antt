@@ -18,13 +18,12 @@ use Rattle.sshkey_base.proofs.Accepted.{accepts_front}
 use Rattle.sshkey_format.specs.Terms.{IsMapped}
 use Rattle.sshkey_kinds.specs.Bodies.{SpellsBody}
 use Rattle.sshkey_kinds.specs.KeyFormats.{ecdsa_format}
-use Rattle.sshkey_kinds.proofs.Parts.{tested_stopped}
+use Rattle.sshkey_format.proofs.Tested.{tested_stopped}
 use Rattle.sshkey_keys.specs.declared.key_data.KeyData.{KeyData}
 use Rattle.sshkey_keys.specs.declared.key_data.KeyData.TheVariants as kinds
 use Rattle.sshkey_keys.specs.Keys.{algorithm_beside, key_of}
 use Rattle.sshkey_keys.specs.KeyFormats.{body_format}
 use Rattle.sshkey_keys.specs.KeyReaders.{body_grammar}
-use Rattle.sshkey_keys.specs.Needs.{NeedsBody}
 use Rattle.sshkey_keys.specs.ReadBodies.{ReadsBody}
 
 pub body_accepted : (a : Algorithm) (s t : Source) (r : Result KeyData Error) → Gives key_of cause (body_at a) s r t → AcceptsFront key_of (SpellsBody a) cause s r t
@@ -54,7 +53,7 @@ body_beside a s t (Ok k) named gives = not_opaque k (unhashed a) named (((body_r
 body_beside a s t (Err e) named gives = tt
 
 -- what a call does that reads the body under a fixed name
-pub fixed_read : (a : rust.Algorithm) (s t : Source) (r : Result KeyData Error) → is_named (unhashed (algorithm_of a)) ≡ true → Gives key_of cause (body_at (algorithm_of a)) s r t → Later s t → Asks cause (NeedsBody (algorithm_of a)) s r → Stops cause (body_format (algorithm_of a)) s r → ReadsBody a s r t
+pub fixed_read : (a : rust.Algorithm) (s t : Source) (r : Result KeyData Error) → is_named (unhashed (algorithm_of a)) ≡ true → Gives key_of cause (body_at (algorithm_of a)) s r t → Later s t → Asks cause (body_format (algorithm_of a)).needs s r → Stops cause (body_format (algorithm_of a)) s r → ReadsBody a s r t
 fixed_read a s t r named gives later asks past = record { gives = gives; later = later; asks = asks; past = past; beside = body_beside (algorithm_of a) s t r named gives }
 
 -- ---- an ECDSA key of another curve than the algorithm's

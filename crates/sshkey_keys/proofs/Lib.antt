@@ -5,5 +5,4 @@ pub mod SignatureParts
 pub mod BoxedKeys
 pub mod Bodies
 pub mod WrittenParts
-mod TrailedBlobs
-pub mod NamedParts
+pub mod TrailedBlobs

@@ -11,6 +11,8 @@ use Rattle.sshkey_base.specs.declared.error.Error.{Error}
 use Rattle.sshkey_base.specs.Causes.{cause}
 use Rattle.sshkey_base.specs.Source.{Source}
 use Rattle.sshkey_base.specs.Reading.{Gives}
+use Rattle.sshkey_format.specs.Terms.{IsMapped}
+use Rattle.sshkey_keys.specs.KeyFormats.{signature_under, signature_with}
 use Rattle.sshkey_keys.specs.SignatureForms.{has_trailer, string_from}
 
 -- ---- reading
@@ -40,6 +42,10 @@ trailed_is _ b e = absurd cc
 pub read_formed : (a : Algorithm) (b blob rest : List ℕ) → signature_blob_at a b ≡ Ok (blob, rest) → IsSignatureBlob a blob
 read_formed a b blob rest e = ((signature_blob_reads a).takes b blob rest e).0
 
+-- the signature is made of it
+pub under_read : (a : Algorithm) → IsMapped (signature_under a).read (signature_with a) (signature_blob_at a)
+under_read a = record { same = λ b. refl }
+
 -- ---- writing
 
 pub plain_parts : (a : Algorithm) (b : List ℕ) → has_trailer a ≡ false → signature_blob a b ≡ string b
@@ -51,13 +57,3 @@ pub trailed_parts : (a : Algorithm) (b : List ℕ) → has_trailer a ≡ true �
 trailed_parts Algorithm.SkEcdsa b e = refl
 trailed_parts Algorithm.SkEd25519 b e = refl
 trailed_parts _ b e = absurd cc
-
--- ---- what a call gives
-
-pub string_formed : (a : Algorithm) (s t : Source) (r : Result (List ℕ) Error) → has_trailer a ≡ false → Gives (λ b. b) cause (checked_at (string_from a) string_at) s r t → IfOk r (IsSignatureBlob a)
-string_formed a s t (Ok x) e h = read_formed a s.left x t.left (sym (string_is a s.left e) ∙ h.value)
-string_formed a s t (Err d) e h = tt
-
-pub trailed_formed : (a : Algorithm) (s t : Source) (r : Result (List ℕ) Error) → has_trailer a ≡ true → Gives (λ b. b) cause (trailed_at (string_from a)) s r t → IfOk r (IsSignatureBlob a)
-trailed_formed a s t (Ok x) e h = read_formed a s.left x t.left (sym (trailed_is a s.left e) ∙ h.value)
-trailed_formed a s t (Err d) e h = tt

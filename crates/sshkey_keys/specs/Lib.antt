@@ -1,5 +1,4 @@
 pub mod Keys
-pub mod Needs
 pub mod KeyKinds
 pub mod NameStrings
 pub mod Comparisons

@@ -1,5 +1,5 @@
 -- Which bytes are those of a signature, and why others are not.
-use Rattle.std.specs.Prelude.{ℕ, suc, List, length, Bool, true, false, Option, Some, None, Result, Ok, Err, nat_lt, ◌==◌, if◌then◌else◌}
+use Rattle.std.specs.Prelude.{ℕ, suc, List, length, ◌++◌, Bool, true, false, Option, Some, None, Result, Ok, Err, nat_lt, ◌==◌, if◌then◌else◌}
 use Rattle.sshkey_model.specs.Reading.{Fault, Length, Crypto, ◌>>=◌, Whole, string_at}
 use Rattle.sshkey_model.specs.Names.{Nistp256, Algorithm}
 use Rattle.sshkey_model.specs.Mpints.{mpint_from, positive_part}
@@ -27,6 +27,10 @@ string_from (Algorithm.Other n) b = some_from b
 -- the bytes of a security key's signature, which end with its flags and its counter
 abbrev pub trailed_from : Whole (List ℕ) → Whole (List ℕ)
 trailed_from judge b = if nat_lt (length b) 5 then Err Length else (judge (without_trailer b) >>= λ _. Ok b)
+
+-- the string that is judged, and then the trailer
+abbrev pub joined_from : Whole (List ℕ) → List ℕ → Whole (List ℕ)
+joined_from judge trailer b = judge b >>= λ string. Ok (string ++ trailer)
 
 abbrev pub blob_from : Algorithm → Whole (List ℕ)
 blob_from a b = if has_trailer a then trailed_from (string_from a) b else string_from a b

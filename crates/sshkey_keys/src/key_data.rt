@@ -17,7 +17,6 @@ ghost use Rattle.sshkey_keys.specs.Keys.{DecodesBody, key_of, algorithm_beside};
 ghost use Rattle.sshkey_keys.specs.KeyKinds.{is_ecdsa, is_ed25519};
 ghost use Rattle.sshkey_keys.specs.KeyFormats.{body_format, key_format};
 ghost use Rattle.sshkey_keys.specs.KeyReaders.{key_normal};
-ghost use Rattle.sshkey_keys.specs.Needs.{NeedsBody};
 ghost use Rattle.sshkey_keys.specs.ReadBodies.{ReadsBody};
 
 mod certificate_name;
@@ -30,6 +29,7 @@ use sshkey_base::{
     encoding, names, string_len,
 };
 use sshkey_fingerprints::Fingerprint;
+use sshkey_format::Wide;
 use sshkey_kinds::{
     DsaPublicKey, EcdsaPublicKey, Ed25519PublicKey, OpaquePublicKey, OpaquePublicKeyBytes,
     RsaPublicKey, SkEcdsaSha2NistP256, SkEd25519,
@@ -165,7 +165,7 @@ impl KeyData {
         ensures accepts { AcceptsFront key_of (SpellsBody (algorithm_of algorithm)) cause
             (R.source reader.old) result (R.source reader.new) }
         ensures beside { IfOk result (λ k. algorithm_beside k ≡ unhashed (algorithm_of algorithm)) }
-        ensures asks { Asks cause (NeedsBody (algorithm_of algorithm))
+        ensures asks { Asks cause (body_format (algorithm_of algorithm)).needs
             (R.source reader.old) result }
         ensures past { Stops cause (body_format (algorithm_of algorithm))
             (R.source reader.old) result }
@@ -231,7 +231,7 @@ fn body_from<R: Reader>(alloc: Global, reader: &mut R, algorithm: Algorithm) -> 
 fn dsa_from<R: Reader>(alloc: Global, reader: &mut R) -> Result<KeyData>
     ensures gives { DecodesBody Dsa R.source reader.old result reader.new }
     ensures later { Later (R.source reader.old) (R.source reader.new) }
-    ensures asks { Asks cause (NeedsBody Dsa) (R.source reader.old) result }
+    ensures asks { Asks cause (body_format Dsa).needs (R.source reader.old) result }
     ensures past { Stops cause (body_format Dsa) (R.source reader.old) result }
 {
     let key = DsaPublicKey::decode(alloc, reader)?;
@@ -243,7 +243,8 @@ fn dsa_from<R: Reader>(alloc: Global, reader: &mut R) -> Result<KeyData>
 fn ecdsa_from<R: Reader>(alloc: Global, reader: &mut R, curve: EcdsaCurve) -> Result<KeyData>
     ensures gives { DecodesBody (Ecdsa (curve_of curve)) R.source reader.old result reader.new }
     ensures later { Later (R.source reader.old) (R.source reader.new) }
-    ensures asks { Asks cause (NeedsBody (Ecdsa (curve_of curve))) (R.source reader.old) result }
+    ensures asks { Asks cause (body_format (Ecdsa (curve_of curve))).needs
+        (R.source reader.old) result }
     ensures past { Stops cause (body_format (Ecdsa (curve_of curve))) (R.source reader.old) result }
 {
     let key = EcdsaPublicKey::decode(alloc, reader)?;
@@ -258,7 +259,7 @@ fn ecdsa_from<R: Reader>(alloc: Global, reader: &mut R, curve: EcdsaCurve) -> Re
 fn ed25519_from<R: Reader>(alloc: Global, reader: &mut R) -> Result<KeyData>
     ensures gives { DecodesBody Ed25519 R.source reader.old result reader.new }
     ensures later { Later (R.source reader.old) (R.source reader.new) }
-    ensures asks { Asks cause (NeedsBody Ed25519) (R.source reader.old) result }
+    ensures asks { Asks cause (body_format Ed25519).needs (R.source reader.old) result }
     ensures past { Stops cause (body_format Ed25519) (R.source reader.old) result }
 {
     let key = Ed25519PublicKey::decode(alloc, reader)?;
@@ -270,7 +271,7 @@ fn ed25519_from<R: Reader>(alloc: Global, reader: &mut R) -> Result<KeyData>
 fn rsa_from<R: Reader>(alloc: Global, reader: &mut R) -> Result<KeyData>
     ensures gives { DecodesBody (Rsa None) R.source reader.old result reader.new }
     ensures later { Later (R.source reader.old) (R.source reader.new) }
-    ensures asks { Asks cause (NeedsBody (Rsa None)) (R.source reader.old) result }
+    ensures asks { Asks cause (body_format (Rsa None)).needs (R.source reader.old) result }
     ensures past { Stops cause (body_format (Rsa None)) (R.source reader.old) result }
 {
     let key = RsaPublicKey::decode(alloc, reader)?;
@@ -282,7 +283,7 @@ fn rsa_from<R: Reader>(alloc: Global, reader: &mut R) -> Result<KeyData>
 fn sk_ecdsa_from<R: Reader>(alloc: Global, reader: &mut R) -> Result<KeyData>
     ensures gives { DecodesBody SkEcdsa R.source reader.old result reader.new }
     ensures later { Later (R.source reader.old) (R.source reader.new) }
-    ensures asks { Asks cause (NeedsBody SkEcdsa) (R.source reader.old) result }
+    ensures asks { Asks cause (body_format SkEcdsa).needs (R.source reader.old) result }
     ensures past { Stops cause (body_format SkEcdsa) (R.source reader.old) result }
 {
     let key = SkEcdsaSha2NistP256::decode(alloc, reader)?;
@@ -294,7 +295,7 @@ fn sk_ecdsa_from<R: Reader>(alloc: Global, reader: &mut R) -> Result<KeyData>
 fn sk_ed25519_from<R: Reader>(alloc: Global, reader: &mut R) -> Result<KeyData>
     ensures gives { DecodesBody AlgorithmSkEd25519 R.source reader.old result reader.new }
     ensures later { Later (R.source reader.old) (R.source reader.new) }
-    ensures asks { Asks cause (NeedsBody AlgorithmSkEd25519) (R.source reader.old) result }
+    ensures asks { Asks cause (body_format AlgorithmSkEd25519).needs (R.source reader.old) result }
     ensures past { Stops cause (body_format AlgorithmSkEd25519) (R.source reader.old) result }
 {
     let key = SkEd25519::decode(alloc, reader)?;
@@ -307,7 +308,7 @@ fn opaque_from<R: Reader>(alloc: Global, reader: &mut R, algorithm: Algorithm) -
     ensures gives { DecodesBody (Other (algorithm_name (algorithm_of algorithm)))
         R.source reader.old result reader.new }
     ensures later { Later (R.source reader.old) (R.source reader.new) }
-    ensures asks { Asks cause (NeedsBody (Other (algorithm_name (algorithm_of algorithm))))
+    ensures asks { Asks cause (body_format (Other (algorithm_name (algorithm_of algorithm)))).needs
         (R.source reader.old) result }
     ensures past { Stops cause (body_format (Other (algorithm_name (algorithm_of algorithm))))
         (R.source reader.old) result }
@@ -321,7 +322,7 @@ fn opaque_from<R: Reader>(alloc: Global, reader: &mut R, algorithm: Algorithm) -
 ///
 /// An RSA key may stand under a name with a hash, which is not kept. `Label` for a name of no
 /// algorithm, and the faults of the kind.
-#[tactic(auto, using(sshkey_base::proofs::Steps::steps), unfolding(crate::specs::Keys::key_data_at))]
+#[tactic(auto, using(sshkey_format::proofs::Chosen::chosen, crate::specs::KeyFormats::key_chosen, sshkey_base::specs::Lengths::label_lengths))]
 impl Decode for KeyData {
     type Error = Error;
 
@@ -332,7 +333,7 @@ impl Decode for KeyData {
     ghost format = { key_format };
 
     fn decode<R: Reader>(alloc: Global, reader: &mut R) -> Result<KeyData> {
-        let algorithm = Algorithm::decode(alloc, reader)?;
+        let Wide(algorithm) = Wide::<Algorithm>::decode(alloc, reader)?;
         KeyData::decode_as(alloc, reader, algorithm)
     }
 }

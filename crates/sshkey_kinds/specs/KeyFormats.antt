@@ -17,8 +17,8 @@ use Rattle.sshkey_base.specs.Lengths.{checked_lengths, label_lengths, string_len
 use Rattle.sshkey_base.specs.Needs.{NoNeed}
 use Rattle.sshkey_base.specs.Stops.{OverrunsString}
 use Rattle.sshkey_format.specs.Behind.{both_at, behind_at}
-use Rattle.sshkey_format.specs.Terms.{◌then◌, IsMapped, made_of, mapped_lengths}
-use Rattle.sshkey_kinds.specs.Bodies.{SpellsEcdsa, dsa_grammar, rsa_grammar, ed25519_body_at, ed25519_body_grammar, any_ecdsa_grammar, sk_ecdsa_grammar, sk_ed25519_grammar}
+use Rattle.sshkey_format.specs.Terms.{◌then◌, IsMapped, made_of, without_memory}
+use Rattle.sshkey_kinds.specs.Bodies.{dsa_grammar, rsa_grammar, ed25519_body_at, ed25519_body_grammar, any_ecdsa_grammar, sk_ecdsa_grammar, sk_ed25519_grammar}
 
 -- ---- numbers
 
@@ -86,7 +86,7 @@ ecdsa_parts_format = curve_format then any_point_format
 
 -- it needs no memory, since none of its parts does
 abbrev pub ecdsa_format : Format Key
-ecdsa_format = record { Spells = SpellsEcdsa; read = any_ecdsa_at; needs = NoNeed; overruns = ecdsa_parts_format.overruns; grammar = any_ecdsa_grammar; lengths = mapped_lengths ecdsa_parts_read ecdsa_parts_format.lengths }
+ecdsa_format = without_memory (made_of ecdsa_parts_format ecdsa_parts_read any_ecdsa_grammar)
 
 -- ---- a P-256 key that a security key holds
 

@@ -142,7 +142,7 @@ impl Decode for EcdsaPublicKey {
 /// A point string of any of the curves, none of which is longer than 133 bytes.
 struct AnyPoint(EcdsaPublicKey);
 
-#[tactic(auto, using(sshkey_base::proofs::Steps::steps), unfolding(sshkey_model::specs::Reading::string_at))]
+#[tactic(auto, using(sshkey_base::proofs::Steps::steps, sshkey_format::proofs::Stopping::handed, sshkey_base::proofs::Stopping::judged_length_stopped, crate::proofs::PointStrings::behind_refused_stopped), unfolding(sshkey_model::specs::Reading::string_at))]
 impl Decode for AnyPoint {
     ghost use Rattle.std.specs.Prelude.{List, ℕ};
     ghost use Rattle.sshkey_model.specs.Names.{Curve};

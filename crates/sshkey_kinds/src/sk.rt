@@ -124,7 +124,7 @@ impl Decode for SkEcdsaSha2NistP256 {
 #[derive(Drop)]
 struct P256Name;
 
-#[tactic(auto, using(sshkey_base::proofs::Steps::steps, sshkey_format::proofs::Mapped::mapped, crate::proofs::Parts::tested, crate::specs::KeyFormats::p256_name_read, sshkey_base::specs::Lengths::label_lengths))]
+#[tactic(auto, using(sshkey_base::proofs::Steps::steps, sshkey_format::proofs::Mapped::mapped, sshkey_format::proofs::Tested::tested, crate::specs::KeyFormats::p256_name_read, sshkey_base::specs::Lengths::label_lengths))]
 impl Decode for P256Name {
     ghost use Rattle.sshkey_model.specs.Names.{Curve, Nistp256};
     ghost use Rattle.sshkey_kinds.specs.KeyFormats.{p256_name_format};
@@ -150,7 +150,7 @@ impl Decode for P256Name {
 #[derive(Drop)]
 struct P256Point(EcdsaNistP256PublicKey);
 
-#[tactic(auto, using(sshkey_base::proofs::Steps::steps), unfolding(sshkey_model::specs::Reading::string_at))]
+#[tactic(auto, using(sshkey_base::proofs::Steps::steps, sshkey_format::proofs::Stopping::handed, sshkey_base::proofs::Stopping::judged_length_stopped, crate::proofs::PointStrings::behind_refused_stopped), unfolding(sshkey_model::specs::Reading::string_at))]
 impl Decode for P256Point {
     ghost use Rattle.sshkey_kinds.specs.KeyFormats.{p256_point_format};
 

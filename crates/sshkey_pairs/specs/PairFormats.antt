@@ -13,13 +13,9 @@ use Rattle.sshkey_base.specs.Lengths.{box_lengths}
 use Rattle.sshkey_base.specs.Needs.{NoNeed}
 use Rattle.sshkey_base.specs.Stops.{OverrunsString, AreLengths}
 use Rattle.sshkey_format.specs.Behind.{both_at, behind_at}
-use Rattle.sshkey_format.specs.Terms.{◌then◌, choice, IsMapped, made_of}
+use Rattle.sshkey_format.specs.Terms.{◌then◌, chosen_of, tested, without_memory, IsChosen, IsMapped, made_of}
 use Rattle.sshkey_kinds.specs.KeyFormats.{dsa_format, ecdsa_format}
 use Rattle.sshkey_pairs.specs.PairReaders.{SpellsScalar, scalar_grammar, rsa_private_grammar, ecdsa_pair_grammar, pair_grammar}
-
--- the same of values that are read without memory
-abbrev pub without_memory : {A : Type 0} → Format A → Format A
-without_memory f = record { Spells = f.Spells; read = f.read; needs = NoNeed; overruns = f.overruns; grammar = f.grammar; lengths = f.lengths }
 
 -- ---- numbers
 
@@ -84,20 +80,17 @@ abbrev pub scalar_size : Key → ℕ
 scalar_size (Ecdsa c point) = field_size c
 scalar_size _ = 0
 
-abbrev pub scalar_of : Key → Format (List ℕ)
-scalar_of k = scalar_format (scalar_size k)
-
 abbrev pub ecdsa_pair_of_parts : Key × List ℕ → Result KeyPair Fault
 ecdsa_pair_of_parts (Ecdsa c point, s) = Ok (EcdsaPair c point s)
 ecdsa_pair_of_parts _ = Err Length
 
-pub ecdsa_pair_parts_read : IsMapped (value_at any_ecdsa_pair_at) ecdsa_pair_of_parts (behind_at any_ecdsa_at (λ k. (scalar_of k).read))
-unfolding any_ecdsa_pair_at any_ecdsa_at behind_at
-ecdsa_pair_parts_read = record { same = λ b. simp bind_assoc }
+-- the pair of that key, and of the scalar at the front
+abbrev pub pair_of_key : Key → Format KeyPair
+pair_of_key k = tested (λ s. ecdsa_pair_of_parts (k, s)) (scalar_format (scalar_size k))
+
+pub ecdsa_pair_chosen : IsChosen (value_at any_ecdsa_pair_at) any_ecdsa_at (λ k. (pair_of_key k).read)
+unfolding any_ecdsa_pair_at any_ecdsa_at
+ecdsa_pair_chosen = record { same = λ b. simp bind_assoc }
 
 abbrev pub ecdsa_pair_format : Format KeyPair
-ecdsa_pair_format = without_memory (made_of (choice ecdsa_format scalar_of) ecdsa_pair_parts_read ecdsa_pair_grammar)
-
--- the pair of that key, and of the scalar at the front
-abbrev pub pair_of_key_at : Key → Front KeyPair
-pair_of_key_at k = checked_at (λ s. ecdsa_pair_of_parts (k, s)) (scalar_of k).read
+ecdsa_pair_format = without_memory (chosen_of ecdsa_format pair_of_key ecdsa_pair_chosen ecdsa_pair_grammar)

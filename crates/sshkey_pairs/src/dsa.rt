@@ -79,7 +79,7 @@ impl fmt::Debug for DsaPrivateKey {
 ///
 /// `Length` where the string passes what is left, which no memory is asked for, and
 /// `FormatEncoding` where its bytes are those of no number.
-#[tactic(auto, using(sshkey_base::proofs::Steps::steps))]
+#[tactic(auto, using(sshkey_base::proofs::Steps::steps, sshkey_format::proofs::Stopping::handed))]
 impl Decode for DsaPrivateKey {
     ghost use Rattle.sshkey_base.specs.Causes.{cause};
     ghost use Rattle.sshkey_base.specs.Formats.{Stops, mpint_format};

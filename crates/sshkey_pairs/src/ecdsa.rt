@@ -10,9 +10,9 @@ ghost use Rattle.sshkey_base.specs.Causes.{cause};
 ghost use Rattle.sshkey_base.specs.Needs.{Asks, NoNeed};
 ghost use Rattle.sshkey_base.specs.Reading.{Gives};
 ghost use Rattle.sshkey_base.specs.Source.{Later};
-ghost use Rattle.sshkey_base.specs.Stops.{OverrunsString, StopsBy};
+
 ghost use Rattle.sshkey_kinds.specs.EcdsaPublicKey.{ecdsa_key_of};
-ghost use Rattle.sshkey_pairs.specs.PairFormats.{ecdsa_pair_format, pair_of_key_at, scalar_format};
+ghost use Rattle.sshkey_pairs.specs.PairFormats.{ecdsa_pair_format, pair_of_key, scalar_format};
 ghost use Rattle.sshkey_pairs.specs.Pairs.{ecdsa_pair_of};
 ghost use Rattle.sshkey_pairs.specs.PrivateHalves.{ecdsa_private_of};
 
@@ -268,7 +268,7 @@ impl From<EcdsaKeypair> for EcdsaPublicKey {
 ///
 /// The refusals of `EcdsaPublicKey`, and then those of `EcdsaPrivateKey`, as wide as the field of
 /// that key's curve.
-#[tactic(auto, using(sshkey_base::proofs::Steps::steps))]
+#[tactic(auto, using(sshkey_format::proofs::Chosen::chosen, sshkey_format::proofs::Needless::needless_parts, crate::specs::PairFormats::ecdsa_pair_chosen))]
 impl Decode for EcdsaKeypair {
     type Error = Error;
 
@@ -292,12 +292,11 @@ fn pair_with<R: Reader>(
     reader: &mut R,
     public: EcdsaPublicKey,
 ) -> Result<EcdsaKeypair>
-    ensures gives { Gives ecdsa_pair_of cause (pair_of_key_at (ecdsa_key_of public))
+    ensures gives { Gives ecdsa_pair_of cause (pair_of_key (ecdsa_key_of public)).read
         (R.source reader.old) result (R.source reader.new) }
     ensures later { Later (R.source reader.old) (R.source reader.new) }
     ensures asks { Asks cause NoNeed (R.source reader.old) result }
-    ensures past { StopsBy cause (pair_of_key_at (ecdsa_key_of public)) NoNeed OverrunsString
-        (R.source reader.old) result }
+    ensures past { Stops cause (pair_of_key (ecdsa_key_of public)) (R.source reader.old) result }
 {
     match public {
         EcdsaPublicKey::NistP256(public) => {

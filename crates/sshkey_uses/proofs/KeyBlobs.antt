@@ -16,7 +16,7 @@ use Rattle.ssh_key.specs.model.Reading.{Fault, ◌>>=◌}
 use Rattle.ssh_key.specs.keys.KeyKinds.{is_ecdsa, is_ed25519}
 use Rattle.ssh_key.specs.keys.KeyReaders.{key_grammar, body_grammar}
 use Rattle.ssh_key.specs.keys.Keys.{SpellsKey, key_of, key_data_at}
-use Rattle.ssh_key.specs.keys.Needs.{NeedsBody, NeedsKey}
+use Rattle.ssh_key.specs.keys.KeyFormats.{body_format, key_format}
 use Rattle.ssh_key.specs.types.public.KeyData.{KeyData}
 
 -- whether its keys are of one size
@@ -35,7 +35,7 @@ sized (SkEd25519 k) is = is
 sized (Opaque name k) is = is
 
 -- neither the name of such a key needs memory, nor its body
-no_need : (a : Algorithm) (b : List ℕ) → is_of_one_size (unhashed a) ≡ true → IsPrivateUse a ⊎ NeedsBody a b 0 → ⊥
+no_need : (a : Algorithm) (b : List ℕ) → is_of_one_size (unhashed a) ≡ true → IsPrivateUse a ⊎ (body_format a).needs b 0 → ⊥
 no_need names.Dsa b sized needs = cc
 no_need (names.Ecdsa curve) b sized (inl name) = name
 no_need (names.Ecdsa curve) b sized (inr body) = body
@@ -59,7 +59,7 @@ named : (found : Result (Algorithm × List ℕ) Fault) (k : Key) (rest : List �
 named (Ok name) k rest is = ((body_grammar name.0).takes name.1 k rest (body_read (body_at name.0 name.1) k rest is)).1.is.0
 named (Err fault) k rest is = cc
 
-needs_none : (found : Result (Algorithm × List ℕ) Fault) (k : Key) → is_of_one_size (key_algorithm k) ≡ true → IsOkAnd found (λ name. key_algorithm k ≡ unhashed name.0) → IsOkAnd found (λ name. IsPrivateUse name.0) ⊎ IsOkAnd found (λ name. NeedsBody name.0 name.1 0) → ⊥
+needs_none : (found : Result (Algorithm × List ℕ) Fault) (k : Key) → is_of_one_size (key_algorithm k) ≡ true → IsOkAnd found (λ name. key_algorithm k ≡ unhashed name.0) → IsOkAnd found (λ name. IsPrivateUse name.0) ⊎ IsOkAnd found (λ name. (body_format name.0).needs name.1 0) → ⊥
 needs_none (Ok name) k sized is (inl own) = no_need name.0 name.1 (subst (λ (a : Algorithm). is_of_one_size a ≡ true) is sized) (inl own)
 needs_none (Ok name) k sized is (inr body) = no_need name.0 name.1 (subst (λ (a : Algorithm). is_of_one_size a ≡ true) is sized) (inr body)
 needs_none (Err fault) k sized is needs = is
@@ -69,7 +69,7 @@ unfolding key_data_at
 key_read k b spelled = named (label_at algorithm_from b) k [] (rw append-nil at (key_grammar.again k b [] spelled))
 
 -- what spells such a key is accepted, also where no memory is to be had
-pub never_refused : (k : Key) (b : List ℕ) (r : Result KeyData Error) → AcceptsWhole key_of SpellsKey cause (all_of b) r → Asks cause NeedsKey (all_of b) r → SpellsKey k b → IsTrue (is_ecdsa k || is_ed25519 k) → IsOk r
+pub never_refused : (k : Key) (b : List ℕ) (r : Result KeyData Error) → AcceptsWhole key_of SpellsKey cause (all_of b) r → Asks cause key_format.needs (all_of b) r → SpellsKey k b → IsTrue (is_ecdsa k || is_ed25519 k) → IsOk r
 never_refused k b (Ok x) accepts asks spelled is = refl
 never_refused k b (Err e) accepts asks spelled is =
     let memory = only_memory (cause e) (λ other. accepts other refl k spelled) in

@@ -2,7 +2,7 @@
 
 ghost use Rattle.std.specs.Prelude.{◌≡◌, ◌++◌, ◌+◌, ◌*◌, ◌^◌, ◌≤◌, IfOk, IfErr};
 ghost use Rattle.sshkey_base.specs.Reading.{AcceptsWhole, DecodesWide, Gives, GivesWhole};
-ghost use Rattle.sshkey_base.specs.Answers.{AnswersAlways};
+ghost use Rattle.sshkey_base.specs.Answers.{Answers, AnswersAlways};
 ghost use Rattle.sshkey_base.specs.Causes.{cause};
 ghost use Rattle.sshkey_base.specs.Formats.{Stops};
 ghost use Rattle.sshkey_base.specs.Names.{algorithm_of};
@@ -13,9 +13,8 @@ ghost use Rattle.sshkey_base.specs.Sink.{Encodes, Measures};
 ghost use Rattle.sshkey_model.specs.Reading.{checked_at, string_at, whole};
 ghost use Rattle.sshkey_model.specs.Signatures.{Signature as TheSignature, IsSignature, IsSignatureBlob, signature, signature_blob, signature_blob_at, signature_at, trailed_at};
 ghost use Rattle.sshkey_keys.specs.Blobs.{ReadsFrontOf, MakesBlob};
-ghost use Rattle.sshkey_keys.specs.Needs.{NeedsSignature};
-ghost use Rattle.sshkey_keys.specs.SignatureForms.{string_from};
-ghost use Rattle.sshkey_keys.specs.KeyFormats.{blob_format, signature_format};
+ghost use Rattle.sshkey_keys.specs.SignatureForms.{joined_from, string_from};
+ghost use Rattle.sshkey_keys.specs.KeyFormats.{blob_format, signature_format, signature_under};
 ghost use Rattle.sshkey_keys.specs.SignatureReaders.{SpellsSignature, signature_normal};
 ghost use Rattle.sshkey_keys.specs.Signatures.{signature_of};
 
@@ -25,6 +24,7 @@ use sshkey_base::{
     Algorithm, Bytes, Decode, Encode, Error, NormalForm, Reader, Result, Writer, array_from,
     decode_front, decode_whole, encode_string, encode_vec, encoding, string_len,
 };
+use sshkey_format::Wide;
 use std::alloc::Global;
 
 impl Signature {
@@ -35,7 +35,7 @@ impl Signature {
     pub fn from_front(alloc: Global, bytes: &[u8]) -> Result<Signature>
         ensures reads { ReadsFrontOf signature_of signature_at SpellsSignature cause
             bytes.now result }
-        ensures asks { Asks cause NeedsSignature (all_of bytes.now) result }
+        ensures asks { Asks cause signature_format.needs (all_of bytes.now) result }
     {
         let mut left = bytes;
         decode_front(alloc, &mut left)
@@ -49,7 +49,7 @@ impl Signature {
     pub fn from_bytes(alloc: Global, bytes: &[u8]) -> Result<Signature>
         ensures gives { GivesWhole signature_of cause (whole signature_at)
             (all_of bytes.now) result }
-        ensures asks { Asks cause NeedsSignature (all_of bytes.now) result }
+        ensures asks { Asks cause signature_format.needs (all_of bytes.now) result }
         ensures accepts { AcceptsWhole signature_of SpellsSignature cause
             (all_of bytes.now) result }
     {
@@ -72,7 +72,7 @@ impl Signature {
 ///
 /// `Label` for a name of no algorithm, and the faults of `Signature::new`, for which the bytes
 /// behind the string are read first.
-#[tactic(auto, using(sshkey_base::proofs::Steps::steps), unfolding(sshkey_model::specs::Signatures::signature_at, sshkey_model::specs::Names::algorithm_at, sshkey_base::specs::Labels::label_at))]
+#[tactic(auto, using(sshkey_format::proofs::Chosen::chosen, crate::specs::KeyFormats::signature_chosen, sshkey_base::specs::Lengths::label_lengths))]
 impl Decode for Signature {
     type Error = Error;
 
@@ -83,10 +83,29 @@ impl Decode for Signature {
     ghost format = { signature_format };
 
     fn decode<R: Reader>(alloc: Global, reader: &mut R) -> Result<Signature> {
-        let algorithm = Algorithm::decode(alloc, reader)?;
-        let blob = decode_blob(alloc, reader, &algorithm)?;
-        Ok(Signature { algorithm, blob })
+        let Wide(algorithm) = Wide::<Algorithm>::decode(alloc, reader)?;
+        decode_under(alloc, reader, algorithm)
     }
+}
+
+/// The signature by that algorithm whose bytes stand at the front.
+#[tactic(auto, using(sshkey_format::proofs::Mapped::mapped, crate::proofs::SignatureParts::under_read))]
+#[inline(always)]
+fn decode_under<R: Reader>(
+    alloc: Global,
+    reader: &mut R,
+    algorithm: Algorithm,
+) -> Result<Signature>
+    ensures gives { Gives signature_of cause (signature_under (algorithm_of algorithm)).read
+        (R.source reader.old) result (R.source reader.new) }
+    ensures later { Later (R.source reader.old) (R.source reader.new) }
+    ensures asks { Asks cause (signature_under (algorithm_of algorithm)).needs
+        (R.source reader.old) result }
+    ensures past { Stops cause (signature_under (algorithm_of algorithm))
+        (R.source reader.old) result }
+{
+    let blob = decode_blob(alloc, reader, &algorithm)?;
+    Ok(Signature { algorithm, blob })
 }
 
 /// What stands behind the name of that algorithm.
@@ -97,7 +116,6 @@ fn decode_blob<R: Reader>(alloc: Global, reader: &mut R, algorithm: &Algorithm) 
     ensures asks { Asks cause NeedsString (R.source reader.old) result }
     ensures past { Stops cause (blob_format (algorithm_of algorithm.now))
         (R.source reader.old) result }
-    ensures form { IfOk result (IsSignatureBlob (algorithm_of algorithm.now)) }
 {
     if has_trailer(algorithm) {
         decode_trailed(alloc, reader, algorithm)
@@ -131,7 +149,7 @@ fn checked(algorithm: &Algorithm, bytes: Bytes) -> Result<Bytes>
 
 /// A string of bytes that are well-formed, and the five bytes behind it. A source that lends
 /// its bytes is copied with room for the five from the start, so that they take no memory again.
-#[tactic(auto, using(sshkey_base::proofs::Steps::steps))]
+#[tactic(auto, using(sshkey_base::proofs::Steps::steps, sshkey_format::proofs::Stopping::handed, crate::proofs::TrailedBlobs::trailed_blobs))]
 fn decode_trailed<R: Reader>(alloc: Global, reader: &mut R, algorithm: &Algorithm) -> Result<Bytes>
     ensures gives { Gives (λ b. b) cause (trailed_at (string_from (algorithm_of algorithm.now)))
         (R.source reader.old) result (R.source reader.new) }
@@ -142,8 +160,17 @@ fn decode_trailed<R: Reader>(alloc: Global, reader: &mut R, algorithm: &Algorith
 {
     let bytes = Bytes::decode_with_spare(alloc, reader, TRAILER_LEN)?;
     let trailer = array_from::<5, R>(reader)?;
-    check_string(algorithm, bytes.as_slice())?;
-    with_trailer(bytes, &trailer)
+    joined(algorithm, bytes, &trailer)
+}
+
+/// The bytes, where they stand in the string of a signature by the algorithm, and then the trailer.
+#[tactic(auto, using(crate::proofs::TrailedBlobs::joining))]
+fn joined(algorithm: &Algorithm, bytes: Bytes, trailer: &[u8]) -> Result<Bytes>
+    ensures { Answers (λ b. b) cause
+        (joined_from (string_from (algorithm_of algorithm.now)) trailer.now bytes) result }
+{
+    let bytes = checked(algorithm, bytes)?;
+    with_trailer(bytes, trailer)
 }
 
 /// The bytes, and then the trailer. Refused only when out of memory.

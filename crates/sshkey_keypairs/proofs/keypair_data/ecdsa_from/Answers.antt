@@ -6,7 +6,7 @@ use Rattle.sshkey_model.specs.KeyPairs.{any_ecdsa_pair_at, public_half}
 use Rattle.sshkey_base.specs.Names.{curve_of}
 use Rattle.sshkey_base.specs.Needs.{NoNeed}
 use Rattle.sshkey_base.proofs.Stopping.{checked_stopped}
-use Rattle.sshkey_kinds.proofs.Parts.{tested_stopped}
+use Rattle.sshkey_format.proofs.Tested.{tested_stopped}
 use Rattle.sshkey_pairs.specs.Pairs.{ecdsa_pair_of}
 use Rattle.sshkey_pairs.specs.PairFormats.{ecdsa_pair_format}
 use Rattle.sshkey_keypairs.specs.KeypairReaders.{ecdsa_under}

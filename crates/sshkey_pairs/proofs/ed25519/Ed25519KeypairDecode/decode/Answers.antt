@@ -1,10 +1,10 @@
 use Rattle.sshkey_base.specs.Causes.{cause}
-use Rattle.sshkey_format.specs.Terms.{◌then◌}
 use Rattle.sshkey_base.specs.Formats.{array_format}
+use Rattle.sshkey_format.specs.Terms.{◌then◌}
+use Rattle.sshkey_format.proofs.Tested.{tested_stops}
 use Rattle.sshkey_pairs.specs.Pairs.{ed25519_pair_of}
 use Rattle.sshkey_pairs.specs.PairFormats.{ed25519_pair_of_parts, ed25519_pair_parts_read}
-use Rattle.sshkey_pairs.proofs.Next.{mapped_judged_stops}
 use Rattle.sshkey_pairs.proofs.ed25519.Ed25519KeypairDecode.decode.Goals as goal
 
 pub returns-clause-past : goal.returns-clause-past
-returns-clause-past g c = mapped_judged_stops _ ed25519_pair_of cause _ ed25519_pair_of_parts _ _ _ _ _ _ _ ed25519_pair_parts_read (array_format 32 then array_format 64).lengths c.in_ok-public.ensures.gives c.from_halves.ensures
+returns-clause-past g c = tested_stops _ ed25519_pair_of cause _ ed25519_pair_of_parts _ _ _ _ _ _ _ ed25519_pair_parts_read (array_format 32 then array_format 64).lengths c.in_ok-public.ensures.gives c.from_halves.ensures

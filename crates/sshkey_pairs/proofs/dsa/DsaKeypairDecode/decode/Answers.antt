@@ -1,9 +1,0 @@
-use Rattle.std.proofs.lemmas.Result.{err_from_is_err_and}
-use Rattle.sshkey_format.proofs.Mapped.{mapped_refused}
-use Rattle.sshkey_pairs.specs.PairFormats.{dsa_pair_parts_read}
-use Rattle.sshkey_pairs.proofs.dsa.DsaKeypairDecode.decode.Goals as goal
-
-pub returns-in_err-public-clause-gives : goal.returns-in_err-public-clause-gives
-returns-in_err-public-clause-gives g c =
-    let p = err_from_is_err_and c.from_residual.result c.from_residual.ensures.1 in
-    rw (p.1, p.2) (mapped_refused _ _ _ _ _ _ dsa_pair_parts_read c.in_err-public.ensures.gives)
