@@ -1,5 +1,5 @@
 -- A line is cut into its fields in one way.
-use Rattle.std.proofs.Common.{◌≡◌, ◌⊎◌, ℕ, zero, suc, ◌<◌, ◌+◌, List, [], ◌∷◌, ◌++◌, length, drop, slice_index, Bool, true, false, cond, refl, sym, ap, subst, ◌∙◌, arith, tests, inl, inr}
+use Rattle.std.proofs.Common.{◌≡◌, ◌⊎◌, ℕ, zero, suc, ◌<◌, List, [], ◌∷◌, ◌++◌, length, drop, slice_index, Bool, true, false, cond, refl, sym, ap, subst, ◌∙◌, arith, tests, inl, inr}
 use Rattle.base64.specs.Engines.{standard}
 use Rattle.base64.specs.GeneralPurpose.{encode_of}
 use Rattle.sshkey_model.specs.Grammar.{SpellsWith}

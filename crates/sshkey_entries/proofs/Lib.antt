@@ -8,3 +8,4 @@ pub mod OneOpenSshLine
 pub mod Cuts
 pub mod EntryExamples
 pub mod StrictExamples
+pub mod OneOption

@@ -1,10 +1,9 @@
 -- As OpenSSH reads them, a line is one entry at most.
 use Rattle.std.proofs.Common.{◌≡◌, ℕ, List, [], ◌∷◌, ◌++◌, length, drop, slice_index, Option, None, Some, refl, sym, ap, subst, ◌∙◌, arith, inl, inr}
-use Rattle.std.proofs.lemmas.List.{drop_at}
 use Rattle.sshkey_entries.specs.AuthorizedKeys.{AuthorizedKey}
-use Rattle.sshkey_entries.specs.Fields.{without_blanks, EndsField, AreKeyFields}
-use Rattle.sshkey_entries.specs.KnownHosts.{Marker, CertAuthority, Revoked, marker_text, Hosts, IsHosts, KnownHost, at_sign}
-use Rattle.sshkey_entries.specs.OpenSshLines.{IsKeyAlone, IsBehindOptions, IsAuthorizedLine, IsMarkedLine, IsHostLine}
+use Rattle.sshkey_entries.specs.Fields.{without_blanks, AreKeyFields}
+use Rattle.sshkey_entries.specs.KnownHosts.{Marker, CertAuthority, Revoked, marker_text, IsHosts, KnownHost, at_sign}
+use Rattle.sshkey_entries.specs.OpenSshLines.{IsBehindOptions, IsAuthorizedLine, IsMarkedLine, IsHostLine}
 use Rattle.sshkey_entries.proofs.Fields.{same_field, one_fields}
 use Rattle.sshkey_entries.proofs.OneEntry.{one_end, same_entry}
 use Rattle.sshkey_entries.proofs.OneHost.{one_hosts, same_host}

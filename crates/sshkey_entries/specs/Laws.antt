@@ -3,6 +3,7 @@ use Rattle.std.specs.Prelude.{◌≡◌, ℕ, List}
 use Rattle.sshkey_model.specs.Keys.{Key}
 use Rattle.sshkey_entries.specs.AuthorizedKeys.{AuthorizedKey, IsAuthorizedKey, IsWithoutOptions, HasOptions}
 use Rattle.sshkey_entries.specs.Entries.{uncommented}
+use Rattle.sshkey_entries.specs.OptionItems.{KeyOption, AreKeyOptions}
 use Rattle.sshkey_entries.specs.SshdReading.{IsSshdKey}
 use Rattle.sshkey_entries.specs.StrictReading.{EndsOptions, IsReadStrictly, IsLineReadStrictly}
 
@@ -29,3 +30,7 @@ StrictLineIsRead = (line : List ℕ) (a : AuthorizedKey) → IsLineReadStrictly 
 -- sshd(8) reads one key of a line at most.
 abbrev pub OneSshdKey : Type 0
 OneSshdKey = (line : List ℕ) (k l : Key) → IsSshdKey line k → IsSshdKey line l → k ≡ l
+
+-- A text is one list of options at most.
+abbrev pub OneKeyOptions : Type 0
+OneKeyOptions = (text : List ℕ) (a b : List KeyOption) → AreKeyOptions text a → AreKeyOptions text b → a ≡ b

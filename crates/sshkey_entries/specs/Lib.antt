@@ -7,6 +7,7 @@ pub mod StrictReading
 pub mod SshdReading
 pub mod Fields
 pub mod OpenSshLines
+pub mod OptionItems
 pub mod Laws
 pub mod Computed
 pub mod Examples

@@ -3,7 +3,7 @@
 ghost use Rattle.sshkey_entries.specs.AuthorizedKeys.{IsAuthorizedKey};
 ghost use Rattle.sshkey_entries.specs.KnownHosts.{IsHosts, IsKnownHost};
 ghost use Rattle.sshkey_entries.specs.OpenSshLines.{IsAuthorizedLine, IsHostLine};
-ghost use Rattle.sshkey_entries.specs.Laws.{EntriesDetermineValues, OneEnd, ReadingsAreApart, OneSshdKey, StrictIsRead, StrictLineIsRead};
+ghost use Rattle.sshkey_entries.specs.Laws.{EntriesDetermineValues, OneEnd, ReadingsAreApart, OneSshdKey, StrictIsRead, StrictLineIsRead, OneKeyOptions};
 
 /// A line is one entry of authorized_keys at most.
 pub fn one_authorized_key()
@@ -51,4 +51,9 @@ pub fn one_authorized_line()
 /// A line is one entry of known_hosts at most, as OpenSSH reads it.
 pub fn one_host_line()
     ensures { EntriesDetermineValues IsHostLine }
+{}
+
+/// A text is one list of options at most.
+pub fn one_key_options()
+    ensures { OneKeyOptions }
 {}
