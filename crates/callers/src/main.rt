@@ -5,14 +5,16 @@
 //! another program has verified: those, and no others, are accepted in the lines behind it.
 #![tactic(auto)]
 
+mod issue;
 mod login;
+mod signer;
 mod verified;
 mod words;
 
 use ssh_key::Result;
 use std::alloc::Global;
 use std::io::{self, BufRead, BufReader, Write};
-use verified::{Told, verified};
+use verified::{Told, read_verified};
 use words::NO_LINE;
 
 fn main(rt: HostRuntime) -> io::Result<()> {
@@ -39,9 +41,10 @@ fn answer(alloc: Global, line: &str, told: &mut Told) -> Result<String> {
     match words.as_slice() {
         [question, words @ ..] => match *question {
             "verified" => {
-                told.add(verified(alloc, words)?)?;
+                told.add(read_verified(alloc, words)?)?;
                 Ok(String::from_str(alloc, "told")?)
             }
+            "issue" => issue::answer(alloc, words, told),
             "login" => login::answer(alloc, words, told),
             _ => Err(NO_LINE),
         },

@@ -8,7 +8,7 @@ ghost use Rattle.callers.specs.Told.{is_about, same_key};
 
 use crate::words::{NO_LINE, bytes};
 use ssh_key::public::KeyData;
-use ssh_key::{Algorithm, PublicKey, RawVerifier, Result};
+use ssh_key::{Algorithm, PublicKey, RawVerifier, Result, Signature};
 use std::alloc::{AllocError, Global};
 
 /// A signature that another program has verified.
@@ -37,6 +37,17 @@ impl Told {
     /// Tells of one more. Refused only when out of memory.
     pub(crate) fn add(&mut self, verified: Verified) -> Result<()> {
         Ok(self.0.push(verified)?)
+    }
+
+    /// The signature of that message that it was told of, if there is one.
+    pub(crate) fn signature_of(&self, alloc: Global, message: &[u8]) -> Result<Option<Signature>> {
+        for verified in &self.0 {
+            if verified.message.as_slice() == message {
+                let signature = verified.signature.clone()?;
+                return Ok(Some(Signature::new(verified.algorithm.try_clone(alloc)?, signature)?));
+            }
+        }
+        Ok(None)
     }
 }
 
@@ -94,7 +105,7 @@ fn is_same(key: &KeyData, other: &KeyData) -> bool
 
 /// What a line tells: the name of the algorithm, the line of the key, and message and signature in
 /// hexadecimal digits.
-pub(crate) fn verified(alloc: Global, words: &[&str]) -> Result<Verified> {
+pub(crate) fn read_verified(alloc: Global, words: &[&str]) -> Result<Verified> {
     let [algorithm, key, message, signature] = words else {
         return Err(NO_LINE);
     };

@@ -35,3 +35,14 @@ pub(crate) fn fingerprints(alloc: Global, text: &str) -> Result<Vec<Fingerprint>
     }
     Ok(found)
 }
+
+/// The names with commas between.
+pub(crate) fn names(alloc: Global, text: &str) -> Result<Vec<String>> {
+    let mut found = Vec::new(alloc);
+    for word in text.split(',') {
+        if !word.is_empty() {
+            found.push(String::from_str(alloc, word)?)?;
+        }
+    }
+    Ok(found)
+}

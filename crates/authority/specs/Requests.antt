@@ -1,0 +1,80 @@
+-- What an authority certifies.
+use Rattle.std.specs.Prelude.{◌≡◌, ◌≢◌, ℕ, ◌+◌, ◌^◌, ◌<◌, ◌≤◌, List, [], Bool, All, Contains, Result, Ok, Err, Option, Some, None, map, string_bytes}
+use Rattle.ssh_key.specs.builder.Builders.{IsValidExactlyIn, draft_of}
+use Rattle.ssh_key.specs.cert.CertificateValues.{certificate_of}
+use Rattle.ssh_key.specs.cert.Signing.{RefusesToSign}
+use Rattle.ssh_key.specs.keys.Keys.{key_of}
+use Rattle.ssh_key.specs.model.Certificates.{Certificate, SignedFields, User}
+use Rattle.ssh_key.specs.model.Drafts.{Draft, bad_window}
+use Rattle.ssh_key.specs.model.Fingerprints.{fingerprint}
+use Rattle.ssh_key.specs.model.Keys.{Key}
+use Rattle.ssh_key.specs.model.Names.{Sha256}
+use Rattle.ssh_key.specs.model.Verification.{Question}
+use Rattle.ssh_key.specs.types.Certificate as code
+use Rattle.ssh_key.specs.types.Error.{Error}
+use Rattle.ssh_key.specs.types.Error.TheVariants.{Memory}
+use Rattle.ssh_key.specs.types.certificate.Builder.{Builder}
+use Rattle.authority.specs.declared.limits.Limits.{Limits}
+use Rattle.authority.specs.declared.request.Request.{Request}
+
+-- ---- what may be asked for
+
+abbrev pub IsListed : Limits → List ℕ → Type 0
+IsListed limits name = Contains (map string_bytes limits.principals.items) name
+
+abbrev pub names_of : Request → List (List ℕ)
+names_of r = map string_bytes r.principals.items
+
+-- The request is for some users, each of whom is listed, and its window has a second and at most `longest`.
+pub record IsWithin (limits : Limits) (r : Request) : Type 0 where
+  pub some : names_of r ≢ []
+  pub listed : All (IsListed limits) (names_of r)
+  pub times : r.valid_before < 2 ^ 63
+  pub some_second : r.valid_after < r.valid_before
+  pub longest : r.valid_before ≤ r.valid_after + limits.longest
+
+-- ---- what is certified
+
+-- a certificate for users of just what was asked for, under that serial number and nonce, without options
+abbrev pub fields_for : Request → ℕ → List ℕ → Key → SignedFields
+fields_for r serial nonce authority = record {
+  nonce = nonce;
+  key = key_of r.key;
+  serial = serial;
+  certificate_type = User;
+  key_id = string_bytes r.key_id;
+  valid_principals = names_of r;
+  valid_after = r.valid_after;
+  valid_before = r.valid_before;
+  critical_options = [];
+  extensions = [];
+  reserved = [];
+  signature_key = authority;
+}
+
+-- The certificate has these fields, and for whoever trusts the authority it is valid exactly in the window that was asked for.
+pub record IsCertified (accepts : Question → Bool) (authority : Key) (r : Request) (serial : ℕ) (nonce : List ℕ) (c : Certificate) : Type 0 where
+  pub fields : c.signed ≡ fields_for r serial nonce authority
+  pub valid : IsValidExactlyIn accepts (fingerprint Sha256 authority) r.valid_after r.valid_before c
+
+-- That certificate; or, where the times are some, a refusal to sign it.
+abbrev pub CertifiesExactly : (Question → Bool) → Key → (List ℕ → Error → Type 0) → Request → ℕ → List ℕ → Result code.Certificate Error → Type 0
+CertifiesExactly accepts authority refuses r serial nonce (Ok c) = IsCertified accepts authority r serial nonce (certificate_of c)
+CertifiesExactly accepts authority refuses r serial nonce (Err e) = bad_window r.valid_after r.valid_before ≡ None → RefusesToSign refuses (fields_for r serial nonce authority) e
+
+-- Ok is that certificate of a request within the limits; a request within the limits is refused only where the numbers are used up, or the certificate is not signed.
+abbrev pub IssuesExactly : (Question → Bool) → Key → (List ℕ → Error → Type 0) → Limits → Request → ℕ → List ℕ → Result code.Certificate Error → Type 0
+IssuesExactly accepts authority refuses limits r serial nonce (Ok c) = IsWithin limits r × IsCertified accepts authority r serial nonce (certificate_of c)
+IssuesExactly accepts authority refuses limits r serial nonce (Err e) = IsWithin limits r → serial + 1 < 2 ^ 64 → RefusesToSign refuses (fields_for r serial nonce authority) e
+
+-- ---- naming the principals
+
+-- none, or these
+abbrev pub with_names : List (List ℕ) → Option (List (List ℕ))
+with_names [] = None
+with_names names = Some names
+
+-- A builder that nobody was named to is told of these, or memory ran out.
+abbrev pub NamesEach : List (List ℕ) → Builder → Result Unit Error → Builder → Type 0
+NamesEach names before (Ok x) after = (draft_of before).valid_principals ≡ None → draft_of after ≡ record (draft_of before) { valid_principals = with_names names }
+NamesEach names before (Err e) after = e ≡ Memory
