@@ -1,11 +1,12 @@
 -- What an authority certifies.
-use Rattle.std.specs.Prelude.{◌≡◌, ◌≢◌, ℕ, ◌+◌, ◌^◌, ◌<◌, ◌≤◌, List, [], Bool, All, Contains, Result, Ok, Err, Option, Some, None, map, string_bytes}
+use Rattle.std.specs.Prelude.{◌≡◌, ◌≢◌, ℕ, ◌+◌, ◌^◌, ◌<◌, ◌≤◌, List, [], Bool, All, Contains, Result, Ok, Err, None, map, string_bytes, bytes_eq}
+use Rattle.std.specs.List.{list_any}
 use Rattle.ssh_key.specs.builder.Builders.{IsValidExactlyIn, draft_of}
 use Rattle.ssh_key.specs.cert.CertificateValues.{certificate_of}
 use Rattle.ssh_key.specs.cert.Signing.{RefusesToSign}
 use Rattle.ssh_key.specs.keys.Keys.{key_of}
 use Rattle.ssh_key.specs.model.Certificates.{Certificate, SignedFields, User}
-use Rattle.ssh_key.specs.model.Drafts.{Draft, bad_window}
+use Rattle.ssh_key.specs.model.Drafts.{Principal, after_steps, bad_window}
 use Rattle.ssh_key.specs.model.Fingerprints.{fingerprint}
 use Rattle.ssh_key.specs.model.Keys.{Key}
 use Rattle.ssh_key.specs.model.Names.{Sha256}
@@ -21,6 +22,10 @@ use Rattle.authority.specs.declared.request.Request.{Request}
 
 abbrev pub IsListed : Limits → List ℕ → Type 0
 IsListed limits name = Contains (map string_bytes limits.principals.items) name
+
+-- the test of it
+abbrev pub is_listed : Limits → List ℕ → Bool
+is_listed limits name = list_any (λ it. bytes_eq name (string_bytes it)) limits.principals.items
 
 abbrev pub names_of : Request → List (List ℕ)
 names_of r = map string_bytes r.principals.items
@@ -57,10 +62,10 @@ pub record IsCertified (accepts : Question → Bool) (authority : Key) (r : Requ
   pub fields : c.signed ≡ fields_for r serial nonce authority
   pub valid : IsValidExactlyIn accepts (fingerprint Sha256 authority) r.valid_after r.valid_before c
 
--- That certificate; or, where the times are some, a refusal to sign it.
+-- That certificate; or, where the window is one and there are users, a refusal to sign it.
 abbrev pub CertifiesExactly : (Question → Bool) → Key → (List ℕ → Error → Type 0) → Request → ℕ → List ℕ → Result code.Certificate Error → Type 0
 CertifiesExactly accepts authority refuses r serial nonce (Ok c) = IsCertified accepts authority r serial nonce (certificate_of c)
-CertifiesExactly accepts authority refuses r serial nonce (Err e) = bad_window r.valid_after r.valid_before ≡ None → RefusesToSign refuses (fields_for r serial nonce authority) e
+CertifiesExactly accepts authority refuses r serial nonce (Err e) = bad_window r.valid_after r.valid_before ≡ None → names_of r ≢ [] → RefusesToSign refuses (fields_for r serial nonce authority) e
 
 -- Ok is that certificate of a request within the limits; a request within the limits is refused only where the numbers are used up, or the certificate is not signed.
 abbrev pub IssuesExactly : (Question → Bool) → Key → (List ℕ → Error → Type 0) → Limits → Request → ℕ → List ℕ → Result code.Certificate Error → Type 0
@@ -69,12 +74,7 @@ IssuesExactly accepts authority refuses limits r serial nonce (Err e) = IsWithin
 
 -- ---- naming the principals
 
--- none, or these
-abbrev pub with_names : List (List ℕ) → Option (List (List ℕ))
-with_names [] = None
-with_names names = Some names
-
--- A builder that nobody was named to is told of these, or memory ran out.
+-- The builder is told of each of them, or memory ran out.
 abbrev pub NamesEach : List (List ℕ) → Builder → Result Unit Error → Builder → Type 0
-NamesEach names before (Ok x) after = (draft_of before).valid_principals ≡ None → draft_of after ≡ record (draft_of before) { valid_principals = with_names names }
+NamesEach names before (Ok x) after = draft_of after ≡ after_steps (map Principal names) (draft_of before)
 NamesEach names before (Err e) after = e ≡ Memory

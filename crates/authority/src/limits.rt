@@ -1,8 +1,9 @@
 //! What an authority may certify.
 
-ghost use Rattle.std.specs.Prelude.{◌↔◌, ◌≤◌, ◌<◌, ◌+◌, ◌^◌, IsTrue, All, map, string_bytes};
+ghost use Rattle.std.specs.List.{list_all};
+ghost use Rattle.std.specs.Prelude.{◌≡◌, ◌≢◌, ◌↔◌, ◌≤◌, ◌<◌, ◌+◌, ◌^◌, [], IsTrue, All, map, string_bytes};
 ghost use Rattle.ssh_key.specs.base.Acceptance.{AcceptsExactly};
-ghost use Rattle.authority.specs.Requests.{IsListed, IsWithin};
+ghost use Rattle.authority.specs.Requests.{IsListed, IsWithin, is_listed};
 
 use crate::request::Request;
 use ssh_key::certificate::{Field, MAX_SECS};
@@ -26,13 +27,21 @@ impl Limits {
     pub fn check(&self, request: &Request) -> Result<()>
         ensures { AcceptsExactly (IsWithin self.now request.now) result }
     {
-        if request.principals.is_empty() || !self.lists_each(&request.principals) {
+        if !self.allows_principals(&request.principals) {
             return Err(Error::CertificateFieldInvalid(Field::ValidPrincipals));
         }
         if !self.allows_window(request.valid_after, request.valid_before) {
             return Err(Error::CertificateFieldInvalid(Field::ValidBefore));
         }
         Ok(())
+    }
+
+    /// Whether there are names, and each is listed.
+    fn allows_principals(&self, names: &[String]) -> bool
+        ensures { IsTrue result ↔ ((map string_bytes names.now ≢ [])
+            × All (IsListed self.now) (map string_bytes names.now)) }
+    {
+        !names.is_empty() && self.lists_each(names)
     }
 
     /// Whether the window has a second and no more than `longest`, and ends at a time.
@@ -47,15 +56,15 @@ impl Limits {
 
     /// Whether each of the names is listed.
     fn lists_each(&self, names: &[String]) -> bool
-        ensures { IsTrue result ↔ All (IsListed self.now) (map string_bytes names.now) }
+        ensures { result ≡ list_all (λ name. is_listed self.now (string_bytes name)) names.now }
     {
         names.iter().all(|name| self.lists(name.as_str()))
     }
 
     /// Whether the name is listed.
     fn lists(&self, name: &str) -> bool
-        ensures { IsTrue result ↔ IsListed self.now name.now }
+        ensures { result ≡ is_listed self.now name.now }
     {
-        self.principals.iter().any(|listed| listed.as_str() == name)
+        self.principals.iter().any(|listed| name == listed.as_str())
     }
 }

@@ -42,8 +42,10 @@ impl SigningKey for Outside<'_> {
     }
 
     fn try_sign(&self, alloc: Global, message: &[u8]) -> Result<Signature> {
-        let Some(signature) = self.told.signature_of(alloc, message)? else {
-            return Err(Error::Crypto);
+        let signature = match self.told.signature_of(alloc, message) {
+            Ok(Some(signature)) => signature,
+            Err(Error::Memory) => return Err(Error::Memory),
+            _ => return Err(Error::Crypto),
         };
         match self.key.verify(alloc, message, &signature, self.told) {
             Ok(()) => Ok(signature),

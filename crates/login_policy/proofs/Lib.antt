@@ -1,1 +1,2 @@
+mod KnownOptions
 mod Logins

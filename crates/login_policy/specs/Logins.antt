@@ -1,33 +1,18 @@
 -- Who may log in with a certificate, and what the login is bound to (PROTOCOL.certkeys; sshd_config(5), TrustedUserCAKeys).
-use Rattle.std.specs.Prelude.{◌≡◌, ◌≢◌, ◌⊎◌, ℕ, List, Bool, All, Contains, Result, Ok, Err, codes, is_some, option_map, string_bytes}
+use Rattle.std.specs.Prelude.{◌≡◌, ◌≢◌, ℕ, List, Bool, All, Contains, Result, Ok, Err, is_some, option_map, string_bytes}
 use Rattle.ssh_key.specs.model.Certificates.{Certificate, User}
 use Rattle.ssh_key.specs.model.Fingerprints.{Fingerprint}
 use Rattle.ssh_key.specs.model.Keys.{Key}
 use Rattle.ssh_key.specs.model.Lines.{IsCertificateLine}
 use Rattle.ssh_key.specs.model.OptionMaps.{value_of}
-use Rattle.ssh_key.specs.model.Options.{CertificateOption}
 use Rattle.ssh_key.specs.model.Validity.{IsValid}
 use Rattle.ssh_key.specs.model.Verification.{Question}
 use Rattle.ssh_key.specs.options.OptionMaps.{options_of}
 use Rattle.ssh_key.specs.types.Error.{Error}
 use Rattle.ssh_key.specs.types.Error.TheVariants.{Memory}
+use Rattle.login_policy.specs.KnownOptions.{IsKnown}
+use Rattle.login_policy.specs.KnownOptions as options
 use Rattle.login_policy.specs.declared.grant.Grant.{Grant}
-
-abbrev pub force_command : List ℕ
-force_command = codes "force-command"
-
-abbrev pub source_address : List ℕ
-source_address = codes "source-address"
-
-abbrev pub verify_required : List ℕ
-verify_required = codes "verify-required"
-
--- one of the three critical options for users
-abbrev pub IsKnownName : List ℕ → Type 0
-IsKnownName name = (name ≡ force_command) ⊎ (name ≡ source_address) ⊎ (name ≡ verify_required)
-
-abbrev pub IsKnown : CertificateOption → Type 0
-IsKnown o = IsKnownName o.name
 
 -- The certificate lets the user in who holds the offered key: it is for users, of that very key, lists the user, has only critical options that are known, and is valid at that time by one of the authorities.
 pub record LetsIn (accepts : Question → Bool) (authorities : List Fingerprint) (t : ℕ) (user : List ℕ) (offered : Key) (c : Certificate) : Type 0 where
@@ -39,9 +24,9 @@ pub record LetsIn (accepts : Question → Bool) (authorities : List Fingerprint)
 
 -- The grant says what the certificate's options do.
 pub record IsGrantOf (c : Certificate) (g : Grant) : Type 0 where
-  pub force_command : option_map string_bytes g.force_command ≡ value_of force_command c.signed.critical_options
-  pub source_address : option_map string_bytes g.source_address ≡ value_of source_address c.signed.critical_options
-  pub verify_required : g.verify_required ≡ is_some (value_of verify_required c.signed.critical_options)
+  pub force_command : option_map string_bytes g.force_command ≡ value_of options.force_command c.signed.critical_options
+  pub source_address : option_map string_bytes g.source_address ≡ value_of options.source_address c.signed.critical_options
+  pub verify_required : g.verify_required ≡ is_some (value_of options.verify_required c.signed.critical_options)
   pub extensions : options_of g.extensions ≡ c.signed.extensions
 
 -- The text is the line of a certificate that lets the user in.

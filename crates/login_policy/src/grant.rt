@@ -1,6 +1,6 @@
 //! What a login is bound to, and what it may do.
 
-ghost use Rattle.std.specs.Prelude.{◌≡◌, IfOk, IfErr, IsOk, None, option_map, string_bytes};
+ghost use Rattle.std.specs.Prelude.{◌≡◌, IfErr, IfOk, option_map, string_bytes};
 ghost use Rattle.ssh_key.specs.cert.CertificateValues.{certificate_of};
 ghost use Rattle.ssh_key.specs.types.Error.TheVariants.{Memory};
 ghost use Rattle.login_policy.specs.Logins.{IsGrantOf};
@@ -42,7 +42,7 @@ pub(crate) fn grant_of(alloc: Global, certificate: &Certificate) -> Result<Grant
 /// The text in memory of its own, if there is one.
 fn copied(alloc: Global, text: Option<&str>) -> Result<Option<String>>
     ensures value { IfOk result
-        (λ copy. option_map string_bytes copy ≡ option_map (λ t. t.now) text) }
+        (λ copy. option_map string_bytes copy ≡ option_map (λ t. t.now) text.entry) }
     ensures memory { IfErr result (λ e. e ≡ Memory) }
 {
     match text {

@@ -1,8 +1,8 @@
 //! The critical options that the policy knows.
 
-ghost use Rattle.std.specs.Prelude.{◌↔◌, IsTrue, All};
+ghost use Rattle.std.specs.Prelude.{◌≡◌, ◌↔◌, IsTrue, All};
 ghost use Rattle.ssh_key.specs.options.OptionMaps.{options_of};
-ghost use Rattle.login_policy.specs.Logins.{IsKnown, IsKnownName};
+ghost use Rattle.login_policy.specs.KnownOptions.{IsKnown, is_known_name};
 
 use ssh_key::certificate::OptionsMap;
 
@@ -19,12 +19,17 @@ pub(crate) const VERIFY_REQUIRED: &str = "verify-required";
 pub(crate) fn are_known(options: &OptionsMap) -> bool
     ensures { IsTrue result ↔ All IsKnown (options_of options.now) }
 {
-    options.iter().all(|(name, _)| is_known(name.as_str()))
+    for (name, _) in options.iter() {
+        if !is_known(name) {
+            return false;
+        }
+    }
+    true
 }
 
 /// Whether the policy knows options of that name.
 fn is_known(name: &str) -> bool
-    ensures { IsTrue result ↔ IsKnownName name.now }
+    ensures { result ≡ is_known_name name.now }
 {
     name == FORCE_COMMAND || name == SOURCE_ADDRESS || name == VERIFY_REQUIRED
 }
