@@ -44,3 +44,7 @@ some_names (n ∷ names) some = refl
 pub not_none : (names : List (List ℕ)) → (IsNone (with_names names) → ⊥) → names ≢ []
 not_none [] some = absurd (some refl)
 not_none (n ∷ names) some = λ none. absurd cc
+
+-- the steps are taken
+pub numbered : (nonce : List ℕ) (key : Key) (serial : ℕ) (after before : ℕ) (d0 d1 : Draft) → d0 ≡ begun nonce key after before → after_step (Serial serial) d0 ≡ Ok d1 → d1 ≡ record (begun nonce key after before) { serial = Some serial }
+numbered nonce key serial after before d0 d1 first step = let h = rw first at step in cc

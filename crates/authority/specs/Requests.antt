@@ -1,5 +1,5 @@
 -- What an authority certifies.
-use Rattle.std.specs.Prelude.{◌≡◌, ◌≢◌, ℕ, ◌+◌, ◌^◌, ◌<◌, ◌≤◌, List, [], Bool, All, Contains, Result, Ok, Err, None, map, string_bytes, bytes_eq}
+use Rattle.std.specs.Prelude.{◌≡◌, ◌≢◌, ◌⊎◌, ℕ, ◌+◌, ◌^◌, ◌<◌, ◌≤◌, List, [], Bool, All, Contains, Result, Ok, Err, None, map, string_bytes, bytes_eq}
 use Rattle.std.specs.List.{list_any}
 use Rattle.ssh_key.specs.builder.Builders.{IsValidExactlyIn, draft_of}
 use Rattle.ssh_key.specs.cert.CertificateValues.{certificate_of}
@@ -13,8 +13,9 @@ use Rattle.ssh_key.specs.model.Names.{Sha256}
 use Rattle.ssh_key.specs.model.Verification.{Question}
 use Rattle.ssh_key.specs.types.Certificate as code
 use Rattle.ssh_key.specs.types.Error.{Error}
-use Rattle.ssh_key.specs.types.Error.TheVariants.{Memory}
+use Rattle.ssh_key.specs.types.Error.TheVariants.{CertificateFieldInvalid, Memory}
 use Rattle.ssh_key.specs.types.certificate.Builder.{Builder}
+use Rattle.ssh_key.specs.types.certificate.Field.TheVariants as field
 use Rattle.authority.specs.declared.limits.Limits.{Limits}
 use Rattle.authority.specs.declared.request.Request.{Request}
 
@@ -30,13 +31,21 @@ is_listed limits name = list_any (λ it. bytes_eq name (string_bytes it)) limits
 abbrev pub names_of : Request → List (List ℕ)
 names_of r = map string_bytes r.principals.items
 
--- The request is for some users, each of whom is listed, and its window has a second and at most `longest`.
-pub record IsWithin (limits : Limits) (r : Request) : Type 0 where
-  pub some : names_of r ≢ []
-  pub listed : All (IsListed limits) (names_of r)
-  pub times : r.valid_before < 2 ^ 63
-  pub some_second : r.valid_after < r.valid_before
-  pub longest : r.valid_before ≤ r.valid_after + limits.longest
+-- There are some users, and each is listed.
+abbrev pub AreAllowed : Limits → Request → Type 0
+AreAllowed limits r = (names_of r ≢ []) × All (IsListed limits) (names_of r)
+
+-- The window ends at a time, and has a second and at most `longest`.
+abbrev pub HasRoom : Limits → Request → Type 0
+HasRoom limits r = (r.valid_before < 2 ^ 63) × (r.valid_after < r.valid_before) × (r.valid_before ≤ r.valid_after + limits.longest)
+
+abbrev pub IsWithin : Limits → Request → Type 0
+IsWithin limits r = AreAllowed limits r × HasRoom limits r
+
+-- The error says what is outside the limits first, the users or the window.
+pub data RefusesRequest (limits : Limits) (r : Request) : Error → Type 0 where
+  OtherUsers : (AreAllowed limits r → ⊥) → RefusesRequest limits r (CertificateFieldInvalid field.ValidPrincipals)
+  OtherWindow : AreAllowed limits r → (HasRoom limits r → ⊥) → RefusesRequest limits r (CertificateFieldInvalid field.ValidBefore)
 
 -- ---- what is certified
 
@@ -67,10 +76,10 @@ abbrev pub CertifiesExactly : (Question → Bool) → Key → (List ℕ → Erro
 CertifiesExactly accepts authority refuses r serial nonce (Ok c) = IsCertified accepts authority r serial nonce (certificate_of c)
 CertifiesExactly accepts authority refuses r serial nonce (Err e) = bad_window r.valid_after r.valid_before ≡ None → names_of r ≢ [] → RefusesToSign refuses (fields_for r serial nonce authority) e
 
--- Ok is that certificate of a request within the limits; a request within the limits is refused only where the numbers are used up, or the certificate is not signed.
+-- Ok is that certificate, of a request within the limits. Else the request is outside them, no serial number is left, or it is not signed.
 abbrev pub IssuesExactly : (Question → Bool) → Key → (List ℕ → Error → Type 0) → Limits → Request → ℕ → List ℕ → Result code.Certificate Error → Type 0
 IssuesExactly accepts authority refuses limits r serial nonce (Ok c) = IsWithin limits r × IsCertified accepts authority r serial nonce (certificate_of c)
-IssuesExactly accepts authority refuses limits r serial nonce (Err e) = IsWithin limits r → serial + 1 < 2 ^ 64 → RefusesToSign refuses (fields_for r serial nonce authority) e
+IssuesExactly accepts authority refuses limits r serial nonce (Err e) = RefusesRequest limits r e ⊎ (IsWithin limits r × (2 ^ 64 ≤ serial + 1) × (e ≡ CertificateFieldInvalid field.Serial)) ⊎ (IsWithin limits r × RefusesToSign refuses (fields_for r serial nonce authority) e)
 
 -- ---- naming the principals
 

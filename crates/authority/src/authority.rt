@@ -3,7 +3,7 @@
 ghost use Rattle.std.specs.Prelude.{◌≡◌, ◌↔◌, ◌++◌, ◌∷◌, [], IfErr, OnErr, OnOk, IsTrue, Contains};
 ghost use Rattle.ssh_key.specs.keys.Keys.{key_of};
 ghost use Rattle.ssh_key.specs.types.Error.TheVariants.{Memory};
-ghost use Rattle.authority.specs.Requests.{IssuesExactly};
+ghost use Rattle.authority.specs.Requests.{IssuesExactly, IsWithin};
 ghost use Rattle.authority.specs.Serials.{IsHistory, serial_of};
 
 use crate::certify::certify;
@@ -54,6 +54,8 @@ impl Authority {
             (key_of (S.public_of signer.now)) (S.refuses signer.now) self.old.limits request
             self.old.next_serial nonce.items result }
         ensures history { IsHistory self.old.next_serial (serial_of result) self.new.next_serial }
+        ensures unused { (IsWithin self.old.limits request → ⊥)
+            → self.new.next_serial ≡ self.old.next_serial }
         ensures limits { self.new.limits ≡ self.old.limits }
         ensures revoked { self.new.revoked ≡ self.old.revoked }
     {

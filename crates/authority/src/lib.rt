@@ -5,10 +5,9 @@
 
 mod authority;
 mod certify;
+pub mod laws;
 mod limits;
 mod request;
-
-pub mod laws;
 
 pub use authority::Authority;
 pub use limits::Limits;

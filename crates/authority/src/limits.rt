@@ -1,9 +1,9 @@
 //! What an authority may certify.
 
 ghost use Rattle.std.specs.List.{list_all};
-ghost use Rattle.std.specs.Prelude.{◌≡◌, ◌≢◌, ◌↔◌, ◌≤◌, ◌<◌, ◌+◌, ◌^◌, [], IsTrue, All, map, string_bytes};
+ghost use Rattle.std.specs.Prelude.{◌≡◌, ◌≢◌, ◌↔◌, ◌≤◌, ◌<◌, ◌+◌, ◌^◌, [], IfErr, IsTrue, All, map, string_bytes};
 ghost use Rattle.ssh_key.specs.base.Acceptance.{AcceptsExactly};
-ghost use Rattle.authority.specs.Requests.{IsListed, IsWithin, is_listed};
+ghost use Rattle.authority.specs.Requests.{IsListed, IsWithin, RefusesRequest, is_listed};
 
 use crate::request::Request;
 use ssh_key::certificate::{Field, MAX_SECS};
@@ -25,7 +25,8 @@ impl Limits {
     /// Else `CertificateFieldInvalid`, with `ValidPrincipals` for the users and `ValidBefore` for the
     /// window.
     pub fn check(&self, request: &Request) -> Result<()>
-        ensures { AcceptsExactly (IsWithin self.now request.now) result }
+        ensures exactly { AcceptsExactly (IsWithin self.now request.now) result }
+        ensures refused { IfErr result (RefusesRequest self.now request.now) }
     {
         if !self.allows_principals(&request.principals) {
             return Err(Error::CertificateFieldInvalid(Field::ValidPrincipals));

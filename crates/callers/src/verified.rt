@@ -61,7 +61,11 @@ impl RawVerifier for Told {
         message: &[u8],
         signature: &[u8],
     ) -> std::result::Result<bool, AllocError> {
-        Ok(self.0.iter().any(|it| it.is_about(algorithm, key, message, signature)))
+        Ok(
+            self.0
+                .iter()
+                .any(|it| it.is_about(algorithm, key, message, signature)),
+        )
     }
 }
 

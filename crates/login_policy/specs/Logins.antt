@@ -1,15 +1,20 @@
 -- Who may log in with a certificate, and what the login is bound to (PROTOCOL.certkeys; sshd_config(5), TrustedUserCAKeys).
-use Rattle.std.specs.Prelude.{◌≡◌, ◌≢◌, ℕ, List, Bool, All, Contains, Result, Ok, Err, is_some, option_map, string_bytes}
+use Rattle.std.specs.Prelude.{◌≡◌, ◌≢◌, ◌⊎◌, ℕ, List, [], Bool, All, Contains, Some, Result, Ok, Err, is_some, option_map, string_bytes}
+use Rattle.ssh_key.specs.cert.CertificateReaders.{SpellsCertificate}
+use Rattle.ssh_key.specs.cert.Validity.{refusal_error}
 use Rattle.ssh_key.specs.model.Certificates.{Certificate, User}
 use Rattle.ssh_key.specs.model.Fingerprints.{Fingerprint}
 use Rattle.ssh_key.specs.model.Keys.{Key}
-use Rattle.ssh_key.specs.model.Lines.{IsCertificateLine}
+use Rattle.ssh_key.specs.model.Lines.{IsCertificateLine, IsNoLine, name_of_certificate}
 use Rattle.ssh_key.specs.model.OptionMaps.{value_of}
+use Rattle.ssh_key.specs.model.Refusals.{first_refusal_for}
 use Rattle.ssh_key.specs.model.Validity.{IsValid}
 use Rattle.ssh_key.specs.model.Verification.{Question}
 use Rattle.ssh_key.specs.options.OptionMaps.{options_of}
 use Rattle.ssh_key.specs.types.Error.{Error}
-use Rattle.ssh_key.specs.types.Error.TheVariants.{Memory}
+use Rattle.ssh_key.specs.types.Error.TheVariants.{CertificateFieldInvalid, Memory}
+use Rattle.ssh_key.specs.types.certificate.Field.{Field}
+use Rattle.ssh_key.specs.types.certificate.Field.TheVariants as field
 use Rattle.login_policy.specs.KnownOptions.{IsKnown}
 use Rattle.login_policy.specs.KnownOptions as options
 use Rattle.login_policy.specs.declared.grant.Grant.{Grant}
@@ -40,3 +45,20 @@ pub record IsLogin (accepts : Question → Bool) (authorities : List Fingerprint
 abbrev pub GrantsExactly : (Question → Bool) → List Fingerprint → ℕ → List ℕ → Key → List ℕ → Result Grant Error → Type 0
 GrantsExactly accepts authorities t user offered text (Ok g) = (login : IsLogin accepts authorities t user offered text) × IsGrantOf login.certificate g
 GrantsExactly accepts authorities t user offered text (Err e) = e ≢ Memory → IsLogin accepts authorities t user offered text → ⊥
+
+-- ---- why a login is refused
+
+abbrev pub invalid : Field → Error
+invalid f = CertificateFieldInvalid f
+
+-- The error says what is wrong with the certificate first.
+pub data Refuses (accepts : Question → Bool) (authorities : List Fingerprint) (t : ℕ) (user : List ℕ) (offered : Key) (c : Certificate) : Error → Type 0 where
+  ForHosts : c.signed.certificate_type ≢ User → Refuses accepts authorities t user offered c (invalid field.CertType)
+  OtherKey : c.signed.certificate_type ≡ User → c.signed.key ≢ offered → Refuses accepts authorities t user offered c (invalid field.PublicKey)
+  UnknownOption : c.signed.certificate_type ≡ User → c.signed.key ≡ offered → (All IsKnown c.signed.critical_options → ⊥) → Refuses accepts authorities t user offered c (invalid field.CriticalOptions)
+  NobodyListed : c.signed.certificate_type ≡ User → c.signed.key ≡ offered → All IsKnown c.signed.critical_options → c.signed.valid_principals ≡ [] → Refuses accepts authorities t user offered c (invalid field.ValidPrincipals)
+  NotValid : c.signed.certificate_type ≡ User → c.signed.key ≡ offered → All IsKnown c.signed.critical_options → c.signed.valid_principals ≢ [] → (e : Error) → option_map refusal_error (first_refusal_for accepts authorities t user c) ≡ Some e → Refuses accepts authorities t user offered c e
+
+-- The text is the line of no certificate, or of one that is refused for that.
+abbrev pub RefusesLine : (Question → Bool) → List Fingerprint → ℕ → List ℕ → Key → List ℕ → Error → Type 0
+RefusesLine accepts authorities t user offered text e = IsNoLine name_of_certificate SpellsCertificate text ⊎ ((c : Certificate) × (comment : List ℕ) × IsCertificateLine text c comment × Refuses accepts authorities t user offered c e)

@@ -1,13 +1,14 @@
 //! Who may log in.
 
-ghost use Rattle.std.specs.Prelude.{◌≡◌, ◌↔◌, IsTrue};
+ghost use Rattle.std.specs.Prelude.{◌≡◌, ◌≢◌, ◌↔◌, IfErr, IsTrue};
 ghost use Rattle.ssh_key.specs.base.Acceptance.{AcceptsExactly};
 ghost use Rattle.ssh_key.specs.cert.CertificateValues.{certificate_of};
 ghost use Rattle.ssh_key.specs.cert.Validity.{fingerprints_of};
 ghost use Rattle.ssh_key.specs.keys.Keys.{key_of};
 ghost use Rattle.ssh_key.specs.model.Certificates.{IsCertificate};
 ghost use Rattle.ssh_key.specs.model.Keys.{IsKey};
-ghost use Rattle.login_policy.specs.Logins.{GrantsExactly, LetsIn};
+ghost use Rattle.ssh_key.specs.types.Error.TheVariants.{Memory};
+ghost use Rattle.login_policy.specs.Logins.{GrantsExactly, LetsIn, Refuses, RefusesLine};
 
 use crate::grant::{Grant, grant_of};
 use crate::options::are_known;
@@ -40,8 +41,10 @@ pub fn log_in<V: RawVerifier>(
     verifier: &V,
 ) -> Result<Grant>
     requires { IsKey (key_of offered.now) }
-    ensures { GrantsExactly (V.accepts verifier.now) (fingerprints_of authorities.now)
+    ensures exactly { GrantsExactly (V.accepts verifier.now) (fingerprints_of authorities.now)
         unix_timestamp user.now (key_of offered.now) line.now result }
+    ensures refused { IfErr result (λ e. e ≢ Memory → RefusesLine (V.accepts verifier.now)
+        (fingerprints_of authorities.now) unix_timestamp user.now (key_of offered.now) line.now e) }
 {
     lines();
     let certificate = Certificate::from_openssh(alloc, line)?;
@@ -69,8 +72,12 @@ fn check<V: RawVerifier>(
 ) -> Result<()>
     requires certificate { IsCertificate (certificate_of certificate.now) }
     requires offered { IsKey (key_of offered.now) }
-    ensures { AcceptsExactly (LetsIn (V.accepts verifier.now) (fingerprints_of authorities.now)
-        unix_timestamp user.now (key_of offered.now) (certificate_of certificate.now)) result }
+    ensures exactly { AcceptsExactly (LetsIn (V.accepts verifier.now)
+        (fingerprints_of authorities.now) unix_timestamp user.now (key_of offered.now)
+        (certificate_of certificate.now)) result }
+    ensures refused { IfErr result (λ e. e ≢ Memory → Refuses (V.accepts verifier.now)
+        (fingerprints_of authorities.now) unix_timestamp user.now (key_of offered.now)
+        (certificate_of certificate.now) e) }
 {
     if !certificate.cert_type().is_user() {
         return Err(Error::CertificateFieldInvalid(Field::CertType));

@@ -1,13 +1,23 @@
 use Rattle.std.proofs.Common.{◌≡◌, true}
+use Rattle.authority.specs.Requests.{AreAllowed, HasRoom, OtherUsers, OtherWindow}
 use Rattle.authority.proofs.limits.Limits.check.Goals as goal
 
 pub returns-then-not-allows_principals : goal.returns-then-not-allows_principals
-returns-then-not-allows_principals c = λ other within.
-    let yes : c.allows_principals.result ≡ true = c.allows_principals.ensures.1 (rw c.deref.ensures.value (within.some, within.listed)) in
-    absurd cc
+returns-then-not-allows_principals c =
+    let none : AreAllowed c.args.self.now c.args.request.now → ⊥ = λ allowed.
+        let yes : c.allows_principals.result ≡ true = c.allows_principals.ensures.1 (rw c.deref.ensures.value allowed) in
+        absurd cc in
+    record { exactly = λ other within. none within.0; refused = OtherUsers none }
 
-pub returns : goal.returns
-returns c =
+pub returns-then-not-allows_window : goal.returns-then-not-allows_window
+returns-then-not-allows_window c =
     let names = rw c.deref.ensures.value at (c.allows_principals.ensures.0 c.if-not-allows_principals.false) in
-    let window = c.allows_window.ensures.0 c.if-not-allows_window.false in
-    record { some = names.0; listed = names.1; times = window.0; some_second = window.1; longest = window.2 }
+    let none : HasRoom c.args.self.now c.args.request.now → ⊥ = λ room.
+        let yes : c.allows_window.result ≡ true = c.allows_window.ensures.1 room in
+        absurd cc in
+    record { exactly = λ other within. none within.1; refused = OtherWindow names none }
+
+pub returns-clause-exactly : goal.returns-clause-exactly
+returns-clause-exactly c =
+    let names = rw c.deref.ensures.value at (c.allows_principals.ensures.0 c.if-not-allows_principals.false) in
+    (names, c.allows_window.ensures.0 c.if-not-allows_window.false)
