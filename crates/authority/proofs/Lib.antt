@@ -1,0 +1,4 @@
+mod Drafts
+mod Histories
+mod Lists
+mod Requests
