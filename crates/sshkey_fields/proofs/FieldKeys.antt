@@ -1,10 +1,12 @@
 -- What the fields of a line are read as.
-use Rattle.std.proofs.Common.{◌≡◌, ◌≢◌, ℕ, ◌<◌, List, [], ◌++◌, length, Bool, true, false, ◌==◌, eqb-true, sym, ap, subst, ◌∙◌, arith}
+use Rattle.std.proofs.Common.{◌≡◌, ◌≢◌, ℕ, ◌<◌, List, [], ◌++◌, length, Bool, true, false, ◌==◌, eqb-true, sym, ap, subst, refl, ◌∙◌, arith, inl, inr}
 use Rattle.std.proofs.lemmas.Bool.{eqb-false}
 use Rattle.std.proofs.lemmas.List.{length-append}
 use Rattle.base64.specs.Engines.{standard}
 use Rattle.base64.specs.GeneralPurpose.{encode_of}
+use Rattle.sshkey_base.specs.declared.encoding.Error.TheVariants.{Length}
 use Rattle.sshkey_base.specs.declared.error.Error.{Error}
+use Rattle.sshkey_base.specs.declared.error.Error.TheVariants.{AlgorithmUnknown, Encoding}
 use Rattle.sshkey_model.specs.Keys.{Key}
 use Rattle.sshkey_model.specs.Lines.{key_name}
 use Rattle.sshkey_model.proofs.Base64Words.{one_blob, some_word}
@@ -14,8 +16,10 @@ use Rattle.sshkey_entries.specs.Fields.{without_blanks, IsField, AreKeyFields, A
 use Rattle.sshkey_entries.proofs.Fields.{same_field, base64_field}
 use Rattle.sshkey_files.specs.Cuts.{CutsField}
 use Rattle.sshkey_keys.specs.Keys.{SpellsKey}
+use Rattle.sshkey_keys.specs.Needs.{NeedsKey}
+use Rattle.sshkey_public.specs.LineNeeds.{NeedsWord}
 use Rattle.sshkey_public.specs.Lines.{IsWordOf, IsNoWord}
-use Rattle.sshkey_fields.specs.KeyFields.{HasKeyFault}
+use Rattle.sshkey_fields.specs.KeyFields.{AreFields, HasKeyFault, NeedsKeyFields}
 
 pub no_length : (n : ℕ) (b : Bool) → b ≡ (n == 0) → b ≡ true → n ≡ 0
 no_length n b e t = eqb-true n 0 (sym e ∙ t)
@@ -58,9 +62,42 @@ module _ (text name behind skipped word rest : List ℕ) (first : CutsField text
     comment_is = is;
   }
 
+  pub fields_are : AreFields text name word rest
+  fields_are = record { behind = behind; first = first; second = subst (λ (t : List ℕ). CutsField t word rest) skips second }
+
+  same_word : (n w r : List ℕ) → AreFields text n w r → (name ≡ n) × (word ≡ w)
+  same_word n w r f =
+      let names = same_field name n behind f.behind first.one_word f.first.one_word first.ends f.first.ends (sym first.is ∙ f.first.is) in
+      let words = same_field word w rest r second.one_word f.second.one_word second.ends f.second.ends (sym second.is ∙ skips ∙ ap without_blanks names.1 ∙ f.second.is) in
+      (names.0, words.0)
+
   -- where there is a word, no fault of a missing one is owed
-  pub has_word : (e : Error) → 0 < length word → HasKeyFault text e
-  has_word e some = λ n r cut none.
+  some_there : 0 < length word → (n r : List ℕ) → CutsField text n r → without_blanks r ≡ [] → ⊥
+  some_there some n r cut none =
       let names = same_field name n behind r first.one_word cut.one_word first.ends cut.ends (sym first.is ∙ cut.is) in
       let nothing : [] ≡ word ++ rest = sym none ∙ ap without_blanks (sym names.1) ∙ sym skips ∙ second.is in
-      absurd (omega (arith, some, ap length nothing, length-append word rest))
+      omega (arith, some, ap length nothing, length-append word rest)
+
+  pub missing : length word ≡ 0 → HasKeyFault text (Encoding Length)
+  missing none = record {
+    no_word = λ n r cut nothing. refl;
+    other_name = λ n w r k f is other. absurd (omega (arith, none, ap length ((same_word n w r f).1 ∙ is.is), some_word is.blob (key_blobs.some k is.blob is.spelled)));
+  }
+
+  pub odd_key : (e : Error) → 0 < length word → IsNoWord SpellsKey word → HasKeyFault text e
+  odd_key e some none = record {
+    no_word = λ n r cut nothing. absurd (some_there some n r cut nothing);
+    other_name = λ n w r k f is other. absurd (none k (subst (λ (t : List ℕ). IsWordOf SpellsKey t k) (sym (same_word n w r f).1) is));
+  }
+
+  pub named_otherwise : 0 < length word → HasKeyFault text AlgorithmUnknown
+  named_otherwise some = record {
+    no_word = λ n r cut nothing. absurd (some_there some n r cut nothing);
+    other_name = λ n w r k f is other. refl;
+  }
+
+  pub word_needed : NeedsWord NeedsKey word → NeedsKeyFields text
+  word_needed needed = inl (record { name = name; word = word; rest = rest; fields = fields_are; needed = needed })
+
+  pub comment_needed : (k : Key) → IsWordOf SpellsKey word k → name ≡ key_name k → (copied : List ℕ) → copied ≡ without_blanks rest → 0 < length copied → NeedsKeyFields text
+  comment_needed k w named copied is some = inr (record { key = k; comment = copied; fields = fields_read k copied w named is; some = some })

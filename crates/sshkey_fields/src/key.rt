@@ -1,12 +1,14 @@
 //! A key in the fields of a line.
 
-ghost use Rattle.std.specs.Prelude.{◌≡◌, ◌↔◌, IfErr, IfOk, IsTrue, string_bytes};
+ghost use Rattle.std.specs.Prelude.{◌≡◌, ◌↔◌, ◌<◌, length, IfErr, IfOk, IsTrue, string_bytes};
 ghost use Rattle.sshkey_base.specs.declared.error.Error.TheVariants as wide;
 ghost use Rattle.sshkey_files.specs.Answers.{RefusesFor};
 ghost use Rattle.sshkey_keys.specs.Keys.{key_of, SpellsKey};
+ghost use Rattle.sshkey_keys.specs.Needs.{NeedsKey};
 ghost use Rattle.sshkey_model.specs.Lines.{key_name};
+ghost use Rattle.sshkey_public.specs.LineNeeds.{AsksWord};
 ghost use Rattle.sshkey_public.specs.Lines.{ReadsWord};
-ghost use Rattle.sshkey_fields.specs.KeyFields.{HasKeyFault, ReadsKeyFields};
+ghost use Rattle.sshkey_fields.specs.KeyFields.{AsksKeyFields, HasKeyFault, ReadsKeyFields};
 
 use sshkey_base::{Error, Result, decode_whole, encoding};
 use sshkey_base64::Base64Reader;
@@ -17,7 +19,8 @@ use std::alloc::Global;
 
 /// The key that the bytes spell, all of them, whose word in Base64 it is.
 fn read_word(alloc: Global, word: &str) -> Result<KeyData>
-    ensures { ReadsWord key_of SpellsKey word.now result }
+    ensures reads { ReadsWord key_of SpellsKey word.now result }
+    ensures asks { AsksWord NeedsKey word.now result }
 {
     let reader = Base64Reader::new(word)?;
     decode_whole(alloc, reader)
@@ -29,10 +32,14 @@ fn is_named(key: &KeyData, name: &str) -> bool
     name == key.algorithm_name()
 }
 
+/// A copy of a text. Refused only when out of memory, and never where the text is empty.
 fn copied(alloc: Global, text: &str) -> Result<String>
     ensures text { IfOk result (λ copy. string_bytes copy ≡ text.now) }
-    ensures memory { IfErr result (λ e. e ≡ wide.Memory) }
+    ensures memory { IfErr result (λ e. (e ≡ wide.Memory) × (0 < length text.now)) }
 {
+    if text.is_empty() {
+        return Ok(String::new(alloc));
+    }
     Ok(String::from_str(alloc, text)?)
 }
 
@@ -42,10 +49,15 @@ fn copied(alloc: Global, text: &str) -> Result<String>
 /// Out of memory aside, it is refused exactly where the text is the fields of no key: `Length` where
 /// the Base64 is missing, `Base64` where it is no canonical Base64, the refusals of
 /// `KeyData::decode`, `TrailingData` with the number of bytes behind the key, and `AlgorithmUnknown`
-/// where the first field is not the key's name.
+/// where the first field is not the name of the key that the Base64 spells.
+///
+/// Where the second field is canonical Base64, `Memory` is answered only where the key in it needs
+/// some, or for a comment that is not empty, of a text that is a key's fields: never for a length
+/// that the key's bytes only state.
 pub fn read_key_fields(alloc: Global, text: &str) -> Result<PublicKey>
     ensures reads { ReadsKeyFields text.now result }
     ensures fault { RefusesFor HasKeyFault text.now result }
+    ensures asks { AsksKeyFields text.now result }
 {
     let (name, behind_name) = split_field(text);
     let (word, behind_key) = split_field(skip_blanks(behind_name));

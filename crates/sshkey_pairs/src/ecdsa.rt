@@ -1,7 +1,7 @@
 //! ECDSA key pairs.
 
 ghost use Rattle.std.specs.Fmt.{WritesOnOk};
-ghost use Rattle.std.specs.Prelude.{◌≡◌, ◌+◌, ◌*◌, ◌^◌, List, ℕ, codes};
+ghost use Rattle.std.specs.Prelude.{◌≡◌, ◌↔◌, ◌+◌, ◌*◌, ◌^◌, List, ℕ, length, codes, IsOk, IfOk, IfErr};
 ghost use Rattle.hex.specs.Hex.{encode_lower, encode_upper};
 ghost use Rattle.sshkey_model.specs.KeyPairs.{KeyPair, is_high, zero_if, scalar, pair, Plain};
 ghost use Rattle.sshkey_model.specs.Parts.{bytes};
@@ -11,6 +11,8 @@ ghost use Rattle.sshkey_base.specs.Formats.{Stops};
 ghost use Rattle.sshkey_base.specs.Needs.{Asks, NoNeed};
 ghost use Rattle.sshkey_base.specs.Reading.{Gives};
 ghost use Rattle.sshkey_base.specs.Source.{Later};
+ghost use Rattle.sshkey_base.specs.declared.encoding.Error.TheVariants as narrow;
+ghost use Rattle.sshkey_base.specs.declared.error.Error.TheVariants as wide;
 ghost use Rattle.sshkey_kinds.specs.EcdsaPublicKey.{ecdsa_key_of};
 ghost use Rattle.sshkey_pairs.specs.PairFormats.{ecdsa_pair_format, pair_of_key, scalar_format};
 ghost use Rattle.sshkey_pairs.specs.Pairs.{ecdsa_pair_of};
@@ -43,6 +45,27 @@ impl<const SIZE: usize> Drop for EcdsaPrivateKey<SIZE> {
 }
 
 impl<const SIZE: usize> EcdsaPrivateKey<SIZE> {
+    /// The scalar of these bytes. Takes no memory.
+    pub fn from_bytes(bytes: &[u8; SIZE]) -> EcdsaPrivateKey<SIZE>
+        ensures { ecdsa_private_of result ≡ bytes.now }
+    {
+        EcdsaPrivateKey { bytes: *bytes }
+    }
+
+    /// The scalar of a slice. `Length` exactly where it has not `SIZE` bytes.
+    fn from_slice(bytes: &[u8]) -> Result<EcdsaPrivateKey<SIZE>>
+        ensures exactly { IsOk result ↔ (length bytes.now ≡ SIZE) }
+        ensures value { IfOk result (λ k. ecdsa_private_of k ≡ bytes.now) }
+        ensures refused { IfErr result (λ e. e ≡ wide.Encoding narrow.Length) }
+    {
+        if bytes.len() != SIZE {
+            return Err(Error::Encoding(encoding::Error::Length));
+        }
+        let mut scalar = [0u8; SIZE];
+        scalar.copy_from_slice(bytes);
+        Ok(EcdsaPrivateKey { bytes: scalar })
+    }
+
     /// The bytes of the scalar.
     pub fn as_slice(&self) -> &[u8]
         ensures { result.now ≡ ecdsa_private_of self.now }
@@ -198,8 +221,37 @@ pub enum EcdsaKeypair {
 
 impl EcdsaKeypair {
     ghost use Rattle.sshkey_base.specs.Names.{algorithm_of};
-    ghost use Rattle.sshkey_model.specs.KeyPairs.{pair_algorithm, public_half, private_bytes};
+    ghost use Rattle.sshkey_kinds.specs.EcdsaPublicKey.{ecdsa_of};
+    ghost use Rattle.sshkey_model.specs.KeyPairs.{EcdsaPair, IsScalar, pair_algorithm, public_half, private_bytes};
+    ghost use Rattle.sshkey_model.specs.Points.{field_size};
     ghost use Rattle.sshkey_pairs.specs.Pairs.{ecdsa_curve_of, ecdsa_point_of};
+
+    /// The pair of a public key and a private scalar, which is as wide as the field of the key's
+    /// curve: 32, 48 or 66 bytes, most significant first. Takes no memory.
+    ///
+    /// `Length` exactly where the scalar has another number of bytes, so a pair that is made is
+    /// written and read back. Nobody asks whether the point is that of the scalar.
+    pub fn new(public: EcdsaPublicKey, private: &[u8]) -> Result<EcdsaKeypair>
+        ensures exactly { IsOk result ↔ IsScalar (field_size (ecdsa_of public).0) private.now }
+        ensures value { IfOk result (λ k. ecdsa_pair_of k
+            ≡ EcdsaPair (ecdsa_of public).0 (ecdsa_of public).1 private.now) }
+        ensures refused { IfErr result (λ e. e ≡ wide.Encoding narrow.Length) }
+    {
+        match public {
+            EcdsaPublicKey::NistP256(public) => {
+                let private = EcdsaPrivateKey::<32>::from_slice(private)?;
+                Ok(EcdsaKeypair::NistP256 { public, private })
+            }
+            EcdsaPublicKey::NistP384(public) => {
+                let private = EcdsaPrivateKey::<48>::from_slice(private)?;
+                Ok(EcdsaKeypair::NistP384 { public, private })
+            }
+            EcdsaPublicKey::NistP521(public) => {
+                let private = EcdsaPrivateKey::<66>::from_slice(private)?;
+                Ok(EcdsaKeypair::NistP521 { public, private })
+            }
+        }
+    }
 
     /// The curve of the pair.
     pub fn curve(&self) -> EcdsaCurve
