@@ -1,2 +1,4 @@
 pub mod Stopping
 pub mod Mapped
+pub mod Judged
+pub mod Fronts
