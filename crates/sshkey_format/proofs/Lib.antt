@@ -1,4 +1,4 @@
 pub mod Stopping
 pub mod Mapped
-pub mod Judged
+pub mod Walking
 pub mod Fronts

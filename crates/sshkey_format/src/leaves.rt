@@ -74,7 +74,7 @@ impl<const N: usize, R: Reader> ReadFrom<R> for [u8; N] {
 }
 
 /// A string of any bytes. `Length` where the length or its bytes are not all there.
-#[tactic(auto, using(sshkey_base::proofs::Steps::steps), unfolding(sshkey_model::specs::Reading::string_at))]
+#[tactic(auto, using(crate::proofs::Walking::walking), unfolding(sshkey_model::specs::Reading::string_at))]
 impl<'a> ReadFrom<&'a [u8]> for &'a [u8] {
     type Error = Error;
 
@@ -92,7 +92,7 @@ impl<'a> ReadFrom<&'a [u8]> for &'a [u8] {
 
 /// A string whose bytes are UTF-8. The faults of a string, and `CharacterEncoding` where they are
 /// not UTF-8.
-#[tactic(auto, using(sshkey_base::proofs::Steps::steps, crate::proofs::Judged::judged_always), unfolding(sshkey_model::specs::Texts::text_at))]
+#[tactic(auto, using(crate::proofs::Walking::walking), unfolding(sshkey_model::specs::Texts::text_at))]
 impl<'a> ReadFrom<&'a [u8]> for &'a str {
     type Error = Error;
 

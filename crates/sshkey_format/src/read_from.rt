@@ -29,6 +29,6 @@ pub trait ReadFrom<R: Reader>: Sized {
     /// refuses them, a sound source is refused with its fault. Takes no memory. After a refusal
     /// some of the bytes that were left may be passed.
     fn read_from(reader: &mut R) -> Result<Self, Self::Error>
-        ensures gives { GivesAlways means Self.Error.cause format.read
+        ensures { GivesAlways means Self.Error.cause format.read
             (R.source reader.old) result (R.source reader.new) };
 }
