@@ -3,3 +3,5 @@ pub mod Mapped
 pub mod Tested
 pub mod Chosen
 pub mod Needless
+pub mod Walking
+pub mod Fronts

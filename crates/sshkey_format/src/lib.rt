@@ -11,9 +11,13 @@
 #![tactic(auto)]
 
 mod boxed;
+mod leaves;
+mod read_from;
 mod then;
 mod wide;
 
 pub use boxed::Boxed;
+pub use leaves::bytes_from;
+pub use read_from::ReadFrom;
 pub use then::Then;
 pub use wide::Wide;

@@ -2,6 +2,7 @@
 
 ghost use Rattle.sshkey_format.specs.Terms.{◌then◌};
 
+use crate::read_from::ReadFrom;
 use sshkey_base::{Decode, Reader};
 use std::alloc::Global;
 
@@ -26,6 +27,26 @@ impl<A: Decode + Drop, B: Decode<Error = A::Error>> Decode for Then<A, B> {
     fn decode<R: Reader>(alloc: Global, reader: &mut R) -> Result<Then<A, B>, A::Error> {
         let first = A::decode(alloc, reader)?;
         let second = B::decode(alloc, reader)?;
+        Ok(Then(first, second))
+    }
+}
+
+#[tactic(auto, using(sshkey_base::proofs::Steps::steps), unfolding(crate::specs::Behind::behind_at))]
+impl<R: Reader, A: ReadFrom<R> + Drop, B: ReadFrom<R, Error = A::Error>> ReadFrom<R>
+    for Then<A, B>
+{
+    type Error = A::Error;
+
+    ghost Meaning = { A.Meaning × B.Meaning };
+
+    ghost means = { λ x. (A.means x.0, B.means x.1) };
+
+    ghost format = { A.format then B.format };
+
+    #[inline(always)]
+    fn read_from(reader: &mut R) -> Result<Then<A, B>, A::Error> {
+        let first = A::read_from(reader)?;
+        let second = B::read_from(reader)?;
         Ok(Then(first, second))
     }
 }

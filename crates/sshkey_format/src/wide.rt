@@ -1,5 +1,6 @@
 //! A value of the encoding among values of keys.
 
+use crate::read_from::ReadFrom;
 use sshkey_base::{Decode, Error, Reader, Result, encoding};
 use std::alloc::Global;
 
@@ -22,5 +23,20 @@ impl<T: Decode<Error = encoding::Error>> Decode for Wide<T> {
     #[inline(always)]
     fn decode<R: Reader>(alloc: Global, reader: &mut R) -> Result<Wide<T>> {
         Ok(Wide(T::decode(alloc, reader)?))
+    }
+}
+
+impl<R: Reader, T: ReadFrom<R, Error = encoding::Error>> ReadFrom<R> for Wide<T> {
+    type Error = Error;
+
+    ghost Meaning = { T.Meaning };
+
+    ghost means = { λ x. T.means x.0 };
+
+    ghost format = { T.format };
+
+    #[inline(always)]
+    fn read_from(reader: &mut R) -> Result<Wide<T>> {
+        Ok(Wide(T::read_from(reader)?))
     }
 }

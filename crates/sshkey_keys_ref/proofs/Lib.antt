@@ -1,7 +1,6 @@
 pub mod Accepting
 pub mod Spelled
 pub mod Slices
-pub mod Walking
 pub mod WalkedBodies
 pub mod PlainHeads
 pub mod DigestedKeys

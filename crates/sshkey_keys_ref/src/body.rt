@@ -10,11 +10,11 @@ ghost use Rattle.sshkey_keys_ref.specs.CertifiedBodies.{SpellsCertifiedBody, Tak
 ghost use Rattle.sshkey_keys_ref.specs.NameRef.{named_of};
 ghost use Rattle.sshkey_keys_ref.specs.Taking.{Skips, PassesFront, CutsFront};
 
-use crate::kinds::{DsaRef, RsaRef, SkEcdsaRef, SkEd25519Ref};
+use crate::kinds::{DsaRef, EcdsaRef, Ed25519Ref, RsaRef, SkEcdsaRef, SkEd25519Ref};
 use crate::name_ref::NameRef;
-use crate::walk::{Take, behind};
+use crate::walk::behind;
 use sshkey_base::{Algorithm, EcdsaCurve, Error, Result};
-use sshkey_kinds::{EcdsaPublicKey, Ed25519PublicKey};
+use sshkey_format::ReadFrom;
 
 /// Takes the front that is the body of a public key under that name in a certificate
 /// (PROTOCOL.certkeys), and leaves what follows it. Takes no memory.
@@ -79,7 +79,7 @@ fn behind_kind<'a>(algorithm: &Algorithm, bytes: &'a [u8]) -> Result<&'a [u8]>
     match algorithm {
         Algorithm::Dsa => behind::<DsaRef<'a>>(bytes),
         Algorithm::Ecdsa { curve } => behind_ecdsa(*curve, bytes),
-        Algorithm::Ed25519 => behind::<Ed25519PublicKey>(bytes),
+        Algorithm::Ed25519 => behind::<Ed25519Ref>(bytes),
         Algorithm::Rsa { hash: _ } => behind::<RsaRef<'a>>(bytes),
         Algorithm::SkEcdsaSha2NistP256 => behind::<SkEcdsaRef<'a>>(bytes),
         Algorithm::SkEd25519 => behind::<SkEd25519Ref<'a>>(bytes),
@@ -88,12 +88,12 @@ fn behind_kind<'a>(algorithm: &Algorithm, bytes: &'a [u8]) -> Result<&'a [u8]>
 }
 
 /// What stands behind an ECDSA key of that curve. `AlgorithmUnknown` for another curve.
-#[tactic(auto, using(crate::proofs::Walking::walking), unfolding(sshkey_model::specs::Keys::ecdsa_at))]
+#[tactic(auto, using(sshkey_format::proofs::Walking::walking), unfolding(sshkey_model::specs::Keys::ecdsa_at))]
 fn behind_ecdsa<'a>(curve: EcdsaCurve, bytes: &'a [u8]) -> Result<&'a [u8]>
     ensures { Skips cause (body_at (model.Ecdsa (curve_of curve))) bytes.now result }
 {
     let mut rest = bytes;
-    let key = EcdsaPublicKey::take(&mut rest)?;
+    let EcdsaRef(key) = EcdsaRef::read_from(&mut rest)?;
     if !key.is_on(curve) {
         return Err(Error::AlgorithmUnknown);
     }

@@ -112,7 +112,7 @@ fn check_key(bytes: &[u8]) -> Result<()>
 }
 
 /// What stands behind a key.
-#[tactic(auto, using(crate::proofs::Walking::walking), unfolding(sshkey_keys::specs::Keys::key_data_at))]
+#[tactic(auto, using(sshkey_format::proofs::Walking::walking), unfolding(sshkey_keys::specs::Keys::key_data_at))]
 fn behind_key(bytes: &[u8]) -> Result<&[u8]>
     ensures { Skips cause key_data_at bytes.now result }
 {

@@ -10,10 +10,10 @@ ghost use Rattle.sshkey_keys_ref.specs.KeyRef.{HoldsBody, HoldsKey};
 ghost use Rattle.sshkey_keys_ref.specs.NameRef.{named_of};
 ghost use Rattle.sshkey_keys_ref.specs.Taking.{Finds};
 
-use crate::kinds::{SkEcdsaRef, SkEd25519Ref};
+use crate::kinds::{EcdsaRef, Ed25519Ref, SkEcdsaRef, SkEd25519Ref};
 use crate::name_ref::{NameRef, take_name};
-use crate::walk::Take;
 use sshkey_base::Algorithm;
+use sshkey_format::ReadFrom;
 use sshkey_kinds::{EcdsaPublicKey, Ed25519PublicKey};
 
 /// A public key by its kind, with what takes no memory.
@@ -75,8 +75,8 @@ fn kind_in<'a>(algorithm: &Algorithm, bytes: &'a [u8]) -> KeyRef<'a>
 fn ecdsa_in(bytes: &[u8]) -> KeyRef<'_>
     ensures { (c : model.Curve) → HoldsBody (model.Ecdsa c) bytes.now result }
 {
-    match first::<EcdsaPublicKey>(bytes) {
-        Some(key) => KeyRef::Ecdsa(key),
+    match first::<EcdsaRef>(bytes) {
+        Some(key) => KeyRef::Ecdsa(key.0),
         None => KeyRef::Other,
     }
 }
@@ -85,8 +85,8 @@ fn ecdsa_in(bytes: &[u8]) -> KeyRef<'_>
 fn ed25519_in(bytes: &[u8]) -> KeyRef<'_>
     ensures { HoldsBody model.Ed25519 bytes.now result }
 {
-    match first::<Ed25519PublicKey>(bytes) {
-        Some(key) => KeyRef::Ed25519(key),
+    match first::<Ed25519Ref>(bytes) {
+        Some(key) => KeyRef::Ed25519(key.0),
         None => KeyRef::Other,
     }
 }
@@ -112,9 +112,9 @@ fn sk_ed25519_in<'a>(bytes: &'a [u8]) -> KeyRef<'a>
 }
 
 /// The value at the front; `None` where there is none.
-fn first<'a, T: Take<'a> + Drop>(bytes: &'a [u8]) -> Option<T>
-    ensures { Finds T.meant T.parse bytes.now result }
+fn first<'a, T: ReadFrom<&'a [u8]> + Drop>(bytes: &'a [u8]) -> Option<T>
+    ensures { Finds T.means T.format.read bytes.now result }
 {
     let mut rest = bytes;
-    T::take(&mut rest).ok()
+    T::read_from(&mut rest).ok()
 }

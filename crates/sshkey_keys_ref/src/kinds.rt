@@ -5,19 +5,19 @@ ghost use Rattle.sshkey_base.specs.Answers.{AnswersAlways};
 ghost use Rattle.sshkey_base.specs.Causes.{cause};
 ghost use Rattle.sshkey_base.specs.Labels.{label_at};
 ghost use Rattle.sshkey_base.specs.Names.{curve_of};
-ghost use Rattle.sshkey_model.specs.Keys.{Key, rsa_at, dsa_at, any_ecdsa_at, sk_ecdsa_at, sk_ed25519_at};
+ghost use Rattle.sshkey_model.specs.Keys.{Key};
 ghost use Rattle.sshkey_model.specs.Names.{curve_from};
 ghost use Rattle.sshkey_model.specs.Points.{point_from, p256_point_from};
 ghost use Rattle.sshkey_model.specs.Reading.{string_at, checked_at};
-ghost use Rattle.sshkey_kinds.specs.Bodies.{ed25519_body_at};
 ghost use Rattle.sshkey_kinds.specs.EcPoint.{point_of};
 ghost use Rattle.sshkey_kinds.specs.EcdsaPublicKey.{ecdsa_of, ecdsa_key_of};
+ghost use Rattle.sshkey_kinds.specs.KeyFormats.{dsa_format, ecdsa_format, ed25519_format, rsa_format, sk_ecdsa_format, sk_ed25519_format};
 ghost use Rattle.sshkey_kinds.specs.Kinds.{ed25519_of};
 ghost use Rattle.sshkey_keys_ref.specs.Taking.{Takes};
 
-use crate::leaves::{MpintRef, boxed_array_from};
-use crate::walk::Take;
+use crate::leaves::MpintRef;
 use sshkey_base::{EcdsaCurve, Error, Result, encoding};
+use sshkey_format::ReadFrom;
 use sshkey_kinds::{
     EcPoint, EcdsaNistP256PublicKey, EcdsaPublicKey, Ed25519PublicKey, P256_POINT_LEN,
     P521_POINT_LEN,
@@ -31,21 +31,21 @@ pub(crate) struct RsaRef<'a> {
     pub n: MpintRef<'a>,
 }
 
-#[tactic(auto, using(crate::proofs::Walking::walking), unfolding(sshkey_model::specs::Keys::rsa_at))]
-impl<'a> Take<'a> for RsaRef<'a> {
+#[tactic(auto, using(sshkey_format::proofs::Walking::walking), unfolding(sshkey_model::specs::Keys::rsa_at))]
+impl<'a> ReadFrom<&'a [u8]> for RsaRef<'a> {
     ghost use Rattle.sshkey_keys_ref.specs.Kinds.{rsa_of};
 
     type Error = Error;
 
     ghost Meaning = { Key };
 
-    ghost meant = { rsa_of };
+    ghost means = { rsa_of };
 
-    ghost parse = { rsa_at };
+    ghost format = { rsa_format };
 
-    fn take(bytes: &mut &'a [u8]) -> Result<RsaRef<'a>> {
-        let e = MpintRef::take(bytes)?;
-        let n = MpintRef::take(bytes)?;
+    fn read_from(reader: &mut &'a [u8]) -> Result<RsaRef<'a>> {
+        let e = MpintRef::read_from(reader)?;
+        let n = MpintRef::read_from(reader)?;
         Ok(RsaRef { e, n })
     }
 }
@@ -59,50 +59,54 @@ pub(crate) struct DsaRef<'a> {
     pub y: MpintRef<'a>,
 }
 
-#[tactic(auto, using(crate::proofs::Walking::walking), unfolding(sshkey_model::specs::Keys::dsa_at))]
-impl<'a> Take<'a> for DsaRef<'a> {
+#[tactic(auto, using(sshkey_format::proofs::Walking::walking), unfolding(sshkey_model::specs::Keys::dsa_at))]
+impl<'a> ReadFrom<&'a [u8]> for DsaRef<'a> {
     ghost use Rattle.sshkey_keys_ref.specs.Kinds.{dsa_of};
 
     type Error = Error;
 
     ghost Meaning = { Key };
 
-    ghost meant = { dsa_of };
+    ghost means = { dsa_of };
 
-    ghost parse = { dsa_at };
+    ghost format = { dsa_format };
 
-    fn take(bytes: &mut &'a [u8]) -> Result<DsaRef<'a>> {
-        let p = MpintRef::take(bytes)?;
-        let q = MpintRef::take(bytes)?;
-        let g = MpintRef::take(bytes)?;
-        let y = MpintRef::take(bytes)?;
+    fn read_from(reader: &mut &'a [u8]) -> Result<DsaRef<'a>> {
+        let p = MpintRef::read_from(reader)?;
+        let q = MpintRef::read_from(reader)?;
+        let g = MpintRef::read_from(reader)?;
+        let y = MpintRef::read_from(reader)?;
         Ok(DsaRef { p, q, g, y })
     }
 }
 
+/// An Ed25519 key.
+#[derive(Clone, Copy)]
+pub(crate) struct Ed25519Ref(pub Ed25519PublicKey);
+
 /// The bytes of an Ed25519 key.
-#[tactic(auto, using(crate::proofs::Walking::walking), unfolding(sshkey_kinds::specs::Bodies::ed25519_body_at, sshkey_model::specs::Keys::ed25519_at))]
-impl<'a> Take<'a> for Ed25519PublicKey {
+#[tactic(auto, using(sshkey_format::proofs::Walking::walking), unfolding(sshkey_kinds::specs::Bodies::ed25519_body_at, sshkey_model::specs::Keys::ed25519_at))]
+impl<'a> ReadFrom<&'a [u8]> for Ed25519Ref {
     type Error = Error;
 
     ghost Meaning = { Key };
 
-    ghost meant = { ed25519_of };
+    ghost means = { λ k. ed25519_of k.0 };
 
-    ghost parse = { ed25519_body_at };
+    ghost format = { ed25519_format };
 
-    fn take(bytes: &mut &'a [u8]) -> Result<Ed25519PublicKey> {
-        let key = boxed_array_from::<32, &[u8]>(bytes)?;
-        Ok(Ed25519PublicKey(key))
+    fn read_from(reader: &mut &'a [u8]) -> Result<Ed25519Ref> {
+        let key = <[u8; 32]>::read_from(reader)?;
+        Ok(Ed25519Ref(Ed25519PublicKey(key)))
     }
 }
 
 /// The name of a curve.
-#[tactic(auto, using(crate::proofs::Walking::walking), unfolding(sshkey_base::specs::Labels::label_at))]
-fn take_curve(bytes: &mut &[u8]) -> Result<EcdsaCurve>
+#[tactic(auto, using(sshkey_format::proofs::Walking::walking), unfolding(sshkey_base::specs::Labels::label_at))]
+fn take_curve<'a>(bytes: &mut &'a [u8]) -> Result<EcdsaCurve>
     ensures { Takes curve_of cause (label_at curve_from) bytes.old.now result bytes.new.now }
 {
-    let string = <&[u8]>::take(bytes)?;
+    let string = <&'a [u8]>::read_from(bytes)?;
     curve_in(string)
 }
 
@@ -116,34 +120,38 @@ fn curve_in(string: &[u8]) -> Result<EcdsaCurve>
     }
 }
 
+/// An ECDSA key of any curve.
+#[derive(Clone, Copy)]
+pub(crate) struct EcdsaRef(pub EcdsaPublicKey);
+
 /// The name of a curve and a point of it.
-#[tactic(auto, using(crate::proofs::Walking::walking), unfolding(sshkey_model::specs::Keys::any_ecdsa_at, sshkey_model::specs::Names::curve_at, sshkey_base::specs::Labels::label_at))]
-impl<'a> Take<'a> for EcdsaPublicKey {
+#[tactic(auto, using(sshkey_format::proofs::Walking::walking), unfolding(sshkey_model::specs::Keys::any_ecdsa_at, sshkey_model::specs::Names::curve_at, sshkey_base::specs::Labels::label_at))]
+impl<'a> ReadFrom<&'a [u8]> for EcdsaRef {
     type Error = Error;
 
     ghost Meaning = { Key };
 
-    ghost meant = { ecdsa_key_of };
+    ghost means = { λ k. ecdsa_key_of k.0 };
 
-    ghost parse = { any_ecdsa_at };
+    ghost format = { ecdsa_format };
 
-    fn take(bytes: &mut &'a [u8]) -> Result<EcdsaPublicKey> {
-        let stated = take_curve(bytes)?;
-        let key = take_point(bytes)?;
+    fn read_from(reader: &mut &'a [u8]) -> Result<EcdsaRef> {
+        let stated = take_curve(reader)?;
+        let key = take_point(reader)?;
         if !key.is_on(stated) {
             return Err(Error::AlgorithmUnknown);
         }
-        Ok(key)
+        Ok(EcdsaRef(key))
     }
 }
 
 /// A point string of any of the curves.
-#[tactic(auto, using(crate::proofs::Walking::walking))]
-fn take_point(bytes: &mut &[u8]) -> Result<EcdsaPublicKey>
+#[tactic(auto, using(sshkey_format::proofs::Walking::walking))]
+fn take_point<'a>(bytes: &mut &'a [u8]) -> Result<EcdsaPublicKey>
     ensures { Takes ecdsa_of cause (checked_at point_from string_at)
         bytes.old.now result bytes.new.now }
 {
-    let string = <&[u8]>::take(bytes)?;
+    let string = <&'a [u8]>::read_from(bytes)?;
     point_of(string)
 }
 
@@ -164,36 +172,36 @@ pub(crate) struct SkEcdsaRef<'a> {
     pub application: &'a str,
 }
 
-#[tactic(auto, using(crate::proofs::Walking::walking), unfolding(sshkey_model::specs::Keys::sk_ecdsa_at, sshkey_model::specs::Names::curve_at, sshkey_base::specs::Labels::label_at))]
-impl<'a> Take<'a> for SkEcdsaRef<'a> {
+#[tactic(auto, using(sshkey_format::proofs::Walking::walking), unfolding(sshkey_model::specs::Keys::sk_ecdsa_at, sshkey_model::specs::Names::curve_at, sshkey_base::specs::Labels::label_at))]
+impl<'a> ReadFrom<&'a [u8]> for SkEcdsaRef<'a> {
     ghost use Rattle.sshkey_keys_ref.specs.Kinds.{sk_ecdsa_of};
 
     type Error = Error;
 
     ghost Meaning = { Key };
 
-    ghost meant = { sk_ecdsa_of };
+    ghost means = { sk_ecdsa_of };
 
-    ghost parse = { sk_ecdsa_at };
+    ghost format = { sk_ecdsa_format };
 
-    fn take(bytes: &mut &'a [u8]) -> Result<SkEcdsaRef<'a>> {
-        let stated = take_curve(bytes)?;
+    fn read_from(reader: &mut &'a [u8]) -> Result<SkEcdsaRef<'a>> {
+        let stated = take_curve(reader)?;
         if !matches!(stated, EcdsaCurve::NistP256) {
             return Err(Error::Crypto);
         }
-        let key = take_p256_point(bytes)?;
-        let application = <&'a str>::take(bytes)?;
+        let key = take_p256_point(reader)?;
+        let application = <&'a str>::read_from(reader)?;
         Ok(SkEcdsaRef { key, application })
     }
 }
 
 /// A point string of P-256.
-#[tactic(auto, using(crate::proofs::Walking::walking))]
-fn take_p256_point(bytes: &mut &[u8]) -> Result<EcdsaNistP256PublicKey>
+#[tactic(auto, using(sshkey_format::proofs::Walking::walking))]
+fn take_p256_point<'a>(bytes: &mut &'a [u8]) -> Result<EcdsaNistP256PublicKey>
     ensures { Takes point_of cause (checked_at p256_point_from string_at)
         bytes.old.now result bytes.new.now }
 {
-    let string = <&[u8]>::take(bytes)?;
+    let string = <&'a [u8]>::read_from(bytes)?;
     p256_point_of(string)
 }
 
@@ -214,21 +222,21 @@ pub(crate) struct SkEd25519Ref<'a> {
     pub application: &'a str,
 }
 
-#[tactic(auto, using(crate::proofs::Walking::walking), unfolding(sshkey_model::specs::Keys::sk_ed25519_at, sshkey_model::specs::Keys::ed25519_at))]
-impl<'a> Take<'a> for SkEd25519Ref<'a> {
+#[tactic(auto, using(sshkey_format::proofs::Walking::walking), unfolding(sshkey_model::specs::Keys::sk_ed25519_at, sshkey_model::specs::Keys::ed25519_at))]
+impl<'a> ReadFrom<&'a [u8]> for SkEd25519Ref<'a> {
     ghost use Rattle.sshkey_keys_ref.specs.Kinds.{sk_ed25519_of};
 
     type Error = Error;
 
     ghost Meaning = { Key };
 
-    ghost meant = { sk_ed25519_of };
+    ghost means = { sk_ed25519_of };
 
-    ghost parse = { sk_ed25519_at };
+    ghost format = { sk_ed25519_format };
 
-    fn take(bytes: &mut &'a [u8]) -> Result<SkEd25519Ref<'a>> {
-        let key = boxed_array_from::<32, &[u8]>(bytes)?;
-        let application = <&'a str>::take(bytes)?;
+    fn read_from(reader: &mut &'a [u8]) -> Result<SkEd25519Ref<'a>> {
+        let key = <[u8; 32]>::read_from(reader)?;
+        let application = <&'a str>::read_from(reader)?;
         Ok(SkEd25519Ref { key, application })
     }
 }

@@ -13,8 +13,8 @@ ghost use Rattle.sshkey_keys_ref.specs.Taking.{Skips};
 ghost use Rattle.sshkey_slices.specs.Slices.{AcceptsSome, is_taken};
 
 use crate::name_ref::{NameRef, take_name};
-use crate::walk::{Take, take_bytes};
 use sshkey_base::{Error, Result, decode_whole, encoding};
+use sshkey_format::{ReadFrom, bytes_from};
 use sshkey_keys::{Signature, check_string, has_trailer};
 use std::alloc::Global;
 
@@ -87,7 +87,7 @@ fn check_signature(bytes: &[u8]) -> Result<()>
 }
 
 /// What stands behind a signature.
-#[tactic(auto, using(crate::proofs::Walking::walking), unfolding(sshkey_model::specs::Signatures::signature_at, sshkey_model::specs::Names::algorithm_at, sshkey_base::specs::Labels::label_at))]
+#[tactic(auto, using(sshkey_format::proofs::Walking::walking), unfolding(sshkey_model::specs::Signatures::signature_at, sshkey_model::specs::Names::algorithm_at, sshkey_base::specs::Labels::label_at))]
 fn behind_signature(bytes: &[u8]) -> Result<&[u8]>
     ensures { Skips cause signature_at bytes.now result }
 {
@@ -134,25 +134,25 @@ fn check(name: &NameRef<'_>, bytes: &[u8]) -> Result<()>
 }
 
 /// What stands behind the string.
-#[tactic(auto, using(crate::proofs::Walking::walking))]
+#[tactic(auto, using(sshkey_format::proofs::Walking::walking))]
 fn behind_checked<'a>(name: &NameRef<'_>, bytes: &'a [u8]) -> Result<&'a [u8]>
     ensures { Skips cause (checked_at (string_from (named_of name.now)) string_at)
         bytes.now result }
 {
     let mut rest = bytes;
-    let string = <&'a [u8]>::take(&mut rest)?;
+    let string = <&'a [u8]>::read_from(&mut rest)?;
     check(name, string)?;
     Ok(rest)
 }
 
 /// What stands behind the string and the five bytes of flags and counter.
-#[tactic(auto, using(crate::proofs::Walking::walking))]
+#[tactic(auto, using(sshkey_format::proofs::Walking::walking))]
 fn behind_trailed<'a>(name: &NameRef<'_>, bytes: &'a [u8]) -> Result<&'a [u8]>
     ensures { Skips cause (trailed_at (string_from (named_of name.now))) bytes.now result }
 {
     let mut rest = bytes;
-    let string = <&'a [u8]>::take(&mut rest)?;
-    take_bytes(5, &mut rest)?;
+    let string = <&'a [u8]>::read_from(&mut rest)?;
+    bytes_from(5, &mut rest)?;
     check(name, string)?;
     Ok(rest)
 }

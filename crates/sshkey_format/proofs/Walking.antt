@@ -1,4 +1,4 @@
--- The steps of a walk over a slice.
+-- The steps of a reading that takes no memory.
 use Rattle.std.proofs.Common.{◌≡◌, Result, Ok, Err, refl}
 use Rattle.sshkey_model.specs.Reading.{Fault, Front, checked_at}
 use Rattle.sshkey_base.specs.Answers.{AnswersAlways}

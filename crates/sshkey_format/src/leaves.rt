@@ -1,0 +1,140 @@
+//! Numbers of fixed width and strings of fixed length, from any reader, and strings that are parts
+//! of a slice (RFC 4251, section 5).
+
+ghost use Rattle.std.specs.Prelude.{ℕ, List};
+ghost use Rattle.sshkey_base.specs.Answers.{AnswersAlways};
+ghost use Rattle.sshkey_base.specs.Causes.{encoding_cause};
+ghost use Rattle.sshkey_base.specs.Formats.{array_format, number32_format, number64_format, string_format, text_format};
+ghost use Rattle.sshkey_base.specs.Nested.{nested_source};
+ghost use Rattle.sshkey_base.specs.Reading.{DecodesAlways, GivesAlways};
+ghost use Rattle.sshkey_base.specs.Source.{Later, all_of};
+ghost use Rattle.sshkey_model.specs.Reading.{bytes_at};
+ghost use Rattle.sshkey_model.specs.Texts.{text_from};
+
+use crate::read_from::ReadFrom;
+use sshkey_base::encoding::{Error, Result};
+use sshkey_base::{NestedReader, Reader, array_from, length_from};
+use std::str;
+
+/// A number of four bytes, most significant first. `Length` where fewer are left.
+#[tactic(auto, using(sshkey_base::proofs::Steps::steps), unfolding(sshkey_model::specs::Reading::number_at))]
+impl<R: Reader> ReadFrom<R> for u32 {
+    type Error = Error;
+
+    ghost Meaning = { ℕ };
+
+    ghost means = { λ n. n };
+
+    ghost format = { number32_format };
+
+    fn read_from(reader: &mut R) -> Result<u32> {
+        let bytes = array_from::<4, R>(reader)?;
+        Ok(u32::from_be_bytes(bytes))
+    }
+}
+
+/// A number of eight bytes, most significant first. `Length` where fewer are left.
+#[tactic(auto, using(sshkey_base::proofs::Steps::steps), unfolding(sshkey_model::specs::Reading::number_at))]
+impl<R: Reader> ReadFrom<R> for u64 {
+    type Error = Error;
+
+    ghost Meaning = { ℕ };
+
+    ghost means = { λ n. n };
+
+    ghost format = { number64_format };
+
+    fn read_from(reader: &mut R) -> Result<u64> {
+        let bytes = array_from::<8, R>(reader)?;
+        Ok(u64::from_be_bytes(bytes))
+    }
+}
+
+/// A string of exactly `N` bytes. `Length` for a shorter one, `TrailingData` for a longer one.
+#[tactic(auto, using(sshkey_base::proofs::Boxes::boxes))]
+impl<const N: usize, R: Reader> ReadFrom<R> for [u8; N] {
+    type Error = Error;
+
+    ghost Meaning = { List ℕ };
+
+    ghost means = { λ b. b };
+
+    ghost format = { array_format N };
+
+    fn read_from(reader: &mut R) -> Result<[u8; N]> {
+        reader.read_prefixed(
+            |part: &mut NestedReader<'_, R>| -> Result<[u8; N]>
+                ensures gives { DecodesAlways (λ x. x) (bytes_at N)
+                    (nested_source R.source) part.old result part.new }
+                ensures later { Later (nested_source R.source part.old)
+                    (nested_source R.source part.new) }
+            { array_from(part) },
+        )
+    }
+}
+
+/// A string of any bytes. `Length` where the length or its bytes are not all there.
+#[tactic(auto, using(crate::proofs::Walking::walking), unfolding(sshkey_model::specs::Reading::string_at))]
+impl<'a> ReadFrom<&'a [u8]> for &'a [u8] {
+    type Error = Error;
+
+    ghost Meaning = { List ℕ };
+
+    ghost means = { λ b. b.now };
+
+    ghost format = { string_format };
+
+    fn read_from(reader: &mut &'a [u8]) -> Result<&'a [u8]> {
+        let len = length_from(reader)?;
+        bytes_from(len, reader)
+    }
+}
+
+/// A string whose bytes are UTF-8. The faults of a string, and `CharacterEncoding` where they are
+/// not UTF-8.
+#[tactic(auto, using(crate::proofs::Walking::walking), unfolding(sshkey_model::specs::Texts::text_at))]
+impl<'a> ReadFrom<&'a [u8]> for &'a str {
+    type Error = Error;
+
+    ghost Meaning = { List ℕ };
+
+    ghost means = { λ t. t.now };
+
+    ghost format = { text_format };
+
+    fn read_from(reader: &mut &'a [u8]) -> Result<&'a str> {
+        let string = <&'a [u8]>::read_from(reader)?;
+        text_of(string)
+    }
+}
+
+/// The next `len` bytes. `Length` where fewer are left.
+pub fn bytes_from<'a>(len: usize, bytes: &mut &'a [u8]) -> Result<&'a [u8]>
+    ensures { GivesAlways (λ b. b.now) encoding_cause (bytes_at len)
+        (all_of bytes.old.now) result (all_of bytes.new.now) }
+{
+    let (front, rest) = split_bytes(len, *bytes)?;
+    *bytes = rest;
+    Ok(front)
+}
+
+/// The next `len` bytes, and what stands behind them. `Length` where fewer are left.
+fn split_bytes(len: usize, bytes: &[u8]) -> Result<(&[u8], &[u8])>
+    ensures { AnswersAlways (λ p. (p.0.now, p.1.now)) encoding_cause (bytes_at len bytes.now)
+        result }
+{
+    if bytes.len() < len {
+        return Err(Error::Length);
+    }
+    Ok(bytes.split_at(len))
+}
+
+/// The text of the bytes. `CharacterEncoding` where they are not UTF-8.
+fn text_of(bytes: &[u8]) -> Result<&str>
+    ensures { AnswersAlways (λ t. t.now) encoding_cause (text_from bytes.now) result }
+{
+    match str::from_utf8(bytes) {
+        Ok(text) => Ok(text),
+        Err(_) => Err(Error::CharacterEncoding),
+    }
+}

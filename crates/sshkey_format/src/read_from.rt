@@ -1,0 +1,34 @@
+//! Values that one kind of reader gives, without memory.
+
+ghost use Rattle.sshkey_base.specs.Formats.{Format};
+ghost use Rattle.sshkey_base.specs.Reading.{GivesAlways};
+
+use sshkey_base::{Reader, Refusal};
+
+/// A value that a reader of this kind gives without memory: a number, or a part of the slice that
+/// is read.
+///
+/// Its format is that of its owned form, where it has one: so the same bytes are accepted, and the
+/// others are refused with the same faults.
+pub trait ReadFrom<R: Reader>: Sized {
+    /// Why bytes are refused.
+    type Error: Refusal;
+
+    /// What a value means: the model's value.
+    ghost Meaning: { Type 0 };
+
+    /// The meaning of a value.
+    ghost means: { Self → Meaning };
+
+    /// How it is spelled, and what a reading call makes of bytes.
+    ghost format: { Format Meaning };
+
+    /// Reads a value from the front, and leaves what follows it.
+    ///
+    /// It is what the plain reader gives of the bytes that are left, and where the plain reader
+    /// refuses them, a sound source is refused with its fault. Takes no memory. After a refusal
+    /// some of the bytes that were left may be passed.
+    fn read_from(reader: &mut R) -> Result<Self, Self::Error>
+        ensures { GivesAlways means Self.Error.cause format.read
+            (R.source reader.old) result (R.source reader.new) };
+}
