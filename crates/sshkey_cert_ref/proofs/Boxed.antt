@@ -13,7 +13,11 @@ use Rattle.sshkey_base.specs.Reading.{Refuses}
 use Rattle.sshkey_base.proofs.MappedBoxes.{made}
 use Rattle.sshkey_keys.specs.Keys.{key_data_at}
 use Rattle.sshkey_keys.proofs.BoxedKeys.{plain, key_whole}
-use Rattle.sshkey_slices.specs.Slices.{Keeps}
+use Rattle.sshkey_keys_ref.specs.KeyDataRef.{key_bytes}
+use Rattle.sshkey_keys_ref.specs.declared.key_data_ref.KeyDataRef.{KeyDataRef}
+use Rattle.sshkey_slices.specs.Slices.{Keeps, found_or}
+use Rattle.sshkey_cert_ref.specs.Fields.{no_key, spelled_key_of}
+use Rattle.sshkey_cert_ref.specs.Parts.{IsKeyIn}
 
 abbrev refused : {A : Type 0} → Fault → Result A Fault
 refused f = Err f
@@ -22,13 +26,11 @@ err_is : {A : Type 0} (f g : Fault) → refused {A = A} f ≡ refused g → f �
 err_is f g e = cc
 
 module _ {X E : Type 0} (bytes_of : X → List ℕ) (cause : E → Cause) (b : List ℕ) where
-  pub key_kept : (x : X) → Keeps bytes_of cause (whole key_data_at b) b (Ok x) → (k : Key × Head) × (bytes_of x ≡ flat (spelled key k)) × (whole key_at b ≡ Ok k)
+  pub key_kept : (x : X) → Keeps bytes_of cause (whole key_data_at b) b (Ok x) → (k : Key × Head) × (bytes_of x ≡ b) × (whole key_at b ≡ Ok k)
   key_kept x h = go (whole key_data_at b) refl h
     where
-      go : (found : Result Key Fault) → whole key_data_at b ≡ found → Keeps bytes_of cause found b (Ok x) → (k : Key × Head) × (bytes_of x ≡ flat (spelled key k)) × (whole key_at b ≡ Ok k)
-      go (Ok k) e h =
-          let t = bind_ok (whole key_at b) (made plain) k (sym (key_whole b) ∙ e) in
-          (t.0, h ∙ ((whole_reads key_reads).takes b t.0 t.1).2, t.1)
+      go : (found : Result Key Fault) → whole key_data_at b ≡ found → Keeps bytes_of cause found b (Ok x) → (k : Key × Head) × (bytes_of x ≡ b) × (whole key_at b ≡ Ok k)
+      go (Ok k) e h = let t = bind_ok (whole key_at b) (made plain) k (sym (key_whole b) ∙ e) in (t.0, h, t.1)
       go (Err f) e h = absurd h
 
   pub key_refused : (d : E) → Keeps bytes_of cause (whole key_data_at b) b (Err d) → Refuses 0 (cause d) (whole key_at b)
@@ -57,3 +59,21 @@ module _ {X E : Type 0} (bytes_of : X → List ℕ) (cause : E → Cause) (b : L
       go : (found : Result Signature Fault) → whole signature_at b ≡ found → Keeps bytes_of cause found b (Err d) → Refuses 0 (cause d) (whole signature_at b)
       go (Ok g) e h = absurd h
       go (Err f) e h = record { met = f; is = e; same = λ _. h }
+
+-- ---- what a key that is a slice spells
+
+abbrev pub IsSpelledKey : KeyDataRef → Key × Head → Type 0
+IsSpelledKey r k = spelled_key_of r ≡ k
+
+pub spelled_kept : {E : Type 0} (cause : E → Cause) (b : List ℕ) (r : KeyDataRef) → Keeps key_bytes cause (whole key_data_at b) b (Ok r) → (k : Key × Head) × IsSpelledKey r k × (whole key_at b ≡ Ok k)
+spelled_kept cause b r h = let t = key_kept key_bytes cause b r h in (t.0, ap (λ (l : List ℕ). found_or no_key (whole key_at l)) t.1 ∙ ap (found_or no_key) t.2, t.2)
+
+pub key_is : (r : KeyDataRef) → IsKeyIn r (spelled_key_of r)
+key_is r = go (whole key_at (key_bytes r)) refl
+  where
+    go : (found : Result (Key × Head) Fault) → whole key_at (key_bytes r) ≡ found → IsKeyIn r (spelled_key_of r)
+    go (Ok k) e = rw e ((whole_reads key_reads).takes (key_bytes r) k e).2
+    go (Err f) e =
+        let none : whole key_data_at (key_bytes r) ≡ Err f = key_whole (key_bytes r) ∙ rw e refl in
+        let form = rw none at r.form in
+        absurd cc

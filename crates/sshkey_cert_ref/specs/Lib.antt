@@ -1,4 +1,5 @@
 pub mod Taking
 pub mod Parts
+pub mod Fields
 pub mod Spelled
 pub mod CertificateRef

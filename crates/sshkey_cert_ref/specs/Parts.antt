@@ -6,7 +6,6 @@ use Rattle.sshkey_model.specs.Certificates.{CertificateType, SignedFields, Certi
 use Rattle.sshkey_model.specs.Grammar.{spelled}
 use Rattle.sshkey_model.specs.Keys.{Key, Head, key_algorithm, body, key}
 use Rattle.sshkey_model.specs.Names.{Algorithm}
-use Rattle.sshkey_model.specs.Options.{CertificateOption, Nesting}
 use Rattle.sshkey_model.specs.Parts.{flat}
 use Rattle.sshkey_model.specs.Signatures.{Signature, signature}
 use Rattle.sshkey_keys_ref.specs.KeyDataRef.{key_bytes}
@@ -57,17 +56,3 @@ pub record AreSubject (p : Bor (List ℕ) × Bor (List ℕ) × Bor (List ℕ)) (
   pub name : p.0.now ≡ certificate_name (key_algorithm x.1)
   pub nonce : p.1.now ≡ x.0
   pub key : p.2.now ≡ flat (body x.1)
-
-abbrev pub grant_of : ℕ × CertType × Bor (List ℕ) × TextsRef → ℕ × CertificateType × List ℕ × List (List ℕ)
-grant_of p = (p.0, type_of p.1, p.2.now, texts_of p.3)
-
-abbrev pub window_of : UnixTime × EndTime → ℕ × ℕ
-window_of p = (time_of p.0, end_of p.1)
-
-abbrev pub limits_of : OptionsRef × OptionsRef → (List CertificateOption × List Nesting) × (List CertificateOption × List Nesting)
-limits_of p = (spelled_options_of p.0, spelled_options_of p.1)
-
--- the reserved bytes, and the bytes of the key that signed
-pub record AreAuthority (p : Bor (List ℕ) × KeyDataRef) (x : List ℕ × (Key × Head)) : Type 0 where
-  pub reserved : p.0.now ≡ x.0
-  pub signature_key : IsKeyIn p.1 x.1

@@ -21,7 +21,7 @@ abbrev pub Cuts : {X Y E : Type 0} → (X → Y → Type 0) → (E → Cause) �
 Cuts {Y = Y} BelongsTo cause read b (Ok p) = (y : Y) × BelongsTo p.0 y × (read b ≡ Ok (y, p.1.now))
 Cuts BelongsTo cause read b (Err e) = Refuses 0 (cause e) (read b)
 
--- ---- a certificate part by part, with the choices of its spelling
+-- ---- what stands before the serial number
 
 unfoldable pub subject_at : Front (List ℕ × Key)
 subject_at b = do
@@ -29,29 +29,3 @@ subject_at b = do
   nonce ← string_at name.1
   key ← body_at name.0 nonce.1
   Ok ((nonce.0, key.0), key.1)
-
-unfoldable pub grant_at : Front (ℕ × CertificateType × List ℕ × List (List ℕ))
-grant_at b = do
-  serial ← number_at w64 b
-  certificate_type ← type_at serial.1
-  key_id ← text_at certificate_type.1
-  valid_principals ← texts_at key_id.1
-  Ok ((serial.0, certificate_type.0, key_id.0, valid_principals.0), valid_principals.1)
-
-unfoldable pub window_at : Front (ℕ × ℕ)
-window_at b = do
-  valid_after ← time_at b
-  valid_before ← end_at valid_after.1
-  Ok ((valid_after.0, valid_before.0), valid_before.1)
-
-unfoldable pub limits_at : Front ((List CertificateOption × List Nesting) × (List CertificateOption × List Nesting))
-limits_at b = do
-  critical_options ← options_at b
-  extensions ← options_at critical_options.1
-  Ok ((critical_options.0, extensions.0), extensions.1)
-
-unfoldable pub authority_at : Front (List ℕ × (Key × Head))
-authority_at b = do
-  reserved ← string_at b
-  key ← box_at (whole key_at) reserved.1
-  Ok ((reserved.0, key.0), key.1)

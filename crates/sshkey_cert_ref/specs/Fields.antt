@@ -1,0 +1,50 @@
+-- The fields of a certificate behind its key, with the choices of their spelling, by the term that they are read as.
+use Rattle.std.specs.Prelude.{ℕ, List, []}
+use Rattle.sshkey_model.specs.Certificates.{CertificateType}
+use Rattle.sshkey_model.specs.Grammar.{SpellsAs}
+use Rattle.sshkey_model.specs.Keys.{Head, Key, IsKey, HasKeyPlaces, Opaque, Plain, key, key_at}
+use Rattle.sshkey_model.specs.Options.{CertificateOption, Nesting, options_at}
+use Rattle.sshkey_model.specs.Reading.{box_at, whole}
+use Rattle.sshkey_model.proofs.Grammars.{grammar}
+use Rattle.sshkey_model.proofs.KeyReaders.{key_reads}
+use Rattle.sshkey_model.proofs.OptionReaders.{options_reads}
+use Rattle.sshkey_base.specs.Formats.{Format, string_format}
+use Rattle.sshkey_base.specs.Lengths.{no_lengths}
+use Rattle.sshkey_base.specs.Needs.{NoNeed}
+use Rattle.sshkey_base.specs.Stops.{NoOverrun}
+use Rattle.sshkey_format.specs.Terms.{◌then◌, boxed}
+use Rattle.sshkey_keys_ref.specs.KeyDataRef.{key_bytes}
+use Rattle.sshkey_keys_ref.specs.declared.key_data_ref.KeyDataRef.{KeyDataRef}
+use Rattle.sshkey_options_ref.specs.OptionLists.{SpellsOptionString}
+use Rattle.sshkey_slices.specs.Slices.{found_or}
+use Rattle.sshkey_unsigned.specs.UnsignedFormats.{grant_format, window_format}
+
+-- options in a string, each empty value as its choice says
+abbrev pub spelled_options_format : Format (List CertificateOption × List Nesting)
+spelled_options_format = record { Spells = SpellsOptionString; read = options_at; needs = NoNeed; overruns = NoOverrun; grammar = grammar options_reads; lengths = no_lengths options_at }
+
+-- a key, and how its name is spelled
+abbrev pub spelled_key_format : Format (Key × Head)
+spelled_key_format = record { Spells = SpellsAs IsKey HasKeyPlaces key; read = key_at; needs = NoNeed; overruns = NoOverrun; grammar = grammar key_reads; lengths = no_lengths key_at }
+
+abbrev pub boxed_key_format : Format (Key × Head)
+boxed_key_format = boxed spelled_key_format
+
+-- what stands for the key of bytes that spell none
+abbrev pub no_key : Key × Head
+no_key = (Opaque [] [], Plain)
+
+-- the key that the bytes spell, and how its name is spelled there
+abbrev pub spelled_key_of : KeyDataRef → Key × Head
+spelled_key_of r = found_or no_key (whole key_at (key_bytes r))
+
+abbrev Grant : Type 0
+Grant = (ℕ × CertificateType) × (List ℕ × List (List ℕ))
+
+abbrev Limits : Type 0
+Limits = (List CertificateOption × List Nesting) × (List CertificateOption × List Nesting)
+
+-- the serial number, the type, the key id and the principals; the two times; the options; the reserved bytes and the key
+-- that signs
+abbrev pub behind_key_format : Format (Grant × ((ℕ × ℕ) × (Limits × (List ℕ × (Key × Head)))))
+behind_key_format = grant_format then window_format then (spelled_options_format then spelled_options_format) then string_format then boxed_key_format
