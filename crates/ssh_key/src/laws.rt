@@ -157,6 +157,8 @@ pub use sshkey_pairs::laws::equal_ed25519_private_keys;
 pub use sshkey_pairs::laws::equal_rsa_pairs;
 pub use sshkey_pairs::laws::equal_rsa_private_keys;
 pub use sshkey_private::laws::compared_private_keys;
+pub use sshkey_private::laws::plain_padded_private_key;
+pub use sshkey_private::laws::prefix_padded_private_key;
 pub use sshkey_public::laws::compared_public_keys;
 pub use sshkey_sshsig::laws::compared_ssh_signatures;
 pub use sshkey_sshsig::laws::one_ssh_signature;

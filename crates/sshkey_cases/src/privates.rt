@@ -13,6 +13,12 @@ pub(crate) fn whole(alloc: Global, bytes: &[u8]) -> Result<String> {
     shown(alloc, &key, bytes)
 }
 
+/// The same of the private key that they spell with more padding, perhaps, than is written.
+pub(crate) fn padded(alloc: Global, bytes: &[u8]) -> Result<String> {
+    let key = PrivateKey::from_padded_bytes(alloc, bytes)?;
+    shown(alloc, &key, bytes)
+}
+
 fn shown(alloc: Global, key: &PrivateKey, bytes: &[u8]) -> Result<String> {
     let line = key.public_key().to_openssh(alloc)?;
     let cipher = key.cipher();

@@ -220,6 +220,7 @@ fn answer_of_privates(alloc: Global, question: &str, parts: &[Vec<u8>]) -> Resul
         "pair-under" => pairs::named(alloc, parts),
         "shown-pair" => pairs::shown(alloc, bytes),
         "private-key" => privates::whole(alloc, bytes),
+        "padded-private-key" => privates::padded(alloc, bytes),
         "private-key-in-front" => privates::front(alloc, bytes),
         "private-key-with-comment" => privates::commented(alloc, parts),
         "private-key-of-pair" => privates::of_pair(alloc, parts),

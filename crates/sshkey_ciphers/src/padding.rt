@@ -1,6 +1,6 @@
 //! Padding to blocks of eight bytes.
 
-ghost use Rattle.std.specs.Prelude.{◌≡◌, ◌<◌, IfOk, length};
+ghost use Rattle.std.specs.Prelude.{◌≡◌, IfOk, length, suc};
 ghost use Rattle.std.specs.Str.{bytes_eq};
 ghost use Rattle.sshkey_base.specs.Causes.{cause};
 ghost use Rattle.sshkey_base.specs.Needs.{Asks, NoNeed};
@@ -14,24 +14,24 @@ ghost use Rattle.sshkey_ciphers.specs.Paddings.{padding_end};
 use crate::cipher::Cipher;
 use sshkey_base::{Encode, Error, Reader, Result, Writer, encoding};
 
-/// Reads the bytes up to the end, which have to be padding: fewer than eight, 01, 02, 03 and so on
-/// (OpenSSH, PROTOCOL.key).
+/// Reads the bytes up to the end, which have to be padding: 01, 02, 03 and so on, at most `most` of
+/// them (OpenSSH, PROTOCOL.key).
 ///
-/// A sound source is refused only with `Length` for eight bytes or more, or with `FormatEncoding`
-/// for others. Takes no memory.
+/// A sound source is refused only with `Length` for more bytes, or with `FormatEncoding` for
+/// others. Takes no memory.
 #[tactic(auto, using(sshkey_base::proofs::Steps::steps))]
-pub fn end_padding<R: Reader>(reader: &mut R) -> Result<()>
-    ensures gives { Gives (λ u. u) cause (to_end padding_end)
+pub fn end_padding<R: Reader>(reader: &mut R, most: u8) -> Result<()>
+    ensures gives { Gives (λ u. u) cause (to_end (padding_end (suc most)))
         (R.source reader.old) result (R.source reader.new) }
     ensures later { Later (R.source reader.old) (R.source reader.new) }
     ensures asks { Asks cause NoNeed (R.source reader.old) result }
     ensures sound { IfOk result (λ _. IsSound (R.source reader.old)) }
 {
     let len = reader.remaining_len();
-    if len >= 8 {
+    if len > most as usize {
         return Err(Error::Encoding(encoding::Error::Length));
     }
-    let mut bytes = [0u8; 7];
+    let mut bytes = [0u8; 255];
     let padding = &mut bytes[..len];
     reader.read(padding)?;
     if !is_rising(padding) {
@@ -42,11 +42,14 @@ pub fn end_padding<R: Reader>(reader: &mut R) -> Result<()>
 
 /// Whether the bytes are 01, 02, 03 and so on.
 fn is_rising(bytes: &[u8]) -> bool
-    requires { length bytes.now < 8 }
     ensures { result ≡ bytes_eq bytes.now (rising 1 (length bytes.now)) }
 {
-    let numbers: [u8; 7] = [1, 2, 3, 4, 5, 6, 7];
-    bytes == &numbers[..bytes.len()]
+    for (index, byte) in bytes.iter().enumerate() {
+        if *byte as usize != index + 1 {
+            return false;
+        }
+    }
+    true
 }
 
 /// Writes the value, and behind it 01, 02, 03 and so on up to a multiple of eight bytes (OpenSSH,

@@ -5,14 +5,15 @@ use Rattle.sshkey_model.specs.Names.{Algorithm, algorithm_at}
 use Rattle.sshkey_model.specs.Keys.{Key, head_of}
 use Rattle.sshkey_model.specs.Grammar.{value_at}
 use Rattle.sshkey_model.specs.KeyPairs.{LeadingZeros, KeyPair, KeyPairChoices, public_half, pair_at, keypair_at}
-use Rattle.sshkey_model.specs.PrivateKeys.{UnencryptedKey, key_eq, of_key, rising, end_padding, padded_from, private_part_at}
+use Rattle.sshkey_model.specs.PrivateKeys.{UnencryptedKey, key_eq, of_key, rising, private_part_at}
 use Rattle.sshkey_model.proofs.CombinedReaders.{bind_assoc}
 use Rattle.sshkey_base.specs.Labels.{label_at}
 use Rattle.sshkey_base.specs.Lengths.{with_rest}
 use Rattle.sshkey_base.proofs.MappedBoxes.{on_value, made, box_map}
 use Rattle.sshkey_format.specs.Behind.{behind_at}
 use Rattle.sshkey_keypairs.specs.KeypairReaders.{some_at, keypair_data_at}
-use Rattle.sshkey_private.specs.Inner.{half_of, checkint_at, pair_with_at, inner_at}
+use Rattle.sshkey_ciphers.specs.Paddings.{end_padding_below}
+use Rattle.sshkey_private.specs.Inner.{half_of, checkint_at, pair_with_at, inner_at, padded_below}
 
 abbrev Pair : Type 0
 Pair = KeyPair × KeyPairChoices
@@ -70,22 +71,22 @@ inner_is public b = simp (bind_assoc, pair_with_is public)
 
 -- ---- padded, and in its string
 
-ended_is : (x : Part) (rest : List ℕ) → end_padding (some_part x) rest ≡ (end_padding x rest >>= made some_part)
-ended_is x rest = go (ltb (length rest) 8) (bytes_eq rest (rising 1 (length rest)))
+ended_is : (limit : ℕ) (x : Part) (rest : List ℕ) → end_padding_below limit (some_part x) rest ≡ (end_padding_below limit x rest >>= made some_part)
+ended_is limit x rest = go (ltb (length rest) limit) (bytes_eq rest (rising 1 (length rest)))
   where
     go : (few same : Bool) → cond few (cond same (Ok (some_part x)) (Err FormatEncoding)) (Err Length) ≡ (cond few (cond same (Ok x) (Err FormatEncoding)) (Err Length) >>= made some_part)
     go true true = refl
     go true false = refl
     go false same = refl
 
-padded_is : (public : Key) (b : List ℕ) → padded_from (inner_at public) b ≡ (padded_from (private_part_at public) b >>= made some_part)
-unfolding padded_from
-padded_is public b = rw (inner_is public b) (go (eqb (length b % 8) 0) (private_part_at public b))
+padded_is : (limit : ℕ) (public : Key) (b : List ℕ) → padded_below limit (inner_at public) b ≡ (padded_below limit (private_part_at public) b >>= made some_part)
+unfolding padded_below
+padded_is limit public b = rw (inner_is public b) (go (eqb (length b % 8) 0) (private_part_at public b))
   where
-    go : (whole : Bool) (r : Result (Part × List ℕ) Fault) → cond whole ((r >>= on_value some_part) >>= λ x. end_padding x.0 x.1) (Err Length) ≡ (cond whole (r >>= λ x. end_padding x.0 x.1) (Err Length) >>= made some_part)
-    go true (Ok x) = ended_is x.0 x.1
+    go : (whole : Bool) (r : Result (Part × List ℕ) Fault) → cond whole ((r >>= on_value some_part) >>= λ x. end_padding_below limit x.0 x.1) (Err Length) ≡ (cond whole (r >>= λ x. end_padding_below limit x.0 x.1) (Err Length) >>= made some_part)
+    go true (Ok x) = ended_is limit x.0 x.1
     go true (Err e) = refl
     go false r = refl
 
-pub boxed_is : (public : Key) (b : List ℕ) → box_at (padded_from (inner_at public)) b ≡ (box_at (padded_from (private_part_at public)) b >>= on_value some_part)
-boxed_is public b = box_map (padded_from (private_part_at public)) (padded_from (inner_at public)) some_part (padded_is public) b
+pub boxed_is : (limit : ℕ) (public : Key) (b : List ℕ) → box_at (padded_below limit (inner_at public)) b ≡ (box_at (padded_below limit (private_part_at public)) b >>= on_value some_part)
+boxed_is limit public b = box_map (padded_below limit (private_part_at public)) (padded_below limit (inner_at public)) some_part (padded_is limit public) b

@@ -3,8 +3,7 @@ use Rattle.std.proofs.Common.{◌≡◌, ℕ, List, [], ◌∷◌, length, Bool,
 use Rattle.std.proofs.lemmas.Bool.{eqb-true}
 use Rattle.std.proofs.lemmas.List.{nil_from_length}
 use Rattle.std.proofs.lemmas.Result.{err_from_is_err_and}
-use Rattle.sshkey_model.specs.Reading.{Fault, TrailingKeyData, ◌>>=◌, Front, end_of, whole, box_at, bytes_at, literal_at}
-use Rattle.sshkey_model.specs.Grammar.{value_at}
+use Rattle.sshkey_model.specs.Reading.{Fault, TrailingKeyData, ◌>>=◌, Front, Whole, end_of, whole, box_at, bytes_at, literal_at}
 use Rattle.sshkey_model.specs.Keys.{Key, Head, key_at}
 use Rattle.sshkey_model.specs.KeyDerivation.{Cipher, NoCipher, cipher_at, tag_size, Kdf, NoKdf, Bcrypt, kdf_at}
 use Rattle.sshkey_model.specs.KeyPairs.{KeyPairChoices, plain_pair}
@@ -20,17 +19,18 @@ use Rattle.sshkey_base.proofs.MappedBoxes.{on_value, made}
 use Rattle.sshkey_format.specs.Behind.{behind_at}
 use Rattle.sshkey_keys.proofs.BoxedKeys.{key_box}
 use Rattle.sshkey_ciphers.specs.Ciphertexts.{blocks_at}
-use Rattle.sshkey_private.specs.PrivateKeyReaders.{SpellsPrivateKey, private_value_at, Opening, one_at, opening_at, last_of, last_encrypted_at, last_content_at, steps_at}
+use Rattle.sshkey_private.specs.PrivateKeyReaders.{SpellsPrivateKey, private_value_at, Opening, one_at, opening_at, last_of, last_encrypted_at, unencrypted_below, last_content_at, steps_at}
+use Rattle.sshkey_private.specs.Inner.{padded_below}
 
 -- ---- what stands before the private part
 
-abbrev Opened : Type 0
+abbrev pub Opened : Type 0
 Opened = Opening × Head
 
-abbrev opening : Opened → Opening
+abbrev pub opening : Opened → Opening
 opening x = x.0
 
-opened_at : Front Opened
+unfoldable pub opened_at : Front Opened
 opened_at b = do
   start ← literal_at private_key_magic b
   c ← cipher_at start.1
@@ -39,11 +39,11 @@ opened_at b = do
   public ← box_at (whole key_at) one.1
   Ok ((record { cipher = c.0; kdf = k.0; public = public.0.0 }, public.0.1), public.1)
 
-opening_is : (b : List ℕ) → opening_at b ≡ (opened_at b >>= on_value opening)
+pub opening_is : (b : List ℕ) → opening_at b ≡ (opened_at b >>= on_value opening)
 unfolding opening_at opened_at
 opening_is b = simp (bind_assoc, key_box)
 
-abbrev with_outer : Head → (PrivateKey × KeyPairChoices) × List ℕ → Result ((PrivateKey × PrivateKeyChoices) × List ℕ) Fault
+abbrev pub with_outer : Head → (PrivateKey × KeyPairChoices) × List ℕ → Result ((PrivateKey × PrivateKeyChoices) × List ℕ) Fault
 with_outer outer x = Ok ((x.0.0, record { outer = outer; pair = x.0.1 }), x.1)
 
 abbrev content_behind : Opened × List ℕ → Result ((PrivateKey × PrivateKeyChoices) × List ℕ) Fault
@@ -55,34 +55,34 @@ private_is b = simp bind_assoc
 
 -- ---- the private part
 
-abbrev last : (PrivateKey × PrivateKeyChoices) × List ℕ → Result ((PrivateKey × PrivateKeyChoices) × List ℕ) Fault
+abbrev pub last : (PrivateKey × PrivateKeyChoices) × List ℕ → Result ((PrivateKey × PrivateKeyChoices) × List ℕ) Fault
 last x = cond (may_precede x.0.0 x.1) (Ok x) (Err (TrailingKeyData (length x.1)))
 
-abbrev bare : (PrivateKey × PrivateKeyChoices) × List ℕ → Result (PrivateKey × List ℕ) Fault
+abbrev pub bare : (PrivateKey × PrivateKeyChoices) × List ℕ → Result (PrivateKey × List ℕ) Fault
 bare x = Ok (x.0.0, x.1)
 
 last_same : (k : PrivateKey) (s : KeyPairChoices) (outer : Head) (rest : List ℕ) (may : Bool) → (cond may (with_outer outer ((k, s), rest)) (Err (TrailingKeyData (length rest))) >>= bare) ≡ cond may (Ok (k, rest)) (Err (TrailingKeyData (length rest)))
 last_same k s outer rest true = refl
 last_same k s outer rest false = refl
 
-abbrev pub as_unencrypted : (UnencryptedKey × KeyPairChoices) × List ℕ → Result ((PrivateKey × KeyPairChoices) × List ℕ) Fault
+abbrev as_unencrypted : (UnencryptedKey × KeyPairChoices) × List ℕ → Result ((PrivateKey × KeyPairChoices) × List ℕ) Fault
 as_unencrypted part = Ok ((Unencrypted part.0.0, part.0.1), part.1)
 
-abbrev pub bare_content : (PrivateKey × KeyPairChoices) × List ℕ → Result (PrivateKey × List ℕ) Fault
-bare_content x = Ok (x.0.0, x.1)
+abbrev pub unencrypted_key : (UnencryptedKey × KeyPairChoices) × List ℕ → Result (PrivateKey × List ℕ) Fault
+unencrypted_key part = Ok (Unencrypted part.0.0, part.1)
 
-unencrypted_is : (public : Key) (outer : Head) (b : List ℕ) → (((unencrypted_at public b >>= with_outer outer) >>= last) >>= bare) ≡ value_at (unencrypted_at public) b
-unfolding unencrypted_at
+unencrypted_is : (public : Key) (outer : Head) (b : List ℕ) → (((unencrypted_at public b >>= with_outer outer) >>= last) >>= bare) ≡ unencrypted_below 8 public b
+unfolding unencrypted_at unencrypted_below padded_from padded_below
 unencrypted_is public outer b = go (box_at (padded_from (private_part_at public)) b)
   where
-    go : (r : Result ((UnencryptedKey × KeyPairChoices) × List ℕ) Fault) → ((((r >>= as_unencrypted) >>= with_outer outer) >>= last) >>= bare) ≡ ((r >>= as_unencrypted) >>= bare_content)
+    go : (r : Result ((UnencryptedKey × KeyPairChoices) × List ℕ) Fault) → ((((r >>= as_unencrypted) >>= with_outer outer) >>= last) >>= bare) ≡ (r >>= unencrypted_key)
     go (Ok part) = refl
     go (Err e) = refl
 
 abbrev behind : List ℕ → List ℕ × List ℕ → Result ((List ℕ × List ℕ) × List ℕ) Fault
 behind ciphertext tag = Ok ((ciphertext, tag.0), tag.1)
 
-encrypted_is : (c : Cipher) (k : Kdf) (public : Key) (outer : Head) (b : List ℕ) → (((encrypted_at c k public b >>= with_outer outer) >>= last) >>= bare) ≡ last_encrypted_at c k public b
+pub encrypted_is : (c : Cipher) (k : Kdf) (public : Key) (outer : Head) (b : List ℕ) → (((encrypted_at c k public b >>= with_outer outer) >>= last) >>= bare) ≡ last_encrypted_at c k public b
 unfolding encrypted_at last_encrypted_at blocks_at behind_at
 encrypted_is c k public outer b = first _
   where
@@ -100,18 +100,18 @@ encrypted_is c k public outer b = first _
     first (Ok t) = second t.0 (bytes_at (tag_size c) t.1)
     first (Err e) = refl
 
-content_is : (c : Cipher) (k : Kdf) (public : Key) (outer : Head) (b : List ℕ) → (((content_at c k public b >>= with_outer outer) >>= last) >>= bare) ≡ last_content_at c k public b
+content_is : (c : Cipher) (k : Kdf) (public : Key) (outer : Head) (b : List ℕ) → (((content_at c k public b >>= with_outer outer) >>= last) >>= bare) ≡ last_content_at 8 c k public b
 content_is NoCipher NoKdf public outer b = unencrypted_is public outer b
 content_is NoCipher (Bcrypt o) public outer b = refl
 content_is c k public outer b = encrypted_is c k public outer b
 
 -- ---- all of it
 
-pub steps_are : (b : List ℕ) → steps_at b ≡ private_value_at b
+pub steps_are : (b : List ℕ) → steps_at 8 b ≡ private_value_at b
 unfolding steps_at private_value_at decoded_private_key_at
 steps_are b = rw (opening_is b, private_is b) (sym (go (opened_at b)))
   where
-    go : (r : Result (Opened × List ℕ) Fault) → (((r >>= content_behind) >>= last) >>= bare) ≡ ((r >>= on_value opening) >>= λ h. last_content_at h.0.cipher h.0.kdf h.0.public h.1)
+    go : (r : Result (Opened × List ℕ) Fault) → (((r >>= content_behind) >>= last) >>= bare) ≡ ((r >>= on_value opening) >>= λ h. last_content_at 8 h.0.cipher h.0.kdf h.0.public h.1)
     go (Ok h) = content_is h.0.0.cipher h.0.0.kdf h.0.0.public h.0.1 h.1
     go (Err e) = refl
 
@@ -136,21 +136,26 @@ whole_is b = go (decoded_private_key_at b)
     go (Ok (x, (b ∷ rest))) = refl
     go (Err e) = refl
 
-taken : (b : List ℕ) (k : PrivateKey) → whole private_value_at b ≡ Ok k → SpellsPrivateKey k b
+pub taken : (b : List ℕ) (k : PrivateKey) → whole private_value_at b ≡ Ok k → SpellsPrivateKey k b
 taken b k e =
     let x = bind_ok (whole decoded_private_key_at b) (made (λ x. x.0)) k (sym (whole_is b) ∙ e) in
     let t = whole_private_key_reads.takes b x.0 x.1 in
     subst (λ (z : PrivateKey). SpellsPrivateKey z b) (ok_is x.0.0 k x.2) (record { is = t.0.is; choices = x.0.1; place = t.0.place; fits = t.1; shape = t.2 })
 
-spelled_is : (b : List ℕ) (k : PrivateKey) → SpellsPrivateKey k b → whole private_value_at b ≡ Ok k
+pub spelled_is : (b : List ℕ) (k : PrivateKey) → SpellsPrivateKey k b → whole private_value_at b ≡ Ok k
 spelled_is b k s = rw (whole_is b, s.shape, whole_private_key_reads.again (k, s.choices) (record { is = s.is; place = s.place }) s.fits) refl
 
-module _ {X E : Type 0} (means : X → PrivateKey) (cause_of : E → Cause) where
-  pub accepts_key : (s : Source) (r : Result X E) → GivesWhole means cause_of (whole private_value_at) s r → AcceptsWhole means SpellsPrivateKey cause_of s r
-  accepts_key s (Ok x) h = record { spelled = taken s.left (means x) h.value; sound = h.sound }
+-- the same of a reader that gives the same
+pub same_whole : {X E : Type 0} (means : X → PrivateKey) (cause_of : E → Cause) (read other : Front PrivateKey) (s : Source) (r : Result X E) → ((b : List ℕ) → read b ≡ other b) → GivesWhole means cause_of (whole read) s r → GivesWhole means cause_of (whole other) s r
+same_whole means cause_of read other s (Ok x) same h = record { value = rw (← same s.left) h.value; sound = h.sound }
+same_whole means cause_of read other s (Err e) same h = rw (← same s.left) h
+
+module _ {X E : Type 0} (means : X → PrivateKey) (cause_of : E → Cause) {Spelling : PrivateKey → List ℕ → Type 0} (read : Whole PrivateKey) (takes : (b : List ℕ) (k : PrivateKey) → read b ≡ Ok k → Spelling k b) (again : (b : List ℕ) (k : PrivateKey) → Spelling k b → read b ≡ Ok k) where
+  pub accepts_key : (s : Source) (r : Result X E) → GivesWhole means cause_of read s r → AcceptsWhole means Spelling cause_of s r
+  accepts_key s (Ok x) h = record { spelled = takes s.left (means x) h.value; sound = h.sound }
   accepts_key s (Err e) h = λ other sound y spelled.
-      let refused = err_from_is_err_and (whole private_value_at s.left) (h.fault other sound) in
-      let is = spelled_is s.left y spelled in
+      let refused = err_from_is_err_and (read s.left) (h.fault other sound) in
+      let is = again s.left y spelled in
       let err = refused.1 in cc
 
 -- ---- behind the value

@@ -1,27 +1,26 @@
 -- A private key of the parts that were read.
 use Rattle.std.proofs.Common.{◌≡◌, ℕ, ◌<◌, List, [], ◌∷◌, length, Option, Some, option_map, Result, Ok, Err, IsErrAnd, sym, ap, ◌∙◌, arith}
 use Rattle.sshkey_model.specs.Reading.{Fault, TrailingKeyData, ◌>>=◌, box_at}
-use Rattle.sshkey_model.specs.Grammar.{value_at}
 use Rattle.sshkey_model.specs.Keys.{Key}
 use Rattle.sshkey_model.specs.KeyDerivation.{Cipher, Kdf}
-use Rattle.sshkey_model.specs.PrivateKeys.{UnencryptedKey, PrivateKey, Unencrypted, padded_from, private_part_at, unencrypted_at}
+use Rattle.sshkey_model.specs.PrivateKeys.{UnencryptedKey, PrivateKey, Unencrypted, private_part_at}
 use Rattle.sshkey_model.proofs.CombinedReaders.{bind_ok, ok_is}
 use Rattle.sshkey_base.specs.Causes.{Cause, Faulty}
 use Rattle.sshkey_base.specs.Source.{Source, announced_len}
 use Rattle.sshkey_base.specs.Reading.{Reads, IsRefused}
 use Rattle.sshkey_base.proofs.MappedBoxes.{on_value}
-use Rattle.sshkey_private.specs.Inner.{inner_at}
-use Rattle.sshkey_private.specs.PrivateKeyReaders.{last_of, sealed_at, sealed_with, last_encrypted_at}
+use Rattle.sshkey_private.specs.Inner.{inner_at, padded_below}
+use Rattle.sshkey_private.specs.PrivateKeyReaders.{last_of, sealed_at, sealed_with, unencrypted_below, last_encrypted_at}
 use Rattle.sshkey_private.proofs.InnerReaders.{Part, some_part, boxed_is}
-use Rattle.sshkey_private.proofs.KeyReaders.{as_unencrypted, bare_content}
+use Rattle.sshkey_private.proofs.KeyReaders.{unencrypted_key}
 
 -- ---- not encrypted
 
-module _ {X I : Type 0} (means : X → PrivateKey) (part : I → Option UnencryptedKey) (public : Key) where
-  pub unencrypted_read : (s t : Source) (x : X) (i : I) → Reads part (box_at (padded_from (inner_at public))) s i t → Some (means x) ≡ option_map Unencrypted (part i) → Reads means (value_at (unencrypted_at public)) s x t
-  unfolding unencrypted_at
+module _ {X I : Type 0} (means : X → PrivateKey) (part : I → Option UnencryptedKey) (limit : ℕ) (public : Key) where
+  pub unencrypted_read : (s t : Source) (x : X) (i : I) → Reads part (box_at (padded_below limit (inner_at public))) s i t → Some (means x) ≡ option_map Unencrypted (part i) → Reads means (unencrypted_below limit public) s x t
+  unfolding unencrypted_below
   unencrypted_read s t x i h e =
-      let y = bind_ok (box_at (padded_from (private_part_at public)) s.left) (on_value some_part) (part i, t.left) (sym (boxed_is public s.left) ∙ h.value) in
+      let y = bind_ok (box_at (padded_below limit (private_part_at public)) s.left) (on_value some_part) (part i, t.left) (sym (boxed_is limit public s.left) ∙ h.value) in
       let same = ok_is (some_part y.0.0, y.0.1) (part i, t.left) y.2 in
       let first : some_part y.0.0 ≡ part i = λ j. (same j).0 in
       let rest : y.0.1 ≡ t.left = λ j. (same j).1 in
@@ -29,11 +28,11 @@ module _ {X I : Type 0} (means : X → PrivateKey) (part : I → Option Unencryp
       let is : Unencrypted y.0.0.0 ≡ means x = cc in
       record { value = rw y.1 (λ j. Ok (is j, rest j)); missing = h.missing; outer = h.outer }
 
-  pub unencrypted_refused : (m : ℕ) (c : Cause) (b : List ℕ) → IsRefused m c (box_at (padded_from (inner_at public)) b) → IsRefused m c (value_at (unencrypted_at public) b)
-  unfolding unencrypted_at
-  unencrypted_refused m c b h = record { fault = λ other sound. go (box_at (padded_from (private_part_at public)) b) (rw (boxed_is public b) at (h.fault other sound)) }
+  pub unencrypted_refused : (m : ℕ) (c : Cause) (b : List ℕ) → IsRefused m c (box_at (padded_below limit (inner_at public)) b) → IsRefused m c (unencrypted_below limit public b)
+  unfolding unencrypted_below
+  unencrypted_refused m c b h = record { fault = λ other sound. go (box_at (padded_below limit (private_part_at public)) b) (rw (boxed_is limit public b) at (h.fault other sound)) }
     where
-      go : (r : Result (Part × List ℕ) Fault) → IsErrAnd (r >>= on_value some_part) (λ f. c ≡ Faulty f) → IsErrAnd ((r >>= as_unencrypted) >>= bare_content) (λ f. c ≡ Faulty f)
+      go : (r : Result (Part × List ℕ) Fault) → IsErrAnd (r >>= on_value some_part) (λ f. c ≡ Faulty f) → IsErrAnd (r >>= unencrypted_key) (λ f. c ≡ Faulty f)
       go (Ok x) e = absurd e
       go (Err f) e = e
 

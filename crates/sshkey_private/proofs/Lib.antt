@@ -2,6 +2,8 @@ pub mod PaddedReaders
 pub mod InnerReaders
 pub mod ReadHalves
 pub mod KeyReaders
+pub mod PaddedKeyReaders
+pub mod PaddedKeys
 pub mod KeyValues
 pub mod KeyForms
 pub mod NewKeys

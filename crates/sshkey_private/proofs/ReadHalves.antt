@@ -5,12 +5,13 @@ use Rattle.sshkey_model.specs.Reading.{Fault, Length, FormatEncoding, PublicKey,
 use Rattle.sshkey_model.specs.Texts.{text_at}
 use Rattle.sshkey_model.specs.Keys.{Key}
 use Rattle.sshkey_model.specs.KeyPairs.{KeyPair}
-use Rattle.sshkey_model.specs.PrivateKeys.{UnencryptedKey, rising, end_padding, padded_from}
+use Rattle.sshkey_model.specs.PrivateKeys.{UnencryptedKey, rising}
 use Rattle.sshkey_model.proofs.CombinedReaders.{bind_ok, ok_is, passed}
 use Rattle.sshkey_base.specs.Lengths.{with_rest}
 use Rattle.sshkey_keypairs.specs.KeypairReaders.{keypair_data_at}
 use Rattle.sshkey_private.specs.Halves.{is_half}
-use Rattle.sshkey_private.specs.Inner.{unencrypted, half_of, checkint_at, pair_with_at, inner_at}
+use Rattle.sshkey_ciphers.specs.Paddings.{end_padding_below}
+use Rattle.sshkey_private.specs.Inner.{unencrypted, half_of, checkint_at, pair_with_at, inner_at, padded_below}
 
 -- ---- what a box and padded bytes hold
 
@@ -26,22 +27,22 @@ boxed_value {A} read b x rest e =
     let is : v.0 ≡ x = ap (λ (y : A × List ℕ). y.0) (ok_is (v.0, drop n.0.0 n.0.1) (x, rest) v.2) in
     (take n.0.0 n.0.1, v.1 ∙ ap Ok is)
 
-ended : {A : Type 0} (x y : A) (rest : List ℕ) → end_padding x rest ≡ Ok y → x ≡ y
-ended {A} x y rest = go (ltb (length rest) 8) (bytes_eq rest (rising 1 (length rest)))
+ended : {A : Type 0} (limit : ℕ) (x y : A) (rest : List ℕ) → end_padding_below limit x rest ≡ Ok y → x ≡ y
+ended {A} limit x y rest = go (ltb (length rest) limit) (bytes_eq rest (rising 1 (length rest)))
   where
     go : (few same : Bool) → cond few (cond same (Ok x) (Err FormatEncoding)) (Err Length) ≡ Ok y → x ≡ y
     go true true e = ok_is x y e
     go true false e = absurd cc
     go false same e = absurd cc
 
-padded_value : {A : Type 0} (read : Front A) (b : List ℕ) (x : A) → padded_from read b ≡ Ok x → (rest : List ℕ) × (read b ≡ Ok (x, rest))
-unfolding padded_from
-padded_value {A} read b x = go (eqb (length b % 8) 0)
+padded_value : {A : Type 0} (limit : ℕ) (read : Front A) (b : List ℕ) (x : A) → padded_below limit read b ≡ Ok x → (rest : List ℕ) × (read b ≡ Ok (x, rest))
+unfolding padded_below
+padded_value {A} limit read b x = go (eqb (length b % 8) 0)
   where
-    go : (whole : Bool) → cond whole (read b >>= λ y. end_padding y.0 y.1) (Err Length) ≡ Ok x → (rest : List ℕ) × (read b ≡ Ok (x, rest))
+    go : (whole : Bool) → cond whole (read b >>= λ y. end_padding_below limit y.0 y.1) (Err Length) ≡ Ok x → (rest : List ℕ) × (read b ≡ Ok (x, rest))
     go true e =
-        let y = bind_ok (read b) (λ y. end_padding y.0 y.1) x e in
-        (y.0.1, y.1 ∙ ap (λ (z : A). Ok (z, y.0.1)) (ended y.0.0 x y.0.1 y.2))
+        let y = bind_ok (read b) (λ y. end_padding_below limit y.0 y.1) x e in
+        (y.0.1, y.1 ∙ ap (λ (z : A). Ok (z, y.0.1)) (ended limit y.0.0 x y.0.1 y.2))
     go false e = absurd cc
 
 -- ---- the pair in it
@@ -78,8 +79,8 @@ module _ (public : Key) where
       let same = ok_is (unencrypted checkint.0.0 pair.0.0 comment.0.0, comment.0.1) x comment.2 in
       subst (λ (z : Option UnencryptedKey × List ℕ). is_half (pair_in z.0) public ≡ true) same (rw (pair_in_is checkint.0.0 pair.0.0 comment.0.0) (pair_half checkint.0.1 pair.0 pair.1))
 
-  pub read_half : (b rest : List ℕ) (checkint : ℕ) (pair : Option KeyPair) (comment : List ℕ) → box_at (padded_from (inner_at public)) b ≡ Ok (unencrypted checkint pair comment, rest) → is_half pair public ≡ true
-  read_half b rest checkint pair comment e =
-      let part = boxed_value (padded_from (inner_at public)) b _ rest e in
-      let padded = padded_value (inner_at public) part.0 _ part.1 in
+  pub read_half : (limit : ℕ) (b rest : List ℕ) (checkint : ℕ) (pair : Option KeyPair) (comment : List ℕ) → box_at (padded_below limit (inner_at public)) b ≡ Ok (unencrypted checkint pair comment, rest) → is_half pair public ≡ true
+  read_half limit b rest checkint pair comment e =
+      let part = boxed_value (padded_below limit (inner_at public)) b _ rest e in
+      let padded = padded_value limit (inner_at public) part.0 _ part.1 in
       rw (pair_in_is checkint pair comment) at (inner_half part.0 (unencrypted checkint pair comment, padded.0) padded.1)

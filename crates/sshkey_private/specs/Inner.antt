@@ -1,13 +1,15 @@
 -- The private part of a key that is not encrypted.
-use Rattle.std.specs.Prelude.{◌≡◌, ℕ, ◌+◌, ◌%◌, List, length, Option, option_map, Result, Ok, Err, if◌then◌else◌}
+use Rattle.std.specs.Prelude.{◌≡◌, ℕ, ◌+◌, ◌%◌, List, length, Option, option_map, Result, Ok, Err, ◌==◌, if◌then◌else◌}
 use Rattle.std.specs.Int.{w32}
-use Rattle.sshkey_model.specs.Reading.{Fault, PublicKey, ◌>>=◌, Front, number_at, checked_at}
+use Rattle.sshkey_model.specs.Reading.{Fault, Length, PublicKey, ◌>>=◌, Front, Whole, number_at, checked_at}
 use Rattle.sshkey_model.specs.Texts.{text_at}
 use Rattle.sshkey_model.specs.Keys.{Key}
+use Rattle.sshkey_model.specs.KeyDerivation.{NoCipher, block_size}
 use Rattle.sshkey_model.specs.KeyPairs.{KeyPair}
 use Rattle.sshkey_model.specs.PrivateKeys.{UnencryptedKey, same_checkint}
 use Rattle.sshkey_base.specs.Needs.{NoNeed, NeedsString, NeedsBoth}
 use Rattle.sshkey_format.specs.Behind.{both_at}
+use Rattle.sshkey_ciphers.specs.Paddings.{end_padding_below}
 use Rattle.sshkey_keypairs.specs.Keypairs.{pair_of}
 use Rattle.sshkey_keypairs.specs.KeypairReaders.{keypair_data_at}
 use Rattle.sshkey_keypairs.specs.KeypairFormats.{keypair_format}
@@ -42,6 +44,10 @@ inner_at public b = do
   pair ← pair_with_at public checkint.1
   comment ← text_at pair.1
   Ok (unencrypted checkint.0 pair.0 comment.0, comment.1)
+
+-- whole blocks, which end in fewer bytes of padding than the limit
+unfoldable pub padded_below : {A : Type 0} → ℕ → Front A → Whole A
+padded_below limit read b = if length b % block_size NoCipher == 0 then (read b >>= λ x. end_padding_below limit x.0 x.1) else Err Length
 
 -- the pair or the comment
 abbrev pub NeedsInner : Key → List ℕ → ℕ → Type 0

@@ -1,6 +1,7 @@
 pub mod Halves
 pub mod Inner
 pub mod PrivateKeyReaders
+pub mod PaddedKeys
 pub mod PrivateKeyFormats
 pub mod Openings
 pub mod Forms

@@ -5,10 +5,11 @@ use Rattle.sshkey_model.specs.Reading.{Fault, Crypto, TrailingKeyData, ◌>>=◌
 use Rattle.sshkey_model.specs.Grammar.{SpellsWith, value_at}
 use Rattle.sshkey_model.specs.Keys.{Key}
 use Rattle.sshkey_model.specs.KeyDerivation.{Cipher, NoCipher, tag_size, cipher_at, Kdf, NoKdf, Bcrypt, kdf_at}
-use Rattle.sshkey_model.specs.PrivateKeys.{PrivateKey, Encrypted, IsPrivateKey, HasPrivateKeyPlaces, private_key, private_key_magic, unencrypted_at, one_key, may_precede, decoded_private_key_at}
+use Rattle.sshkey_model.specs.PrivateKeys.{PrivateKey, Unencrypted, Encrypted, IsPrivateKey, HasPrivateKeyPlaces, private_key, private_key_magic, private_part_at, one_key, may_precede, decoded_private_key_at}
 use Rattle.sshkey_format.specs.Behind.{both_at}
 use Rattle.sshkey_keys.specs.Keys.{key_data_at}
 use Rattle.sshkey_ciphers.specs.Ciphertexts.{blocks_at}
+use Rattle.sshkey_private.specs.Inner.{padded_below}
 -- under names that an attribute of this crate can unfold
 unfoldable pub use Rattle.sshkey_model.specs.Reading.{literal_at, bytes_at}
 unfoldable pub use Rattle.sshkey_model.specs.KeyDerivation.{cipher_at}
@@ -58,12 +59,22 @@ last_encrypted_at c k public b = do
   sealed ← sealed_at c b
   last_of (sealed_with c k public sealed.0.0 sealed.0.1, sealed.1)
 
-abbrev pub last_content_at : Cipher → Kdf → Key → Front PrivateKey
-last_content_at NoCipher NoKdf public b = value_at (unencrypted_at public) b
-last_content_at NoCipher (Bcrypt o) public b = Err Crypto
-last_content_at c k public b = last_encrypted_at c k public b
+-- a key that is not encrypted, with fewer bytes of padding than the limit
+unfoldable pub unencrypted_below : ℕ → Key → Front PrivateKey
+unencrypted_below limit public b = do
+  part ← box_at (padded_below limit (private_part_at public)) b
+  Ok (Unencrypted part.0.0, part.1)
 
-unfoldable pub steps_at : Front PrivateKey
-steps_at b = do
+abbrev pub last_content_at : ℕ → Cipher → Kdf → Key → Front PrivateKey
+last_content_at limit NoCipher NoKdf public b = unencrypted_below limit public b
+last_content_at limit NoCipher (Bcrypt o) public b = Err Crypto
+last_content_at limit c k public b = last_encrypted_at c k public b
+
+unfoldable pub steps_at : ℕ → Front PrivateKey
+steps_at limit b = do
   h ← opening_at b
-  last_content_at h.0.cipher h.0.kdf h.0.public h.1
+  last_content_at limit h.0.cipher h.0.kdf h.0.public h.1
+
+-- the same with up to 255 bytes of padding
+abbrev pub padded_value_at : Front PrivateKey
+padded_value_at = steps_at 256

@@ -1,6 +1,6 @@
 //! The private part of a key that is not encrypted.
 
-ghost use Rattle.std.specs.Prelude.{◌≡◌, true, IfOk};
+ghost use Rattle.std.specs.Prelude.{◌≡◌, true, IfOk, suc};
 ghost use Rattle.sshkey_base.specs.Answers.{AnswersAlways};
 ghost use Rattle.sshkey_base.specs.Causes.{cause};
 ghost use Rattle.sshkey_base.specs.Needs.{Asks, NoNeed, NeedsBoxed, NeedsString};
@@ -12,12 +12,12 @@ ghost use Rattle.sshkey_keypairs.specs.Keypairs.{pair_of};
 ghost use Rattle.sshkey_keys.specs.Keys.{key_of};
 ghost use Rattle.sshkey_kinds.specs.EcdsaPublicKey.{ecdsa_key_of};
 ghost use Rattle.sshkey_model.specs.KeyPairs.{public_half};
-ghost use Rattle.sshkey_model.specs.PrivateKeys.{key_eq, padded_from};
+ghost use Rattle.sshkey_model.specs.PrivateKeys.{key_eq};
 ghost use Rattle.sshkey_model.specs.Reading.{box_at};
 ghost use Rattle.sshkey_pairs.specs.Pairs.{ecdsa_pair_of};
 ghost use Rattle.sshkey_private.specs.Halves.{is_half};
 ghost use Rattle.sshkey_private.specs.PrivateKeyFormats.{PassesAs};
-ghost use Rattle.sshkey_private.specs.Inner.{inner_of, inner_at, checkint_at, one_checkint, half_of, pair_with_at, NeedsInner, NeedsPadded};
+ghost use Rattle.sshkey_private.specs.Inner.{inner_of, inner_at, padded_below, checkint_at, one_checkint, half_of, pair_with_at, NeedsInner, NeedsPadded};
 
 use crate::part::Inner;
 use sshkey_base::{Decode, Error, Reader, Result, Text, encoding};
@@ -29,7 +29,8 @@ use sshkey_kinds::EcdsaPublicKey;
 use sshkey_pairs::EcdsaKeypair;
 use std::alloc::Global;
 
-/// A string of the checkint, the pair and the comment, padded to a multiple of eight bytes.
+/// A string of the checkint, the pair and the comment, padded to a multiple of eight bytes, by at
+/// most so many.
 ///
 /// The faults are met in the order of the bytes: `Length` where they are no multiple of eight,
 /// `Crypto` where the checkint is not the same again, the refusals of the pair, `PublicKey` where
@@ -39,20 +40,28 @@ pub(crate) fn decode_inner<R: Reader>(
     alloc: Global,
     reader: &mut R,
     public: &KeyData,
+    most: u8,
 ) -> Result<Inner>
-    ensures gives { Gives inner_of cause (box_at (padded_from (inner_at (key_of public.now))))
+    ensures gives { Gives inner_of cause
+        (box_at (padded_below (suc most) (inner_at (key_of public.now))))
         (R.source reader.old) result (R.source reader.new) }
     ensures later { Later (R.source reader.old) (R.source reader.new) }
     ensures asks { Asks cause (NeedsBoxed (NeedsPadded (NeedsInner (key_of public.now))))
         (R.source reader.old) result }
     ensures past { PassesAs cause NeedsString OverrunsString (R.source reader.old) result }
 {
-    reader.read_prefixed(|part| padded_inner_from(alloc, part, public))
+    reader.read_prefixed(|part| padded_inner_from(alloc, part, public, most))
 }
 
 /// The same up to the end of the reader, without the length before it.
-fn padded_inner_from<R: Reader>(alloc: Global, reader: &mut R, public: &KeyData) -> Result<Inner>
-    ensures gives { Gives inner_of cause (to_end (padded_from (inner_at (key_of public.now))))
+fn padded_inner_from<R: Reader>(
+    alloc: Global,
+    reader: &mut R,
+    public: &KeyData,
+    most: u8,
+) -> Result<Inner>
+    ensures gives { Gives inner_of cause
+        (to_end (padded_below (suc most) (inner_at (key_of public.now))))
         (R.source reader.old) result (R.source reader.new) }
     ensures later { Later (R.source reader.old) (R.source reader.new) }
     ensures asks { Asks cause (NeedsPadded (NeedsInner (key_of public.now)))
@@ -62,7 +71,7 @@ fn padded_inner_from<R: Reader>(alloc: Global, reader: &mut R, public: &KeyData)
         return Err(Error::Encoding(encoding::Error::Length));
     }
     let inner = inner_from(alloc, reader, public)?;
-    end_padding(reader)?;
+    end_padding(reader, most)?;
     Ok(inner)
 }
 

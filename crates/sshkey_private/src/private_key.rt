@@ -6,7 +6,7 @@ ghost use Rattle.sshkey_private.specs.Forms.{are_formed};
 mod read;
 mod write;
 
-use read::private_key_from;
+use read::{private_key_from, whole_key_from};
 use sshkey_base::{Algorithm, HashAlg, Reader, Result, encode_vec};
 use sshkey_ciphers::{Cipher, Kdf};
 use sshkey_keypairs::KeypairData;
@@ -67,7 +67,8 @@ impl PrivateKey {
     ghost use Rattle.sshkey_model.specs.Reading.{whole};
     ghost use Rattle.sshkey_ciphers.specs.Ciphers.{cipher_of, kdf_of};
     ghost use Rattle.sshkey_private.specs.Comparisons.{seen};
-    ghost use Rattle.sshkey_private.specs.PrivateKeyReaders.{SpellsPrivateKey, private_value_at};
+    ghost use Rattle.sshkey_private.specs.PrivateKeyReaders.{SpellsPrivateKey, private_value_at, padded_value_at};
+    ghost use Rattle.sshkey_private.specs.PaddedKeys.{SpellsPaddedKey};
     ghost use Rattle.sshkey_private.specs.PrivateKeyFormats.{NeedsPrivateKey, OverrunsPrivateKey, MayRunOut, PassesAs};
     ghost use Rattle.sshkey_private.specs.PrivateKeys.{private_of, is_encrypted, data_of, outer_of, with_comment, HasWrittenComment, GivesNew};
     ghost use Rattle.sshkey_public.specs.PublicKeys.{public_of, comment_of, data_of as key_data_of};
@@ -131,7 +132,7 @@ impl PrivateKey {
         ensures comment { IfOk result HasWrittenComment }
         ensures form { IfOk result (λ k. IsPrivateKey (private_of k)) }
     {
-        private_key_from(alloc, reader)
+        private_key_from(alloc, reader, 7)
     }
 
     /// Reads a private key that all the bytes spell. The comment of an encrypted one is empty.
@@ -147,9 +148,31 @@ impl PrivateKey {
         ensures asks { Asks cause NeedsPrivateKey (all_of bytes.now) result }
         ensures comment { IfOk result HasWrittenComment }
     {
-        let mut reader = bytes;
-        let key = PrivateKey::decode(alloc, &mut reader)?;
-        Ok(reader.finish(key)?)
+        whole_key_from(alloc, bytes, 7)
+    }
+
+    /// Reads a private key that all the bytes spell, with more padding behind its comment than is
+    /// written: 01, 02, 03 and so on, up to 255 bytes, as PuTTY, Dropbear and Python's cryptography
+    /// write it and OpenSSH reads it.
+    ///
+    /// The part with the padding is still a multiple of eight bytes, the size of a block without a
+    /// cipher, as OpenSSH asks it of what it reads. Where `from_bytes` gives a key, this gives the
+    /// same one; it is written as each key, with the least padding. Of an encrypted key the padding
+    /// is in the ciphertext, which is held as it stands.
+    ///
+    /// Out of memory aside, the bytes are refused only where they spell no such key: with the
+    /// refusals of `from_bytes`, but with `Length` for 256 bytes or more behind the comment, not
+    /// for eight. Padding takes no memory, and out of memory is never answered where a stated
+    /// length passes the bytes.
+    pub fn from_padded_bytes(alloc: Global, bytes: &[u8]) -> Result<PrivateKey>
+        ensures gives { GivesWhole private_of cause (whole padded_value_at)
+            (all_of bytes.now) result }
+        ensures accepts { AcceptsWhole private_of SpellsPaddedKey cause
+            (all_of bytes.now) result }
+        ensures asks { Asks cause NeedsPrivateKey (all_of bytes.now) result }
+        ensures comment { IfOk result HasWrittenComment }
+    {
+        whole_key_from(alloc, bytes, 255)
     }
 
     /// The bytes of the key's normal form, in memory of their own.

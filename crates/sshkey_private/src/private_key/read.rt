@@ -1,22 +1,22 @@
 //! How private keys are read.
 
-ghost use Rattle.std.specs.Prelude.{◌≡◌, ◌%◌, [], false, true, length, Some, option_map, IfOk};
+ghost use Rattle.std.specs.Prelude.{◌≡◌, ◌%◌, [], false, true, length, suc, Some, option_map, IfOk};
 ghost use Rattle.sshkey_base.specs.Causes.{cause};
 ghost use Rattle.sshkey_base.specs.Needs.{Asks, NeedsBoxed, NeedsString};
-ghost use Rattle.sshkey_base.specs.Reading.{Gives};
-ghost use Rattle.sshkey_base.specs.Source.{Later};
+ghost use Rattle.sshkey_base.specs.Reading.{Gives, GivesWhole};
+ghost use Rattle.sshkey_base.specs.Source.{Later, all_of};
 ghost use Rattle.sshkey_base.specs.Stops.{OverrunsString};
 ghost use Rattle.sshkey_keypairs.specs.Keypairs.{pair_of};
 ghost use Rattle.sshkey_keys.specs.Keys.{key_of};
-ghost use Rattle.sshkey_model.specs.Grammar.{value_at};
 ghost use Rattle.sshkey_model.specs.KeyDerivation.{Kdf as TheKdf, NoCipher, block_size, tag_size};
 ghost use Rattle.sshkey_model.specs.Keys.{Key};
-ghost use Rattle.sshkey_model.specs.PrivateKeys.{Unencrypted, unencrypted_at};
+ghost use Rattle.sshkey_model.specs.PrivateKeys.{Unencrypted};
+ghost use Rattle.sshkey_model.specs.Reading.{whole};
 ghost use Rattle.sshkey_ciphers.specs.Ciphers.{cipher_of, kdf_of};
 ghost use Rattle.sshkey_ciphers.specs.Ciphertexts.{tag_bytes};
 ghost use Rattle.sshkey_private.specs.Halves.{is_half};
 ghost use Rattle.sshkey_private.specs.Inner.{NeedsInner, NeedsPadded, inner_of};
-ghost use Rattle.sshkey_private.specs.PrivateKeyReaders.{steps_at, sealed_at, sealed_with, last_content_at, last_encrypted_at};
+ghost use Rattle.sshkey_private.specs.PrivateKeyReaders.{steps_at, sealed_at, sealed_with, unencrypted_below, last_content_at, last_encrypted_at};
 ghost use Rattle.sshkey_private.specs.PrivateKeyFormats.{NeedsContent, NeedsPrivateKey, OverrunsContent, OverrunsPrivateKey, MayRunOut, PassesAs};
 ghost use Rattle.sshkey_private.specs.PrivateKeys.{private_of, is_encrypted, outer_of, HasWrittenComment};
 ghost use Rattle.sshkey_public.specs.PublicKeys.{comment_of};
@@ -32,10 +32,27 @@ use sshkey_keys::KeyData;
 use sshkey_public::PublicKey;
 use std::alloc::Global;
 
-/// A private key from the front; nothing may follow an encrypted one.
+/// A private key that all the bytes spell, with at most so many bytes of padding.
+pub(super) fn whole_key_from(alloc: Global, bytes: &[u8], most: u8) -> Result<PrivateKey>
+    ensures gives { GivesWhole private_of cause (whole (steps_at (suc most)))
+        (all_of bytes.now) result }
+    ensures asks { Asks cause NeedsPrivateKey (all_of bytes.now) result }
+    ensures comment { IfOk result HasWrittenComment }
+{
+    let mut reader = bytes;
+    let key = private_key_from(alloc, &mut reader, most)?;
+    Ok(reader.finish(key)?)
+}
+
+/// A private key from the front, with at most so many bytes of padding; nothing may follow an
+/// encrypted one.
 #[tactic(auto, using(sshkey_base::proofs::Steps::steps), unfolding(crate::specs::PrivateKeyReaders::steps_at))]
-pub(super) fn private_key_from<R: Reader>(alloc: Global, reader: &mut R) -> Result<PrivateKey>
-    ensures gives { Gives private_of cause steps_at
+pub(super) fn private_key_from<R: Reader>(
+    alloc: Global,
+    reader: &mut R,
+    most: u8,
+) -> Result<PrivateKey>
+    ensures gives { Gives private_of cause (steps_at (suc most))
         (R.source reader.old) result (R.source reader.new) }
     ensures later { Later (R.source reader.old) (R.source reader.new) }
     ensures asks { Asks cause NeedsPrivateKey (R.source reader.old) result }
@@ -43,13 +60,18 @@ pub(super) fn private_key_from<R: Reader>(alloc: Global, reader: &mut R) -> Resu
     ensures comment { IfOk result HasWrittenComment }
 {
     let opening = opening_from(alloc, reader)?;
-    Ok(content_from(alloc, reader, opening)?)
+    Ok(content_from(alloc, reader, opening, most)?)
 }
 
 /// The private part behind that opening. `Crypto` for a key derivation without a cipher.
-fn content_from<R: Reader>(alloc: Global, reader: &mut R, opening: Opening) -> Result<PrivateKey>
-    ensures gives { Gives private_of cause
-        (last_content_at (cipher_of opening.cipher) (kdf_of opening.kdf) (key_of opening.public))
+fn content_from<R: Reader>(
+    alloc: Global,
+    reader: &mut R,
+    opening: Opening,
+    most: u8,
+) -> Result<PrivateKey>
+    ensures gives { Gives private_of cause (last_content_at (suc most)
+        (cipher_of opening.cipher) (kdf_of opening.kdf) (key_of opening.public))
         (R.source reader.old) result (R.source reader.new) }
     ensures later { Later (R.source reader.old) (R.source reader.new) }
     ensures asks { Asks cause
@@ -66,12 +88,17 @@ fn content_from<R: Reader>(alloc: Global, reader: &mut R, opening: Opening) -> R
     if !opening.kdf.is_none() {
         return Err(Error::Crypto);
     }
-    unencrypted_from(alloc, reader, opening.public)
+    unencrypted_from(alloc, reader, opening.public, most)
 }
 
 /// The private part of a key that is not encrypted, in its string.
-fn unencrypted_from<R: Reader>(alloc: Global, reader: &mut R, public: KeyData) -> Result<PrivateKey>
-    ensures gives { Gives private_of cause (value_at (unencrypted_at (key_of public)))
+fn unencrypted_from<R: Reader>(
+    alloc: Global,
+    reader: &mut R,
+    public: KeyData,
+    most: u8,
+) -> Result<PrivateKey>
+    ensures gives { Gives private_of cause (unencrypted_below (suc most) (key_of public))
         (R.source reader.old) result (R.source reader.new) }
     ensures later { Later (R.source reader.old) (R.source reader.new) }
     ensures asks { Asks cause (NeedsBoxed (NeedsPadded (NeedsInner (key_of public))))
@@ -79,7 +106,7 @@ fn unencrypted_from<R: Reader>(alloc: Global, reader: &mut R, public: KeyData) -
     ensures past { PassesAs cause NeedsString OverrunsString (R.source reader.old) result }
     ensures plain { IfOk result (λ k. is_encrypted (private_of k) ≡ false) }
 {
-    let inner = decode_inner(alloc, reader, &public)?;
+    let inner = decode_inner(alloc, reader, &public, most)?;
     Ok(from_inner(inner, public))
 }
 

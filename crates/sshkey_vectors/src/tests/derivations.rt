@@ -100,7 +100,7 @@ fn ciphertexts(rt: HostRuntime) {
 }
 
 fn is_padding(mut bytes: &[u8]) -> Result<()> {
-    end_padding(&mut bytes)
+    end_padding(&mut bytes, 7)
 }
 
 #[test]

@@ -155,6 +155,7 @@ pub mod laws {
     pub use ssh_key::laws::options_fit;
     pub use ssh_key::laws::ordered_sk_ecdsa_pairs;
     pub use ssh_key::laws::ordered_sk_ed25519_pairs;
+    pub use ssh_key::laws::plain_padded_private_key;
     pub use ssh_key::laws::prefix_body;
     pub use ssh_key::laws::prefix_certificate;
     pub use ssh_key::laws::prefix_certificate_name;
@@ -169,6 +170,7 @@ pub mod laws {
     pub use ssh_key::laws::prefix_mpint;
     pub use ssh_key::laws::prefix_name;
     pub use ssh_key::laws::prefix_options;
+    pub use ssh_key::laws::prefix_padded_private_key;
     pub use ssh_key::laws::prefix_pair;
     pub use ssh_key::laws::prefix_point;
     pub use ssh_key::laws::prefix_private_key;

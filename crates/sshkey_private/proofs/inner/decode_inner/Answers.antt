@@ -1,12 +1,11 @@
-use Rattle.std.proofs.Common.{rules}
+use Rattle.std.proofs.Common.{rules, suc}
 use Rattle.sshkey_model.specs.Reading.{whole, box_at}
-use Rattle.sshkey_model.specs.PrivateKeys.{padded_from}
 use Rattle.sshkey_base.specs.Causes.{cause}
 use Rattle.sshkey_base.specs.Reading.{to_end}
 use Rattle.sshkey_base.proofs.Boxes.{prefixed_gives, prefixed_stops_to_end}
 use Rattle.sshkey_base.proofs.ReadLists.{box_to_end, same_gives}
 use Rattle.sshkey_keys.specs.Keys.{key_of}
-use Rattle.sshkey_private.specs.Inner.{inner_of, inner_at}
+use Rattle.sshkey_private.specs.Inner.{inner_of, inner_at, padded_below}
 use Rattle.sshkey_base.specs.Lengths.{no_lengths}
 use Rattle.sshkey_base.specs.Needs.{NeedsString}
 use Rattle.sshkey_base.specs.Stops.{NoOverrun}
@@ -15,10 +14,10 @@ use Rattle.sshkey_private.proofs.inner.decode_inner.Goals as goal
 
 pub returns-clause-gives : goal.returns-clause-gives
 returns-clause-gives g c =
-    let read = padded_from (inner_at (key_of c.args.public.now)) in
+    let read = padded_below (suc c.args.most) (inner_at (key_of c.args.public.now)) in
     same_gives inner_of cause (box_at (whole (to_end read))) (box_at read) _ _ _ (box_to_end read) (prefixed_gives _ _ _ _ _ inner_of (to_end read) (search rules) (search rules) _ _ _ c.read_prefixed.ensures.calls)
 
 pub returns-clause-past : goal.returns-clause-past
 returns-clause-past g c =
-    let read = padded_from (inner_at (key_of c.args.public.now)) in
+    let read = padded_below (suc c.args.most) (inner_at (key_of c.args.public.now)) in
     box_passes cause (box_at (whole (to_end read))) NeedsString NoOverrun (g.R.Reader.source c.args.reader.now) _ (prefixed_stops_to_end _ _ _ _ _ inner_of (to_end read) (search rules) NoOverrun (no_lengths (to_end read)) (search rules) (λ p q r met. none_over cause (g.R.Reader.source c.args.reader.now) r) _ _ _ c.read_prefixed.ensures.calls)

@@ -1,4 +1,4 @@
-use Rattle.std.proofs.Common.{◌%◌, ◌∙◌, ap, sym, ℕ}
+use Rattle.std.proofs.Common.{◌%◌, ◌∙◌, ap, sym, ℕ, suc}
 use Rattle.std.proofs.lemmas.Result.{err_from_is_err_and}
 use Rattle.sshkey_keys.specs.Keys.{key_of}
 use Rattle.sshkey_base.proofs.Places.{later_then}
@@ -7,12 +7,12 @@ use Rattle.sshkey_private.proofs.PaddedReaders.{not_whole, value_refused, paddin
 use Rattle.sshkey_private.proofs.inner.padded_inner_from.Goals as goal
 
 pub returns-then-remaining_len-ne0-clause-gives : goal.returns-then-remaining_len-ne0-clause-gives
-returns-then-remaining_len-ne0-clause-gives g c = not_whole (inner_at (key_of c.args.public.now)) (g.R.Reader.source c.args.reader.now) (λ e. c.if-remaining_len-ne0.true (ap (λ (n : ℕ). n % 8) c.remaining_len.ensures ∙ e))
+returns-then-remaining_len-ne0-clause-gives g c = not_whole (suc c.args.most) (inner_at (key_of c.args.public.now)) (g.R.Reader.source c.args.reader.now) (λ e. c.if-remaining_len-ne0.true (ap (λ (n : ℕ). n % 8) c.remaining_len.ensures ∙ e))
 
 pub returns-in_err-inner-clause-gives : goal.returns-in_err-inner-clause-gives
 returns-in_err-inner-clause-gives g c =
     let p = err_from_is_err_and c.from_residual.result c.from_residual.ensures.1 in
-    rw (p.1, p.2) (value_refused (inner_at (key_of c.args.public.now)) (g.R.Reader.source c.args.reader.now) _ (sym (ap (λ (n : ℕ). n % 8) c.remaining_len.ensures) ∙ c.if-remaining_len-ne0.false) c.in_err-inner.ensures.gives)
+    rw (p.1, p.2) (value_refused (suc c.args.most) (inner_at (key_of c.args.public.now)) (g.R.Reader.source c.args.reader.now) _ (sym (ap (λ (n : ℕ). n % 8) c.remaining_len.ensures) ∙ c.if-remaining_len-ne0.false) c.in_err-inner.ensures.gives)
 
 pub returns-in_err-inner-clause-asks : goal.returns-in_err-inner-clause-asks
 returns-in_err-inner-clause-asks g c =
@@ -22,10 +22,10 @@ returns-in_err-inner-clause-asks g c =
 pub returns-in_err-end_padding-clause-gives : goal.returns-in_err-end_padding-clause-gives
 returns-in_err-end_padding-clause-gives g c =
     let p = err_from_is_err_and c.from_residual-in_err-end_padding.result c.from_residual-in_err-end_padding.ensures.1 in
-    rw (p.1, p.2) (padding_refused (inner_at (key_of c.args.public.now)) inner_of _ _ _ c.in_ok-inner.ensures.gives (sym (ap (λ (n : ℕ). n % 8) c.remaining_len.ensures) ∙ c.if-remaining_len-ne0.false) _ c.in_err-end_padding.ensures.gives)
+    rw (p.1, p.2) (padding_refused (suc c.args.most) (inner_at (key_of c.args.public.now)) inner_of _ _ _ c.in_ok-inner.ensures.gives (sym (ap (λ (n : ℕ). n % 8) c.remaining_len.ensures) ∙ c.if-remaining_len-ne0.false) _ c.in_err-end_padding.ensures.gives)
 
 pub returns-clause-gives : goal.returns-clause-gives
-returns-clause-gives g c = padded_read (inner_at (key_of c.args.public.now)) inner_of _ _ _ c.in_ok-inner.ensures.gives (sym (ap (λ (n : ℕ). n % 8) c.remaining_len.ensures) ∙ c.if-remaining_len-ne0.false) _ c.in_ok-end_padding.ensures.sound c.in_ok-end_padding.ensures.gives
+returns-clause-gives g c = padded_read (suc c.args.most) (inner_at (key_of c.args.public.now)) inner_of _ _ _ c.in_ok-inner.ensures.gives (sym (ap (λ (n : ℕ). n % 8) c.remaining_len.ensures) ∙ c.if-remaining_len-ne0.false) _ c.in_ok-end_padding.ensures.sound c.in_ok-end_padding.ensures.gives
 
 pub returns-in_err-end_padding-clause-later : goal.returns-in_err-end_padding-clause-later
 returns-in_err-end_padding-clause-later g c = later_then _ _ _ c.in_ok-inner.ensures.later c.in_err-end_padding.ensures.later

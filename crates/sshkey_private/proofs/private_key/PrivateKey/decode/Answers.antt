@@ -6,7 +6,7 @@ use Rattle.sshkey_private.proofs.KeyReaders.{formed, steps_are}
 use Rattle.sshkey_private.proofs.private_key.PrivateKey.decode.Goals as goal
 
 pub returns-clause-gives : goal.returns-clause-gives
-returns-clause-gives g c = same_gives private_of cause steps_at private_value_at _ _ _ steps_are c.private_key_from.ensures.gives
+returns-clause-gives g c = same_gives private_of cause (steps_at 8) private_value_at _ _ _ steps_are c.private_key_from.ensures.gives
 
 pub returns-clause-form : goal.returns-clause-form
 returns-clause-form g c = formed private_of cause _ _ _ (returns-clause-gives g c)

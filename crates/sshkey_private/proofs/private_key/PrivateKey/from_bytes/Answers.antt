@@ -1,68 +1,13 @@
-use Rattle.std.proofs.lemmas.Result.{err_from_is_err_and}
-use Rattle.sshkey_base.specs.declared.encoding.Error.{Error}
-use Rattle.sshkey_base.specs.declared.encoding.Error.TheVariants.{TrailingData}
-use Rattle.sshkey_base.specs.Causes.{NoMemory, encoding_cause, cause, same_cause}
+use Rattle.sshkey_base.specs.Causes.{cause}
 use Rattle.sshkey_base.specs.Source.{all_of}
-use Rattle.sshkey_base.proofs.Accepted.{finish_refused}
-use Rattle.sshkey_base.proofs.Steps.{refused_first}
-use Rattle.std.proofs.Common.{◌≡◌, ℕ, Bool, true, false, cond, Result, Ok, Err, ◌∙◌, sym, ap, subst}
-use Rattle.sshkey_private.specs.declared.private_key.PrivateKey.{PrivateKey}
-use Rattle.sshkey_private.specs.PrivateKeys.{private_of, HasWrittenComment}
-use Rattle.sshkey_private.specs.PrivateKeyReaders.{private_value_at}
-use Rattle.sshkey_private.proofs.KeyReaders.{accepts_key, finished}
+use Rattle.sshkey_model.specs.Reading.{whole}
+use Rattle.sshkey_private.specs.PrivateKeys.{private_of}
+use Rattle.sshkey_private.specs.PrivateKeyReaders.{steps_at, private_value_at}
+use Rattle.sshkey_private.proofs.KeyReaders.{steps_are, same_whole, taken, spelled_is, accepts_key}
 use Rattle.sshkey_private.proofs.private_key.PrivateKey.from_bytes.Goals as goal
 
--- bytes behind the key are no want of memory
-trailing : (ended : Bool) (k : PrivateKey) (n : ℕ) (e : Error) → ◌≡◌ {A = Result PrivateKey Error} (Err e) (cond ended (Ok k) (Err (TrailingData n))) → encoding_cause e ≡ NoMemory → ⊥
-trailing true k n e is memory = absurd cc
-trailing false k n e is memory = let same : e ≡ TrailingData n = cc in let other = rw same at memory in absurd cc
-
--- the key that was read is the one that is given
-same_key : (ended : Bool) (k j : PrivateKey) (e : Error) → ◌≡◌ {A = Result PrivateKey Error} (Ok j) (cond ended (Ok k) (Err e)) → k ≡ j
-same_key true k j e is = cc
-same_key false k j e is = absurd cc
-
-pub returns-in_err-key-clause-gives : goal.returns-in_err-key-clause-gives
-returns-in_err-key-clause-gives c =
-    let p = err_from_is_err_and c.from_residual.result c.from_residual.ensures.1 in
-    rw (p.1, p.2) (refused_first _ _ _ _ c.in_err-key.ensures.gives)
-
-pub returns-in_err-key-clause-accepts : goal.returns-in_err-key-clause-accepts
-returns-in_err-key-clause-accepts c = accepts_key private_of cause (all_of c.args.bytes.now) _ (returns-in_err-key-clause-gives c)
-
-pub returns-in_err-finish-clause-gives : goal.returns-in_err-finish-clause-gives
-returns-in_err-finish-clause-gives c =
-    let p = err_from_is_err_and c.from_residual-in_err-finish.result c.from_residual-in_err-finish.ensures.1 in
-    rw p.1 (finish_refused private_of cause private_value_at (all_of c.args.bytes.now) _ _ _ _ c.in_ok-key.ensures.gives c.in_err-finish.ensures (ap cause p.2 ∙ same_cause _))
-
-pub returns-in_err-finish-clause-accepts : goal.returns-in_err-finish-clause-accepts
-returns-in_err-finish-clause-accepts c = accepts_key private_of cause (all_of c.args.bytes.now) _ (returns-in_err-finish-clause-gives c)
-
 pub returns-clause-gives : goal.returns-clause-gives
-returns-clause-gives c = finished private_of private_value_at (all_of c.args.bytes.now) _ _ _ c.in_ok-key.ensures.gives c.in_ok-finish.ensures
+returns-clause-gives c = same_whole private_of cause (steps_at 8) private_value_at _ _ steps_are c.whole_key_from.ensures.gives
 
 pub returns-clause-accepts : goal.returns-clause-accepts
-returns-clause-accepts c = accepts_key private_of cause (all_of c.args.bytes.now) (Ok c.in_ok-finish.field-0) (returns-clause-gives c)
-
-pub returns-in_err-key-clause-asks : goal.returns-in_err-key-clause-asks
-returns-in_err-key-clause-asks c =
-    let p = err_from_is_err_and c.from_residual.result c.from_residual.ensures.1 in
-    rw (p.1, p.2) c.in_err-key.ensures.asks
-
-pub returns-in_err-key-clause-comment : goal.returns-in_err-key-clause-comment
-returns-in_err-key-clause-comment c =
-    let p = err_from_is_err_and c.from_residual.result c.from_residual.ensures.1 in
-    rw p.1 tt
-
-pub returns-in_err-finish-clause-asks : goal.returns-in_err-finish-clause-asks
-returns-in_err-finish-clause-asks c =
-    let p = err_from_is_err_and c.from_residual-in_err-finish.result c.from_residual-in_err-finish.ensures.1 in
-    rw p.1 (λ memory sound. absurd (trailing _ _ _ _ c.in_err-finish.ensures (sym (ap cause p.2 ∙ same_cause _) ∙ memory)))
-
-pub returns-in_err-finish-clause-comment : goal.returns-in_err-finish-clause-comment
-returns-in_err-finish-clause-comment c =
-    let p = err_from_is_err_and c.from_residual-in_err-finish.result c.from_residual-in_err-finish.ensures.1 in
-    rw p.1 tt
-
-pub returns-clause-comment : goal.returns-clause-comment
-returns-clause-comment c = subst HasWrittenComment (same_key _ _ _ _ c.in_ok-finish.ensures) c.in_ok-key.ensures.comment
+returns-clause-accepts c = accepts_key private_of cause (whole private_value_at) taken spelled_is (all_of c.args.bytes.now) _ (returns-clause-gives c)
