@@ -21,7 +21,7 @@ pub mod ciphers
 pub mod private
 pub mod options
 pub mod options_ref
-pub mod unsigned
+pub mod to_be_signed
 pub mod cert
 pub mod cert_ref
 pub mod builder

@@ -6,4 +6,4 @@ pub use sshkey_cert::Certificate;
 pub use sshkey_cert_ref::CertificateRef;
 pub use sshkey_options::{CertType, EndTime, FOREVER, MAX_SECS, OptionsMap, UnixTime};
 pub use sshkey_options_ref::{Options, OptionsRef, Texts, TextsRef};
-pub use sshkey_unsigned::Unsigned;
+pub use sshkey_to_be_signed::ToBeSigned;

@@ -163,7 +163,7 @@ pub use sshkey_public::laws::compared_public_keys;
 pub use sshkey_sshsig::laws::compared_ssh_signatures;
 pub use sshkey_sshsig::laws::one_ssh_signature;
 pub use sshkey_sshsig::laws::signed_parts_fit;
-pub use sshkey_unsigned::laws::compared_signed_fields;
+pub use sshkey_to_be_signed::laws::compared_signed_fields;
 
 /// Of every kind of value: two have equal normal forms exactly if they agree in every field, of
 /// private keys also in checkint and tag, and what reads a normal form gives the value that it is

@@ -12,7 +12,7 @@ use Rattle.sshkey_model.proofs.NormalKeysFit.{normal_boxes}
 use Rattle.sshkey_base.proofs.Writing.{boxes_both, boxes_first, boxes_box, boxes_inside, boxes_length, length_both, length_box}
 use Rattle.sshkey_options.proofs.WrittenOptions.{nothing_has}
 use Rattle.sshkey_cert.specs.Fitting.{boxes_fit, signed_fits}
-use Rattle.sshkey_unsigned.specs.UnsignedReaders.{unsigned_value_at, unsigned_grammar}
+use Rattle.sshkey_to_be_signed.specs.ToBeSignedReaders.{to_be_signed_value_at, to_be_signed_grammar}
 
 -- ---- the test
 
@@ -85,10 +85,10 @@ normal_fits c s is has b =
     (name, (nonce, (body, (serial, (kind, (key_id, (principals, (after, (before, (options_fit c.critical_options s.critical_options has.critical_options critical, (options_fit c.extensions s.extensions has.extensions extensions, (reserved, key_box_fits c.signature_key s.signature_key is.signature_key has.signature_key signer))))))))))))
 
 -- what was read fits in its normal form
-pub read_fits : (b : List ℕ) (c : SignedFields) (rest : List ℕ) → unsigned_value_at b ≡ Ok (c, rest) → signed_fits c ≡ true
+pub read_fits : (b : List ℕ) (c : SignedFields) (rest : List ℕ) → to_be_signed_value_at b ≡ Ok (c, rest) → signed_fits c ≡ true
 unfolding signed_fits
 read_fits b c rest e =
-    let t = unsigned_grammar.takes b c rest e in
+    let t = to_be_signed_grammar.takes b c rest e in
     test_of (normal_to_be_signed c) (normal_fits c t.1.choices t.1.is t.1.place t.1.fits.boxes)
 
 pub fits_of : (c : SignedFields) → BoxesFit (normal_to_be_signed c) → signed_fits c ≡ true

@@ -17,7 +17,7 @@ use Rattle.sshkey_keys_ref.specs.KeyDataRef.{key_bytes}
 use Rattle.sshkey_keys_ref.specs.declared.key_data_ref.KeyDataRef.{KeyDataRef}
 use Rattle.sshkey_options_ref.specs.OptionLists.{SpellsOptionString}
 use Rattle.sshkey_slices.specs.Slices.{found_or}
-use Rattle.sshkey_unsigned.specs.UnsignedFormats.{grant_format, window_format}
+use Rattle.sshkey_to_be_signed.specs.ToBeSignedFormats.{grant_format, window_format}
 
 -- options in a string, each empty value as its choice says
 abbrev pub spelled_options_format : Format (List CertificateOption × List Nesting)

@@ -24,7 +24,7 @@ use sshkey_base::{Error, Result, encoding};
 use sshkey_keys_ref::SignatureRef;
 
 /// A certificate as the bytes that spell it (PROTOCOL.certkeys): its parts are slices of them. It
-/// takes no memory.
+/// does not allocate.
 ///
 /// Contracts see the certificate that the bytes spell, by `certificate_of`, and how each part of it
 /// is spelled that may be spelled in two ways, by `choices_of`.
@@ -46,16 +46,16 @@ impl<'a> CertificateRef<'a> {
     ghost use Rattle.sshkey_cert.specs.CertificateReaders.{SpellsCertificate};
     ghost use Rattle.sshkey_cert_ref.specs.CertificateRef.{certificate_bytes, certificate_of};
 
-    /// The certificate that all the bytes together spell, read once from left to right. Takes no
-    /// memory.
+    /// The certificate that all the bytes together spell, read once from left to right. Does not
+    /// allocate.
     ///
-    /// It accepts what `Certificate::from_bytes` with enough memory accepts, and refuses the rest
+    /// It accepts what `Certificate::from_bytes` with enough memory accepts, and rejects the rest
     /// with the same faults, of which the first from the left counts: `Length` for a stated length
     /// that passes the bytes, `Label` for a name of no algorithm, `CharacterEncoding` for a text
     /// that is not UTF-8, `FormatEncoding` for a type other than 1 and 2 and for options that do
     /// not rise, `Time` for a time above 2^63 - 1 that is not the end 2^64 - 1, the faults of keys
-    /// and of signatures, where one by RSA with SHA-1 is refused as `Length`, and `TrailingData`
-    /// with the number of bytes behind a certificate.
+    /// and of signatures, where one by RSA with SHA-1 fails with `Length`, and `TrailingData` with
+    /// the number of bytes after a certificate.
     pub fn from_bytes(bytes: &'a [u8]) -> Result<CertificateRef<'a>>
         ensures keeps { Keeps certificate_bytes cause (whole certificate_at bytes.now)
             bytes.now result }

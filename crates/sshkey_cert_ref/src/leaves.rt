@@ -31,7 +31,7 @@ use std::str;
 #[derive(Drop)]
 pub(crate) struct Field<T>(pub T);
 
-/// The type, a number of four bytes. `FormatEncoding` where it is neither 1 nor 2.
+/// The type, a number of four bytes. Fails with `FormatEncoding` if it is neither 1 nor 2.
 #[tactic(auto, using(sshkey_format::proofs::Walking::walking), unfolding(sshkey_model::specs::Certificates::type_at))]
 impl<'a> ReadFrom<&'a [u8]> for Field<CertType> {
     type Error = Error;
@@ -133,7 +133,7 @@ impl<'a> ReadFrom<&'a [u8]> for Field<KeyDataRef<'a>> {
     }
 }
 
-/// The string of a key, and what stands behind it.
+/// The string of a key, and what stands after it.
 fn split_key(bytes: &[u8]) -> Result<(KeyDataRef<'_>, &[u8])>
     ensures { Splits spelled_key_of cause (box_at (whole key_at)) bytes.now result }
 {
@@ -149,8 +149,8 @@ pub(crate) fn split_signature(bytes: &[u8]) -> Result<(SignatureRef<'_>, &[u8])>
     Ok((SignatureRef::from_bytes(string)?, rest))
 }
 
-/// The string of the name of an algorithm in certificates. `Length` where it is not there whole,
-/// `Label` where it is no such name.
+/// The string of the name of an algorithm in certificates. Fails with `Length` if it is not there
+/// whole, with `Label` if it is no such name.
 pub(crate) fn split_name(bytes: &[u8]) -> Result<(&str, &[u8])>
     ensures { Cuts IsName cause certificate_algorithm_at bytes.now result }
 {

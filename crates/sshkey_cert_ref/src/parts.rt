@@ -9,13 +9,13 @@ use sshkey_options_ref::{OptionsRef, TextsRef};
 pub(crate) struct Parts<'a> {
     /// The name of the algorithm, in the form that it has in certificates.
     pub name: &'a str,
-    /// Bytes that nobody can foretell.
+    /// A random nonce.
     pub nonce: &'a [u8],
     /// The body of the certified key.
     pub key: &'a [u8],
     /// The serial number.
     pub serial: u64,
-    /// Whether it is of a user or of a host.
+    /// Whether the certificate is for a user or for a host.
     pub cert_type: CertType,
     /// A text that names the key.
     pub key_id: &'a str,
@@ -23,7 +23,7 @@ pub(crate) struct Parts<'a> {
     pub valid_principals: TextsRef<'a>,
     /// The first second of the window.
     pub valid_after: UnixTime,
-    /// The second behind the window, or that there is none.
+    /// The first second after the window, or that there is none.
     pub valid_before: EndTime,
     /// The options that a reader has to know.
     pub critical_options: OptionsRef<'a>,

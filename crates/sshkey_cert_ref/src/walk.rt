@@ -32,7 +32,7 @@ type Authority<'a> = Then<Wide<&'a [u8]>, Field<KeyDataRef<'a>>>;
 /// All fields between the key and the signature.
 type BehindKey<'a> = Then<Grant<'a>, Then<Window, Then<Limits<'a>, Authority<'a>>>>;
 
-/// All fields before the signature, and what stands behind them.
+/// All fields before the signature, and what stands after them.
 pub(crate) fn split_parts<'a>(bytes: &'a [u8]) -> Result<(Parts<'a>, &'a [u8])>
     ensures { Cuts AreParts cause signed_fields_at bytes.now result }
 {

@@ -45,7 +45,7 @@ pub enum Cipher {
 }
 
 impl Cipher {
-    /// The cipher of that name, and `Label` where no cipher has it. Takes no memory.
+    /// The cipher of that name, and `Label` where no cipher has it. Does not allocate.
     pub fn new(name: &str) -> Result<Cipher>
         ensures { NamesAlways cipher_of cause (cipher_from name.now) result }
     {
@@ -102,7 +102,7 @@ impl Cipher {
         }
     }
 
-    /// Whether a tag of 16 bytes stands behind what is encrypted.
+    /// Whether a tag of 16 bytes stands after what is encrypted.
     pub fn has_tag(&self) -> bool
         ensures { (if result then 16 else 0) ≡ tag_size (cipher_of self.now) }
     {
@@ -112,7 +112,7 @@ impl Cipher {
         )
     }
 
-    /// How many bytes are wanted behind so many to make whole blocks: the least number that does.
+    /// How many bytes are wanted after so many to make whole blocks: the least number that does.
     pub fn padding_len(&self, len: usize) -> usize
         ensures { result ≡ padding_length (block_size (cipher_of self.now)) len }
     {
@@ -121,7 +121,7 @@ impl Cipher {
     }
 }
 
-/// The cipher of that name. `LabelError` where no cipher has it. Takes no memory.
+/// The cipher of that name. Fails with `LabelError` if no cipher has it. Does not allocate.
 #[tactic(auto, unfolding(sshkey_model::specs::Names::named))]
 impl FromStr for Cipher {
     type Err = LabelError;
@@ -147,7 +147,7 @@ impl FromStr for Cipher {
     }
 }
 
-/// The name. A text that is the name of no cipher is `Label`. Takes no memory.
+/// The name. A text that is the name of no cipher is `Label`. Does not allocate.
 impl Label for Cipher {
     ghost Named = { TheCipher };
 
@@ -191,7 +191,7 @@ impl AsStr for Cipher {
     }
 }
 
-/// The name. Refused only where the formatter refuses.
+/// The name. Rejected only where the formatter rejects.
 impl fmt::Display for Cipher {
     ghost output = { λ cipher. Some (cipher_name (cipher_of cipher)) };
 

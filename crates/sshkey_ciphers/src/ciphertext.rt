@@ -20,7 +20,7 @@ use std::alloc::Global;
 /// Reads the string of a ciphertext, which has to be whole blocks of the cipher (OpenSSH,
 /// PROTOCOL.key).
 ///
-/// A sound source is refused as `Vec<u8>` refuses it, or with `Crypto` where the ciphertext is no
+/// A sound source fails with `Vec<u8>` rejects it, or with `Crypto` where the ciphertext is no
 /// multiple of a block. Takes memory for the ciphertext alone, and none for a length that passes
 /// what is left, which is `Length`.
 #[tactic(auto, using(sshkey_base::proofs::Steps::steps, sshkey_base::proofs::Stopping::stopping), unfolding(crate::specs::Ciphertexts::blocks_at))]
@@ -52,7 +52,7 @@ fn check_blocks(ciphertext: Vec<u8>, cipher: Cipher) -> Result<Vec<u8>>
 /// Reads the tag of 16 bytes, where the cipher has one (OpenSSH, PROTOCOL.key); of the other
 /// ciphers it is none, and nothing is read.
 ///
-/// A sound source is refused only with `Length`, where fewer bytes are left. Takes no memory.
+/// A sound source is rejected only with `Length`, where fewer bytes are left. Does not allocate.
 #[tactic(auto, using(sshkey_base::proofs::Steps::steps, sshkey_base::proofs::Stopping::stopping))]
 pub fn tag_from<R: Reader>(reader: &mut R, cipher: Cipher) -> Result<Option<[u8; 16]>>
     ensures gives { Gives tag_bytes cause (bytes_at (tag_size (cipher_of cipher)))

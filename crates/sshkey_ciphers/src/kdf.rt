@@ -42,7 +42,8 @@ impl Kdf {
     /// bcrypt with 16 rounds and a salt of the next 16 bytes of the generator, for which memory is
     /// asked first.
     ///
-    /// `AlgorithmUnknown` exactly where no key is to be derived. A refused call draws nothing.
+    /// Fails with `AlgorithmUnknown` exactly if no key is to be derived. A rejected call draws
+    /// nothing.
     pub fn new<R: Rng + CryptoRng>(alloc: Global, algorithm: KdfAlg, rng: &mut R) -> Result<Kdf>
         ensures gives { Answers kdf_of cause (kdf_with_salt (kdf_algorithm_of algorithm)
             (fill_bytes 16 (R.stream rng.old)).0) result }
@@ -91,7 +92,7 @@ impl Kdf {
         matches!(self, Kdf::Bcrypt { .. })
     }
 
-    /// The same in memory of its own. Refused only when out of memory.
+    /// The same in memory of its own. Fails only when out of memory.
     pub fn try_clone(&self, alloc: Global) -> Result<Kdf>
         ensures value { IfOk result (λ k. kdf_of k ≡ kdf_of self.now) }
         ensures memory { IfErr result (λ e. e ≡ wide.Memory) }
@@ -115,11 +116,11 @@ impl Default for Kdf {
     }
 }
 
-/// The name, and behind it the number 0 where no key is derived, else a string of salt and rounds.
+/// The name, and after it the number 0 where no key is derived, else a string of salt and rounds.
 ///
-/// `Length` where a number or a string passes what is left, `Label` for another name,
-/// `AlgorithmUnknown` for another number, and `TrailingData` for bytes behind the rounds in their
-/// string.
+/// Fails with `Length` if a number or a string passes what is left, with `Label` for another name,
+/// with `AlgorithmUnknown` for another number, and `TrailingData` for bytes after the rounds in
+/// their string.
 #[tactic(auto, using(sshkey_format::proofs::Chosen::chosen, crate::specs::KdfFormats::kdf_chosen, sshkey_base::specs::Lengths::label_lengths))]
 impl Decode for Kdf {
     type Error = Error;
@@ -136,7 +137,7 @@ impl Decode for Kdf {
     }
 }
 
-/// What stands behind that name.
+/// What stands after that name.
 #[tactic(auto)]
 fn options_from<R: Reader>(alloc: Global, reader: &mut R, algorithm: KdfAlg) -> Result<Kdf>
     ensures gives { Gives kdf_of cause (options_format (kdf_algorithm_of algorithm)).read

@@ -27,7 +27,7 @@ pub enum KdfAlg {
 }
 
 impl KdfAlg {
-    /// The key derivation of that name, and `Label` where none has it. Takes no memory.
+    /// The key derivation of that name, and `Label` where none has it. Does not allocate.
     pub fn new(name: &str) -> Result<KdfAlg>
         ensures { NamesAlways kdf_algorithm_of cause (kdf_algorithm_from name.now) result }
     {
@@ -61,7 +61,7 @@ impl Default for KdfAlg {
     }
 }
 
-/// The key derivation of that name. `LabelError` where none has it. Takes no memory.
+/// The key derivation of that name. Fails with `LabelError` if none has it. Does not allocate.
 #[tactic(auto, unfolding(sshkey_model::specs::Names::named))]
 impl FromStr for KdfAlg {
     type Err = LabelError;
@@ -78,7 +78,7 @@ impl FromStr for KdfAlg {
     }
 }
 
-/// The name. A text that is the name of no key derivation is `Label`. Takes no memory.
+/// The name. A text that is the name of no key derivation is `Label`. Does not allocate.
 impl Label for KdfAlg {
     ghost Named = { KdfAlgorithm };
 
@@ -122,7 +122,7 @@ impl AsStr for KdfAlg {
     }
 }
 
-/// The name. Refused only where the formatter refuses.
+/// The name. Rejected only where the formatter rejects.
 impl fmt::Display for KdfAlg {
     ghost output = { λ algorithm. Some (kdf_name (kdf_algorithm_of algorithm)) };
 

@@ -17,8 +17,8 @@ use sshkey_base::{Encode, Error, Reader, Result, Writer, encoding};
 /// Reads the bytes up to the end, which have to be padding: 01, 02, 03 and so on, at most `most` of
 /// them (OpenSSH, PROTOCOL.key).
 ///
-/// A sound source is refused only with `Length` for more bytes, or with `FormatEncoding` for
-/// others. Takes no memory.
+/// A sound source is rejected only with `Length` for more bytes, or with `FormatEncoding` for
+/// others. Does not allocate.
 #[tactic(auto, using(sshkey_base::proofs::Steps::steps))]
 pub fn end_padding<R: Reader>(reader: &mut R, most: u8) -> Result<()>
     ensures gives { Gives (λ u. u) cause (to_end (padding_end (suc most)))
@@ -52,11 +52,11 @@ fn is_rising(bytes: &[u8]) -> bool
     true
 }
 
-/// Writes the value, and behind it 01, 02, 03 and so on up to a multiple of eight bytes (OpenSSH,
-/// PROTOCOL.key). Takes no memory.
+/// Writes the value, and after it 01, 02, 03 and so on up to a multiple of eight bytes (OpenSSH,
+/// PROTOCOL.key). Does not allocate.
 ///
-/// `Length` exactly where a box in the value would pass 2^32 - 1 bytes; any other refusal is the
-/// writer's own. Then it holds what it held, and a beginning of these bytes.
+/// Fails with `Length` exactly if a box in the value would exceed 2^32 - 1 bytes; any other error
+/// is the writer's own. Then it holds what it held, and a beginning of these bytes.
 #[tactic(auto, using(sshkey_base::proofs::Writing::writing))]
 pub fn encode_padded<T: Encode, W: Writer>(value: &T, writer: &mut W) -> encoding::Result<()>
     ensures { Encodes W.fault (padded (T.normal value.now))
@@ -67,7 +67,7 @@ pub fn encode_padded<T: Encode, W: Writer>(value: &T, writer: &mut W) -> encodin
     write_padding(len, writer)
 }
 
-/// Writes the padding behind so many bytes.
+/// Writes the padding after so many bytes.
 fn write_padding<W: Writer>(len: usize, writer: &mut W) -> encoding::Result<()>
     ensures { Encodes W.fault (bytes (padding len))
         (W.sink writer.old) result (W.sink writer.new) }

@@ -152,14 +152,13 @@ impl SigningKey for Fixed {
         &self.key
     }
 
-    /// 64 bytes 00 under Ed25519, whatever the message. Refused only when out of memory.
+    /// 64 bytes 00 under Ed25519, whatever the message. Fails only when out of memory.
     fn try_sign(&self, alloc: Global, _: &[u8]) -> Result<Signature> {
         Signature::new(Algorithm::Ed25519, vec![in alloc; 0; 64]?)
     }
 }
 
-/// A signer that signs nothing, as a device that is not there: every message is refused as
-/// `Crypto`.
+/// A signer that signs nothing, as a device that is not there: every message fails with `Crypto`.
 #[derive(Debug, Drop)]
 pub struct Absent {
     key: KeyData,

@@ -23,7 +23,7 @@ fn first_other(text: &[u8]) -> Option<usize>
     text.iter().position(|byte| !is_blank(*byte))
 }
 
-/// The text without the spaces and tabs at its front. Takes no memory.
+/// The text without the spaces and tabs at its front. Does not allocate.
 pub fn skip_blanks(text: &str) -> &str
     ensures { result.now ≡ without_blanks text.now }
 {
@@ -33,7 +33,7 @@ pub fn skip_blanks(text: &str) -> &str
     }
 }
 
-/// The text up to its first space or tab, and what follows from there. Takes no memory.
+/// The text up to its first space or tab, and what follows from there. Does not allocate.
 pub fn split_field(text: &str) -> (&str, &str)
     ensures { CutsField text.now result.0.now result.1.now }
 {

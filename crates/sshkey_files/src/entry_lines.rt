@@ -19,7 +19,7 @@ fn before_hash(line: &str) -> &str
     }
 }
 
-/// The line up to its first `#`, without the white space at its end, and what stands behind that.
+/// The line up to its first `#`, without the white space at its end, and what stands after that.
 fn split_entry(line: &str) -> (&str, &str)
     ensures { AreParts line.now result }
 {
@@ -27,8 +27,8 @@ fn split_entry(line: &str) -> (&str, &str)
     line.split_at(entry.len())
 }
 
-/// The lines of a text that have an entry: of each the entry, which is the line up to its first
-/// `#` without the white space at its end, and what stands behind the entry.
+/// The lines of a text that have an entry: of each the entry, which is the line up to its first `#`
+/// without the white space at its end, and what stands after the entry.
 ///
 /// Contracts see the list of the lines that are left.
 #[derive(Drop)]
@@ -43,7 +43,7 @@ impl<'a> Model for EntryLines<'a> {
 }
 
 impl<'a> EntryLines<'a> {
-    /// The lines of a text. Takes no memory.
+    /// The lines of a text. Does not allocate.
     pub fn new(text: &'a str) -> EntryLines<'a>
         ensures { result ≡ entry_lines text.now }
     {
@@ -87,7 +87,7 @@ impl<'a> Model for EntryTexts<'a> {
 }
 
 impl<'a> EntryTexts<'a> {
-    /// The entries of a text. Takes no memory.
+    /// The entries of a text. Does not allocate.
     pub fn new(text: &'a str) -> EntryTexts<'a>
         ensures { result ≡ entries text.now }
     {

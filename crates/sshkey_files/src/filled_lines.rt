@@ -31,7 +31,7 @@ impl<'a> Model for FilledLines<'a> {
 }
 
 impl<'a> FilledLines<'a> {
-    /// The lines of a text. Takes no memory.
+    /// The lines of a text. Does not allocate.
     pub fn new(text: &'a str) -> FilledLines<'a>
         ensures { result ≡ filled_lines text.now }
     {

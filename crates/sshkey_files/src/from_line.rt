@@ -45,7 +45,7 @@ pub fn entries_of_text<E: FromLine>(alloc: Global, text: &str) -> Result<Vec<E>>
 
 /// All entries of the text that a file holds, in order.
 ///
-/// The refusals of `sshkey_input::text_of_file`, and then those of `entries_of_text`.
+/// the errors of `sshkey_input::text_of_file`, and then those of `entries_of_text`.
 pub fn entries_of_file<R: Files, E: FromLine>(rt: &R, alloc: Global, path: &str) -> Result<Vec<E>>
     ensures { ReadsFile E.means E.IsEntry E.HasFault result }
 {

@@ -9,7 +9,7 @@ use std::alloc::Global;
 /// value (RFC 4251, section 5).
 ///
 /// Decoding fails with `Length` where the length passes what is left, without an allocation, and
-/// with `TrailingData` and the number of bytes where some are left in the string behind the value.
+/// with `TrailingData` and the number of bytes where some are left in the string after the value.
 #[derive(Drop)]
 pub struct Boxed<T>(pub T);
 

@@ -16,7 +16,7 @@ use sshkey_base::encoding::{Error, Result};
 use sshkey_base::{NestedReader, Reader, array_from, length_from};
 use std::str;
 
-/// A number of four bytes, most significant first. `Length` where fewer are left.
+/// A number of four bytes, most significant first. Fails with `Length` if fewer are left.
 #[tactic(auto, using(sshkey_base::proofs::Steps::steps), unfolding(sshkey_model::specs::Reading::number_at))]
 impl<R: Reader> ReadFrom<R> for u32 {
     type Error = Error;
@@ -33,7 +33,7 @@ impl<R: Reader> ReadFrom<R> for u32 {
     }
 }
 
-/// A number of eight bytes, most significant first. `Length` where fewer are left.
+/// A number of eight bytes, most significant first. Fails with `Length` if fewer are left.
 #[tactic(auto, using(sshkey_base::proofs::Steps::steps), unfolding(sshkey_model::specs::Reading::number_at))]
 impl<R: Reader> ReadFrom<R> for u64 {
     type Error = Error;
@@ -50,7 +50,8 @@ impl<R: Reader> ReadFrom<R> for u64 {
     }
 }
 
-/// A string of exactly `N` bytes. `Length` for a shorter one, `TrailingData` for a longer one.
+/// A string of exactly `N` bytes. Fails with `Length` for a shorter one, with `TrailingData` for a
+/// longer one.
 #[tactic(auto, using(sshkey_base::proofs::Boxes::boxes))]
 impl<const N: usize, R: Reader> ReadFrom<R> for [u8; N] {
     type Error = Error;
@@ -73,7 +74,7 @@ impl<const N: usize, R: Reader> ReadFrom<R> for [u8; N] {
     }
 }
 
-/// A string of any bytes. `Length` where the length or its bytes are not all there.
+/// A string of any bytes. Fails with `Length` if the length or its bytes are not all there.
 #[tactic(auto, using(crate::proofs::Walking::walking), unfolding(sshkey_model::specs::Reading::string_at))]
 impl<'a> ReadFrom<&'a [u8]> for &'a [u8] {
     type Error = Error;
@@ -108,7 +109,7 @@ impl<'a> ReadFrom<&'a [u8]> for &'a str {
     }
 }
 
-/// The next `len` bytes. `Length` where fewer are left.
+/// The next `len` bytes. Fails with `Length` if fewer are left.
 pub fn bytes_from<'a>(len: usize, bytes: &mut &'a [u8]) -> Result<&'a [u8]>
     ensures { GivesAlways (λ b. b.now) encoding_cause (bytes_at len)
         (all_of bytes.old.now) result (all_of bytes.new.now) }
@@ -118,7 +119,7 @@ pub fn bytes_from<'a>(len: usize, bytes: &mut &'a [u8]) -> Result<&'a [u8]>
     Ok(front)
 }
 
-/// The next `len` bytes, and what stands behind them. `Length` where fewer are left.
+/// The next `len` bytes, and what stands after them. Fails with `Length` if fewer are left.
 fn split_bytes(len: usize, bytes: &[u8]) -> Result<(&[u8], &[u8])>
     ensures { AnswersAlways (λ p. (p.0.now, p.1.now)) encoding_cause (bytes_at len bytes.now)
         result }
@@ -129,7 +130,7 @@ fn split_bytes(len: usize, bytes: &[u8]) -> Result<(&[u8], &[u8])>
     Ok(bytes.split_at(len))
 }
 
-/// The text of the bytes. `CharacterEncoding` where they are not UTF-8.
+/// The text of the bytes. Fails with `CharacterEncoding` if they are not UTF-8.
 fn text_of(bytes: &[u8]) -> Result<&str>
     ensures { AnswersAlways (λ t. t.now) encoding_cause (text_from bytes.now) result }
 {

@@ -1,5 +1,5 @@
-//! The terms that a format is made of: a value behind another, a value in a string, and a value
-//! that fails with the wider error.
+//! The terms that a format is made of: a value after another, a value in a string, and a value that
+//! fails with the wider error.
 //!
 //! Each term is a [`Decode`](sshkey_base::Decode), proved once, so that a record of several fields
 //! is one term and a pattern:

@@ -9,9 +9,9 @@ use sshkey_base::{Reader, Refusal};
 /// is read.
 ///
 /// Its format is that of its owned form, where it has one: so the same bytes are accepted, and the
-/// others are refused with the same faults.
+/// others are rejected with the same faults.
 pub trait ReadFrom<R: Reader>: Sized {
-    /// Why bytes are refused.
+    /// Why bytes are rejected.
     type Error: Refusal;
 
     /// What a value means: the model's value.
@@ -26,8 +26,8 @@ pub trait ReadFrom<R: Reader>: Sized {
     /// Reads a value from the front, and leaves what follows it.
     ///
     /// It is what the plain reader gives of the bytes that are left, and where the plain reader
-    /// refuses them, a sound source is refused with its fault. Takes no memory. After a refusal
-    /// some of the bytes that were left may be passed.
+    /// rejects them, a sound source is rejected with its fault. Does not allocate. After an error
+    /// some of the remaining bytes may have been consumed.
     fn read_from(reader: &mut R) -> Result<Self, Self::Error>
         ensures { GivesAlways means Self.Error.cause format.read
             (R.source reader.old) result (R.source reader.new) };

@@ -1,4 +1,4 @@
-//! A value behind another.
+//! A value after another.
 
 ghost use Rattle.sshkey_format.specs.Terms.{◌then◌};
 
@@ -6,7 +6,7 @@ use crate::read_from::ReadFrom;
 use sshkey_base::{Decode, Reader};
 use std::alloc::Global;
 
-/// Two values, the second directly behind the first.
+/// Two values, the second directly after the first.
 ///
 /// Decoding reads the first and then the second, and fails with the first error. It allocates only
 /// where one of the two does. Three values are a `Then` whose second is a `Then`.
@@ -33,8 +33,7 @@ impl<A: Decode + Drop, B: Decode<Error = A::Error>> Decode for Then<A, B> {
 
 #[tactic(auto, using(sshkey_base::proofs::Steps::steps), unfolding(crate::specs::Behind::behind_at))]
 impl<R: Reader, A: ReadFrom<R> + Drop, B: ReadFrom<R, Error = A::Error>> ReadFrom<R>
-    for Then<A, B>
-{
+    for Then<A, B> {
     type Error = A::Error;
 
     ghost Meaning = { A.Meaning × B.Meaning };

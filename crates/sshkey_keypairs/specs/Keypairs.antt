@@ -42,10 +42,10 @@ keypair_parts (kinds.SkEd25519 k) = normal_keypair (sk_ed25519_pair_of k)
 keypair_parts (kinds.Other k) = normal_keypair (opaque_pair_of k)
 
 -- the algorithm, under a private-use name the one that stands beside the public key
-abbrev pub algorithm_beside : KeypairData → Option Algorithm
-algorithm_beside (kinds.Encrypted c) = None
-algorithm_beside (kinds.Other k) = Some (algorithm_of k.public.algorithm)
-algorithm_beside k = option_map pair_algorithm (pair_of k)
+abbrev pub stored_algorithm : KeypairData → Option Algorithm
+stored_algorithm (kinds.Encrypted c) = None
+stored_algorithm (kinds.Other k) = Some (algorithm_of k.public.algorithm)
+stored_algorithm k = option_map pair_algorithm (pair_of k)
 
 -- the ciphertext; a pair has none
 abbrev pub ciphertext_of : KeypairData → List ℕ
@@ -54,7 +54,7 @@ ciphertext_of k = []
 
 -- the pair and its algorithm, or the ciphertext
 abbrev pub pair_fields : KeypairData → Option KeyPair × (Option Algorithm × List ℕ)
-pair_fields k = (pair_of k, (algorithm_beside k, ciphertext_of k))
+pair_fields k = (pair_of k, (stored_algorithm k, ciphertext_of k))
 
 -- the public half
 abbrev pub public_of : KeypairData → Option Key

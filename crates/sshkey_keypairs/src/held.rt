@@ -32,8 +32,8 @@ impl Drop for Held {
 }
 
 impl Held {
-    /// What is kept of a new key, with no reserved bytes. `Length` for a key handle of more than
-    /// 255 bytes.
+    /// What is kept of a new key, with no reserved bytes. Fails with `Length` for a key handle of
+    /// more than 255 bytes.
     pub(crate) fn new(flags: u8, key_handle: Vec<u8>) -> Result<Held>
         ensures exactly { IsOk result ↔ (length key_handle.items ≤ 255) }
         ensures value { IfOk result (λ h. held_of h ≡ held_anew flags key_handle.items) }
@@ -50,7 +50,7 @@ impl Held {
         })
     }
 
-    /// The same in memory of its own. Refuses only when out of memory.
+    /// The same in memory of its own. Fails only when out of memory.
     pub(crate) fn try_clone(&self, alloc: Global) -> Result<Held>
         ensures value { IfOk result (λ h. held_of h ≡ held_of self.now) }
         ensures refused { IfErr result (λ e. e ≡ Error.Memory) }

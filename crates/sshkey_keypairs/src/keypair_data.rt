@@ -5,11 +5,11 @@ ghost use Rattle.sshkey_base.specs.Causes.{cause};
 ghost use Rattle.sshkey_base.specs.Names.{algorithm_of, curve_of};
 ghost use Rattle.sshkey_base.specs.Needs.{Asks};
 ghost use Rattle.sshkey_base.specs.Source.{Later};
-ghost use Rattle.sshkey_keys.specs.Keys.{key_of, algorithm_beside as key_algorithm_beside};
+ghost use Rattle.sshkey_keys.specs.Keys.{key_of, stored_algorithm as key_algorithm_beside};
 ghost use Rattle.sshkey_model.specs.KeyPairs.{IsKeyPair, xor_all, words};
 ghost use Rattle.sshkey_model.specs.Keys.{IsKey, unhashed};
 ghost use Rattle.sshkey_model.specs.Names.{Dsa, Ecdsa, Ed25519, Rsa, SkEcdsa, SkEd25519 as AlgorithmSkEd25519, Other, algorithm_name};
-ghost use Rattle.sshkey_keypairs.specs.Keypairs.{pair_fields, pair_of, keypair_parts, public_of, algorithm_beside, checkint_of, GivesPair, GivesModelPair, StopsPair, StopsModelPair};
+ghost use Rattle.sshkey_keypairs.specs.Keypairs.{pair_fields, pair_of, keypair_parts, public_of, stored_algorithm, checkint_of, GivesPair, GivesModelPair, StopsPair, StopsModelPair};
 ghost use Rattle.sshkey_keypairs.specs.KeypairFormats.{NeedsPair};
 ghost use Rattle.sshkey_keypairs.specs.PairKinds.{is_encrypted, is_opaque};
 
@@ -67,14 +67,14 @@ impl Drop for KeypairData {
 }
 
 impl KeypairData {
-    /// Reads what stands behind the name of that algorithm, an RSA pair's with or without a hash,
+    /// Reads what stands after the name of that algorithm, an RSA pair's with or without a hash,
     /// which is not kept.
     ///
-    /// A sound source is refused only where no front is such a pair, with the first fault from the
-    /// left, or for memory that ran out, where the pair needs some.
-    /// Of a source with a fault, what stands whole before it is refused only for memory that it
-    /// needs, and where a stated length passes all that was announced, the call fails with
-    /// `Length`, unless memory ran out for a value before it.
+    /// A sound source is rejected only if no front is such a pair, with the first fault from the
+    /// left, or for memory that ran out, where the pair needs some. Of a source with a fault, what
+    /// stands whole before it is rejected only for memory that it needs, and where a stated length
+    /// passes all that was announced, the call fails with `Length`, unless memory ran out for a
+    /// value before it.
     #[tactic(auto, using(crate::proofs::SameReaders::model_gives, crate::proofs::SameReaders::model_stops))]
     pub fn decode_as<R: Reader>(
         alloc: Global,
@@ -84,7 +84,7 @@ impl KeypairData {
         ensures gives { GivesModelPair (algorithm_of algorithm)
             R.source reader.old result reader.new }
         ensures algorithm { IfOk result
-            (λ k. algorithm_beside k ≡ Some (unhashed (algorithm_of algorithm))) }
+            (λ k. stored_algorithm k ≡ Some (unhashed (algorithm_of algorithm))) }
         ensures later { Later (R.source reader.old) (R.source reader.new) }
         ensures asks { Asks cause (NeedsPair (algorithm_of algorithm))
             (R.source reader.old) result }
@@ -110,8 +110,8 @@ impl KeypairData {
         }
     }
 
-    /// The same pair under the same algorithm, or the same ciphertext, in memory of its own.
-    /// Refuses only when out of memory.
+    /// A copy of the pair under the same algorithm, or the same ciphertext,. Fails only when out of
+    /// memory.
     pub fn try_clone(&self, alloc: Global) -> Result<KeypairData>
         ensures value { IfOk result (λ k. pair_of k ≡ pair_of self.now) }
         ensures fields { IfOk result (λ k. pair_fields k ≡ pair_fields self.now) }
@@ -135,10 +135,10 @@ impl KeypairData {
     }
 
     /// The algorithm; that of a pair under a private-use name is the one that stands beside its
-    /// public key. `Encrypted` for an encrypted pair; else refused only when out of memory, and
-    /// only under a private-use name.
+    /// public key. Fails with `Encrypted` for an encrypted pair; else rejected only when out of
+    /// memory, and only under a private-use name.
     pub fn algorithm(&self, alloc: Global) -> Result<Algorithm>
-        ensures value { IfOk result (λ a. algorithm_beside self.now ≡ Some (algorithm_of a)) }
+        ensures value { IfOk result (λ a. stored_algorithm self.now ≡ Some (algorithm_of a)) }
         ensures encrypted { is_encrypted self.now ≡ true → result ≡ Err Error.Encrypted }
         ensures refused { is_encrypted self.now ≡ false → IfErr result (λ e. e ≡ Error.Memory) }
         ensures fixed { is_encrypted self.now ≡ false → is_opaque self.now ≡ false → IsOk result }
@@ -156,11 +156,12 @@ impl KeypairData {
     }
 
     /// The public half, under the same algorithm; a well-formed key of a well-formed pair, as each
-    /// is that was read. `Encrypted` for an encrypted pair; else refused only when out of memory.
+    /// is that was read. Fails with `Encrypted` for an encrypted pair; else rejected only when out
+    /// of memory.
     pub fn to_public(&self, alloc: Global) -> Result<KeyData>
         ensures value { IfOk result (λ k. public_of self.now ≡ Some (key_of k)) }
         ensures algorithm { IfOk result
-            (λ k. algorithm_beside self.now ≡ Some (key_algorithm_beside k)) }
+            (λ k. stored_algorithm self.now ≡ Some (key_algorithm_beside k)) }
         ensures form { IfSome (pair_of self.now) IsKeyPair → IfOk result (λ k. IsKey (key_of k)) }
         ensures encrypted { is_encrypted self.now ≡ true → result ≡ Err Error.Encrypted }
         ensures refused { is_encrypted self.now ≡ false → IfErr result (λ e. e ≡ Error.Memory) }
@@ -182,8 +183,8 @@ impl KeypairData {
 
 /// The name of the algorithm and the pair. An encrypted pair is never read by itself.
 ///
-/// An RSA pair may stand under a name with a hash, which is not kept. `Label` for a name of no
-/// algorithm, and the faults of the kind.
+/// An RSA pair may stand under a name with a hash, which is not kept. Fails with `Label` for a name
+/// of no algorithm, and with the faults of the kind.
 #[tactic(auto, using(sshkey_format::proofs::Chosen::chosen, crate::specs::KeypairFormats::keypair_chosen))]
 impl Decode for KeypairData {
     ghost use Rattle.sshkey_model.specs.KeyPairs.{KeyPair};
@@ -207,7 +208,7 @@ impl Decode for KeypairData {
 fn pair_from<R: Reader>(alloc: Global, reader: &mut R, algorithm: Algorithm) -> Result<KeypairData>
     ensures gives { GivesPair (algorithm_of algorithm) R.source reader.old result reader.new }
     ensures algorithm { IfOk result
-        (λ k. algorithm_beside k ≡ Some (unhashed (algorithm_of algorithm))) }
+        (λ k. stored_algorithm k ≡ Some (unhashed (algorithm_of algorithm))) }
     ensures later { Later (R.source reader.old) (R.source reader.new) }
     ensures asks { Asks cause (NeedsPair (algorithm_of algorithm)) (R.source reader.old) result }
     ensures past { StopsPair (algorithm_of algorithm) R.source reader.old result }
@@ -227,7 +228,7 @@ fn pair_from<R: Reader>(alloc: Global, reader: &mut R, algorithm: Algorithm) -> 
 #[tactic(auto, using(sshkey_base::proofs::Steps::steps, sshkey_base::proofs::Stopping::stopping))]
 fn dsa_from<R: Reader>(alloc: Global, reader: &mut R) -> Result<KeypairData>
     ensures gives { GivesPair Dsa R.source reader.old result reader.new }
-    ensures algorithm { IfOk result (λ k. algorithm_beside k ≡ Some Dsa) }
+    ensures algorithm { IfOk result (λ k. stored_algorithm k ≡ Some Dsa) }
     ensures later { Later (R.source reader.old) (R.source reader.new) }
     ensures asks { Asks cause (NeedsPair Dsa) (R.source reader.old) result }
     ensures past { StopsPair Dsa R.source reader.old result }
@@ -236,11 +237,12 @@ fn dsa_from<R: Reader>(alloc: Global, reader: &mut R) -> Result<KeypairData>
     Ok(KeypairData::Dsa(pair))
 }
 
-/// An ECDSA pair on that curve. `AlgorithmUnknown` for another curve, after the scalar was read.
+/// An ECDSA pair on that curve. Fails with `AlgorithmUnknown` for another curve, after the scalar
+/// was read.
 #[tactic(auto, using(sshkey_base::proofs::Steps::steps, sshkey_base::proofs::Stopping::stopping))]
 fn ecdsa_from<R: Reader>(alloc: Global, reader: &mut R, curve: EcdsaCurve) -> Result<KeypairData>
     ensures gives { GivesPair (Ecdsa (curve_of curve)) R.source reader.old result reader.new }
-    ensures algorithm { IfOk result (λ k. algorithm_beside k ≡ Some (Ecdsa (curve_of curve))) }
+    ensures algorithm { IfOk result (λ k. stored_algorithm k ≡ Some (Ecdsa (curve_of curve))) }
     ensures later { Later (R.source reader.old) (R.source reader.new) }
     ensures asks { Asks cause (NeedsPair (Ecdsa (curve_of curve))) (R.source reader.old) result }
     ensures past { StopsPair (Ecdsa (curve_of curve)) R.source reader.old result }
@@ -256,7 +258,7 @@ fn ecdsa_from<R: Reader>(alloc: Global, reader: &mut R, curve: EcdsaCurve) -> Re
 #[tactic(auto, using(sshkey_base::proofs::Steps::steps, sshkey_base::proofs::Stopping::stopping))]
 fn ed25519_from<R: Reader>(alloc: Global, reader: &mut R) -> Result<KeypairData>
     ensures gives { GivesPair Ed25519 R.source reader.old result reader.new }
-    ensures algorithm { IfOk result (λ k. algorithm_beside k ≡ Some Ed25519) }
+    ensures algorithm { IfOk result (λ k. stored_algorithm k ≡ Some Ed25519) }
     ensures later { Later (R.source reader.old) (R.source reader.new) }
     ensures asks { Asks cause (NeedsPair Ed25519) (R.source reader.old) result }
     ensures past { StopsPair Ed25519 R.source reader.old result }
@@ -269,7 +271,7 @@ fn ed25519_from<R: Reader>(alloc: Global, reader: &mut R) -> Result<KeypairData>
 #[tactic(auto, using(sshkey_base::proofs::Steps::steps, sshkey_base::proofs::Stopping::stopping))]
 fn rsa_from<R: Reader>(alloc: Global, reader: &mut R) -> Result<KeypairData>
     ensures gives { GivesPair (Rsa None) R.source reader.old result reader.new }
-    ensures algorithm { IfOk result (λ k. algorithm_beside k ≡ Some (Rsa None)) }
+    ensures algorithm { IfOk result (λ k. stored_algorithm k ≡ Some (Rsa None)) }
     ensures later { Later (R.source reader.old) (R.source reader.new) }
     ensures asks { Asks cause (NeedsPair (Rsa None)) (R.source reader.old) result }
     ensures past { StopsPair (Rsa None) R.source reader.old result }
@@ -282,7 +284,7 @@ fn rsa_from<R: Reader>(alloc: Global, reader: &mut R) -> Result<KeypairData>
 #[tactic(auto, using(sshkey_base::proofs::Steps::steps, sshkey_base::proofs::Stopping::stopping))]
 fn sk_ecdsa_from<R: Reader>(alloc: Global, reader: &mut R) -> Result<KeypairData>
     ensures gives { GivesPair SkEcdsa R.source reader.old result reader.new }
-    ensures algorithm { IfOk result (λ k. algorithm_beside k ≡ Some SkEcdsa) }
+    ensures algorithm { IfOk result (λ k. stored_algorithm k ≡ Some SkEcdsa) }
     ensures later { Later (R.source reader.old) (R.source reader.new) }
     ensures asks { Asks cause (NeedsPair SkEcdsa) (R.source reader.old) result }
     ensures past { StopsPair SkEcdsa R.source reader.old result }
@@ -295,7 +297,7 @@ fn sk_ecdsa_from<R: Reader>(alloc: Global, reader: &mut R) -> Result<KeypairData
 #[tactic(auto, using(sshkey_base::proofs::Steps::steps, sshkey_base::proofs::Stopping::stopping))]
 fn sk_ed25519_from<R: Reader>(alloc: Global, reader: &mut R) -> Result<KeypairData>
     ensures gives { GivesPair AlgorithmSkEd25519 R.source reader.old result reader.new }
-    ensures algorithm { IfOk result (λ k. algorithm_beside k ≡ Some AlgorithmSkEd25519) }
+    ensures algorithm { IfOk result (λ k. stored_algorithm k ≡ Some AlgorithmSkEd25519) }
     ensures later { Later (R.source reader.old) (R.source reader.new) }
     ensures asks { Asks cause (NeedsPair AlgorithmSkEd25519) (R.source reader.old) result }
     ensures past { StopsPair AlgorithmSkEd25519 R.source reader.old result }
@@ -312,7 +314,7 @@ fn opaque_from<R: Reader>(
 ) -> Result<KeypairData>
     ensures gives { GivesPair (Other (algorithm_name (algorithm_of algorithm)))
         R.source reader.old result reader.new }
-    ensures algorithm { IfOk result (λ k. algorithm_beside k ≡ Some (algorithm_of algorithm)) }
+    ensures algorithm { IfOk result (λ k. stored_algorithm k ≡ Some (algorithm_of algorithm)) }
     ensures later { Later (R.source reader.old) (R.source reader.new) }
     ensures asks { Asks cause (NeedsPair (Other (algorithm_name (algorithm_of algorithm))))
         (R.source reader.old) result }

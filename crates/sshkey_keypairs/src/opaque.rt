@@ -41,7 +41,7 @@ impl OpaquePrivateKeyBytes {
         self.bytes.as_slice()
     }
 
-    /// The same bytes in memory of their own. Refuses only when out of memory.
+    /// A copy of the bytes. Fails only when out of memory.
     pub fn try_clone(&self, alloc: Global) -> Result<OpaquePrivateKeyBytes>
         ensures value { IfOk result (λ k. opaque_private_of k ≡ opaque_private_of self.now) }
         ensures refused { IfErr result (λ e. e ≡ Error.Memory) }
@@ -61,7 +61,8 @@ impl AsSlice<u8> for OpaquePrivateKeyBytes {
     }
 }
 
-/// A string of any bytes. `Length` where it passes what is left, which no memory is asked for.
+/// A string of any bytes. Fails with `Length` if it passes what is left, which no memory is asked
+/// for.
 #[tactic(auto, using(sshkey_base::proofs::Steps::steps))]
 impl Decode for OpaquePrivateKeyBytes {
     ghost use Rattle.sshkey_base.specs.Causes.{encoding_cause};
@@ -115,7 +116,7 @@ pub struct OpaqueKeypairBytes {
 }
 
 impl OpaqueKeypairBytes {
-    /// The same bytes in memory of their own. Refuses only when out of memory.
+    /// A copy of the bytes. Fails only when out of memory.
     pub fn try_clone(&self, alloc: Global) -> Result<OpaqueKeypairBytes>
         ensures value { IfOk result (λ k. nameless_pair_of k ≡ nameless_pair_of self.now) }
         ensures refused { IfErr result (λ e. e ≡ Error.Memory) }
@@ -127,8 +128,8 @@ impl OpaqueKeypairBytes {
     }
 }
 
-/// A string of the public bytes, and one of the private bytes. `Length` where one passes what is
-/// left.
+/// A string of the public bytes, and one of the private bytes. Fails with `Length` if one passes
+/// what is left.
 #[tactic(auto, using(sshkey_format::proofs::Mapped::mapped, crate::specs::KeypairFormats::nameless_parts_read))]
 impl Decode for OpaqueKeypairBytes {
     ghost use Rattle.std.specs.Prelude.{[]};
@@ -160,7 +161,7 @@ pub struct OpaqueKeypair {
 }
 
 impl OpaqueKeypair {
-    /// The pair of that public key and these private bytes. Takes no memory.
+    /// The pair of that public key and these private bytes. Does not allocate.
     pub fn new(private_key: Vec<u8>, public: OpaquePublicKey) -> OpaqueKeypair
         ensures value { opaque_pair_of result ≡ OpaquePair
             (algorithm_name (algorithm_of public.algorithm)) public.key private_key.items }
@@ -181,7 +182,7 @@ impl OpaqueKeypair {
         self.public.algorithm()
     }
 
-    /// The same pair in memory of its own. Refuses only when out of memory.
+    /// A copy of the pair. Fails only when out of memory.
     pub fn try_clone(&self, alloc: Global) -> Result<OpaqueKeypair>
         ensures value { IfOk result (λ k. opaque_pair_of k ≡ opaque_pair_of self.now) }
         ensures fields { IfOk result (λ k. opaque_fields k.public ≡ opaque_fields self.now.public) }

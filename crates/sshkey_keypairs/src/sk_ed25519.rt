@@ -23,8 +23,8 @@ pub struct SkEd25519 {
 }
 
 impl SkEd25519 {
-    /// The pair of that key, with no reserved bytes. `Length` for a key handle of more than 255
-    /// bytes. Takes no memory but that of the vector handed in.
+    /// The pair of that key, with no reserved bytes. Fails with `Length` for a key handle of more
+    /// than 255 bytes. Does not allocate but that of the vector handed in.
     pub fn new(public: PublicSkEd25519, flags: u8, key_handle: Vec<u8>) -> Result<SkEd25519>
         ensures exactly { IsOk result ↔ (length key_handle.items ≤ 255) }
         ensures public { IfOk result (λ k. sk_ed25519_public k ≡ public) }
@@ -56,7 +56,7 @@ impl SkEd25519 {
         self.held.key_handle.as_slice()
     }
 
-    /// The same pair in memory of its own. Refuses only when out of memory.
+    /// A copy of the pair. Fails only when out of memory.
     pub fn try_clone(&self, alloc: Global) -> Result<SkEd25519>
         ensures value { IfOk result (λ k. sk_ed25519_pair_of k ≡ sk_ed25519_pair_of self.now) }
         ensures refused { IfErr result (λ e. e ≡ Error.Memory) }
@@ -79,7 +79,7 @@ impl fmt::Debug for SkEd25519 {
 
 /// The public key, the flags, the key handle and the reserved bytes.
 ///
-/// The refusals of the public key, and then `Length` where a string passes what is left. The key
+/// the errors of the public key, and then `Length` where a string passes what is left. The key
 /// handle may have any number of bytes.
 #[tactic(auto, using(sshkey_format::proofs::Mapped::mapped, crate::specs::KeypairFormats::sk_ed25519_pair_parts_read))]
 impl Decode for SkEd25519 {

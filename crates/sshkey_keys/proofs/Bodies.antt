@@ -21,7 +21,7 @@ use Rattle.sshkey_kinds.specs.KeyFormats.{ecdsa_format}
 use Rattle.sshkey_format.proofs.Tested.{tested_stopped}
 use Rattle.sshkey_keys.specs.declared.key_data.KeyData.{KeyData}
 use Rattle.sshkey_keys.specs.declared.key_data.KeyData.TheVariants as kinds
-use Rattle.sshkey_keys.specs.Keys.{algorithm_beside, key_of}
+use Rattle.sshkey_keys.specs.Keys.{stored_algorithm, key_of}
 use Rattle.sshkey_keys.specs.KeyFormats.{body_format}
 use Rattle.sshkey_keys.specs.KeyReaders.{body_grammar}
 use Rattle.sshkey_keys.specs.ReadBodies.{ReadsBody}
@@ -35,7 +35,7 @@ abbrev is_named : Algorithm → Bool
 is_named (Algorithm.Other n) = false
 is_named a = true
 
-not_opaque : (k : KeyData) (a : Algorithm) → is_named a ≡ true → key_algorithm (key_of k) ≡ a → algorithm_beside k ≡ a
+not_opaque : (k : KeyData) (a : Algorithm) → is_named a ≡ true → key_algorithm (key_of k) ≡ a → stored_algorithm k ≡ a
 not_opaque (kinds.Other k) a named is = absurd (other a named (sym is))
   where
     other : (a : Algorithm) {n : _} → is_named a ≡ true → a ≡ Algorithm.Other n → ⊥
@@ -48,7 +48,7 @@ not_opaque (kinds.SkEcdsaSha2NistP256 k) a named is = is
 not_opaque (kinds.SkEd25519 k) a named is = is
 
 -- What is read under a fixed name stands under it.
-pub body_beside : (a : Algorithm) (s t : Source) (r : Result KeyData Error) → is_named (unhashed a) ≡ true → Gives key_of cause (body_at a) s r t → IfOk r (λ k. algorithm_beside k ≡ unhashed a)
+pub body_beside : (a : Algorithm) (s t : Source) (r : Result KeyData Error) → is_named (unhashed a) ≡ true → Gives key_of cause (body_at a) s r t → IfOk r (λ k. stored_algorithm k ≡ unhashed a)
 body_beside a s t (Ok k) named gives = not_opaque k (unhashed a) named (((body_reads a).takes s.left (key_of k) t.left gives.value).0.0)
 body_beside a s t (Err e) named gives = tt
 

@@ -5,7 +5,7 @@ use Rattle.sshkey_model.specs.Names.{Algorithm, Dsa, Ecdsa, Ed25519, Rsa, SkEcds
 use Rattle.sshkey_base.specs.Names.{algorithm_of}
 use Rattle.sshkey_keys.specs.declared.key_data.KeyData.{KeyData}
 use Rattle.sshkey_keys.specs.declared.key_data.KeyData.TheVariants as kinds
-use Rattle.sshkey_keys.specs.Keys.{key_of, algorithm_beside}
+use Rattle.sshkey_keys.specs.Keys.{key_of, stored_algorithm}
 
 own_algorithm : (a : Algorithm) → IsAlgorithm (Other (algorithm_name a)) → a ≡ Other (algorithm_name a)
 unfolding is_other_name is_own_name named cut
@@ -24,7 +24,7 @@ own_algorithm (Other n) is = refl
 pub same_name : (a b : Algorithm) → IsAlgorithm (Other (algorithm_name a)) → IsAlgorithm (Other (algorithm_name b)) → algorithm_name a ≡ algorithm_name b → a ≡ b
 same_name a b is_a is_b e = own_algorithm a is_a ∙ ap (λ (n : List ℕ). Other n) e ∙ sym (own_algorithm b is_b)
 
-pub well_formed_algorithm : (k : KeyData) → IsKey (key_of k) → algorithm_beside k ≡ key_algorithm (key_of k)
+pub well_formed_algorithm : (k : KeyData) → IsKey (key_of k) → stored_algorithm k ≡ key_algorithm (key_of k)
 well_formed_algorithm (kinds.Dsa k) is = refl
 well_formed_algorithm (kinds.Ecdsa k) is = refl
 well_formed_algorithm (kinds.Ed25519 k) is = refl

@@ -25,9 +25,9 @@ key_of (kinds.SkEd25519 k) = sk_ed25519_of k
 key_of (kinds.Other k) = opaque_of k
 
 -- its algorithm; an opaque key's is the one beside its bytes, whichever that is
-abbrev pub algorithm_beside : KeyData → Algorithm
-algorithm_beside (kinds.Other k) = algorithm_of k.algorithm
-algorithm_beside k = key_algorithm (key_of k)
+abbrev pub stored_algorithm : KeyData → Algorithm
+stored_algorithm (kinds.Other k) = algorithm_of k.algorithm
+stored_algorithm k = key_algorithm (key_of k)
 
 -- the bytes spell the key, whose name stands before its body
 abbrev pub SpellsKey : Key → List ℕ → Type 0

@@ -11,7 +11,7 @@ use Rattle.sshkey_base.specs.Reading.{Gives}
 use Rattle.sshkey_base.specs.Source.{Source, Later}
 use Rattle.sshkey_keys.specs.declared.key_data.KeyData.{KeyData}
 use Rattle.sshkey_keys.specs.KeyFormats.{body_format}
-use Rattle.sshkey_keys.specs.Keys.{algorithm_beside, key_of}
+use Rattle.sshkey_keys.specs.Keys.{stored_algorithm, key_of}
 
 -- The key is one under that algorithm, read where its body is spelled.
 pub record ReadsBody (algorithm : Algorithm) (s : Source) (result : Result KeyData Error) (t : Source) : Type 0 where
@@ -19,4 +19,4 @@ pub record ReadsBody (algorithm : Algorithm) (s : Source) (result : Result KeyDa
   pub later : Later s t
   pub asks : Asks cause (body_format (algorithm_of algorithm)).needs s result
   pub past : Stops cause (body_format (algorithm_of algorithm)) s result
-  pub beside : IfOk result (λ k. algorithm_beside k ≡ unhashed (algorithm_of algorithm))
+  pub beside : IfOk result (λ k. stored_algorithm k ≡ unhashed (algorithm_of algorithm))

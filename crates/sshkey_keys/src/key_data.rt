@@ -13,7 +13,7 @@ ghost use Rattle.sshkey_base.specs.Source.{Later};
 ghost use Rattle.sshkey_base.specs.Sink.{Encodes, Measures};
 ghost use Rattle.sshkey_kinds.specs.Bodies.{SpellsBody};
 ghost use Rattle.sshkey_keys.specs.Fingerprints.{GivesFingerprint, IsShort};
-ghost use Rattle.sshkey_keys.specs.Keys.{DecodesBody, key_of, algorithm_beside};
+ghost use Rattle.sshkey_keys.specs.Keys.{DecodesBody, key_of, stored_algorithm};
 ghost use Rattle.sshkey_keys.specs.KeyKinds.{is_ecdsa, is_ed25519};
 ghost use Rattle.sshkey_keys.specs.KeyFormats.{body_format, key_format};
 ghost use Rattle.sshkey_keys.specs.KeyReaders.{key_normal};
@@ -91,16 +91,16 @@ impl KeyData {
         }
     }
 
-    /// The key's algorithm. That of an opaque key is the one that stands beside its bytes, and for
+    /// The key's algorithm. That of an opaque key is the one that is kept beside its bytes, and for
     /// a well-formed key the one that its name tells.
     ///
-    /// Refused only when out of memory, and only under a private-use name.
+    /// Fails only when out of memory, and only under a private-use name.
     #[tactic(auto, using(crate::proofs::OwnAlgorithms::well_formed_algorithm))]
     pub fn algorithm(&self, alloc: Global) -> Result<Algorithm>
-        ensures ok { IfOk result (λ a. algorithm_of a ≡ algorithm_beside self.now) }
+        ensures ok { IfOk result (λ a. algorithm_of a ≡ stored_algorithm self.now) }
         ensures well_formed { IsKey (key_of self.now) →
-            algorithm_beside self.now ≡ key_algorithm (key_of self.now) }
-        ensures fixed { IsFixed (algorithm_beside self.now) → IsOk result }
+            stored_algorithm self.now ≡ key_algorithm (key_of self.now) }
+        ensures fixed { IsFixed (stored_algorithm self.now) → IsOk result }
         ensures err { IfErr result (λ e. e ≡ Error.Memory) }
     {
         Ok(match self {
@@ -114,11 +114,10 @@ impl KeyData {
         })
     }
 
-    /// The same key in memory of its own. Refuses only when out of memory, and of an ECDSA or an
-    /// Ed25519 key never.
+    /// A copy of the key. Fails only when out of memory, and of an ECDSA or an Ed25519 key never.
     pub fn try_clone(&self, alloc: Global) -> Result<KeyData>
         ensures value { IfOk result (λ k. key_of k ≡ key_of self.now) }
-        ensures algorithm { IfOk result (λ k. algorithm_beside k ≡ algorithm_beside self.now) }
+        ensures algorithm { IfOk result (λ k. stored_algorithm k ≡ stored_algorithm self.now) }
         ensures refused { IfErr result (λ e. e ≡ Error.Memory) }
         ensures in_place { IsTrue (is_ecdsa (key_of self.now) || is_ed25519 (key_of self.now)) →
             IsOk result }
@@ -138,9 +137,8 @@ impl KeyData {
 
     /// The fingerprint by that hash: the digest of the key's normal form.
     ///
-    /// Exactly where a part of the key is longer than 2^32 - 1 bytes, the answer is `Length`;
-    /// otherwise it is refused only when out of memory. A key of at most 256 bytes is never
-    /// refused.
+    /// Fails with `Length` exactly if a part of the key is longer than 2^32 - 1 bytes, and
+    /// otherwise only when out of memory. A key of at most 256 bytes is never rejected.
     pub fn fingerprint(&self, alloc: Global, hash_alg: HashAlg) -> Result<Fingerprint>
         ensures gives { GivesFingerprint (hash_of hash_alg) (key_of self.now) result }
         ensures short { IsShort (key_of self.now) → IsOk result }
@@ -148,12 +146,12 @@ impl KeyData {
         Fingerprint::new(alloc, hash_alg, self)
     }
 
-    /// Reads what stands behind the name of that algorithm, an RSA key's with or without a hash,
+    /// Reads what stands after the name of that algorithm, an RSA key's with or without a hash,
     /// which is not kept. The key's algorithm is that one, also beside an opaque key's bytes.
     ///
-    /// The bytes taken spell the body. A sound source is refused only where no front is the body
-    /// of such a key, with the first fault from the left, or for memory that ran out, where the
-    /// body needs some.
+    /// The bytes taken spell the body. A sound source is rejected only if no front is the body of
+    /// such a key, with the first fault from the left, or for memory that ran out, where the body
+    /// needs some.
     #[tactic(auto, using(crate::proofs::Bodies::body_accepted))]
     pub fn decode_as<R: Reader>(
         alloc: Global,
@@ -164,7 +162,7 @@ impl KeyData {
         ensures later { Later (R.source reader.old) (R.source reader.new) }
         ensures accepts { AcceptsFront key_of (SpellsBody (algorithm_of algorithm)) cause
             (R.source reader.old) result (R.source reader.new) }
-        ensures beside { IfOk result (λ k. algorithm_beside k ≡ unhashed (algorithm_of algorithm)) }
+        ensures beside { IfOk result (λ k. stored_algorithm k ≡ unhashed (algorithm_of algorithm)) }
         ensures asks { Asks cause (body_format (algorithm_of algorithm)).needs
             (R.source reader.old) result }
         ensures past { Stops cause (body_format (algorithm_of algorithm))
@@ -173,8 +171,8 @@ impl KeyData {
         body_from(alloc, reader, algorithm)
     }
 
-    /// How many bytes stand behind the name of the algorithm. Exactly where a part of the key is
-    /// longer than 2^32 - 1 bytes, the answer is `Length`. Takes no memory.
+    /// How many bytes stand after the name of the algorithm. Fails with `Length` exactly if a part
+    /// of the key is longer than 2^32 - 1 bytes. Does not allocate.
     pub fn encoded_key_data_len(&self) -> encoding::Result<usize>
         ensures measures { Measures (body (key_of self.now)) result }
         ensures short { IfOk result (λ n. n ≤ 4 * (2 ^ 32 + 4)) }
@@ -190,11 +188,11 @@ impl KeyData {
         }
     }
 
-    /// Writes what stands behind the name of the algorithm.
+    /// Writes what stands after the name of the algorithm.
     ///
-    /// `Length` where a part of the key is longer than 2^32 - 1 bytes; any other refusal is the
-    /// writer's own. After a refusal the writer holds what it held, and a beginning of the bytes.
-    /// Takes no memory of its own.
+    /// Fails with `Length` if a part of the key is longer than 2^32 - 1 bytes; any other error is
+    /// the writer's own. After an error the writer holds what it held before, and a prefix of the
+    /// bytes. Does not allocate by itself.
     pub fn encode_key_data<W: Writer>(&self, writer: &mut W) -> encoding::Result<()>
         ensures { Encodes W.fault (body (key_of self.now))
             (W.sink writer.old) result (W.sink writer.new) }
@@ -211,7 +209,7 @@ impl KeyData {
     }
 }
 
-/// What stands behind the name of that algorithm.
+/// What stands after the name of that algorithm.
 fn body_from<R: Reader>(alloc: Global, reader: &mut R, algorithm: Algorithm) -> Result<KeyData>
     ensures { ReadsBody algorithm (R.source reader.old) result (R.source reader.new) }
 {
@@ -238,7 +236,7 @@ fn dsa_from<R: Reader>(alloc: Global, reader: &mut R) -> Result<KeyData>
     Ok(KeyData::Dsa(key))
 }
 
-/// The body of an ECDSA key of that curve. `AlgorithmUnknown` for another curve.
+/// The body of an ECDSA key of that curve. Fails with `AlgorithmUnknown` for another curve.
 #[tactic(auto, using(sshkey_base::proofs::Steps::steps, sshkey_base::proofs::Stopping::stopping), unfolding(sshkey_model::specs::Keys::ecdsa_at))]
 fn ecdsa_from<R: Reader>(alloc: Global, reader: &mut R, curve: EcdsaCurve) -> Result<KeyData>
     ensures gives { DecodesBody (Ecdsa (curve_of curve)) R.source reader.old result reader.new }
@@ -312,7 +310,7 @@ fn opaque_from<R: Reader>(alloc: Global, reader: &mut R, algorithm: Algorithm) -
         (R.source reader.old) result }
     ensures past { Stops cause (body_format (Other (algorithm_name (algorithm_of algorithm))))
         (R.source reader.old) result }
-    ensures beside { IfOk result (λ k. algorithm_beside k ≡ algorithm_of algorithm) }
+    ensures beside { IfOk result (λ k. stored_algorithm k ≡ algorithm_of algorithm) }
 {
     let key = OpaquePublicKeyBytes::decode(alloc, reader)?;
     Ok(KeyData::Other(OpaquePublicKey { algorithm, key }))
@@ -320,8 +318,8 @@ fn opaque_from<R: Reader>(alloc: Global, reader: &mut R, algorithm: Algorithm) -
 
 /// The name of the algorithm and the key's body.
 ///
-/// An RSA key may stand under a name with a hash, which is not kept. `Label` for a name of no
-/// algorithm, and the faults of the kind.
+/// An RSA key may stand under a name with a hash, which is not kept. Fails with `Label` for a name
+/// of no algorithm, and with the faults of the kind.
 #[tactic(auto, using(sshkey_format::proofs::Chosen::chosen, crate::specs::KeyFormats::key_chosen, sshkey_base::specs::Lengths::label_lengths))]
 impl Decode for KeyData {
     type Error = Error;

@@ -16,7 +16,7 @@ pub trait RawVerifier {
 
     /// Whether these bytes are a signature of the message under the key by the algorithm.
     ///
-    /// It may be refused memory, and then has no answer.
+    /// It may run out of memory, and then has no answer.
     fn verify(
         &self,
         algorithm: &Algorithm,

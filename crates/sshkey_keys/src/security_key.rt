@@ -11,8 +11,8 @@ use sha2::{Digest, Sha256};
 /// of the application, the flags and the counter, which are the last five bytes of the signature,
 /// and the digest of the message.
 ///
-/// Fewer than five bytes are no signature of a security key; then five zeros stand for them. Takes
-/// no memory.
+/// Fewer than five bytes are no signature of a security key; then five zeros stand for them. Does
+/// not allocate.
 pub fn security_key_message(application: &str, signature: &[u8], message: &[u8]) -> [u8; 69]
     ensures is { 5 ≤ length signature.now →
         result ≡ security_key_message application.now message.now signature.now }

@@ -52,7 +52,7 @@ impl Signature {
     ///
     /// Of an ECDSA signature the first fault from the left is answered: `FormatEncoding` for a
     /// number with a needless leading 00, `Crypto` for one that is not positive. All else that is
-    /// not well-formed is `Length`. Takes no memory.
+    /// not well-formed is `Length`. Does not allocate.
     #[inline(always)]
     pub fn new(algorithm: Algorithm, bytes: Vec<u8>) -> Result<Signature>
         ensures exactly { IsOk result ↔ IsSignatureBlob (algorithm_of algorithm) bytes.items }
@@ -81,7 +81,7 @@ impl Signature {
         self.blob.as_slice()
     }
 
-    /// The same signature in memory of its own. Refused only when out of memory.
+    /// A copy of the signature. Fails only when out of memory.
     pub fn try_clone(&self, alloc: Global) -> Result<Signature>
         ensures same { IfOk result (λ g. signature_of g ≡ signature_of self.now) }
         ensures refused { IfErr result (λ e. e ≡ Error.Memory) }

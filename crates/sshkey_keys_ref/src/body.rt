@@ -1,4 +1,4 @@
-//! What stands behind the name of a key's algorithm: its body.
+//! What stands after the name of a key's algorithm: its body.
 
 ghost use Rattle.std.specs.Prelude.{◌≡◌, IfErr};
 ghost use Rattle.sshkey_base.specs.Causes.{cause};
@@ -17,12 +17,12 @@ use sshkey_base::{Algorithm, EcdsaCurve, Error, Result};
 use sshkey_format::ReadFrom;
 
 /// Takes the front that is the body of a public key under that name in a certificate
-/// (PROTOCOL.certkeys), and leaves what follows it. Takes no memory.
+/// (PROTOCOL.certkeys), and leaves what follows it. Does not allocate.
 ///
 /// The bytes taken are these very bytes, and spell the body of a key under the algorithm of that
-/// name. `Label` where it is no such name, and otherwise the fault that `KeyData::decode_as`
-/// answers under the algorithm: only where no front is such a body. After a refusal the slice is as
-/// it was.
+/// name. Fails with `Label` if it is no such name, and otherwise the fault that
+/// `KeyData::decode_as` answers under the algorithm: only where no front is such a body. After an
+/// error the slice is as it was.
 pub fn take_body<'a>(certificate_name: &str, bytes: &mut &'a [u8]) -> Result<&'a [u8]>
     ensures front { TakesBody cause certificate_name.now bytes.old.now result bytes.new.now }
     ensures spelled { CutsFront (SpellsCertifiedBody certificate_name.now)
@@ -30,25 +30,25 @@ pub fn take_body<'a>(certificate_name: &str, bytes: &mut &'a [u8]) -> Result<&'a
     ensures unchanged { IfErr result (λ _. bytes.new ≡ bytes.old) }
 {
     let all = *bytes;
-    let rest = behind_body(certificate_name, all)?;
+    let rest = skip_body(certificate_name, all)?;
     *bytes = rest;
     Ok(&all[..all.len() - rest.len()])
 }
 
-/// What stands behind the body of a public key under that name in a certificate
-/// (PROTOCOL.certkeys). Takes no memory.
+/// What stands after the body of a public key under that name in a certificate (PROTOCOL.certkeys).
+/// Does not allocate.
 ///
 /// A front of the bytes spells the body of a key under the algorithm of that name, and this is the
-/// rest. `Label` where it is no such name, and otherwise the fault that `KeyData::decode_as`
-/// answers under the algorithm: only where no front is such a body.
-pub fn behind_body<'a>(certificate_name: &str, bytes: &'a [u8]) -> Result<&'a [u8]>
+/// rest. Fails with `Label` if it is no such name, and otherwise the fault that
+/// `KeyData::decode_as` answers under the algorithm: only where no front is such a body.
+pub fn skip_body<'a>(certificate_name: &str, bytes: &'a [u8]) -> Result<&'a [u8]>
     ensures rest { Skips cause (certified_body_at certificate_name.now) bytes.now result }
     ensures spelled { PassesFront (SpellsCertifiedBody certificate_name.now) bytes.now result }
 {
     behind_certified(certificate_name, bytes)
 }
 
-/// What stands behind a body under that name in a certificate.
+/// What stands after a body under that name in a certificate.
 fn behind_certified<'a>(name: &str, bytes: &'a [u8]) -> Result<&'a [u8]>
     ensures { Skips cause (certified_body_at name.now) bytes.now result }
 {
@@ -61,7 +61,7 @@ fn behind_certified<'a>(name: &str, bytes: &'a [u8]) -> Result<&'a [u8]>
     }
 }
 
-/// What stands behind the body of a key whose name is that.
+/// What stands after the body of a key whose name is that.
 pub(crate) fn behind_named<'a>(name: &NameRef<'_>, bytes: &'a [u8]) -> Result<&'a [u8]>
     ensures { Skips cause (body_at (named_of name.now)) bytes.now result }
 {
@@ -71,7 +71,7 @@ pub(crate) fn behind_named<'a>(name: &NameRef<'_>, bytes: &'a [u8]) -> Result<&'
     }
 }
 
-/// What stands behind the body of a key of that algorithm.
+/// What stands after the body of a key of that algorithm.
 #[tactic(auto, unfolding(sshkey_kinds::specs::Bodies::ed25519_body_at))]
 fn behind_kind<'a>(algorithm: &Algorithm, bytes: &'a [u8]) -> Result<&'a [u8]>
     ensures { Skips cause (body_at (algorithm_of algorithm.now)) bytes.now result }
@@ -87,7 +87,7 @@ fn behind_kind<'a>(algorithm: &Algorithm, bytes: &'a [u8]) -> Result<&'a [u8]>
     }
 }
 
-/// What stands behind an ECDSA key of that curve. `AlgorithmUnknown` for another curve.
+/// What stands after an ECDSA key of that curve. Fails with `AlgorithmUnknown` for another curve.
 #[tactic(auto, using(sshkey_format::proofs::Walking::walking), unfolding(sshkey_model::specs::Keys::ecdsa_at))]
 fn behind_ecdsa<'a>(curve: EcdsaCurve, bytes: &'a [u8]) -> Result<&'a [u8]>
     ensures { Skips cause (body_at (model.Ecdsa (curve_of curve))) bytes.now result }
@@ -100,7 +100,7 @@ fn behind_ecdsa<'a>(curve: EcdsaCurve, bytes: &'a [u8]) -> Result<&'a [u8]>
     Ok(rest)
 }
 
-/// What stands behind a string.
+/// What stands after a string.
 fn behind_string(bytes: &[u8]) -> Result<&[u8]>
     ensures { Skips cause string_at bytes.now result }
 {

@@ -24,7 +24,7 @@ use std::alloc::{AllocError, Global};
 
 impl KeyDataRef<'_> {
     /// Whether the verifier is asked about a signature of the message under this key, and says yes:
-    /// exactly where `KeyData::verify` of the same key and signature is Ok, out of memory aside.
+    /// exactly where `KeyData::verify` of the same key and signature is Ok, unless memory runs out.
     ///
     /// It is asked under DSA, Ed25519 and RSA with a hash for keys of these kinds, and under ECDSA
     /// for a key on the same curve: about the message and the signature's bytes. For a security
@@ -33,8 +33,8 @@ impl KeyDataRef<'_> {
     /// message (PROTOCOL.u2f), and the bytes before flags and counter. No other
     /// answer of it plays a part.
     ///
-    /// It is refused only when out of memory, and only where the verifier is asked. Memory is taken
-    /// for a DSA or an RSA key, and else only by the verifier.
+    /// Fails only when out of memory, and only where the verifier is asked. Memory is taken for a
+    /// DSA or an RSA key, and else only by the verifier.
     pub fn accepts<V: RawVerifier>(
         &self,
         alloc: Global,
@@ -154,7 +154,7 @@ impl KeyDataRef<'_> {
     }
 }
 
-/// The bytes of a signature, which stand behind the length of their string.
+/// The bytes of a signature, which stand after the length of their string.
 fn blob_in(bytes: &[u8]) -> &[u8]
     ensures { IsBlobIn bytes.now result.now }
 {

@@ -21,7 +21,7 @@ use sshkey_keys::KeyData;
 use std::alloc::Global;
 
 /// A public key as the bytes that spell it: the name of its algorithm, and what that algorithm's
-/// keys are made of (RFC 4253, section 6.6). It takes no memory.
+/// keys are made of (RFC 4253, section 6.6). It does not allocate.
 ///
 /// Contracts see it as these bytes, by `key_bytes`, and keep that they spell a key.
 #[derive(Clone, Copy, Debug)]
@@ -36,12 +36,12 @@ impl<'a> KeyDataRef<'a> {
     ghost use Rattle.sshkey_keys_ref.specs.KeyDataRef.{key_bytes};
     ghost use Rattle.sshkey_slices.specs.Slices.{Keeps};
 
-    /// The key that all the bytes together spell, read once from left to right. Takes no memory.
+    /// The key that all the bytes together spell, read once from left to right. Does not allocate.
     ///
-    /// It accepts what `decode_whole::<KeyData, _>` with enough memory accepts, and refuses the rest
-    /// with the same faults: `TrailingData` with the number of bytes behind a key, `Label` for a
-    /// name of no algorithm, `Length` for a stated length that passes the bytes, and the faults of
-    /// the kind.
+    /// It accepts what `decode_whole::<KeyData, _>` with enough memory accepts, and rejects the
+    /// rest with the same faults: `TrailingData` with the number of bytes after a key, `Label` for
+    /// a name of no algorithm, `Length` for a stated length that passes the bytes, and the faults
+    /// of the kind.
     pub fn from_bytes(bytes: &'a [u8]) -> Result<KeyDataRef<'a>>
         ensures keeps { Keeps key_bytes cause (whole key_data_at bytes.now) bytes.now result }
         ensures accepts { AcceptsSome SpellsKey bytes.now result }
@@ -60,7 +60,7 @@ impl<'a> KeyDataRef<'a> {
     }
 
     /// The bytes that the key was read from where they are its normal form, which is what
-    /// `encode_vec` makes of the `KeyData` and fingerprints digest. Takes no memory.
+    /// `encode_vec` makes of the `KeyData` and fingerprints digest. Does not allocate.
     ///
     /// `None` exactly for an RSA key under another name than `ssh-rsa` (RFC 8332, section 3): then
     /// its bytes are not the normal form.
@@ -74,7 +74,7 @@ impl<'a> KeyDataRef<'a> {
     }
 
     /// The key in memory of its own, which is the one that the bytes spell, and so well-formed.
-    /// Refused only when out of memory.
+    /// Fails only when out of memory.
     pub fn to_key_data(&self, alloc: Global) -> Result<KeyData>
         ensures value { Answers key_of cause (whole key_data_at (key_bytes self.now)) result }
         ensures spelled { IfOk result (λ k. SpellsKey (key_of k) (key_bytes self.now)) }
@@ -86,8 +86,8 @@ impl<'a> KeyDataRef<'a> {
     /// The fingerprint by that hash: the digest of the key's normal form.
     ///
     /// Where the bytes that the key was read from are the normal form, they are digested as they
-    /// stand. Memory is taken only for an RSA key under another name than `ssh-rsa`, and it is
-    /// refused only when out of memory.
+    /// stand. Memory is taken only for an RSA key under another name than `ssh-rsa`, and it fails
+    /// only when out of memory.
     pub fn fingerprint(&self, alloc: Global, hash_alg: HashAlg) -> Result<Fingerprint>
         ensures { GivesFingerprintOf cause (hash_of hash_alg) (key_bytes self.now) result }
     {
@@ -111,7 +111,7 @@ fn check_key(bytes: &[u8]) -> Result<()>
     Ok(())
 }
 
-/// What stands behind a key.
+/// What stands after a key.
 #[tactic(auto, using(sshkey_format::proofs::Walking::walking), unfolding(sshkey_keys::specs::Keys::key_data_at))]
 fn behind_key(bytes: &[u8]) -> Result<&[u8]>
     ensures { Skips cause key_data_at bytes.now result }

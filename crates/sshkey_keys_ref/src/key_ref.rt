@@ -16,7 +16,7 @@ use sshkey_base::Algorithm;
 use sshkey_format::ReadFrom;
 use sshkey_kinds::{EcdsaPublicKey, Ed25519PublicKey};
 
-/// A public key by its kind, with what takes no memory.
+/// A public key by its kind, with what does not allocate.
 #[derive(Clone, Copy)]
 pub(crate) enum KeyRef<'a> {
     /// A DSA key.
@@ -46,7 +46,7 @@ pub(crate) fn key_in(bytes: &[u8]) -> KeyRef<'_>
     }
 }
 
-/// The key whose body stands behind that name.
+/// The key whose body stands after that name.
 fn body_in<'a>(name: &NameRef<'_>, bytes: &'a [u8]) -> KeyRef<'a>
     ensures { HoldsBody (named_of name.now) bytes.now result }
 {

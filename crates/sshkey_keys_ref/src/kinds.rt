@@ -155,7 +155,7 @@ fn take_point<'a>(bytes: &mut &'a [u8]) -> Result<EcdsaPublicKey>
     point_of(string)
 }
 
-/// The key of that point string. `Length` where it is longer than any of the curves.
+/// The key of that point string. Fails with `Length` if it is longer than any of the curves.
 fn point_of(string: &[u8]) -> Result<EcdsaPublicKey>
     ensures { AnswersAlways ecdsa_of cause (point_from string.now) result }
 {
@@ -205,7 +205,7 @@ fn take_p256_point<'a>(bytes: &mut &'a [u8]) -> Result<EcdsaNistP256PublicKey>
     p256_point_of(string)
 }
 
-/// The point of that point string. `Length` where it is longer than any.
+/// The point of that point string. Fails with `Length` if it is longer than any.
 fn p256_point_of(string: &[u8]) -> Result<EcdsaNistP256PublicKey>
     ensures { AnswersAlways point_of cause (p256_point_from string.now) result }
 {

@@ -11,6 +11,6 @@ mod name_ref;
 mod signature_ref;
 mod walk;
 
-pub use body::{behind_body, take_body};
+pub use body::{skip_body, take_body};
 pub use key_data_ref::KeyDataRef;
 pub use signature_ref::SignatureRef;

@@ -19,8 +19,8 @@ use sshkey_keys::{Signature, check_string, has_trailer};
 use std::alloc::Global;
 
 /// A signature as the bytes that spell it: the name of its algorithm, and the bytes as a string,
-/// but that the flags and the counter of a security key stand behind it (RFC 4253, section 6.6;
-/// PROTOCOL.u2f). It takes no memory.
+/// but that the flags and the counter of a security key stand after it (RFC 4253, section 6.6;
+/// PROTOCOL.u2f). It does not allocate.
 ///
 /// Contracts see it as these bytes, by `signature_bytes`, and keep that they spell a signature.
 #[derive(Clone, Copy, Debug)]
@@ -35,13 +35,13 @@ impl<'a> SignatureRef<'a> {
     ghost use Rattle.sshkey_keys_ref.specs.SignatureRef.{signature_bytes};
     ghost use Rattle.sshkey_slices.specs.Slices.{Keeps};
 
-    /// The signature that all the bytes together spell, read once from left to right. Takes no
-    /// memory.
+    /// The signature that all the bytes together spell, read once from left to right. Does not
+    /// allocate.
     ///
-    /// It accepts what `Signature::from_bytes` with enough memory accepts, and refuses the rest
-    /// with the same faults: `TrailingData` with the number of bytes behind a signature, `Label`
-    /// for a name of no algorithm, `Length` for a stated length that passes the bytes, and the
-    /// faults of `Signature::new`.
+    /// It accepts what `Signature::from_bytes` with enough memory accepts, and rejects the rest
+    /// with the same faults: `TrailingData` with the number of bytes after a signature, `Label` for
+    /// a name of no algorithm, `Length` for a stated length that passes the bytes, and the faults
+    /// of `Signature::new`.
     pub fn from_bytes(bytes: &'a [u8]) -> Result<SignatureRef<'a>>
         ensures keeps { Keeps signature_bytes cause (whole signature_at bytes.now)
             bytes.now result }
@@ -61,7 +61,7 @@ impl<'a> SignatureRef<'a> {
     }
 
     /// The signature in memory of its own, which is the one that the bytes spell, and so
-    /// well-formed. Refused only when out of memory.
+    /// well-formed. Fails only when out of memory.
     pub fn to_signature(&self, alloc: Global) -> Result<Signature>
         ensures value { Answers signature_of cause (whole signature_at (signature_bytes self.now))
             result }
@@ -86,7 +86,7 @@ fn check_signature(bytes: &[u8]) -> Result<()>
     Ok(())
 }
 
-/// What stands behind a signature.
+/// What stands after a signature.
 #[tactic(auto, using(sshkey_format::proofs::Walking::walking), unfolding(sshkey_model::specs::Signatures::signature_at, sshkey_model::specs::Names::algorithm_at, sshkey_base::specs::Labels::label_at))]
 fn behind_signature(bytes: &[u8]) -> Result<&[u8]>
     ensures { Skips cause signature_at bytes.now result }
@@ -96,7 +96,7 @@ fn behind_signature(bytes: &[u8]) -> Result<&[u8]>
     behind_blob(&name, rest)
 }
 
-/// What stands behind the bytes of a signature whose name is that.
+/// What stands after the bytes of a signature whose name is that.
 fn behind_blob<'a>(name: &NameRef<'_>, bytes: &'a [u8]) -> Result<&'a [u8]>
     ensures { Skips cause (signature_blob_at (named_of name.now)) bytes.now result }
 {
@@ -107,7 +107,7 @@ fn behind_blob<'a>(name: &NameRef<'_>, bytes: &'a [u8]) -> Result<&'a [u8]>
     }
 }
 
-/// Whether flags and a counter stand behind the string.
+/// Whether flags and a counter stand after the string.
 fn is_trailed(name: &NameRef<'_>) -> bool
     ensures { result ≡ has_trailer (named_of name.now) }
 {
@@ -133,7 +133,7 @@ fn check(name: &NameRef<'_>, bytes: &[u8]) -> Result<()>
     }
 }
 
-/// What stands behind the string.
+/// What stands after the string.
 #[tactic(auto, using(sshkey_format::proofs::Walking::walking))]
 fn behind_checked<'a>(name: &NameRef<'_>, bytes: &'a [u8]) -> Result<&'a [u8]>
     ensures { Skips cause (checked_at (string_from (named_of name.now)) string_at)
@@ -145,7 +145,7 @@ fn behind_checked<'a>(name: &NameRef<'_>, bytes: &'a [u8]) -> Result<&'a [u8]>
     Ok(rest)
 }
 
-/// What stands behind the string and the five bytes of flags and counter.
+/// What stands after the string and the five bytes of flags and counter.
 #[tactic(auto, using(sshkey_format::proofs::Walking::walking))]
 fn behind_trailed<'a>(name: &NameRef<'_>, bytes: &'a [u8]) -> Result<&'a [u8]>
     ensures { Skips cause (trailed_at (string_from (named_of name.now))) bytes.now result }

@@ -1,10 +1,10 @@
-//! What stands behind a value at the front of a slice.
+//! What stands after a value at the front of a slice.
 
 ghost use Rattle.sshkey_keys_ref.specs.Taking.{Skips};
 
 use sshkey_format::ReadFrom;
 
-/// What stands behind a value.
+/// What stands after a value.
 pub(crate) fn behind<'a, T: ReadFrom<&'a [u8]> + Drop>(
     bytes: &'a [u8],
 ) -> Result<&'a [u8], T::Error>

@@ -20,7 +20,7 @@ pub const P521_POINT_LEN: usize = 133;
 /// or 04 and both.
 ///
 /// `LEN` is the size of the longest string, 65 for P-256, 97 for P-384 and 133 for P-521; of
-/// another size there are no points. It takes no memory.
+/// another size there are no points. It does not allocate.
 #[derive(Clone, Copy, Debug)]
 pub struct EcPoint<const LEN: usize> {
     bytes: [u8; LEN],

@@ -46,8 +46,8 @@ impl EcdsaPublicKey {
     ///
     /// Fails with `Length` for no bytes and where the size is that of no curve's coordinates, with
     /// `AlgorithmUnknown` for the tags 00 and 05, and with `Ecdsa` for any other tag but 02, 03 and
-    /// 04, and for 04 before an odd number of bytes whose half is the size of a coordinate. Takes
-    /// no memory.
+    /// 04, and for 04 before an odd number of bytes whose half is the size of a coordinate. Does
+    /// not allocate.
     pub fn from_sec1_bytes(bytes: &[u8]) -> Result<EcdsaPublicKey>
         ensures exactly { IsOk result ↔ IsAnyPoint bytes.now }
         ensures answer { AnswersAlways ecdsa_of cause (sec1_from bytes.now) result }

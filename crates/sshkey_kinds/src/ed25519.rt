@@ -29,8 +29,8 @@ impl Ed25519PublicKey {
     pub const BYTE_SIZE: usize = 32;
 }
 
-/// A string of 32 bytes: `Length` for a shorter one, `TrailingData` for a longer one. Takes no
-/// memory.
+/// A string of 32 bytes: `Length` for a shorter one, `TrailingData` for a longer one. Does not
+/// allocate.
 #[tactic(auto, using(sshkey_base::proofs::Steps::steps, sshkey_format::proofs::Mapped::mapped, crate::specs::KeyFormats::ed25519_read), unfolding(crate::specs::Bodies::ed25519_body_at, sshkey_model::specs::Keys::ed25519_at))]
 impl Decode for Ed25519PublicKey {
     ghost use Rattle.sshkey_base.specs.Needs.{Asks, NoNeed};
@@ -73,7 +73,7 @@ impl Encode for Ed25519PublicKey {
     }
 }
 
-/// The key of these bytes. Fails with `Length` for any number of bytes but 32. Takes no memory.
+/// The key of these bytes. Fails with `Length` for any number of bytes but 32. Does not allocate.
 impl TryFrom<&[u8]> for Ed25519PublicKey {
     type Error = Error;
 

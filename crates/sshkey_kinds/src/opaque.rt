@@ -114,7 +114,7 @@ impl OpaquePublicKey {
     ghost use Rattle.sshkey_base.specs.Names.{algorithm_of};
     ghost use Rattle.sshkey_kinds.specs.Kinds.{opaque_of};
 
-    /// The key of these bytes under that algorithm, whichever it is. Takes no memory.
+    /// The key of these bytes under that algorithm, whichever it is. Does not allocate.
     pub fn new(key: Vec<u8>, algorithm: Algorithm) -> OpaquePublicKey
         ensures value { opaque_of result
             ≡ Opaque (algorithm_name (algorithm_of algorithm)) key.items }

@@ -33,7 +33,7 @@ pub struct SkEcdsaSha2NistP256 {
 impl SkEcdsaSha2NistP256 {
     ghost use Rattle.sshkey_kinds.specs.Kinds.{sk_ecdsa_application, sk_ecdsa_of, sk_ecdsa_point};
 
-    /// The key for that application. Takes no memory.
+    /// The key for that application. Does not allocate.
     pub fn new(ec_point: EcdsaNistP256PublicKey, application: String) -> SkEcdsaSha2NistP256
         ensures { sk_ecdsa_of result
             ≡ SkEcdsa (record { key = point_of ec_point; application = string_bytes application }) }
@@ -221,7 +221,7 @@ pub struct SkEd25519 {
 impl SkEd25519 {
     ghost use Rattle.sshkey_kinds.specs.Kinds.{sk_ed25519_application, sk_ed25519_key, sk_ed25519_of};
 
-    /// The key for that application. Takes no memory.
+    /// The key for that application. Does not allocate.
     pub fn new(public_key: Ed25519PublicKey, application: String) -> SkEd25519
         ensures { sk_ed25519_of result
             ≡ SkEd25519Key (record { key = public_key.0; application = string_bytes application }) }

@@ -7,7 +7,7 @@ ghost use Rattle.sshkey_files.specs.Answers.{ReadsEntry, RefusesFor};
 ghost use Rattle.sshkey_known_hosts.specs.HostEntries.{key_in, hosts_in, known_host_of, marker_front, marker_in, SplitsMarker};
 ghost use Rattle.sshkey_known_hosts.specs.HostFaults.{HasFault};
 ghost use Rattle.sshkey_files.specs.MadeTexts.{MakesEntry};
-ghost use Rattle.sshkey_keys.specs.Keys.{algorithm_beside};
+ghost use Rattle.sshkey_keys.specs.Keys.{stored_algorithm};
 ghost use Rattle.sshkey_public.specs.OneLine.{IsOneLine};
 ghost use Rattle.sshkey_public.specs.PublicKeys.{data_of};
 
@@ -150,8 +150,8 @@ impl Entry {
     /// The same in memory of its own. Refused only when out of memory.
     pub fn try_clone(&self, alloc: Global) -> Result<Entry>
         ensures value { IfOk result (λ e. known_host_of e ≡ known_host_of self.now) }
-        ensures algorithm { IfOk result (λ e. algorithm_beside (data_of (key_in e))
-            ≡ algorithm_beside (data_of (key_in self.now))) }
+        ensures algorithm { IfOk result (λ e. stored_algorithm (data_of (key_in e))
+            ≡ stored_algorithm (data_of (key_in self.now))) }
         ensures memory { IfErr result (λ e. e ≡ wide.Memory) }
     {
         Ok(Entry {

@@ -18,7 +18,7 @@ pub use iter::Options;
 use sshkey_base::Result;
 use sshkey_slices::split_string;
 
-/// Options of a certificate (PROTOCOL.certkeys): bytes that spell them, one behind the other. Each
+/// Options of a certificate (PROTOCOL.certkeys): bytes that spell them, one after the other. Each
 /// is the string of a name, and a string that is empty or holds one text; the names rise, by bytes.
 /// So critical options and extensions stand in their strings.
 #[derive(Clone, Copy, Debug)]
@@ -37,9 +37,9 @@ impl<'a> OptionsRef<'a> {
 
     /// The options that all the bytes spell; no bytes are no options.
     ///
-    /// `FormatEncoding` where a name does not rise, and the faults of strings and texts: `Length`,
-    /// `CharacterEncoding`, and `TrailingData` for bytes behind the text of a value. The first
-    /// fault counts, and the order of an option's name is asked behind its value.
+    /// Fails with `FormatEncoding` if a name does not rise, and with the faults of strings and
+    /// texts: `Length`, `CharacterEncoding`, and with `TrailingData` for bytes after the text of a
+    /// value. The first fault counts, and the order of an option's name is asked after its value.
     pub fn from_bytes(bytes: &'a [u8]) -> Result<OptionsRef<'a>>
         ensures keeps { Keeps bytes_of_options cause (list_whole option_at bytes.now)
             bytes.now result }
@@ -49,7 +49,7 @@ impl<'a> OptionsRef<'a> {
         Ok(OptionsRef { bytes, plain })
     }
 
-    /// The options in the string at the front, and what stands behind it: what `OptionsMap` reads,
+    /// The options in the string at the front, and what stands after it: what `OptionsMap` reads,
     /// without its memory.
     ///
     /// The faults of a string, and then those of `from_bytes`.
@@ -135,7 +135,7 @@ fn find_value<'a>(options: &'a [u8], name: &str) -> Option<&'a str>
     None
 }
 
-/// The first option, and what stands behind it.
+/// The first option, and what stands after it.
 fn first_option(bytes: &[u8]) -> (SpelledOption<'_>, &[u8])
     requires some { 0 < length bytes.now }
     requires form { is_taken (list_whole option_at bytes.now) ≡ true }

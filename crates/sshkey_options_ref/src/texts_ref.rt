@@ -15,8 +15,8 @@ pub use iter::Texts;
 use sshkey_base::encoding::Result;
 use sshkey_slices::{split_string, split_text};
 
-/// A list of texts: bytes that spell them, each as a string, one behind the other (RFC 4251,
-/// section 5). So the valid principals of a certificate stand in their string (PROTOCOL.certkeys).
+/// A list of texts: bytes that spell them, each as a string, one after the other (RFC 4251, section
+/// 5). So the valid principals of a certificate stand in their string (PROTOCOL.certkeys).
 #[derive(Clone, Copy, Debug)]
 pub struct TextsRef<'a> {
     bytes: &'a [u8],
@@ -32,8 +32,9 @@ impl<'a> TextsRef<'a> {
 
     /// The texts that all the bytes spell; no bytes are no texts.
     ///
-    /// `Length` where the four bytes of a text's length are not all there, or as many as they say,
-    /// and `CharacterEncoding` where a text is not UTF-8; the first fault from the left counts.
+    /// Fails with `Length` if the four bytes of a text's length are not all there, or as many as
+    /// they say, and with `CharacterEncoding` if a text is not UTF-8; the first fault from the left
+    /// counts.
     pub fn from_bytes(bytes: &'a [u8]) -> Result<TextsRef<'a>>
         ensures keeps { Keeps bytes_of_texts encoding_cause (text_list_at bytes.now)
             bytes.now result }
@@ -43,7 +44,7 @@ impl<'a> TextsRef<'a> {
         Ok(TextsRef { bytes })
     }
 
-    /// The texts in the string at the front, and what stands behind it: what `Vec<String>` reads,
+    /// The texts in the string at the front, and what stands after it: what `Vec<String>` reads,
     /// without its memory.
     ///
     /// The faults of a string, and then those of `from_bytes`.
@@ -113,7 +114,7 @@ fn is_listed(texts: &[u8], wanted: &[u8]) -> bool
     false
 }
 
-/// The bytes of the first text, and what stands behind it.
+/// The bytes of the first text, and what stands after it.
 fn first_text(bytes: &[u8]) -> (&[u8], &[u8])
     requires some { 0 < length bytes.now }
     requires form { is_taken (text_list_at bytes.now) ≡ true }

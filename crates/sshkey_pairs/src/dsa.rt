@@ -46,7 +46,7 @@ impl DsaPrivateKey {
         &self.inner
     }
 
-    /// The same number in memory of its own. Refuses only when out of memory.
+    /// A copy of the number. Fails only when out of memory.
     pub fn try_clone(&self, alloc: Global) -> Result<DsaPrivateKey>
         ensures value { IfOk result (λ k. dsa_private_of k ≡ dsa_private_of self.now) }
         ensures refused { IfErr result (λ e. e ≡ Error.Memory) }
@@ -77,8 +77,8 @@ impl fmt::Debug for DsaPrivateKey {
 
 /// The number as a string.
 ///
-/// `Length` where the string passes what is left, which no memory is asked for, and
-/// `FormatEncoding` where its bytes are those of no number.
+/// Fails with `Length` if the string is longer than the remaining input, and nothing is allocated
+/// for it; with `FormatEncoding` if its bytes are those of no number.
 #[tactic(auto, using(sshkey_base::proofs::Steps::steps, sshkey_format::proofs::Stopping::handed))]
 impl Decode for DsaPrivateKey {
     ghost use Rattle.sshkey_base.specs.Causes.{cause};
@@ -133,7 +133,7 @@ pub struct DsaKeypair {
 impl DsaKeypair {
     ghost use Rattle.sshkey_pairs.specs.Pairs.{dsa_pair_of};
 
-    /// The same pair in memory of its own. Refuses only when out of memory.
+    /// A copy of the pair. Fails only when out of memory.
     pub fn try_clone(&self, alloc: Global) -> Result<DsaKeypair>
         ensures value { IfOk result (λ k. dsa_pair_of k ≡ dsa_pair_of self.now) }
         ensures refused { IfErr result (λ e. e ≡ Error.Memory) }
@@ -156,8 +156,8 @@ impl From<DsaKeypair> for DsaPublicKey {
 
 /// The numbers p, q, g, y and x, each as a string.
 ///
-/// `Length` where a string passes what is left, and `FormatEncoding` where its bytes are those of
-/// no number.
+/// Fails with `Length` if a string passes what is left, and with `FormatEncoding` if its bytes are
+/// those of no number.
 #[tactic(auto, using(sshkey_format::proofs::Mapped::mapped, crate::specs::PairFormats::dsa_pair_parts_read))]
 impl Decode for DsaKeypair {
     ghost use Rattle.sshkey_pairs.specs.PairFormats.{dsa_pair_format};

@@ -36,7 +36,7 @@ pub struct EcdsaPrivateKey<const SIZE: usize> {
     bytes: [u8; SIZE],
 }
 
-/// Writes zeros over the scalar. Copies that moves leave behind keep it.
+/// Writes zeros over the scalar. Copies that moves leave after keep it.
 impl<const SIZE: usize> Drop for EcdsaPrivateKey<SIZE> {
     fn drop(mut self) {
         self.bytes.fill(0);
@@ -45,14 +45,14 @@ impl<const SIZE: usize> Drop for EcdsaPrivateKey<SIZE> {
 }
 
 impl<const SIZE: usize> EcdsaPrivateKey<SIZE> {
-    /// The scalar of these bytes. Takes no memory.
+    /// The scalar of these bytes. Does not allocate.
     pub fn from_bytes(bytes: &[u8; SIZE]) -> EcdsaPrivateKey<SIZE>
         ensures { ecdsa_private_of result ≡ bytes.now }
     {
         EcdsaPrivateKey { bytes: *bytes }
     }
 
-    /// The scalar of a slice. `Length` exactly where it has not `SIZE` bytes.
+    /// The scalar of a slice. Fails with `Length` exactly if it has not `SIZE` bytes.
     fn from_slice(bytes: &[u8]) -> Result<EcdsaPrivateKey<SIZE>>
         ensures exactly { IsOk result ↔ (length bytes.now ≡ SIZE) }
         ensures value { IfOk result (λ k. ecdsa_private_of k ≡ bytes.now) }
@@ -122,9 +122,9 @@ impl<const SIZE: usize> fmt::Debug for EcdsaPrivateKey<SIZE> {
 /// A string of `SIZE` bytes, or of 00 and so many, or of fewer that are the scalar's shortest
 /// mpint.
 ///
-/// `Length` where the string passes what is left; `FormatEncoding` for one more byte that does not
-/// begin with 00, and for fewer that are no such mpint; `TrailingData` for two more. Takes no
-/// memory.
+/// Fails with `Length` if the string passes what is left; with `FormatEncoding` for one more byte
+/// that does not begin with 00, and for fewer that are no such mpint; with `TrailingData` for two
+/// more. Does not allocate.
 #[tactic(auto, using(sshkey_base::proofs::Steps::steps))]
 impl<const SIZE: usize> Decode for EcdsaPrivateKey<SIZE> {
     type Error = Error;
@@ -227,10 +227,10 @@ impl EcdsaKeypair {
     ghost use Rattle.sshkey_pairs.specs.Pairs.{ecdsa_curve_of, ecdsa_point_of};
 
     /// The pair of a public key and a private scalar, which is as wide as the field of the key's
-    /// curve: 32, 48 or 66 bytes, most significant first. Takes no memory.
+    /// curve: 32, 48 or 66 bytes, most significant first. Does not allocate.
     ///
-    /// `Length` exactly where the scalar has another number of bytes, so a pair that is made is
-    /// written and read back. Nobody asks whether the point is that of the scalar.
+    /// Fails with `Length` exactly if the scalar has another number of bytes, so a pair that is
+    /// made is written and read back. Nobody asks whether the point is that of the scalar.
     pub fn new(public: EcdsaPublicKey, private: &[u8]) -> Result<EcdsaKeypair>
         ensures exactly { IsOk result ↔ IsScalar (field_size (ecdsa_of public).0) private.now }
         ensures value { IfOk result (λ k. ecdsa_pair_of k
@@ -318,7 +318,7 @@ impl From<EcdsaKeypair> for EcdsaPublicKey {
 
 /// The public key, and the scalar.
 ///
-/// The refusals of `EcdsaPublicKey`, and then those of `EcdsaPrivateKey`, as wide as the field of
+/// the errors of `EcdsaPublicKey`, and then those of `EcdsaPrivateKey`, as wide as the field of
 /// that key's curve.
 #[tactic(auto, using(sshkey_format::proofs::Chosen::chosen, sshkey_format::proofs::Needless::needless_parts, crate::specs::PairFormats::ecdsa_pair_chosen))]
 impl Decode for EcdsaKeypair {

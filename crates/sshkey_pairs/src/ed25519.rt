@@ -29,7 +29,7 @@ pub struct Ed25519PrivateKey {
     bytes: [u8; 32],
 }
 
-/// Writes zeros over the bytes. Copies that moves leave behind keep them.
+/// Writes zeros over the bytes. Copies that moves leave after keep them.
 impl Drop for Ed25519PrivateKey {
     fn drop(mut self) {
         self.bytes.fill(0);
@@ -55,7 +55,7 @@ impl Ed25519PrivateKey {
         self.bytes
     }
 
-    /// The key of the next 32 bytes of the generator. Takes no memory.
+    /// The key of the next 32 bytes of the generator. Does not allocate.
     pub fn random<R: Rng + CryptoRng>(rng: &mut R) -> Ed25519PrivateKey
         ensures value { ed25519_private_of result ≡ (fill_bytes 32 (R.stream rng.old)).0 }
         ensures drawn { R.stream rng.new ≡ (fill_bytes 32 (R.stream rng.old)).1 }
@@ -66,7 +66,7 @@ impl Ed25519PrivateKey {
     }
 }
 
-/// The key of these bytes. `Length` for any number of bytes but 32. Takes no memory.
+/// The key of these bytes. Fails with `Length` for any number of bytes but 32. Does not allocate.
 impl TryFrom<&[u8]> for Ed25519PrivateKey {
     type Error = Error;
 
@@ -132,7 +132,7 @@ impl Ed25519Keypair {
     /// How many bytes a pair has.
     pub const BYTE_SIZE: usize = 64;
 
-    /// The pair of 32 private bytes and the public ones behind them. Nobody asks whether the public
+    /// The pair of 32 private bytes and the public ones after them. Nobody asks whether the public
     /// key is that of the private one.
     pub fn from_bytes(bytes: &[u8; 64]) -> Ed25519Keypair
         ensures { ed25519_pair_of result ≡ Ed25519Pair (drop 32 bytes.now) (take 32 bytes.now) }
@@ -147,7 +147,7 @@ impl Ed25519Keypair {
         }
     }
 
-    /// The private bytes, and the public ones behind them.
+    /// The private bytes, and the public ones after them.
     pub fn to_bytes(&self) -> [u8; 64]
         ensures { result ≡ ed25519_private_of self.now.private ++ self.now.public.0 }
     {
@@ -158,8 +158,8 @@ impl Ed25519Keypair {
     }
 }
 
-/// The pair of 32 private bytes and the public ones behind them. `Length` for any number of bytes
-/// but 64. Takes no memory.
+/// The pair of 32 private bytes and the public ones after them. Fails with `Length` for any number
+/// of bytes but 64. Does not allocate.
 impl TryFrom<&[u8]> for Ed25519Keypair {
     type Error = Error;
 
@@ -182,8 +182,8 @@ impl From<Ed25519Keypair> for Ed25519PublicKey {
 
 /// A string of the 32 public bytes, and one of the private bytes and again the public ones.
 ///
-/// `Length` for a string that is too short, `TrailingData` for one that is too long, and `Crypto`
-/// where the public bytes differ. Takes no memory.
+/// Fails with `Length` for a string that is too short, with `TrailingData` for one that is too
+/// long, and with `Crypto` if the public bytes differ. Does not allocate.
 #[tactic(auto, using(sshkey_format::proofs::Mapped::mapped, crate::specs::PairFormats::ed25519_pair_parts_read))]
 impl Decode for Ed25519Keypair {
     type Error = Error;
@@ -201,7 +201,7 @@ impl Decode for Ed25519Keypair {
     }
 }
 
-/// The pair of these bytes. `Crypto` where the last 32 of them are not the public ones.
+/// The pair of these bytes. Fails with `Crypto` if the last 32 of them are not the public ones.
 #[inline(always)]
 fn from_halves(public: &[u8; 32], bytes: &[u8; 64]) -> Result<Ed25519Keypair>
     ensures { AnswersAlways ed25519_pair_of cause

@@ -36,7 +36,7 @@ impl Drop for RsaPrivateKey {
 impl RsaPrivateKey {
     ghost use Rattle.sshkey_pairs.specs.PrivateHalves.{rsa_private_of};
 
-    /// The same numbers in memory of their own. Refuses only when out of memory.
+    /// A copy of the numbers. Fails only when out of memory.
     pub fn try_clone(&self, alloc: Global) -> Result<RsaPrivateKey>
         ensures value { IfOk result (λ k. rsa_private_of k ≡ rsa_private_of self.now) }
         ensures refused { IfErr result (λ e. e ≡ Error.Memory) }
@@ -52,8 +52,8 @@ impl RsaPrivateKey {
 
 /// The numbers d, iqmp, p and q, each as a string.
 ///
-/// `Length` where a string passes what is left, and `FormatEncoding` where its bytes are those of
-/// no number.
+/// Fails with `Length` if a string passes what is left, and with `FormatEncoding` if its bytes are
+/// those of no number.
 #[tactic(auto, using(sshkey_format::proofs::Mapped::mapped, crate::specs::PairFormats::rsa_private_parts_read))]
 impl Decode for RsaPrivateKey {
     ghost use Rattle.sshkey_pairs.specs.PairFormats.{rsa_private_format};
@@ -112,7 +112,7 @@ pub struct RsaKeypair {
 impl RsaKeypair {
     ghost use Rattle.sshkey_pairs.specs.Pairs.{rsa_pair_of};
 
-    /// The same pair in memory of its own. Refuses only when out of memory.
+    /// A copy of the pair. Fails only when out of memory.
     pub fn try_clone(&self, alloc: Global) -> Result<RsaKeypair>
         ensures value { IfOk result (λ k. rsa_pair_of k ≡ rsa_pair_of self.now) }
         ensures refused { IfErr result (λ e. e ≡ Error.Memory) }
@@ -144,8 +144,8 @@ impl From<RsaKeypair> for RsaPublicKey {
 
 /// The numbers n and e, and the private ones, each as a string.
 ///
-/// `Length` where a string passes what is left, and `FormatEncoding` where its bytes are those of
-/// no number.
+/// Fails with `Length` if a string passes what is left, and with `FormatEncoding` if its bytes are
+/// those of no number.
 #[tactic(auto, using(sshkey_format::proofs::Mapped::mapped, crate::specs::PairFormats::rsa_pair_parts_read))]
 impl Decode for RsaKeypair {
     ghost use Rattle.sshkey_pairs.specs.PairFormats.{rsa_pair_format};

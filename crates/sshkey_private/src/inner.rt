@@ -33,8 +33,8 @@ use std::alloc::Global;
 /// most so many.
 ///
 /// The faults are met in the order of the bytes: `Length` where they are no multiple of eight,
-/// `Crypto` where the checkint is not the same again, the refusals of the pair, `PublicKey` where
-/// its public half is not that key, the refusals of the comment, and those of the padding.
+/// `Crypto` where the checkint is not the same again, the errors of the pair, `PublicKey` where its
+/// public half is not that key, the errors of the comment, and those of the padding.
 #[tactic(auto, using(sshkey_base::proofs::Boxes::boxes))]
 pub(crate) fn decode_inner<R: Reader>(
     alloc: Global,
@@ -140,7 +140,7 @@ fn check_half(pair: KeypairData, public: &KeyData) -> Result<KeypairData>
     Ok(pair)
 }
 
-/// Whether the public key is the public half of the pair. Takes no memory.
+/// Whether the public key is the public half of the pair. Does not allocate.
 fn is_half(pair: &KeypairData, public: &KeyData) -> bool
     ensures { result ≡ is_half (pair_of pair.now) (key_of public.now) }
 {

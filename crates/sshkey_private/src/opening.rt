@@ -46,8 +46,8 @@ type Keys = Then<One, Boxed<KeyData>>;
 
 /// The magic bytes, cipher, key derivation, the number 1, and the public key in a string.
 ///
-/// `FormatEncoding` for other bytes than the magic ones, `Label` for names of none, the refusals
-/// of `Kdf`, `Length` for another number of keys, and the refusals of `KeyData`.
+/// Fails with `FormatEncoding` for other bytes than the magic ones, with `Label` for names of none,
+/// the errors of `Kdf`, with `Length` for another number of keys, and the errors of `KeyData`.
 #[tactic(auto, using(sshkey_format::proofs::Mapped::mapped, crate::specs::PrivateKeyFormats::opening_parts_read), unfolding(crate::specs::PrivateKeyReaders::cipher_at, sshkey_ciphers::specs::Ciphers::label_at))]
 pub(crate) fn opening_from<R: Reader>(alloc: Global, reader: &mut R) -> Result<Opening>
     ensures gives { Gives opening_of cause opening_at
@@ -67,7 +67,7 @@ pub(crate) fn opening_from<R: Reader>(alloc: Global, reader: &mut R) -> Result<O
     })
 }
 
-/// The magic bytes. `FormatEncoding` for others.
+/// The magic bytes. Fails with `FormatEncoding` for others.
 #[tactic(auto, using(sshkey_base::proofs::Steps::steps, sshkey_base::proofs::Stopping::stopping), unfolding(crate::specs::PrivateKeyReaders::literal_at))]
 impl Decode for Magic {
     type Error = Error;
@@ -94,7 +94,7 @@ fn check_magic(bytes: [u8; 15]) -> Result<Magic>
     Ok(Magic(bytes))
 }
 
-/// The number of keys, which is 1. `Length` for another.
+/// The number of keys, which is 1. Fails with `Length` for another.
 #[tactic(auto, using(sshkey_base::proofs::Steps::steps, sshkey_base::proofs::Stopping::stopping), unfolding(crate::specs::PrivateKeyReaders::one_at))]
 impl Decode for One {
     type Error = Error;

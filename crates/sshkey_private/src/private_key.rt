@@ -50,7 +50,7 @@ impl Drop for PrivateKey {
 }
 
 impl PrivateKey {
-    ghost use Rattle.sshkey_keypairs.specs.Keypairs.{pair_of, algorithm_beside as pair_algorithm_beside};
+    ghost use Rattle.sshkey_keypairs.specs.Keypairs.{pair_of, stored_algorithm as pair_algorithm_beside};
     ghost use Rattle.std.specs.Prelude.{IfOk, IfErr, IfSome, IsOk, Some, [], string_bytes};
     ghost use Rattle.sshkey_base.specs.Causes.{cause};
     ghost use Rattle.sshkey_base.specs.Names.{IsFixed, algorithm_of, hash_of};
@@ -60,7 +60,7 @@ impl PrivateKey {
     ghost use Rattle.sshkey_base.specs.declared.error.Error.TheVariants as wide;
     ghost use Rattle.sshkey_keys.specs.Blobs.{MakesBlob};
     ghost use Rattle.sshkey_keys.specs.Fingerprints.{GivesFingerprint};
-    ghost use Rattle.sshkey_keys.specs.Keys.{algorithm_beside};
+    ghost use Rattle.sshkey_keys.specs.Keys.{stored_algorithm};
     ghost use Rattle.sshkey_model.specs.KeyPairs.{IsKeyPair};
     ghost use Rattle.sshkey_model.specs.Keys.{IsKey};
     ghost use Rattle.sshkey_model.specs.PrivateKeys.{IsPrivateKey, key_cipher, key_kdf, public_key, normal_private_key};
@@ -76,12 +76,12 @@ impl PrivateKey {
     /// The private key of that pair, not encrypted, with that comment. Its public key has the
     /// algorithm of the pair, and its checkint is the one that is derived from the pair.
     ///
-    /// `Encrypted` exactly for an encrypted pair; otherwise it is refused only when out of memory.
+    /// `Encrypted` exactly for an encrypted pair; otherwise it fails only when out of memory.
     pub fn new(alloc: Global, key_data: KeypairData, comment: String) -> Result<PrivateKey>
         ensures value { GivesNew (pair_of key_data) (string_bytes comment) result }
         ensures data { IfOk result (λ k. data_of k ≡ key_data) }
         ensures algorithm { IfOk result (λ k. pair_algorithm_beside key_data
-            ≡ Some (algorithm_beside (key_data_of (outer_of k)))) }
+            ≡ Some (stored_algorithm (key_data_of (outer_of k)))) }
     {
         let public = key_data.to_public(alloc)?;
         let checkint = key_data.checkint();
@@ -98,12 +98,12 @@ impl PrivateKey {
     /// The private key of that pair, not encrypted, under the same algorithm and with an empty
     /// comment.
     ///
-    /// `Encrypted` exactly for an encrypted pair; otherwise it is refused only when out of memory.
+    /// `Encrypted` exactly for an encrypted pair; otherwise it fails only when out of memory.
     pub fn from_keypair(alloc: Global, key_data: KeypairData) -> Result<PrivateKey>
         ensures value { GivesNew (pair_of key_data) [] result }
         ensures data { IfOk result (λ k. data_of k ≡ key_data) }
         ensures algorithm { IfOk result (λ k. pair_algorithm_beside key_data
-            ≡ Some (algorithm_beside (key_data_of (outer_of k)))) }
+            ≡ Some (stored_algorithm (key_data_of (outer_of k)))) }
     {
         PrivateKey::new(alloc, key_data, String::new(alloc))
     }
@@ -111,18 +111,18 @@ impl PrivateKey {
     /// Reads a private key from the front, and leaves what follows it; nothing may follow an
     /// encrypted one, whose comment is empty.
     ///
-    /// It is what the plain reader gives of the bytes that are left. A sound source is refused with
-    /// the first fault from the left, or for memory that ran out, where a part that stands whole
-    /// needs some: `FormatEncoding` for other magic bytes, `Label` for names of no cipher or
-    /// derivation, the refusals of `Kdf`, `Length` for another number of keys than one, the
-    /// refusals of `KeyData`, `Crypto` for a key derivation without a cipher, `Length` for a part
-    /// that is no multiple of eight bytes, `Crypto` where the checkint is not the same again, the
-    /// refusals of `KeypairData`, `PublicKey` where the pair has another public half, `Length` for
-    /// eight bytes or more behind the comment, `FormatEncoding` for other padding, `Crypto` for a
-    /// ciphertext that is not whole blocks, and `TrailingData` with the number of bytes behind an
-    /// encrypted key. Of a source with a fault, a stated length of the opening, or of the private
-    /// part, that passes all that was announced is `Length`, unless memory ran out for a value
-    /// before it; how else it is refused is open.
+    /// It is what the plain reader gives of the bytes that are left. A sound source is rejected
+    /// with the first fault from the left, or for memory that ran out, where a part that stands
+    /// whole needs some: `FormatEncoding` for other magic bytes, `Label` for names of no cipher or
+    /// derivation, the errors of `Kdf`, `Length` for another number of keys than one, the errors of
+    /// `KeyData`, `Crypto` for a key derivation without a cipher, `Length` for a part that is no
+    /// multiple of eight bytes, `Crypto` where the checkint is not the same again, the errors of
+    /// `KeypairData`, `PublicKey` where the pair has another public half, `Length` for eight bytes
+    /// or more after the comment, `FormatEncoding` for other padding, `Crypto` for a ciphertext
+    /// that is not whole blocks, and `TrailingData` with the number of bytes after an encrypted
+    /// key. Of a source with a fault, a stated length of the opening, or of the private part, that
+    /// passes all that was announced is `Length`, unless memory ran out for a value before it; how
+    /// else it is rejected is open.
     pub fn decode<R: Reader>(alloc: Global, reader: &mut R) -> Result<PrivateKey>
         ensures gives { Gives private_of cause private_value_at
             (R.source reader.old) result (R.source reader.new) }
@@ -137,8 +137,8 @@ impl PrivateKey {
 
     /// Reads a private key that all the bytes spell. The comment of an encrypted one is empty.
     ///
-    /// Out of memory aside, they are refused only where they spell none: with the refusals of
-    /// `decode`, or `Encoding(TrailingData)` with the number of bytes behind one that is not
+    /// Unless memory runs out, they are rejected only if they spell none: with the errors of
+    /// `decode`, or `Encoding(TrailingData)` with the number of bytes after one that is not
     /// encrypted. Out of memory is never answered where a stated length passes the bytes.
     pub fn from_bytes(alloc: Global, bytes: &[u8]) -> Result<PrivateKey>
         ensures gives { GivesWhole private_of cause (whole private_value_at)
@@ -151,7 +151,7 @@ impl PrivateKey {
         whole_key_from(alloc, bytes, 7)
     }
 
-    /// Reads a private key that all the bytes spell, with more padding behind its comment than is
+    /// Reads a private key that all the bytes spell, with more padding after its comment than is
     /// written: 01, 02, 03 and so on, up to 255 bytes, as PuTTY, Dropbear and Python's cryptography
     /// write it and OpenSSH reads it.
     ///
@@ -160,10 +160,10 @@ impl PrivateKey {
     /// same one; it is written as each key, with the least padding. Of an encrypted key the padding
     /// is in the ciphertext, which is held as it stands.
     ///
-    /// Out of memory aside, the bytes are refused only where they spell no such key: with the
-    /// refusals of `from_bytes`, but with `Length` for 256 bytes or more behind the comment, not
-    /// for eight. Padding takes no memory, and out of memory is never answered where a stated
-    /// length passes the bytes.
+    /// Unless memory runs out, the bytes are rejected only if they spell no such key: with the
+    /// errors of `from_bytes`, but with `Length` for 256 bytes or more after the comment, not for
+    /// eight. Padding does not allocate, and out of memory is never answered where a stated length
+    /// passes the bytes.
     pub fn from_padded_bytes(alloc: Global, bytes: &[u8]) -> Result<PrivateKey>
         ensures gives { GivesWhole private_of cause (whole padded_value_at)
             (all_of bytes.now) result }
@@ -175,10 +175,10 @@ impl PrivateKey {
         whole_key_from(alloc, bytes, 255)
     }
 
-    /// The bytes of the key's normal form, in memory of their own.
+    /// The bytes of the key's normal form, newly allocated.
     ///
-    /// Exactly where a part of the key is longer than 2^32 - 1 bytes, the answer is `Length`;
-    /// otherwise it is refused only when out of memory.
+    /// Fails with `Length` exactly if a part of the key is longer than 2^32 - 1 bytes, and
+    /// otherwise only when out of memory.
     pub fn to_bytes(&self, alloc: Global) -> Result<Vec<u8>>
         ensures { MakesBlob (normal_private_key (private_of self.now)) result }
     {
@@ -232,13 +232,13 @@ impl PrivateKey {
         self.public_key.comment()
     }
 
-    /// The key's algorithm. That of an opaque key is the one that stands beside its bytes.
+    /// The key's algorithm. That of an opaque key is the one that is kept beside its bytes.
     ///
-    /// Refused only when out of memory, and only under a private-use name.
+    /// Fails only when out of memory, and only under a private-use name.
     pub fn algorithm(&self, alloc: Global) -> Result<Algorithm>
         ensures ok { IfOk result (λ a. algorithm_of a
-            ≡ algorithm_beside (key_data_of (outer_of self.now))) }
-        ensures fixed { IsFixed (algorithm_beside (key_data_of (outer_of self.now)))
+            ≡ stored_algorithm (key_data_of (outer_of self.now))) }
+        ensures fixed { IsFixed (stored_algorithm (key_data_of (outer_of self.now)))
             → IsOk result }
         ensures err { IfErr result (λ e. e ≡ wide.Memory) }
     {
@@ -247,15 +247,15 @@ impl PrivateKey {
 
     /// The fingerprint of the public key by that hash: the digest of its normal form.
     ///
-    /// Exactly where a part of the key is longer than 2^32 - 1 bytes, the answer is `Length`;
-    /// otherwise it is refused only when out of memory.
+    /// Fails with `Length` exactly if a part of the key is longer than 2^32 - 1 bytes, and
+    /// otherwise only when out of memory.
     pub fn fingerprint(&self, alloc: Global, hash_alg: HashAlg) -> Result<Fingerprint>
         ensures { GivesFingerprint (hash_of hash_alg) (public_key (private_of self.now)) result }
     {
         self.public_key.fingerprint(alloc, hash_alg)
     }
 
-    /// Gives the key another comment, which of an encrypted key is not written. Takes no memory.
+    /// Gives the key another comment, which of an encrypted key is not written. Does not allocate.
     pub fn set_comment(&mut self, comment: String)
         ensures value { private_of self.new
             ≡ with_comment (string_bytes comment) (private_of self.old) }
@@ -266,11 +266,11 @@ impl PrivateKey {
         self.public_key.set_comment(comment);
     }
 
-    /// The same key and comment in memory of their own. Refused only when out of memory.
+    /// A copy of the key and comment. Fails only when out of memory.
     pub fn try_clone(&self, alloc: Global) -> Result<PrivateKey>
         ensures value { IfOk result (λ k. private_of k ≡ private_of self.now) }
-        ensures algorithm { IfOk result (λ k. algorithm_beside (key_data_of (outer_of k))
-            ≡ algorithm_beside (key_data_of (outer_of self.now))) }
+        ensures algorithm { IfOk result (λ k. stored_algorithm (key_data_of (outer_of k))
+            ≡ stored_algorithm (key_data_of (outer_of self.now))) }
         ensures comment { IfOk result
             (λ k. comment_of (outer_of k) ≡ comment_of (outer_of self.now)) }
         ensures seen { IfOk result (λ k. seen k ≡ seen self.now) }

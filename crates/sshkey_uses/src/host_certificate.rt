@@ -14,9 +14,9 @@ use std::alloc::Global;
 /// for the host's name, by one of the authorities with these fingerprints. Reading copies nothing
 /// of them.
 ///
-/// Out of memory aside, it refuses all others. This caller knows no critical options, so it refuses
-/// a certificate that has one, as `CertificateFieldInvalid`, and likewise one for users. The other
-/// refusals are those of `CertificateRef::from_bytes` and of
+/// Unless memory runs out, it rejects all others. This caller knows no critical options, so it
+/// rejects a certificate that has one, as `CertificateFieldInvalid`, and likewise one for users.
+/// The other refusals are those of `CertificateRef::from_bytes` and of
 /// `CertificateRef::validate_principal_at`.
 pub fn check_host<V: RawVerifier>(
     alloc: Global,

@@ -15,7 +15,7 @@ use std::alloc::Global;
 /// The SHA-256 fingerprint of the key that the blob spells, if it is the known key; `None` if it
 /// is another one.
 ///
-/// Out of memory aside, it is refused exactly where the blob spells no key.
+/// Unless memory runs out, it fails exactly if the blob spells no key.
 pub fn fingerprint_if_known(
     alloc: Global,
     blob: &[u8],
@@ -32,8 +32,8 @@ pub fn fingerprint_if_known(
     Ok(Some(known.fingerprint(alloc, HashAlg::Sha256)?))
 }
 
-/// Whether the blob spells the known key. Out of memory aside, it is refused exactly where it spells
-/// no key.
+/// Whether the blob spells the known key. Unless memory runs out, it fails exactly if it spells no
+/// key.
 fn is_known(alloc: Global, blob: &[u8], known: &KeyData) -> Result<bool>
     requires { IsKey (key_of known.now) }
     ensures same { IfOk result (λ yes. IsTrue yes ↔ SpellsKey (key_of known.now) blob.now) }

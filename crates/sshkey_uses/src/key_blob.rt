@@ -13,10 +13,9 @@ use ssh_key::encoding::decode_whole;
 use ssh_key::public::KeyData;
 use std::alloc::Global;
 
-/// The key that the blob spells. Out of memory aside, it is refused exactly where the blob spells
-/// none.
+/// The key that the blob spells. Unless memory runs out, it fails exactly if the blob spells none.
 ///
-/// An ECDSA or an Ed25519 key is never refused, also where no memory is to be had.
+/// An ECDSA or an Ed25519 key is never rejected, also where no memory is to be had.
 pub fn read_key(alloc: Global, blob: &[u8]) -> Result<KeyData>
     ensures accepts { AcceptsWhole key_of SpellsKey cause (all_of blob.now) result }
     ensures in_place { (k : Key) → SpellsKey k blob.now → IsTrue (is_ecdsa k || is_ed25519 k)

@@ -13,10 +13,10 @@ use std::alloc::Global;
 /// Lets a user in where the line has a certificate for users that lists the user's name, valid at
 /// that time, by one of the authorities with these fingerprints.
 ///
-/// Out of memory aside, it refuses all others. This caller knows no critical options, so it refuses
-/// a certificate that has one, as `CertificateFieldInvalid`, and likewise one for hosts. So it does
-/// with one that lists no principals, which `validate_principal_at` takes for everybody's, and
-/// which lets nobody in by sshd_config(5), `TrustedUserCAKeys`. The other refusals are those of
+/// Unless memory runs out, it rejects all others. This caller knows no critical options, so it
+/// rejects a certificate that has one, as `CertificateFieldInvalid`, and likewise one for hosts. So
+/// it does with one that lists no principals, which `validate_principal_at` takes for everybody's,
+/// and which lets nobody in by sshd_config(5), `TrustedUserCAKeys`. The other refusals are those of
 /// `Certificate::from_openssh` and of `Certificate::validate_principal_at`.
 pub fn let_in<V: RawVerifier>(
     alloc: Global,

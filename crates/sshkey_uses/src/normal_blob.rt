@@ -9,11 +9,11 @@ ghost use Rattle.ssh_key.specs.keys.Keys.{key_of};
 use ssh_key::encoding::{Encode, Result, SliceWriter};
 use ssh_key::public::KeyData;
 
-/// Whether the blob is the normal form of the key, which is written into the room. Takes no
-/// memory.
+/// Whether the blob is the normal form of the key, which is written into the room. Does not
+/// allocate.
 ///
-/// Refused exactly where the room is too small, or a part of the key is longer than 2^32 - 1 bytes,
-/// and always as `Length`.
+/// Rejected exactly where the room is too small, or a part of the key is longer than 2^32 - 1
+/// bytes, and always as `Length`.
 pub fn is_normal_blob(key: &KeyData, blob: &[u8], room: &mut [u8]) -> Result<bool>
     ensures same { IfOk result
         (λ yes. IsTrue yes ↔ (blob.now ≡ flat (normal_key (key_of key.now)))) }

@@ -12,7 +12,7 @@ use ssh_key::encoding::{
 };
 use std::alloc::Global;
 
-/// What stands behind the byte `SSH_AGENTC_SIGN_REQUEST`.
+/// What stands after the byte `SSH_AGENTC_SIGN_REQUEST`.
 #[derive(Debug, Drop)]
 pub struct SignRequest {
     /// The blob of the key that is to sign.
@@ -68,7 +68,8 @@ impl NormalForm for SignRequest {
     ghost normal_spells = { λ r. request_normal (request_of r) };
 }
 
-/// The request that all the bytes spell. Out of memory aside, refused exactly where they spell none.
+/// The request that all the bytes spell. Unless memory runs out, rejected exactly where they spell
+/// none.
 pub fn read_request(alloc: Global, bytes: &[u8]) -> Result<SignRequest>
     ensures { AcceptsWhole request_of SpellsRequest encoding_cause (all_of bytes.now) result }
 {

@@ -13,7 +13,7 @@ use std::alloc::Global;
 
 /// Whether the blob spells a signature of the message that the verifier accepts under the key.
 ///
-/// Out of memory aside, it is refused exactly where the blob spells no signature. A signature by an
+/// Unless memory runs out, it fails exactly if the blob spells no signature. A signature by an
 /// algorithm that does not go with the key is no signature of the message, and the verifier is not
 /// asked.
 pub fn is_signed<V: RawVerifier>(
@@ -32,7 +32,7 @@ pub fn is_signed<V: RawVerifier>(
     answer_of(key.verify(alloc, message, &signature, verifier))
 }
 
-/// Yes or no, unless memory was refused.
+/// Yes or no, unless an allocation failed.
 fn answer_of(verdict: Result<()>) -> Result<bool>
     ensures { Answers verdict result }
 {

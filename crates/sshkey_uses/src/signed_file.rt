@@ -10,8 +10,9 @@ use std::alloc::Global;
 /// Accepts what a file holds where the bytes spell an SSH signature of it, by the key in the line
 /// and in the namespace, which the verifier accepts.
 ///
-/// Out of memory aside, it refuses all others. The refusals are those of `PublicKey::from_openssh`
-/// for the line, of `SshSig::from_bytes` for the signature, and of `PublicKey::verify`.
+/// Unless memory runs out, it rejects all others. The refusals are those of
+/// `PublicKey::from_openssh` for the line, of `SshSig::from_bytes` for the signature, and of
+/// `PublicKey::verify`.
 pub fn accept_file<V: RawVerifier>(
     alloc: Global,
     line: &str,

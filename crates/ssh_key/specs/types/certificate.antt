@@ -10,4 +10,4 @@ pub use Rattle.sshkey_options_ref.specs.declared.options_ref.iter.Options
 pub use Rattle.sshkey_options_ref.specs.declared.options_ref.OptionsRef
 pub use Rattle.sshkey_options_ref.specs.declared.texts_ref.iter.Texts
 pub use Rattle.sshkey_options_ref.specs.declared.texts_ref.TextsRef
-pub use Rattle.sshkey_unsigned.specs.declared.unsigned.Unsigned
+pub use Rattle.sshkey_to_be_signed.specs.declared.to_be_signed.ToBeSigned

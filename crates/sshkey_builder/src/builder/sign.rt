@@ -6,7 +6,7 @@ ghost use Rattle.sshkey_model.specs.Drafts.{IsSignedDraft, drafted, or_default};
 ghost use Rattle.sshkey_model.specs.Fingerprints.{fingerprint};
 ghost use Rattle.sshkey_model.specs.Names.{Sha256};
 ghost use Rattle.sshkey_builder.specs.Builders.{IsValidExactlyIn, draft_of, no_principals};
-ghost use Rattle.sshkey_unsigned.specs.UnsignedValues.{unsigned_of};
+ghost use Rattle.sshkey_to_be_signed.specs.ToBeSignedValues.{to_be_signed_of};
 ghost use Rattle.sshkey_cert.specs.CertificateValues.{certificate_of, comment_of};
 ghost use Rattle.sshkey_cert.specs.Signing.{RefusesToSign};
 
@@ -16,7 +16,7 @@ use sshkey_base::{Bytes, Error, Result, Text};
 use sshkey_cert::Certificate;
 use sshkey_keys::{KeyData, SigningKey};
 use sshkey_options::CertType;
-use sshkey_unsigned::Unsigned;
+use sshkey_to_be_signed::ToBeSigned;
 use std::alloc::Global;
 
 impl Builder {
@@ -48,15 +48,15 @@ impl Builder {
             return Err(Error::CertificateFieldInvalid(Field::ValidPrincipals));
         }
         let signature_key = signing_key.public_key().try_clone(alloc)?;
-        let (unsigned, comment) = self.fields(alloc, signature_key);
-        Certificate::sign(alloc, unsigned, signing_key, comment)
+        let (fields, comment) = self.fields(alloc, signature_key);
+        Certificate::sign(alloc, fields, signing_key, comment)
     }
 
     /// The fields, with the defaults for those that were not set, and the comment. The principals
     /// were named.
-    fn fields(self, alloc: Global, signature_key: KeyData) -> (Unsigned, Text)
+    fn fields(self, alloc: Global, signature_key: KeyData) -> (ToBeSigned, Text)
         requires { IsSome self.valid_principals }
-        ensures fields { unsigned_of result.0 ≡ drafted (draft_of self) (key_of signature_key) }
+        ensures fields { to_be_signed_of result.0 ≡ drafted (draft_of self) (key_of signature_key) }
         ensures comment { result.1 ≡ or_default [] (draft_of self).comment }
     {
         let Builder {
@@ -73,7 +73,7 @@ impl Builder {
             extensions,
             comment,
         } = self;
-        let unsigned = Unsigned {
+        let fields = ToBeSigned {
             nonce,
             public_key,
             serial: serial.unwrap_or(0),
@@ -87,7 +87,7 @@ impl Builder {
             reserved: Bytes::new(Vec::new(alloc)),
             signature_key,
         };
-        (unsigned, or_empty(alloc, comment))
+        (fields, or_empty(alloc, comment))
     }
 }
 

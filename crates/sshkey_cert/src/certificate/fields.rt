@@ -3,7 +3,7 @@
 ghost use Rattle.std.specs.Prelude.{◌≡◌, ◌↔◌, IsTrue, IsOk, IfOk, IfErr, map, string_bytes, true};
 ghost use Rattle.sshkey_base.specs.Names.{IsFixed, algorithm_of};
 ghost use Rattle.sshkey_base.specs.declared.error.Error.TheVariants as wide;
-ghost use Rattle.sshkey_keys.specs.Keys.{algorithm_beside, key_of};
+ghost use Rattle.sshkey_keys.specs.Keys.{stored_algorithm, key_of};
 ghost use Rattle.sshkey_keys.specs.Signatures.{signature_of};
 ghost use Rattle.sshkey_model.specs.Certificates.{IsCertificate, is_time, is_end, forever};
 ghost use Rattle.sshkey_model.specs.Keys.{IsKey, key_algorithm};
@@ -24,14 +24,14 @@ impl Certificate {
     /// Fails only when out of memory, and only under a private-use name.
     pub fn algorithm(&self, alloc: Global) -> Result<Algorithm>
         ensures ok { IfOk result
-            (λ a. algorithm_of a ≡ algorithm_beside (certified_key_of self.now)) }
+            (λ a. algorithm_of a ≡ stored_algorithm (certified_key_of self.now)) }
         ensures well_formed { IsKey (certificate_of self.now).signed.key →
-            algorithm_beside (certified_key_of self.now)
+            stored_algorithm (certified_key_of self.now)
             ≡ key_algorithm (certificate_of self.now).signed.key }
-        ensures fixed { IsFixed (algorithm_beside (certified_key_of self.now)) → IsOk result }
+        ensures fixed { IsFixed (stored_algorithm (certified_key_of self.now)) → IsOk result }
         ensures memory { IfErr result (λ e. e ≡ wide.Memory) }
     {
-        self.unsigned.public_key.algorithm(alloc)
+        self.fields.public_key.algorithm(alloc)
     }
 
     /// The nonce: random bytes of the signer's choice, so that nobody can prepare two certificates
@@ -39,7 +39,7 @@ impl Certificate {
     pub fn nonce(&self) -> &[u8]
         ensures { result.now ≡ (certificate_of self.now).signed.nonce }
     {
-        self.unsigned.nonce.as_slice()
+        self.fields.nonce.as_slice()
     }
 
     /// The certified key. It is well-formed in every certificate that was read; only
@@ -50,35 +50,35 @@ impl Certificate {
         ensures value { key_of result.now ≡ (certificate_of self.now).signed.key }
         ensures well_formed { IsCertificate (certificate_of self.now) → IsKey (key_of result.now) }
     {
-        &self.unsigned.public_key
+        &self.fields.public_key
     }
 
     /// The serial number that the authority gave the certificate, or 0 if it assigns none.
     pub fn serial(&self) -> u64
         ensures { result ≡ (certificate_of self.now).signed.serial }
     {
-        self.unsigned.serial
+        self.fields.serial
     }
 
     /// Whether the certificate is for a user or for a host.
     pub fn cert_type(&self) -> CertType
         ensures { type_of result ≡ (certificate_of self.now).signed.certificate_type }
     {
-        self.unsigned.cert_type
+        self.fields.cert_type
     }
 
     /// A text of the authority's choice that identifies the holder, for logs.
     pub fn key_id(&self) -> &str
         ensures { result.now ≡ (certificate_of self.now).signed.key_id }
     {
-        self.unsigned.key_id.as_str()
+        self.fields.key_id.as_str()
     }
 
     /// The principals. If there are none, `allows_principal` allows everybody.
     pub fn valid_principals(&self) -> &[String]
         ensures { map string_bytes result.now ≡ (certificate_of self.now).signed.valid_principals }
     {
-        &self.unsigned.valid_principals
+        &self.fields.valid_principals
     }
 
     /// The first second of the window.
@@ -86,7 +86,7 @@ impl Certificate {
         ensures value { result ≡ (certificate_of self.now).signed.valid_after }
         ensures time { is_time result ≡ true }
     {
-        self.unsigned.valid_after.secs()
+        self.fields.valid_after.secs()
     }
 
     /// The first second after the window, or 2^64 - 1 if it has no end.
@@ -94,14 +94,14 @@ impl Certificate {
         ensures value { result ≡ (certificate_of self.now).signed.valid_before }
         ensures end { is_end result ≡ true }
     {
-        self.unsigned.valid_before.secs()
+        self.fields.valid_before.secs()
     }
 
     /// Whether the window has no end.
     pub fn is_forever(&self) -> bool
         ensures { IsTrue result ↔ ((certificate_of self.now).signed.valid_before ≡ forever) }
     {
-        self.unsigned.valid_before.is_forever()
+        self.fields.valid_before.is_forever()
     }
 
     /// Restrictions on the use of the certificate. Refuse a certificate that has one that you do
@@ -109,14 +109,14 @@ impl Certificate {
     pub fn critical_options(&self) -> &OptionsMap
         ensures { options_of result.now ≡ (certificate_of self.now).signed.critical_options }
     {
-        &self.unsigned.critical_options
+        &self.fields.critical_options
     }
 
     /// What the certificate grants additionally. Ignore an extension that you do not know.
     pub fn extensions(&self) -> &OptionsMap
         ensures { options_of result.now ≡ (certificate_of self.now).signed.extensions }
     {
-        &self.unsigned.extensions
+        &self.fields.extensions
     }
 
     /// The key that signed. It is well-formed in every certificate that was read.
@@ -124,7 +124,7 @@ impl Certificate {
         ensures value { key_of result.now ≡ (certificate_of self.now).signed.signature_key }
         ensures well_formed { IsCertificate (certificate_of self.now) → IsKey (key_of result.now) }
     {
-        &self.unsigned.signature_key
+        &self.fields.signature_key
     }
 
     /// The signature under the signature key, over all fields before it.

@@ -35,7 +35,7 @@ impl Blob for Certificate {
     ghost stands = { certificates_stand };
 
     fn write_name<W: Writer>(&self, writer: &mut W) -> encoding::Result<()> {
-        self.unsigned.public_key.write_certificate_name(writer)
+        self.fields.public_key.write_certificate_name(writer)
     }
 }
 
@@ -90,7 +90,7 @@ impl Certificate {
             ↔ IsOneLine (certificate_line (certificate_of self.now) (comment_of self.now)) }
     {
         makes_one_line(
-            self.unsigned.public_key.algorithm_name(),
+            self.fields.public_key.algorithm_name(),
             self.comment.as_str(),
         )
     }
@@ -103,7 +103,7 @@ impl Certificate {
     {
         let mut name = Vec::new(alloc);
         self.write_name(&mut name)?;
-        is_text_in_certificates(&self.unsigned.public_key);
+        is_text_in_certificates(&self.fields.public_key);
         let Ok(name) = String::from_utf8(name) else {
             unreachable!();
         };
@@ -116,12 +116,12 @@ impl Certificate {
         ensures comment { comment_of result ≡ string_bytes comment }
     {
         let Certificate {
-            unsigned,
+            fields,
             signature,
             comment: _,
         } = self;
         Certificate {
-            unsigned,
+            fields,
             signature,
             comment: Text::new(comment),
         }

@@ -6,7 +6,7 @@ ghost use Rattle.sshkey_base.specs.declared.error.Error.TheVariants as wide;
 ghost use Rattle.sshkey_keys.specs.Signatures.{signature_of};
 ghost use Rattle.sshkey_model.specs.Certificates.{normal_to_be_signed};
 ghost use Rattle.sshkey_model.specs.Parts.{BoxesFit, flat};
-ghost use Rattle.sshkey_unsigned.specs.UnsignedValues.{unsigned_of};
+ghost use Rattle.sshkey_to_be_signed.specs.ToBeSignedValues.{to_be_signed_of};
 ghost use Rattle.sshkey_cert.specs.CertificateValues.{certificate_of, comment_of};
 ghost use Rattle.sshkey_cert.specs.Fitting.{signed_fits};
 ghost use Rattle.sshkey_cert.specs.Signing.{IsSignatureOf, RefusesToSign};
@@ -14,7 +14,7 @@ ghost use Rattle.sshkey_cert.specs.Signing.{IsSignatureOf, RefusesToSign};
 use super::Certificate;
 use sshkey_base::{Result, Text};
 use sshkey_keys::{Signature, SigningKey};
-use sshkey_unsigned::Unsigned;
+use sshkey_to_be_signed::ToBeSigned;
 use std::alloc::Global;
 
 impl Certificate {
@@ -24,21 +24,21 @@ impl Certificate {
     /// exceed 2^32 - 1 bytes, and else with an error of the signer's own.
     pub fn sign<S: SigningKey>(
         alloc: Global,
-        unsigned: Unsigned,
+        fields: ToBeSigned,
         signing_key: &S,
         comment: Text,
     ) -> Result<Certificate>
-        ensures fields { IfOk result (λ c. (certificate_of c).signed ≡ unsigned_of unsigned) }
+        ensures fields { IfOk result (λ c. (certificate_of c).signed ≡ to_be_signed_of fields) }
         ensures comment { IfOk result (λ c. comment_of c ≡ comment) }
         ensures signature { IfOk result (λ c.
             IsSignatureOf (S.Raw.accepts (S.raw_of signing_key.now)) (S.public_of signing_key.now)
-            (unsigned_of unsigned) (certificate_of c).signature) }
+            (to_be_signed_of fields) (certificate_of c).signature) }
         ensures refused { IfErr result
-            (RefusesToSign (S.refuses signing_key.now) (unsigned_of unsigned)) }
+            (RefusesToSign (S.refuses signing_key.now) (to_be_signed_of fields)) }
     {
-        match signature_by(alloc, &unsigned, signing_key) {
+        match signature_by(alloc, &fields, signing_key) {
             Ok(signature) => Ok(Certificate {
-                unsigned,
+                fields,
                 signature,
                 comment,
             }),
@@ -50,27 +50,27 @@ impl Certificate {
 /// What the signer makes of the bytes that are signed.
 fn signature_by<S: SigningKey>(
     alloc: Global,
-    unsigned: &Unsigned,
+    fields: &ToBeSigned,
     signing_key: &S,
 ) -> Result<Signature>
     ensures accepted { IfOk result (λ g. IsSignatureOf (S.Raw.accepts (S.raw_of signing_key.now))
-        (S.public_of signing_key.now) (unsigned_of unsigned.now) (signature_of g)) }
-    ensures fits { OnOk result (signed_fits (unsigned_of unsigned.now) ≡ true) }
+        (S.public_of signing_key.now) (to_be_signed_of fields.now) (signature_of g)) }
+    ensures fits { OnOk result (signed_fits (to_be_signed_of fields.now) ≡ true) }
     ensures refused { IfErr result
-        (RefusesToSign (S.refuses signing_key.now) (unsigned_of unsigned.now)) }
+        (RefusesToSign (S.refuses signing_key.now) (to_be_signed_of fields.now)) }
 {
-    let signed = checked_bytes(alloc, unsigned)?;
+    let signed = checked_bytes(alloc, fields)?;
     signing_key.try_sign(alloc, &signed)
 }
 
 /// The bytes that are signed, where they fit.
-fn checked_bytes(alloc: Global, unsigned: &Unsigned) -> Result<Vec<u8>>
+fn checked_bytes(alloc: Global, fields: &ToBeSigned) -> Result<Vec<u8>>
     ensures bytes { IfOk result
-        (λ v. v.items ≡ flat (normal_to_be_signed (unsigned_of unsigned.now))) }
-    ensures fits { OnOk result (signed_fits (unsigned_of unsigned.now) ≡ true) }
-    ensures boxes { OnOk result (BoxesFit (normal_to_be_signed (unsigned_of unsigned.now))) }
+        (λ v. v.items ≡ flat (normal_to_be_signed (to_be_signed_of fields.now))) }
+    ensures fits { OnOk result (signed_fits (to_be_signed_of fields.now) ≡ true) }
+    ensures boxes { OnOk result (BoxesFit (normal_to_be_signed (to_be_signed_of fields.now))) }
     ensures too_long { IfErr result (λ e. e ≢ wide.Memory → (e ≡ wide.Encoding narrow.Length)
-        × (BoxesFit (normal_to_be_signed (unsigned_of unsigned.now)) → ⊥)) }
+        × (BoxesFit (normal_to_be_signed (to_be_signed_of fields.now)) → ⊥)) }
 {
-    unsigned.signed_bytes(alloc)
+    fields.signed_bytes(alloc)
 }

@@ -21,8 +21,8 @@ impl<'a> CertificateRef<'a> {
         self.parts.name
     }
 
-    /// Bytes of the signer's choice that nobody can foretell, so that nobody can prepare two
-    /// certificates of one digest (PROTOCOL.certkeys).
+    /// The nonce: random bytes of the signer's choice, so that nobody can prepare two certificates
+    /// with one digest (PROTOCOL.certkeys).
     pub fn nonce(&self) -> &'a [u8]
         ensures { result.now ≡ (certificate_of self.now).signed.nonce }
     {
@@ -36,7 +36,7 @@ impl<'a> CertificateRef<'a> {
         self.parts.serial
     }
 
-    /// Whether it is of a user or of a host.
+    /// Whether the certificate is for a user or for a host.
     pub fn cert_type(&self) -> CertType
         ensures { type_of result ≡ (certificate_of self.now).signed.certificate_type }
     {
@@ -65,7 +65,7 @@ impl<'a> CertificateRef<'a> {
         self.parts.valid_after.secs()
     }
 
-    /// The second behind the window, and 2^64 - 1 where it has no end.
+    /// The first second after the window, or 2^64 - 1 if it has no end.
     pub fn valid_before(&self) -> u64
         ensures value { result ≡ (certificate_of self.now).signed.valid_before }
         ensures end { is_end result ≡ true }
@@ -80,8 +80,8 @@ impl<'a> CertificateRef<'a> {
         self.parts.valid_before.is_forever()
     }
 
-    /// What limits the use of the certificate: a reader has to refuse it if it does not know one of
-    /// these options.
+    /// Restrictions on the use of the certificate. Refuse a certificate that has one that you do
+    /// not know.
     pub fn critical_options(&self) -> OptionsRef<'a>
         ensures options { options_of result
             ≡ (certificate_of self.now).signed.critical_options }
@@ -90,7 +90,7 @@ impl<'a> CertificateRef<'a> {
         self.parts.critical_options
     }
 
-    /// What the certificate permits besides; a reader ignores an extension that it does not know.
+    /// What the certificate grants besides. Ignore an extension that you do not know.
     pub fn extensions(&self) -> OptionsRef<'a>
         ensures options { options_of result ≡ (certificate_of self.now).signed.extensions }
         ensures choices { nestings_of result ≡ (choices_of self.now).extensions }

@@ -15,7 +15,7 @@ use sshkey_keys::{KeyData, Signature};
 use std::alloc::Global;
 
 impl CertificateRef<'_> {
-    /// The key that is certified, which is well-formed. Refused only when out of memory.
+    /// The key that is certified, which is well-formed. Fails only when out of memory.
     pub fn public_key(&self, alloc: Global) -> Result<KeyData>
         ensures value { IfOk result (λ key. key_of key ≡ (certificate_of self.now).signed.key) }
         ensures well_formed { IfOk result (λ key. IsKey (key_of key)) }
@@ -26,7 +26,7 @@ impl CertificateRef<'_> {
         KeyData::decode_as(alloc, &mut body, algorithm)
     }
 
-    /// The key that signed, which is well-formed. Refused only when out of memory.
+    /// The key that signed, which is well-formed. Fails only when out of memory.
     pub fn signature_key(&self, alloc: Global) -> Result<KeyData>
         ensures value { IfOk result
             (λ key. key_of key ≡ (certificate_of self.now).signed.signature_key) }
@@ -36,7 +36,7 @@ impl CertificateRef<'_> {
         self.parts.signature_key.to_key_data(alloc)
     }
 
-    /// The signature under the signature key, over all fields before it. Refused only when out of
+    /// The signature under the signature key, over all fields before it. Fails only when out of
     /// memory.
     pub fn signature(&self, alloc: Global) -> Result<Signature>
         ensures value { IfOk result
@@ -46,8 +46,8 @@ impl CertificateRef<'_> {
         self.signature.to_signature(alloc)
     }
 
-    /// The certificate in memory of its own, as `Certificate::from_bytes` reads it, so with an empty
-    /// comment. Refused only when out of memory.
+    /// The certificate in memory of its own, as `Certificate::from_bytes` reads it, so with an
+    /// empty comment. Fails only when out of memory.
     pub fn to_certificate(&self, alloc: Global) -> Result<Certificate>
         ensures value { IfOk result
             (λ certificate. owned_certificate_of certificate ≡ certificate_of self.now) }

@@ -12,7 +12,7 @@ use super::CertificateRef;
 
 impl<'a> CertificateRef<'a> {
     /// The bytes before the signature, where they are what the signature is over: the normal form
-    /// of all other fields. Takes no memory.
+    /// of all other fields. Does not allocate.
     ///
     /// `None` exactly where a part is spelled in its other way: the name of an RSA signature key
     /// with a hash (RFC 8332, section 3), or an empty value of an option as an empty text in its

@@ -23,9 +23,9 @@ impl CertificateRef<'_> {
     /// Asks the verifier about the signature over all other fields, in their normal form: where
     /// `signed_bytes` is Some about that very slice, and else about bytes that are made anew.
     ///
-    /// Out of memory aside: Ok exactly where `KeyData::verify` under the signature key accepts it,
-    /// else `CertificateValidation`. Where `signed_bytes` is Some, memory is taken only for a DSA
-    /// or an RSA key and by the verifier.
+    /// Unless memory runs out, `Ok` exactly if `KeyData::verify` under the signature key accepts
+    /// it, else `CertificateValidation`. Where `signed_bytes` is Some, memory is taken only for a
+    /// DSA or an RSA key and by the verifier.
     pub fn verify_signature<V: RawVerifier>(&self, alloc: Global, verifier: &V) -> Result<()>
         ensures accepted { OnOk result
             (IsSigned (V.accepts verifier.now) (certificate_of self.now)) }
@@ -41,7 +41,7 @@ impl CertificateRef<'_> {
     /// Whether the certificate is valid at that time, in seconds since 1970, for an authority with
     /// one of the fingerprints. Only SHA-256 ones count.
     ///
-    /// Out of memory aside, Ok exactly where it is valid; else the first of these:
+    /// Unless memory runs out, `Ok` exactly if it is valid; else the first of these:
     /// `CertificateValidation` for the signature, `CertificateValidation` where no fingerprint is
     /// the signature key's, `Time` for a time above 2^63 - 1, `CertificateValidation` for a time
     /// before `valid_after`, or not before `valid_before`. It takes memory where `verify_signature`
@@ -59,10 +59,10 @@ impl CertificateRef<'_> {
         self.judge_at(alloc, unix_timestamp, fingerprints, verifier)
     }
 
-    /// Whether the certificate lists no principals, or lists that very text. Takes no memory.
+    /// Whether the certificate lists no principals, or lists that very text. Does not allocate.
     ///
     /// So a certificate without principals allows everybody here (PROTOCOL.certkeys), while sshd(8)
-    /// refuses it for a user: a login asks also that `valid_principals` is not empty.
+    /// rejects it for a user: a login asks also that `valid_principals` is not empty.
     pub fn allows_principal(&self, wanted: &str) -> bool
         ensures { IsTrue result ↔ Allows (certificate_of self.now) wanted.now }
     {
@@ -72,7 +72,7 @@ impl CertificateRef<'_> {
 
     /// Whether the certificate is valid as `validate_at` has it, and allows the wanted principal.
     ///
-    /// Out of memory aside, Ok exactly where it is; else the refusal of `validate_at`, and last
+    /// Unless memory runs out, `Ok` exactly if it is; else the error of `validate_at`, and last
     /// `CertificateFieldInvalid(Field::ValidPrincipals)` for the principal.
     pub fn validate_principal_at<V: RawVerifier>(
         &self,
@@ -145,7 +145,7 @@ impl CertificateRef<'_> {
         }
     }
 
-    /// The SHA-256 fingerprint of the key that signed. Refused only when out of memory.
+    /// The SHA-256 fingerprint of the key that signed. Fails only when out of memory.
     fn authority(&self, alloc: Global) -> Result<Fingerprint>
         ensures fingerprint { IfOk result
             (IsFingerprint Sha256 (certificate_of self.now).signed.signature_key) }

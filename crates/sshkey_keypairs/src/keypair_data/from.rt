@@ -9,7 +9,7 @@ use crate::sk_ecdsa::SkEcdsaSha2NistP256;
 use crate::sk_ed25519::SkEd25519;
 use sshkey_pairs::{DsaKeypair, EcdsaKeypair, Ed25519Keypair, RsaKeypair};
 
-/// That DSA pair. Takes no memory.
+/// That DSA pair. Does not allocate.
 impl From<DsaKeypair> for KeypairData {
     ghost from_gives = { λ pair made. made ≡ kinds.Dsa pair };
 
@@ -18,7 +18,7 @@ impl From<DsaKeypair> for KeypairData {
     }
 }
 
-/// That ECDSA pair. Takes no memory.
+/// That ECDSA pair. Does not allocate.
 impl From<EcdsaKeypair> for KeypairData {
     ghost from_gives = { λ pair made. made ≡ kinds.Ecdsa pair };
 
@@ -27,7 +27,7 @@ impl From<EcdsaKeypair> for KeypairData {
     }
 }
 
-/// That Ed25519 pair. Takes no memory.
+/// That Ed25519 pair. Does not allocate.
 impl From<Ed25519Keypair> for KeypairData {
     ghost from_gives = { λ pair made. made ≡ kinds.Ed25519 pair };
 
@@ -36,7 +36,7 @@ impl From<Ed25519Keypair> for KeypairData {
     }
 }
 
-/// That RSA pair. Takes no memory.
+/// That RSA pair. Does not allocate.
 impl From<RsaKeypair> for KeypairData {
     ghost from_gives = { λ pair made. made ≡ kinds.Rsa pair };
 
@@ -45,7 +45,7 @@ impl From<RsaKeypair> for KeypairData {
     }
 }
 
-/// That P-256 pair of a security key. Takes no memory.
+/// That P-256 pair of a security key. Does not allocate.
 impl From<SkEcdsaSha2NistP256> for KeypairData {
     ghost from_gives = { λ pair made. made ≡ kinds.SkEcdsaSha2NistP256 pair };
 
@@ -54,7 +54,7 @@ impl From<SkEcdsaSha2NistP256> for KeypairData {
     }
 }
 
-/// That Ed25519 pair of a security key. Takes no memory.
+/// That Ed25519 pair of a security key. Does not allocate.
 impl From<SkEd25519> for KeypairData {
     ghost from_gives = { λ pair made. made ≡ kinds.SkEd25519 pair };
 
@@ -63,7 +63,7 @@ impl From<SkEd25519> for KeypairData {
     }
 }
 
-/// That pair under a private-use name. Takes no memory.
+/// That pair under a private-use name. Does not allocate.
 impl From<OpaqueKeypair> for KeypairData {
     ghost from_gives = { λ pair made. made ≡ kinds.Other pair };
 

@@ -14,8 +14,8 @@ use super::KeyData;
 use sshkey_base::{Algorithm, Encode, Writer, encoding};
 
 impl KeyData {
-    /// How many bytes the name of the key's algorithm has in a certificate, at most 73. Takes no
-    /// memory.
+    /// How many bytes the name of the key's algorithm has in a certificate, at most 73. Does not
+    /// allocate.
     pub fn certificate_name_len(&self) -> usize
         ensures value { result ≡ length (certificate_name (key_algorithm (key_of self.now))) }
         ensures short { result ≤ 73 }
@@ -35,8 +35,8 @@ impl KeyData {
 
     /// Writes the name of the key's algorithm in a certificate, with no length before it.
     ///
-    /// A refusal is the writer's own; then it holds what it held, and a beginning of the name.
-    /// Takes no memory of its own.
+    /// Fails only with the writer's own error; the writer then holds what it held before, and a
+    /// prefix of the name. Does not allocate by itself.
     pub fn write_certificate_name<W: Writer>(&self, writer: &mut W) -> encoding::Result<()>
         ensures { Encodes W.fault (bytes (certificate_name (key_algorithm (key_of self.now))))
             (W.sink writer.old) result (W.sink writer.new) }
@@ -56,8 +56,8 @@ impl KeyData {
 
     /// Writes the string of that name: a length of four bytes, and the name.
     ///
-    /// A refusal is the writer's own; then it holds what it held, and a beginning of the string.
-    /// Takes no memory of its own.
+    /// Fails only with the writer's own error; the writer then holds what it held before, and a
+    /// prefix of the string. Does not allocate by itself.
     pub fn encode_certificate_name<W: Writer>(&self, writer: &mut W) -> encoding::Result<()>
         ensures { Encodes W.fault (certificate_algorithm (key_algorithm (key_of self.now)))
             (W.sink writer.old) result (W.sink writer.new) }

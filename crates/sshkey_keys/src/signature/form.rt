@@ -10,7 +10,7 @@ ghost use Rattle.sshkey_keys.specs.SignatureForms.{has_trailer, string_from, blo
 use sshkey_base::{Algorithm, EcdsaCurve, Error, Result, encoding};
 use sshkey_slices::split_string;
 
-/// How many bytes stand behind a security key's signature: one of flags, four of a counter.
+/// How many bytes stand after a security key's signature: one of flags, four of a counter.
 pub(crate) const TRAILER_LEN: usize = 5;
 
 /// Whether the bytes are those of a signature by the algorithm.
@@ -28,7 +28,7 @@ pub(crate) fn check_blob(algorithm: &Algorithm, bytes: &[u8]) -> Result<()>
     check_string(algorithm, split_trailer(bytes).0)
 }
 
-/// Whether the flags and the counter, five bytes, stand behind the string, as in the signatures of
+/// Whether the flags and the counter, five bytes, stand after the string, as in the signatures of
 /// security keys (PROTOCOL.u2f).
 #[inline(always)]
 pub fn has_trailer(algorithm: &Algorithm) -> bool
@@ -43,9 +43,9 @@ pub fn has_trailer(algorithm: &Algorithm) -> bool
 /// Whether the bytes are those that stand in the string of a signature by the algorithm, without
 /// the flags and the counter of a security key.
 ///
-/// `Length` for too few or too many, and for `ssh-rsa`, under which there are no signatures;
-/// `FormatEncoding` and `Crypto` for what is no positive number of an ECDSA signature. Takes no
-/// memory.
+/// Fails with `Length` for too few or too many, and for `ssh-rsa`, under which there are no
+/// signatures; `FormatEncoding` and `Crypto` for what is no positive number of an ECDSA signature.
+/// Does not allocate.
 #[inline(always)]
 pub fn check_string(algorithm: &Algorithm, bytes: &[u8]) -> Result<()>
     ensures { AnswersAlways (λ _. bytes.now) cause
@@ -68,8 +68,8 @@ pub fn check_string(algorithm: &Algorithm, bytes: &[u8]) -> Result<()>
 }
 
 /// The bytes of a security key's signature (PROTOCOL.u2f): what stands in the string, and the flags
-/// and the counter behind it, which are the last five bytes. Of fewer than five all are taken for
-/// the latter. Takes no memory.
+/// and the counter after it, which are the last five bytes. Of fewer than five all are taken for
+/// the latter. Does not allocate.
 #[inline(always)]
 pub fn split_trailer(blob: &[u8]) -> (&[u8], &[u8])
     ensures string { result.0.now ≡ without_trailer blob.now }
@@ -78,7 +78,7 @@ pub fn split_trailer(blob: &[u8]) -> (&[u8], &[u8])
     blob.split_at(blob.len().saturating_sub(TRAILER_LEN))
 }
 
-/// `Length` where there are more or fewer bytes.
+/// Fails with `Length` if there are more or fewer bytes.
 #[inline(always)]
 fn check_len(len: usize, bytes: &[u8]) -> Result<()>
     ensures { AnswersAlways (λ _. bytes.now) cause (sized_from len bytes.now) result }
@@ -101,7 +101,7 @@ fn check_ecdsa(size: usize, bytes: &[u8]) -> Result<()>
     Ok(())
 }
 
-/// What stands behind a positive number of at most `size` bytes.
+/// What stands after a positive number of at most `size` bytes.
 fn after_component(size: usize, bytes: &[u8]) -> Result<&[u8]>
     ensures { AnswersAlways (λ rest. rest.now) cause (after_component size bytes.now) result }
 {
@@ -114,7 +114,8 @@ fn after_component(size: usize, bytes: &[u8]) -> Result<&[u8]>
 
 /// The bytes of a positive number, without the 00 that may stand first.
 ///
-/// `FormatEncoding` where they are those of no number, `Crypto` for zero and a negative number.
+/// Fails with `FormatEncoding` if they are those of no number, with `Crypto` for zero and a
+/// negative number.
 fn positive_part(number: &[u8]) -> Result<&[u8]>
     ensures { AnswersAlways (λ part. part.now) cause (positive_from number.now) result }
 {

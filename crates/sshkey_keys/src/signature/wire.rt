@@ -30,7 +30,7 @@ use std::alloc::Global;
 impl Signature {
     /// Reads a signature from the front of the bytes, whatever follows it.
     ///
-    /// It is refused only where no front spells a signature, with the refusals of `decode`, or for
+    /// It is rejected only if no front spells a signature, with the errors of `decode`, or for
     /// memory that ran out, never where a stated length passes the bytes: that is `Length`.
     pub fn from_front(alloc: Global, bytes: &[u8]) -> Result<Signature>
         ensures reads { ReadsFrontOf signature_of signature_at SpellsSignature cause
@@ -43,8 +43,8 @@ impl Signature {
 
     /// Reads a signature that all the bytes spell.
     ///
-    /// They are refused only where they spell no signature, `TrailingData` with the number of bytes
-    /// behind one, else the refusals of `decode`; or for memory that ran out, never where a stated
+    /// They are rejected only if they spell no signature, `TrailingData` with the number of bytes
+    /// after one, else the errors of `decode`; or for memory that ran out, never where a stated
     /// length passes the bytes: that is `Length`.
     pub fn from_bytes(alloc: Global, bytes: &[u8]) -> Result<Signature>
         ensures gives { GivesWhole signature_of cause (whole signature_at)
@@ -56,10 +56,10 @@ impl Signature {
         decode_whole(alloc, bytes)
     }
 
-    /// The bytes that spell the signature, in memory of their own.
+    /// The bytes that spell the signature, newly allocated.
     ///
-    /// Exactly where the bytes of the signature are more than 2^32 - 1 (those behind the string
-    /// aside), the answer is `Length`; otherwise it is refused only when out of memory.
+    /// Fails with `Length` exactly if the bytes of the signature are more than 2^32 - 1 (those
+    /// after the string aside), and otherwise only when out of memory.
     pub fn to_bytes(&self, alloc: Global) -> Result<Vec<u8>>
         ensures { MakesBlob (signature (signature_of self.now)) result }
     {
@@ -68,10 +68,10 @@ impl Signature {
 }
 
 /// The name of the algorithm, and the bytes as a string, but that the flags and the counter of a
-/// security key stand behind it (RFC 4253, section 6.6; PROTOCOL.u2f).
+/// security key stand after it (RFC 4253, section 6.6; PROTOCOL.u2f).
 ///
-/// `Label` for a name of no algorithm, and the faults of `Signature::new`, for which the bytes
-/// behind the string are read first.
+/// Fails with `Label` for a name of no algorithm, and with the faults of `Signature::new`, for
+/// which the bytes after the string are read first.
 #[tactic(auto, using(sshkey_format::proofs::Chosen::chosen, crate::specs::KeyFormats::signature_chosen, sshkey_base::specs::Lengths::label_lengths))]
 impl Decode for Signature {
     type Error = Error;
@@ -91,11 +91,7 @@ impl Decode for Signature {
 /// The signature by that algorithm whose bytes stand at the front.
 #[tactic(auto, using(sshkey_format::proofs::Mapped::mapped, crate::proofs::SignatureParts::under_read))]
 #[inline(always)]
-fn decode_under<R: Reader>(
-    alloc: Global,
-    reader: &mut R,
-    algorithm: Algorithm,
-) -> Result<Signature>
+fn decode_under<R: Reader>(alloc: Global, reader: &mut R, algorithm: Algorithm) -> Result<Signature>
     ensures gives { Gives signature_of cause (signature_under (algorithm_of algorithm)).read
         (R.source reader.old) result (R.source reader.new) }
     ensures later { Later (R.source reader.old) (R.source reader.new) }
@@ -108,7 +104,7 @@ fn decode_under<R: Reader>(
     Ok(Signature { algorithm, blob })
 }
 
-/// What stands behind the name of that algorithm.
+/// What stands after the name of that algorithm.
 fn decode_blob<R: Reader>(alloc: Global, reader: &mut R, algorithm: &Algorithm) -> Result<Bytes>
     ensures gives { DecodesWide (λ b. b) (signature_blob_at (algorithm_of algorithm.now))
         R.source reader.old result reader.new }
@@ -147,8 +143,8 @@ fn checked(algorithm: &Algorithm, bytes: Bytes) -> Result<Bytes>
     Ok(bytes)
 }
 
-/// A string of bytes that are well-formed, and the five bytes behind it. A source that lends
-/// its bytes is copied with room for the five from the start, so that they take no memory again.
+/// A string of bytes that are well-formed, and the five bytes after it. A source that lends its
+/// bytes is copied with room for the five from the start, so that they take no memory again.
 #[tactic(auto, using(sshkey_base::proofs::Steps::steps, sshkey_format::proofs::Stopping::handed, crate::proofs::TrailedBlobs::trailed_blobs))]
 fn decode_trailed<R: Reader>(alloc: Global, reader: &mut R, algorithm: &Algorithm) -> Result<Bytes>
     ensures gives { Gives (λ b. b) cause (trailed_at (string_from (algorithm_of algorithm.now)))
@@ -173,7 +169,7 @@ fn joined(algorithm: &Algorithm, bytes: Bytes, trailer: &[u8]) -> Result<Bytes>
     with_trailer(bytes, trailer)
 }
 
-/// The bytes, and then the trailer. Refused only when out of memory.
+/// The bytes, and then the trailer. Fails only when out of memory.
 fn with_trailer(bytes: Bytes, trailer: &[u8]) -> Result<Bytes>
     ensures joined { IfOk result (λ blob. blob ≡ bytes ++ trailer.now) }
     ensures refused { IfErr result (λ e. e ≡ Error.Memory) }
@@ -183,7 +179,7 @@ fn with_trailer(bytes: Bytes, trailer: &[u8]) -> Result<Bytes>
     Ok(Bytes::new(blob))
 }
 
-/// The name of the algorithm, and the bytes as a string, with flags and counter behind it.
+/// The name of the algorithm, and the bytes as a string, with flags and counter after it.
 #[tactic(auto, using(sshkey_base::proofs::Writing::writing, sshkey_base::proofs::Writing::measuring))]
 impl Encode for Signature {
     ghost normal = { λ g. signature (signature_of g) };
@@ -200,7 +196,7 @@ impl Encode for Signature {
     }
 }
 
-/// How many bytes stand behind the name of the algorithm.
+/// How many bytes stand after the name of the algorithm.
 fn blob_len(algorithm: &Algorithm, blob: &[u8]) -> encoding::Result<usize>
     ensures measures { Measures (signature_blob (algorithm_of algorithm.now) blob.now) result }
     ensures short { IfOk result (λ n. n ≤ 2 ^ 32 + 8) }
@@ -212,7 +208,7 @@ fn blob_len(algorithm: &Algorithm, blob: &[u8]) -> encoding::Result<usize>
     Ok(string_len(string)? + trailer.len())
 }
 
-/// Writes what stands behind the name of the algorithm.
+/// Writes what stands after the name of the algorithm.
 fn encode_blob<W: Writer>(
     algorithm: &Algorithm,
     blob: &[u8],

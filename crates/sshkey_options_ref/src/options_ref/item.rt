@@ -20,7 +20,7 @@ pub(super) struct SpelledOption<'a> {
     pub nested: bool,
 }
 
-/// An option that stands behind the one before, and what stands behind it.
+/// An option that stands after the one before, and what stands after it.
 pub(super) fn split_option<'a>(
     before: Option<SpelledOption<'a>>,
     bytes: &'a [u8],
@@ -40,7 +40,7 @@ pub(super) fn split_option<'a>(
     Ok((option, rest))
 }
 
-/// Whether the option may stand behind that one: its name is above that one's.
+/// Whether the option may stand after that one: its name is above that one's.
 fn may_follow(before: Option<SpelledOption<'_>>, option: SpelledOption<'_>) -> bool
     ensures { result ≡ is_after (option_before (option_map pair_of before.entry))
         (pair_of option.entry).0 }
@@ -51,7 +51,7 @@ fn may_follow(before: Option<SpelledOption<'_>>, option: SpelledOption<'_>) -> b
     }
 }
 
-/// A value with whether it is an empty text in its string, and what stands behind that string.
+/// A value with whether it is an empty text in its string, and what stands after that string.
 fn split_value(bytes: &[u8]) -> encoding::Result<((&str, bool), &[u8])>
     ensures { Splits value_pair_of encoding_cause (box_at option_value_from) bytes.now result }
 {
@@ -70,7 +70,7 @@ fn value_from(string: &[u8]) -> encoding::Result<(&str, bool)>
     Ok((text, text.is_empty()))
 }
 
-/// The text that all the bytes spell. `TrailingData` with the number of bytes behind it.
+/// The text that all the bytes spell. Fails with `TrailingData` and the number of bytes after it.
 fn whole_text(bytes: &[u8]) -> encoding::Result<&str>
     ensures { AnswersAlways (λ t. t.now) encoding_cause (whole text_at bytes.now) result }
 {

@@ -72,7 +72,7 @@ impl<'a> IntoIterator for OptionsRef<'a> {
     }
 }
 
-/// The same options of a list behind a reference.
+/// The same options of a list after a reference.
 impl<'a> IntoIterator for &OptionsRef<'a> {
     ghost use Rattle.sshkey_model.specs.Options.{AreOptions};
     ghost use Rattle.sshkey_options_ref.specs.Views.{options_of};

@@ -72,7 +72,7 @@ impl<'a> IntoIterator for TextsRef<'a> {
     }
 }
 
-/// The same texts of a list behind a reference.
+/// The same texts of a list after a reference.
 impl<'a> IntoIterator for &TextsRef<'a> {
     ghost use Rattle.sshkey_options_ref.specs.Views.{texts_of};
 

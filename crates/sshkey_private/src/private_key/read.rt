@@ -63,7 +63,7 @@ pub(super) fn private_key_from<R: Reader>(
     Ok(content_from(alloc, reader, opening, most)?)
 }
 
-/// The private part behind that opening. `Crypto` for a key derivation without a cipher.
+/// The private part after that opening. Fails with `Crypto` for a key derivation without a cipher.
 fn content_from<R: Reader>(
     alloc: Global,
     reader: &mut R,
@@ -157,7 +157,8 @@ fn encrypted_from<R: Reader>(alloc: Global, reader: &mut R, opening: Opening) ->
     })
 }
 
-/// A ciphertext and its tag, at the end of the reader. `TrailingData` for bytes behind them.
+/// A ciphertext and its tag, at the end of the reader. Fails with `TrailingData` for bytes after
+/// them.
 fn last_sealed_from<R: Reader>(
     alloc: Global,
     reader: &mut R,
@@ -181,7 +182,7 @@ fn last_sealed_from<R: Reader>(
     Ok(sealed)
 }
 
-/// A ciphertext in its string, and its tag behind it.
+/// A ciphertext in its string, and its tag after it.
 #[tactic(auto, using(sshkey_base::proofs::Steps::steps, crate::proofs::Passing::blocks_lengths, sshkey_base::proofs::Stopping::read_past), unfolding(sshkey_format::specs::Behind::behind_at))]
 fn sealed_from<R: Reader>(
     alloc: Global,

@@ -1,7 +1,7 @@
 //! A copy of an SSH signature.
 
 ghost use Rattle.std.specs.Prelude.{◌≡◌, IfOk, IfErr};
-ghost use Rattle.sshkey_keys.specs.Keys.{algorithm_beside};
+ghost use Rattle.sshkey_keys.specs.Keys.{stored_algorithm};
 ghost use Rattle.sshkey_sshsig.specs.SshSignatures.{ssh_signature_of, signer_of};
 
 use super::SshSig;
@@ -14,7 +14,7 @@ impl SshSig {
     pub fn try_clone(&self, alloc: Global) -> Result<SshSig>
         ensures same { IfOk result (λ f. ssh_signature_of f ≡ ssh_signature_of self.now) }
         ensures algorithm { IfOk result
-            (λ f. algorithm_beside (signer_of f) ≡ algorithm_beside (signer_of self.now)) }
+            (λ f. stored_algorithm (signer_of f) ≡ stored_algorithm (signer_of self.now)) }
         ensures refused { IfErr result (λ e. e ≡ Error.Memory) }
     {
         let namespace = self.namespace.try_clone(alloc)?;

@@ -6,8 +6,8 @@ pub mod root {
     pub use ssh_key::{
         Algorithm, AlgorithmName, AuthorizedKeys, Base64Reader, Blob, Certificate, CertificateRef,
         Cipher, EcdsaCurve, Error, Fingerprint, HashAlg, Kdf, KdfAlg, KnownHosts, Mpint,
-        PrivateKey, PublicKey, Question, RawVerifier, Result, Signature, SignatureRef, SigningKey, SshSig,
-        read_line, write_line,
+        PrivateKey, PublicKey, Question, RawVerifier, Result, Signature, SignatureRef, SigningKey,
+        SshSig, read_line, write_line,
     };
 }
 
@@ -23,7 +23,7 @@ pub mod authorized_keys {
 pub mod certificate {
     pub use ssh_key::certificate::{
         Builder, CertType, Certificate, CertificateRef, EndTime, FOREVER, Field, MAX_SECS, Options,
-        OptionsMap, OptionsRef, Texts, TextsRef, UnixTime, Unsigned,
+        OptionsMap, OptionsRef, Texts, TextsRef, ToBeSigned, UnixTime,
     };
 }
 

@@ -22,16 +22,16 @@ apart a b same =
 pub returns-clause-equal : goal.returns-clause-equal
 unfolding SameContent
 returns-clause-equal c = λ x y is_x is_y. Decides-like _ (together _ _) (apart (content_of x) (content_of y))
-    (Decides-and _ _ (c.compared_signed_fields.ensures.equal x.unsigned y.unsigned is_x is_y)
+    (Decides-and _ _ (c.compared_signed_fields.ensures.equal x.fields y.fields is_x is_y)
     (Decides-and _ _ (c.compared_signatures.ensures.equal x.signature y.signature) (bytes_eq-Decides _ _)))
 
 pub returns-clause-same : goal.returns-clause-same
 unfolding SameContent
 returns-clause-same c = λ x y is. together (content_of x) (content_of y)
-    (both _ _ (c.compared_signed_fields.ensures.same x.unsigned y.unsigned)
+    (both _ _ (c.compared_signed_fields.ensures.same x.fields y.fields)
     (both _ _ (c.compared_signatures.ensures.equal x.signature y.signature).0 (bytes_eq-Decides _ _).0) is)
 
 pub returns-clause-ordered : goal.returns-clause-ordered
 returns-clause-ordered c = λ x y.
-    after (c.compared_signed_fields.ensures.ordered x.unsigned y.unsigned)
+    after (c.compared_signed_fields.ensures.ordered x.fields y.fields)
     (after (c.compared_signatures.ensures.ordered x.signature y.signature) (sym (last_of_all _)))

@@ -1,6 +1,6 @@
 use Rattle.sshkey_base.specs.Causes.{cause}
 use Rattle.sshkey_keys_ref.proofs.Accepting.{passed, certified_grammar}
-use Rattle.sshkey_keys_ref.proofs.body.behind_body.Goals as goal
+use Rattle.sshkey_keys_ref.proofs.body.skip_body.Goals as goal
 
 pub returns-clause-spelled : goal.returns-clause-spelled
 returns-clause-spelled c = passed (certified_grammar c.args.certificate_name.now) cause c.args.bytes.now c.behind_certified.result c.behind_certified.ensures

@@ -2,7 +2,7 @@ use Rattle.std.proofs.Common.{◌≡◌, Err, Some, None, Result, refl, sym, ap,
 use Rattle.std.proofs.lemmas.Result.{err_from_is_err_and}
 use Rattle.sshkey_base.specs.declared.error.Error.{Error}
 use Rattle.sshkey_keypairs.specs.Keypairs.{pair_of}
-use Rattle.sshkey_keys.specs.Keys.{key_of, algorithm_beside}
+use Rattle.sshkey_keys.specs.Keys.{key_of, stored_algorithm}
 use Rattle.sshkey_keys.specs.declared.key_data.KeyData.{KeyData}
 use Rattle.sshkey_ciphers.specs.declared.cipher.Cipher.TheVariants as cipher
 use Rattle.sshkey_ciphers.specs.declared.kdf.Kdf.TheVariants as kdf
@@ -27,4 +27,4 @@ pub returns-clause-value : goal.returns-clause-value
 returns-clause-value c = some_made (pair_of c.args.key_data) _ (key_of c.in_ok-public.public) _ c.in_ok-public.ensures.value refl c.checkint-checkint.ensures c.new.ensures.comment
 
 pub returns-clause-algorithm : goal.returns-clause-algorithm
-returns-clause-algorithm c = c.in_ok-public.ensures.algorithm ∙ ap (λ (d : KeyData). Some (algorithm_beside d)) (sym c.new.ensures.key)
+returns-clause-algorithm c = c.in_ok-public.ensures.algorithm ∙ ap (λ (d : KeyData). Some (stored_algorithm d)) (sym c.new.ensures.key)

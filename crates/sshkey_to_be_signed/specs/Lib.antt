@@ -1,0 +1,5 @@
+pub mod ToBeSignedReaders
+pub mod ToBeSignedFormats
+pub mod ToBeSignedValues
+pub mod ToBeSignedParts
+pub mod Comparisons
