@@ -100,17 +100,17 @@ signed_bare : (b : List ℕ) (h : Bool) → (cond h (done (b, Plain)) (Ok (b, Wi
 signed_bare b true = refl
 signed_bare b false = refl
 
-to_be_signed_bare : (b : List ℕ) (h : Bool) → (cond h (done (b, WithoutZero)) (Ok (b, Plain)) >>= λ (x : Scalar). done x.0) ≡ Ok b
-to_be_signed_bare b true = refl
-to_be_signed_bare b false = refl
+unsigned_bare : (b : List ℕ) (h : Bool) → (cond h (done (b, WithoutZero)) (Ok (b, Plain)) >>= λ (x : Scalar). done x.0) ≡ Ok b
+unsigned_bare b true = refl
+unsigned_bare b false = refl
 
 signed_pick : (b : List ℕ) (h : Bool) → done {A = Scalar} (cond h (b, Plain) (b, WithZero)) ≡ cond h (done (b, Plain)) (Ok (b, WithZero))
 signed_pick b true = refl
 signed_pick b false = refl
 
-to_be_signed_pick : (b : List ℕ) (h : Bool) → done {A = Scalar} (cond h (b, WithoutZero) (b, Plain)) ≡ cond h (done (b, WithoutZero)) (Ok (b, Plain))
-to_be_signed_pick b true = refl
-to_be_signed_pick b false = refl
+unsigned_pick : (b : List ℕ) (h : Bool) → done {A = Scalar} (cond h (b, WithoutZero) (b, Plain)) ≡ cond h (done (b, WithoutZero)) (Ok (b, Plain))
+unsigned_pick b true = refl
+unsigned_pick b false = refl
 
 abbrev bare_scalar : Scalar → Result (List ℕ) Fault
 bare_scalar x = Ok x.0
@@ -167,7 +167,7 @@ pub short_refused : (size : ℕ) (b : List ℕ) → length b < size → is_natur
 short_refused size b short is = rw (ne_eqb (length b) size (λ e. omega arith), ne_eqb (length b) (suc size) (λ e. omega arith), lt-ltb _ _ short, is) refl
 
 pub full_taken : (size : ℕ) (b : List ℕ) → length b ≡ size → fixed_from size b ≡ Ok b
-full_taken size b len = rw (eq-eqb _ _ len) (ap (λ (r : Result Scalar Fault). r >>= bare_scalar) (to_be_signed_pick b (is_high b)) ∙ to_be_signed_bare b (is_high b))
+full_taken size b len = rw (eq-eqb _ _ len) (ap (λ (r : Result Scalar Fault). r >>= bare_scalar) (unsigned_pick b (is_high b)) ∙ unsigned_bare b (is_high b))
 
 -- bytes that were read and then judged, without memory
 pub judged_always : {C X E : Type 0} (means : X → C) (cause : E → Cause) (n : ℕ) (judge : List ℕ → Result C Fault) (s t : Source) (front : List ℕ) (r : Result X E) → Reads (λ b. b) (bytes_at n) s front t → AnswersAlways means cause (judge front) r → GivesAlways means cause (checked_at judge (bytes_at n)) s r t

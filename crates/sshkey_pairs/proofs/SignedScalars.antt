@@ -26,6 +26,6 @@ module _ (fault : Error → Type 0) (b : List ℕ) where
   signed_written s t u r true is first next = wrote_both fault (0 ∷ []) b s t u r first next
   signed_written s t u r false is first next = absurd cc
 
-  pub to_be_signed_written : (s u : Sink) (r : Result (Unit {0}) Error) (h : Bool) → h ≡ false → Writes fault s b r u → Encodes fault (bytes (zero_if h b)) s r u
-  to_be_signed_written s u r true is next = absurd cc
-  to_be_signed_written s u r false is next = plain_bytes fault b s u r next
+  pub unsigned_written : (s u : Sink) (r : Result (Unit {0}) Error) (h : Bool) → h ≡ false → Writes fault s b r u → Encodes fault (bytes (zero_if h b)) s r u
+  unsigned_written s u r true is next = absurd cc
+  unsigned_written s u r false is next = plain_bytes fault b s u r next

@@ -1,5 +1,5 @@
 use Rattle.std.proofs.Common.{◌≡◌, refl, ap}
-use Rattle.std.specs.Cmp.{to_be_signed_Decides}
+use Rattle.std.specs.Cmp.{unsigned_Decides}
 use Rattle.std.proofs.lemmas.Bool.Decides.{Decides-and, Decides-like}
 use Rattle.std.proofs.lemmas.Slice.Eq.{bytes_eq-Decides}
 use Rattle.sshkey_model.specs.SshSignatures.{SshSignature}
@@ -23,7 +23,7 @@ apart a b same =
 pub returns-clause-equal : goal.returns-clause-equal
 unfolding SameFields
 returns-clause-equal c = λ x y is_x is_y. Decides-like _ (together _ _) (apart (ssh_signature_of x) (ssh_signature_of y))
-    (Decides-and _ _ (to_be_signed_Decides _ _)
+    (Decides-and _ _ (unsigned_Decides _ _)
     (Decides-and _ _ (c.compared_keys.ensures.equal (signer_of x) (signer_of y) is_x is_y)
     (Decides-and _ _ (bytes_eq-Decides _ _)
     (Decides-and _ _ (bytes_eq-Decides _ _)
@@ -32,7 +32,7 @@ returns-clause-equal c = λ x y is_x is_y. Decides-like _ (together _ _) (apart 
 pub returns-clause-same : goal.returns-clause-same
 unfolding SameFields
 returns-clause-same c = λ x y is. together (ssh_signature_of x) (ssh_signature_of y)
-    (both _ _ (to_be_signed_Decides _ _).0
+    (both _ _ (unsigned_Decides _ _).0
     (both _ _ (c.compared_keys.ensures.same (signer_of x) (signer_of y))
     (both _ _ (bytes_eq-Decides _ _).0
     (both _ _ (bytes_eq-Decides _ _).0

@@ -1,7 +1,7 @@
 use Rattle.std.proofs.Common.{◌≡◌, Vec, String, Global, bytes_eq, refl, sym, ap, ◌∙◌}
 use Rattle.std.specs.Bool.{Decides}
 use Rattle.std.specs.Cmp.Lexicographic.{pointwise}
-use Rattle.std.specs.Cmp.{to_be_signed_Decides}
+use Rattle.std.specs.Cmp.{unsigned_Decides}
 use Rattle.std.specs.Cmp.Derive.Mapped.{lex_map, pointwise-map}
 use Rattle.std.specs.String.{string_bytes}
 use Rattle.std.proofs.lemmas.Bool.Decides.{Decides-and, Decides-like}
@@ -35,7 +35,7 @@ unfolding SameFields
 returns-clause-equal c = λ x y is_x is_y. Decides-like _ (together _ _) (apart (to_be_signed_of x) (to_be_signed_of y))
     (Decides-and _ _ (bytes_eq-Decides _ _)
     (Decides-and _ _ (c.compared_keys.ensures.equal _ _ is_x.0 is_y.0)
-    (Decides-and _ _ (to_be_signed_Decides _ _)
+    (Decides-and _ _ (unsigned_Decides _ _)
     (Decides-and _ _ (c.compared_types.ensures.equal _ _)
     (Decides-and _ _ (bytes_eq-Decides _ _)
     (Decides-and _ _ (principals_decide x.valid_principals y.valid_principals)
@@ -50,7 +50,7 @@ unfolding SameFields
 returns-clause-same c = λ x y is. together (to_be_signed_of x) (to_be_signed_of y)
     (both _ _ (bytes_eq-Decides _ _).0
     (both _ _ (c.compared_keys.ensures.same _ _)
-    (both _ _ (to_be_signed_Decides _ _).0
+    (both _ _ (unsigned_Decides _ _).0
     (both _ _ (c.compared_types.ensures.equal _ _).0
     (both _ _ (bytes_eq-Decides _ _).0
     (both _ _ (principals_decide x.valid_principals y.valid_principals).0
