@@ -71,7 +71,8 @@ impl Authority {
     /// Takes back the certificate of that serial number. Refused only when out of memory, and then
     /// nothing is changed.
     pub fn revoke(&mut self, serial: u64) -> Result<()>
-        ensures revoked { OnOk result (self.new.revoked.items ≡ self.old.revoked.items ++ serial ∷ []) }
+        ensures revoked { OnOk result
+            (self.new.revoked.items ≡ self.old.revoked.items ++ serial ∷ []) }
         ensures unchanged { OnErr result (self.new.revoked.items ≡ self.old.revoked.items) }
         ensures memory { IfErr result (λ e. e ≡ Memory) }
         ensures limits { self.new.limits ≡ self.old.limits }
@@ -80,7 +81,7 @@ impl Authority {
         Ok(self.revoked.push(serial)?)
     }
 
-    /// The serial numbers of the certificates that were taken back, in the order in which they were.
+    /// The serial numbers of the certificates that were taken back, in that order.
     pub fn revoked(&self) -> &[u64]
         ensures { result.now ≡ self.now.revoked.items }
     {
