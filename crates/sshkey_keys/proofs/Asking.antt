@@ -1,7 +1,7 @@
 -- What the verifier is asked under a security key's key.
-use Rattle.std.proofs.Common.{◌≡◌, ℕ, List, ◌≤◌, length, Bool, true, Option, None, Some, Result, Ok, Err, IfOk, arith}
+use Rattle.std.proofs.Common.{◌≡◌, ℕ, List, ◌≤◌, length, Bool, true, None, Some, Result, Ok, Err, IfOk, arith}
 use Rattle.sshkey_model.specs.Names.{Algorithm}
-use Rattle.sshkey_model.specs.Keys.{Key, SkEcdsa, SkEd25519, SecurityKey}
+use Rattle.sshkey_model.specs.Keys.{SkEcdsa, SkEd25519, SecurityKey}
 use Rattle.sshkey_model.specs.Signatures.{Signature, IsSignatureBlob}
 use Rattle.sshkey_model.specs.Verification.{Question, question_under}
 use Rattle.sshkey_keys.specs.SignatureForms.{is_blob}

@@ -91,11 +91,7 @@ impl Decode for Signature {
 /// The signature by that algorithm whose bytes stand at the front.
 #[tactic(auto, using(sshkey_format::proofs::Mapped::mapped, crate::proofs::SignatureParts::under_read))]
 #[inline(always)]
-fn decode_under<R: Reader>(
-    alloc: Global,
-    reader: &mut R,
-    algorithm: Algorithm,
-) -> Result<Signature>
+fn decode_under<R: Reader>(alloc: Global, reader: &mut R, algorithm: Algorithm) -> Result<Signature>
     ensures gives { Gives signature_of cause (signature_under (algorithm_of algorithm)).read
         (R.source reader.old) result (R.source reader.new) }
     ensures later { Later (R.source reader.old) (R.source reader.new) }
