@@ -1,5 +1,5 @@
 -- What ciphers and key derivations mean, and their names.
-use Rattle.std.specs.Prelude.{◌≡◌, ℕ, true, List, length, nat_le, Option, Some, None, Result, Ok, Err, refl}
+use Rattle.std.specs.Prelude.{◌≡◌, ℕ, true, List, length, nat_le, Result, Ok, Err, refl}
 use Rattle.sshkey_model.specs.Parts.{Any, Fits, flat}
 use Rattle.sshkey_model.specs.Reading.{Fault, Label, AlgorithmUnknown, Whole}
 use Rattle.sshkey_model.specs.Grammar.{IsGrammar, Spells}

@@ -1,13 +1,11 @@
 -- The formats of what stands before a ciphertext.
-use Rattle.std.proofs.Common.{◌≡◌, ℕ, List, [], ◌∷◌, ◌++◌, Result, Ok, Err, refl, subst}
+use Rattle.std.proofs.Common.{◌≡◌, ℕ, List, [], ◌∷◌, Result, Ok, Err, refl}
 use Rattle.std.specs.Int.{w32}
-use Rattle.sshkey_model.specs.Reading.{Fault, ◌>>=◌, Front, box_at, whole, string_at, number_at, checked_at, end_of}
-use Rattle.sshkey_model.specs.Grammar.{IsGrammar}
+use Rattle.sshkey_model.specs.Reading.{Fault, ◌>>=◌, whole, string_at, number_at, end_of}
 use Rattle.sshkey_model.specs.KeyDerivation.{Kdf, Bcrypt, KdfAlgorithm, NoDerivation, BcryptDerivation, BcryptOptions, no_options, bcrypt_options_at, kdf_options_at, kdf_algorithm_at, kdf_at}
-use Rattle.sshkey_model.proofs.CombinedReaders.{bind_assoc, bind_ok, ok_is}
+use Rattle.sshkey_model.proofs.CombinedReaders.{bind_assoc}
 use Rattle.sshkey_base.specs.Formats.{Format, number32_format, string_format, label_format}
 use Rattle.sshkey_base.specs.Labels.{label_at}
-use Rattle.sshkey_base.specs.Lengths.{checked_lengths}
 use Rattle.sshkey_base.specs.Needs.{NoNeed}
 use Rattle.sshkey_base.proofs.MappedBoxes.{on_value, made, box_map}
 use Rattle.sshkey_format.specs.Behind.{both_at, behind_at}

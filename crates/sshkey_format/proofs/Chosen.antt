@@ -1,8 +1,8 @@
 -- A record that its first value calls for: what the call says that reads that value, and what the call says that reads
 -- the record behind it, is said of the whole.
-use Rattle.std.proofs.Common.{◌≡◌, ◌⊎◌, inl, inr, ℕ, List, IsOk, IsErrAnd, Result, Ok, Err, ◌∙◌}
+use Rattle.std.proofs.Common.{◌≡◌, ◌⊎◌, inl, inr, ℕ, List, IsErrAnd, Result, Ok, Err, ◌∙◌}
 use Rattle.std.specs.Prelude.{IsOkAnd}
-use Rattle.sshkey_model.specs.Reading.{Fault, Length, ◌>>=◌, Front}
+use Rattle.sshkey_model.specs.Reading.{Length, Front}
 use Rattle.sshkey_base.specs.Causes.{Cause, Faulty}
 use Rattle.sshkey_base.specs.Needs.{Asks, NeedsThen}
 use Rattle.sshkey_base.specs.Reading.{Reads, IsRefused, Gives}

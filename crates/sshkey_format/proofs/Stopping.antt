@@ -1,7 +1,7 @@
 -- How a term stops on any source.
 use Rattle.std.proofs.Common.{◌≡◌, ◌⊎◌, inl, inr, ℕ, List, IsOk, IsErrAnd, Result, Ok, Err, refl}
 use Rattle.std.specs.Prelude.{IsOkAnd}
-use Rattle.sshkey_model.specs.Reading.{Fault, Length, ◌>>=◌, Front}
+use Rattle.sshkey_model.specs.Reading.{Fault, Length, Front}
 use Rattle.sshkey_base.specs.declared.encoding.Error as encoding
 use Rattle.sshkey_base.specs.declared.error.Error.{Error}
 use Rattle.sshkey_base.specs.Causes.{Cause, Faulty, cause, encoding_cause, widened, same_cause}

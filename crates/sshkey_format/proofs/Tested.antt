@@ -1,6 +1,6 @@
 -- Parts that were read, and then the test of them.
-use Rattle.std.proofs.Common.{◌≡◌, ℕ, List, Result, Ok, Err, refl, sym}
-use Rattle.sshkey_model.specs.Reading.{Fault, ◌>>=◌, Front, checked_at}
+use Rattle.std.proofs.Common.{◌≡◌, ℕ, List, Result, Err, refl, sym}
+use Rattle.sshkey_model.specs.Reading.{Fault, Front, checked_at}
 use Rattle.sshkey_base.specs.Answers.{AnswersAlways}
 use Rattle.sshkey_base.specs.Causes.{Cause, Faulty}
 use Rattle.sshkey_base.specs.Reading.{Reads, IsRefused}

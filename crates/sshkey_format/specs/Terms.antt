@@ -2,13 +2,16 @@
 -- numbers, one behind the other.
 use Rattle.std.proofs.Common.{◌≡◌, inl, inr, ℕ, List, Result, Ok, Err, refl}
 use Rattle.std.specs.Prelude.{IsOkAnd}
-use Rattle.sshkey_model.specs.Reading.{Fault, Length, ◌>>=◌, Front, whole, box_at, checked_at}
-use Rattle.sshkey_model.specs.Grammar.{IsGrammar}
+use Rattle.sshkey_model.specs.Reading.{Fault, Length, ◌>>=◌, Front, whole, box_at, checked_at, literal_at}
+use Rattle.sshkey_model.specs.Grammar.{IsGrammar, Spells}
+use Rattle.sshkey_model.specs.Parts.{bytes}
+use Rattle.sshkey_model.proofs.CombinedReaders.{literal_reads}
+use Rattle.sshkey_model.proofs.Grammars.{grammar}
 use Rattle.sshkey_base.specs.Formats.{Format}
-use Rattle.sshkey_base.specs.Lengths.{boxed_lengths, checked_lengths}
+use Rattle.sshkey_base.specs.Lengths.{boxed_lengths, checked_lengths, no_lengths}
 use Rattle.sshkey_base.specs.Needs.{NoNeed, NeedsThen, NeedsBoxed}
 use Rattle.sshkey_base.specs.Reading.{SpellsBoxed}
-use Rattle.sshkey_base.specs.Stops.{OverrunsThen, OverrunsBoxed, AreLengths}
+use Rattle.sshkey_base.specs.Stops.{NoOverrun, OverrunsThen, OverrunsBoxed, AreLengths}
 use Rattle.sshkey_base.proofs.BoxGrammars.{box_grammar}
 use Rattle.sshkey_format.specs.Behind.{behind_at, both_at, SpellsThen, SpellsBoth, then_grammar, both_grammar}
 use Rattle.sshkey_format.specs.Tested.{SpellsTested, tested_grammar}
@@ -74,6 +77,17 @@ boxed inner = record {
   overruns = OverrunsBoxed inner.overruns;
   grammar = box_grammar inner.grammar;
   lengths = boxed_lengths inner.lengths;
+}
+
+-- these very bytes, without a length before them
+abbrev pub literal_format : List ℕ → Format (List ℕ)
+literal_format text = record {
+  Spells = Spells (λ b. b ≡ text) bytes;
+  read = literal_at text;
+  needs = NoNeed;
+  overruns = NoOverrun;
+  grammar = grammar (literal_reads text);
+  lengths = no_lengths (literal_at text);
 }
 
 -- ---- a record, which has a spelling and a plain reader of its own

@@ -1,6 +1,6 @@
 -- A key's body that is read under an algorithm.
 use Rattle.std.specs.Prelude.{◌≡◌, Result, Ok, Err, IfOk, Bool, true, false}
-use Rattle.std.proofs.Common.{refl, sym, ◌∙◌}
+use Rattle.std.proofs.Common.{refl, sym}
 use Rattle.sshkey_model.specs.Reading.{AlgorithmUnknown}
 use Rattle.sshkey_model.specs.Keys.{Key, any_ecdsa_at, body_at, ecdsa_at, has_curve, key_algorithm, unhashed, wanted_curve}
 use Rattle.sshkey_model.specs.Names.{Algorithm, Curve}

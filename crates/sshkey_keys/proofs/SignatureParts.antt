@@ -1,16 +1,11 @@
 -- What stands behind the name of an algorithm.
-use Rattle.std.proofs.Common.{◌≡◌, ℕ, true, false, Some, None, List, Result, Ok, Err, refl, sym, ◌∙◌}
+use Rattle.std.proofs.Common.{◌≡◌, ℕ, true, false, Some, None, List, Result, Ok, Err, refl}
 use Rattle.sshkey_model.specs.Parts.{bytes, ◌&◌}
 use Rattle.sshkey_model.specs.Reading.{Fault, ◌>>=◌, string_at, checked_at}
 use Rattle.sshkey_model.specs.Texts.{string}
 use Rattle.sshkey_model.specs.Names.{Algorithm}
 use Rattle.sshkey_model.specs.Signatures.{IsSignatureBlob, signature_blob, signature_blob_at, trailed_at, without_trailer, trailer}
 use Rattle.sshkey_model.proofs.SignatureReaders.{signature_blob_reads}
-use Rattle.std.specs.Prelude.{IfOk}
-use Rattle.sshkey_base.specs.declared.error.Error.{Error}
-use Rattle.sshkey_base.specs.Causes.{cause}
-use Rattle.sshkey_base.specs.Source.{Source}
-use Rattle.sshkey_base.specs.Reading.{Gives}
 use Rattle.sshkey_format.specs.Terms.{IsMapped}
 use Rattle.sshkey_keys.specs.KeyFormats.{signature_under, signature_with}
 use Rattle.sshkey_keys.specs.SignatureForms.{has_trailer, string_from}

@@ -5,7 +5,7 @@ use Rattle.sshkey_model.specs.Signatures.{trailed_at}
 use Rattle.sshkey_base.specs.declared.error.Error.{Error}
 use Rattle.sshkey_base.specs.declared.error.Error.TheVariants.{Memory}
 use Rattle.sshkey_base.specs.Answers.{Answers, AnswersAlways}
-use Rattle.sshkey_base.specs.Causes.{Cause, NoMemory, cause}
+use Rattle.sshkey_base.specs.Causes.{Cause, cause}
 use Rattle.sshkey_base.specs.Source.{Source}
 use Rattle.sshkey_base.specs.Reading.{Reads, Refuses, Gives}
 use Rattle.sshkey_base.specs.Lengths.{string_lengths}

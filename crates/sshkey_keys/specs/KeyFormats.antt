@@ -1,10 +1,10 @@
 -- What stands behind a name, keys and signatures, by the terms that they are read as.
 use Rattle.std.proofs.Common.{◌≡◌, ℕ, List, None, Some, Result, Ok, Err, refl}
-use Rattle.sshkey_model.specs.Reading.{Fault, ◌>>=◌, Whole, checked_at, string_at}
+use Rattle.sshkey_model.specs.Reading.{Fault, ◌>>=◌, Whole}
 use Rattle.sshkey_model.specs.Names.{Algorithm, Curve, Nistp256, algorithm_at, algorithm_from}
 use Rattle.sshkey_model.specs.Names as names
 use Rattle.sshkey_model.specs.Points.{field_size}
-use Rattle.sshkey_model.specs.Keys.{Key, Opaque, body_at, ecdsa_at, any_ecdsa_at, wanted_curve}
+use Rattle.sshkey_model.specs.Keys.{Key, Opaque, body_at, ecdsa_at, wanted_curve}
 use Rattle.sshkey_model.specs.Signatures.{Signature, IsSignatureBlob, signature_blob, signature_blob_at, signature_at, trailed_at, ecdsa_blob_from, sized_from, some_from, none_from}
 use Rattle.sshkey_model.specs.Grammar.{Spells}
 use Rattle.sshkey_model.proofs.Grammars.{grammar}
@@ -19,7 +19,7 @@ use Rattle.sshkey_base.specs.Stops.{OverrunsString, AreLengths}
 use Rattle.sshkey_format.specs.Terms.{IsChosen, chosen_of, tested}
 use Rattle.sshkey_kinds.specs.Bodies.{SpellsBody, ed25519_body_at}
 use Rattle.sshkey_kinds.specs.KeyFormats.{dsa_format, ecdsa_format, ed25519_format, rsa_format, sk_ecdsa_format, sk_ed25519_format}
-use Rattle.sshkey_keys.specs.Keys.{SpellsKey, key_data_at}
+use Rattle.sshkey_keys.specs.Keys.{key_data_at}
 use Rattle.sshkey_keys.specs.KeyReaders.{body_grammar, key_grammar}
 use Rattle.sshkey_keys.specs.SignatureReaders.{signature_grammar}
 

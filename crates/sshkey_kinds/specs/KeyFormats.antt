@@ -1,5 +1,5 @@
 -- What stands behind the name of each kind of key, by the terms that it is read as.
-use Rattle.std.proofs.Common.{◌≡◌, ℕ, List, Result, Ok, Err, refl, sym, ap}
+use Rattle.std.proofs.Common.{◌≡◌, ℕ, List, Result, Ok, refl, sym, ap}
 use Rattle.sshkey_model.specs.Reading.{Fault, ◌>>=◌, Front, checked_at, box_at, whole, bytes_at, string_at}
 use Rattle.sshkey_model.specs.Texts.{string, text_at}
 use Rattle.sshkey_model.specs.Names.{Curve, Nistp256, curve, curve_at, curve_from}
@@ -13,7 +13,7 @@ use Rattle.sshkey_model.proofs.PointReaders.{point_reads, p256_point_checks}
 use Rattle.sshkey_model.proofs.Grammars.{grammar}
 use Rattle.sshkey_base.specs.Formats.{Format, array_format, label_format, mpint_format, text_format}
 use Rattle.sshkey_base.specs.Labels.{label_at}
-use Rattle.sshkey_base.specs.Lengths.{checked_lengths, label_lengths, string_lengths}
+use Rattle.sshkey_base.specs.Lengths.{checked_lengths, string_lengths}
 use Rattle.sshkey_base.specs.Needs.{NoNeed}
 use Rattle.sshkey_base.specs.Stops.{OverrunsString}
 use Rattle.sshkey_format.specs.Behind.{both_at, behind_at}

@@ -1,5 +1,5 @@
 -- Point strings of bounded length.
-use Rattle.std.specs.Prelude.{ℕ, List, length, Err, nat_lt, if◌then◌else◌}
+use Rattle.std.specs.Prelude.{ℕ, length, Err, nat_lt, if◌then◌else◌}
 use Rattle.sshkey_model.specs.Reading.{Length, Whole}
 
 -- what the judgement makes of at most n bytes

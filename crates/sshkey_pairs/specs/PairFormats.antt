@@ -1,6 +1,6 @@
 -- What stands behind the name of each kind of pair, by the terms that it is read as.
-use Rattle.std.proofs.Common.{◌≡◌, ℕ, List, Result, Ok, Err, None, refl}
-use Rattle.sshkey_model.specs.Reading.{Fault, Length, ◌>>=◌, Front, checked_at, box_at, whole, bytes_at}
+use Rattle.std.proofs.Common.{ℕ, List, Result, Ok, Err, None, refl}
+use Rattle.sshkey_model.specs.Reading.{Fault, Length, ◌>>=◌, box_at, whole, bytes_at}
 use Rattle.sshkey_model.specs.Grammar.{value_at}
 use Rattle.sshkey_model.specs.Keys.{Key, Dsa, Ecdsa, dsa_at, any_ecdsa_at, ed25519_at}
 use Rattle.sshkey_model.specs.Mpints.{mpint_at}

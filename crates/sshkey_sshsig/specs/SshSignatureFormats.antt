@@ -20,16 +20,13 @@ use Rattle.sshkey_base.specs.Needs.{NoNeed}
 use Rattle.sshkey_base.specs.Stops.{NoOverrun}
 use Rattle.sshkey_keys.specs.KeyFormats.{key_format, signature_format}
 use Rattle.sshkey_format.specs.Behind.{behind_at}
-use Rattle.sshkey_format.specs.Terms.{◌then◌, boxed, IsMapped, made_of}
+use Rattle.sshkey_format.specs.Terms.{◌then◌, boxed, literal_format, IsMapped, made_of}
 use Rattle.sshkey_sshsig.specs.SshSignatureReaders.{ssh_signature_value_at, ssh_signature_grammar}
 
 -- ---- the bytes SSHSIG
 
-pub magic_grammar : IsGrammar (Spells (λ b. b ≡ signature_magic) bytes) (literal_at signature_magic)
-magic_grammar = grammar (literal_reads signature_magic)
-
 abbrev pub magic_format : Format (List ℕ)
-magic_format = record { Spells = Spells (λ b. b ≡ signature_magic) bytes; read = literal_at signature_magic; needs = NoNeed; overruns = NoOverrun; grammar = magic_grammar; lengths = no_lengths (literal_at signature_magic) }
+magic_format = literal_format signature_magic
 
 -- ---- a version, 0 or 1
 
