@@ -1,5 +1,5 @@
 -- Private keys with more padding are read as they are spelled.
-use Rattle.std.proofs.Common.{◌≡◌, ℕ, zero, suc, ◌+◌, ◌%◌, ◌<◌, eqb, ltb, true, cond, List, [], ◌++◌, length, Result, Ok, Err, bytes_eq, refl, sym, ap, subst, ◌∙◌, arith}
+use Rattle.std.proofs.Common.{◌≡◌, ℕ, zero, suc, ◌+◌, ◌%◌, ◌<◌, eqb, ltb, true, cond, List, ◌++◌, length, Result, Ok, Err, bytes_eq, refl, sym, ap, subst, ◌∙◌, arith}
 use Rattle.std.specs.Int.{w32}
 use Rattle.std.proofs.lemmas.Bool.{eqb-true, eq-eqb, ltb-true, lt-ltb, and_from}
 use Rattle.std.proofs.lemmas.List.{length-append}
@@ -11,7 +11,7 @@ use Rattle.sshkey_model.specs.Texts.{string}
 use Rattle.sshkey_model.specs.Keys.{Key, IsKey, key, key_at, key_algorithm, Head, HasHead, HasKeyPlaces}
 use Rattle.sshkey_model.specs.KeyDerivation.{Cipher, NoCipher, block_size, tag_size, cipher, cipher_at, Kdf, NoKdf, Bcrypt, kdf, kdf_at}
 use Rattle.sshkey_model.specs.KeyPairs.{KeyPair, public_half, KeyPairChoices, plain_pair, HasKeyPairPlaces}
-use Rattle.sshkey_model.specs.PrivateKeys.{UnencryptedKey, PrivateKey, Unencrypted, Encrypted, key_cipher, key_kdf, public_key, rising, private_key_magic, private_part, IsUnencryptedKey, IsPrivateKey, HasContentPlaces, HasPrivateKeyPlaces, key_eq, private_part_at, blocks_from, encrypted_at, one_key}
+use Rattle.sshkey_model.specs.PrivateKeys.{UnencryptedKey, PrivateKey, Unencrypted, Encrypted, key_cipher, key_kdf, public_key, rising, private_key_magic, private_part, IsUnencryptedKey, IsPrivateKey, HasContentPlaces, key_eq, private_part_at, blocks_from, encrypted_at, one_key}
 use Rattle.sshkey_model.proofs.CombinedReaders.{bind_assoc, bind_ok, ok_is, met, ReadsFront, ReadsWhole, wide32, number_reads, bytes_reads, box_reads, whole_reads, then_reads, checked_reads, checked_string_reads, to_form, kept, literal_reads, same_front, prefix, fits_both, fits_first, fits_bytes}
 use Rattle.sshkey_model.proofs.TextReaders.{text_reads}
 use Rattle.sshkey_model.proofs.KeyReaders.{key_reads}
