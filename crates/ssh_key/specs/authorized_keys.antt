@@ -6,3 +6,7 @@ pub use Rattle.sshkey_authorized_keys.specs.LeftOut
 pub use Rattle.sshkey_authorized_keys.specs.StrictAnswers
 pub use Rattle.sshkey_authorized_keys.specs.OpenSshEntries
 pub use Rattle.sshkey_authorized_keys.specs.OpenSshFaults
+pub use Rattle.sshkey_authorized_keys.specs.OptionCuts
+pub use Rattle.sshkey_authorized_keys.specs.OpenSshItems
+pub use Rattle.sshkey_authorized_keys.specs.ReadBack
+pub use Rattle.sshkey_authorized_keys.specs.OpenSshNeeds

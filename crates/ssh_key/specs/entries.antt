@@ -7,4 +7,5 @@ pub use Rattle.sshkey_entries.specs.StrictReading
 pub use Rattle.sshkey_entries.specs.SshdReading
 pub use Rattle.sshkey_entries.specs.Fields
 pub use Rattle.sshkey_entries.specs.OpenSshLines
+pub use Rattle.sshkey_entries.specs.OptionItems
 pub use Rattle.sshkey_entries.specs.Laws

@@ -53,6 +53,7 @@ pub use sshkey_entries::laws::one_authorized_line;
 pub use sshkey_entries::laws::one_end;
 pub use sshkey_entries::laws::one_host_line;
 pub use sshkey_entries::laws::one_hosts;
+pub use sshkey_entries::laws::one_key_options;
 pub use sshkey_entries::laws::one_known_host;
 pub use sshkey_entries::laws::one_sshd_key;
 pub use sshkey_entries::laws::readings_apart;

@@ -1,5 +1,5 @@
 -- What stands behind the entry of a line, and at its end.
-use Rattle.std.proofs.Common.{◌≡◌, ℕ, zero, suc, ◌<◌, ◌-◌, List, [], ◌∷◌, ◌++◌, length, take, drop, take_all, length-drop, slice_index, true, None, Some, Bor, sym, ap, subst, ◌∙◌, refl, arith, tests, inl, inr, append_assoc}
+use Rattle.std.proofs.Common.{◌≡◌, ℕ, zero, suc, ◌-◌, List, [], ◌∷◌, ◌++◌, length, take, drop, take_all, length-drop, slice_index, true, None, Some, Bor, sym, ap, subst, ◌∙◌, refl, arith, tests, inl, inr, append_assoc}
 use Rattle.std.proofs.lemmas.List.{append_cancel_left, length-append}
 use Rattle.std.proofs.lemmas.Str.Pattern.{IsSplitOnceResult, split_after, split_parts}
 use Rattle.std.proofs.Math.Seq.{get_or-append_seam}

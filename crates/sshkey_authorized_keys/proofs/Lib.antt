@@ -4,3 +4,7 @@ pub mod LeftOut
 pub mod Strictly
 pub mod OneLine
 pub mod OptionEnds
+pub mod OptionCuts
+pub mod FoundOptions
+pub mod YieldedOptions
+pub mod ReadBack

@@ -1,5 +1,5 @@
 -- Where options end, and what a text is read as.
-use Rattle.std.proofs.Common.{◌≡◌, ◌≢◌, ◌⊎◌, ℕ, ◌<◌, ◌≤◌, ◌+◌, List, [], ◌++◌, length, take, drop, slice_index, Bool, true, false, None, Some, Result, Ok, Err, Bor, refl, sym, ap, subst, ◌∙◌, arith, inl, inr, take-append-drop}
+use Rattle.std.proofs.Common.{◌≡◌, ◌≢◌, ℕ, ◌<◌, ◌≤◌, ◌+◌, List, [], ◌++◌, length, take, drop, slice_index, Bool, true, false, Result, Ok, Err, refl, sym, ap, subst, ◌∙◌, arith, inl, inr, take-append-drop}
 use Rattle.std.proofs.lemmas.Bool.{cases_lt}
 use Rattle.std.proofs.lemmas.List.{length-take-le}
 use Rattle.std.proofs.lemmas.Str.{IsCharBoundary-before_ascii}
@@ -10,15 +10,17 @@ use Rattle.sshkey_base.specs.declared.error.Error.TheVariants.{FormatEncoding}
 use Rattle.sshkey_entries.specs.AuthorizedKeys.{AuthorizedKey}
 use Rattle.sshkey_entries.specs.Entries.{hash}
 use Rattle.sshkey_entries.specs.Fields.{without_blanks, AreKeyFields, AreNoKeyFields}
-use Rattle.sshkey_entries.specs.OpenSshLines.{IsKeyAlone, IsBehindOptions, IsAuthorizedLine}
+use Rattle.sshkey_entries.specs.OpenSshLines.{IsBehindOptions, IsAuthorizedLine}
 use Rattle.sshkey_entries.specs.StrictReading.{EndsOptions, is_blank, is_inside}
 use Rattle.sshkey_entries.proofs.Fields.{blanks_are}
 use Rattle.sshkey_entries.proofs.OneEntry.{one_end}
 use Rattle.sshkey_entries.proofs.OneOpenSshLine.{same_front}
 use Rattle.sshkey_files.specs.Answers.{ReadsEntry, RefusesFor}
-use Rattle.sshkey_fields.specs.KeyFields.{HasKeyFault}
+use Rattle.sshkey_model.specs.Keys.{Key}
+use Rattle.sshkey_fields.specs.KeyFields.{HasKeyFault, NeedsKeyFields}
+use Rattle.sshkey_authorized_keys.specs.OpenSshNeeds.{AsksFor, NeedsBehind, NeedsEntry}
 use Rattle.sshkey_authorized_keys.specs.OpenSshEntries.{openssh_entry_of}
-use Rattle.sshkey_authorized_keys.specs.OpenSshFaults.{EndsHere, HasNoEnd, FindsEnd, CutsOptions, HasTextFault, HasLineFault}
+use Rattle.sshkey_authorized_keys.specs.OpenSshFaults.{EndsHere, HasNoEnd, HasTextFault, HasLineFault}
 use Rattle.sshkey_authorized_keys.specs.declared.openssh.OpenSshEntry.{OpenSshEntry}
 
 -- ---- the end of options
@@ -82,6 +84,12 @@ module _ (text front rest fields : List ℕ) (cut : (text ≡ front ++ rest) × 
     fields = λ options more is ends. subst (λ (t : List ℕ). HasKeyFault t e) (skips ∙ ap without_blanks (same_parts options more is ends).1) fault;
   }
 
+  pub key_needs : NeedsKeyFields fields → NeedsBehind text
+  key_needs needed = record { options = front; rest = rest; is = cut.0; ends = cut.1; needed = inl (subst NeedsKeyFields skips needed) }
+
+  pub options_need : (k : Key) (comment : List ℕ) → AreKeyFields fields k comment → NeedsBehind text
+  options_need k comment is = record { options = front; rest = rest; is = cut.0; ends = cut.1; needed = inr (k, comment, subst (λ (t : List ℕ). AreKeyFields t k comment) skips is) }
+
   pub options_read : (a : AuthorizedKey) → AreNoKeyFields text → a.options ≡ front → AreKeyFields fields a.key a.comment → IsBehindOptions text a
   options_read a none same is = record {
     rest = rest;
@@ -94,6 +102,13 @@ module _ (text front rest fields : List ℕ) (cut : (text ≡ front ++ rest) × 
 -- ---- a line
 
 module _ (line text : List ℕ) (skips : text ≡ without_blanks line) where
+  pub alone_needs : NeedsKeyFields text → NeedsEntry line
+  alone_needs needed = inl (subst NeedsKeyFields skips needed)
+
+  pub behind_needs : (r : Result OpenSshEntry Error) → AsksFor (NeedsBehind text) r → AsksFor (NeedsEntry line) r
+  behind_needs (Ok x) h = tt
+  behind_needs (Err e) h = λ memory. inr (subst NeedsBehind skips (h memory))
+
   pub comment_read : slice_index text 0 ≡ hash → (a : AuthorizedKey) → IsAuthorizedLine line a → ⊥
   comment_read here a is = is.no_comment (ap (λ (t : List ℕ). slice_index t 0) (sym skips) ∙ here)
 

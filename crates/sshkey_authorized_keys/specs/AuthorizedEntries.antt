@@ -12,8 +12,12 @@ options_of e = e.config_opts
 abbrev pub key_in : Entry → PublicKey
 key_in e = e.public_key
 
+-- what options and a key with its comment make
+abbrev pub entry_of : List ℕ → PublicKey → AuthorizedKey
+entry_of options k = record { options = options; key = public_of k; comment = comment_of k }
+
 abbrev pub authorized_key_of : Entry → AuthorizedKey
-authorized_key_of e = record { options = options_of e; key = public_of (key_in e); comment = comment_of (key_in e) }
+authorized_key_of e = entry_of (options_of e) (key_in e)
 
 -- Its key is well-formed.
 abbrev pub IsOfKey : Entry → Type 0

@@ -6,3 +6,7 @@ pub mod LeftOut
 pub mod StrictAnswers
 pub mod OpenSshEntries
 pub mod OpenSshFaults
+pub mod OptionCuts
+pub mod OpenSshItems
+pub mod ReadBack
+pub mod OpenSshNeeds

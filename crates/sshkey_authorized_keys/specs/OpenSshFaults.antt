@@ -3,7 +3,7 @@ use Rattle.std.specs.Prelude.{◌≡◌, ◌≢◌, ℕ, List, ◌++◌, length,
 use Rattle.sshkey_base.specs.declared.error.Error.{Error}
 use Rattle.sshkey_base.specs.declared.error.Error.TheVariants.{FormatEncoding}
 use Rattle.sshkey_entries.specs.Entries.{hash}
-use Rattle.sshkey_entries.specs.Fields.{without_blanks, AreNoKeyFields}
+use Rattle.sshkey_entries.specs.Fields.{without_blanks}
 use Rattle.sshkey_entries.specs.StrictReading.{EndsOptions, is_blank}
 use Rattle.sshkey_fields.specs.KeyFields.{HasKeyFault}
 use denote.Ref.{Bor}

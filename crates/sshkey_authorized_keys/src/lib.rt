@@ -6,11 +6,15 @@ mod config_opts;
 mod entry;
 pub mod laws;
 mod openssh;
+mod openssh_option;
 mod openssh_options;
+mod option_parts;
+mod read_back;
 mod strict;
 
 pub use authorized_keys::{AuthorizedKeys, StrictAuthorizedKeys};
 pub use config_opts::{ConfigOpts, ConfigOptsIter};
 pub use entry::Entry;
 pub use openssh::{OpenSshAuthorizedKeys, OpenSshEntry};
+pub use openssh_option::{OpenSshOption, OpenSshOptionsIter};
 pub use openssh_options::OpenSshOptions;

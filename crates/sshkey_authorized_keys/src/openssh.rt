@@ -7,6 +7,7 @@ ghost use Rattle.sshkey_entries.specs.OpenSshLines.{IsAuthorizedLine, IsBehindOp
 ghost use Rattle.sshkey_files.specs.Answers.{AnswersEntry, ReadsEntry, RefusesFor, YieldsAnswers};
 ghost use Rattle.sshkey_authorized_keys.specs.OpenSshEntries.{openssh_entry_of, openssh_key_in, openssh_options_of};
 ghost use Rattle.sshkey_authorized_keys.specs.OpenSshFaults.{CutsOptions, FindsEnd, HasLineFault, HasTextFault, EndsHere};
+ghost use Rattle.sshkey_authorized_keys.specs.OpenSshNeeds.{AsksFor, NeedsBehind, NeedsEntry};
 
 use crate::entry::{Entry, is_memory};
 use crate::openssh_options::OpenSshOptions;
@@ -75,12 +76,16 @@ impl Entry {
     /// empty line and where quotes stay open; `Length` where behind options, or alone, no Base64
     /// stands; and else the refusals of `sshkey_fields::read_key_fields`.
     ///
+    /// `Memory` is answered only where `sshkey_fields::read_key_fields` may answer it, of the line
+    /// or of what stands behind its options, and for the options of an entry.
+    ///
     /// The options are kept as they stand, also those that sshd does not know; sshd refuses a line
     /// with one of these. A key of whatever kind this library reads is read, private-use names too,
     /// and a name is compared as it stands.
     pub fn from_line_openssh(alloc: Global, line: &str) -> Result<OpenSshEntry>
         ensures reads { ReadsEntry openssh_entry_of IsAuthorizedLine line.now result }
         ensures fault { RefusesFor HasLineFault line.now result }
+        ensures asks { AsksFor (NeedsEntry line.now) result }
     {
         let text = skip_blanks(line);
         if is_comment(text) {
@@ -114,6 +119,7 @@ impl OpenSshEntry {
         requires { AreNoKeyFields text.now }
         ensures reads { ReadsEntry openssh_entry_of IsBehindOptions text.now result }
         ensures fault { RefusesFor HasTextFault text.now result }
+        ensures asks { AsksFor (NeedsBehind text.now) result }
     {
         let Some((front, rest)) = split_options(text) else {
             return Err(Error::FormatEncoding);

@@ -2,7 +2,9 @@
 
 ghost use Rattle.std.specs.Prelude.{◌≡◌, ◌↔◌, ℕ, List, [], IfErr, IfOk, IsTrue};
 ghost use Rattle.sshkey_base.specs.declared.error.Error.TheVariants as wide;
+ghost use Rattle.sshkey_authorized_keys.specs.OpenSshItems.{FindsAlso, FindsIn};
 
+use crate::openssh_option::{OpenSshOption, OpenSshOptionsIter};
 use sshkey_base::{Result, Text};
 use std::alloc::Global;
 use std::marker::Model;
@@ -51,4 +53,51 @@ impl OpenSshOptions {
     {
         self.as_str().is_empty()
     }
+
+    /// The options, one by one.
+    pub fn iter(&self) -> OpenSshOptionsIter<'_>
+        ensures { result ≡ self.now }
+    {
+        OpenSshOptionsIter::new(self.as_str())
+    }
+
+    /// The option of that name, letters of ASCII without case: the first where the same name stands
+    /// twice. Takes no memory.
+    ///
+    /// `FormatEncoding` exactly where the text is no list of options, also where what is none
+    /// stands behind the option that was asked for. sshd(8) refuses an entry that names
+    /// `command`, `from`, `principals` or `tunnel` twice: whoever wants that too counts by `iter`.
+    pub fn get(&self, name: &str) -> Result<Option<OpenSshOption<'_>>>
+        ensures { FindsIn self.now name.now result }
+    {
+        find_option(self.as_str(), name)
+    }
+}
+
+/// What was found, or else this option where it has the name.
+fn first_named<'a>(
+    found: Option<OpenSshOption<'a>>,
+    option: OpenSshOption<'a>,
+    name: &str,
+) -> Option<OpenSshOption<'a>>
+    ensures { FindsAlso name.now found.entry option.entry result }
+{
+    if found.is_none() && option.is_named(name) {
+        return Some(option);
+    }
+    found
+}
+
+/// The first option of that name in a text.
+fn find_option<'a>(text: &'a str, name: &str) -> Result<Option<OpenSshOption<'a>>>
+    ensures { FindsIn text.now name.now result }
+{
+    let mut found = None;
+    for option in OpenSshOptionsIter::new(text) {
+        match option {
+            Ok(option) => found = first_named(found, option, name),
+            Err(error) => return Err(error),
+        }
+    }
+    Ok(found)
 }

@@ -18,6 +18,7 @@ mod messages;
 mod names;
 mod narrow;
 mod openssh_lines;
+mod option_items;
 mod pairs;
 mod privates;
 mod questions;

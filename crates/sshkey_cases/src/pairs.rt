@@ -4,6 +4,8 @@ use crate::bytes::{part, text};
 use crate::wire::debugged;
 use sshkey_base::{Algorithm, Result, decode_whole, encode_vec};
 use sshkey_keypairs::KeypairData;
+use sshkey_kinds::EcdsaPublicKey;
+use sshkey_pairs::{EcdsaKeypair, EcdsaPrivateKey};
 use std::alloc::Global;
 
 /// The algorithm and the bytes of the pair whose algorithm the first byte string names, and whose
@@ -18,6 +20,20 @@ fn algorithm_and_bytes(alloc: Global, pair: &KeypairData) -> Result<String> {
     let algorithm = pair.algorithm(alloc)?;
     let digits = hex::encode(alloc, &encode_vec(alloc, pair)?)?;
     Ok(format!(in alloc; "{algorithm}, {digits}")?)
+}
+
+/// The algorithm and the bytes of the pair of ECDSA that a point and a scalar make.
+pub(crate) fn made(alloc: Global, parts: &[Vec<u8>]) -> Result<String> {
+    let public = EcdsaPublicKey::from_sec1_bytes(part(parts, 0))?;
+    let pair = EcdsaKeypair::new(public, part(parts, 1))?;
+    algorithm_and_bytes(alloc, &KeypairData::from(pair))
+}
+
+/// The bytes of a scalar of 32 bytes.
+pub(crate) fn made_scalar(alloc: Global, bytes: &[u8]) -> Result<String> {
+    let bytes: [u8; 32] = bytes.try_into()?;
+    let scalar = EcdsaPrivateKey::from_bytes(&bytes);
+    Ok(hex::encode(alloc, &encode_vec(alloc, &scalar)?)?)
 }
 
 /// What `{:?}` shows of the pair that all the bytes spell.

@@ -4,8 +4,8 @@ use crate::bytes::{NO_LINE, part, parts, text};
 use crate::wire::shown;
 use crate::{
     again, certificates, copies, drawn, entries, faulty, files, issued, keys, kinds, messages,
-    names, narrow, openssh_lines, pairs, privates, signatures, slices, validity, wire,
-    without_memory,
+    names, narrow, openssh_lines, option_items, pairs, privates, signatures, slices, validity,
+    wire, without_memory,
 };
 use sshkey_base::{Algorithm, AlgorithmName, EcdsaCurve, Error, HashAlg, Mpint, Result};
 use sshkey_cert::Certificate;
@@ -217,6 +217,8 @@ fn answer_of_privates(alloc: Global, question: &str, parts: &[Vec<u8>]) -> Resul
         "scalar" => wire::whole::<EcdsaPrivateKey<32>>(alloc, bytes),
         "derivation" => wire::whole::<Kdf>(alloc, bytes),
         "pair" => wire::whole::<KeypairData>(alloc, bytes),
+        "made-pair" => pairs::made(alloc, parts),
+        "made-scalar" => pairs::made_scalar(alloc, bytes),
         "pair-under" => pairs::named(alloc, parts),
         "shown-pair" => pairs::shown(alloc, bytes),
         "private-key" => privates::whole(alloc, bytes),
@@ -243,6 +245,9 @@ fn answer_of_entries(alloc: Global, question: &str, parts: &[Vec<u8>]) -> Result
         "openssh-key" => openssh_lines::key(alloc, text(parts, 0)?),
         "openssh-hosts" => openssh_lines::hosts(alloc, text(parts, 0)?),
         "openssh-host" => openssh_lines::host(alloc, text(parts, 0)?),
+        "openssh-options" => option_items::all(alloc, text(parts, 0)?),
+        "openssh-option" => option_items::named(alloc, parts),
+        "made-authorized-key" => option_items::made(alloc, parts),
         "config-options" => entries::options(alloc, text(parts, 0)?),
         "known-host" => entries::host(alloc, text(parts, 0)?),
         "host-patterns" => entries::hosts(alloc, text(parts, 0)?),

@@ -3,6 +3,7 @@
 
 use crate::bytes::{NO_LINE, part, text};
 use crate::{signatures, validity};
+use sshkey_authorized_keys::OpenSshOptionsIter;
 use sshkey_base::{
     Algorithm, Decode, EcdsaCurve, Encode, Error, HashAlg, Reader, Result, SliceWriter,
     decode_whole,
@@ -36,6 +37,7 @@ pub(crate) fn value(alloc: Global, kind: &str, parts: &[Vec<u8>]) -> Result<Stri
         "options-slice" => OptionsRef::from_bytes(bytes)?
             .get(text(parts, 1)?)
             .is_some(),
+        "openssh-options" => are_options(alloc, text(parts, 0)?)?,
         "validity-slice" => validity::is_valid_slice(alloc, parts)?,
         "accepted-slice" => signatures::accepts_slice(alloc, parts)?,
         _ => is_name(alloc, kind, text(parts, 0)?)?,
@@ -73,6 +75,21 @@ fn is_by_writer(key: &PublicKey, line: &str) -> bool {
     let mut writer = SliceWriter::new(&mut room);
     let answer = write_line(key.key_data(), key.comment(), &mut writer);
     answer.is_ok() && writer.written() == line.as_bytes()
+}
+
+/// Whether the text is options without a value.
+fn are_options(alloc: Global, text: &str) -> Result<bool> {
+    for option in OpenSshOptionsIter::new(text) {
+        match option {
+            Ok(option) => {
+                if option.value(alloc)?.is_some() {
+                    return Ok(false);
+                }
+            }
+            Err(error) => return Err(error),
+        }
+    }
+    Ok(true)
 }
 
 /// Whether the word stands for these bytes.

@@ -5,4 +5,6 @@ pub use Rattle.sshkey_authorized_keys.specs.declared.entry.Entry
 pub use Rattle.sshkey_authorized_keys.specs.declared.authorized_keys.StrictAuthorizedKeys
 pub use Rattle.sshkey_authorized_keys.specs.declared.openssh.OpenSshAuthorizedKeys
 pub use Rattle.sshkey_authorized_keys.specs.declared.openssh.OpenSshEntry
+pub use Rattle.sshkey_authorized_keys.specs.declared.openssh_option.OpenSshOption
+pub use Rattle.sshkey_authorized_keys.specs.declared.openssh_option.OpenSshOptionsIter
 pub use Rattle.sshkey_authorized_keys.specs.declared.openssh_options.OpenSshOptions

@@ -1,4 +1,4 @@
-use Rattle.std.proofs.Common.{sym, subst, List, ℕ}
+use Rattle.std.proofs.Common.{sym, subst}
 use Rattle.sshkey_entries.specs.StrictReading.{AreAsciiSpaces}
 use Rattle.sshkey_authorized_keys.specs.LeftOut.{AreSpacesAndBlank}
 use Rattle.sshkey_authorized_keys.proofs.LeftOut.{left_out_none, left_out_some}

@@ -1,8 +1,8 @@
-use Rattle.std.proofs.Common.{sym, ap, subst, ◌∙◌}
+use Rattle.std.proofs.Common.{sym, subst, ◌∙◌}
 use Rattle.sshkey_entries.specs.Fields.{AreKeyFields}
 use Rattle.sshkey_public.specs.PublicKeys.{public_of, comment_of}
 use Rattle.sshkey_public.specs.declared.public_key.PublicKey.{PublicKey}
-use Rattle.sshkey_authorized_keys.proofs.OptionEnds.{comment_read, comment_fault, alone_read, behind_read, behind_fault}
+use Rattle.sshkey_authorized_keys.proofs.OptionEnds.{comment_read, comment_fault, alone_read, behind_read, behind_fault, alone_needs, behind_needs}
 use Rattle.sshkey_authorized_keys.proofs.entry.Entry.from_line_openssh.Goals as goal
 
 pub returns-then-is_comment-clause-reads : goal.returns-then-is_comment-clause-reads
@@ -23,3 +23,9 @@ returns-clause-reads c = behind_read c.args.line.now c.skip_blanks-text.result.n
 
 pub returns-clause-fault : goal.returns-clause-fault
 returns-clause-fault c = behind_fault c.args.line.now c.skip_blanks-text.result.now c.skip_blanks-text.ensures (λ here. cc (sym c.if-is_comment.false ∙ c.is_comment.ensures.1 here)) c.behind_options.result c.behind_options.ensures.fault
+
+pub returns-then-is_memory-clause-asks : goal.returns-then-is_memory-clause-asks
+returns-then-is_memory-clause-asks c = λ memory. alone_needs c.args.line.now c.skip_blanks-text.result.now c.skip_blanks-text.ensures (c.in-Err.ensures.asks memory)
+
+pub returns-clause-asks : goal.returns-clause-asks
+returns-clause-asks c = behind_needs c.args.line.now c.skip_blanks-text.result.now c.skip_blanks-text.ensures c.behind_options.result c.behind_options.ensures.asks

@@ -1,0 +1,220 @@
+-- How an option is cut off a text.
+use Rattle.std.proofs.Common.{◌≡◌, ◌&&◌, ◌==◌, ℕ, zero, suc, ◌<◌, ◌≤◌, ◌+◌, List, [], ◌∷◌, ◌++◌, ◌-◌, length, get_or, take, drop, slice_range, slice_index, Bool, true, false, not, cond, Option, None, Some, position, refl, sym, ap, subst, ◌∙◌, arith, tests, inl, inr, lt-ltb, eqb-true, take-append-drop, append-nil, append_assoc}
+use Rattle.std.proofs.lemmas.Bool.{cases_lt, not-true, and_parts}
+use Rattle.std.proofs.lemmas.List.{get_or-take, get_or-drop, length-take-le, length-append, at_drop_more, nil_from_length}
+use Rattle.std.proofs.lemmas.List.Quantifiers.{position-Some}
+use Rattle.std.proofs.lemmas.List.Sums.{fails_before_first}
+use Rattle.std.proofs.lemmas.Str.{IsCharBoundary-start, IsCharBoundary-before_ascii, IsCharBoundary-after_ascii}
+use Rattle.std.specs.List.{position_or_len}
+use Rattle.std.specs.Str.{IsUtf8, IsCharBoundary}
+use Rattle.sshkey_entries.specs.Items.{is_comma, is_quote}
+use Rattle.sshkey_entries.specs.OptionItems.{KeyOption, quote, equals_sign, backslash, is_name_character, IsQuoted, unescaped, IsValueAt, EndsOption, IsOptionAt, without_commas, AreKeyOptions}
+use Rattle.sshkey_entries.specs.StrictReading.{is_mark}
+use Rattle.sshkey_entries.specs.OptionItems.{HasKeyOptions}
+use Rattle.sshkey_authorized_keys.specs.OptionCuts.{CutsName, FindsFirst, is_escape}
+use Rattle.sshkey_entries.proofs.OneOption.{commas_skipped, commas_alone, mark_front, comma_skipped, other_stays, nothing_stays, same_quoted, same_name, value_ends, no_value, one_option, some_option}
+
+no_place : (p : ℕ → Bool) (xs : List ℕ) → position p xs ≡ None → (k : ℕ) → k < length xs → p (get_or xs k 0) ≡ false
+no_place p xs none k l = elim (cases_lt (position_or_len p xs) (length xs)) [
+  | inl less ↦ cc (sym none ∙ ap (λ (b : Bool). cond b (Some (position_or_len p xs)) None) (lt-ltb _ _ less))
+  | inr above ↦ fails_before_first p xs k 0 (omega (arith, l, above))
+]
+
+by_not : (b : Bool) → not b ≡ false → b ≡ true
+by_not true e = refl
+by_not false e = cc e
+
+-- ---- commas
+
+abbrev is_other : ℕ → Bool
+is_other c = not (is_comma c)
+
+comma_ascii : (c : ℕ) → is_comma c ≡ true → c < 128
+comma_ascii c e = omega (arith, eqb-true c 0x2c e)
+
+behind_commas : (text : List ℕ) (n : ℕ) → IsUtf8 text → n ≤ length text → ((k : ℕ) → k < n → is_comma (slice_index text k) ≡ true) → IsCharBoundary text n
+behind_commas text zero utf8 l h = IsCharBoundary-start text utf8
+behind_commas text (suc n) utf8 l h =
+    let one : n + 1 ≡ suc n = omega arith in
+    subst (IsCharBoundary text) one (IsCharBoundary-after_ascii text n utf8 (omega (arith, l)) (comma_ascii (slice_index text n) (h n (omega arith))))
+
+pub skips : (text bytes : List ℕ) (n : ℕ) → IsUtf8 text → bytes ≡ text → Some n ≡ position (λ c. not (is_comma c)) bytes → IsCharBoundary text n × (without_commas text ≡ drop n text)
+skips text bytes n utf8 same is =
+    let place = position-Some is_other text n 0 (sym (is ∙ ap (position is_other) same)) in
+    let commas : (k : ℕ) → k < n → is_comma (slice_index text k) ≡ true = λ k l. by_not (is_comma (slice_index text k)) (place.2 k l) in
+    (behind_commas text n utf8 (omega (arith, place.0)) commas, commas_skipped n text commas (not-true _ place.1))
+
+pub skips_all : (text bytes : List ℕ) → bytes ≡ text → None ≡ position (λ c. not (is_comma c)) bytes → without_commas text ≡ []
+skips_all text bytes same is = commas_alone text (λ k l. by_not (is_comma (slice_index text k)) (no_place is_other text (sym (is ∙ ap (position is_other) same)) k l))
+
+-- ---- names
+
+abbrev ends_name : ℕ → Bool
+ends_name c = not (is_name_character c)
+
+end_ascii : (c : ℕ) → is_name_character c ≡ false → c < 128
+end_ascii c e = grind (arith, tests)
+
+pub name_place : (text bytes : List ℕ) (n : ℕ) → bytes ≡ text → Some n ≡ position (λ c. not (is_name_character c)) bytes → IsCharBoundary text n
+name_place text bytes n same is =
+    let place = position-Some ends_name text n 0 (sym (is ∙ ap (position ends_name) same)) in
+    IsCharBoundary-before_ascii text n place.0 (end_ascii (slice_index text n) (not-true _ place.1))
+
+pub name_cut : (text bytes front back : List ℕ) (n : ℕ) → bytes ≡ text → Some n ≡ position (λ c. not (is_name_character c)) bytes → front ≡ take n text → back ≡ drop n text → CutsName text front back
+name_cut text bytes front back n same is first rest =
+    let place = position-Some ends_name text n 0 (sym (is ∙ ap (position ends_name) same)) in
+    let same_place : n + 0 ≡ n = omega arith in
+    let size : length (take n text) ≡ n = length-take-le n text (omega (arith, place.0)) in
+    record {
+      is = sym (take-append-drop n text) ∙ (λ j. sym first j ++ sym rest j);
+      characters = λ i l. let less : i < n = omega (arith, l, ap length first, size) in
+          ap (λ (t : List ℕ). is_name_character (slice_index t i)) first ∙ ap is_name_character (get_or-take n text i 0 less) ∙ by_not _ (place.2 i less);
+      ends = inr (ap (λ (t : List ℕ). is_name_character (slice_index t 0)) rest ∙ ap is_name_character (get_or-drop n text 0 0) ∙ ap (λ (k : ℕ). is_name_character (slice_index text k)) same_place ∙ not-true _ place.1);
+    }
+
+pub name_all : (text bytes : List ℕ) → bytes ≡ text → None ≡ position (λ c. not (is_name_character c)) bytes → CutsName text text []
+name_all text bytes same is = record { is = sym (append-nil text); characters = λ i l. by_not _ (no_place ends_name text (sym (is ∙ ap (position ends_name) same)) i l); ends = inl refl }
+
+-- ---- quoted texts
+
+mark_quote : (text : List ℕ) (i : ℕ) → is_mark text i ≡ true → slice_index text i ≡ quote
+mark_quote text i e = eqb-true _ quote (and_parts (is_quote (slice_index text i)) _ e).0
+
+at_place : (text : List ℕ) (i c : ℕ) → i < length text → slice_index text i ≡ c → text ≡ take i text ++ (c ∷ drop (i + 1) text)
+at_place text i c l e =
+    sym (take-append-drop i text)
+    ∙ ap (λ (t : List ℕ). take i text ++ t) (at_drop_more (λ (t : List ℕ). t) text i 0 l ∙ ap (λ (d : ℕ). d ∷ drop (i + 1) text) e)
+
+pub quoted_cut : (text front back : List ℕ) (i : ℕ) → FindsFirst is_mark text (Some i) → front ≡ take i text → back ≡ drop (i + 1) text → (text ≡ front ++ (quote ∷ back)) × IsQuoted front
+quoted_cut text front back i found first rest =
+    let whole : text ≡ front ++ (quote ∷ back) = at_place text i quote found.0 (mark_quote text i found.1) ∙ (λ j. sym first j ++ (quote ∷ sym rest j)) in
+    let size : length front ≡ i = ap length first ∙ length-take-le i text (omega (arith, found.0)) in
+    let longer : text ≡ (front ++ (quote ∷ [])) ++ back = whole ∙ sym (append_assoc front (quote ∷ []) back) in (
+      whole,
+      record {
+        inner = λ k l. sym (mark_front front (quote ∷ back) k l) ∙ ap (λ (t : List ℕ). is_mark t k) (sym whole) ∙ found.2 k (omega (arith, l, size));
+        ends = sym (mark_front (front ++ (quote ∷ [])) back (length front) (omega (arith, length-append front (quote ∷ []))))
+            ∙ ap (λ (t : List ℕ). is_mark t (length front)) (sym longer) ∙ ap (is_mark text) size ∙ found.1;
+      },
+    )
+
+pub quoted_none : (text : List ℕ) → FindsFirst is_mark text None → (quoted rest : List ℕ) → text ≡ quoted ++ (quote ∷ rest) → IsQuoted quoted → ⊥
+quoted_none text none quoted rest is q =
+    let longer : text ≡ (quoted ++ (quote ∷ [])) ++ rest = is ∙ sym (append_assoc quoted (quote ∷ []) rest) in
+    let here : is_mark text (length quoted) ≡ true
+    = ap (λ (t : List ℕ). is_mark t (length quoted)) longer ∙ mark_front (quoted ++ (quote ∷ [])) rest (length quoted) (omega (arith, length-append quoted (quote ∷ []))) ∙ q.ends in
+    cc (sym here ∙ none (length quoted) (omega (arith, ap length is, length-append quoted (quote ∷ rest))))
+
+-- ---- escapes
+
+escape_later : (c i : ℕ) (text : List ℕ) → is_escape (c ∷ text) (suc i) ≡ is_escape text i
+escape_later c i text = let e : suc i + 1 ≡ suc (i + 1) = omega arith in ap (λ (k : ℕ). slice_index text i == backslash && is_quote (slice_index (c ∷ text) k)) e
+
+pub escape_first : (i : ℕ) (text : List ℕ) → FindsFirst is_escape text (Some i) → unescaped text ≡ take i text ++ unescaped (drop (i + 1) text)
+unfolding unescaped
+escape_first zero [] found = absurd (omega (arith, found.0))
+escape_first zero (c ∷ text) found = ap (λ (b : Bool). cond b (unescaped text) (c ∷ unescaped text)) found.1
+escape_first (suc i) [] found = absurd (omega (arith, found.0))
+escape_first (suc i) (c ∷ text) found =
+    let here = found.2 0 (omega arith) in
+    let e : suc i + 1 ≡ suc (i + 1) = omega arith in
+    ap (λ (b : Bool). cond b (unescaped text) (c ∷ unescaped text)) here
+    ∙ ap (λ (t : List ℕ). c ∷ t) (escape_first i text (omega (arith, found.0), sym (escape_later c i text) ∙ found.1, λ k l. sym (escape_later c k text) ∙ found.2 (suc k) (omega (arith, l))))
+    ∙ ap (λ (k : ℕ). take (suc i) (c ∷ text) ++ unescaped (drop k (c ∷ text))) (sym e)
+
+pub escape_none : (text : List ℕ) → FindsFirst is_escape text None → unescaped text ≡ text
+unfolding unescaped
+escape_none [] none = refl
+escape_none (c ∷ text) none =
+    ap (λ (b : Bool). cond b (unescaped text) (c ∷ unescaped text)) (none 0 (omega arith))
+    ∙ ap (λ (t : List ℕ). c ∷ t) (escape_none text (λ k l. sym (escape_later c k text) ∙ none (suc k) (omega (arith, l))))
+
+-- ---- the places before
+
+-- one place more
+pub none_more : (p : ℕ → Bool) (n : ℕ) → ((k : ℕ) → k < n → p k ≡ false) → p n ≡ false → (k : ℕ) → k < n + 1 → p k ≡ false
+none_more p n before here k l = elim (cases_lt k n) [
+  | inl less ↦ before k less
+  | inr above ↦ let e : k ≡ n = omega (arith, l, above) in ap p e ∙ here
+]
+
+pub whole_front : (i : ℕ) (text : List ℕ) → slice_range text 0 i ≡ take i text
+whole_front i text = let e : i - 0 ≡ i = omega arith in ap (λ (n : ℕ). take n text) e
+
+pub mark_place : (text bytes : List ℕ) (i : ℕ) → IsUtf8 text → bytes ≡ text → FindsFirst is_mark bytes (Some i) → IsCharBoundary text (i + 1)
+mark_place text bytes i utf8 same found =
+    let here : FindsFirst is_mark text (Some i) = subst (λ (t : List ℕ). FindsFirst is_mark t (Some i)) same found in
+    IsCharBoundary-after_ascii text i utf8 here.0 (omega (arith, mark_quote text i here.1))
+
+pub escape_more : (text value rest bytes front back new : List ℕ) (i : ℕ) → unescaped text ≡ value ++ unescaped rest → bytes ≡ rest → FindsFirst is_escape bytes (Some i) → front ≡ take i rest → back ≡ drop (i + 1) rest → new ≡ value ++ front
+    → unescaped text ≡ new ++ unescaped back
+escape_more text value rest bytes front back new i before same found first last is =
+    before
+    ∙ ap (λ (t : List ℕ). value ++ t) (escape_first i rest (subst (λ (t : List ℕ). FindsFirst is_escape t (Some i)) same found) ∙ (λ j. sym first j ++ unescaped (sym last j)))
+    ∙ sym (append_assoc value front (unescaped back))
+    ∙ ap (λ (t : List ℕ). t ++ unescaped back) (sym is)
+
+pub escape_last : (text value rest bytes new : List ℕ) → unescaped text ≡ value ++ unescaped rest → bytes ≡ rest → FindsFirst is_escape bytes None → new ≡ value ++ rest → new ≡ unescaped text
+escape_last text value rest bytes new before same none is = is ∙ ap (λ (t : List ℕ). value ++ t) (sym (escape_none rest (subst (λ (t : List ℕ). FindsFirst is_escape t None) same none))) ∙ sym before
+
+-- ---- options
+
+module _ (text name behind : List ℕ) (cut : CutsName text name behind) where
+  same_parts : (o : KeyOption) (rest : List ℕ) (is : IsOptionAt text o rest) → (name ≡ o.name) × (behind ≡ is.behind)
+  same_parts o rest is = same_name name o.name behind is.behind cut.characters is.characters cut.ends (value_ends is.behind o.value rest is.value is.ends) (sym cut.is ∙ is.is)
+
+  pub no_name_there : length name ≡ 0 → (o : KeyOption) (rest : List ℕ) → IsOptionAt text o rest → ⊥
+  no_name_there none o rest is = omega (arith, none, is.some, ap length (same_parts o rest is).0)
+
+  pub no_value_there : ((v : Option (List ℕ)) (r : List ℕ) → IsValueAt behind v r → EndsOption r → ⊥) → (o : KeyOption) (rest : List ℕ) → IsOptionAt text o rest → ⊥
+  no_value_there none o rest is = none o.value rest (subst (λ (t : List ℕ). IsValueAt t o.value rest) (sym (same_parts o rest is).1) is.value) is.ends
+
+  pub no_end_there : (here : List ℕ) → ((v : Option (List ℕ)) (r : List ℕ) → IsValueAt behind v r → EndsOption r → r ≡ here) → (EndsOption here → ⊥) → (o : KeyOption) (rest : List ℕ) → IsOptionAt text o rest → ⊥
+  no_end_there here one other o rest is = other (subst EndsOption (one o.value rest (subst (λ (t : List ℕ). IsValueAt t o.value rest) (sym (same_parts o rest is).1) is.value) is.ends) is.ends)
+
+pub value_cut : (text behind quoted rest : List ℕ) → text ≡ equals_sign ∷ quote ∷ behind → (behind ≡ quoted ++ (quote ∷ rest)) × IsQuoted quoted
+    → IsValueAt text (Some (unescaped quoted)) rest × ((value : Option (List ℕ)) (r : List ℕ) → IsValueAt text value r → EndsOption r → r ≡ rest)
+value_cut text behind quoted rest is cut = ((quoted, whole, cut.1, refl), one)
+  where
+    whole : text ≡ equals_sign ∷ quote ∷ (quoted ++ (quote ∷ rest))
+    whole = is ∙ ap (λ (t : List ℕ). equals_sign ∷ quote ∷ t) cut.0
+
+    one : (value : Option (List ℕ)) (r : List ℕ) → IsValueAt text value r → EndsOption r → r ≡ rest
+    one None r a m = absurd (no_value r (quote ∷ (quoted ++ (quote ∷ rest))) m (sym a ∙ whole))
+    one (Some v) r a m = (same_quoted a.0 quoted r rest a.2 cut.1 (ap (drop 2) (sym a.1 ∙ whole))).1
+
+-- ---- lists
+
+pub some_after : (text commas rest : List ℕ) (o : KeyOption) → commas ≡ without_commas text → IsOptionAt commas o rest → HasKeyOptions rest → HasKeyOptions text
+some_after text commas rest o skips is h = (o ∷ h.0, (rest, subst (λ (t : List ℕ). IsOptionAt t o rest) skips is, h.1))
+
+pub some_before : (text commas rest : List ℕ) (o : KeyOption) → commas ≡ without_commas text → IsOptionAt commas o rest → HasKeyOptions text → HasKeyOptions rest
+some_before text commas rest o skips is ([], h) = absurd (omega (arith, some_option commas o rest is, ap length (skips ∙ h)))
+some_before text commas rest o skips is (p ∷ more, h) =
+    let same = one_option commas p o h.0 rest (subst (λ (t : List ℕ). IsOptionAt t p h.0) (sym skips) h.1) is in
+    (more, subst (λ (t : List ℕ). AreKeyOptions t more) same.1 h.2)
+
+-- where no option stands, no list does, but of none
+pub none_left : (text commas : List ℕ) → commas ≡ without_commas text → ((o : KeyOption) (rest : List ℕ) → IsOptionAt commas o rest → ⊥) → (options : List KeyOption) → AreKeyOptions text options → (options ≡ []) × (without_commas text ≡ [])
+none_left text commas skips none [] h = (refl, h)
+none_left text commas skips none (o ∷ more) h = absurd (none o h.0 (subst (λ (t : List ℕ). IsOptionAt t o h.0) (sym skips) h.1))
+
+at_most_by : (c : ℕ) (text : List ℕ) (b : Bool) → is_comma c ≡ b → length (without_commas text) ≤ length text → length (without_commas (c ∷ text)) ≤ suc (length text)
+at_most_by c text true e l = omega (arith, ap length (comma_skipped c text e), l)
+at_most_by c text false e l = omega (arith, ap length (other_stays c text e))
+
+pub at_most : (text : List ℕ) → length (without_commas text) ≤ length text
+at_most [] = omega (arith, ap length nothing_stays)
+at_most (c ∷ text) = at_most_by c text (is_comma c) refl (at_most text)
+
+not_longer : (behind : List ℕ) (v : Option (List ℕ)) (r : List ℕ) → IsValueAt behind v r → length r ≤ length behind
+not_longer behind None r a = omega (arith, ap length a)
+not_longer behind (Some v) r a = omega (arith, ap length a.1, length-append a.0 (quote ∷ r))
+
+-- what follows an option is shorter
+pub shorter : (text commas rest : List ℕ) (o : KeyOption) → commas ≡ without_commas text → IsOptionAt commas o rest → length rest < length text
+shorter text commas rest o same is =
+    omega (arith, is.some, ap length is.is, length-append o.name is.behind, not_longer is.behind o.value rest is.value, ap length same, at_most text)
+
+pub no_length : (text : List ℕ) (b : Bool) → b ≡ (length text == 0) → b ≡ true → text ≡ []
+no_length text b e t = nil_from_length text (eqb-true _ 0 (sym e ∙ t))

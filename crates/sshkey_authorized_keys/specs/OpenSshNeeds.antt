@@ -1,0 +1,25 @@
+-- Where reading a line as sshd(8) reads it needs memory.
+use Rattle.std.specs.Prelude.{◌≡◌, ◌⊎◌, ℕ, List, ◌++◌, length, Result, Ok, Err}
+use Rattle.sshkey_base.specs.Causes.{cause, NoMemory}
+use Rattle.sshkey_base.specs.declared.error.Error.{Error}
+use Rattle.sshkey_model.specs.Keys.{Key}
+use Rattle.sshkey_entries.specs.Fields.{without_blanks, AreKeyFields}
+use Rattle.sshkey_entries.specs.StrictReading.{EndsOptions}
+use Rattle.sshkey_fields.specs.KeyFields.{NeedsKeyFields}
+
+-- The text is options and what follows them; and that needs memory, or is a key's fields, and then the options do.
+pub record NeedsBehind (text : List ℕ) : Type 0 where
+  pub options : List ℕ
+  pub rest : List ℕ
+  pub is : text ≡ options ++ rest
+  pub ends : EndsOptions text (length options)
+  pub needed : NeedsKeyFields (without_blanks rest) ⊎ ((k : Key) × (comment : List ℕ) × AreKeyFields (without_blanks rest) k comment)
+
+-- Memory was refused only where it was needed.
+abbrev pub AsksFor : {X : Type 0} → Type 0 → Result X Error → Type 0
+AsksFor Needed (Ok x) = Unit {0}
+AsksFor Needed (Err e) = cause e ≡ NoMemory → Needed
+
+-- A key at the front needs it, or options before a key.
+abbrev pub NeedsEntry : List ℕ → Type 0
+NeedsEntry line = NeedsKeyFields (without_blanks line) ⊎ NeedsBehind (without_blanks line)

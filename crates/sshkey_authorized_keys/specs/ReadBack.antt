@@ -1,0 +1,36 @@
+-- Entries whose line is read back.
+use Rattle.std.specs.Prelude.{◌≡◌, ◌⊎◌, ℕ, List, Bool, false, Result, Ok, Err, IsTrue}
+use Rattle.sshkey_model.specs.Keys.{normal_key}
+use Rattle.sshkey_model.specs.Parts.{BoxesFit}
+use Rattle.sshkey_base.specs.declared.encoding.Error.TheVariants.{Length}
+use Rattle.sshkey_base.specs.declared.error.Error.{Error}
+use Rattle.sshkey_base.specs.declared.error.Error.TheVariants.{Encoding, FormatEncoding, Memory}
+use Rattle.sshkey_entries.specs.AuthorizedKeys.{AuthorizedKey, authorized_text}
+use Rattle.sshkey_entries.specs.OpenSshLines.{IsAuthorizedLine}
+use Rattle.sshkey_entries.specs.StrictReading.{IsReadStrictly}
+use Rattle.sshkey_public.specs.OneLine.{IsOneLine}
+
+-- The text is one line, and is read as the entry, both strictly and as sshd(8) reads it.
+pub record IsReadAs (text : List ℕ) (a : AuthorizedKey) : Type 0 where
+  pub one_line : IsOneLine text
+  pub strictly : IsReadStrictly text a
+  pub openssh : IsAuthorizedLine text a
+
+-- So is the line that is written of it.
+abbrev pub IsReadBack : AuthorizedKey → Type 0
+IsReadBack a = IsReadAs (authorized_text a) a
+
+-- The entry, whose line is read back. `FormatEncoding` where it is not, `Length` where a part of the key is too long, else only out of memory.
+abbrev pub MakesReadBack : {X : Type 0} → (X → AuthorizedKey) → AuthorizedKey → Result X Error → Type 0
+MakesReadBack means a (Ok x) = (means x ≡ a) × IsReadBack a
+MakesReadBack means a (Err e) = ((IsReadBack a → ⊥) × (e ≡ FormatEncoding)) ⊎ ((BoxesFit (normal_key a.key) → ⊥) × (e ≡ Encoding Length)) ⊎ (e ≡ Memory)
+
+-- Whether that holds; or memory ran out.
+abbrev pub Tells : Type 0 → Result Bool Error → Type 0
+Tells P (Ok b) = (IsTrue b → P) × (P → IsTrue b)
+Tells P (Err e) = e ≡ Memory
+
+-- That it does not, where memory did not run out.
+abbrev pub TellsNone : Type 0 → Result Bool Error → Type 0
+TellsNone Full (Ok b) = (b ≡ false) × (Full → ⊥)
+TellsNone Full (Err e) = e ≡ Memory
