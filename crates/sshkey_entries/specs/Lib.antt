@@ -7,6 +7,8 @@ pub mod StrictReading
 pub mod SshdReading
 pub mod Fields
 pub mod OpenSshLines
+pub mod HostNames
+pub mod HostVerdicts
 pub mod Laws
 pub mod Computed
 pub mod Examples
