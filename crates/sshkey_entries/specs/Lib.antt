@@ -8,6 +8,8 @@ pub mod SshdReading
 pub mod Fields
 pub mod OpenSshLines
 pub mod OptionItems
+pub mod HostNames
+pub mod HostVerdicts
 pub mod Laws
 pub mod Computed
 pub mod Examples

@@ -49,7 +49,7 @@ module _ (text word behind rest : List ℕ) (cut : CutsField text word behind) (
 -- ---- a text
 
 module _ (text : List ℕ) (m : Option Marker) (unmarked hosts rest fields : List ℕ) (is_marked : IsMarkedLine m text unmarked) (cut : CutsField unmarked hosts rest) (skips : fields ≡ without_blanks rest) where
-  same_hosts : (x y : List ℕ) → HasHostsField text x y → (hosts ≡ x) × (rest ≡ y)
+  pub same_hosts : (x y : List ℕ) → HasHostsField text x y → (hosts ≡ x) × (rest ≡ y)
   same_hosts x y f = same_field hosts x rest y cut.one_word f.one_word cut.ends f.ends (sym cut.is ∙ (one_marked text m f.marker unmarked (x ++ y) is_marked f.marked).1)
 
   pub hosts_fault : (e : Error) → RefusesHosts hosts e → (cause e ≢ NoMemory → IsNoEntry IsHosts hosts) → cause e ≢ NoMemory → HasTextFault text e

@@ -3,3 +3,7 @@ pub mod Joins
 pub mod Marked
 pub mod OneLine
 pub mod HostLines
+pub mod Matching
+pub mod SomeOf
+pub mod Verdicts
+pub mod OtherHosts

@@ -3,6 +3,7 @@
 ghost use Rattle.std.specs.Prelude.{◌≡◌, ◌<◌, ◌∷◌, ◌++◌, ◌↔◌, length, IsTrue, IfOk, IfErr, OnOk, string_bytes};
 ghost use Rattle.std.specs.List.{All, join_with_byte};
 ghost use Rattle.sshkey_base.specs.declared.error.Error.TheVariants as wide;
+ghost use Rattle.sshkey_entries.specs.HostNames.{AreFor, known_name};
 ghost use Rattle.sshkey_entries.specs.Items.{patterns};
 ghost use Rattle.sshkey_entries.specs.KnownHosts.{IsHosts, comma, hosts_text};
 ghost use Rattle.sshkey_files.specs.Answers.{ReadsEntry};
@@ -10,6 +11,8 @@ ghost use Rattle.sshkey_public.specs.OneLine.{IsOneLine};
 ghost use Rattle.sshkey_known_hosts.specs.HostEntries.{hosts_of, ReadsHashed, ReadsPatterns, ReadsWord};
 ghost use Rattle.sshkey_known_hosts.specs.HostFaults.{RefusesHosts};
 
+use crate::hmac_sha1::HmacSha1;
+use crate::host_name::{are_named, known_name};
 use base64::DecodeAllocError;
 use base64::engine::general_purpose::STANDARD;
 use sshkey_base::{Bytes, Error, Result, Text, encoding};
@@ -105,6 +108,44 @@ impl HostPatterns {
         match self {
             HostPatterns::Patterns(patterns) => are_one_line(patterns),
             HostPatterns::HashedName { .. } => true,
+        }
+    }
+
+    /// Whether the hosts are for a host at a port (sshd(8), "SSH_KNOWN_HOSTS FILE FORMAT").
+    ///
+    /// The name that is looked up is the host's in small letters, and at another port than 22 it is
+    /// `[host]:port`. In patterns a `*` stands for any characters, a `?` for one, and a letter for
+    /// itself in either case: one of them has to match, and none behind a `!` (ssh_config(5),
+    /// "PATTERNS"). A hashed name is compared with the HMAC of the name under its salt.
+    ///
+    /// Of a host at another port ssh(1) asks, where nothing is known of it, about the bare name as
+    /// well: that is port 22 here.
+    ///
+    /// Refused only when out of memory, which the name takes.
+    pub fn matches<H: HmacSha1>(
+        &self,
+        alloc: Global,
+        host: &str,
+        port: u16,
+        hmac: &H,
+    ) -> Result<bool>
+        ensures answer { IfOk result (λ yes. IsTrue yes ↔
+            AreFor (H.hmac hmac.now) (known_name host.now port) (hosts_of self.now)) }
+        ensures memory { IfErr result (λ e. e ≡ wide.Memory) }
+    {
+        let name = known_name(alloc, host, port)?;
+        Ok(self.are_for(name.as_str(), hmac))
+    }
+
+    /// Whether they are for that name.
+    pub(crate) fn are_for<H: HmacSha1>(&self, name: &str, hmac: &H) -> bool
+        ensures { IsTrue result ↔ AreFor (H.hmac hmac.now) name.now (hosts_of self.now) }
+    {
+        match self {
+            HostPatterns::Patterns(patterns) => are_named(patterns, name.as_bytes()),
+            HostPatterns::HashedName { salt, hash } => {
+                hmac.hash(salt.as_slice(), name.as_bytes()) == *hash
+            }
         }
     }
 

@@ -1,7 +1,8 @@
-//! Laws of equality: each stands for all values, and makes no call.
+//! Laws: each stands for all values, and makes no call.
 
 ghost use Rattle.sshkey_base.specs.Comparisons.{EqualMeanSame, IsEqualityAmong, IsEqualityOf};
 ghost use Rattle.sshkey_known_hosts.specs.HostEntries.{IsOfKey, hosts_of, known_host_of, marker_of};
+ghost use Rattle.sshkey_known_hosts.specs.Verdicts.{OneVerdict};
 
 use crate::entry::Entry;
 use crate::host_patterns::HostPatterns;
@@ -29,3 +30,8 @@ pub fn equal_known_hosts()
     equal_hosts();
     compared_public_keys();
 }
+
+/// Of the verdicts on a key of a host one at most holds of the lines of a text.
+pub fn one_verdict()
+    ensures { OneVerdict }
+{}

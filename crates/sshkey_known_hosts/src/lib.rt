@@ -2,14 +2,20 @@
 #![tactic(auto)]
 
 mod entry;
+mod hmac_sha1;
+mod host_name;
 mod host_patterns;
 mod known_hosts;
 pub mod laws;
 mod marker;
 mod openssh;
+mod pattern;
+mod verdict;
 
 pub use entry::Entry;
+pub use hmac_sha1::HmacSha1;
 pub use host_patterns::HostPatterns;
 pub use known_hosts::KnownHosts;
 pub use marker::Marker;
 pub use openssh::OpenSshKnownHosts;
+pub use verdict::{Verdict, judge_key};

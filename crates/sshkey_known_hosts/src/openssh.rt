@@ -33,7 +33,7 @@ fn is_marked(text: &str) -> bool
 }
 
 /// The marker of a text, and what follows it: no second marker.
-fn split_marker_field(text: &str) -> Result<(Option<Marker>, &str)>
+pub(crate) fn split_marker_field(text: &str) -> Result<(Option<Marker>, &str)>
     ensures { SplitsMarkerField text.now result }
 {
     if !is_marked(text) {

@@ -1,0 +1,59 @@
+-- What a verdict on a host's key means, and which keys are those of its authorities.
+use Rattle.std.specs.Prelude.{◌≡◌, ◌↔◌, ℕ, List, Option, Some, None, Bool, true, false}
+use Rattle.std.specs.List.{Any}
+use Rattle.sshkey_model.specs.Keys.{Key}
+use Rattle.sshkey_entries.specs.Entries.{IsNoEntry}
+use Rattle.sshkey_entries.specs.HostVerdicts.{IsRevoked, HidesSome, IsListed, IsKnown, IsAuthority}
+use Rattle.sshkey_public.specs.PublicKeys.{public_of}
+use Rattle.sshkey_public.specs.declared.public_key.PublicKey.{PublicKey}
+use Rattle.sshkey_known_hosts.specs.declared.marker.Marker.{Marker}
+use Rattle.sshkey_known_hosts.specs.declared.marker.Marker.TheVariants as marker
+use Rattle.sshkey_known_hosts.specs.declared.verdict.Verdict.{Verdict}
+use Rattle.sshkey_known_hosts.specs.declared.verdict.Verdict.TheVariants.{Revoked, Unreadable, Trusted, Changed, Unknown}
+
+-- The first of these that holds: a line revokes the key; one may be hidden; one has the key; one has another; none has any.
+abbrev pub IsVerdict : (List ℕ → List ℕ → List ℕ) → List ℕ → Key → List (List ℕ) → Verdict → Type 0
+IsVerdict hmac name key lines Revoked = IsRevoked hmac name key lines
+IsVerdict hmac name key lines Unreadable = ¬ IsRevoked hmac name key lines × HidesSome hmac name lines
+IsVerdict hmac name key lines Trusted = ¬ IsRevoked hmac name key lines × ¬ HidesSome hmac name lines × IsListed hmac name key lines
+IsVerdict hmac name key lines Changed = ¬ IsRevoked hmac name key lines × ¬ HidesSome hmac name lines × ¬ IsListed hmac name key lines × IsKnown hmac name lines
+IsVerdict hmac name key lines Unknown = ¬ IsRevoked hmac name key lines × ¬ HidesSome hmac name lines × ¬ IsKnown hmac name lines
+
+-- of an entry for the name with that marker, whose key is the one that is asked about or not
+abbrev pub marked_verdict_of : Option Marker → Bool → Verdict
+marked_verdict_of (Some marker.Revoked) true = Revoked
+marked_verdict_of (Some m) same = Unknown
+marked_verdict_of None true = Trusted
+marked_verdict_of None false = Changed
+
+-- No two of them hold.
+abbrev pub OneVerdict : Type 0
+OneVerdict = (hmac : List ℕ → List ℕ → List ℕ) (name : List ℕ) (key : Key) (lines : List (List ℕ)) (v w : Verdict) → IsVerdict hmac name key lines v → IsVerdict hmac name key lines w → v ≡ w
+
+-- of two verdicts the one that comes first
+abbrev pub graver_of : Verdict → Verdict → Verdict
+graver_of Revoked w = Revoked
+graver_of v Revoked = Revoked
+graver_of Unreadable w = Unreadable
+graver_of v Unreadable = Unreadable
+graver_of Trusted w = Trusted
+graver_of v Trusted = Trusted
+graver_of Changed w = Changed
+graver_of v Changed = Changed
+graver_of Unknown Unknown = Unknown
+
+-- The value of the line; or it has none.
+abbrev pub ReadsOrNone : {X Y : Type 0} → (X → Y) → (List ℕ → Y → Type 0) → List ℕ → Option X → Type 0
+ReadsOrNone means IsEntry line (Some x) = IsEntry line (means x)
+ReadsOrNone means IsEntry line None = IsNoEntry IsEntry line
+
+-- ---- authorities
+
+-- A key is among them exactly if a line has it, as that of an authority.
+abbrev pub AreAuthorities : (List ℕ → List ℕ → List ℕ) → List ℕ → List (List ℕ) → List PublicKey → Type 0
+AreAuthorities hmac name lines keys = (key : Key) → Any (λ k. public_of k ≡ key) keys ↔ IsAuthority hmac name key lines
+
+-- The same of one key at most.
+abbrev pub IsAuthorityIn : (List ℕ → List ℕ → List ℕ) → List ℕ → List (List ℕ) → Option PublicKey → Type 0
+IsAuthorityIn hmac name lines None = (key : Key) → IsAuthority hmac name key lines → ⊥
+IsAuthorityIn hmac name lines (Some k) = (key : Key) → (public_of k ≡ key) ↔ IsAuthority hmac name key lines

@@ -1,0 +1,13 @@
+//! Who computes HMAC-SHA1: the caller.
+
+ghost use Rattle.std.specs.Prelude.{◌≡◌, ℕ, List};
+
+/// HMAC-SHA1 (RFC 2104), which is the caller's: none of it is here.
+pub trait HmacSha1 {
+    /// The HMAC of a message under a key: a function of its value, the key and the message.
+    ghost hmac: { Self → List ℕ → List ℕ → List ℕ };
+
+    /// The HMAC-SHA1 of the message under the key.
+    fn hash(&self, key: &[u8], message: &[u8]) -> [u8; 20]
+        ensures { result ≡ hmac self.now key.now message.now };
+}

@@ -1,0 +1,180 @@
+//! What a text of known_hosts says of a host's key.
+
+ghost use Rattle.std.specs.Prelude.{◌≡◌, ◌↔◌, ◌∷◌, [], ℕ, List, IsTrue, IfOk, IfErr};
+ghost use Rattle.sshkey_base.specs.Causes.{cause, NoMemory};
+ghost use Rattle.sshkey_base.specs.declared.error.Error.TheVariants as wide;
+ghost use Rattle.sshkey_entries.specs.Fields.{filled_lines};
+ghost use Rattle.sshkey_entries.specs.HostNames.{known_name};
+ghost use Rattle.sshkey_entries.specs.HostVerdicts.{IsForOthers};
+ghost use Rattle.sshkey_entries.specs.OpenSshLines.{IsHostLine};
+ghost use Rattle.sshkey_keys.specs.Keys.{key_of};
+ghost use Rattle.sshkey_model.specs.Keys.{IsKey};
+ghost use Rattle.sshkey_known_hosts.specs.HostEntries.{known_host_of};
+ghost use Rattle.sshkey_known_hosts.specs.Verdicts.{IsVerdict, ReadsOrNone, graver_of, marked_verdict_of};
+
+use crate::entry::Entry;
+use crate::hmac_sha1::HmacSha1;
+use crate::host_name::known_name;
+use crate::host_patterns::HostPatterns;
+use crate::marker::Marker;
+use crate::openssh::split_marker_field;
+use sshkey_base::{Error, Result};
+use sshkey_files::{FilledLines, skip_blanks, split_field};
+use sshkey_keys::KeyData;
+use sshkey_keys::laws::compared_keys;
+use std::alloc::Global;
+
+/// What a text of known_hosts says of a host's key: the first of these that holds.
+#[derive(Debug, Clone, Copy, PartialEq, Eq)]
+pub enum Verdict {
+    /// An entry for the host revokes the key.
+    Revoked,
+    /// A line is no entry and could be one for the host, perhaps a revocation.
+    Unreadable,
+    /// An entry for the host has the key.
+    Trusted,
+    /// An entry for the host has another key.
+    Changed,
+    /// No entry without a marker is for the host.
+    Unknown,
+}
+
+fn is_memory(error: &Error) -> bool
+    ensures { IsTrue result ↔ (cause error.now ≡ NoMemory) }
+{
+    matches!(error, Error::Memory)
+}
+
+/// The entry of a line as OpenSSH reads it, or none.
+pub(crate) fn read_entry(alloc: Global, line: &str) -> Result<Option<Entry>>
+    ensures answer { IfOk result (ReadsOrNone known_host_of IsHostLine line.now) }
+    ensures memory { IfErr result (λ e. e ≡ wide.Memory) }
+{
+    match Entry::from_line_openssh(alloc, line) {
+        Ok(entry) => Ok(Some(entry)),
+        Err(error) => {
+            if is_memory(&error) {
+                return Err(Error::Memory);
+            }
+            Ok(None)
+        }
+    }
+}
+
+/// Of two verdicts the one that stands first.
+fn graver(one: Verdict, other: Verdict) -> Verdict
+    ensures { result ≡ graver_of one other }
+{
+    match (one, other) {
+        (Verdict::Revoked, _) | (_, Verdict::Revoked) => Verdict::Revoked,
+        (Verdict::Unreadable, _) | (_, Verdict::Unreadable) => Verdict::Unreadable,
+        (Verdict::Trusted, _) | (_, Verdict::Trusted) => Verdict::Trusted,
+        (Verdict::Changed, _) | (_, Verdict::Changed) => Verdict::Changed,
+        (Verdict::Unknown, Verdict::Unknown) => Verdict::Unknown,
+    }
+}
+
+/// Whether the first key, which is well-formed, means the same as the other.
+fn is_same_key(one: &KeyData, other: &KeyData) -> bool
+    ensures { IsKey (key_of one.now) → IsTrue result ↔ (key_of one.now ≡ key_of other.now) }
+{
+    compared_keys();
+    one == other
+}
+
+/// What an entry for the name says of a key, which is its own or not.
+fn marked_verdict(marker: Option<Marker>, same: bool) -> Verdict
+    ensures { result ≡ marked_verdict_of marker same }
+{
+    match (marker, same) {
+        (Some(Marker::Revoked), true) => Verdict::Revoked,
+        (None, true) => Verdict::Trusted,
+        (None, false) => Verdict::Changed,
+        _ => Verdict::Unknown,
+    }
+}
+
+/// What an entry says of a key of that name.
+fn entry_verdict<H: HmacSha1>(entry: &Entry, name: &str, key: &KeyData, hmac: &H) -> Verdict
+    ensures { (line : List ℕ) → IsHostLine line (known_host_of entry.now) →
+        IsVerdict (H.hmac hmac.now) name.now (key_of key.now) (line ∷ []) result }
+{
+    if !entry.host_patterns().are_for(name, hmac) {
+        return Verdict::Unknown;
+    }
+    let same = is_same_key(entry.public_key().key_data(), key);
+    marked_verdict(entry.marker(), same)
+}
+
+/// Whether hosts stand in a line that are not for the name.
+fn is_for_others<H: HmacSha1>(alloc: Global, line: &str, name: &str, hmac: &H) -> Result<bool>
+    ensures answer { IfOk result (λ yes. IsTrue yes ↔
+        IsForOthers (H.hmac hmac.now) name.now line.now) }
+    ensures memory { IfErr result (λ e. e ≡ wide.Memory) }
+{
+    let Ok((_, unmarked)) = split_marker_field(skip_blanks(line)) else {
+        return Ok(false);
+    };
+    let (hosts, _) = split_field(unmarked);
+    match HostPatterns::from_text(alloc, hosts) {
+        Ok(hosts) => Ok(!hosts.are_for(name, hmac)),
+        Err(error) => {
+            if is_memory(&error) {
+                return Err(Error::Memory);
+            }
+            Ok(false)
+        }
+    }
+}
+
+/// What a line says of a key of that name.
+fn line_verdict<H: HmacSha1>(
+    alloc: Global,
+    line: &str,
+    name: &str,
+    key: &KeyData,
+    hmac: &H,
+) -> Result<Verdict>
+    ensures answer { IfOk result
+        (IsVerdict (H.hmac hmac.now) name.now (key_of key.now) (line.now ∷ [])) }
+    ensures memory { IfErr result (λ e. e ≡ wide.Memory) }
+{
+    let Some(entry) = read_entry(alloc, line)? else {
+        if is_for_others(alloc, line, name, hmac)? {
+            return Ok(Verdict::Unknown);
+        }
+        return Ok(Verdict::Unreadable);
+    };
+    Ok(entry_verdict(&entry, name, key, hmac))
+}
+
+/// What a text of known_hosts, as OpenSSH reads it, says of a host's key (sshd(8),
+/// "SSH_KNOWN_HOSTS FILE FORMAT").
+///
+/// `Revoked` comes before all: whatever other lines say, an entry `@revoked` with this key for the
+/// host decides. Then a line that is no entry and could be for the host makes the answer
+/// `Unreadable`, since it could be a revocation: only where hosts stand in it that are not for this
+/// host it is passed over. Then an entry for the host with this key makes it `Trusted`, or else one
+/// with another key `Changed`, and else it is `Unknown`. Of authorities nothing is said here.
+///
+/// `HostPatterns::matches` says which entries are for a host at a port. Refused only when out of
+/// memory.
+pub fn judge_key<H: HmacSha1>(
+    alloc: Global,
+    text: &str,
+    host: &str,
+    port: u16,
+    key: &KeyData,
+    hmac: &H,
+) -> Result<Verdict>
+    ensures answer { IfOk result (IsVerdict (H.hmac hmac.now) (known_name host.now port)
+        (key_of key.now) (filled_lines text.now)) }
+    ensures memory { IfErr result (λ e. e ≡ wide.Memory) }
+{
+    let name = known_name(alloc, host, port)?;
+    let mut found = Verdict::Unknown;
+    for line in FilledLines::new(text) {
+        found = graver(found, line_verdict(alloc, line, name.as_str(), key, hmac)?);
+    }
+    Ok(found)
+}
