@@ -1,3 +1,4 @@
+mod Certified
 mod Drafts
 mod Histories
 mod Lists
