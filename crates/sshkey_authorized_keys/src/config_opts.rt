@@ -78,8 +78,8 @@ impl<'a> Model for ConfigOptsIter<'a> {
 }
 
 impl<'a> ConfigOptsIter<'a> {
-    /// The items of a text. `CharacterEncoding` exactly where a character is not allowed: a byte
-    /// that is no printable ASCII character, a space or a backquote. Takes no memory.
+    /// The items of a text. Fails with `CharacterEncoding` exactly if a character is not allowed: a
+    /// byte that is no printable ASCII character, a space or a backquote. Does not allocate.
     pub fn new(text: &'a str) -> Result<ConfigOptsIter<'a>>
         ensures { Judges (λ it. it) text.now (items text.now) result }
     {
@@ -122,9 +122,9 @@ impl Model for ConfigOpts {
 }
 
 impl ConfigOpts {
-    /// The options of a text. `CharacterEncoding` exactly where a character is not allowed: a byte
-    /// that is no printable ASCII character, a space or a backquote. Else refused only when out of
-    /// memory.
+    /// The options of a text. Fails with `CharacterEncoding` exactly if a character is not allowed:
+    /// a byte that is no printable ASCII character, a space or a backquote. Else rejected only when
+    /// out of memory.
     pub fn new(alloc: Global, text: &str) -> Result<ConfigOpts>
         ensures { JudgesInMemory (λ o. o) text.now text.now result }
     {
@@ -136,7 +136,7 @@ impl ConfigOpts {
         })
     }
 
-    /// No options. Takes no memory.
+    /// No options. Does not allocate.
     pub(crate) fn none(alloc: Global) -> ConfigOpts
         ensures { result ≡ [] }
     {
@@ -169,7 +169,7 @@ impl ConfigOpts {
         }
     }
 
-    /// The same in memory of its own. Refused only when out of memory.
+    /// The same in memory of its own. Fails only when out of memory.
     pub fn try_clone(&self, alloc: Global) -> Result<ConfigOpts>
         ensures copy { IfOk result (λ o. o ≡ self.now) }
         ensures memory { IfErr result (λ e. e ≡ wide.Memory) }

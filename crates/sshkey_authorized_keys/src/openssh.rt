@@ -64,22 +64,22 @@ impl Entry {
     ///
     /// Spaces and tabs in front are passed over. If a key stands there, the name of its algorithm
     /// and its padded Base64, there are no options. Else options come first and end at the first
-    /// space or tab outside double quotes, where a quote behind a backslash is none, and the key
-    /// follows. Behind the key stands the comment, which is all the rest, a `#` too. Any number of
-    /// spaces and tabs stands between. So these lines are read, which `from_line` refuses:
+    /// space or tab outside double quotes, where a quote after a backslash is none, and the key
+    /// follows. After the key stands the comment, which is all the rest, a `#` too. Any number of
+    /// spaces and tabs stands between. So these lines are read, which `from_line` rejects:
     ///
     ///     command="dump /home",no-pty ssh-ed25519 AAAA..
     ///     restrict    ssh-ed25519 AAAA.. nightly job # 3
     ///
-    /// Out of memory aside, it is refused exactly where the line is no such entry: `FormatEncoding`
+    /// Unless memory runs out, it fails exactly if the line is no such entry: `FormatEncoding`
     /// where a `#` begins it, and where neither a key begins it nor options have an end, as in an
-    /// empty line and where quotes stay open; `Length` where behind options, or alone, no Base64
-    /// stands; and else the refusals of `sshkey_fields::read_key_fields`.
+    /// empty line and where quotes stay open; `Length` where after options, or alone, no Base64
+    /// stands; and else the errors of `sshkey_fields::read_key_fields`.
     ///
-    /// `Memory` is answered only where `sshkey_fields::read_key_fields` may answer it, of the line
-    /// or of what stands behind its options, and for the options of an entry.
+    /// fails with `Memory` only if `sshkey_fields::read_key_fields` may answer it, of the line or
+    /// of what stands after its options, and for the options of an entry.
     ///
-    /// The options are kept as they stand, also those that sshd does not know; sshd refuses a line
+    /// The options are kept as they stand, also those that sshd does not know; sshd rejects a line
     /// with one of these. A key of whatever kind this library reads is read, private-use names too,
     /// and a name is compared as it stands.
     pub fn from_line_openssh(alloc: Global, line: &str) -> Result<OpenSshEntry>
@@ -103,7 +103,7 @@ impl Entry {
 }
 
 impl OpenSshEntry {
-    /// The entry of a key without options. Takes no memory.
+    /// The entry of a key without options. Does not allocate.
     fn alone(alloc: Global, public_key: PublicKey) -> OpenSshEntry
         ensures options { openssh_options_of result ≡ [] }
         ensures key { openssh_key_in result ≡ public_key }
@@ -151,7 +151,7 @@ impl OpenSshEntry {
 /// `Entry::from_line_openssh` gives.
 ///
 /// An entry is a line in which something stands besides spaces and tabs, and which no `#` begins
-/// behind these. A line that is refused ends nothing: the next call answers the entry behind it. The
+/// after these. A line that is rejected ends nothing: the next call answers the entry after it. The
 /// text is borrowed, and what an entry keeps is copied.
 ///
 /// Contracts see the list of the lines that are left, without the spaces and tabs at their front.

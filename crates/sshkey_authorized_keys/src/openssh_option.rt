@@ -55,7 +55,7 @@ impl<'a> OpenSshOption<'a> {
     /// A copy of the value, without its quotes and without each backslash before a quote; or none
     /// where there is no `=`. A value may be empty.
     ///
-    /// Refused only when out of memory. Without a value it takes none.
+    /// Fails only when out of memory. Without a value it takes none.
     pub fn value(&self, alloc: Global) -> Result<Option<String>>
         ensures value { IfOk result (λ v. option_map string_bytes v
             ≡ (key_option_of self.now).value) }
@@ -72,15 +72,15 @@ impl<'a> OpenSshOption<'a> {
 /// The options of a text, one by one (sshd(8), "AUTHORIZED_KEYS FILE FORMAT").
 ///
 /// Options stand between commas; commas in a row, and at either end, are passed over. Each is a
-/// name, or a name, `=` and a value in double quotes, in which a quote stands behind a backslash.
+/// name, or a name, `=` and a value in double quotes, in which a quote stands after a backslash.
 /// Neither comma, quote, `=`, space nor tab stands in a name, and no name is empty.
 ///
 /// Where something else stands, the answer is `FormatEncoding`, and then there are no more: as in
 /// `command=ls`, whose value has no quotes, in `command="ls`, whose quotes stay open, and in
-/// `x="a"b`. sshd refuses all of an entry with such options: so should whoever decides on a login.
+/// `x="a"b`. sshd rejects all of an entry with such options: so should whoever decides on a login.
 /// `OpenSshOptions::get` does. Which names there are, and which want a value, is not asked.
 ///
-/// Contracts see the text that is left. Takes no memory.
+/// Contracts see the text that is left. Does not allocate.
 #[derive(Debug, Clone, Drop)]
 pub struct OpenSshOptionsIter<'a> {
     rest: &'a str,

@@ -22,7 +22,7 @@ impl Model for OpenSshOptions {
 }
 
 impl OpenSshOptions {
-    /// No options. Takes no memory.
+    /// No options. Does not allocate.
     pub(crate) fn none(alloc: Global) -> OpenSshOptions
         ensures { result ≡ [] }
     {
@@ -62,10 +62,10 @@ impl OpenSshOptions {
     }
 
     /// The option of that name, letters of ASCII without case: the first where the same name stands
-    /// twice. Takes no memory.
+    /// twice. Does not allocate.
     ///
-    /// `FormatEncoding` exactly where the text is no list of options, also where what is none
-    /// stands behind the option that was asked for. sshd(8) refuses an entry that names
+    /// Fails with `FormatEncoding` exactly if the text is no list of options, also where what is
+    /// none stands after the option that was asked for. sshd(8) rejects an entry that names
     /// `command`, `from`, `principals` or `tunnel` twice: whoever wants that too counts by `iter`.
     pub fn get(&self, name: &str) -> Result<Option<OpenSshOption<'_>>>
         ensures { FindsIn self.now name.now result }

@@ -62,7 +62,7 @@ pub(crate) fn split_name(text: &str) -> (&str, &str)
 
 // ---- values
 
-/// The place of the first quote that stands behind no backslash.
+/// The place of the first quote that stands after no backslash.
 fn quote_end(text: &[u8]) -> Option<usize>
     ensures { FindsFirst is_mark text.now result }
 {

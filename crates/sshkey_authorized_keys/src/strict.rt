@@ -69,7 +69,7 @@ fn are_spaces_and_blank(text: &[u8]) -> bool
     }
 }
 
-/// Whether what stands behind an entry on its line is no part of it to sshd(8) either.
+/// Whether what stands after an entry on its line is no part of it to sshd(8) either.
 pub(crate) fn is_left_out(text: &str) -> bool
     ensures { IsTrue result ↔ IsLeftOut text.now }
 {

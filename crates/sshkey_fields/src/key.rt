@@ -32,7 +32,7 @@ fn is_named(key: &KeyData, name: &str) -> bool
     name == key.algorithm_name()
 }
 
-/// A copy of a text. Refused only when out of memory, and never where the text is empty.
+/// A copy of a text. Fails only when out of memory, and never where the text is empty.
 fn copied(alloc: Global, text: &str) -> Result<String>
     ensures text { IfOk result (λ copy. string_bytes copy ≡ text.now) }
     ensures memory { IfErr result (λ e. (e ≡ wide.Memory) × (0 < length text.now)) }
@@ -46,12 +46,12 @@ fn copied(alloc: Global, text: &str) -> Result<String>
 /// The key of a text that is a key's fields: the name of its algorithm, the key in padded Base64 and
 /// a comment, which is all that follows. Spaces or tabs stand between.
 ///
-/// Out of memory aside, it is refused exactly where the text is the fields of no key: `Length` where
-/// the Base64 is missing, `Base64` where it is no canonical Base64, the refusals of
-/// `KeyData::decode`, `TrailingData` with the number of bytes behind the key, and `AlgorithmUnknown`
-/// where the first field is not the name of the key that the Base64 spells.
+/// Unless memory runs out, it fails exactly if the text is the fields of no key: `Length` where the
+/// Base64 is missing, `Base64` where it is no canonical Base64, the errors of `KeyData::decode`,
+/// `TrailingData` with the number of bytes after the key, and `AlgorithmUnknown` where the first
+/// field is not the name of the key that the Base64 spells.
 ///
-/// Where the second field is canonical Base64, `Memory` is answered only where the key in it needs
+/// Where the second field is canonical Base64, it fails with `Memory` only if the key in it needs
 /// some, or for a comment that is not empty, of a text that is a key's fields: never for a length
 /// that the key's bytes only state.
 pub fn read_key_fields(alloc: Global, text: &str) -> Result<PublicKey>
