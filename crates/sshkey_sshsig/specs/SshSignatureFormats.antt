@@ -1,23 +1,21 @@
 -- The format of SSH signatures, by the terms that it is read as. The grammars are proved, and need not be believed.
 use Rattle.std.proofs.Common.{◌≡◌, ℕ, ltb, Bool, true, false, cond, List, length, Result, Ok, Err, refl, subst}
 use Rattle.std.specs.Int.{w32}
-use Rattle.sshkey_model.specs.Parts.{bytes, number}
-use Rattle.sshkey_model.specs.Reading.{Fault, Namespace, Version, ◌>>=◌, number_at, literal_at}
+use Rattle.sshkey_model.specs.Parts.{number}
+use Rattle.sshkey_model.specs.Reading.{Fault, Namespace, Version, number_at}
 use Rattle.sshkey_model.specs.Grammar.{IsGrammar, Spells}
 use Rattle.sshkey_model.specs.Keys.{Key}
 use Rattle.sshkey_model.specs.Names.{Hash, hash_at}
 use Rattle.sshkey_model.specs.Signatures.{Signature}
 use Rattle.sshkey_model.specs.SshSignatures.{SshSignature, signature_magic, IsNamespace, version_from, version_at, namespace_from, namespace_at}
 use Rattle.sshkey_model.specs.Texts.{string, text_at}
-use Rattle.sshkey_model.proofs.CombinedReaders.{done, ok_is, Any, wide32, bind_assoc, number_reads, literal_reads, checked_reads, kept}
+use Rattle.sshkey_model.proofs.CombinedReaders.{done, ok_is, Any, wide32, bind_assoc, number_reads, checked_reads, kept}
 use Rattle.sshkey_model.proofs.Grammars.{grammar}
 use Rattle.sshkey_model.proofs.NameReaders.{hash_checks}
 use Rattle.sshkey_model.proofs.TextReaders.{text_reads}
 use Rattle.sshkey_base.specs.Formats.{Format, number32_format, string_format, text_format, label_format}
 use Rattle.sshkey_base.specs.Labels.{label_at}
-use Rattle.sshkey_base.specs.Lengths.{no_lengths}
 use Rattle.sshkey_base.specs.Needs.{NoNeed}
-use Rattle.sshkey_base.specs.Stops.{NoOverrun}
 use Rattle.sshkey_keys.specs.KeyFormats.{key_format, signature_format}
 use Rattle.sshkey_format.specs.Behind.{behind_at}
 use Rattle.sshkey_format.specs.Terms.{◌then◌, boxed, literal_format, IsMapped, made_of}
