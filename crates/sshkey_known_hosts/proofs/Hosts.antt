@@ -18,7 +18,7 @@ use Rattle.sshkey_model.proofs.Base64Words.{one_blob}
 use Rattle.sshkey_model.proofs.LineCuts.{one_front}
 use Rattle.sshkey_entries.specs.Entries.{IsNoEntry}
 use Rattle.sshkey_entries.specs.Items.{patterns, without_empty_last, is_comma}
-use Rattle.sshkey_entries.specs.KnownHosts.{Hosts, HashedName, Patterns, IsHosts, IsHashedName, hashed_mark, hashed_text, bar}
+use Rattle.sshkey_entries.specs.KnownHosts.{HashedName, Patterns, IsHosts, IsHashedName, hashed_mark, hashed_text, bar}
 use Rattle.sshkey_entries.proofs.OneHost.{bar_not}
 use Rattle.sshkey_files.specs.Answers.{ReadsEntry}
 use Rattle.sshkey_known_hosts.specs.HostEntries.{hosts_of, ReadsHashed}

@@ -4,7 +4,6 @@ use Rattle.std.proofs.lemmas.List.{take-append-drop, length-drop, drop-drop}
 use Rattle.std.proofs.lemmas.Bool.{cases_lt}
 use Rattle.std.proofs.Math.ListN.{drop_of_length-le}
 use Rattle.std.proofs.Math.Seq.{drop-append_seam, take-length}
-use Rattle.std.specs.Char.{to_ascii_lowercase}
 use Rattle.sshkey_entries.specs.HostNames.{Matches, StandsFor, star}
 use Rattle.sshkey_known_hosts.specs.Matching.{GoesOn, HasFront, IsStuck, MatchesLater}
 

@@ -53,6 +53,11 @@ ReadsOrNone means IsEntry line None = IsNoEntry IsEntry line
 abbrev pub AreAuthorities : (List ℕ → List ℕ → List ℕ) → List ℕ → List (List ℕ) → List PublicKey → Type 0
 AreAuthorities hmac name lines keys = (key : Key) → Any (λ k. public_of k ≡ key) keys ↔ IsAuthority hmac name key lines
 
+abbrev pub is_authority_of : Option Marker → Bool
+is_authority_of (Some marker.CertAuthority) = true
+is_authority_of (Some marker.Revoked) = false
+is_authority_of None = false
+
 -- The same of one key at most.
 abbrev pub IsAuthorityIn : (List ℕ → List ℕ → List ℕ) → List ℕ → List (List ℕ) → Option PublicKey → Type 0
 IsAuthorityIn hmac name lines None = (key : Key) → IsAuthority hmac name key lines → ⊥

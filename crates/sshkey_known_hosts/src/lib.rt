@@ -1,17 +1,20 @@
 //! known_hosts: which keys hosts have (sshd(8), "SSH_KNOWN_HOSTS FILE FORMAT").
 #![tactic(auto)]
 
+mod authority;
 mod entry;
 mod hmac_sha1;
 mod host_name;
 mod host_patterns;
 mod known_hosts;
 pub mod laws;
+mod made;
 mod marker;
 mod openssh;
 mod pattern;
 mod verdict;
 
+pub use authority::authorities;
 pub use entry::Entry;
 pub use hmac_sha1::HmacSha1;
 pub use host_patterns::HostPatterns;

@@ -39,7 +39,7 @@ pub enum Verdict {
     Unknown,
 }
 
-fn is_memory(error: &Error) -> bool
+pub(crate) fn is_memory(error: &Error) -> bool
     ensures { IsTrue result ↔ (cause error.now ≡ NoMemory) }
 {
     matches!(error, Error::Memory)

@@ -1,4 +1,4 @@
-use Rattle.std.proofs.Common.{sym, subst, ◌∙◌, refl}
+use Rattle.std.proofs.Common.{sym, subst, ◌∙◌}
 use Rattle.sshkey_entries.specs.HostNames.{Refuses}
 use Rattle.sshkey_known_hosts.proofs.SomeOf.{none_more, none_of}
 use Rattle.sshkey_known_hosts.proofs.host_name.some_refuses.Goals as goal

@@ -1,4 +1,4 @@
-use Rattle.std.proofs.Common.{sym, ap, refl, ◌∙◌}
+use Rattle.std.proofs.Common.{sym, refl, ◌∙◌}
 use Rattle.std.proofs.lemmas.Result.{err_from_is_err_and}
 use Rattle.sshkey_known_hosts.specs.HostEntries.{marker_of}
 use Rattle.sshkey_known_hosts.proofs.HostLines.{marked, no_marker, two_markers}

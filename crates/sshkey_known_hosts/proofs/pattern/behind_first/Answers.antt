@@ -1,6 +1,6 @@
-use Rattle.std.proofs.Common.{List, ℕ, ◌+◌, length, arith, tests, drop, ap, sym, ◌∙◌}
+use Rattle.std.proofs.Common.{◌+◌, length, arith, tests, drop, ap, sym, ◌∙◌}
 use Rattle.std.proofs.lemmas.List.{drop-drop}
-use Rattle.sshkey_known_hosts.proofs.Matching.{found_star, found_end, no_more, not_here}
+use Rattle.sshkey_known_hosts.proofs.Matching.{found_star, not_here}
 use Rattle.sshkey_known_hosts.proofs.pattern.behind_first.Goals as goal
 
 pub returns-then-begins_with_star : goal.returns-then-begins_with_star

@@ -1,4 +1,4 @@
-use Rattle.std.proofs.Common.{◌≡◌, ◌↔◌, IsTrue, Bool, true, false, not, refl, sym, ◌∙◌, option_map}
+use Rattle.std.proofs.Common.{◌↔◌, IsTrue, Bool, true, false, not, refl, sym, ◌∙◌, option_map}
 use Rattle.sshkey_known_hosts.specs.HostEntries.{hosts_of, marker_of}
 use Rattle.sshkey_known_hosts.proofs.OtherHosts.{without_hosts, for_others, not_for_others}
 use Rattle.sshkey_known_hosts.proofs.verdict.is_for_others.Goals as goal

@@ -1,6 +1,6 @@
-use Rattle.std.proofs.Common.{sym, ap, refl, ◌∙◌, option_map}
+use Rattle.std.proofs.Common.{sym, refl, ◌∙◌, option_map}
 use Rattle.std.proofs.lemmas.Result.{err_from_is_err_and}
-use Rattle.sshkey_known_hosts.specs.HostEntries.{hosts_of, marker_of, known_host_of}
+use Rattle.sshkey_known_hosts.specs.HostEntries.{hosts_of, marker_of}
 use Rattle.sshkey_known_hosts.proofs.HostLines.{hosts_fault, key_fault, marker_fault, comment_read, comment_fault, no_marker_read, text_fault, bad_hosts, bad_host_key, line_read}
 use Rattle.sshkey_known_hosts.proofs.entry.Entry.from_line_openssh.Goals as goal
 

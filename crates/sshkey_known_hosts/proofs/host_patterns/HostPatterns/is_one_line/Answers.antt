@@ -1,4 +1,4 @@
-use Rattle.std.proofs.Common.{List, ℕ, sym, subst, refl}
+use Rattle.std.proofs.Common.{sym, subst, refl}
 use Rattle.std.specs.List.{All}
 use Rattle.sshkey_entries.specs.KnownHosts.{hosts_text}
 use Rattle.sshkey_public.specs.OneLine.{IsOneLine}

@@ -1,0 +1,44 @@
+use Rattle.std.proofs.Common.{List, ℕ, [], ◌∷◌, ◌++◌, ap, sym, subst, ◌∙◌, append_assoc, append-nil}
+use Rattle.sshkey_entries.specs.HostNames.{known_name}
+use Rattle.sshkey_known_hosts.specs.Verdicts.{AreAuthorities, IsAuthorityIn}
+use Rattle.sshkey_known_hosts.proofs.AuthorityKeys.{no_more, one_more}
+use Rattle.sshkey_known_hosts.proofs.authority.authorities.Goals as goal
+
+pub returns-clause-answer : goal.returns-clause-answer
+returns-clause-answer g c =
+    let was = c.loop-line.invariant.2 in
+    subst (λ (l : List (List ℕ)). AreAuthorities (g.H.HmacSha1.hmac c.args.hmac.now) (known_name c.args.host.now c.args.port) l c.loop-line.found.items) (sym (was.1 ∙ ap (λ (l : List (List ℕ)). was.0 ++ l) c.in-None.ensures.steps.0 ∙ append-nil was.0)) was.2
+
+pub loop-line-preserved : goal.loop-line-preserved
+loop-line-preserved g c =
+    let was = c.loop-line.invariant.2 in
+    let hmac = g.H.HmacSha1.hmac c.args.hmac.now in
+    let name = known_name c.args.host.now c.args.port in
+    let line = c.in-Some.line.now in
+    let named = subst (λ (n : List ℕ). IsAuthorityIn hmac n (line ∷ []) c.in_ok-key.field-0) (c.as_str.ensures.value ∙ c.in_ok-name.ensures.name) c.in_ok-key.ensures.answer in
+    let said = subst (IsAuthorityIn hmac name (line ∷ [])) c.in_default.is named in (
+      tt,
+      tt,
+      (
+        was.0 ++ (line ∷ []),
+        was.1 ∙ ap (λ (l : List (List ℕ)). was.0 ++ l) c.in-Some.ensures.steps ∙ sym (append_assoc was.0 (line ∷ []) c.next.new.self),
+        no_more hmac name was.0 (line ∷ []) c.loop-line.found.items was.2 said,
+      ),
+    )
+
+pub loop-line-preserved-in-Continue-branch-4 : goal.loop-line-preserved-in-Continue-branch-4
+loop-line-preserved-in-Continue-branch-4 g c =
+    let was = c.loop-line.invariant.2 in
+    let hmac = g.H.HmacSha1.hmac c.args.hmac.now in
+    let name = known_name c.args.host.now c.args.port in
+    let line = c.in-Some.line.now in
+    let named = subst (λ (n : List ℕ). IsAuthorityIn hmac n (line ∷ []) c.in_ok-key.field-0) (c.as_str.ensures.value ∙ c.in_ok-name.ensures.name) c.in_ok-key.ensures.answer in
+    let said = subst (IsAuthorityIn hmac name (line ∷ [])) c.in-Some-2.is named in (
+      tt,
+      tt,
+      (
+        was.0 ++ (line ∷ []),
+        was.1 ∙ ap (λ (l : List (List ℕ)). was.0 ++ l) c.in-Some.ensures.steps ∙ sym (append_assoc was.0 (line ∷ []) c.next.new.self),
+        subst (AreAuthorities hmac name (was.0 ++ (line ∷ []))) (sym c.in_ok-push.ensures.items) (one_more hmac name was.0 (line ∷ []) c.loop-line.found.items was.2 _ said),
+      ),
+    )

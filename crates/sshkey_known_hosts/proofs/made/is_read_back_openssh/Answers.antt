@@ -1,0 +1,16 @@
+use Rattle.std.proofs.Common.{sym, subst, ◌∙◌}
+use Rattle.sshkey_entries.specs.OpenSshLines.{IsHostLine}
+use Rattle.sshkey_entries.proofs.OneOpenSshLine.{one_host_line}
+use Rattle.sshkey_known_hosts.specs.HostEntries.{known_host_of}
+use Rattle.sshkey_known_hosts.proofs.made.is_read_back_openssh.Goals as goal
+
+pub returns-in-Ok-clause-answer : goal.returns-in-Ok-clause-answer
+returns-in-Ok-clause-answer c =
+    let line = c.args.line.now in
+    let is = c.in-Ok.ensures.reads in
+    let same = c.is_same_entry.ensures c.in-Ok.ensures.reads.fields.spelled.is in
+    (λ t. subst (IsHostLine line) (same.0 t) is, λ k. same.1 (one_host_line line (known_host_of c.in-Ok.read) (known_host_of c.args.entry.now) is k))
+
+pub returns-else-is_memory-clause-answer : goal.returns-else-is_memory-clause-answer
+returns-else-is_memory-clause-answer c =
+    (λ never. cc never, λ k. absurd (c.in-Err.ensures.reads (λ e. cc (sym c.if-is_memory.false ∙ c.is_memory.ensures.1 e)) (known_host_of c.args.entry.now) k))

@@ -1,0 +1,82 @@
+//! The authorities that sign the keys of a host.
+
+ghost use Rattle.std.specs.Prelude.{◌≡◌, ◌↔◌, ◌∷◌, [], ℕ, List, IfOk, IfErr};
+ghost use Rattle.sshkey_base.specs.declared.error.Error.TheVariants as wide;
+ghost use Rattle.sshkey_entries.specs.Fields.{filled_lines};
+ghost use Rattle.sshkey_entries.specs.HostNames.{known_name};
+ghost use Rattle.sshkey_entries.specs.OpenSshLines.{IsHostLine};
+ghost use Rattle.sshkey_known_hosts.specs.HostEntries.{known_host_of};
+ghost use Rattle.sshkey_known_hosts.specs.Verdicts.{AreAuthorities, IsAuthorityIn, is_authority_of};
+
+use crate::entry::Entry;
+use crate::hmac_sha1::HmacSha1;
+use crate::host_name::known_name;
+use crate::marker::Marker;
+use crate::verdict::read_entry;
+use sshkey_base::Result;
+use sshkey_files::FilledLines;
+use sshkey_public::PublicKey;
+use std::alloc::Global;
+
+fn is_authority(marker: Option<Marker>) -> bool
+    ensures { result ≡ is_authority_of marker }
+{
+    matches!(marker, Some(Marker::CertAuthority))
+}
+
+/// The key of an entry of an authority for that name.
+fn entry_authority<H: HmacSha1>(entry: Entry, name: &str, hmac: &H) -> Option<PublicKey>
+    ensures { (line : List ℕ) → IsHostLine line (known_host_of entry) →
+        IsAuthorityIn (H.hmac hmac.now) name.now (line ∷ []) result }
+{
+    if !is_authority(entry.marker()) {
+        return None;
+    }
+    if !entry.host_patterns().are_for(name, hmac) {
+        return None;
+    }
+    Some(PublicKey::from(entry))
+}
+
+fn line_authority<H: HmacSha1>(
+    alloc: Global,
+    line: &str,
+    name: &str,
+    hmac: &H,
+) -> Result<Option<PublicKey>>
+    ensures answer { IfOk result (IsAuthorityIn (H.hmac hmac.now) name.now (line.now ∷ [])) }
+    ensures memory { IfErr result (λ e. e ≡ wide.Memory) }
+{
+    let Some(entry) = read_entry(alloc, line)? else {
+        return Ok(None);
+    };
+    Ok(entry_authority(entry, name, hmac))
+}
+
+/// The keys of the authorities that sign the keys of a host: those of the entries
+/// `@cert-authority` for it in a text of known_hosts, as OpenSSH reads it, in order (sshd(8),
+/// "SSH_KNOWN_HOSTS FILE FORMAT").
+///
+/// A line that is no entry gives none, and an authority may be revoked by another line: before one
+/// is trusted, ask `judge_key` about its key, and refuse it where that is `Revoked` or `Unreadable`.
+/// Refused only when out of memory.
+pub fn authorities<H: HmacSha1>(
+    alloc: Global,
+    text: &str,
+    host: &str,
+    port: u16,
+    hmac: &H,
+) -> Result<Vec<PublicKey>>
+    ensures answer { IfOk result (λ keys. AreAuthorities (H.hmac hmac.now)
+        (known_name host.now port) (filled_lines text.now) keys.items) }
+    ensures memory { IfErr result (λ e. e ≡ wide.Memory) }
+{
+    let name = known_name(alloc, host, port)?;
+    let mut found = Vec::new(alloc);
+    for line in FilledLines::new(text) {
+        if let Some(key) = line_authority(alloc, line, name.as_str(), hmac)? {
+            found.push(key)?;
+        }
+    }
+    Ok(found)
+}
