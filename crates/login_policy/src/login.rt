@@ -100,6 +100,15 @@ fn is_key_of(certificate: &Certificate, offered: &KeyData) -> bool
     requires offered { IsKey (key_of offered.now) }
     ensures { IsTrue result ↔ ((certificate_of certificate.now).signed.key ≡ key_of offered.now) }
 {
+    is_same(certificate.public_key(), offered)
+}
+
+/// Whether both are the same key.
+fn is_same(key: &KeyData, other: &KeyData) -> bool
+    requires key { IsKey (key_of key.now) }
+    requires other { IsKey (key_of other.now) }
+    ensures { IsTrue result ↔ (key_of key.now ≡ key_of other.now) }
+{
     compared_keys();
-    certificate.public_key() == offered
+    key == other
 }

@@ -1,4 +1,4 @@
-use Rattle.std.proofs.Common.{inl, inr, refl}
+use Rattle.std.proofs.Common.{inl, rules}
 use Rattle.std.proofs.lemmas.Result.{err_from_is_err_and}
 use Rattle.authority.proofs.Requests.{issued, used}
 use Rattle.authority.proofs.authority.Authority.issue.Goals as goal
@@ -12,4 +12,4 @@ pub returns-clause-issued : goal.returns-clause-issued
 returns-clause-issued g c = issued _ _ _ _ c.args.request _ _ c.in_ok-check.ensures.exactly c.certify.result c.certify.ensures
 
 pub returns-clause-history : goal.returns-clause-history
-returns-clause-history g c = used _ _ _ c.args.request _ _ _ ? c.certify.result c.certify.ensures
+returns-clause-history g c = used _ _ _ c.args.request _ _ _ (search rules) c.certify.result c.certify.ensures
