@@ -49,7 +49,7 @@ impl<'a> OpenSshOption<'a> {
     pub fn is_named(&self, name: &str) -> bool
         ensures { IsTrue result ↔ IsSameName (key_option_of self.now).name name.now }
     {
-        self.name.eq_ignore_ascii_case(name)
+        name.eq_ignore_ascii_case(self.name)
     }
 
     /// A copy of the value, without its quotes and without each backslash before a quote; or none
