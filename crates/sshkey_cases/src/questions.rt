@@ -3,9 +3,9 @@
 use crate::bytes::{NO_LINE, part, parts, text};
 use crate::wire::shown;
 use crate::{
-    again, certificates, copies, drawn, entries, faulty, files, issued, keys, kinds, messages,
-    names, narrow, openssh_lines, option_items, pairs, privates, signatures, slices, validity,
-    wire, without_memory,
+    again, certificates, copies, drawn, entries, faulty, files, hosts, issued, keys, kinds,
+    messages, names, narrow, openssh_lines, option_items, pairs, privates, signatures, slices,
+    validity, wire, without_memory,
 };
 use sshkey_base::{Algorithm, AlgorithmName, EcdsaCurve, Error, HashAlg, Mpint, Result};
 use sshkey_cert::Certificate;
@@ -250,6 +250,10 @@ fn answer_of_entries(alloc: Global, question: &str, parts: &[Vec<u8>]) -> Result
         "made-authorized-key" => option_items::made(alloc, parts),
         "config-options" => entries::options(alloc, text(parts, 0)?),
         "known-host" => entries::host(alloc, text(parts, 0)?),
+        "hosts-for" => hosts::are_for(alloc, parts),
+        "host-verdict" => hosts::judged(alloc, parts),
+        "host-authorities" => hosts::authorities_of(alloc, parts),
+        "made-host" => hosts::made(alloc, parts),
         "host-patterns" => entries::hosts(alloc, text(parts, 0)?),
         "marker" => entries::marker(alloc, text(parts, 0)?),
         _ => Err(NO_LINE),

@@ -72,14 +72,14 @@ impl Entry {
     /// hosts up to the next space, and a key's line. White space at the end is cut off, and a `#`
     /// is a character like others.
     ///
-    /// Out of memory aside, it is refused exactly where the line is no entry: `FormatEncoding` for
-    /// another marker or a space that is missing, and else the refusals of
-    /// `HostPatterns::from_text` and then of `PublicKey::from_openssh`.
+    /// Unless memory runs out, it fails exactly if the line is no entry: `FormatEncoding` for
+    /// another marker or a space that is missing, and else the errors of `HostPatterns::from_text`
+    /// and then of `PublicKey::from_openssh`.
     ///
-    /// A line that is refused says nothing of its hosts. OpenSSH also takes tabs and several spaces
-    /// between the fields, so the line may be a revocation to it: treat an `Err` as no verdict on
-    /// any host, and do not pass over it. A tab in front of the key is part of the hosts here, so
-    /// of such a line OpenSSH may read another key.
+    /// A line that is rejected says nothing of its hosts. OpenSSH also takes tabs and several
+    /// spaces between the fields, so the line may be a revocation to it: treat an `Err` as no
+    /// verdict on any host, and do not pass over it. A tab in front of the key is part of the hosts
+    /// here, so of such a line OpenSSH may read another key.
     pub fn from_line(alloc: Global, line: &str) -> Result<Entry>
         ensures reads { ReadsEntry known_host_of IsKnownHost line.now result }
         ensures fault { RefusesFor HasFault line.now result }
@@ -121,9 +121,8 @@ impl Entry {
     /// The line of the entry: the marker and a space, if there is one, the hosts, a space and the
     /// key's line in its normal form.
     ///
-    /// Exactly where a part of the key is longer than 2^32 - 1 bytes, the answer is `Length`;
-    /// otherwise it is refused only when out of memory. Hosts and comment may hold line ends: see
-    /// `is_one_line`.
+    /// Fails with `Length` exactly if a part of the key is longer than 2^32 - 1 bytes, and
+    /// otherwise only when out of memory. Hosts and comment may hold line ends: see `is_one_line`.
     pub fn to_string(&self, alloc: Global) -> Result<String>
         ensures { MakesEntry (known_host_of self.now).key
             (known_text (known_host_of self.now)) result }
@@ -136,18 +135,18 @@ impl Entry {
         Ok(text)
     }
 
-    /// Whether `to_string` writes one line: no line feed and no carriage return stands in it. Takes
-    /// no memory.
+    /// Whether `to_string` writes one line: no line feed and no carriage return stands in it. Does
+    /// not allocate.
     ///
     /// The hosts and the comment of an entry that was read, and its key's name, may hold line ends.
-    /// So ask before an entry is added to a file: behind a line end stands another entry.
+    /// So ask before an entry is added to a file: after a line end stands another entry.
     pub fn is_one_line(&self) -> bool
         ensures { IsTrue result ↔ IsOneLine (known_text (known_host_of self.now)) }
     {
         self.host_patterns.is_one_line() && self.public_key.is_one_line()
     }
 
-    /// The same in memory of its own. Refused only when out of memory.
+    /// The same in memory of its own. Fails only when out of memory.
     pub fn try_clone(&self, alloc: Global) -> Result<Entry>
         ensures value { IfOk result (λ e. known_host_of e ≡ known_host_of self.now) }
         ensures algorithm { IfOk result (λ e. stored_algorithm (data_of (key_in e))

@@ -12,7 +12,7 @@ use std::alloc::Global;
 /// The port at which a host is known by its bare name.
 const STANDARD_PORT: u16 = 22;
 
-/// The name of a host in known_hosts, in small letters. Refused only when out of memory.
+/// The name of a host in known_hosts, in small letters. Fails only when out of memory.
 pub(crate) fn known_name(alloc: Global, host: &str, port: u16) -> Result<String>
     ensures name { IfOk result (λ s. string_bytes s ≡ known_name host.now port) }
     ensures memory { IfErr result (λ e. e ≡ wide.Memory) }
@@ -62,7 +62,7 @@ fn some_names(patterns: &[Text], name: &[u8]) -> bool
     false
 }
 
-/// Whether a pattern names it, and no negated one refuses it.
+/// Whether a pattern names it, and no negated one rejects it.
 pub(crate) fn are_named(patterns: &[Text], name: &[u8]) -> bool
     ensures { IsTrue result ↔ AreNamed name.now patterns.now }
 {

@@ -34,11 +34,11 @@ pub enum HostPatterns {
 }
 
 impl HostPatterns {
-    /// The hosts of a text: behind `|1|` a salt and a hash in padded Base64 with a `|` between,
-    /// else patterns between commas, a last empty one left out.
+    /// The hosts of a text: after `|1|` a salt and a hash in padded Base64 with a `|` between, else
+    /// patterns between commas, a last empty one left out.
     ///
-    /// Out of memory aside, it is refused exactly where the text is none: `FormatEncoding` where it
-    /// is empty, or has no `|` behind the salt, `Base64` where a word is no canonical Base64, and
+    /// Unless memory runs out, it fails exactly if the text is none: `FormatEncoding` where it is
+    /// empty, or has no `|` after the salt, `Base64` where a word is no canonical Base64, and
     /// `Length` for a hash of other than 20 bytes.
     pub fn from_text(alloc: Global, text: &str) -> Result<HostPatterns>
         ensures reads { ReadsEntry hosts_of IsHosts text.now result }
@@ -53,7 +53,7 @@ impl HostPatterns {
         Ok(HostPatterns::Patterns(patterns_of(alloc, text)?))
     }
 
-    /// The salt and the hash behind the mark.
+    /// The salt and the hash after the mark.
     fn from_hashed(alloc: Global, text: &str) -> Result<HostPatterns>
         ensures { ReadsHashed text.now result }
     {
@@ -72,7 +72,7 @@ impl HostPatterns {
     }
 
     /// The hosts as they are written: patterns joined by commas, or the salt and the hash in Base64
-    /// behind `|1|`. Refused only when out of memory.
+    /// after `|1|`. Fails only when out of memory.
     pub fn to_string(&self, alloc: Global) -> Result<String>
         ensures text { IfOk result (λ s. string_bytes s ≡ hosts_text (hosts_of self.now)) }
         ensures memory { IfErr result (λ e. e ≡ wide.Memory) }
@@ -82,7 +82,7 @@ impl HostPatterns {
         Ok(text)
     }
 
-    /// Adds the hosts as they are written. Refused only when out of memory.
+    /// Adds the hosts as they are written. Fails only when out of memory.
     pub(crate) fn push_to(&self, text: &mut String) -> Result<()>
         ensures text { OnOk result
             (string_bytes text.new ≡ string_bytes text.old ++ hosts_text (hosts_of self.now)) }
@@ -100,8 +100,8 @@ impl HostPatterns {
         }
     }
 
-    /// Whether `to_string` writes one line: no pattern holds a line feed or a carriage return. Takes
-    /// no memory.
+    /// Whether `to_string` writes one line: no pattern holds a line feed or a carriage return. Does
+    /// not allocate.
     pub fn is_one_line(&self) -> bool
         ensures { IsTrue result ↔ IsOneLine (hosts_text (hosts_of self.now)) }
     {
@@ -115,13 +115,13 @@ impl HostPatterns {
     ///
     /// The name that is looked up is the host's in small letters, and at another port than 22 it is
     /// `[host]:port`. In patterns a `*` stands for any characters, a `?` for one, and a letter for
-    /// itself in either case: one of them has to match, and none behind a `!` (ssh_config(5),
+    /// itself in either case: one of them has to match, and none after a `!` (ssh_config(5),
     /// "PATTERNS"). A hashed name is compared with the HMAC of the name under its salt.
     ///
     /// Of a host at another port ssh(1) asks, where nothing is known of it, about the bare name as
     /// well: that is port 22 here.
     ///
-    /// Refused only when out of memory, which the name takes.
+    /// Fails only when out of memory, which the name takes.
     pub fn matches<H: HmacSha1>(
         &self,
         alloc: Global,
@@ -149,7 +149,7 @@ impl HostPatterns {
         }
     }
 
-    /// The same in memory of its own. Refused only when out of memory.
+    /// The same in memory of its own. Fails only when out of memory.
     pub fn try_clone(&self, alloc: Global) -> Result<HostPatterns>
         ensures value { IfOk result (λ h. hosts_of h ≡ hosts_of self.now) }
         ensures memory { IfErr result (λ e. e ≡ wide.Memory) }

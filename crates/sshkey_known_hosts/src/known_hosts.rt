@@ -20,7 +20,7 @@ use std::marker::Model;
 /// The entries of a text: one answer for each, in order, which `Entry::from_line` gives.
 ///
 /// An entry is a line up to its first `#`, without the white space at its end, where something is
-/// left. A line that is refused ends nothing: the next call answers the entry behind it. The text
+/// left. A line that is rejected ends nothing: the next call answers the entry after it. The text
 /// is borrowed, and what an entry keeps is copied.
 ///
 /// Contracts see the list of the entries that are left.
@@ -37,7 +37,7 @@ impl<'a> Model for KnownHosts<'a> {
 }
 
 impl<'a> KnownHosts<'a> {
-    /// The entries of a text. Takes no memory.
+    /// The entries of a text. Does not allocate.
     pub fn new(alloc: Global, text: &'a str) -> KnownHosts<'a>
         ensures { result ≡ entries text.now }
     {
@@ -47,7 +47,7 @@ impl<'a> KnownHosts<'a> {
         }
     }
 
-    /// The entries of a text as OpenSSH reads it. Takes no memory.
+    /// The entries of a text as OpenSSH reads it. Does not allocate.
     pub fn openssh(alloc: Global, text: &'a str) -> OpenSshKnownHosts<'a>
         ensures { result ≡ filled_lines text.now }
     {
@@ -58,8 +58,9 @@ impl<'a> KnownHosts<'a> {
 impl KnownHosts<'_> {
     /// All entries of the text that a file holds, in order.
     ///
-    /// `Io` with the machine's fault where the file could not be read, `Io(InvalidData)` where it
-    /// is not UTF-8, and else the refusal of the first line that is no entry.
+    /// Fails with `Io` and the machine's fault if the file could not be read, with
+    /// `Io(InvalidData)` if it is not UTF-8, and else the refusal of the first line that is no
+    /// entry.
     pub fn read_file<R: Files>(rt: &R, alloc: Global, path: &str) -> Result<Vec<Entry>>
         ensures { ReadsFile known_host_of IsKnownHost HasFault result }
     {

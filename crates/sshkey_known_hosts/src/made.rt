@@ -59,12 +59,12 @@ fn is_read_back_openssh(alloc: Global, line: &str, entry: &Entry) -> Result<bool
 impl Entry {
     /// An entry of these parts, whose line is read back as it is.
     ///
-    /// `FormatEncoding` exactly where it would not be: where `is_one_line` does not hold of it, or
-    /// one of `from_line` and `from_line_openssh` refuses the line that `to_string` writes, or
-    /// reads another entry of it. So patterns with a space, a tab or a comma are refused, no
+    /// Fails with `FormatEncoding` exactly if it would not be: where `is_one_line` does not hold of
+    /// it, or one of `from_line` and `from_line_openssh` rejects the line that `to_string` writes,
+    /// or reads another entry of it. So patterns with a space, a tab or a comma are rejected, no
     /// patterns and an empty one at the end, a first one that begins with a `#`, an `@` or `|1|`, a
-    /// comment with white space at its ends, and a line end anywhere. `Length` where a part of the
-    /// key is longer than 2^32 - 1 bytes; otherwise it is refused only when out of memory.
+    /// comment with white space at its ends, and a line end anywhere. Fails with `Length` if a part
+    /// of the key is longer than 2^32 - 1 bytes; otherwise it fails only when out of memory.
     pub fn new(
         alloc: Global,
         marker: Option<Marker>,

@@ -30,7 +30,7 @@ impl Marker {
     }
 }
 
-/// `FormatEncoding` for any other text. Takes no memory.
+/// Fails with `FormatEncoding` for any other text. Does not allocate.
 impl FromStr for Marker {
     type Err = Error;
 

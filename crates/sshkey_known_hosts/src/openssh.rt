@@ -55,12 +55,12 @@ impl Entry {
     /// a marker, where an `@` stands at the front, the hosts, the name of the key's algorithm and its
     /// padded Base64. All the rest is the comment, a `#` too.
     ///
-    /// Out of memory aside, it is refused exactly where the line is no such entry: `FormatEncoding`
-    /// where a `#` begins it, for another marker and for a second one; then the refusals of
-    /// `HostPatterns::from_text`, and then `Length` where no Base64 stands behind the hosts, or else
-    /// the refusals of `sshkey_fields::read_key_fields`.
+    /// Unless memory runs out, it fails exactly if the line is no such entry: `FormatEncoding`
+    /// where a `#` begins it, for another marker and for a second one; then the errors of
+    /// `HostPatterns::from_text`, and then `Length` where no Base64 stands after the hosts, or else
+    /// the errors of `sshkey_fields::read_key_fields`.
     ///
-    /// A line that is refused says nothing of its hosts: treat an `Err` as no verdict on any host,
+    /// A line that is rejected says nothing of its hosts: treat an `Err` as no verdict on any host,
     /// and do not pass over it.
     pub fn from_line_openssh(alloc: Global, line: &str) -> Result<Entry>
         ensures reads { ReadsEntry known_host_of IsHostLine line.now result }
@@ -86,7 +86,7 @@ impl Entry {
 /// `Entry::from_line_openssh` gives.
 ///
 /// An entry is a line in which something stands besides spaces and tabs, and which no `#` begins
-/// behind these. A line that is refused ends nothing: the next call answers the entry behind it. The
+/// after these. A line that is rejected ends nothing: the next call answers the entry after it. The
 /// text is borrowed, and what an entry keeps is copied.
 ///
 /// Contracts see the list of the lines that are left, without the spaces and tabs at their front.

@@ -18,7 +18,7 @@ fn begins_with_star(pattern: &[u8]) -> bool
     matches!(pattern, [b'*', ..])
 }
 
-/// What is left of a pattern and a name behind the characters at their fronts that stand for one
+/// What is left of a pattern and a name after the characters at their fronts that stand for one
 /// another, up to a star of the pattern.
 fn behind_front<'a>(pattern: &'a [u8], name: &'a [u8]) -> (&'a [u8], &'a [u8])
     ensures goes { GoesOn pattern.now name.now result.0.now result.1.now }
@@ -39,8 +39,8 @@ fn behind_front<'a>(pattern: &'a [u8], name: &'a [u8]) -> (&'a [u8], &'a [u8])
     (rest, left)
 }
 
-/// What is left behind the first place of a name from which the pattern matches up to its next
-/// star, or up to the ends of both.
+/// What is left after the first place of a name from which the pattern matches up to its next star,
+/// or up to the ends of both.
 fn behind_first<'a>(pattern: &'a [u8], name: &'a [u8]) -> Option<(&'a [u8], &'a [u8])>
     ensures { FindsFront pattern.now name.now result }
 {

@@ -157,7 +157,7 @@ fn line_verdict<H: HmacSha1>(
 /// host it is passed over. Then an entry for the host with this key makes it `Trusted`, or else one
 /// with another key `Changed`, and else it is `Unknown`. Of authorities nothing is said here.
 ///
-/// `HostPatterns::matches` says which entries are for a host at a port. Refused only when out of
+/// `HostPatterns::matches` says which entries are for a host at a port. Fails only when out of
 /// memory.
 pub fn judge_key<H: HmacSha1>(
     alloc: Global,
