@@ -4,4 +4,6 @@
 mod certificate;
 pub mod laws;
 
-pub use certificate::{Certificate, is_given, judge_authority_and_time};
+pub use certificate::{
+    Certificate, CertificateRefusal, is_given, judge_authority_and_time, wrong_authority_or_time,
+};
