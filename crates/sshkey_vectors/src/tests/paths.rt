@@ -22,8 +22,8 @@ pub mod authorized_keys {
 /// Certificates.
 pub mod certificate {
     pub use ssh_key::certificate::{
-        Builder, CertType, Certificate, CertificateRef, CertificateRefusal, EndTime, FOREVER, Field,
-        MAX_SECS, Options, OptionsMap, OptionsRef, Texts, TextsRef, ToBeSigned, UnixTime,
+        Builder, CertType, Certificate, CertificateRef, CertificateRefusal, EndTime, FOREVER,
+        Field, MAX_SECS, Options, OptionsMap, OptionsRef, Texts, TextsRef, ToBeSigned, UnixTime,
     };
 }
 
