@@ -1,3 +1,5 @@
 pub use Rattle.sshkey_known_hosts.specs.HostEntries
 pub use Rattle.sshkey_known_hosts.specs.HostFaults
 pub use Rattle.sshkey_known_hosts.specs.OpenSshHosts
+pub use Rattle.sshkey_known_hosts.specs.MadeEntries
+pub use Rattle.sshkey_known_hosts.specs.Verdicts

@@ -82,6 +82,7 @@ pub use sshkey_kinds::laws::compared_sk_ed25519_keys;
 pub use sshkey_known_hosts::laws::equal_hosts;
 pub use sshkey_known_hosts::laws::equal_known_hosts;
 pub use sshkey_known_hosts::laws::equal_markers;
+pub use sshkey_known_hosts::laws::one_verdict;
 pub use sshkey_model::laws::apart;
 pub use sshkey_model::laws::certificate_fields;
 pub use sshkey_model::laws::certificate_fits;
