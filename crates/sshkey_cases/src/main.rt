@@ -11,6 +11,8 @@ mod drawn;
 mod entries;
 mod faulty;
 mod files;
+mod hmac;
+mod hosts;
 mod issued;
 mod keys;
 mod kinds;

@@ -3,8 +3,8 @@
 use crate::bytes::{NO_LINE, part, parts, text};
 use crate::wire::shown;
 use crate::{
-    again, certificates, copies, drawn, entries, faulty, files, issued, keys, kinds, messages,
-    names, narrow, openssh_lines, pairs, privates, signatures, slices, validity, wire,
+    again, certificates, copies, drawn, entries, faulty, files, hosts, issued, keys, kinds,
+    messages, names, narrow, openssh_lines, pairs, privates, signatures, slices, validity, wire,
     without_memory,
 };
 use sshkey_base::{Algorithm, AlgorithmName, EcdsaCurve, Error, HashAlg, Mpint, Result};
@@ -244,6 +244,10 @@ fn answer_of_entries(alloc: Global, question: &str, parts: &[Vec<u8>]) -> Result
         "openssh-host" => openssh_lines::host(alloc, text(parts, 0)?),
         "config-options" => entries::options(alloc, text(parts, 0)?),
         "known-host" => entries::host(alloc, text(parts, 0)?),
+        "hosts-for" => hosts::are_for(alloc, parts),
+        "host-verdict" => hosts::judged(alloc, parts),
+        "host-authorities" => hosts::authorities_of(alloc, parts),
+        "made-host" => hosts::made(alloc, parts),
         "host-patterns" => entries::hosts(alloc, text(parts, 0)?),
         "marker" => entries::marker(alloc, text(parts, 0)?),
         _ => Err(NO_LINE),

@@ -1,0 +1,69 @@
+//! Questions about the hosts that an entry of known_hosts is for, and what is said of their keys.
+
+use crate::bytes::{NO_LINE, text};
+use crate::hmac::Hmac;
+use sshkey_base::{Result, Text};
+use sshkey_known_hosts::{Entry, HostPatterns, Marker, authorities, judge_key};
+use sshkey_public::PublicKey;
+use std::alloc::Global;
+
+/// A port, in decimal.
+fn port_of(parts: &[Vec<u8>], place: usize) -> Result<u16> {
+    text(parts, place)?.parse::<u16>().map_err(|_| NO_LINE)
+}
+
+/// Whether hosts are for a host at a port: `yes` or `no`.
+pub(crate) fn are_for(alloc: Global, parts: &[Vec<u8>]) -> Result<String> {
+    let hosts = HostPatterns::from_text(alloc, text(parts, 0)?)?;
+    let is_for = hosts.matches(alloc, text(parts, 1)?, port_of(parts, 2)?, &Hmac)?;
+    Ok(String::from_str(alloc, if is_for { "yes" } else { "no" })?)
+}
+
+/// The verdict of a text on the key in a line, of a host at a port.
+pub(crate) fn judged(alloc: Global, parts: &[Vec<u8>]) -> Result<String> {
+    let key = PublicKey::from_openssh(alloc, text(parts, 3)?)?;
+    let found = judge_key(
+        alloc,
+        text(parts, 0)?,
+        text(parts, 1)?,
+        port_of(parts, 2)?,
+        key.key_data(),
+        &Hmac,
+    )?;
+    Ok(format!(in alloc; "{found:?}")?)
+}
+
+/// The comments of the keys of a host's authorities, each in brackets.
+pub(crate) fn authorities_of(alloc: Global, parts: &[Vec<u8>]) -> Result<String> {
+    let keys = authorities(
+        alloc,
+        text(parts, 0)?,
+        text(parts, 1)?,
+        port_of(parts, 2)?,
+        &Hmac,
+    )?;
+    let mut shown = String::new(alloc);
+    for key in &keys {
+        let comment = key.comment();
+        shown.push_str(&format!(in alloc; "[{comment}]")?)?;
+    }
+    Ok(shown)
+}
+
+/// The line of an entry of a marker or none, hosts whose patterns are the fourth byte string and
+/// those behind it, and the key of a line, with that comment.
+pub(crate) fn made(alloc: Global, parts: &[Vec<u8>]) -> Result<String> {
+    let marker = match text(parts, 0)? {
+        "" => None,
+        word => Some(word.parse::<Marker>()?),
+    };
+    let mut key = PublicKey::from_openssh(alloc, text(parts, 1)?)?;
+    key.set_comment(String::from_str(alloc, text(parts, 2)?)?);
+    let mut patterns = Vec::new(alloc);
+    for part in parts.iter().skip(3) {
+        let pattern = std::str::from_utf8(part)?;
+        patterns.push(Text::new(String::from_str(alloc, pattern)?))?;
+    }
+    let entry = Entry::new(alloc, marker, HostPatterns::Patterns(patterns), key)?;
+    entry.to_string(alloc)
+}
