@@ -58,8 +58,8 @@ fn line_authority<H: HmacSha1>(
 /// "SSH_KNOWN_HOSTS FILE FORMAT").
 ///
 /// A line that is no entry gives none, and an authority may be revoked by another line: before one
-/// is trusted, ask `judge_key` about its key, and refuse it where that is `Revoked` or `Unreadable`.
-/// Refused only when out of memory.
+/// is trusted, ask `judge_key` about its key, and refuse it where that is `Revoked` or
+/// `Unreadable`. Refused only when out of memory.
 pub fn authorities<H: HmacSha1>(
     alloc: Global,
     text: &str,
