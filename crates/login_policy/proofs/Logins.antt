@@ -1,5 +1,5 @@
 -- What the validation of a certificate decides.
-use Rattle.std.proofs.Common.{◌≡◌, ◌≢◌, ℕ, List, [], ◌∷◌, length, Bool, false, Result, Ok, Err, IfOk, IfErr, inl, inr, subst, sym}
+use Rattle.std.proofs.Common.{◌≡◌, ◌≢◌, ℕ, List, [], ◌∷◌, length, Bool, true, false, Result, Ok, Err, IfOk, IfErr, inl, inr, subst, sym}
 use Rattle.std.specs.Prelude.{◌==◌, All, Contains, String, map, string_bytes}
 use Rattle.ssh_key.specs.base.Acceptance.{AcceptsExactly}
 use Rattle.ssh_key.specs.base.Causes.{NoMemory, cause}
