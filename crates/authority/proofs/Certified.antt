@@ -1,10 +1,11 @@
 -- What a builder that was told of a request signs.
-use Rattle.std.proofs.Common.{◌≡◌, ◌≢◌, ◌∙◌, ℕ, List, [], Bool, Result, Ok, Err, IfOk, IfErr}
+use Rattle.std.proofs.Common.{◌≡◌, ◌≢◌, ◌∙◌, ℕ, List, [], Bool, Result, Ok, Err, IfOk, IfErr, subst}
 use Rattle.std.specs.Prelude.{Option, None, Some, IsNone, IsSome, option_map, string_bytes}
 use Rattle.ssh_key.specs.builder.Builders.{IsValidExactlyIn, RefusesAlways, field_error, no_principals}
 use Rattle.ssh_key.specs.cert.CertificateValues.{certificate_of}
 use Rattle.ssh_key.specs.cert.Signing.{RefusesToSign}
 use Rattle.ssh_key.specs.keys.Keys.{key_of}
+use Rattle.ssh_key.specs.model.Certificates.{SignedFields}
 use Rattle.ssh_key.specs.model.Drafts.{Draft, DraftField, IsSignedDraft, KeyId, Serial, after_step, begun, drafted}
 use Rattle.ssh_key.specs.model.Fingerprints.{fingerprint}
 use Rattle.ssh_key.specs.model.Keys.{Key}
@@ -43,4 +44,4 @@ certified accepts authority refuses r serial nonce d is (Ok c) unnamed signed va
     }
 certified accepts authority refuses r serial nonce d is (Err e) unnamed signed valid refused = λ window some.
     let why = rw is at refused in
-    rw (signed_fields nonce (key_of r.key) serial (string_bytes r.key_id) (names_of r) r.valid_after r.valid_before authority some) at (why (some_names (names_of r) some))
+    subst (λ (s : SignedFields). RefusesToSign refuses s e) (signed_fields nonce (key_of r.key) serial (string_bytes r.key_id) (names_of r) r.valid_after r.valid_before authority some) (why (some_names (names_of r) some))

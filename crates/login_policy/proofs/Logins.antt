@@ -1,5 +1,6 @@
 -- What the validation of a certificate decides.
-use Rattle.std.proofs.Common.{◌≡◌, ◌≢◌, ℕ, List, [], ◌∷◌, length, Bool, false, Result, Ok, Err, IfOk, IfErr, inl, inr, subst, sym}
+use Rattle.std.proofs.Common.{◌≡◌, ◌≢◌, ℕ, List, [], ◌∷◌, length, Bool, true, false, Result, Ok, Err, IfOk, IfErr, inl, inr, subst, sym, arith}
+use Rattle.std.proofs.lemmas.Bool.Decides.{nat_tests}
 use Rattle.std.specs.Prelude.{◌==◌, All, Contains, String, map, string_bytes}
 use Rattle.ssh_key.specs.base.Acceptance.{AcceptsExactly}
 use Rattle.ssh_key.specs.base.Causes.{NoMemory, cause}
@@ -34,7 +35,9 @@ lets_in accepts given t user offered c names users own known is some (Err e) jud
 
 pub nobody : {Y : Type 0} (names : List (String Y)) (listed : List (List ℕ)) → map string_bytes names ≡ listed → (length names == 0) ≡ true → listed ≡ []
 nobody [] listed is none = sym is
-nobody (n ∷ names) listed is none = absurd cc
+nobody (n ∷ names) listed is none =
+    let zero : length (n ∷ names) ≡ 0 = grind (arith, nat_tests) in
+    absurd (omega (arith, zero))
 
 somebody : {Y : Type 0} (names : List (String Y)) (listed : List (List ℕ)) → map string_bytes names ≡ listed → (length names == 0) ≡ false → listed ≢ []
 somebody [] listed is some = absurd cc

@@ -9,7 +9,7 @@ returns-in_err-check-clause-issued g c =
     rw (p.1, p.2) (inl c.in_err-check.ensures.refused)
 
 pub returns-clause-issued : goal.returns-clause-issued
-returns-clause-issued g c = issued _ _ _ _ c.args.request _ _ c.in_ok-check.ensures.exactly c.certify.result c.certify.ensures
+returns-clause-issued g c = issued _ _ (g.S.SigningKey.refuses c.args.signer.now) _ c.args.request _ _ c.in_ok-check.ensures.exactly c.certify.result c.certify.ensures
 
 pub returns-clause-history : goal.returns-clause-history
-returns-clause-history g c = used _ _ _ c.args.request _ _ _ (search rules) c.certify.result c.certify.ensures
+returns-clause-history g c = used _ _ (g.S.SigningKey.refuses c.args.signer.now) c.args.request _ _ _ (search rules) c.certify.result c.certify.ensures
