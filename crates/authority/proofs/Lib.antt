@@ -1,5 +1,0 @@
-mod Certified
-mod Drafts
-mod Histories
-mod Lists
-mod Requests

@@ -1,2 +1,0 @@
-mod KnownOptions
-mod Logins
