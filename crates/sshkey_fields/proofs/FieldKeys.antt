@@ -16,7 +16,7 @@ use Rattle.sshkey_entries.specs.Fields.{without_blanks, IsField, AreKeyFields, A
 use Rattle.sshkey_entries.proofs.Fields.{same_field, base64_field}
 use Rattle.sshkey_files.specs.Cuts.{CutsField}
 use Rattle.sshkey_keys.specs.Keys.{SpellsKey}
-use Rattle.sshkey_keys.specs.Needs.{NeedsKey}
+use Rattle.sshkey_keys.specs.KeyFormats.{key_format}
 use Rattle.sshkey_public.specs.LineNeeds.{NeedsWord}
 use Rattle.sshkey_public.specs.Lines.{IsWordOf, IsNoWord}
 use Rattle.sshkey_fields.specs.KeyFields.{AreFields, HasKeyFault, NeedsKeyFields}
@@ -96,7 +96,7 @@ module _ (text name behind skipped word rest : List ℕ) (first : CutsField text
     other_name = λ n w r k f is other. refl;
   }
 
-  pub word_needed : NeedsWord NeedsKey word → NeedsKeyFields text
+  pub word_needed : NeedsWord key_format.needs word → NeedsKeyFields text
   word_needed needed = inl (record { name = name; word = word; rest = rest; fields = fields_are; needed = needed })
 
   pub comment_needed : (k : Key) → IsWordOf SpellsKey word k → name ≡ key_name k → (copied : List ℕ) → copied ≡ without_blanks rest → 0 < length copied → NeedsKeyFields text

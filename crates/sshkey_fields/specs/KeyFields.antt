@@ -6,7 +6,7 @@ use Rattle.sshkey_base.specs.declared.error.Error.{Error}
 use Rattle.sshkey_base.specs.declared.error.Error.TheVariants.{AlgorithmUnknown, Encoding}
 use Rattle.sshkey_entries.specs.Fields.{without_blanks, AreKeyFields, AreNoKeyFields}
 use Rattle.sshkey_keys.specs.Keys.{SpellsKey}
-use Rattle.sshkey_keys.specs.Needs.{NeedsKey}
+use Rattle.sshkey_keys.specs.KeyFormats.{key_format}
 use Rattle.sshkey_model.specs.Keys.{Key}
 use Rattle.sshkey_model.specs.Lines.{key_name}
 use Rattle.sshkey_public.specs.LineNeeds.{NeedsWord}
@@ -39,7 +39,7 @@ pub record NeedsFields (text : List ℕ) : Type 0 where
   pub word : List ℕ
   pub rest : List ℕ
   pub fields : AreFields text name word rest
-  pub needed : NeedsWord NeedsKey word
+  pub needed : NeedsWord key_format.needs word
 
 -- The text is a key's fields with a comment, which is not empty.
 pub record HasFieldComment (text : List ℕ) : Type 0 where

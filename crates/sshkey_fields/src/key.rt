@@ -4,7 +4,7 @@ ghost use Rattle.std.specs.Prelude.{◌≡◌, ◌↔◌, ◌<◌, length, IfErr
 ghost use Rattle.sshkey_base.specs.declared.error.Error.TheVariants as wide;
 ghost use Rattle.sshkey_files.specs.Answers.{RefusesFor};
 ghost use Rattle.sshkey_keys.specs.Keys.{key_of, SpellsKey};
-ghost use Rattle.sshkey_keys.specs.Needs.{NeedsKey};
+ghost use Rattle.sshkey_keys.specs.KeyFormats.{key_format};
 ghost use Rattle.sshkey_model.specs.Lines.{key_name};
 ghost use Rattle.sshkey_public.specs.LineNeeds.{AsksWord};
 ghost use Rattle.sshkey_public.specs.Lines.{ReadsWord};
@@ -20,7 +20,7 @@ use std::alloc::Global;
 /// The key that the bytes spell, all of them, whose word in Base64 it is.
 fn read_word(alloc: Global, word: &str) -> Result<KeyData>
     ensures reads { ReadsWord key_of SpellsKey word.now result }
-    ensures asks { AsksWord NeedsKey word.now result }
+    ensures asks { AsksWord key_format.needs word.now result }
 {
     let reader = Base64Reader::new(word)?;
     decode_whole(alloc, reader)

@@ -1,5 +1,5 @@
 use Rattle.std.proofs.lemmas.Result.{err_from_is_err_and}
-use Rattle.sshkey_keys.specs.Needs.{NeedsKey}
+use Rattle.sshkey_keys.specs.KeyFormats.{key_format}
 use Rattle.sshkey_public.specs.KeyBlobs.{keys_stand}
 use Rattle.sshkey_public.proofs.LineNeeds.{word_asks}
 use Rattle.sshkey_public.proofs.ReadLines.{odd_word, word_read}
@@ -15,4 +15,4 @@ pub returns-clause-reads : goal.returns-clause-reads
 returns-clause-reads c = word_read keys_stand _ _ _ c.in_ok-reader.ensures.word c.decode_whole.ensures.accepts
 
 pub returns-clause-asks : goal.returns-clause-asks
-returns-clause-asks c = word_asks NeedsKey _ _ _ c.in_ok-reader.ensures.word c.decode_whole.ensures.asks
+returns-clause-asks c = word_asks key_format.needs _ _ _ c.in_ok-reader.ensures.word c.decode_whole.ensures.asks
