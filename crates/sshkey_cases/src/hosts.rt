@@ -50,20 +50,38 @@ pub(crate) fn authorities_of(alloc: Global, parts: &[Vec<u8>]) -> Result<String>
     Ok(shown)
 }
 
-/// The line of an entry of a marker or none, hosts whose patterns are the fourth byte string and
-/// those behind it, and the key of a line, with that comment.
-pub(crate) fn made(alloc: Global, parts: &[Vec<u8>]) -> Result<String> {
-    let marker = match text(parts, 0)? {
-        "" => None,
-        word => Some(word.parse::<Marker>()?),
-    };
-    let mut key = PublicKey::from_openssh(alloc, text(parts, 1)?)?;
-    key.set_comment(String::from_str(alloc, text(parts, 2)?)?);
+/// A marker, or none for no text.
+fn marker_of(text: &str) -> Result<Option<Marker>> {
+    if text.is_empty() {
+        return Ok(None);
+    }
+    Ok(Some(text.parse::<Marker>()?))
+}
+
+/// The patterns that the fourth byte string is, and those after it.
+fn patterns_of(alloc: Global, parts: &[Vec<u8>]) -> Result<Vec<Text>> {
     let mut patterns = Vec::new(alloc);
     for part in parts.iter().skip(3) {
         let pattern = std::str::from_utf8(part)?;
         patterns.push(Text::new(String::from_str(alloc, pattern)?))?;
     }
-    let entry = Entry::new(alloc, marker, HostPatterns::Patterns(patterns), key)?;
-    entry.to_string(alloc)
+    Ok(patterns)
+}
+
+/// The key of a line, with another comment.
+fn key_with(alloc: Global, line: &str, comment: &str) -> Result<PublicKey> {
+    let comment = String::from_str(alloc, comment)?;
+    let mut key = PublicKey::from_openssh(alloc, line)?;
+    key.set_comment(comment);
+    Ok(key)
+}
+
+/// The line of an entry of a marker or none, hosts whose patterns are the fourth byte string and
+/// those after it, and the key of a line, with that comment.
+pub(crate) fn made(alloc: Global, parts: &[Vec<u8>]) -> Result<String> {
+    let marker = marker_of(text(parts, 0)?)?;
+    let (line, comment) = (text(parts, 1)?, text(parts, 2)?);
+    let patterns = patterns_of(alloc, parts)?;
+    let key = key_with(alloc, line, comment)?;
+    Entry::new(alloc, marker, HostPatterns::Patterns(patterns), key)?.to_string(alloc)
 }
