@@ -1,0 +1,5 @@
+mod Certified
+mod Drafts
+mod Histories
+mod Lists
+mod Requests

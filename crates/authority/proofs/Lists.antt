@@ -1,0 +1,46 @@
+-- Tests of lists, and what they decide.
+use Rattle.std.proofs.Common.{◌≡◌, ◌≢◌, ◌↔◌, ◌⊎◌, ◌∙◌, sym, ℕ, zero, suc, List, [], ◌∷◌, length, Bool, true, false, refl, inl, inr, arith}
+use Rattle.std.specs.Prelude.{◌==◌, All, Contains, String, map, string_bytes, bytes_eq, ◌||◌}
+use Rattle.std.specs.List.{list_any, list_all}
+use Rattle.std.proofs.lemmas.List.Folds.{list_all-map}
+use Rattle.std.proofs.lemmas.List.Sums.{AllPass-from_list_all, list_all-from_AllPass}
+use Rattle.std.proofs.lemmas.Slice.Eq.{bytes_eq-Decides}
+
+-- a test of each element decides `All`
+pub all_passed : {X : Type 0} (p : X → Bool) (P : X → Type 0) → ((x : X) → (p x ≡ true) ↔ P x) → (xs : List X) → (list_all p xs ≡ true) ↔ All P xs
+all_passed p P each xs = (λ h k d lt. (each _).0 (AllPass-from_list_all p xs h k d lt), λ all. list_all-from_AllPass p xs (λ k d lt. (each _).1 (all k d lt)))
+
+-- the same of what the elements are mapped to
+pub all_mapped : {X Y : Type 0} (p : X → Bool) (P : X → Type 0) (f : Y → X) → ((x : X) → (p x ≡ true) ↔ P x) → (ys : List Y) → (list_all (λ y. p (f y)) ys ≡ true) ↔ All P (map f ys)
+all_mapped p P f each ys =
+    let same = list_all-map p f ys in
+    let both = all_passed p P each (map f ys) in
+    (λ h. both.0 (same ∙ h), λ all. sym same ∙ both.1 all)
+
+either : (a b : Bool) → a || b ≡ true → (a ≡ true) ⊎ (b ≡ true)
+either true b e = inl refl
+either false b e = inr e
+
+second : (a b : Bool) → b ≡ true → a || b ≡ true
+second true b e = refl
+second false b e = e
+
+-- one of the texts is that text
+abbrev has : {Y : Type 0} → List ℕ → List (String Y) → Bool
+has name xs = list_any (λ x. bytes_eq name (string_bytes x)) xs
+
+here_or_behind : {Y : Type 0} (name : List ℕ) (x : String Y) (xs : List (String Y)) → (has name xs ≡ true → Contains (map string_bytes xs) name) → (bytes_eq name (string_bytes x) ≡ true) ⊎ (has name xs ≡ true) → Contains (map string_bytes (x ∷ xs)) name
+here_or_behind name x xs rest (inl here) = (0, omega arith, sym ((bytes_eq-Decides _ _).0 here))
+here_or_behind name x xs rest (inr e) = let (k, lt, is) = rest e in (suc k, omega arith, is)
+
+found : {Y : Type 0} (name : List ℕ) (x : String Y) (xs : List (String Y)) → (Contains (map string_bytes xs) name → has name xs ≡ true) → Contains (map string_bytes (x ∷ xs)) name → has name (x ∷ xs) ≡ true
+found name x xs rest (zero, lt, is) = let same : bytes_eq name (string_bytes x) ≡ true = (bytes_eq-Decides _ _).1 (sym is) in rw same refl
+found name x xs rest (suc k, lt, is) = second _ _ (rest (k, omega arith, is))
+
+pub listed : {Y : Type 0} (name : List ℕ) (xs : List (String Y)) → (list_any (λ x. bytes_eq name (string_bytes x)) xs ≡ true) ↔ Contains (map string_bytes xs) name
+listed name [] = (λ e. absurd cc, λ some. absurd (omega (arith, some.1)))
+listed name (x ∷ xs) = (λ e. here_or_behind name x xs (listed name xs).0 (either _ _ e), found name x xs (listed name xs).1)
+
+pub some_mapped : {X Y : Type 0} (f : X → Y) (xs : List X) → (length xs == 0) ≡ false → map f xs ≢ []
+some_mapped f [] some = absurd cc
+some_mapped f (x ∷ xs) some = λ none. absurd cc

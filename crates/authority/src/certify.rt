@@ -1,0 +1,45 @@
+//! How a request is certified.
+
+ghost use Rattle.std.specs.Prelude.{map, string_bytes};
+ghost use Rattle.ssh_key.specs.keys.Keys.{key_of};
+ghost use Rattle.authority.specs.Requests.{CertifiesExactly, NamesEach};
+
+use crate::request::Request;
+use ssh_key::certificate::Builder;
+use ssh_key::{Certificate, Result, SigningKey};
+use std::alloc::Global;
+
+/// The certificate of the request under that serial number.
+pub(crate) fn certify<S: SigningKey>(
+    alloc: Global,
+    request: Request,
+    serial: u64,
+    nonce: Vec<u8>,
+    signer: &S,
+) -> Result<Certificate>
+    ensures { CertifiesExactly (S.Raw.accepts (S.raw_of signer.now))
+        (key_of (S.public_of signer.now)) (S.refuses signer.now) request serial nonce.items result }
+{
+    let Request {
+        key,
+        key_id,
+        principals,
+        valid_after,
+        valid_before,
+    } = request;
+    let mut builder = Builder::new(alloc, nonce, key, valid_after, valid_before)?;
+    builder.set_serial(serial)?;
+    builder.set_key_id(key_id)?;
+    add_principals(&mut builder, principals)?;
+    builder.sign(alloc, signer)
+}
+
+/// Names each of the principals. Refused only when out of memory.
+fn add_principals(builder: &mut Builder, principals: Vec<String>) -> Result<()>
+    ensures { NamesEach (map string_bytes principals.items) builder.old result builder.new }
+{
+    for principal in principals {
+        builder.add_valid_principal(principal)?;
+    }
+    Ok(())
+}

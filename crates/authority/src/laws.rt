@@ -1,0 +1,13 @@
+//! What holds of all that an authority gives.
+
+ghost use Rattle.std.specs.Prelude.{ℕ, List, ◌++◌, ◌<◌, length, slice_index};
+ghost use Rattle.authority.specs.Serials.{IsHistory};
+
+/// The histories of calls that follow one another are one history, and in a history each serial
+/// number is above those before it: no two certificates have one.
+pub fn serials()
+    ensures joined { (from between to : ℕ) (first then : List ℕ) → IsHistory from first between →
+        IsHistory between then to → IsHistory from (first ++ then) to }
+    ensures rising { (from to : ℕ) (given : List ℕ) → IsHistory from given to → (i j : ℕ) → i < j →
+        j < length given → slice_index given i < slice_index given j }
+{}

@@ -1,0 +1,18 @@
+//! What is asked of an authority.
+
+use ssh_key::public::KeyData;
+
+/// What is asked for: a certificate for users.
+#[derive(Debug, Drop)]
+pub struct Request {
+    /// The key that is to be certified.
+    pub key: KeyData,
+    /// A text that names whom it is for, for logs.
+    pub key_id: String,
+    /// The users who may log in with it.
+    pub principals: Vec<String>,
+    /// The first second of the window.
+    pub valid_after: u64,
+    /// The second behind the window.
+    pub valid_before: u64,
+}

@@ -1,0 +1,48 @@
+//! Asks an authority.
+
+use crate::signer::Outside;
+use crate::verified::Told;
+use crate::words::{NO_LINE, bytes, names, number};
+use authority::{Authority, Limits, Request};
+use ssh_key::{PublicKey, Result};
+use std::alloc::Global;
+
+/// The line of the certificate that an authority gives, or why it gives none: what may be asked for,
+/// the next serial number, the authority's key, what is asked for, and the nonce.
+pub(crate) fn answer(alloc: Global, words: &[&str], told: &Told) -> Result<String> {
+    let [principals, longest, serial, signer, asked @ ..] = words else {
+        return Err(NO_LINE);
+    };
+    let limits = Limits {
+        principals: names(alloc, principals)?,
+        longest: number(longest)?,
+    };
+    let mut authority = Authority::new(alloc, limits, number(serial)?);
+    let signer = PublicKey::from_openssh(alloc, signer)?;
+    let signer = Outside {
+        key: signer.key_data().try_clone(alloc)?,
+        told,
+    };
+    let [.., nonce] = asked else {
+        return Err(NO_LINE);
+    };
+    let nonce = bytes(alloc, nonce)?;
+    authority
+        .issue(alloc, request(alloc, asked)?, nonce, &signer)?
+        .to_openssh(alloc)
+}
+
+/// What is asked for: the line of a key, the key id, the users and the window.
+fn request(alloc: Global, words: &[&str]) -> Result<Request> {
+    let [key, key_id, principals, valid_after, valid_before, _] = words else {
+        return Err(NO_LINE);
+    };
+    let key = PublicKey::from_openssh(alloc, key)?;
+    Ok(Request {
+        key: key.key_data().try_clone(alloc)?,
+        key_id: String::from_str(alloc, key_id)?,
+        principals: names(alloc, principals)?,
+        valid_after: number(valid_after)?,
+        valid_before: number(valid_before)?,
+    })
+}

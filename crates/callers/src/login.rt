@@ -1,0 +1,49 @@
+//! Asks the login policy.
+
+use crate::verified::Told;
+use crate::words::{NO_LINE, fingerprints, number};
+use login_policy::{Grant, log_in};
+use ssh_key::{PublicKey, Result};
+use std::alloc::{AllocError, Global};
+
+/// Whether the user is let in, who is the first word, at the second that is the second one, with the
+/// offered key, by the certificate, and by the authorities with the fingerprints in the last word.
+pub(crate) fn answer(alloc: Global, words: &[&str], told: &Told) -> Result<String> {
+    let [user, seconds, offered, certificate, authorities] = words else {
+        return Err(NO_LINE);
+    };
+    let offered = PublicKey::from_openssh(alloc, offered)?;
+    let grant = log_in(
+        alloc,
+        certificate,
+        user,
+        offered.key_data(),
+        number(seconds)?,
+        &fingerprints(alloc, authorities)?,
+        told,
+    )?;
+    Ok(shown(alloc, &grant)?)
+}
+
+/// What a login is bound to, and what is permitted.
+fn shown(alloc: Global, grant: &Grant) -> std::result::Result<String, AllocError> {
+    let mut text = String::from_str(alloc, "ok")?;
+    if let Some(command) = &grant.force_command {
+        text.push_str(" force-command=")?;
+        text.push_str(command)?;
+    }
+    if let Some(addresses) = &grant.source_address {
+        text.push_str(" source-address=")?;
+        text.push_str(addresses)?;
+    }
+    if grant.verify_required {
+        text.push_str(" verify-required")?;
+    }
+    for (name, value) in grant.extensions.iter() {
+        text.push(' ')?;
+        text.push_str(name)?;
+        text.push('=')?;
+        text.push_str(value)?;
+    }
+    Ok(text)
+}

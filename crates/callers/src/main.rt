@@ -1,0 +1,53 @@
+//! Asks the callers of `ssh_key` that stand beside this crate, line by line.
+//!
+//! A line is a question and what it is about, with a tab between; its answer is written on a line.
+//! Comments and empty lines are written as they are. A line `verified` tells of a signature that
+//! another program has verified: those, and no others, are accepted in the lines behind it.
+#![tactic(auto)]
+
+mod issue;
+mod login;
+mod signer;
+mod verified;
+mod words;
+
+use ssh_key::Result;
+use std::alloc::Global;
+use std::io::{self, BufRead, BufReader, Write};
+use verified::{Told, read_verified};
+use words::NO_LINE;
+
+fn main(rt: HostRuntime) -> io::Result<()> {
+    let alloc = rt.alloc();
+    let mut output = io::writer(&rt);
+    let mut told = Told::new(alloc);
+    for line in BufReader::new(alloc, rt.reader())?.lines(alloc) {
+        let line = line?;
+        if line.is_empty() || line.starts_with('#') {
+            writeln!(output, "{line}")?;
+            continue;
+        }
+        match answer(alloc, &line, &mut told) {
+            Ok(answer) => writeln!(output, "{answer}")?,
+            Err(error) => writeln!(output, "refused: {error}")?,
+        }
+    }
+    Ok(())
+}
+
+/// The answer to a line.
+fn answer(alloc: Global, line: &str, told: &mut Told) -> Result<String> {
+    let words = line.split('\t').collect::<Vec<&str>>(alloc)?;
+    match words.as_slice() {
+        [question, words @ ..] => match *question {
+            "verified" => {
+                told.add(read_verified(alloc, words)?)?;
+                Ok(String::from_str(alloc, "told")?)
+            }
+            "issue" => issue::answer(alloc, words, told),
+            "login" => login::answer(alloc, words, told),
+            _ => Err(NO_LINE),
+        },
+        [] => Err(NO_LINE),
+    }
+}

@@ -1,0 +1,123 @@
+//! A verifier without mathematics: it is told which signatures another program has verified.
+
+ghost use Rattle.std.specs.Prelude.{◌≡◌};
+ghost use Rattle.std.specs.List.{list_any};
+ghost use Rattle.ssh_key.specs.base.Names.{algorithm_of};
+ghost use Rattle.ssh_key.specs.keys.Keys.{key_of};
+ghost use Rattle.callers.specs.Told.{is_about, same_key};
+
+use crate::words::{NO_LINE, bytes};
+use ssh_key::public::KeyData;
+use ssh_key::{Algorithm, PublicKey, RawVerifier, Result, Signature};
+use std::alloc::{AllocError, Global};
+
+/// A signature that another program has verified.
+#[derive(Debug, Drop)]
+pub(crate) struct Verified {
+    /// By which algorithm.
+    pub algorithm: Algorithm,
+    /// Under which key.
+    pub key: KeyData,
+    /// Of what.
+    pub message: Vec<u8>,
+    /// Its bytes, without the name of the algorithm.
+    pub signature: Vec<u8>,
+}
+
+/// Accepts the signatures that it was told of, and no others.
+#[derive(Debug, Drop)]
+pub(crate) struct Told(Vec<Verified>);
+
+impl Told {
+    /// One that was told of none. Takes no memory.
+    pub(crate) fn new(alloc: Global) -> Told {
+        Told(Vec::new(alloc))
+    }
+
+    /// Tells of one more. Refused only when out of memory.
+    pub(crate) fn add(&mut self, verified: Verified) -> Result<()> {
+        Ok(self.0.push(verified)?)
+    }
+
+    /// The signature of that message that it was told of, if there is one.
+    pub(crate) fn signature_of(&self, alloc: Global, message: &[u8]) -> Result<Option<Signature>> {
+        for verified in &self.0 {
+            if verified.message.as_slice() == message {
+                let signature = verified.signature.clone()?;
+                return Ok(Some(Signature::new(verified.algorithm.try_clone(alloc)?, signature)?));
+            }
+        }
+        Ok(None)
+    }
+}
+
+impl RawVerifier for Told {
+    ghost accepts = { λ told q. list_any (λ v. is_about v q) told.0.items };
+
+    fn verify(
+        &self,
+        algorithm: &Algorithm,
+        key: &KeyData,
+        message: &[u8],
+        signature: &[u8],
+    ) -> std::result::Result<bool, AllocError> {
+        Ok(
+            self.0
+                .iter()
+                .any(|it| it.is_about(algorithm, key, message, signature)),
+        )
+    }
+}
+
+impl Verified {
+    fn is_about(
+        &self,
+        algorithm: &Algorithm,
+        key: &KeyData,
+        message: &[u8],
+        signature: &[u8],
+    ) -> bool
+        ensures { result ≡ is_about self.now (record {
+          algorithm = algorithm_of algorithm.now;
+          key = key_of key.now;
+          message = message.now;
+          blob = signature.now;
+        }) }
+    {
+        self.algorithm.as_str() == algorithm.as_str()
+            && is_same(&self.key, key)
+            && self.message.as_slice() == message
+            && self.signature.as_slice() == signature
+    }
+}
+
+/// Whether both are the same Ed25519, ECDSA or RSA key.
+fn is_same(key: &KeyData, other: &KeyData) -> bool
+    ensures { result ≡ same_key (key_of key.now) (key_of other.now) }
+{
+    match (key, other) {
+        (KeyData::Ed25519(key), KeyData::Ed25519(other)) => key.0 == other.0,
+        (KeyData::Ecdsa(key), KeyData::Ecdsa(other)) => {
+            key.is_on(other.curve()) && key.as_sec1_bytes() == other.as_sec1_bytes()
+        }
+        (KeyData::Rsa(key), KeyData::Rsa(other)) => {
+            key.e.as_bytes() == other.e.as_bytes() && key.n.as_bytes() == other.n.as_bytes()
+        }
+        _ => false,
+    }
+}
+
+/// What a line tells: the name of the algorithm, the line of the key, and message and signature in
+/// hexadecimal digits.
+pub(crate) fn read_verified(alloc: Global, words: &[&str]) -> Result<Verified> {
+    let [algorithm, key, message, signature] = words else {
+        return Err(NO_LINE);
+    };
+    let key = PublicKey::from_openssh(alloc, key)?;
+    Ok(Verified {
+        algorithm: Algorithm::new(alloc, algorithm)?,
+        key: key.key_data().try_clone(alloc)?,
+        message: bytes(alloc, message)?,
+        signature: bytes(alloc, signature)?,
+    })
+}

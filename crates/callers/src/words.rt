@@ -1,0 +1,48 @@
+//! How a line spells what a question is about.
+
+use hex::FromHexError;
+use ssh_key::{Error, Fingerprint, Result};
+use std::alloc::Global;
+use std::io::ErrorKind;
+
+/// The answer to a line that is no question.
+pub(crate) const NO_LINE: Error = Error::Io(ErrorKind::InvalidInput);
+
+/// The bytes that the digits spell.
+pub(crate) fn bytes(alloc: Global, digits: &str) -> Result<Vec<u8>> {
+    match hex::decode(alloc, digits) {
+        Ok(bytes) => Ok(bytes),
+        Err(FromHexError::OutOfMemory) => Err(Error::Memory),
+        Err(_) => Err(NO_LINE),
+    }
+}
+
+/// The number that the digits spell.
+pub(crate) fn number(digits: &str) -> Result<u64> {
+    match digits.parse::<u64>() {
+        Ok(number) => Ok(number),
+        Err(_) => Err(NO_LINE),
+    }
+}
+
+/// The fingerprints with spaces between.
+pub(crate) fn fingerprints(alloc: Global, text: &str) -> Result<Vec<Fingerprint>> {
+    let mut found = Vec::new(alloc);
+    for word in text.split(' ') {
+        if !word.is_empty() {
+            found.push(word.parse::<Fingerprint>()?)?;
+        }
+    }
+    Ok(found)
+}
+
+/// The names with commas between.
+pub(crate) fn names(alloc: Global, text: &str) -> Result<Vec<String>> {
+    let mut found = Vec::new(alloc);
+    for word in text.split(',') {
+        if !word.is_empty() {
+            found.push(String::from_str(alloc, word)?)?;
+        }
+    }
+    Ok(found)
+}

@@ -1,0 +1,2 @@
+mod KnownOptions
+mod Logins

@@ -1,0 +1,64 @@
+-- Who may log in with a certificate, and what the login is bound to (PROTOCOL.certkeys; sshd_config(5), TrustedUserCAKeys).
+use Rattle.std.specs.Prelude.{◌≡◌, ◌≢◌, ◌⊎◌, ℕ, List, [], Bool, All, Contains, Some, Result, Ok, Err, is_some, option_map, string_bytes}
+use Rattle.ssh_key.specs.cert.CertificateReaders.{SpellsCertificate}
+use Rattle.ssh_key.specs.cert.Validity.{refusal_error}
+use Rattle.ssh_key.specs.model.Certificates.{Certificate, User}
+use Rattle.ssh_key.specs.model.Fingerprints.{Fingerprint}
+use Rattle.ssh_key.specs.model.Keys.{Key}
+use Rattle.ssh_key.specs.model.Lines.{IsCertificateLine, IsNoLine, name_of_certificate}
+use Rattle.ssh_key.specs.model.OptionMaps.{value_of}
+use Rattle.ssh_key.specs.model.Refusals.{first_refusal_for}
+use Rattle.ssh_key.specs.model.Validity.{IsValid}
+use Rattle.ssh_key.specs.model.Verification.{Question}
+use Rattle.ssh_key.specs.options.OptionMaps.{options_of}
+use Rattle.ssh_key.specs.types.Error.{Error}
+use Rattle.ssh_key.specs.types.Error.TheVariants.{CertificateFieldInvalid, Memory}
+use Rattle.ssh_key.specs.types.certificate.Field.{Field}
+use Rattle.ssh_key.specs.types.certificate.Field.TheVariants as field
+use Rattle.login_policy.specs.KnownOptions.{IsKnown}
+use Rattle.login_policy.specs.KnownOptions as options
+use Rattle.login_policy.specs.declared.grant.Grant.{Grant}
+
+-- The certificate lets the user in who holds the offered key: it is for users, of that very key, lists the user, has only critical options that are known, and is valid at that time by one of the authorities.
+pub record LetsIn (accepts : Question → Bool) (authorities : List Fingerprint) (t : ℕ) (user : List ℕ) (offered : Key) (c : Certificate) : Type 0 where
+  pub for_users : c.signed.certificate_type ≡ User
+  pub own_key : c.signed.key ≡ offered
+  pub known : All IsKnown c.signed.critical_options
+  pub listed : Contains c.signed.valid_principals user
+  pub valid : IsValid accepts authorities t c
+
+-- The grant says what the certificate's options do.
+pub record IsGrantOf (c : Certificate) (g : Grant) : Type 0 where
+  pub force_command : option_map string_bytes g.force_command ≡ value_of options.force_command c.signed.critical_options
+  pub source_address : option_map string_bytes g.source_address ≡ value_of options.source_address c.signed.critical_options
+  pub verify_required : g.verify_required ≡ is_some (value_of options.verify_required c.signed.critical_options)
+  pub extensions : options_of g.extensions ≡ c.signed.extensions
+
+-- The text is the line of a certificate that lets the user in.
+pub record IsLogin (accepts : Question → Bool) (authorities : List Fingerprint) (t : ℕ) (user : List ℕ) (offered : Key) (text : List ℕ) : Type 0 where
+  pub certificate : Certificate
+  pub comment : List ℕ
+  pub line : IsCertificateLine text certificate comment
+  pub lets_in : LetsIn accepts authorities t user offered certificate
+
+-- Out of memory aside, Ok exactly if it is, and then with that certificate's grant.
+abbrev pub GrantsExactly : (Question → Bool) → List Fingerprint → ℕ → List ℕ → Key → List ℕ → Result Grant Error → Type 0
+GrantsExactly accepts authorities t user offered text (Ok g) = (login : IsLogin accepts authorities t user offered text) × IsGrantOf login.certificate g
+GrantsExactly accepts authorities t user offered text (Err e) = e ≢ Memory → IsLogin accepts authorities t user offered text → ⊥
+
+-- ---- why a login is refused
+
+abbrev pub invalid : Field → Error
+invalid f = CertificateFieldInvalid f
+
+-- The error says what is wrong with the certificate first.
+pub data Refuses (accepts : Question → Bool) (authorities : List Fingerprint) (t : ℕ) (user : List ℕ) (offered : Key) (c : Certificate) : Error → Type 0 where
+  ForHosts : c.signed.certificate_type ≢ User → Refuses accepts authorities t user offered c (invalid field.CertType)
+  OtherKey : c.signed.certificate_type ≡ User → c.signed.key ≢ offered → Refuses accepts authorities t user offered c (invalid field.PublicKey)
+  UnknownOption : c.signed.certificate_type ≡ User → c.signed.key ≡ offered → (All IsKnown c.signed.critical_options → ⊥) → Refuses accepts authorities t user offered c (invalid field.CriticalOptions)
+  NobodyListed : c.signed.certificate_type ≡ User → c.signed.key ≡ offered → All IsKnown c.signed.critical_options → c.signed.valid_principals ≡ [] → Refuses accepts authorities t user offered c (invalid field.ValidPrincipals)
+  NotValid : c.signed.certificate_type ≡ User → c.signed.key ≡ offered → All IsKnown c.signed.critical_options → c.signed.valid_principals ≢ [] → (e : Error) → option_map refusal_error (first_refusal_for accepts authorities t user c) ≡ Some e → Refuses accepts authorities t user offered c e
+
+-- The text is the line of no certificate, or of one that is refused for that.
+abbrev pub RefusesLine : (Question → Bool) → List Fingerprint → ℕ → List ℕ → Key → List ℕ → Error → Type 0
+RefusesLine accepts authorities t user offered text e = IsNoLine name_of_certificate SpellsCertificate text ⊎ ((c : Certificate) × (comment : List ℕ) × IsCertificateLine text c comment × Refuses accepts authorities t user offered c e)

@@ -1,0 +1,114 @@
+//! Who may log in.
+
+ghost use Rattle.std.specs.Prelude.{◌≡◌, ◌≢◌, ◌↔◌, IfErr, IsTrue};
+ghost use Rattle.ssh_key.specs.base.Acceptance.{AcceptsExactly};
+ghost use Rattle.ssh_key.specs.cert.CertificateValues.{certificate_of};
+ghost use Rattle.ssh_key.specs.cert.Validity.{fingerprints_of};
+ghost use Rattle.ssh_key.specs.keys.Keys.{key_of};
+ghost use Rattle.ssh_key.specs.model.Certificates.{IsCertificate};
+ghost use Rattle.ssh_key.specs.model.Keys.{IsKey};
+ghost use Rattle.ssh_key.specs.types.Error.TheVariants.{Memory};
+ghost use Rattle.login_policy.specs.Logins.{GrantsExactly, LetsIn, Refuses, RefusesLine};
+
+use crate::grant::{Grant, grant_of};
+use crate::options::are_known;
+use ssh_key::certificate::Field;
+use ssh_key::laws::{compared_keys, lines};
+use ssh_key::public::KeyData;
+use ssh_key::{Certificate, Error, Fingerprint, RawVerifier, Result};
+use std::alloc::Global;
+
+/// Lets a user in who holds the offered key, if the line has a certificate for users of just that
+/// key, which lists the user's name, is valid at that time by one of the authorities with these
+/// fingerprints, and has only critical options that are known here: `force-command`,
+/// `source-address` and `verify-required` (PROTOCOL.certkeys).
+///
+/// Out of memory aside, it refuses all others: with the refusals of `Certificate::from_openssh`;
+/// `CertificateFieldInvalid` with `CertType` for a certificate for hosts, with `PublicKey` for one of
+/// another key, with `CriticalOptions` where an option is not known, and with `ValidPrincipals`
+/// where nobody is listed, who by sshd_config(5), `TrustedUserCAKeys`, is nobody and not everybody;
+/// and with those of `Certificate::validate_principal_at`, in this order.
+///
+/// Whoever calls it has asked the client for a signature under the offered key, and does what the
+/// grant says.
+pub fn log_in<V: RawVerifier>(
+    alloc: Global,
+    line: &str,
+    user: &str,
+    offered: &KeyData,
+    unix_timestamp: u64,
+    authorities: &[Fingerprint],
+    verifier: &V,
+) -> Result<Grant>
+    requires { IsKey (key_of offered.now) }
+    ensures exactly { GrantsExactly (V.accepts verifier.now) (fingerprints_of authorities.now)
+        unix_timestamp user.now (key_of offered.now) line.now result }
+    ensures refused { IfErr result (λ e. e ≢ Memory → RefusesLine (V.accepts verifier.now)
+        (fingerprints_of authorities.now) unix_timestamp user.now (key_of offered.now) line.now e) }
+{
+    lines();
+    let certificate = Certificate::from_openssh(alloc, line)?;
+    check(
+        alloc,
+        &certificate,
+        user,
+        offered,
+        unix_timestamp,
+        authorities,
+        verifier,
+    )?;
+    grant_of(alloc, &certificate)
+}
+
+/// Whether a certificate that was read lets the user in.
+fn check<V: RawVerifier>(
+    alloc: Global,
+    certificate: &Certificate,
+    user: &str,
+    offered: &KeyData,
+    unix_timestamp: u64,
+    authorities: &[Fingerprint],
+    verifier: &V,
+) -> Result<()>
+    requires certificate { IsCertificate (certificate_of certificate.now) }
+    requires offered { IsKey (key_of offered.now) }
+    ensures exactly { AcceptsExactly (LetsIn (V.accepts verifier.now)
+        (fingerprints_of authorities.now) unix_timestamp user.now (key_of offered.now)
+        (certificate_of certificate.now)) result }
+    ensures refused { IfErr result (λ e. e ≢ Memory → Refuses (V.accepts verifier.now)
+        (fingerprints_of authorities.now) unix_timestamp user.now (key_of offered.now)
+        (certificate_of certificate.now) e) }
+{
+    if !certificate.cert_type().is_user() {
+        return Err(Error::CertificateFieldInvalid(Field::CertType));
+    }
+    if !is_key_of(certificate, offered) {
+        return Err(Error::CertificateFieldInvalid(Field::PublicKey));
+    }
+    if !are_known(certificate.critical_options()) {
+        return Err(Error::CertificateFieldInvalid(Field::CriticalOptions));
+    }
+    if certificate.valid_principals().is_empty() {
+        return Err(Error::CertificateFieldInvalid(Field::ValidPrincipals));
+    }
+    certificate.validate_principal_at(alloc, unix_timestamp, user, authorities, verifier)
+}
+
+/// Whether the offered key is the one that is certified.
+fn is_key_of(certificate: &Certificate, offered: &KeyData) -> bool
+    requires certificate { IsCertificate (certificate_of certificate.now) }
+    requires offered { IsKey (key_of offered.now) }
+    ensures { IsTrue result ↔ ((certificate_of certificate.now).signed.key ≡ key_of offered.now) }
+{
+    is_same(certificate.public_key(), offered)
+}
+
+/// Whether both are the same key.
+fn is_same(key: &KeyData, other: &KeyData) -> bool
+    requires key { IsKey (key_of key.now) }
+    requires other { IsKey (key_of other.now) }
+    ensures { IsTrue result ↔ (key_of key.now ≡ key_of other.now) }
+{
+    compared_keys();
+    key == other
+}
