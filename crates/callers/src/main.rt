@@ -5,6 +5,7 @@
 //! another program has verified: those, and no others, are accepted in the lines behind it.
 #![tactic(auto)]
 
+mod agent;
 mod issue;
 mod login;
 mod signer;
@@ -44,6 +45,8 @@ fn answer(alloc: Global, line: &str, told: &mut Told) -> Result<String> {
                 told.add(read_verified(alloc, words)?)?;
                 Ok(String::from_str(alloc, "told")?)
             }
+            "agent-request" => agent::request(alloc, words),
+            "agent-response" => agent::response(alloc, words),
             "issue" => issue::answer(alloc, words, told),
             "login" => login::answer(alloc, words, told),
             _ => Err(NO_LINE),
