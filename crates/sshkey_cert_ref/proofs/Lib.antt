@@ -1,3 +1,9 @@
+pub mod ListSteps
+pub mod TextSteps
+pub mod OptionItems
+pub mod OptionSteps
+pub mod OptionLists
+pub mod PlainOptions
 pub mod Boxed
 pub mod Cutting
 pub mod Subjects

@@ -15,7 +15,7 @@ use Rattle.sshkey_base.specs.Stops.{NoOverrun}
 use Rattle.sshkey_format.specs.Terms.{◌then◌, boxed}
 use Rattle.sshkey_keys_ref.specs.KeyDataRef.{key_bytes}
 use Rattle.sshkey_keys_ref.specs.declared.key_data_ref.KeyDataRef.{KeyDataRef}
-use Rattle.sshkey_options_ref.specs.OptionLists.{SpellsOptionString}
+use Rattle.sshkey_cert_ref.specs.OptionLists.{SpellsOptionString}
 use Rattle.sshkey_slices.specs.Slices.{found_or}
 use Rattle.sshkey_to_be_signed.specs.ToBeSignedFormats.{grant_format, window_format}
 

@@ -1,3 +1,7 @@
+pub mod TextLists
+pub mod OptionLists
+pub mod SpelledOptions
+pub mod Views
 pub mod Taking
 pub mod Parts
 pub mod Fields

@@ -17,9 +17,9 @@ use Rattle.sshkey_options.specs.Times.{time_of, end_of}
 use Rattle.sshkey_options.specs.declared.cert_type.CertType.{CertType}
 use Rattle.sshkey_options.specs.declared.end_time.EndTime.{EndTime}
 use Rattle.sshkey_options.specs.declared.unix_time.UnixTime.{UnixTime}
-use Rattle.sshkey_options_ref.specs.Views.{texts_of, spelled_options_of}
-use Rattle.sshkey_options_ref.specs.declared.options_ref.OptionsRef.{OptionsRef}
-use Rattle.sshkey_options_ref.specs.declared.texts_ref.TextsRef.{TextsRef}
+use Rattle.sshkey_cert_ref.specs.Views.{texts_of, spelled_options_of}
+use Rattle.sshkey_cert_ref.specs.declared.options_ref.OptionsRef.{OptionsRef}
+use Rattle.sshkey_cert_ref.specs.declared.texts_ref.TextsRef.{TextsRef}
 use Rattle.sshkey_cert_ref.specs.declared.parts.Parts.{Parts}
 
 -- the name tells that algorithm in certificates

@@ -6,12 +6,13 @@ ghost use Rattle.sshkey_cert_ref.specs.Parts.{AreParts, AreSubject};
 ghost use Rattle.sshkey_cert_ref.specs.Taking.{Cuts, subject_at};
 
 use crate::leaves::{Field, split_name};
+use crate::options_ref::OptionsRef;
 use crate::parts::Parts;
+use crate::texts_ref::TextsRef;
 use sshkey_base::Result;
 use sshkey_format::{ReadFrom, Then, Wide};
 use sshkey_keys_ref::{KeyDataRef, take_body};
 use sshkey_options::{CertType, EndTime, UnixTime};
-use sshkey_options_ref::{OptionsRef, TextsRef};
 use sshkey_slices::split_string;
 
 /// The serial number, the type, the key id, and the principals.

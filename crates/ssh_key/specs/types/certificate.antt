@@ -4,12 +4,12 @@ pub use Rattle.sshkey_cert.specs.declared.certificate.Certificate
 pub use Rattle.sshkey_cert.specs.declared.certificate.refusal.CertificateRefusal
 pub use Rattle.sshkey_cert.specs.declared.key_or_certificate.KeyOrCertificate
 pub use Rattle.sshkey_cert_ref.specs.declared.certificate_ref.CertificateRef
+pub use Rattle.sshkey_cert_ref.specs.declared.options_ref.OptionsRef
+pub use Rattle.sshkey_cert_ref.specs.declared.options_ref.iter.Options
+pub use Rattle.sshkey_cert_ref.specs.declared.texts_ref.TextsRef
+pub use Rattle.sshkey_cert_ref.specs.declared.texts_ref.iter.Texts
 pub use Rattle.sshkey_options.specs.declared.cert_type.CertType
 pub use Rattle.sshkey_options.specs.declared.end_time.EndTime
 pub use Rattle.sshkey_options.specs.declared.options_map.OptionsMap
 pub use Rattle.sshkey_options.specs.declared.unix_time.UnixTime
-pub use Rattle.sshkey_options_ref.specs.declared.options_ref.iter.Options
-pub use Rattle.sshkey_options_ref.specs.declared.options_ref.OptionsRef
-pub use Rattle.sshkey_options_ref.specs.declared.texts_ref.iter.Texts
-pub use Rattle.sshkey_options_ref.specs.declared.texts_ref.TextsRef
 pub use Rattle.sshkey_to_be_signed.specs.declared.to_be_signed.ToBeSigned
