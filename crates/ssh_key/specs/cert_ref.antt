@@ -2,3 +2,4 @@ pub use Rattle.sshkey_cert_ref.specs.Taking
 pub use Rattle.sshkey_cert_ref.specs.Parts
 pub use Rattle.sshkey_cert_ref.specs.Spelled
 pub use Rattle.sshkey_cert_ref.specs.CertificateRef
+pub use Rattle.sshkey_cert_ref.specs.Questions

@@ -3,3 +3,4 @@ pub mod Parts
 pub mod Fields
 pub mod Spelled
 pub mod CertificateRef
+pub mod Questions

@@ -6,4 +6,4 @@ mod leaves;
 mod parts;
 mod walk;
 
-pub use certificate_ref::CertificateRef;
+pub use certificate_ref::{CertificateQuestion, CertificateRef};

@@ -3,6 +3,7 @@ pub use Rattle.sshkey_builder.specs.declared.builder.Builder
 pub use Rattle.sshkey_cert.specs.declared.certificate.Certificate
 pub use Rattle.sshkey_cert.specs.declared.certificate.refusal.CertificateRefusal
 pub use Rattle.sshkey_cert_ref.specs.declared.certificate_ref.CertificateRef
+pub use Rattle.sshkey_cert_ref.specs.declared.certificate_ref.question.CertificateQuestion
 pub use Rattle.sshkey_options.specs.declared.cert_type.CertType
 pub use Rattle.sshkey_options.specs.declared.end_time.EndTime
 pub use Rattle.sshkey_options.specs.declared.options_map.OptionsMap
