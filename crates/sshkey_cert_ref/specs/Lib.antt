@@ -7,3 +7,4 @@ pub mod Parts
 pub mod Fields
 pub mod Spelled
 pub mod CertificateRef
+pub mod Questions

@@ -13,13 +13,17 @@ ghost use Rattle.sshkey_cert_ref.specs.Spelled.{fields_in, spelled_in};
 ghost use Rattle.sshkey_cert_ref.specs.Taking.{Takes};
 
 mod fields;
+mod lent;
 mod owned;
+mod question;
+mod refusal;
 mod signed;
 mod validity;
 
 use crate::leaves::split_signature;
 use crate::parts::Parts;
 use crate::walk::split_parts;
+pub use question::CertificateQuestion;
 use sshkey_base::{Error, Result, encoding};
 use sshkey_keys_ref::SignatureRef;
 

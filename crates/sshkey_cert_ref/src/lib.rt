@@ -9,6 +9,6 @@ mod parts;
 mod texts_ref;
 mod walk;
 
-pub use certificate_ref::CertificateRef;
+pub use certificate_ref::{CertificateQuestion, CertificateRef};
 pub use options_ref::{Options, OptionsRef};
 pub use texts_ref::{Texts, TextsRef};

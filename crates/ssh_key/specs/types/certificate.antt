@@ -8,6 +8,7 @@ pub use Rattle.sshkey_cert_ref.specs.declared.options_ref.OptionsRef
 pub use Rattle.sshkey_cert_ref.specs.declared.options_ref.iter.Options
 pub use Rattle.sshkey_cert_ref.specs.declared.texts_ref.TextsRef
 pub use Rattle.sshkey_cert_ref.specs.declared.texts_ref.iter.Texts
+pub use Rattle.sshkey_cert_ref.specs.declared.certificate_ref.question.CertificateQuestion
 pub use Rattle.sshkey_options.specs.declared.cert_type.CertType
 pub use Rattle.sshkey_options.specs.declared.end_time.EndTime
 pub use Rattle.sshkey_options.specs.declared.options_map.OptionsMap
