@@ -1,3 +1,4 @@
+pub mod BoxedBytes
 pub mod ListSteps
 pub mod TextSteps
 pub mod OptionItems
@@ -5,7 +6,6 @@ pub mod OptionSteps
 pub mod OptionLists
 pub mod PlainOptions
 pub mod Boxed
-pub mod Cutting
 pub mod Subjects
 pub mod Fields
 pub mod Certificates

@@ -1,7 +1,6 @@
 -- Lists of options in the words of the grammar.
 use Rattle.std.proofs.Common.{◌≡◌, ℕ, List, [], Bool, true, Result, Ok, Err, refl, sym, ap, ◌∙◌, subst}
-use Rattle.sshkey_model.specs.Parts.{are_bytes}
-use Rattle.sshkey_model.specs.Reading.{Fault, ◌>>=◌, Whole, checked_at, string_at, list_whole}
+use Rattle.sshkey_model.specs.Reading.{Fault, ◌>>=◌, Whole, checked_at, list_whole}
 use Rattle.sshkey_model.specs.Options.{CertificateOption, Nesting, option_at, firsts, seconds, options_at}
 use Rattle.sshkey_model.proofs.CombinedReaders.{bind_ok}
 use Rattle.sshkey_model.proofs.OptionReaders.{option_list_reads}
@@ -15,7 +14,8 @@ use Rattle.sshkey_cert_ref.specs.declared.options_ref.OptionsRef.{OptionsRef}
 use Rattle.sshkey_cert_ref.specs.OptionLists.{SpellsEachOption, options_in, nestings_in, are_plain, plainness_from}
 use Rattle.sshkey_cert_ref.specs.Views.{bytes_of_options, spelled_options_of}
 use Rattle.sshkey_slices.specs.Slices.{Keeps, is_taken, found_or}
-use Rattle.sshkey_slices.proofs.Fronts.{box_string, answers_err, taken_value}
+use Rattle.sshkey_slices.proofs.Fronts.{answers_err, taken_value}
+use Rattle.sshkey_cert_ref.proofs.BoxedBytes.{bytes_box, box_bytes}
 
 abbrev Pair : Type 0
 Pair = CertificateOption × Nesting
@@ -61,9 +61,9 @@ judged cause b plain h = go (list_whole option_at b) refl h
 
 -- ---- a list in a string
 
-pub options_string : (b : List ℕ) → are_bytes b ≡ true → options_at b ≡ checked_at spelled_from string_at b
+pub options_string : (b : List ℕ) → options_at b ≡ checked_at spelled_from bytes_box b
 unfolding options_at
-options_string b are = rw (box_string (list_whole option_at) b are) (go (string_at b))
+options_string b = rw (box_bytes (list_whole option_at) b) (go (bytes_box b))
   where
     inside : (rest : List ℕ) (found : Result (List Pair) Fault) → ((found >>= with_rest rest) >>= on_value two_lists) ≡ ((found >>= made two_lists) >>= with_rest rest)
     inside rest (Ok xs) = refl
@@ -73,17 +73,13 @@ options_string b are = rw (box_string (list_whole option_at) b are) (go (string_
     go (Ok x) = inside x.1 (list_whole option_at x.0)
     go (Err f) = refl
 
-pub kept_options : {E : Type 0} (cause : E → Cause) (b : List ℕ) (o : OptionsRef) → Keeps bytes_of_options cause (list_whole option_at b) b (Ok o) → AnswersAlways spelled_options_of cause (spelled_from b) (Ok o)
+-- the options of bytes that were kept, or the fault of others
+pub kept_options : {E : Type 0} (cause : E → Cause) (b : List ℕ) (r : Result OptionsRef E) → Keeps bytes_of_options cause (list_whole option_at b) b r → AnswersAlways spelled_options_of cause (spelled_from b) r
 unfolding options_in nestings_in
-kept_options cause b o h = go (list_whole option_at b) refl h
+kept_options {E} cause b r h = go (list_whole option_at b) r refl h
   where
-    go : (found : Result (List Pair) Fault) → list_whole option_at b ≡ found → Keeps bytes_of_options cause found b (Ok o) → AnswersAlways spelled_options_of cause (found >>= made two_lists) (Ok o)
-    go (Ok xs) e h = rw (h, e) refl
-    go (Err f) e h = absurd h
-
-pub options_not_kept : {E : Type 0} (cause : E → Cause) (b : List ℕ) (e : E) → Keeps {X = OptionsRef} bytes_of_options cause (list_whole option_at b) b (Err e) → AnswersAlways spelled_options_of cause (spelled_from b) (Err e)
-options_not_kept cause b e h = go (list_whole option_at b) h
-  where
-    go : (found : Result (List Pair) Fault) → Keeps {X = OptionsRef} bytes_of_options cause found b (Err e) → AnswersAlways spelled_options_of cause (found >>= made two_lists) (Err e)
-    go (Ok xs) h = absurd h
-    go (Err f) h = h
+    go : (found : Result (List Pair) Fault) (r : Result OptionsRef E) → list_whole option_at b ≡ found → Keeps bytes_of_options cause found b r → AnswersAlways spelled_options_of cause (found >>= made two_lists) r
+    go (Ok xs) (Ok o) e h = rw (h, e) refl
+    go (Ok xs) (Err d) e h = absurd h
+    go (Err f) (Ok o) e h = absurd h
+    go (Err f) (Err d) e h = h

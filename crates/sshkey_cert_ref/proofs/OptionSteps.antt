@@ -1,6 +1,5 @@
 -- A list of options is walked again, option by option.
 use Rattle.std.proofs.Common.{◌≡◌, ℕ, ◌<◌, Option, Some, None, List, [], ◌∷◌, ◌++◌, length, Bool, true, false, ◌&&◌, not, Result, Ok, Err, refl, sym, ap, ◌∙◌, subst, option_map, arith}
-use denote.Ref.{Bor}
 use Rattle.sshkey_model.specs.Reading.{FormatEncoding, box_at, list_whole}
 use Rattle.sshkey_model.specs.Parts.{flat}
 use Rattle.sshkey_model.specs.Texts.{text_at}
@@ -10,13 +9,14 @@ use Rattle.sshkey_model.proofs.OptionReaders.{option_reads}
 use Rattle.sshkey_base.specs.declared.error.Error as wide-error
 use Rattle.sshkey_base.specs.Answers.{AnswersAlways}
 use Rattle.sshkey_base.specs.Causes.{cause}
+use Rattle.sshkey_base.specs.Reading.{Refuses}
 use Rattle.sshkey_base.specs.Source.{all_of}
 use Rattle.sshkey_base.proofs.ReadLists.{Collects, collects_more, leaves_less}
 use Rattle.sshkey_cert_ref.specs.declared.options_ref.item.SpelledOption.{SpelledOption}
 use Rattle.sshkey_cert_ref.specs.OptionLists.{options_in, are_plain, plainness_from}
 use Rattle.sshkey_cert_ref.specs.SpelledOptions.{pair_of, nesting}
-use Rattle.sshkey_slices.specs.Slices.{Splits, is_taken}
-use Rattle.sshkey_slices.proofs.Fronts.{answers_ok, answers_err}
+use Rattle.sshkey_keys_ref.specs.Taking.{Takes}
+use Rattle.sshkey_slices.specs.Slices.{is_taken}
 use Rattle.sshkey_cert_ref.proofs.ListSteps.{first_of, empty_list, all_refused, all_taken}
 
 abbrev Pair : Type 0
@@ -44,11 +44,8 @@ option_again before b y e =
 
 -- ---- the first option
 
-abbrev Cut : Option Pair → List ℕ → Result (SpelledOption × Bor (List ℕ)) wide-error.Error → Type 0
-Cut before b r = Splits pair_of cause (option_at before) b r
-
-abbrev both : SpelledOption × Bor (List ℕ) → Pair × List ℕ
-both p = (pair_of p.0, p.1.now)
+abbrev Taken : Option Pair → List ℕ → Result SpelledOption wide-error.Error → List ℕ → Type 0
+Taken before b r rest = Takes pair_of cause (option_at before) b r rest
 
 -- It is the first of the list, and the others stand behind it.
 pub record IsFirstOption (b : List ℕ) (first : CertificateOption) (rest : List ℕ) : Type 0 where
@@ -56,21 +53,19 @@ pub record IsFirstOption (b : List ℕ) (first : CertificateOption) (rest : List
   pub later : is_taken (list_whole option_at rest) ≡ true
   pub shorter : length rest < length b
 
-pub option_first : (b : List ℕ) (p : SpelledOption × Bor (List ℕ)) → 0 < length b → is_taken (list_whole option_at b) ≡ true → Cut None b (Ok p) → IsFirstOption b (pair_of p.0).0 p.1.now
+pub option_first : (b rest : List ℕ) (o : SpelledOption) → 0 < length b → is_taken (list_whole option_at b) ≡ true → Taken None b (Ok o) rest → IsFirstOption b (pair_of o).0 rest
 unfolding options_in
-option_first b p some taken cut =
+option_first b rest o some taken h =
     let f = first_of option_at option_less option_again b some taken in
     let first = f.2 in
-    let e : option_at None b ≡ Ok (pair_of p.0, p.1.now) = answers_ok both cause (option_at None b) p cut in
-    let same : (f.0, f.1) ≡ (pair_of p.0, p.1.now) = ok_is _ _ (sym first.read ∙ e) in
+    let same : (f.0, f.1) ≡ (pair_of o, rest) = ok_is _ _ (sym first.read ∙ h.value) in
     let all : IsFirstOption b f.0.0 f.1 = record { all = ap firsts first.all; later = first.later; shorter = first.shorter } in
     subst (λ (z : Pair × List ℕ). IsFirstOption b z.0.0 z.1) same all
 
-pub option_there : (b : List ℕ) (e : wide-error.Error) → 0 < length b → is_taken (list_whole option_at b) ≡ true → Cut None b (Err e) → ⊥
-option_there b e some taken cut =
+pub option_there : (b : List ℕ) (e : wide-error.Error) → 0 < length b → is_taken (list_whole option_at b) ≡ true → Refuses 0 (cause e) (option_at None b) → ⊥
+option_there b e some taken h =
     let f = first_of option_at option_less option_again b some taken in
-    let first = f.2 in
-    rw first.read at cut
+    absurd (cc (sym h.is ∙ f.2.read))
 
 -- some are left where bytes are
 pub some_options : (b : List ℕ) → 0 < length b → is_taken (list_whole option_at b) ≡ true → options_in b ≡ [] → ⊥
@@ -107,28 +102,20 @@ still plain now_plain nested done x are says is =
     let last : are_plain (x.1 ∷ []) ≡ not nested = ap (λ (n : Nesting). are_plain (n ∷ [])) is ∙ one_plain nested in
     says ∙ rw (are, plain_so_far done x, last) refl
 
-read_option : (before : Option Pair) (b : List ℕ) (p : SpelledOption × Bor (List ℕ)) → Cut before b (Ok p) → option_at before b ≡ Ok (pair_of p.0, p.1.now)
-read_option before b p h = answers_ok both cause (option_at before b) p h
-
-pub walk_less : (before : Option Pair) (rest : List ℕ) (p : SpelledOption × Bor (List ℕ)) → Cut before rest (Ok p) → length p.1.now < length rest
-walk_less before rest p h = option_less before rest (pair_of p.0) p.1.now (read_option before rest p h)
+pub walk_less : (before : Option Pair) (b rest : List ℕ) (o : SpelledOption) → Taken before b (Ok o) rest → length rest < length b
+walk_less before b rest o h = option_less before b (pair_of o) rest h.value
 
 -- one more that is plain, or is not
-pub walk_on : (b rest : List ℕ) (before : Option SpelledOption) (plain now_plain : Bool) (p : SpelledOption × Bor (List ℕ)) → Walks b before plain rest → Cut (option_map pair_of before) rest (Ok p) → now_plain ≡ plain && not p.0.nested → Walks b (Some p.0) now_plain p.1.now
-walk_on b rest before plain now_plain p w h says =
-    let e = read_option (option_map pair_of before) rest p h in
-    record {
-      done = w.done ++ pair_of p.0 ∷ [];
-      are = still plain now_plain p.0.nested w.done (pair_of p.0) w.are says refl;
-      left = collects_more option_at (λ x. x) (all_of b) (all_of rest) (all_of p.1.now) (option_map pair_of before) w.done (pair_of p.0) w.left (record { value = e; missing = refl; outer = refl }) (option_less (option_map pair_of before) rest (pair_of p.0) p.1.now e);
-    }
+pub walk_on : (b left rest : List ℕ) (before : Option SpelledOption) (plain now_plain : Bool) (o : SpelledOption) → Walks b before plain left → Taken (option_map pair_of before) left (Ok o) rest → now_plain ≡ plain && not o.nested → Walks b (Some o) now_plain rest
+walk_on b left rest before plain now_plain o w h says = record {
+  done = w.done ++ pair_of o ∷ [];
+  are = still plain now_plain o.nested w.done (pair_of o) w.are says refl;
+  left = collects_more option_at (λ x. x) (all_of b) (all_of left) (all_of rest) (option_map pair_of before) w.done (pair_of o) w.left (record { value = h.value; missing = refl; outer = refl }) (option_less (option_map pair_of before) left (pair_of o) rest h.value);
+}
 
 -- the next option is refused, and so are all the bytes
-pub walk_refused : (b rest : List ℕ) (before : Option SpelledOption) (plain : Bool) (e : wide-error.Error) → 0 < length rest → Walks b before plain rest → Cut (option_map pair_of before) rest (Err e) → AnswersAlways (λ (p : Bool). p) cause (plainness_from b) (Err e)
-walk_refused b rest before plain e some w h =
-    let f = answers_err both cause (option_at (option_map pair_of before) rest) e h in
-    let all : list_whole option_at b ≡ Err f.0 = all_refused option_at b rest (option_map pair_of before) w.done f.0 some w.left f.1 in
-    rw all f.2
+pub walk_refused : (b left : List ℕ) (before : Option SpelledOption) (plain : Bool) (e : wide-error.Error) → 0 < length left → Walks b before plain left → Refuses 0 (cause e) (option_at (option_map pair_of before) left) → AnswersAlways (λ (p : Bool). p) cause (plainness_from b) (Err e)
+walk_refused b left before plain e some w h = rw (all_refused option_at b left (option_map pair_of before) w.done h.met some w.left h.is) (h.same refl)
 
 pub walk_ends : (b rest : List ℕ) (before : Option SpelledOption) (plain : Bool) → length rest ≡ 0 → Walks b before plain rest → AnswersAlways (λ (p : Bool). p) cause (plainness_from b) (Ok plain)
 walk_ends b rest before plain none w = rw (all_taken option_at b rest (option_map pair_of before) w.done none w.left) w.are

@@ -10,16 +10,17 @@ use Rattle.sshkey_model.proofs.TextReaders.{text_reads, text_list_reads, box_sho
 use Rattle.sshkey_base.specs.declared.encoding.Error.{Error}
 use Rattle.sshkey_base.specs.Answers.{AnswersAlways, Judges}
 use Rattle.sshkey_base.specs.Causes.{Cause, encoding_cause}
-use Rattle.sshkey_base.specs.Reading.{NoSpelling}
+use Rattle.sshkey_base.specs.Reading.{NoSpelling, Refuses}
 use Rattle.sshkey_base.specs.Source.{all_of}
 use Rattle.sshkey_base.specs.TextLists.{text_list_at}
 use Rattle.sshkey_base.proofs.ReadLists.{Collects, collects_more, leaves_less}
 use Rattle.sshkey_cert_ref.specs.TextLists.{SpellsEachText, texts_in}
-use Rattle.sshkey_slices.specs.Slices.{Splits, Keeps, is_taken}
+use Rattle.sshkey_keys_ref.specs.Taking.{Takes}
+use Rattle.sshkey_slices.specs.Slices.{Keeps, is_taken}
 use Rattle.sshkey_cert_ref.specs.Views.{bytes_of_texts, texts_of}
 use Rattle.sshkey_cert_ref.specs.declared.texts_ref.TextsRef.{TextsRef}
 use Rattle.sshkey_base.specs.Lengths.{with_rest}
-use Rattle.sshkey_slices.proofs.Fronts.{answers_ok, answers_err, taken_value}
+use Rattle.sshkey_slices.proofs.Fronts.{taken_value}
 use Rattle.sshkey_cert_ref.proofs.ListSteps.{first_of, empty_list, all_refused, all_taken}
 
 pub text_less : (before : Option (List ℕ)) (b x rest : List ℕ) → text_at b ≡ Ok (x, rest) → length rest < length b
@@ -57,20 +58,19 @@ first_text b some taken =
     let s = text_string b f.0 f.1 first.read in
     (f.0, f.1, record { string = s.0; is = s.1; all = first.all; later = first.later; less = first.shorter })
 
--- the bytes of a string that was split off
-abbrev Cut : List ℕ → Result (Bor (List ℕ) × Bor (List ℕ)) Error → Type 0
-Cut b r = Splits (λ s. s.now) encoding_cause string_at b r
+-- the bytes of a string that was taken
+abbrev Taken : List ℕ → Result (Bor (List ℕ)) Error → List ℕ → Type 0
+Taken b r rest = Takes (λ s. s.now) encoding_cause string_at b r rest
 
-pub text_first : (b : List ℕ) (p : Bor (List ℕ) × Bor (List ℕ)) → 0 < length b → is_taken (text_list_at b) ≡ true → Cut b (Ok p) → IsFirstText b p.0.now p.1.now
-text_first b p some taken cut =
+pub text_first : (b rest : List ℕ) (text : Bor (List ℕ)) → 0 < length b → is_taken (text_list_at b) ≡ true → Taken b (Ok text) rest → IsFirstText b text.now rest
+text_first b rest text some taken h =
     let f = first_text b some taken in
-    let same : (p.0.now, p.1.now) ≡ (f.0, f.1) = rw f.2.string at cut in
-    subst (λ (z : List ℕ × List ℕ). IsFirstText b z.0 z.1) (sym same) f.2
+    subst (λ (z : List ℕ × List ℕ). IsFirstText b z.0 z.1) (ok_is (f.0, f.1) (text.now, rest) (sym f.2.string ∙ h.value)) f.2
 
-pub text_there : (b : List ℕ) (e : Error) → 0 < length b → is_taken (text_list_at b) ≡ true → Cut b (Err e) → ⊥
-text_there b e some taken cut =
+pub text_there : (b : List ℕ) (e : Error) → 0 < length b → is_taken (text_list_at b) ≡ true → Refuses 0 (encoding_cause e) (string_at b) → ⊥
+text_there b e some taken h =
     let f = first_text b some taken in
-    rw f.2.string at cut
+    absurd (cc (sym h.is ∙ f.2.string))
 
 pub no_texts : (b : List ℕ) → length b ≡ 0 → texts_in b ≡ []
 unfolding texts_in
@@ -104,23 +104,19 @@ no_text_list {E} cause b e judged ts s =
 abbrev pub Walks : List ℕ → Option (List ℕ) → List (List ℕ) → List ℕ → Type 0
 Walks b before done rest = Collects (λ _. text_at) (all_of b) before done (all_of rest)
 
-read_text : (b : List ℕ) (p : Bor (List ℕ) × Bor (List ℕ)) → Splits (λ t. t.now) encoding_cause text_at b (Ok p) → text_at b ≡ Ok (p.0.now, p.1.now)
-read_text b p h = answers_ok (λ (q : Bor (List ℕ) × Bor (List ℕ)). (q.0.now, q.1.now)) encoding_cause (text_at b) p h
+-- a text that was taken
+abbrev TakenText : List ℕ → Result (Bor (List ℕ)) Error → List ℕ → Type 0
+TakenText b r rest = Takes (λ t. t.now) encoding_cause text_at b r rest
 
-pub walk_on : (b rest : List ℕ) (before : Option (List ℕ)) (done : List (List ℕ)) (p : Bor (List ℕ) × Bor (List ℕ)) → Walks b before done rest → Splits (λ t. t.now) encoding_cause text_at rest (Ok p) → Walks b (Some p.0.now) (done ++ p.0.now ∷ []) p.1.now
-walk_on b rest before done p c h =
-    let e = read_text rest p h in
-    collects_more (λ _. text_at) (λ x. x) (all_of b) (all_of rest) (all_of p.1.now) before done p.0.now c (record { value = e; missing = refl; outer = refl }) (text_less before rest p.0.now p.1.now e)
+pub walk_on : (b left rest : List ℕ) (before : Option (List ℕ)) (done : List (List ℕ)) (t : Bor (List ℕ)) → Walks b before done left → TakenText left (Ok t) rest → Walks b (Some t.now) (done ++ t.now ∷ []) rest
+walk_on b left rest before done t c h = collects_more (λ _. text_at) (λ x. x) (all_of b) (all_of left) (all_of rest) before done t.now c (record { value = h.value; missing = refl; outer = refl }) (text_less before left t.now rest h.value)
 
-pub walk_less : (rest : List ℕ) (p : Bor (List ℕ) × Bor (List ℕ)) → Splits (λ t. t.now) encoding_cause text_at rest (Ok p) → length p.1.now < length rest
-walk_less rest p h = text_less None rest p.0.now p.1.now (read_text rest p h)
+pub walk_less : (b rest : List ℕ) (t : Bor (List ℕ)) → TakenText b (Ok t) rest → length rest < length b
+walk_less b rest t h = text_less None b t.now rest h.value
 
 -- the next text is refused, and so are all the bytes
-pub walk_refused : (b rest : List ℕ) (before : Option (List ℕ)) (done : List (List ℕ)) (e : Error) → 0 < length rest → Walks b before done rest → Splits {X = Bor (List ℕ)} (λ t. t.now) encoding_cause text_at rest (Err e) → Judges encoding_cause (text_list_at b) (Err e)
-walk_refused b rest before done e some c h =
-    let f = answers_err (λ (q : Bor (List ℕ) × Bor (List ℕ)). (q.0.now, q.1.now)) encoding_cause (text_at rest) e h in
-    let all : text_list_at b ≡ Err f.0 = all_refused (λ _. text_at) b rest before done f.0 some c f.1 in
-    rw all f.2
+pub walk_refused : (b left : List ℕ) (before : Option (List ℕ)) (done : List (List ℕ)) (e : Error) → 0 < length left → Walks b before done left → Refuses 0 (encoding_cause e) (text_at left) → Judges encoding_cause (text_list_at b) (Err e)
+walk_refused b left before done e some c h = rw (all_refused (λ _. text_at) b left before done h.met some c h.is) (h.same refl)
 
 pub walk_ends : (b rest : List ℕ) (before : Option (List ℕ)) (done : List (List ℕ)) → length rest ≡ 0 → Walks b before done rest → Judges encoding_cause (text_list_at b) (Ok tt)
 walk_ends b rest before done none c = rw (all_taken (λ _. text_at) b rest before done none c) refl
@@ -134,11 +130,13 @@ judged_taken cause b h = go (text_list_at b) h
     go (Ok xs) h = refl
     go (Err f) h = absurd h
 
--- the texts of bytes that were kept
-pub kept_texts : {E : Type 0} (cause : E → Cause) (b : List ℕ) (t : TextsRef) → Keeps bytes_of_texts cause (text_list_at b) b (Ok t) → AnswersAlways texts_of cause (text_list_at b) (Ok t)
+-- the texts of bytes that were kept, or the fault of others
+pub kept_texts : {E : Type 0} (cause : E → Cause) (b : List ℕ) (r : Result TextsRef E) → Keeps bytes_of_texts cause (text_list_at b) b r → AnswersAlways texts_of cause (text_list_at b) r
 unfolding texts_in
-kept_texts cause b t h = go (text_list_at b) refl h
+kept_texts {E} cause b r h = go (text_list_at b) r refl h
   where
-    go : (found : Result (List (List ℕ)) Fault) → text_list_at b ≡ found → Keeps bytes_of_texts cause found b (Ok t) → AnswersAlways texts_of cause found (Ok t)
-    go (Ok xs) e h = rw (h, e) refl
-    go (Err f) e h = absurd h
+    go : (found : Result (List (List ℕ)) Fault) (r : Result TextsRef E) → text_list_at b ≡ found → Keeps bytes_of_texts cause found b r → AnswersAlways texts_of cause found r
+    go (Ok xs) (Ok t) e h = rw (h, e) refl
+    go (Ok xs) (Err d) e h = absurd h
+    go (Err f) (Ok t) e h = absurd h
+    go (Err f) (Err d) e h = h

@@ -10,7 +10,7 @@ ghost use Rattle.sshkey_model.specs.Signatures.{signature_at};
 ghost use Rattle.sshkey_slices.specs.Slices.{is_taken};
 ghost use Rattle.sshkey_cert_ref.specs.Parts.{AreParts, IsSignatureIn};
 ghost use Rattle.sshkey_cert_ref.specs.Spelled.{fields_in, spelled_in};
-ghost use Rattle.sshkey_cert_ref.specs.Taking.{Takes};
+ghost use Rattle.sshkey_cert_ref.specs.Taking.{TakesWhole};
 
 mod fields;
 mod lent;
@@ -86,7 +86,7 @@ impl<'a> CertificateRef<'a> {
 
 /// The signature in the string that all the bytes are.
 fn signature_in(bytes: &[u8]) -> Result<SignatureRef<'_>>
-    ensures { Takes IsSignatureIn cause (whole (box_at (whole signature_at)) bytes.now) result }
+    ensures { TakesWhole IsSignatureIn cause (whole (box_at (whole signature_at)) bytes.now) result }
 {
     let (signature, rest) = split_signature(bytes)?;
     if !rest.is_empty() {

@@ -2,10 +2,12 @@
 //! Reading takes no memory.
 #![tactic(auto)]
 
+mod certificate_name;
 mod certificate_ref;
 mod leaves;
 mod options_ref;
 mod parts;
+mod strings;
 mod texts_ref;
 mod walk;
 

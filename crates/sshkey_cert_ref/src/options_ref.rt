@@ -1,6 +1,6 @@
 //! Critical options and extensions.
 
-ghost use Rattle.std.specs.Prelude.{◌≡◌, ◌∷◌, ◌<◌, ◌↔◌, [], true, length, IsTrue, None, option_map};
+ghost use Rattle.std.specs.Prelude.{◌≡◌, ◌∷◌, ◌<◌, ◌↔◌, [], List, true, length, IsTrue, None, option_map};
 ghost use Rattle.sshkey_model.specs.OptionMaps.{value_of};
 ghost use Rattle.sshkey_model.specs.Options.{option_at};
 ghost use Rattle.sshkey_model.specs.Reading.{list_whole};
@@ -13,10 +13,11 @@ ghost use Rattle.sshkey_cert_ref.specs.SpelledOptions.{pair_of};
 mod item;
 mod iter;
 
-use item::{SpelledOption, split_option};
+use crate::strings::take_string;
+use item::{SpelledOption, take_option};
 pub use iter::Options;
-use sshkey_base::Result;
-use sshkey_slices::split_string;
+use sshkey_base::{Error, Result};
+use sshkey_format::ReadFrom;
 
 /// Options of a certificate (PROTOCOL.certkeys): bytes that spell them, one after the other. Each
 /// is the string of a name, and a string that is empty or holds one text; the names rise, by bytes.
@@ -57,8 +58,9 @@ impl<'a> OptionsRef<'a> {
         ensures gives { Splits spelled_options_of cause options_at bytes.now result }
         ensures accepts { AcceptsSplit spelled_options_of SpellsOptionString bytes.now result }
     {
-        let (string, rest) = split_string(bytes)?;
-        Ok((OptionsRef::from_bytes(string)?, rest))
+        let mut rest = bytes;
+        let options = OptionsRef::read_from(&mut rest)?;
+        Ok((options, rest))
     }
 
     /// The bytes of the options, without a length before them all.
@@ -103,6 +105,26 @@ impl<'a> OptionsRef<'a> {
     }
 }
 
+/// Options in a string: the faults of a string, and then those of the options.
+impl<'a> ReadFrom<&'a [u8]> for OptionsRef<'a> {
+    ghost use Rattle.sshkey_model.specs.Options.{CertificateOption, Nesting};
+    ghost use Rattle.sshkey_cert_ref.specs.Fields.{spelled_options_format};
+    ghost use Rattle.sshkey_cert_ref.specs.Views.{spelled_options_of};
+
+    type Error = Error;
+
+    ghost Meaning = { List CertificateOption × List Nesting };
+
+    ghost means = { spelled_options_of };
+
+    ghost format = { spelled_options_format };
+
+    fn read_from(reader: &mut &'a [u8]) -> Result<OptionsRef<'a>> {
+        let string = take_string(reader)?;
+        OptionsRef::from_bytes(string)
+    }
+}
+
 /// Whether all values are plain, where the bytes are options.
 fn check_options(bytes: &[u8]) -> Result<bool>
     ensures { AnswersAlways (λ plain. plain) cause (plainness_from bytes.now) result }
@@ -111,10 +133,9 @@ fn check_options(bytes: &[u8]) -> Result<bool>
     let mut before = None;
     let mut plain = true;
     'reads: while !rest.is_empty() {
-        let (option, behind) = split_option(before, rest)?;
+        let option = take_option(before, &mut rest)?;
         plain &= !option.nested;
         before = Some(option);
-        rest = behind;
     }
     Ok(plain)
 }
@@ -143,8 +164,9 @@ fn first_option(bytes: &[u8]) -> (SpelledOption<'_>, &[u8])
     ensures form { is_taken (list_whole option_at result.1.now) ≡ true }
     ensures shorter { length result.1.now < length bytes.now }
 {
-    match split_option(None, bytes) {
-        Ok(parts) => parts,
+    let mut rest = bytes;
+    match take_option(None, &mut rest) {
+        Ok(option) => (option, rest),
         Err(_) => unreachable!(),
     }
 }

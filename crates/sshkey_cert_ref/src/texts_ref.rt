@@ -11,9 +11,10 @@ ghost use Rattle.sshkey_cert_ref.specs.TextLists.{texts_in};
 
 mod iter;
 
+use crate::strings::take_string;
 pub use iter::Texts;
-use sshkey_base::encoding::Result;
-use sshkey_slices::{split_string, split_text};
+use sshkey_base::encoding::{Error, Result};
+use sshkey_format::ReadFrom;
 
 /// A list of texts: bytes that spell them, each as a string, one after the other (RFC 4251, section
 /// 5). So the valid principals of a certificate stand in their string (PROTOCOL.certkeys).
@@ -52,8 +53,9 @@ impl<'a> TextsRef<'a> {
         ensures gives { Splits texts_of encoding_cause texts_at bytes.now result }
         ensures accepts { AcceptsSplit texts_of SpellsTexts bytes.now result }
     {
-        let (string, rest) = split_string(bytes)?;
-        Ok((TextsRef::from_bytes(string)?, rest))
+        let mut rest = bytes;
+        let texts = TextsRef::read_from(&mut rest)?;
+        Ok((texts, rest))
     }
 
     /// The bytes of the texts, without a length before them all.
@@ -86,14 +88,33 @@ impl<'a> TextsRef<'a> {
     }
 }
 
+/// Texts in a string: the faults of a string, and then those of the texts.
+impl<'a> ReadFrom<&'a [u8]> for TextsRef<'a> {
+    ghost use Rattle.std.specs.Prelude.{ℕ, List};
+    ghost use Rattle.sshkey_base.specs.Formats.{texts_format};
+    ghost use Rattle.sshkey_cert_ref.specs.Views.{texts_of};
+
+    type Error = Error;
+
+    ghost Meaning = { List (List ℕ) };
+
+    ghost means = { texts_of };
+
+    ghost format = { texts_format };
+
+    fn read_from(reader: &mut &'a [u8]) -> Result<TextsRef<'a>> {
+        let string = take_string(reader)?;
+        TextsRef::from_bytes(string)
+    }
+}
+
 /// Whether the bytes are texts.
 fn check_texts(bytes: &[u8]) -> Result<()>
     ensures { Judges encoding_cause (text_list_at bytes.now) result }
 {
     let mut rest = bytes;
     'reads: while !rest.is_empty() {
-        let (_text, behind) = split_text(rest)?;
-        rest = behind;
+        <&str>::read_from(&mut rest)?;
     }
     Ok(())
 }
@@ -123,8 +144,9 @@ fn first_text(bytes: &[u8]) -> (&[u8], &[u8])
     ensures form { is_taken (text_list_at result.1.now) ≡ true }
     ensures shorter { length result.1.now < length bytes.now }
 {
-    match split_string(bytes) {
-        Ok(parts) => parts,
+    let mut rest = bytes;
+    match <&[u8]>::read_from(&mut rest) {
+        Ok(text) => (text, rest),
         Err(_) => unreachable!(),
     }
 }

@@ -7,10 +7,11 @@ ghost use Rattle.sshkey_model.specs.Texts.{text_at};
 ghost use Rattle.sshkey_base.specs.Answers.{AnswersAlways};
 ghost use Rattle.sshkey_base.specs.Causes.{cause, encoding_cause};
 ghost use Rattle.sshkey_cert_ref.specs.SpelledOptions.{pair_of, value_pair_of};
-ghost use Rattle.sshkey_slices.specs.Slices.{Splits};
+ghost use Rattle.sshkey_keys_ref.specs.Taking.{Takes};
 
+use crate::strings::take_string;
 use sshkey_base::{Error, Result, encoding};
-use sshkey_slices::{split_string, split_text};
+use sshkey_format::ReadFrom;
 
 /// An option as it is spelled: its value may be an empty text in its string, in place of nothing.
 #[derive(Clone, Copy)]
@@ -20,15 +21,17 @@ pub(super) struct SpelledOption<'a> {
     pub nested: bool,
 }
 
-/// An option that stands after the one before, and what stands after it.
-pub(super) fn split_option<'a>(
+/// Takes an option that stands after the one before.
+#[tactic(auto, using(sshkey_format::proofs::Walking::walking), unfolding(sshkey_model::specs::Options::option_at))]
+pub(super) fn take_option<'a>(
     before: Option<SpelledOption<'a>>,
-    bytes: &'a [u8],
-) -> Result<(SpelledOption<'a>, &'a [u8])>
-    ensures { Splits pair_of cause (option_at (option_map pair_of before.entry)) bytes.now result }
+    bytes: &mut &'a [u8],
+) -> Result<SpelledOption<'a>>
+    ensures { Takes pair_of cause (option_at (option_map pair_of before.entry))
+        bytes.old.now result bytes.new.now }
 {
-    let (name, behind) = split_text(bytes)?;
-    let ((value, nested), rest) = split_value(behind)?;
+    let name = <&'a str>::read_from(bytes)?;
+    let (value, nested) = take_value(bytes)?;
     let option = SpelledOption {
         name,
         value,
@@ -37,7 +40,7 @@ pub(super) fn split_option<'a>(
     if !may_follow(before, option) {
         return Err(Error::FormatEncoding);
     }
-    Ok((option, rest))
+    Ok(option)
 }
 
 /// Whether the option may stand after that one: its name is above that one's.
@@ -51,12 +54,13 @@ fn may_follow(before: Option<SpelledOption<'_>>, option: SpelledOption<'_>) -> b
     }
 }
 
-/// A value with whether it is an empty text in its string, and what stands after that string.
-fn split_value(bytes: &[u8]) -> encoding::Result<((&str, bool), &[u8])>
-    ensures { Splits value_pair_of encoding_cause (box_at option_value_from) bytes.now result }
+/// Takes a value, and whether it is an empty text in its string.
+fn take_value<'a>(bytes: &mut &'a [u8]) -> encoding::Result<(&'a str, bool)>
+    ensures { Takes value_pair_of encoding_cause (box_at option_value_from)
+        bytes.old.now result bytes.new.now }
 {
-    let (string, rest) = split_string(bytes)?;
-    Ok((value_from(string)?, rest))
+    let string = take_string(bytes)?;
+    value_from(string)
 }
 
 /// The value in a string, and whether it is an empty text there.
@@ -74,7 +78,8 @@ fn value_from(string: &[u8]) -> encoding::Result<(&str, bool)>
 fn whole_text(bytes: &[u8]) -> encoding::Result<&str>
     ensures { AnswersAlways (λ t. t.now) encoding_cause (whole text_at bytes.now) result }
 {
-    let (text, rest) = split_text(bytes)?;
+    let mut rest = bytes;
+    let text = <&str>::read_from(&mut rest)?;
     if !rest.is_empty() {
         let remaining = rest.len();
         return Err(encoding::Error::TrailingData { remaining });

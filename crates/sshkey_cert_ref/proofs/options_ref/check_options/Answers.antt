@@ -12,10 +12,10 @@ returns-in_err-option c =
     rw (p.1, p.2) (walk_refused c.args.bytes.now c.reads.rest.now c.reads.before c.reads.plain _ some c.reads.invariant c.in_err-option.ensures)
 
 pub reads-smaller : goal.reads-smaller
-reads-smaller c = walk_less (option_map pair_of c.reads.before) c.reads.rest.now (c.in_ok-option.option, c.in_ok-option.behind) c.in_ok-option.ensures
+reads-smaller c = walk_less (option_map pair_of c.reads.before) c.reads.rest.now _ c.in_ok-option.option c.in_ok-option.ensures
 
 pub reads-preserved : goal.reads-preserved
-reads-preserved c = walk_on c.args.bytes.now c.reads.rest.now c.reads.before c.reads.plain _ (c.in_ok-option.option, c.in_ok-option.behind) c.reads.invariant c.in_ok-option.ensures refl
+reads-preserved c = walk_on c.args.bytes.now c.reads.rest.now _ c.reads.before c.reads.plain _ c.in_ok-option.option c.reads.invariant c.in_ok-option.ensures refl
 
 pub returns : goal.returns
 returns c = walk_ends c.args.bytes.now c.reads.rest.now c.reads.before c.reads.plain (eqb-true (length c.reads.rest.now) 0 (sym c.is_empty.ensures ∙ c.reads-test.false)) c.reads.invariant

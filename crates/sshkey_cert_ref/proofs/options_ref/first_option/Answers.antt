@@ -5,10 +5,10 @@ pub unreachable-requires : goal.unreachable-requires
 unreachable-requires c = option_there c.args.bytes.now c.in-Err.field-0 c.requires.some c.requires.form c.in-Err.ensures
 
 pub returns-clause-first : goal.returns-clause-first
-returns-clause-first c = (option_first c.args.bytes.now c.in-Ok.parts c.requires.some c.requires.form c.in-Ok.ensures).all
+returns-clause-first c = (option_first c.args.bytes.now _ c.in-Ok.option c.requires.some c.requires.form c.in-Ok.ensures).all
 
 pub returns-clause-form : goal.returns-clause-form
-returns-clause-form c = (option_first c.args.bytes.now c.in-Ok.parts c.requires.some c.requires.form c.in-Ok.ensures).later
+returns-clause-form c = (option_first c.args.bytes.now _ c.in-Ok.option c.requires.some c.requires.form c.in-Ok.ensures).later
 
 pub returns-clause-shorter : goal.returns-clause-shorter
-returns-clause-shorter c = (option_first c.args.bytes.now c.in-Ok.parts c.requires.some c.requires.form c.in-Ok.ensures).shorter
+returns-clause-shorter c = (option_first c.args.bytes.now _ c.in-Ok.option c.requires.some c.requires.form c.in-Ok.ensures).shorter

@@ -4,17 +4,19 @@ use Rattle.std.proofs.lemmas.Result.{err_from_is_err_and}
 use Rattle.sshkey_cert_ref.proofs.TextSteps.{walk_on, walk_less, walk_refused, walk_ends}
 use Rattle.sshkey_cert_ref.proofs.texts_ref.check_texts.Goals as goal
 
-pub returns-in_err-_text : goal.returns-in_err-_text
-returns-in_err-_text c =
+pub returns-in_err-read_from : goal.returns-in_err-read_from
+returns-in_err-read_from c =
     let p = err_from_is_err_and c.from_residual.result c.from_residual.ensures.1 in
     let some : 0 < length c.reads.rest.now = omega (arith, eqb-false (length c.reads.rest.now) 0 (sym c.is_empty.ensures ∙ c.reads-test.true)) in
-    rw (p.1, p.2) (walk_refused c.args.bytes.now c.reads.rest.now c.reads.invariant.0 c.reads.invariant.1 _ some c.reads.invariant.2 c.in_err-_text.ensures.gives)
+    rw (p.1, p.2) (walk_refused c.args.bytes.now c.reads.rest.now c.reads.invariant.0 c.reads.invariant.1 _ some c.reads.invariant.2 c.in_err-read_from.ensures)
 
 pub reads-smaller : goal.reads-smaller
-reads-smaller c = walk_less c.reads.rest.now (c.in_ok-_text._text, c.in_ok-_text.behind) c.in_ok-_text.ensures.gives
+reads-smaller c = walk_less c.reads.rest.now _ c.in_ok-read_from.field-0 c.in_ok-read_from.ensures
 
 pub reads-preserved : goal.reads-preserved
-reads-preserved c = (Some c.in_ok-_text._text.now, c.reads.invariant.1 ++ c.in_ok-_text._text.now ∷ [], walk_on c.args.bytes.now c.reads.rest.now c.reads.invariant.0 c.reads.invariant.1 (c.in_ok-_text._text, c.in_ok-_text.behind) c.reads.invariant.2 c.in_ok-_text.ensures.gives)
+reads-preserved c =
+    let text = c.in_ok-read_from.field-0 in
+    (Some text.now, c.reads.invariant.1 ++ text.now ∷ [], walk_on c.args.bytes.now c.reads.rest.now _ c.reads.invariant.0 c.reads.invariant.1 text c.reads.invariant.2 c.in_ok-read_from.ensures)
 
 pub returns : goal.returns
 returns c = walk_ends c.args.bytes.now c.reads.rest.now c.reads.invariant.0 c.reads.invariant.1 (eqb-true (length c.reads.rest.now) 0 (sym c.is_empty.ensures ∙ c.reads-test.false)) c.reads.invariant.2
