@@ -67,3 +67,8 @@ module _ (hmac : List ℕ → List ℕ → List ℕ) (name : List ℕ) (lines : 
 pub signer_fits : (hmac : List ℕ → List ℕ → List ℕ) (host : List ℕ) (port : ℕ) (k signer : Key) (lines : List (List ℕ)) → NormalFits IsKey HasKeyPlaces key normal_key → IsSaidOfSigned hmac host port k signer lines Trusted → BoxesFit (normal_key signer)
 signer_fits hmac host port k signer lines fits (inl s) = authority_fits hmac _ lines signer fits s.1.2
 signer_fits hmac host port k signer lines fits (inr s) = authority_fits hmac _ lines signer fits s.1.2
+
+-- the same of the keys that a certificate names
+pub said_of_both : (hmac : List ℕ → List ℕ → List ℕ) (host : List ℕ) (port : ℕ) (k signer j by : Key) (lines : List (List ℕ)) (v : Verdict) → k ≡ j → signer ≡ by → IsSaidOfSigned hmac host port k signer lines v → IsSaidOfSigned hmac host port j by lines v
+said_of_both hmac host port k signer j by lines v own signed said =
+    subst (λ (s : Key). IsSaidOfSigned hmac host port j s lines v) signed (subst (λ (x : Key). IsSaidOfSigned hmac host port x signer lines v) own said)

@@ -1,4 +1,4 @@
-use Rattle.std.proofs.Common.{◌≡◌, ℕ, List, ◌<◌, get_or}
+use Rattle.std.proofs.Common.{◌≡◌, ℕ, ◌<◌, get_or}
 use Rattle.ssh_key.specs.keys.Keys.{key_of}
 use Rattle.ssh_key.specs.public.PublicKeys.{public_of}
 use Rattle.ssh_key.specs.types.PublicKey.{PublicKey}
