@@ -1,5 +1,6 @@
 pub mod Acceptance
 pub mod Boxes
+pub mod Chosen
 pub mod CombinedReaders
 pub mod Grammars
 pub mod Judging

@@ -2,6 +2,7 @@
 pub mod model
 pub mod base
 pub mod format
+pub mod counted
 pub mod slices
 pub mod base64
 pub mod kinds

@@ -1,0 +1,3 @@
+pub mod Gathering
+mod Measured
+mod Filled
