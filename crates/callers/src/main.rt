@@ -2,16 +2,20 @@
 //!
 //! A line is a question and what it is about, with a tab between; its answer is written on a line.
 //! Comments and empty lines are written as they are. A line `verified` tells of a signature that
-//! another program has verified: those, and no others, are accepted in the lines behind it.
+//! another program has verified: those, and no others, are accepted in the lines behind it. A line
+//! `hashed` tells of an HMAC-SHA1 that another program has computed.
 #![tactic(auto)]
 
 mod agent;
+mod hashes;
+mod host;
 mod issue;
 mod login;
 mod signer;
 mod verified;
 mod words;
 
+use hashes::{Hashes, read_hashed};
 use ssh_key::Result;
 use std::alloc::Global;
 use std::io::{self, BufRead, BufReader, Write};
@@ -22,13 +26,14 @@ fn main(rt: HostRuntime) -> io::Result<()> {
     let alloc = rt.alloc();
     let mut output = io::writer(&rt);
     let mut told = Told::new(alloc);
+    let mut hashes = Hashes::new(alloc);
     for line in BufReader::new(alloc, rt.reader())?.lines(alloc) {
         let line = line?;
         if line.is_empty() || line.starts_with('#') {
             writeln!(output, "{line}")?;
             continue;
         }
-        match answer(alloc, &line, &mut told) {
+        match answer(alloc, &line, &mut told, &mut hashes) {
             Ok(answer) => writeln!(output, "{answer}")?,
             Err(error) => writeln!(output, "refused: {error}")?,
         }
@@ -37,7 +42,7 @@ fn main(rt: HostRuntime) -> io::Result<()> {
 }
 
 /// The answer to a line.
-fn answer(alloc: Global, line: &str, told: &mut Told) -> Result<String> {
+fn answer(alloc: Global, line: &str, told: &mut Told, hashes: &mut Hashes) -> Result<String> {
     let words = line.split('\t').collect::<Vec<&str>>(alloc)?;
     match words.as_slice() {
         [question, words @ ..] => match *question {
@@ -45,8 +50,14 @@ fn answer(alloc: Global, line: &str, told: &mut Told) -> Result<String> {
                 told.add(read_verified(alloc, words)?)?;
                 Ok(String::from_str(alloc, "told")?)
             }
+            "hashed" => {
+                hashes.add(read_hashed(alloc, words)?)?;
+                Ok(String::from_str(alloc, "told")?)
+            }
             "agent-request" => agent::request(alloc, words),
             "agent-response" => agent::response(alloc, words),
+            "host-key" => host::key(alloc, words, hashes),
+            "host-certificate" => host::certificate(alloc, words, hashes, told),
             "issue" => issue::answer(alloc, words, told),
             "login" => login::answer(alloc, words, told),
             _ => Err(NO_LINE),

@@ -17,6 +17,14 @@ pub(crate) fn bytes(alloc: Global, digits: &str) -> Result<Vec<u8>> {
     }
 }
 
+/// The text that the digits spell.
+pub(crate) fn text(alloc: Global, digits: &str) -> Result<String> {
+    match String::from_utf8(bytes(alloc, digits)?) {
+        Ok(text) => Ok(text),
+        Err(_) => Err(NO_LINE),
+    }
+}
+
 /// The number that the digits spell.
 pub(crate) fn number(digits: &str) -> Result<u64> {
     match digits.parse::<u64>() {

@@ -1,2 +1,1 @@
-mod KnownOptions
 mod Logins

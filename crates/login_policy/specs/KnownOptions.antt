@@ -1,5 +1,5 @@
 -- The critical options for users that the policy knows (PROTOCOL.certkeys).
-use Rattle.std.specs.Prelude.{◌≡◌, ◌⊎◌, ℕ, List, Bool, ◌||◌, bytes_eq, codes}
+use Rattle.std.specs.Prelude.{ℕ, List, [], ◌∷◌, Contains, codes}
 use Rattle.ssh_key.specs.model.Options.{CertificateOption}
 
 abbrev pub force_command : List ℕ
@@ -13,11 +13,4 @@ verify_required = codes "verify-required"
 
 -- one of the three
 abbrev pub IsKnown : CertificateOption → Type 0
-IsKnown o = (o.name ≡ force_command) ⊎ (o.name ≡ source_address) ⊎ (o.name ≡ verify_required)
-
--- the test of it
-abbrev pub is_known_name : List ℕ → Bool
-is_known_name name = bytes_eq name force_command || bytes_eq name source_address || bytes_eq name verify_required
-
-abbrev pub is_known : CertificateOption → Bool
-is_known o = is_known_name o.name
+IsKnown o = Contains (force_command ∷ source_address ∷ verify_required ∷ []) o.name

@@ -1,8 +1,8 @@
 //! The critical options that the policy knows.
 
-ghost use Rattle.std.specs.Prelude.{◌≡◌, ◌↔◌, IsTrue, All};
+ghost use Rattle.std.specs.Prelude.{◌↔◌, IsTrue, All};
 ghost use Rattle.ssh_key.specs.options.OptionMaps.{options_of};
-ghost use Rattle.login_policy.specs.KnownOptions.{IsKnown, is_known_name};
+ghost use Rattle.login_policy.specs.KnownOptions.{IsKnown};
 
 use ssh_key::certificate::OptionsMap;
 
@@ -15,21 +15,9 @@ pub(crate) const SOURCE_ADDRESS: &str = "source-address";
 /// That a security key has to have verified its user.
 pub(crate) const VERIFY_REQUIRED: &str = "verify-required";
 
-/// Whether each of the options is one that the policy knows. Takes no memory.
+/// Whether each of the options is one that the policy knows. Does not allocate.
 pub(crate) fn are_known(options: &OptionsMap) -> bool
     ensures { IsTrue result ↔ All IsKnown (options_of options.now) }
 {
-    for (name, _) in options.iter() {
-        if !is_known(name) {
-            return false;
-        }
-    }
-    true
-}
-
-/// Whether the policy knows options of that name.
-fn is_known(name: &str) -> bool
-    ensures { result ≡ is_known_name name.now }
-{
-    name == FORCE_COMMAND || name == SOURCE_ADDRESS || name == VERIFY_REQUIRED
+    options.names_are_among(&[FORCE_COMMAND, SOURCE_ADDRESS, VERIFY_REQUIRED])
 }

@@ -21,7 +21,6 @@ pub mod known_hosts
 pub mod ciphers
 pub mod private
 pub mod options
-pub mod options_ref
 pub mod to_be_signed
 pub mod cert
 pub mod cert_ref

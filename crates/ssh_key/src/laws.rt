@@ -43,6 +43,7 @@ pub use sshkey_base::laws::equal_encoding_errors;
 pub use sshkey_base::laws::equal_errors;
 pub use sshkey_base::laws::one_front;
 pub use sshkey_base::laws::read_back;
+pub use sshkey_cert::laws::blobs_apart;
 pub use sshkey_cert::laws::compared_certificates;
 pub use sshkey_cert::laws::one_certificate;
 pub use sshkey_ciphers::laws::compared_ciphers;

@@ -2,7 +2,7 @@
 
 use crate::bytes::text;
 use sshkey_base::{Encode, HashAlg, Result, encode_vec};
-use sshkey_cert::Certificate;
+use sshkey_cert::{Certificate, KeyOrCertificate};
 use sshkey_cert_ref::CertificateRef;
 use sshkey_doubles::AcceptAll;
 use sshkey_options::OptionsMap;
@@ -21,6 +21,15 @@ fn algorithm_and_line(alloc: Global, certificate: &Certificate) -> Result<String
     let algorithm = certificate.algorithm(alloc)?;
     let line = certificate.to_openssh(alloc)?;
     Ok(format!(in alloc; "{algorithm}, signed: {line}")?)
+}
+
+/// Whether all the bytes are a key or a certificate, and what is written of it.
+pub(crate) fn key_or_certificate(alloc: Global, bytes: &[u8]) -> Result<String> {
+    let (kind, written) = match &KeyOrCertificate::from_bytes(alloc, bytes)? {
+        KeyOrCertificate::Key(key) => ("key", digits(alloc, key)?),
+        KeyOrCertificate::Certificate(certificate) => ("certificate", digits(alloc, certificate)?),
+    };
+    Ok(format!(in alloc; "{kind} {written}")?)
 }
 
 /// The key, the key of the authority and the signature of the certificate that all the bytes spell,

@@ -203,6 +203,7 @@ fn answer_of_certificates(alloc: Global, question: &str, parts: &[Vec<u8>]) -> R
         "time" => wire::whole::<UnixTime>(alloc, bytes),
         "end-time" => wire::whole::<EndTime>(alloc, bytes),
         "certificate" => wire::whole::<Certificate>(alloc, bytes),
+        "key-or-certificate" => certificates::key_or_certificate(alloc, bytes),
         "certificate-line" => certificates::line(alloc, text(parts, 0)?),
         "options-of-pairs" => certificates::options(alloc, parts),
         "issued" => issued::certificate(alloc, parts),

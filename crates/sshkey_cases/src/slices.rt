@@ -4,9 +4,8 @@
 use crate::bytes::{part, text};
 use crate::signatures;
 use sshkey_base::{HashAlg, Result, encode_vec};
-use sshkey_cert_ref::CertificateRef;
+use sshkey_cert_ref::{CertificateRef, OptionsRef, TextsRef};
 use sshkey_keys_ref::{KeyDataRef, SignatureRef, take_body};
-use sshkey_options_ref::{OptionsRef, TextsRef};
 use std::alloc::Global;
 
 /// Whether all the bytes are a key, and what is written of it, where these are other bytes.

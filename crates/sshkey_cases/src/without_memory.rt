@@ -9,10 +9,10 @@ use sshkey_base::{
     decode_whole,
 };
 use sshkey_base64::{Base64Reader, write_base64};
+use sshkey_cert_ref::{OptionsRef, TextsRef};
 use sshkey_ciphers::{Cipher, KdfAlg};
 use sshkey_keys::{Fingerprint, KeyData};
 use sshkey_keys_ref::{KeyDataRef, SignatureRef};
-use sshkey_options_ref::{OptionsRef, TextsRef};
 use sshkey_pairs::EcdsaPrivateKey;
 use sshkey_public::{PublicKey, write_line};
 use std::alloc::Global;

@@ -6,3 +6,5 @@ pub mod Signing
 pub mod Lines
 pub mod OneLines
 pub mod KeysOfCertificates
+pub mod BlobsApart
+pub mod KeysOrCertificates

@@ -6,3 +6,4 @@ pub mod Validity
 pub mod Signing
 pub mod Lines
 pub mod Comparisons
+pub mod KeysOrCertificates

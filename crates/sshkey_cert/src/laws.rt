@@ -2,6 +2,8 @@
 
 ghost use Rattle.std.specs.Prelude.{◌≡◌, ◌++◌, ℕ, List};
 ghost use Rattle.sshkey_model.specs.Certificates.{Certificate as TheCertificate};
+ghost use Rattle.sshkey_model.specs.Keys.{Key};
+ghost use Rattle.sshkey_keys.specs.Keys.{SpellsKey};
 ghost use Rattle.sshkey_cert.specs.CertificateReaders.{SpellsCertificate};
 ghost use Rattle.sshkey_base.specs.Comparisons.{EqualMeanSame, IsEqualityAmong};
 ghost use Rattle.sshkey_cert.specs.Comparisons.{IsOfKeys, IsOrderOfCertificates, content_of};
@@ -16,6 +18,12 @@ use sshkey_to_be_signed::laws::compared_signed_fields;
 pub fn one_certificate()
     ensures { (c d : TheCertificate) (a b r q : List ℕ) → SpellsCertificate c a
         → SpellsCertificate d b → a ++ r ≡ b ++ q → (c ≡ d) × (a ≡ b) × (r ≡ q) }
+{}
+
+/// No bytes spell a key and a certificate.
+pub fn blobs_apart()
+    ensures { (k : Key) (c : TheCertificate) (bytes : List ℕ) → SpellsKey k bytes
+        → SpellsCertificate c bytes → ⊥ }
 {}
 
 /// Two certificates that are equal mean the same and have one comment, and with well-formed keys

@@ -51,3 +51,7 @@ not_allowed b ps wanted no_ h = go (allows ps wanted) refl
 
 pub is_allowed : (b : Bool) (ps : List (List ℕ)) (wanted : List ℕ) → b ≡ true → (b ≡ true → (ps ≡ []) ⊎ Contains ps wanted) → allows ps wanted ≡ true
 is_allowed b ps wanted yes_ h = allows_it ps wanted (h yes_)
+
+pub allows_is : (b : Bool) (ps : List (List ℕ)) (wanted : List ℕ) → (b ≡ true → (ps ≡ []) ⊎ Contains ps wanted) × ((ps ≡ []) ⊎ Contains ps wanted → b ≡ true) → b ≡ allows ps wanted
+allows_is true ps wanted both = sym (is_allowed true ps wanted refl both.0)
+allows_is false ps wanted both = sym (not_allowed false ps wanted refl both.1)

@@ -12,7 +12,8 @@ use Rattle.sshkey_base.specs.Causes.{Cause}
 use Rattle.sshkey_base.specs.Reading.{Refuses, NoSpelling}
 use Rattle.sshkey_slices.specs.Slices.{Keeps, is_taken}
 use Rattle.sshkey_cert.specs.CertificateReaders.{SpellsCertificate}
-use Rattle.sshkey_cert_ref.specs.Spelled.{spelled_in}
+use Rattle.sshkey_cert_ref.specs.Spelled.{no_certificate, no_choices, spelled_in}
+use Rattle.sshkey_cert_ref.proofs.Subjects.{known}
 
 -- ---- the fields, and then the signature
 
@@ -51,11 +52,8 @@ unfolding spelled_in
 spelled_is b x e = rw e refl
 
 pub taken_is : (b : List ℕ) → is_taken (whole certificate_at b) ≡ true → whole certificate_at b ≡ Ok (spelled_in b)
-taken_is b h = go (whole certificate_at b) refl h
-  where
-    go : (found : Result (Certificate × CertificateChoices) Fault) → whole certificate_at b ≡ found → is_taken found ≡ true → whole certificate_at b ≡ Ok (spelled_in b)
-    go (Ok x) e t = rw (spelled_is b x e) e
-    go (Err f) e t = absurd (cc t)
+unfolding spelled_in
+taken_is b h = known (no_certificate, no_choices) (whole certificate_at b) h
 
 -- what the bytes spell is well-formed, and these are its bytes
 pub record IsSpelledBy (b : List ℕ) (x : Certificate × CertificateChoices) : Type 0 where

@@ -1,5 +1,11 @@
+pub mod BoxedBytes
+pub mod ListSteps
+pub mod TextSteps
+pub mod OptionItems
+pub mod OptionSteps
+pub mod OptionLists
+pub mod PlainOptions
 pub mod Boxed
-pub mod Cutting
 pub mod Subjects
 pub mod Fields
 pub mod Certificates

@@ -1,17 +1,40 @@
 -- The certified key under its name.
-use Rattle.std.proofs.Common.{◌≡◌, ℕ, List, ◌++◌, Ok, sym, ap, ◌∙◌}
+use Rattle.std.proofs.Common.{◌≡◌, ℕ, List, ◌++◌, true, Result, Ok, Err, refl, sym, ap, ◌∙◌}
 use Rattle.std.proofs.lemmas.List.{append_cancel_right}
 use Rattle.sshkey_model.specs.CertificateNames.{certificate_name, certified_from}
 use Rattle.sshkey_model.specs.Keys.{Key, key_algorithm, body, body_at}
 use Rattle.sshkey_model.specs.Names.{Algorithm}
 use Rattle.sshkey_model.specs.Parts.{flat}
+use Rattle.sshkey_model.specs.Reading.{Fault}
 use Rattle.sshkey_model.proofs.CertificateNameReaders.{certified_checks}
 use Rattle.sshkey_model.proofs.CertificateReaders.{certified_plain}
 use Rattle.sshkey_model.proofs.KeyReaders.{body_reads}
+use Rattle.sshkey_base.specs.Answers.{AnswersAlways, Judges}
 use Rattle.sshkey_base.specs.Causes.{Cause}
 use Rattle.sshkey_base.specs.Reading.{Refuses}
 use Rattle.sshkey_base.proofs.Labels.{same_bytes}
 use Rattle.sshkey_keys_ref.specs.CertifiedBodies.{certified_body_at}
+use Rattle.sshkey_slices.specs.Slices.{found_or, is_taken}
+
+-- ---- what was judged
+
+pub known : {Y : Type 0} (none : Y) (found : Result Y Fault) → is_taken found ≡ true → found ≡ Ok (found_or none found)
+known none (Ok y) h = refl
+known none (Err f) h = absurd (cc h)
+
+pub are_judged : {Y E : Type 0} (cause : E → Cause) (found : Result Y Fault) → Judges cause found (Ok tt) → is_taken found ≡ true
+are_judged cause (Ok y) h = refl
+are_judged cause (Err f) h = absurd h
+
+pub is_refused : {X Y E : Type 0} (means : X → Y) (cause : E → Cause) (found : Result Y Fault) (e : E) → Judges cause found (Err e) → AnswersAlways means cause found (Err e)
+is_refused means cause (Ok y) e h = absurd (cc h)
+is_refused means cause (Err f) e h = h
+
+pub is_known : {X Y E : Type 0} (none : Y) (means : X → Y) (cause : E → Cause) (found : Result Y Fault) (x : X) → means x ≡ found_or none found → is_taken found ≡ true → AnswersAlways means cause found (Ok x)
+is_known none means cause (Ok y) x is h = is
+is_known none means cause (Err f) x is h = absurd (cc h)
+
+-- ---- the key under its name
 
 -- a body under the name is one under the algorithm that it tells
 pub certified_body : (name b rest : List ℕ) (a : Algorithm) (k : Key) → certified_from name ≡ Ok a → certified_body_at name b ≡ Ok (k, rest) → body_at a b ≡ Ok (k, rest)

@@ -3,8 +3,10 @@ use Rattle.std.specs.Prelude.{ℕ, List, []}
 use Rattle.sshkey_model.specs.Certificates.{CertificateType}
 use Rattle.sshkey_model.specs.Grammar.{SpellsAs}
 use Rattle.sshkey_model.specs.Keys.{Head, Key, IsKey, HasKeyPlaces, Opaque, Plain, key, key_at}
+use Rattle.sshkey_model.specs.Names.{Dsa}
 use Rattle.sshkey_model.specs.Options.{CertificateOption, Nesting, options_at}
-use Rattle.sshkey_model.specs.Reading.{box_at, whole}
+use Rattle.sshkey_model.specs.Reading.{whole}
+use Rattle.sshkey_model.specs.Signatures.{Signature, signature_at}
 use Rattle.sshkey_model.proofs.Grammars.{grammar}
 use Rattle.sshkey_model.proofs.KeyReaders.{key_reads}
 use Rattle.sshkey_model.proofs.OptionReaders.{options_reads}
@@ -14,8 +16,10 @@ use Rattle.sshkey_base.specs.Needs.{NoNeed}
 use Rattle.sshkey_base.specs.Stops.{NoOverrun}
 use Rattle.sshkey_format.specs.Terms.{◌then◌, boxed}
 use Rattle.sshkey_keys_ref.specs.KeyDataRef.{key_bytes}
+use Rattle.sshkey_keys_ref.specs.SignatureRef.{signature_bytes}
 use Rattle.sshkey_keys_ref.specs.declared.key_data_ref.KeyDataRef.{KeyDataRef}
-use Rattle.sshkey_options_ref.specs.OptionLists.{SpellsOptionString}
+use Rattle.sshkey_keys_ref.specs.declared.signature_ref.SignatureRef.{SignatureRef}
+use Rattle.sshkey_cert_ref.specs.OptionLists.{SpellsOptionString}
 use Rattle.sshkey_slices.specs.Slices.{found_or}
 use Rattle.sshkey_to_be_signed.specs.ToBeSignedFormats.{grant_format, window_format}
 
@@ -37,6 +41,14 @@ no_key = (Opaque [] [], Plain)
 -- the key that the bytes spell, and how its name is spelled there
 abbrev pub spelled_key_of : KeyDataRef → Key × Head
 spelled_key_of r = found_or no_key (whole key_at (key_bytes r))
+
+-- what stands for the signature of bytes that spell none
+abbrev pub no_signature : Signature
+no_signature = record { algorithm = Dsa; blob = [] }
+
+-- the signature that the bytes spell
+abbrev pub spelled_signature_of : SignatureRef → Signature
+spelled_signature_of r = found_or no_signature (whole signature_at (signature_bytes r))
 
 abbrev Grant : Type 0
 Grant = (ℕ × CertificateType) × (List ℕ × List (List ℕ))

@@ -1,5 +1,10 @@
+pub mod TextLists
+pub mod OptionLists
+pub mod SpelledOptions
+pub mod Views
 pub mod Taking
 pub mod Parts
 pub mod Fields
 pub mod Spelled
 pub mod CertificateRef
+pub mod Questions

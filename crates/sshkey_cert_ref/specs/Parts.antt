@@ -1,11 +1,10 @@
 -- Which slices are the parts of which certificate.
-use Rattle.std.specs.Prelude.{◌≡◌, ℕ, List, Ok}
+use Rattle.std.specs.Prelude.{◌≡◌, ℕ, List}
 use denote.Ref.{Bor}
-use Rattle.sshkey_model.specs.CertificateNames.{certificate_name, certified_from}
-use Rattle.sshkey_model.specs.Certificates.{CertificateType, SignedFields, CertificateChoices}
+use Rattle.sshkey_model.specs.CertificateNames.{certificate_name}
+use Rattle.sshkey_model.specs.Certificates.{SignedFields, CertificateChoices}
 use Rattle.sshkey_model.specs.Grammar.{spelled}
 use Rattle.sshkey_model.specs.Keys.{Key, Head, key_algorithm, body, key}
-use Rattle.sshkey_model.specs.Names.{Algorithm}
 use Rattle.sshkey_model.specs.Parts.{flat}
 use Rattle.sshkey_model.specs.Signatures.{Signature, signature}
 use Rattle.sshkey_keys_ref.specs.KeyDataRef.{key_bytes}
@@ -14,17 +13,8 @@ use Rattle.sshkey_keys_ref.specs.declared.key_data_ref.KeyDataRef.{KeyDataRef}
 use Rattle.sshkey_keys_ref.specs.declared.signature_ref.SignatureRef.{SignatureRef}
 use Rattle.sshkey_options.specs.CertTypes.{type_of}
 use Rattle.sshkey_options.specs.Times.{time_of, end_of}
-use Rattle.sshkey_options.specs.declared.cert_type.CertType.{CertType}
-use Rattle.sshkey_options.specs.declared.end_time.EndTime.{EndTime}
-use Rattle.sshkey_options.specs.declared.unix_time.UnixTime.{UnixTime}
-use Rattle.sshkey_options_ref.specs.Views.{texts_of, spelled_options_of}
-use Rattle.sshkey_options_ref.specs.declared.options_ref.OptionsRef.{OptionsRef}
-use Rattle.sshkey_options_ref.specs.declared.texts_ref.TextsRef.{TextsRef}
+use Rattle.sshkey_cert_ref.specs.Views.{texts_of, spelled_options_of}
 use Rattle.sshkey_cert_ref.specs.declared.parts.Parts.{Parts}
-
--- the name tells that algorithm in certificates
-abbrev pub IsName : Bor (List ℕ) → Algorithm → Type 0
-IsName name a = certified_from name.now ≡ Ok a
 
 -- the bytes are those of the key, its name spelled as the choice says
 abbrev pub IsKeyIn : KeyDataRef → Key × Head → Type 0

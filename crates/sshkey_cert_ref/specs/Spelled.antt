@@ -1,8 +1,9 @@
 -- The certificate that bytes spell (PROTOCOL.certkeys).
 use Rattle.std.specs.Prelude.{ℕ, List, []}
+use Rattle.sshkey_model.specs.CertificateNames.{certified_from}
 use Rattle.sshkey_model.specs.Certificates.{Certificate, CertificateChoices, SignedFields, User, certificate_at}
 use Rattle.sshkey_model.specs.Keys.{Opaque, Plain}
-use Rattle.sshkey_model.specs.Names.{Dsa}
+use Rattle.sshkey_model.specs.Names.{Algorithm, Dsa}
 use Rattle.sshkey_model.specs.Reading.{whole}
 use Rattle.sshkey_slices.specs.Slices.{found_or}
 
@@ -23,3 +24,7 @@ spelled_in b = found_or (no_certificate, no_choices) (whole certificate_at b)
 -- all of it before the signature
 abbrev pub fields_in : List ℕ → SignedFields × CertificateChoices
 fields_in b = ((spelled_in b).0.signed, (spelled_in b).1)
+
+-- the algorithm that a name in certificates tells
+abbrev pub certified_in : List ℕ → Algorithm
+certified_in name = found_or Dsa (certified_from name)

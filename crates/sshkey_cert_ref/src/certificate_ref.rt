@@ -10,16 +10,20 @@ ghost use Rattle.sshkey_model.specs.Signatures.{signature_at};
 ghost use Rattle.sshkey_slices.specs.Slices.{is_taken};
 ghost use Rattle.sshkey_cert_ref.specs.Parts.{AreParts, IsSignatureIn};
 ghost use Rattle.sshkey_cert_ref.specs.Spelled.{fields_in, spelled_in};
-ghost use Rattle.sshkey_cert_ref.specs.Taking.{Takes};
+ghost use Rattle.sshkey_cert_ref.specs.Taking.{TakesWhole};
 
 mod fields;
+mod lent;
 mod owned;
+mod question;
+mod refusal;
 mod signed;
 mod validity;
 
 use crate::leaves::split_signature;
 use crate::parts::Parts;
 use crate::walk::split_parts;
+pub use question::CertificateQuestion;
 use sshkey_base::{Error, Result, encoding};
 use sshkey_keys_ref::SignatureRef;
 
@@ -82,7 +86,7 @@ impl<'a> CertificateRef<'a> {
 
 /// The signature in the string that all the bytes are.
 fn signature_in(bytes: &[u8]) -> Result<SignatureRef<'_>>
-    ensures { Takes IsSignatureIn cause (whole (box_at (whole signature_at)) bytes.now) result }
+    ensures { TakesWhole IsSignatureIn cause (whole (box_at (whole signature_at)) bytes.now) result }
 {
     let (signature, rest) = split_signature(bytes)?;
     if !rest.is_empty() {

@@ -1,8 +1,9 @@
 //! The parts of a certificate before its signature.
 
+use crate::options_ref::OptionsRef;
+use crate::texts_ref::TextsRef;
 use sshkey_keys_ref::KeyDataRef;
 use sshkey_options::{CertType, EndTime, UnixTime};
-use sshkey_options_ref::{OptionsRef, TextsRef};
 
 /// All of a certificate before its signature, as parts of its bytes.
 #[derive(Clone, Copy, Debug)]

@@ -3,31 +3,33 @@
 ghost use Rattle.sshkey_base.specs.Causes.{cause};
 ghost use Rattle.sshkey_model.specs.Certificates.{signed_fields_at};
 ghost use Rattle.sshkey_cert_ref.specs.Parts.{AreParts, AreSubject};
-ghost use Rattle.sshkey_cert_ref.specs.Taking.{Cuts, subject_at};
+ghost use Rattle.sshkey_cert_ref.specs.Taking.{Cuts};
+ghost use Rattle.sshkey_to_be_signed.specs.ToBeSignedReaders.{subject_at};
 
-use crate::leaves::{Field, split_name};
+use crate::certificate_name::CertificateName;
+use crate::leaves::{Field, KeyInString};
+use crate::options_ref::OptionsRef;
 use crate::parts::Parts;
+use crate::texts_ref::TextsRef;
 use sshkey_base::Result;
 use sshkey_format::{ReadFrom, Then, Wide};
-use sshkey_keys_ref::{KeyDataRef, take_body};
+use sshkey_keys_ref::take_body;
 use sshkey_options::{CertType, EndTime, UnixTime};
-use sshkey_options_ref::{OptionsRef, TextsRef};
-use sshkey_slices::split_string;
+
+/// The name and the nonce.
+type Opening<'a> = Then<CertificateName<'a>, Wide<&'a [u8]>>;
 
 /// The serial number, the type, the key id, and the principals.
-type Grant<'a> = Then<
-    Then<Wide<u64>, Field<CertType>>,
-    Then<Wide<&'a str>, Wide<Field<TextsRef<'a>>>>,
->;
+type Grant<'a> = Then<Then<Wide<u64>, Field<CertType>>, Then<Wide<&'a str>, Wide<TextsRef<'a>>>>;
 
 /// The two times.
 type Window = Then<Field<UnixTime>, Field<EndTime>>;
 
 /// The critical options and the extensions.
-type Limits<'a> = Then<Field<OptionsRef<'a>>, Field<OptionsRef<'a>>>;
+type Limits<'a> = Then<OptionsRef<'a>, OptionsRef<'a>>;
 
 /// The reserved bytes, and the key that signed.
-type Authority<'a> = Then<Wide<&'a [u8]>, Field<KeyDataRef<'a>>>;
+type Authority<'a> = Then<Wide<&'a [u8]>, KeyInString<'a>>;
 
 /// All fields between the key and the signature.
 type BehindKey<'a> = Then<Grant<'a>, Then<Window, Then<Limits<'a>, Authority<'a>>>>;
@@ -47,11 +49,11 @@ pub(crate) fn split_parts<'a>(bytes: &'a [u8]) -> Result<(Parts<'a>, &'a [u8])>
         serial: serial.0,
         cert_type: cert_type.0,
         key_id: key_id.0,
-        valid_principals: valid_principals.0.0,
+        valid_principals: valid_principals.0,
         valid_after: window.0.0,
         valid_before: window.1.0,
-        critical_options: limits.0.0,
-        extensions: limits.1.0,
+        critical_options: limits.0,
+        extensions: limits.1,
         reserved: authority.0.0,
         signature_key: authority.1.0,
     };
@@ -59,12 +61,11 @@ pub(crate) fn split_parts<'a>(bytes: &'a [u8]) -> Result<(Parts<'a>, &'a [u8])>
 }
 
 /// The name, the nonce, and the key's body.
-fn split_subject(bytes: &[u8]) -> Result<((&str, &[u8], &[u8]), &[u8])>
+fn split_subject<'a>(bytes: &'a [u8]) -> Result<((&'a str, &'a [u8], &'a [u8]), &'a [u8])>
     ensures { Cuts AreSubject cause subject_at bytes.now result }
 {
-    let (name, behind_name) = split_name(bytes)?;
-    let (nonce, behind_nonce) = split_string(behind_name)?;
-    let mut rest = behind_nonce;
-    let key = take_body(name, &mut rest)?;
-    Ok(((name, nonce, key), rest))
+    let mut rest = bytes;
+    let Then(opening, nonce) = Opening::<'a>::read_from(&mut rest)?;
+    let key = take_body(opening.name, &mut rest)?;
+    Ok(((opening.name, nonce.0, key), rest))
 }

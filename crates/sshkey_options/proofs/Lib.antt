@@ -3,3 +3,4 @@ pub mod OptionValues
 pub mod OptionStops
 pub mod WrittenOptions
 pub mod OptionPairs
+pub mod OptionsAmong

@@ -1,5 +1,7 @@
 -- What a map of options means.
-use Rattle.std.specs.Prelude.{◌≡◌, ℕ, List, [], ◌∷◌, map, Option, String, string_bytes, true, ◌++◌, ◌-◌, length, slice_get, option_map}
+use denote.Ref.{Bor}
+use Rattle.std.specs.Prelude.{◌≡◌, ℕ, List, [], ◌∷◌, map, Option, String, string_bytes, true, ◌++◌, ◌-◌, length, slice_get, option_map, Contains, Bool, bytes_eq}
+use Rattle.std.specs.List.{list_any}
 use Rattle.std.specs.BTreeMap.{BTreeMap, insert_entry}
 use Rattle.std.specs.String.{string_cmp}
 use Rattle.sshkey_options.specs.OptionReaders.{may_follow}
@@ -13,6 +15,14 @@ option_of e = record { name = string_bytes e.0; value = string_bytes e.1 }
 -- its pairs, in the order of the names
 abbrev pub options_of : OptionsMap → List CertificateOption
 options_of m = map option_of m.0.entries
+
+-- The option has one of these names.
+abbrev pub IsNamedAmong : List (Bor (List ℕ)) → CertificateOption → Type 0
+IsNamedAmong names o = Contains (map (λ known. known.now) names) o.name
+
+-- the test of it
+abbrev pub is_among : List (Bor (List ℕ)) → List ℕ → Bool
+is_among names name = list_any (bytes_eq name) (map (λ known. known.now) names)
 
 -- the last name
 abbrev pub last_name : {Y Z : Type 0} → BTreeMap (String Y) (String Z) → Option (List ℕ)

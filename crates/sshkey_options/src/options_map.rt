@@ -1,6 +1,6 @@
 //! Critical options and extensions.
 
-ghost use Rattle.std.specs.Prelude.{◌≡◌, ◌+◌, ◌*◌, ◌^◌, ◌<◌, ◌≤◌, ℕ, List, [], length, IfOk, IfErr, OnErr, OnOk, map, option_map, is_some, IsTrue, ◌↔◌, String, string_bytes};
+ghost use Rattle.std.specs.Prelude.{◌≡◌, ◌+◌, ◌*◌, ◌^◌, ◌<◌, ◌≤◌, ℕ, List, [], length, IfOk, IfErr, OnErr, OnOk, map, option_map, is_some, IsTrue, ◌↔◌, All, String, string_bytes};
 ghost use Rattle.std.specs.Global.{Global};
 ghost use Rattle.std.specs.Map.Iter.{ShowsInOrder, deref_pair};
 ghost use Rattle.std.specs.BTreeMap.{get_by_text, IsUnchanged};
@@ -15,7 +15,7 @@ ghost use Rattle.sshkey_base.specs.Source.{Later};
 ghost use Rattle.sshkey_base.specs.Stops.{OverrunsList, StopsToEnd};
 ghost use Rattle.sshkey_options.specs.OptionReaders.{item, option_list_at, options_value_at, options_normal, OverrunsOption};
 ghost use Rattle.sshkey_options.specs.OptionLists.{options_format};
-ghost use Rattle.sshkey_options.specs.OptionMaps.{option_of, options_of};
+ghost use Rattle.sshkey_options.specs.OptionMaps.{IsNamedAmong, is_among, option_of, options_of};
 
 mod read;
 mod write;
@@ -97,6 +97,21 @@ impl OptionsMap {
         self.get(name).is_some()
     }
 
+    /// Whether each of the options has one of these names. Does not allocate.
+    ///
+    /// A policy that does not know each critical option of a certificate has to reject it
+    /// (PROTOCOL.certkeys).
+    pub fn names_are_among(&self, names: &[&str]) -> bool
+        ensures { IsTrue result ↔ All (IsNamedAmong names.now) (options_of self.now) }
+    {
+        for (name, _) in &self.0 {
+            if !is_among(name.as_str(), names) {
+                return false;
+            }
+        }
+        true
+    }
+
     /// The options, in the order of their names.
     pub fn iter(&self) -> Iter<'_, String, String>
         ensures options { map option_of result ≡ options_of self.now }
@@ -119,6 +134,13 @@ impl OptionsMap {
     {
         self.0.len()
     }
+}
+
+/// Whether the name is one of these.
+fn is_among(name: &str, names: &[&str]) -> bool
+    ensures { result ≡ is_among names.now name.now }
+{
+    names.iter().any(|other| name == *other)
 }
 
 impl From<BTreeMap<String, String>> for OptionsMap {

@@ -1,4 +1,5 @@
 pub mod Writing
 pub mod Lines
+pub mod CutLines
 pub mod ShownEntries
 pub mod Outcomes

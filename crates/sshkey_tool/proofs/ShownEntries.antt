@@ -1,7 +1,8 @@
 -- What is shown of the entries of a file.
-use Rattle.std.proofs.Common.{◌≡◌, ◌≢◌, ◌⊎◌, ℕ, List, [], ◌∷◌, ◌++◌, map, Bool, true, false, ◌||◌, inl, inr, Option, Result, Ok, Err, String, refl, sym, ap, subst, ◌∙◌, append-nil}
+use Rattle.std.proofs.Common.{◌≡◌, ◌≢◌, ◌⊎◌, ◌<◌, ◌+◌, ℕ, List, [], ◌∷◌, ◌++◌, map, length, take, Bool, true, false, ◌||◌, inl, inr, Option, None, Some, Result, Ok, Err, String, refl, sym, ap, subst, ◌∙◌, append_assoc, append-nil, arith, length-append}
 use Rattle.std.specs.Prelude.{string_bytes}
-use Rattle.std.specs.Io.KnownBytes.{Appends}
+use Rattle.std.specs.Io.KnownBytes.{Appends, append_known}
+use Rattle.std.proofs.Math.Seq.{take-append-add}
 use Rattle.std.specs.List.{list_any}
 use Rattle.std.proofs.KnownBytes.{Appends-nil, Appends-trans}
 use Rattle.std.proofs.lemmas.List.{map-append}
@@ -19,12 +20,13 @@ use Rattle.sshkey_entries.specs.KnownHosts.{KnownHost, IsKnownHost, known_text}
 use Rattle.sshkey_files.specs.MadeTexts.{MakesEntry}
 use Rattle.sshkey_files.proofs.AnswerLists.{answered_more}
 use Rattle.sshkey_tool.specs.EntryLines.{ShowsEntries, ShowsEntry, ShowsFirst}
-use Rattle.sshkey_tool.specs.Faults.{IsBegun, WritesLine}
+use Rattle.sshkey_tool.specs.Faults.{IsBegun, Writes, WritesLine}
 use Rattle.sshkey_tool.specs.Lines.{in_lines, line_end, refusal_line}
-use Rattle.sshkey_tool.specs.Outcomes.{WritesEntry, WritesEntryOf, WritesEntries, WritesRefusal, entries_status}
+use Rattle.sshkey_tool.specs.Outcomes.{PushesEntry, RefusesBehind, WritesEntry, WritesEntryOf, WritesEntries, WritesFile, entries_status}
 use Rattle.sshkey_tool.specs.Table.{AreFirstLines, IsRefusalLine, ShowsFile, ShowsFileEntry, ShowsFileFirst}
 use Rattle.sshkey_tool.specs.declared.command.EntryFile.{EntryFile}
 use Rattle.sshkey_tool.specs.declared.command.EntryFile.TheVariants.{AuthorizedKeys, KnownHosts}
+use Rattle.sshkey_tool.proofs.CutLines.{EndsWithin, ends_within, texts_of}
 use Rattle.sshkey_tool.proofs.Lines.{lines_append}
 
 -- ---- the text of an entry
@@ -50,16 +52,15 @@ writes_host line a r is h = writes IsKnownHost known_text line a a.key r is (key
 
 -- ---- its line
 
-abbrev pub IsLine : EntryFile → List ℕ → List ℕ → Bool → Type 0
-IsLine file entry text refused = (line : List ℕ) × ShowsFileEntry file entry (line, refused) × (text ≡ line ++ line_end)
+-- the text of an entry, behind what stood
+pub pushes_text : {Z : Type 0} (file : EntryFile) (entry old new : List ℕ) (s : String Z) → WritesEntryOf file entry (Ok s) → new ≡ old ++ (string_bytes s ++ line_end) → PushesEntry file entry old new (Ok false)
+pushes_text AuthorizedKeys entry old new s h is = (string_bytes s, h, is)
+pushes_text KnownHosts entry old new s h is = (string_bytes s, h, is)
 
-pub text_line : {Z : Type 0} (file : EntryFile) (entry text : List ℕ) (s : String Z) → WritesEntryOf file entry (Ok s) → text ≡ string_bytes s ++ line_end → IsLine file entry text false
-text_line AuthorizedKeys entry text s h is = (string_bytes s, h, is)
-text_line KnownHosts entry text s h is = (string_bytes s, h, is)
-
-pub refusal : (Z : Type 0) (file : EntryFile) (entry text : List ℕ) (e : Error) → WritesEntryOf {Z = Z} file entry (Err e) → cause e ≢ NoMemory → IsRefusalLine text → IsLine file entry text true
-refusal Z AuthorizedKeys entry text e h other r = (refusal_line r.0, (h other, (r.0, r.1, λ j. refusal_line r.0)), r.2)
-refusal Z KnownHosts entry text e h other r = (refusal_line r.0, (h other, (r.0, r.1, λ j. refusal_line r.0)), r.2)
+-- why it is refused
+pub pushes_refusal : (Z : Type 0) (file : EntryFile) (entry old new text : List ℕ) (e : Error) → WritesEntryOf {Z = Z} file entry (Err e) → cause e ≢ NoMemory → IsRefusalLine text → new ≡ old ++ text → PushesEntry file entry old new (Ok true)
+pushes_refusal Z AuthorizedKeys entry old new text e h other r is = (refusal_line r.0, (h other, (r.0, r.1, λ j. refusal_line r.0)), is ∙ ap (λ (l : List ℕ). old ++ l) r.2)
+pushes_refusal Z KnownHosts entry old new text e h other r is = (refusal_line r.0, (h other, (r.0, r.1, λ j. refusal_line r.0)), is ∙ ap (λ (l : List ℕ). old ++ l) r.2)
 
 -- ---- all lines
 
@@ -102,16 +103,18 @@ all_shown KnownHosts = all_of IsKnownHost known_text
 
 -- ---- what is written
 
--- what was written of the first entries
-pub record WrittenSoFar (file : EntryFile) (text : List ℕ) (left : List (List ℕ)) (old now : Option (List ℕ)) (status : ℕ) : Type 0 where
+-- The lines of the first entries, of which the last ones are still to be written.
+pub record WrittenSoFar (file : EntryFile) (text : List ℕ) (left : List (List ℕ)) (old now : Option (List ℕ)) (kept : List ℕ) (status : ℕ) : Type 0 where
   pub shown : List ℕ
   pub refused : Bool
   pub shows : ShowsFileFirst file text left shown refused
-  pub written : Appends old now shown
+  pub front : List ℕ
+  pub written : Appends old now front
+  pub behind : shown ≡ front ++ kept
   pub is : status ≡ entries_status refused
 
-pub nothing_written : (file : EntryFile) (text : List ℕ) (old : Option (List ℕ)) → WrittenSoFar file text (entries text) old old 0
-nothing_written file text old = record { shown = []; refused = false; shows = nothing_yet file text; written = Appends-nil old; is = refl }
+pub nothing_written : (file : EntryFile) (text : List ℕ) (old : Option (List ℕ)) → WrittenSoFar file text (entries text) old old [] 0
+nothing_written file text old = record { shown = []; refused = false; shows = nothing_yet file text; front = []; written = Appends-nil old; behind = refl; is = refl }
 
 one_is : (refused : Bool) → 1 ≡ entries_status (refused || true)
 one_is true = refl
@@ -131,47 +134,170 @@ more_status refused also status after is said = elim said [
   | inr same ↦ same.1 ∙ is ∙ same_is refused ∙ ap (λ (b : Bool). entries_status (refused || b)) (sym same.0)
 ]
 
-pub writes_more : (file : EntryFile) (text : List ℕ) (left rest : List (List ℕ)) (entry line : List ℕ) (also : Bool) (old now new : Option (List ℕ)) (status after : ℕ) → WrittenSoFar file text left old now status → left ≡ entry ∷ rest → IsLine file entry line also → Appends now new line → IsMoreStatus also status after → WrittenSoFar file text rest old new after
-writes_more file text left rest entry line also old now new status after h next it w said = record {
+-- one line more is kept
+pub keeps_more : (file : EntryFile) (text : List ℕ) (left rest : List (List ℕ)) (entry kept more : List ℕ) (also : Bool) (old now : Option (List ℕ)) (status after : ℕ) → WrittenSoFar file text left old now kept status → left ≡ entry ∷ rest → PushesEntry file entry kept more (Ok also) → IsMoreStatus also status after → WrittenSoFar file text rest old now more after
+keeps_more file text left rest entry kept more also old now status after h next it said = record {
   shown = h.shown ++ (it.0 ++ line_end);
   refused = h.refused || also;
   shows = one_more file text left rest entry h.shown it.0 h.refused also h.shows next it.1;
-  written = subst (λ (l : List ℕ). Appends old new (h.shown ++ l)) it.2 (Appends-trans old now new h.shown line h.written w);
+  front = h.front;
+  written = h.written;
+  behind = ap (λ (l : List ℕ). l ++ (it.0 ++ line_end)) h.behind ∙ append_assoc h.front kept (it.0 ++ line_end) ∙ ap (λ (l : List ℕ). h.front ++ l) (sym it.2);
   is = more_status h.refused also status after h.is said;
+}
+
+-- what was kept is written
+pub writes_kept : (file : EntryFile) (text : List ℕ) (left : List (List ℕ)) (kept : List ℕ) (old now new : Option (List ℕ)) (status : ℕ) → WrittenSoFar file text left old now kept status → Appends now new kept → WrittenSoFar file text left old new [] status
+writes_kept file text left kept old now new status h w = record {
+  shown = h.shown;
+  refused = h.refused;
+  shows = h.shows;
+  front = h.front ++ kept;
+  written = Appends-trans old now new h.front kept h.written w;
+  behind = h.behind ∙ sym (append-nil (h.front ++ kept));
+  is = h.is;
+}
+
+-- all that is shown so far stands in the output
+so_far : (file : EntryFile) (text : List ℕ) (left : List (List ℕ)) (kept : List ℕ) (old now new : Option (List ℕ)) (status : ℕ) (h : WrittenSoFar file text left old now kept status) → Appends now new kept → Appends old new h.shown
+so_far file text left kept old now new status h w = subst (Appends old new) (sym h.behind) (Appends-trans old now new h.front kept h.written w)
+
+written_all : (file : EntryFile) (text kept : List ℕ) (left : List (List ℕ)) (old now new : Option (List ℕ)) (status : ℕ) → WrittenSoFar file text left old now kept status → left ≡ [] → Appends now new kept → WritesFile file text old new status
+written_all file text kept left old now new status h none w = record {
+  shown = h.shown;
+  refused = h.refused;
+  shows = all_shown file text h.shown h.refused (subst (λ (l : List (List ℕ)). ShowsFileFirst file text l h.shown h.refused) none h.shows);
+  written = so_far file text left kept old now new status h w;
+  is = h.is;
 }
 
 pub whole_line : (old new : Option (List ℕ)) (bytes line : List ℕ) (whole : Bool) → whole ≡ true → bytes ≡ line → WritesLine old new bytes whole → Appends old new line
 whole_line old new bytes line whole is same w = subst (Appends old new) same (rw is at w)
 
-pub all_written : (file : EntryFile) (text : List ℕ) (left : List (List ℕ)) (old new : Option (List ℕ)) (status : ℕ) → WrittenSoFar file text left old new status → left ≡ [] → WritesEntries file text old new status
-all_written file text left old new status h none = inl (record {
-  shown = h.shown;
-  refused = h.refused;
-  shows = all_shown file text h.shown h.refused (subst (λ (l : List (List ℕ)). ShowsFileFirst file text l h.shown h.refused) none h.shows);
-  written = h.written;
-  is = h.is;
-})
+-- ---- the output fails
 
--- ---- an entry is left
+pub begun_line : (old new : Option (List ℕ)) (bytes line : List ℕ) (whole : Bool) → whole ≡ false → bytes ≡ line → WritesLine old new bytes whole → IsBegun old new line
+begun_line old new bytes line whole is same w = subst (IsBegun old new) same (rw is at w)
+
+-- a beginning of the second text, and so of both
+begun_behind : (old now new : Option (List ℕ)) (front kept : List ℕ) → Appends old now front → IsBegun now new kept → IsBegun old new (front ++ kept)
+begun_behind old now new front kept w begun = (
+  length front + begun.0,
+  omega (arith, begun.1, length-append front kept),
+  subst (Appends old new) (sym (take-append-add front kept begun.0)) (Appends-trans old now new front (take begun.0 kept) w begun.2),
+)
+
+begun_of : (old new : Option (List ℕ)) (text front last : List ℕ) (count : ℕ) → Appends old new (take count text) → take count text ≡ front ++ last → Appends (append_known old front) new last
+begun_of None new text front last count w is = tt
+begun_of (Some xs) None text front last count w is = absurd w
+begun_of (Some xs) (Some ys) text front last count w is = w ∙ ap (λ (l : List ℕ). xs ++ l) is ∙ sym (append_assoc xs front last)
+
+appends_known : (old : Option (List ℕ)) (front : List ℕ) → Appends old (append_known old front) front
+appends_known None front = tt
+appends_known (Some xs) front = refl
+
+-- The first lines are whole, and that of the next entry is not.
+record IsCutWithin (file : EntryFile) (text : List ℕ) (old new : Option (List ℕ)) : Type 0 where
+  shown : List ℕ
+  entry : List ℕ
+  rest : List (List ℕ)
+  are : AreFirstLines file (entry ∷ rest) shown text
+  line : List ℕ
+  refused : Bool
+  shows : ShowsFileEntry file entry (line, refused)
+  begun : IsBegun (append_known old shown) new (line ++ line_end)
+
+module _ {Y : Type 0} (IsEntry : List ℕ → Y → Type 0) (text_of : Y → List ℕ) where
+  -- the lines before those that are left, up to a place in one of them
+  ends_before : (text : List ℕ) (left : List (List ℕ)) (shown : List ℕ) (refused : Bool) (count : ℕ) → count < length shown → ShowsFirst IsEntry text_of text left shown refused → EndsWithin IsEntry text_of (entries text) shown count
+  ends_before text left shown refused count below h =
+      let s = h.shows in
+      let it = ends_within IsEntry text_of h.first s.lines count s.each (subst (λ (t : List ℕ). count < length t) s.is below) in
+      record {
+        before = it.before;
+        entry = it.entry;
+        rest = it.rest ++ left;
+        are = h.are ∙ ap (λ (l : List (List ℕ)). l ++ left) it.are ∙ append_assoc it.before (it.entry ∷ it.rest) left;
+        lines = it.lines;
+        each = it.each;
+        line = it.line;
+        refused = it.refused;
+        shows = it.shows;
+        within = it.within;
+        below = it.below;
+        is = ap (take count) s.is ∙ it.is;
+      }
+
+  first_of : (text shown : List ℕ) (count : ℕ) (it : EndsWithin IsEntry text_of (entries text) shown count) → (refused : Bool) × ShowsFirst IsEntry text_of text (it.entry ∷ it.rest) (texts_of it.lines) refused
+  first_of text shown count it = (
+    list_any (λ l. l.1) it.lines,
+    record { first = it.before; are = it.are; shows = record { lines = it.lines; each = it.each; is = refl; some = refl } },
+  )
+
+cut_within : (file : EntryFile) (text : List ℕ) (left : List (List ℕ)) (old new : Option (List ℕ)) (shown : List ℕ) (refused : Bool) → ShowsFileFirst file text left shown refused → IsBegun old new shown → IsCutWithin file text old new
+cut_within AuthorizedKeys text left old new shown refused h begun =
+    let it = ends_before IsAuthorizedKey authorized_text text left shown refused begun.0 begun.1 h in record {
+      shown = texts_of it.lines;
+      entry = it.entry;
+      rest = it.rest;
+      are = first_of IsAuthorizedKey authorized_text text shown begun.0 it;
+      line = it.line;
+      refused = it.refused;
+      shows = it.shows;
+      begun = (it.within, it.below, begun_of old new shown (texts_of it.lines) (take it.within (it.line ++ line_end)) begun.0 begun.2 it.is);
+    }
+cut_within KnownHosts text left old new shown refused h begun =
+    let it = ends_before IsKnownHost known_text text left shown refused begun.0 begun.1 h in record {
+      shown = texts_of it.lines;
+      entry = it.entry;
+      rest = it.rest;
+      are = first_of IsKnownHost known_text text shown begun.0 it;
+      line = it.line;
+      refused = it.refused;
+      shows = it.shows;
+      begun = (it.within, it.below, begun_of old new shown (texts_of it.lines) (take it.within (it.line ++ line_end)) begun.0 begun.2 it.is);
+    }
+
+-- a beginning of what is kept was written
+pub cut_lines : (file : EntryFile) (text : List ℕ) (left : List (List ℕ)) (kept : List ℕ) (old now new : Option (List ℕ)) (before status : ℕ) → WrittenSoFar file text left old now kept before → IsBegun now new kept → status ≡ 1 → WritesEntries file text old new status
+cut_lines file text left kept old now new before status h begun one =
+    let all = subst (IsBegun old new) (sym h.behind) (begun_behind old now new h.front kept h.written begun) in
+    let it = cut_within file text left old new h.shown h.refused h.shows all in
+    inr (record {
+      shown = it.shown;
+      entry = it.entry;
+      rest = it.rest;
+      are = it.are;
+      between = append_known old it.shown;
+      written = appends_known old it.shown;
+      ends = inl (record { line = it.line; refused = it.refused; shows = it.shows; begun = it.begun; one = one });
+    })
+
+-- what is kept is written last
+pub all_written : (file : EntryFile) (text kept : List ℕ) (left : List (List ℕ)) (old now new : Option (List ℕ)) (before status : ℕ) → WrittenSoFar file text left old now kept before → left ≡ [] → Writes now new kept before status → WritesEntries file text old new status
+all_written file text kept left old now new before status h none w = elim w [
+  | inl all ↦ inl (subst (WritesFile file text old new) (sym all.1) (written_all file text kept left old now new before h none all.0))
+  | inr begun ↦ cut_lines file text left kept old now new before status h begun.0 begun.1
+]
+
+-- ---- memory runs out
 
 first_lines : (file : EntryFile) (text : List ℕ) (left rest : List (List ℕ)) (entry shown : List ℕ) (refused : Bool) → left ≡ entry ∷ rest → ShowsFileFirst file text left shown refused → AreFirstLines file (entry ∷ rest) shown text
 first_lines file text left rest entry shown refused next h = (refused, subst (λ (l : List (List ℕ)). ShowsFileFirst file text l shown refused) next h)
 
--- the output failed
-pub cut_line : (file : EntryFile) (text : List ℕ) (left rest : List (List ℕ)) (entry line : List ℕ) (also : Bool) (old now new : Option (List ℕ)) (status : ℕ) → WrittenSoFar file text left old now status → left ≡ entry ∷ rest → IsLine file entry line also → IsBegun now new line → WritesEntries file text old new 1
-cut_line file text left rest entry line also old now new status h next it begun = inr (record {
-  shown = h.shown;
-  entry = entry;
-  rest = rest;
-  are = first_lines file text left rest entry h.shown h.refused next h.shows;
-  between = now;
-  written = h.written;
-  ends = inl (record { line = it.0; refused = also; shows = it.1; begun = subst (IsBegun now new) it.2 begun; one = refl });
-})
-
--- memory ran out
-pub cut_entries : (file : EntryFile) (text : List ℕ) (left rest : List (List ℕ)) (entry : List ℕ) (old now new : Option (List ℕ)) (before status : ℕ) (e : Error) → WrittenSoFar file text left old now before → left ≡ entry ∷ rest → IsMachineFault e → WritesRefusal e now new status → WritesEntries file text old new status
-cut_entries file text left rest entry old now new before status e h next fault w = elim w [
-  | inl why ↦ absurd (why.0 fault)
-  | inr line ↦ inr (record { shown = h.shown; entry = entry; rest = rest; are = first_lines file text left rest entry h.shown h.refused next h.shows; between = now; written = h.written; ends = inr line })
+pub cut_entries : (file : EntryFile) (text kept : List ℕ) (left rest : List (List ℕ)) (entry : List ℕ) (old now new : Option (List ℕ)) (before status : ℕ) (e : Error) → WrittenSoFar file text left old now kept before → left ≡ entry ∷ rest → IsMachineFault e → RefusesBehind e now new kept status → WritesEntries file text old new status
+cut_entries file text kept left rest entry old now new before status e h next fault w = elim w [
+  | inl begun ↦ cut_lines file text left kept old now new before status h begun.0 begun.1
+  | inr said ↦ elim said.2 [
+    | inl why ↦ absurd (why.0 fault)
+    | inr line ↦ inr (record {
+      shown = h.shown;
+      entry = entry;
+      rest = rest;
+      are = first_lines file text left rest entry h.shown h.refused next h.shows;
+      between = said.0;
+      written = so_far file text left kept old now said.0 before h said.1;
+      ends = inr line;
+    })
+  ]
 ]

@@ -16,14 +16,13 @@ use Rattle.sshkey_entries.specs.KnownHosts.{IsKnownHost, known_text}
 use Rattle.sshkey_entries.specs.Entries.{IsNoEntry}
 use Rattle.sshkey_public.specs.PublicKeys.{public_of, comment_of}
 use Rattle.sshkey_public.specs.declared.public_key.PublicKey.{PublicKey}
-use Rattle.sshkey_tool.specs.Faults.{Writes}
+use Rattle.sshkey_tool.specs.Faults.{IsBegun, Writes}
 use Rattle.sshkey_tool.specs.Lines.{IsCertificateText, IsOneLine, line_end}
 use Rattle.sshkey_tool.specs.Table.{Refused, answer_line, key_text, WritesFault, IsCutShort, IsOfLine, IsOfNoLine, IsRefusalLine, ShowsFile, ShowsFileEntry}
 use Rattle.sshkey_tool.specs.declared.command.Command.{Command}
 use Rattle.sshkey_tool.specs.declared.command.EntryFile.{EntryFile}
 use Rattle.sshkey_tool.specs.declared.command.EntryFile.TheVariants.{AuthorizedKeys, KnownHosts}
 use Rattle.sshkey_tool.specs.declared.command.KeyCommand.{KeyCommand}
-use Rattle.sshkey_tool.specs.declared.entries.ShownEntry.{ShownEntry}
 
 -- A part of the key is too long to be written, and that is `Length`; or memory ran out.
 abbrev pub IsNotWritten : Key → Error → Type 0
@@ -65,10 +64,15 @@ abbrev pub RefusesEntry : {Z : Type 0} → Error → Result (String Z) Error →
 RefusesEntry error (Ok s) = (cause error ≢ NoMemory) × IsRefusalLine (string_bytes s)
 RefusesEntry error (Err e) = IsMachineFault e
 
--- the line of an entry with its line end, and whether it is refused; or the machine failed
-abbrev pub ShowsEntryLine : EntryFile → List ℕ → Result ShownEntry Error → Type 0
-ShowsEntryLine file entry (Ok s) = (line : List ℕ) × ShowsFileEntry file entry (line, s.refused) × (string_bytes s.line ≡ line ++ line_end)
-ShowsEntryLine file entry (Err e) = IsMachineFault e
+-- The text and a line end stand behind what stood; or nothing does.
+abbrev pub PushesLine : {U E : Type 0} → List ℕ → List ℕ → List ℕ → Result U E → Type 0
+PushesLine old new text (Ok _) = new ≡ old ++ (text ++ line_end)
+PushesLine old new text (Err _) = new ≡ old
+
+-- The line of an entry stands behind what stood, and whether the entry is refused is said; or the machine failed, and nothing does.
+abbrev pub PushesEntry : EntryFile → List ℕ → List ℕ → List ℕ → Result Bool Error → Type 0
+PushesEntry file entry old new (Ok refused) = (line : List ℕ) × ShowsFileEntry file entry (line, refused) × (new ≡ old ++ (line ++ line_end))
+PushesEntry file entry old new (Err e) = IsMachineFault e × (new ≡ old)
 
 -- the status of lines, of which some may be refused
 abbrev pub entries_status : Bool → ℕ
@@ -92,6 +96,11 @@ WritesEntries file text old new status = WritesFile file text old new status ⊎
 -- A reason of one line is written with status 1, or in its place that the machine failed.
 abbrev pub WritesRefusal : Error → Option (List ℕ) → Option (List ℕ) → ℕ → Type 0
 WritesRefusal e old new status = ((IsMachineFault e → ⊥) × ((why : List ℕ) × IsOneLine why × Writes old new (answer_line (Refused why)) 1 status)) ⊎ WritesFault old new status
+
+-- The lines are written whole, and then a refusal; or a beginning of them with status 1.
+abbrev pub RefusesBehind : Error → Option (List ℕ) → Option (List ℕ) → List ℕ → ℕ → Type 0
+RefusesBehind e old new lines status =
+    (IsBegun old new lines × (status ≡ 1)) ⊎ ((between : Option (List ℕ)) × Appends old between lines × WritesRefusal e between new status)
 
 -- What is shown is written with status 0, or why nothing is.
 abbrev pub WritesOutcome : {Z : Type 0} → Result (String Z) Error → Option (List ℕ) → Option (List ℕ) → ℕ → Type 0

@@ -2,17 +2,21 @@
 
 ghost use Rattle.sshkey_entries.specs.AuthorizedKeys.{IsAuthorizedKey, authorized_text};
 ghost use Rattle.sshkey_entries.specs.KnownHosts.{IsKnownHost, known_text};
-ghost use Rattle.sshkey_tool.specs.Outcomes.{RefusesEntry, ShowsEntryLine, WritesEntries, WritesEntry, WritesEntryOf};
+ghost use Rattle.std.specs.Prelude.{string_bytes};
+ghost use Rattle.sshkey_tool.specs.Outcomes.{PushesEntry, PushesLine, RefusesBehind, RefusesEntry, WritesEntries, WritesEntry, WritesEntryOf};
 
 use crate::command::EntryFile;
-use crate::output::is_written;
+use crate::output::{is_written, write_line};
 use crate::refusal::{refuse, refused_line};
 use sshkey_authorized_keys::Entry as AuthorizedKey;
 use sshkey_base::Error;
 use sshkey_files::EntryTexts;
 use sshkey_known_hosts::Entry as KnownHost;
-use std::alloc::Global;
+use std::alloc::{AllocError, Global};
 use std::io::Write;
+
+/// So many bytes of lines are written at once, or more.
+const PIECE: usize = 0x1_0000;
 
 /// The text of an entry of authorized_keys.
 fn authorized_text(alloc: Global, line: &str) -> Result<String, Error>
@@ -50,33 +54,56 @@ fn refused_entry(alloc: Global, error: &Error) -> Result<String, Error>
     }
 }
 
-/// What is shown of an entry.
-#[derive(Debug, Drop)]
-struct ShownEntry {
-    /// A line with its line end.
-    line: String,
-    /// Whether it says a refusal.
-    refused: bool,
+/// Adds a text and a line end behind the lines, or nothing where memory runs out.
+fn push_line(lines: &mut String, text: &str) -> Result<(), AllocError>
+    ensures { PushesLine (string_bytes lines.old) (string_bytes lines.new) text.now result }
+{
+    lines.reserve(text.len().saturating_add(1))?;
+    lines.push_str(text)?;
+    lines.push('\n')
 }
 
-/// The line of an entry: its text, or why it is rejected.
-fn entry_line(alloc: Global, file: EntryFile, line: &str) -> Result<ShownEntry, Error>
-    ensures { ShowsEntryLine file line.now result }
+/// Adds the line of an entry behind the lines: its text, or why it is rejected. Says whether it is
+/// rejected. Adds nothing where memory runs out.
+fn push_entry(
+    alloc: Global,
+    file: EntryFile,
+    entry: &str,
+    lines: &mut String,
+) -> Result<bool, Error>
+    ensures { PushesEntry file entry.now
+        (string_bytes lines.old) (string_bytes lines.new) result }
 {
-    match entry_text(alloc, file, line) {
-        Ok(text) => Ok(ShownEntry {
-            line: format!(in alloc; "{text}\n")?,
-            refused: false,
-        }),
-        Err(error) => Ok(ShownEntry {
-            line: refused_entry(alloc, &error)?,
-            refused: true,
-        }),
+    match entry_text(alloc, file, entry) {
+        Ok(text) => {
+            push_line(lines, &text)?;
+            Ok(false)
+        }
+        Err(error) => {
+            let line = refused_entry(alloc, &error)?;
+            lines.push_str(&line)?;
+            Ok(true)
+        }
+    }
+}
+
+/// Writes the lines that were made before the machine failed, and the line that says why.
+fn refuse_behind<W: Write>(alloc: Global, lines: &str, error: &Error, output: &mut W) -> u8
+    ensures { RefusesBehind error.now
+        (W.contents output.old) (W.contents output.new) lines.now result }
+{
+    if is_written(output, lines.as_bytes()) {
+        refuse(alloc, error, output)
+    } else {
+        1
     }
 }
 
 /// Writes the line of each entry of a text, one after the other, and says by a status whether one
 /// of them is rejected. The first line that can't be made or written is the end.
+///
+/// The lines are kept until they have `PIECE` bytes, and are written then: so each write but the
+/// last is asked to take at least so many.
 pub(crate) fn write_entries<W: Write>(
     alloc: Global,
     file: EntryFile,
@@ -85,18 +112,22 @@ pub(crate) fn write_entries<W: Write>(
 ) -> u8
     ensures { WritesEntries file text.now (W.contents output.old) (W.contents output.new) result }
 {
+    let mut lines = String::new(alloc);
     let mut status = 0;
     for entry in EntryTexts::new(text) {
-        let shown = match entry_line(alloc, file, entry) {
-            Ok(shown) => shown,
-            Err(error) => return refuse(alloc, &error, output),
+        let refused = match push_entry(alloc, file, entry, &mut lines) {
+            Ok(refused) => refused,
+            Err(error) => return refuse_behind(alloc, &lines, &error, output),
         };
-        if !is_written(output, shown.line.as_bytes()) {
-            return 1;
-        }
-        if shown.refused {
+        if refused {
             status = 1;
         }
+        if lines.len() >= PIECE {
+            if !is_written(output, lines.as_bytes()) {
+                return 1;
+            }
+            lines.clear();
+        }
     }
-    status
+    write_line(output, lines.as_bytes(), status)
 }

@@ -38,11 +38,12 @@ fn answer<W: Write>(alloc: Global, outcome: &Result<String, Error>, output: &mut
 /// follows the word, for `normal` after the line that is written of the key and its comment, and
 /// for `cert` after the fields of the certificate, a line each, and where a principal follows the
 /// word, a line that says whether the certificate allows it. For `keys` and `hosts` the text of
-/// each entry of the file is written, or `rejected:` and why the entry is none, each before the
-/// next is read, and the status is 1 if one of them was rejected; where memory runs out, the lines
-/// of the entries before stand, and after them the line that says so. Each line has a line end, and
-/// a reason is one line. A header, a key id, a principal and an option stand as they are, line ends
-/// and control characters too.
+/// each entry of the file is written, or `rejected:` and why the entry is none, and the status is 1
+/// if one of them was rejected; where memory runs out, the lines of the entries before stand, and
+/// after them the line that says so. These lines are kept until they have 65,536 bytes, and written
+/// then, so the calls of `write` are few. Each line has a line end, and a reason is one line. A
+/// header, a key id, a principal and an option stand as they are, line ends and control characters
+/// too.
 ///
 /// What is shown or rejected is the table's of all bytes of an input whose reader tells them
 /// (`remaining`); of another input no more is said than that the line is one of the command's, or

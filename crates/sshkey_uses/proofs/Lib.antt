@@ -1,5 +1,6 @@
 mod Answered
 mod HostCertificates
+mod AuthorizedEntries
 mod HostKeys
 mod KeyBlobs
 mod Logins

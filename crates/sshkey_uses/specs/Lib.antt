@@ -1,3 +1,4 @@
+pub mod AuthorizedEntries
 pub mod HostKeys
 pub mod Signed
 pub mod SignedFiles

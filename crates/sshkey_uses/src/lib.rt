@@ -4,6 +4,7 @@
 //! on. Copy them.
 #![tactic(auto)]
 
+mod authorized_entry;
 mod host_certificate;
 mod host_key;
 mod key_blob;
@@ -13,6 +14,7 @@ mod sign_request;
 mod signed;
 mod signed_file;
 
+pub use authorized_entry::entry_for;
 pub use host_certificate::check_host;
 pub use host_key::fingerprint_if_known;
 pub use key_blob::read_key;

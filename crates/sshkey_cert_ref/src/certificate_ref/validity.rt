@@ -146,7 +146,7 @@ impl CertificateRef<'_> {
     }
 
     /// The SHA-256 fingerprint of the key that signed. Fails only when out of memory.
-    fn authority(&self, alloc: Global) -> Result<Fingerprint>
+    pub(super) fn authority(&self, alloc: Global) -> Result<Fingerprint>
         ensures fingerprint { IfOk result
             (IsFingerprint Sha256 (certificate_of self.now).signed.signature_key) }
         ensures memory { IfErr result (λ e. e ≡ wide.Memory) }

@@ -5,10 +5,9 @@ use super::certified::{Certified, certificate_name, each, stored};
 use base64::engine::general_purpose::STANDARD;
 use sshkey_base::{Error, encoding};
 use sshkey_cert::Certificate;
-use sshkey_cert_ref::CertificateRef;
+use sshkey_cert_ref::{CertificateRef, OptionsRef};
 use sshkey_doubles::{Only, OutOfMemory, RefuseAll};
 use sshkey_keys::Fingerprint;
-use sshkey_options_ref::OptionsRef;
 use std::alloc::Global;
 
 /// The certificate has these plain fields.

@@ -1,4 +1,4 @@
-//! An input and an output that fail.
+//! An input and an output that fail, and an output that counts calls.
 
 use std::io::{self, ErrorKind, Read, Write};
 
@@ -60,6 +60,25 @@ impl Write for Narrow {
         let count = bytes.len().min(self.most).min(left);
         self.taken.extend_from_slice(&bytes[..count])?;
         Ok(count)
+    }
+
+    fn flush(&mut self) -> io::Result<()> {
+        Ok(())
+    }
+}
+
+/// Takes all bytes, and counts them and the calls of `write`.
+#[derive(Drop)]
+pub(crate) struct Counted {
+    pub(crate) bytes: usize,
+    pub(crate) calls: usize,
+}
+
+impl Write for Counted {
+    fn write(&mut self, bytes: &[u8]) -> io::Result<usize> {
+        self.bytes = self.bytes.saturating_add(bytes.len());
+        self.calls = self.calls.saturating_add(1);
+        Ok(bytes.len())
     }
 
     fn flush(&mut self) -> io::Result<()> {

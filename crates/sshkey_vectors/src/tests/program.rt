@@ -1,9 +1,9 @@
 //! The program over inputs and outputs that fail. What it answers on lines is in the table of
 //! `sshkey_cases`.
 
-use super::failing::{Failing, Narrow};
+use super::failing::{Counted, Failing, Narrow};
 use sshkey_tool::run;
-use std::alloc::Global;
+use std::alloc::{AllocError, Global};
 use std::io::ErrorKind;
 
 const LINE: &[u8] =
@@ -128,4 +128,28 @@ fn an_output_that_fails_holds_a_beginning(rt: HostRuntime) {
             );
         }
     }
+}
+
+/// So many lines of authorized_keys.
+fn lines(alloc: Global, count: u32) -> Result<Vec<u8>, AllocError> {
+    let mut lines = Vec::new(alloc);
+    for _ in 0..count {
+        lines.extend_from_slice(LINE)?;
+    }
+    Ok(lines)
+}
+
+/// The bytes that are written of so many lines, and how often `write` is called for them.
+fn written(alloc: Global, count: u32) -> Result<Counted, AllocError> {
+    let text = lines(alloc, count)?;
+    let mut input = text.as_slice();
+    let mut output = Counted { bytes: 0, calls: 0 };
+    let _ = run(alloc, &["keys"], &mut input, &mut output);
+    Ok(output)
+}
+
+#[test]
+fn entries_are_written_by_few_calls(rt: HostRuntime) {
+    let output = written(rt.alloc(), 5000).unwrap();
+    assert!(rt; output.bytes == 5000 * 98 && output.calls <= 8);
 }

@@ -3,9 +3,9 @@ use Rattle.std.proofs.lemmas.Result.{err_from_is_err_and}
 use Rattle.sshkey_base.proofs.Steps.{refuses_first}
 use Rattle.sshkey_options.specs.CertTypes.{type_of}
 use Rattle.sshkey_options.specs.Times.{time_of, end_of}
-use Rattle.sshkey_options_ref.specs.Views.{texts_of, spelled_options_of}
+use Rattle.sshkey_cert_ref.specs.Views.{texts_of, spelled_options_of}
 use Rattle.sshkey_cert_ref.specs.Fields.{behind_key_format, spelled_key_of}
-use Rattle.sshkey_cert_ref.specs.Taking.{subject_at}
+use Rattle.sshkey_to_be_signed.specs.ToBeSignedReaders.{subject_at}
 use Rattle.sshkey_cert_ref.proofs.Boxed.{key_is}
 use Rattle.sshkey_cert_ref.proofs.Fields.{fields_at, fields_are}
 use Rattle.sshkey_cert_ref.proofs.walk.split_parts.Goals as goal
@@ -27,11 +27,11 @@ unfolding fields_at
 returns c =
     let subject = c.in_ok-name.ensures in
     let g = c.in_ok-grant.field-0 in
-    let critical = spelled_options_of g.1.1.0.0.0 in
-    let extensions = spelled_options_of g.1.1.0.1.0 in
+    let critical = spelled_options_of g.1.1.0.0 in
+    let extensions = spelled_options_of g.1.1.0.1 in
     let signer = spelled_key_of g.1.1.1.1.0 in (
       (
-        record { nonce = subject.0.0; key = subject.0.1; serial = g.0.0.0.0; certificate_type = type_of g.0.0.1.0; key_id = g.0.1.0.0.now; valid_principals = texts_of g.0.1.1.0.0; valid_after = time_of g.1.0.0.0; valid_before = end_of g.1.0.1.0; critical_options = critical.0; extensions = extensions.0; reserved = g.1.1.1.0.0.now; signature_key = signer.0 },
+        record { nonce = subject.0.0; key = subject.0.1; serial = g.0.0.0.0; certificate_type = type_of g.0.0.1.0; key_id = g.0.1.0.0.now; valid_principals = texts_of g.0.1.1.0; valid_after = time_of g.1.0.0.0; valid_before = end_of g.1.0.1.0; critical_options = critical.0; extensions = extensions.0; reserved = g.1.1.1.0.0.now; signature_key = signer.0 },
         record { critical_options = critical.1; extensions = extensions.1; signature_key = signer.1 },
       ),
       record { name = subject.1.name; nonce = subject.1.nonce; key = subject.1.key; serial = refl; cert_type = refl; key_id = refl; valid_principals = refl; valid_after = refl; valid_before = refl; critical_options = refl; extensions = refl; reserved = refl; signature_key = key_is g.1.1.1.1.0 },

@@ -1,41 +1,34 @@
 use Rattle.std.proofs.Common.{refl}
 use Rattle.std.proofs.lemmas.Result.{err_from_is_err_and}
-use Rattle.sshkey_base.specs.Causes.{cause, encoding_cause, same_cause}
 use Rattle.sshkey_base.proofs.Steps.{refuses_first}
-use Rattle.sshkey_model.specs.CertificateNames.{certificate_algorithm_at}
+use Rattle.sshkey_format.specs.Behind.{both_at}
+use Rattle.sshkey_model.specs.CertificateNames.{certificate_algorithm_at, certified_from}
 use Rattle.sshkey_model.specs.Keys.{body_at}
+use Rattle.sshkey_model.specs.Names.{Dsa}
 use Rattle.sshkey_model.specs.Reading.{string_at}
-use Rattle.sshkey_slices.proofs.Fronts.{answers_ok}
-use Rattle.sshkey_cert_ref.specs.Taking.{subject_at}
-use Rattle.sshkey_cert_ref.proofs.Cutting.{refused_first}
-use Rattle.sshkey_cert_ref.proofs.Subjects.{certified_body, refused_body, named_key, key_bytes}
+use Rattle.sshkey_to_be_signed.specs.ToBeSignedReaders.{subject_at}
+use Rattle.sshkey_cert_ref.specs.Spelled.{certified_in}
+use Rattle.sshkey_cert_ref.proofs.Subjects.{known, certified_body, refused_body, named_key, key_bytes}
 use Rattle.sshkey_cert_ref.proofs.walk.split_subject.Goals as goal
 
-pub returns-in_err-name : goal.returns-in_err-name
+pub returns-in_err-opening : goal.returns-in_err-opening
 unfolding subject_at
-returns-in_err-name c =
+returns-in_err-opening c =
     let p = err_from_is_err_and c.from_residual.result c.from_residual.ensures.1 in
-    rw (p.1, p.2) (refuses_first 0 _ (certificate_algorithm_at c.args.bytes.now) _ c.in_err-name.ensures)
-
-pub returns-in_err-nonce : goal.returns-in_err-nonce
-unfolding subject_at
-returns-in_err-nonce c =
-    let p = err_from_is_err_and c.from_residual-in_err-nonce.result c.from_residual-in_err-nonce.ensures.1 in
-    rw (p.1, p.2, c.in_ok-name.ensures.2) (refused_first _ encoding_cause cause (string_at c.in_ok-name.behind_name.now) _ _ _ c.in_err-nonce.ensures.gives (same_cause c.in_err-nonce.field-0.0))
+    rw (p.1, p.2) (refuses_first 0 _ (both_at certificate_algorithm_at string_at c.args.bytes.now) _ c.in_err-opening.ensures)
 
 pub returns-in_err-key : goal.returns-in_err-key
 unfolding subject_at
 returns-in_err-key c =
     let p = err_from_is_err_and c.from_residual-in_err-key.result c.from_residual-in_err-key.ensures.1 in
-    let name = c.in_ok-name.ensures in
-    let nonce = answers_ok _ encoding_cause (string_at c.in_ok-name.behind_name.now) _ c.in_ok-nonce.ensures.gives in
-    rw (p.1, p.2, name.2, nonce) (refuses_first 0 _ (body_at name.0 c.in_ok-nonce.behind_nonce.now) _ (refused_body _ _ _ _ name.1 c.in_err-key.ensures.front))
+    let name = c.in_ok-opening.field-0.0 in
+    rw (p.1, p.2, c.in_ok-opening.ensures.value) (refuses_first 0 _ (body_at (certified_in name.name.now) _) _ (refused_body _ _ _ _ (known Dsa (certified_from name.name.now) name.form) c.in_err-key.ensures.front))
 
 pub returns : goal.returns
 unfolding subject_at
 returns c =
-    let name = c.in_ok-name.ensures in
-    let nonce = answers_ok _ encoding_cause (string_at c.in_ok-name.behind_name.now) _ c.in_ok-nonce.ensures.gives in
+    let opening = c.in_ok-opening.field-0 in
+    let named = known Dsa (certified_from opening.0.name.now) opening.0.form in
     let front = c.in_ok-key.ensures.front in
-    let key = certified_body _ _ _ _ _ name.1 front.taken in
-    ((c.in_ok-nonce.nonce.now, front.key), record { name = named_key _ _ _ _ _ name.1 key; nonce = refl; key = key_bytes _ _ _ _ _ key front.all }, rw (name.2, nonce, key) refl)
+    let key = certified_body _ _ _ _ _ named front.taken in
+    ((opening.1.0.now, front.key), record { name = named_key _ _ _ _ _ named key; nonce = refl; key = key_bytes _ _ _ _ _ key front.all }, rw (c.in_ok-opening.ensures.value, key) refl)

@@ -1,0 +1,71 @@
+//! Asks whether a host is the known one.
+
+use crate::hashes::Hashes;
+use crate::verified::Told;
+use crate::words::{NO_LINE, bytes, number, text};
+use host_keys::{Refusal, check_certificate, check_key};
+use ssh_key::{Certificate, PublicKey, Result};
+use std::alloc::{AllocError, Global};
+
+/// Whether the key is the host's, by the text of known_hosts in hexadecimal digits.
+pub(crate) fn key(alloc: Global, words: &[&str], hashes: &Hashes) -> Result<String> {
+    let [known_hosts, host, port, key] = words else {
+        return Err(NO_LINE);
+    };
+    let known_hosts = text(alloc, known_hosts)?;
+    let key = PublicKey::from_openssh(alloc, key)?;
+    let answer = check_key(
+        alloc,
+        &known_hosts,
+        host,
+        port_of(port)?,
+        key.key_data(),
+        hashes,
+    );
+    shown(alloc, answer)
+}
+
+/// Whether the certificate is the host's at the second that is the last word.
+pub(crate) fn certificate(
+    alloc: Global,
+    words: &[&str],
+    hashes: &Hashes,
+    told: &Told,
+) -> Result<String> {
+    let [known_hosts, host, port, certificate, seconds] = words else {
+        return Err(NO_LINE);
+    };
+    let known_hosts = text(alloc, known_hosts)?;
+    let certificate = Certificate::from_openssh(alloc, certificate)?;
+    let answer = check_certificate(
+        alloc,
+        &known_hosts,
+        host,
+        port_of(port)?,
+        &certificate,
+        number(seconds)?,
+        hashes,
+        told,
+    );
+    shown(alloc, answer)
+}
+
+fn port_of(digits: &str) -> Result<u16> {
+    match digits.parse::<u16>() {
+        Ok(port) => Ok(port),
+        Err(_) => Err(NO_LINE),
+    }
+}
+
+fn shown(alloc: Global, answer: std::result::Result<(), Refusal>) -> Result<String> {
+    let text = match answer {
+        Ok(()) => "ok",
+        Err(Refusal::Revoked) => "revoked",
+        Err(Refusal::Unreadable) => "unreadable",
+        Err(Refusal::Changed) => "changed",
+        Err(Refusal::Unknown) => "unknown",
+        Err(Refusal::Certificate(error)) => return Err(error),
+        Err(Refusal::Memory) => return Err(ssh_key::Error::Memory),
+    };
+    Ok(String::from_str(alloc, text)?)
+}

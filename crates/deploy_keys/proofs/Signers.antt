@@ -1,0 +1,77 @@
+-- What one line decides, and what all do.
+use Rattle.std.proofs.Common.{◌≡◌, ◌≢◌, ◌↔◌, ℕ, List, [], ◌∷◌, Bool, true, false, Option, Some, None, Result, Ok, Err, IfErr, IfOk, IsTrue, is_some, refl, subst, sym, inl, inr}
+use Rattle.std.specs.Prelude.{String, option_map, string_bytes}
+use Rattle.ssh_key.specs.base.Acceptance.{AcceptsExactly}
+use Rattle.ssh_key.specs.base.Causes.{NoMemory, cause}
+use Rattle.ssh_key.specs.base.Reading.{NoSpelling}
+use Rattle.ssh_key.specs.base.Source.{IsSound, all_of}
+use Rattle.ssh_key.specs.entries.AuthorizedKeys.{AuthorizedKey}
+use Rattle.ssh_key.specs.entries.Entries.{IsNoEntry}
+use Rattle.ssh_key.specs.entries.Fields.{filled_lines}
+use Rattle.ssh_key.specs.entries.Laws.{EntriesDetermineValues}
+use Rattle.ssh_key.specs.entries.OpenSshLines.{IsAuthorizedLine}
+use Rattle.ssh_key.specs.model.Keys.{IsKey}
+use Rattle.ssh_key.specs.model.SshSignatures.{SshSignature}
+use Rattle.ssh_key.specs.model.Verification.{Question}
+use Rattle.ssh_key.specs.sshsig.SshSignatureReaders.{SpellsSshSignature}
+use Rattle.ssh_key.specs.types.Error.{Error}
+use Rattle.ssh_key.specs.types.Error.TheVariants.{Memory}
+use Rattle.ssh_key.proofs.Acceptance.{other_cause}
+use Rattle.deploy_keys.specs.Signers.{Answers, FindsAmong, HasSigned, Here, IsFirst, IsSigner, JudgesEntry, JudgesLine, Later, NamesSigner, Nobody, PassesOver}
+
+-- ---- from a verdict to an answer
+
+is_no : false ≡ true → ⊥
+is_no same = cc
+
+pub answered : (P : Type 0) (verdict : Result (Unit {0}) Error) (answer : Result Bool Error) → AcceptsExactly P verdict → Answers verdict answer → IfOk answer (λ yes. IsTrue yes ↔ P)
+answered P (Ok x) answer holds is = rw is (λ yes. holds, λ p. refl)
+answered P (Err e) answer refused (inl memory) = rw memory.1 tt
+answered P (Err e) answer refused (inr other) = rw other.1 (λ yes. absurd (is_no yes), λ p. absurd (refused other.0 p))
+
+pub only_memory : (verdict : Result (Unit {0}) Error) (answer : Result Bool Error) → Answers verdict answer → IfErr answer (λ e. e ≡ Memory)
+only_memory (Ok x) answer is = rw is tt
+only_memory (Err e) answer (inl memory) = rw memory.1 memory.0
+only_memory (Err e) answer (inr other) = rw other.1 tt
+
+-- ---- one line
+
+-- the key of an entry is well-formed
+pub well_formed : (text : List ℕ) (a : AuthorizedKey) → IsAuthorizedLine text a → IsKey a.key
+well_formed text a read = elim read.is [ inl alone ↦ alone.fields.spelled.is | inr behind ↦ behind.fields.spelled.is ]
+
+-- the one entry of a line decides
+pub entry_decides : {Y : Type 0} (accepts : Question → Bool) (namespace content text : List ℕ) (f : SshSignature) (a : AuthorizedKey) → EntriesDetermineValues IsAuthorizedLine → IsAuthorizedLine text a → (r : Result (Option (String Y)) Error) → JudgesEntry accepts namespace content f a r → JudgesLine (IsSigner accepts namespace content f) text r
+entry_decides accepts namespace content text f a one read (Ok (Some comment)) judged = record { entry = a; line = read; signed = judged.0; comment = sym judged.1 }
+entry_decides accepts namespace content text f a one read (Ok None) judged = λ comment signer. judged (subst (λ (b : AuthorizedKey). HasSigned accepts namespace content f b) (one text signer.entry a signer.line read) signer.signed)
+entry_decides accepts namespace content text f a one read (Err e) judged = judged
+
+-- a line of no entry is no signer
+pub no_entry : {Y : Type 0} (accepts : Question → Bool) (namespace content text : List ℕ) (f : SshSignature) (e : Error) → (cause e ≢ NoMemory → IsNoEntry IsAuthorizedLine text) → (r : Result (Option (String Y)) Error) → PassesOver e r → JudgesLine (IsSigner accepts namespace content f) text r
+no_entry accepts namespace content text f e none (Ok (Some comment)) never = absurd never
+no_entry accepts namespace content text f e none (Ok None) other = λ comment signer. none (other_cause e other) signer.entry signer.line
+no_entry accepts namespace content text f e none (Err d) memory = memory.1
+
+-- ---- all lines
+
+-- a line that is no signer is passed over
+pub passed : {Y : Type 0} (Signs : List ℕ → List ℕ → Type 0) (all left rest : List (List ℕ)) (text : List ℕ) (found : Option (String Y)) → ((first : Option (List ℕ)) → IsFirst Signs left first → IsFirst Signs all first) → left ≡ text ∷ rest → JudgesLine Signs text (Ok found) → is_some found ≡ false → (first : Option (List ℕ)) → IsFirst Signs rest first → IsFirst Signs all first
+passed Signs all left rest text None was is judged without first later = was first (subst (λ (l : List (List ℕ)). IsFirst Signs l first) (sym is) (Later judged later))
+passed Signs all left rest text (Some comment) was is judged without first later = absurd cc
+
+-- one that is a signer is the first
+pub taken : {Y : Type 0} (Signs : List ℕ → List ℕ → Type 0) (all left rest : List (List ℕ)) (text : List ℕ) (found : Option (String Y)) → ((first : Option (List ℕ)) → IsFirst Signs left first → IsFirst Signs all first) → left ≡ text ∷ rest → JudgesLine Signs text (Ok found) → is_some found ≡ true → IsFirst Signs all (option_map string_bytes found)
+taken Signs all left rest text (Some comment) was is judged with_one = was (Some (string_bytes comment)) (subst (λ (l : List (List ℕ)). IsFirst Signs l (Some (string_bytes comment))) (sym is) (Here judged))
+taken Signs all left rest text None was is judged with_one = absurd cc
+
+pub nobody : (Signs : List ℕ → List ℕ → Type 0) (all left : List (List ℕ)) → ((first : Option (List ℕ)) → IsFirst Signs left first → IsFirst Signs all first) → left ≡ [] → IsFirst Signs all None
+nobody Signs all left was is = was None (subst (λ (l : List (List ℕ)). IsFirst Signs l None) (sym is) Nobody)
+
+-- ---- the signature
+
+pub named : {Y : Type 0} (accepts : Question → Bool) (keys namespace content bytes : List ℕ) (f : SshSignature) → SpellsSshSignature f bytes → (r : Result (Option (String Y)) Error) → FindsAmong (IsSigner accepts namespace content f) (filled_lines keys) r → NamesSigner accepts keys namespace content bytes r
+named accepts keys namespace content bytes f spelled (Ok found) is = (f, spelled, is)
+named accepts keys namespace content bytes f spelled (Err e) memory = λ other g read. other memory
+
+pub no_signature : (bytes : List ℕ) (e : Error) → (cause e ≢ NoMemory → IsSound (all_of bytes) → NoSpelling SpellsSshSignature bytes) → e ≢ Memory → (f : SshSignature) → SpellsSshSignature f bytes → ⊥
+no_signature bytes e none other f spelled = none (other_cause e other) refl f spelled

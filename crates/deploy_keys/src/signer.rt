@@ -1,0 +1,155 @@
+//! Which of the keys signed?
+
+ghost use Rattle.std.specs.Prelude.{◌≡◌, ◌↔◌, ℕ, List, IfErr, IfOk, IsTrue, string_bytes};
+ghost use Rattle.ssh_key.specs.authorized_keys.OpenSshEntries.{openssh_entry_of};
+ghost use Rattle.ssh_key.specs.entries.Fields.{filled_lines};
+ghost use Rattle.ssh_key.specs.entries.OpenSshLines.{IsAuthorizedLine};
+ghost use Rattle.ssh_key.specs.files.Answers.{ReadsEntry};
+ghost use Rattle.ssh_key.specs.model.Keys.{IsKey};
+ghost use Rattle.ssh_key.specs.model.SignedMessages.{IsVerified};
+ghost use Rattle.ssh_key.specs.sshsig.SshSignatures.{ssh_signature_of};
+ghost use Rattle.ssh_key.specs.types.Error.TheVariants.{Memory};
+ghost use Rattle.deploy_keys.specs.Signers.{Answers, FindsAmong, IsSigner, JudgesEntry, JudgesLine, NamesSigner, PassesOver, SpelledBySome};
+
+use ssh_key::authorized_keys::OpenSshEntry;
+use ssh_key::laws::one_authorized_line;
+use ssh_key::{AuthorizedKeys, Error, RawVerifier, Result, SshSig};
+use std::alloc::Global;
+
+/// The comment of the first deploy key that has signed the content, in that namespace (git's is
+/// `git`), or `None` if none of them has.
+///
+/// `keys` is read as sshd(8) reads authorized_keys. A line that is no entry, or one with options, is
+/// passed over: no deploy key stands there. `signature` is what stands in the armour of
+/// `ssh-keygen -Y sign`, decoded. Unless memory runs out, it fails exactly if these bytes spell no
+/// SSH signature, with the refusal of `SshSig::from_bytes`.
+pub fn find_signer<V: RawVerifier>(
+    alloc: Global,
+    keys: &str,
+    namespace: &str,
+    content: &[u8],
+    signature: &[u8],
+    verifier: &V,
+) -> Result<Option<String>>
+    ensures { NamesSigner (V.accepts verifier.now) keys.now namespace.now content.now signature.now
+        result }
+{
+    let signature = SshSig::from_bytes(alloc, signature)?;
+    find_among(alloc, keys, namespace, content, &signature, verifier)
+}
+
+/// The comment of the first entry whose key has made the signature.
+fn find_among<V: RawVerifier>(
+    alloc: Global,
+    keys: &str,
+    namespace: &str,
+    content: &[u8],
+    signature: &SshSig,
+    verifier: &V,
+) -> Result<Option<String>>
+    requires { SpelledBySome (ssh_signature_of signature.now) }
+    ensures { FindsAmong (IsSigner (V.accepts verifier.now) namespace.now content.now
+        (ssh_signature_of signature.now)) (filled_lines keys.now) result }
+{
+    for answer in AuthorizedKeys::openssh(alloc, keys) {
+        let found = signer_at_answer(alloc, answer, namespace, content, signature, verifier)?;
+        if found.is_some() {
+            return Ok(found);
+        }
+    }
+    Ok(None)
+}
+
+/// The comment in a line, if its key has made the signature.
+fn signer_at_answer<V: RawVerifier>(
+    alloc: Global,
+    answer: Result<OpenSshEntry>,
+    namespace: &str,
+    content: &[u8],
+    signature: &SshSig,
+    verifier: &V,
+) -> Result<Option<String>>
+    requires { SpelledBySome (ssh_signature_of signature.now) }
+    ensures { (line : List ℕ) → ReadsEntry openssh_entry_of IsAuthorizedLine line answer
+        → JudgesLine (IsSigner (V.accepts verifier.now) namespace.now content.now
+        (ssh_signature_of signature.now)) line result }
+{
+    one_authorized_line();
+    match answer {
+        Ok(entry) => signer_at_entry(alloc, &entry, namespace, content, signature, verifier),
+        Err(error) => passed_over(error),
+    }
+}
+
+/// Nothing stands in a line that was rejected, unless an allocation failed.
+fn passed_over(error: Error) -> Result<Option<String>>
+    ensures { PassesOver error result }
+{
+    if error == Error::Memory {
+        return Err(error);
+    }
+    Ok(None)
+}
+
+/// The comment of an entry without options, if its key has made the signature.
+fn signer_at_entry<V: RawVerifier>(
+    alloc: Global,
+    entry: &OpenSshEntry,
+    namespace: &str,
+    content: &[u8],
+    signature: &SshSig,
+    verifier: &V,
+) -> Result<Option<String>>
+    requires { SpelledBySome (ssh_signature_of signature.now) }
+    ensures { IsKey (openssh_entry_of entry.now).key → JudgesEntry (V.accepts verifier.now)
+        namespace.now content.now (ssh_signature_of signature.now) (openssh_entry_of entry.now)
+        result }
+{
+    if !entry.options().is_empty() {
+        return Ok(None);
+    }
+    let signed = has_signed(alloc, entry, namespace, content, signature, verifier)?;
+    if !signed {
+        return Ok(None);
+    }
+    let text = copied(alloc, entry.public_key().comment())?;
+    Ok(Some(text))
+}
+
+/// The text in memory of its own.
+fn copied(alloc: Global, text: &str) -> Result<String>
+    ensures value { IfOk result (λ copy. string_bytes copy ≡ text.now) }
+    ensures memory { IfErr result (λ e. e ≡ Memory) }
+{
+    Ok(String::from_str(alloc, text)?)
+}
+
+/// Whether the entry's key has made the signature.
+fn has_signed<V: RawVerifier>(
+    alloc: Global,
+    entry: &OpenSshEntry,
+    namespace: &str,
+    content: &[u8],
+    signature: &SshSig,
+    verifier: &V,
+) -> Result<bool>
+    requires { SpelledBySome (ssh_signature_of signature.now) }
+    ensures answer { IsKey (openssh_entry_of entry.now).key → IfOk result (λ yes. IsTrue yes
+        ↔ IsVerified (V.accepts verifier.now) (openssh_entry_of entry.now).key namespace.now
+        content.now (ssh_signature_of signature.now)) }
+    ensures memory { IfErr result (λ e. e ≡ Memory) }
+{
+    let key = entry.public_key();
+    answer_of(key.verify(alloc, namespace, content, signature, verifier))
+}
+
+/// Yes or no, unless an allocation failed.
+fn answer_of(verdict: Result<()>) -> Result<bool>
+    ensures { Answers verdict result }
+{
+    match verdict {
+        Ok(()) => Ok(true),
+        Err(error) if error == Error::Memory => Err(error),
+        Err(_) => Ok(false),
+    }
+}

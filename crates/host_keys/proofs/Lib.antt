@@ -1,0 +1,4 @@
+mod Certificates
+mod Listed
+mod Said
+mod Signed

@@ -1,0 +1,73 @@
+-- What is said of a host, by its name at the port or by its plain name, and what is answered.
+use Rattle.std.proofs.Common.{◌≡◌, ◌≢◌, ℕ, List, IfErr, Result, Ok, Err, inl, inr, subst, sym}
+use Rattle.ssh_key.specs.entries.HostNames.{known_name, standard_port}
+use Rattle.ssh_key.specs.types.Error.{Error}
+use Rattle.ssh_key.specs.types.Error.TheVariants.{Memory}
+use Rattle.ssh_key.specs.types.known_hosts.Verdict.{Verdict}
+use Rattle.ssh_key.specs.types.known_hosts.Verdict.TheVariants.{Changed, Revoked, Trusted, Unknown, Unreadable}
+use Rattle.host_keys.specs.Answers.{IsWhy, Names, OkExactly, answer_of}
+use Rattle.host_keys.specs.Hosts.{IsSaid, IsSettled}
+use Rattle.host_keys.specs.declared.refusal.Refusal.{Refusal}
+use Rattle.host_keys.specs.declared.refusal.Refusal.TheVariants as refusal
+
+module _ (Says : List ℕ → Verdict → Type 0) (host : List ℕ) (port : ℕ) where
+  at_standard : (v : Verdict) → port ≡ standard_port → Says (known_name host port) v → IsSaid Says host port v
+  at_standard Unknown e s = inr (s, subst (λ (p : ℕ). Says (known_name host p) Unknown) e s)
+  at_standard Revoked e s = inl ((λ u. cc u), s)
+  at_standard Unreadable e s = inl ((λ u. cc u), s)
+  at_standard Trusted e s = inl ((λ u. cc u), s)
+  at_standard Changed e s = inl ((λ u. cc u), s)
+
+  pub settled : (v : Verdict) → IsSettled v port → Says (known_name host port) v → IsSaid Says host port v
+  settled v (inl e) s = at_standard v e s
+  settled v (inr some) s = inl (some, s)
+
+  pub unsettled : (v w : Verdict) → (IsSettled v port → ⊥) → Says (known_name host port) v → Says (known_name host standard_port) w → IsSaid Says host port w
+  unsettled Unknown w more s t = inr (s, t)
+  unsettled Revoked w more s t = absurd (more (inr (λ u. cc u)))
+  unsettled Unreadable w more s t = absurd (more (inr (λ u. cc u)))
+  unsettled Trusted w more s t = absurd (more (inr (λ u. cc u)))
+  unsettled Changed w more s t = absurd (more (inr (λ u. cc u)))
+
+  module _ (one : (name : List ℕ) (v w : Verdict) → Says name v → Says name w → v ≡ w) where
+    one_said : (v w : Verdict) → IsSaid Says host port v → IsSaid Says host port w → v ≡ w
+    one_said v w (inl s) (inl t) = one _ v w s.1 t.1
+    one_said v w (inl s) (inr t) = absurd (s.0 (one _ v Unknown s.1 t.0))
+    one_said v w (inr s) (inl t) = absurd (t.0 (one _ w Unknown t.1 s.0))
+    one_said v w (inr s) (inr t) = one _ v w s.1 t.1
+
+    -- only what is trusted is accepted
+    pub exactly : (v : Verdict) → IsSaid Says host port v → OkExactly (IsSaid Says host port Trusted) (answer_of v)
+    exactly Trusted s = s
+    exactly Revoked s = λ other t. cc (one_said Revoked Trusted s t)
+    exactly Unreadable s = λ other t. cc (one_said Unreadable Trusted s t)
+    exactly Changed s = λ other t. cc (one_said Changed Trusted s t)
+    exactly Unknown s = λ other t. cc (one_said Unknown Trusted s t)
+
+    -- whatever else is wanted
+    pub refused : {Also : Type 0} (v : Verdict) (e : Refusal) → IsSaid Says host port v → answer_of v ≡ Err e → e ≢ refusal.Memory → IsSaid Says host port Trusted × Also → ⊥
+    refused v e s is other both = subst (OkExactly (IsSaid Says host port Trusted)) is (exactly v s) other both.0
+
+-- and the refusal says what is said
+pub why : (Said : Verdict → Type 0) (Bad : Error → Type 0) (v : Verdict) → Said v → IfErr (answer_of v) (IsWhy Said Bad)
+why Said Bad Trusted s = tt
+why Said Bad Revoked s = s
+why Said Bad Unreadable s = s
+why Said Bad Changed s = s
+why Said Bad Unknown s = s
+
+pub why_refused : (Said : Verdict → Type 0) (Bad : Error → Type 0) (v : Verdict) (e : Refusal) → Said v → answer_of v ≡ Err e → IsWhy Said Bad e
+why_refused Said Bad v e s is = subst (λ (r : Result (Unit {0}) Refusal). IfErr r (IsWhy Said Bad)) is (why Said Bad v s)
+
+-- where that is answered, the host is trusted
+pub is_trusted : (Said : Verdict → Type 0) (v : Verdict) (u : Unit {0}) → Said v → answer_of v ≡ Ok u → Said Trusted
+is_trusted Said Trusted u s e = s
+is_trusted Said Revoked u s e = absurd cc
+is_trusted Said Unreadable u s e = absurd cc
+is_trusted Said Changed u s e = absurd cc
+is_trusted Said Unknown u s e = absurd cc
+
+-- what the certificate is refused for
+pub why_bad : (Said : Verdict → Type 0) (Bad : Error → Type 0) (e : Error) (r : Refusal) → Said Trusted → (e ≢ Memory → Bad e) → Names e r → IsWhy Said Bad r
+why_bad Said Bad e r said bad (inl m) = subst (IsWhy Said Bad) (sym m.1) tt
+why_bad Said Bad e r said bad (inr n) = subst (IsWhy Said Bad) (sym n.1) (said, bad n.0)

@@ -1,0 +1,28 @@
+use Rattle.std.proofs.Common.{◌≡◌, true, sym, subst, ◌∙◌}
+use Rattle.ssh_key.specs.cert.CertificateValues.{certificate_of}
+use Rattle.ssh_key.specs.keys.Fingerprints.{IsFingerprint}
+use Rattle.ssh_key.specs.model.Keys.{Key}
+use Rattle.ssh_key.specs.model.Names.{Sha256}
+use Rattle.host_keys.specs.Hosts.{ForUsers, SomeOption}
+use Rattle.host_keys.proofs.Certificates.{bad, good}
+use Rattle.host_keys.proofs.certificate.validate.Goals as goal
+
+pub returns-then-not-is_host-clause-refused : goal.returns-then-not-is_host-clause-refused
+returns-then-not-is_host-clause-refused g c = λ other. ForUsers (λ hosts.
+    let yes : c.is_host.result ≡ true = c.is_host.ensures.1 (c.cert_type.ensures ∙ hosts) in
+    absurd cc)
+
+pub returns-then-not-is_empty-clause-refused : goal.returns-then-not-is_empty-clause-refused
+returns-then-not-is_empty-clause-refused g c = λ other. SomeOption (sym c.cert_type.ensures ∙ c.is_host.ensures.0 c.if-not-is_host.false) (λ none.
+    let yes : c.is_empty.result ≡ true = c.is_empty.ensures.1 (c.critical_options.ensures ∙ none) in
+    absurd cc)
+
+pub returns-clause-exactly : goal.returns-clause-exactly
+returns-clause-exactly g c =
+    let is = subst (λ (k : Key). IsFingerprint Sha256 k c.in_ok-signer.signer) c.signature_key.ensures.value c.in_ok-signer.ensures.gives in
+    good _ _ _ (certificate_of c.args.certificate.now) c.in_ok-signer.signer is (sym c.cert_type.ensures ∙ c.is_host.ensures.0 c.if-not-is_host.false) (sym c.critical_options.ensures ∙ c.is_empty.ensures.0 c.if-not-is_empty.false) c.validate_principal_at.result c.validate_principal_at.ensures
+
+pub returns-clause-refused : goal.returns-clause-refused
+returns-clause-refused g c =
+    let is = subst (λ (k : Key). IsFingerprint Sha256 k c.in_ok-signer.signer) c.signature_key.ensures.value c.in_ok-signer.ensures.gives in
+    bad _ _ _ (certificate_of c.args.certificate.now) c.in_ok-signer.signer is (sym c.cert_type.ensures ∙ c.is_host.ensures.0 c.if-not-is_host.false) (sym c.critical_options.ensures ∙ c.is_empty.ensures.0 c.if-not-is_empty.false) c.validate_principal_at.result c.validate_principal_at.ensures

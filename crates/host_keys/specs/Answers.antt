@@ -1,0 +1,44 @@
+-- What is answered about a host, and why it is refused.
+use Rattle.std.specs.Prelude.{◌≡◌, ◌≢◌, ◌⊎◌, ℕ, List, Bool, Result, Ok, Err}
+use Rattle.ssh_key.specs.model.Certificates.{Certificate}
+use Rattle.ssh_key.specs.model.Keys.{Key}
+use Rattle.ssh_key.specs.model.Verification.{Question}
+use Rattle.ssh_key.specs.types.Error.{Error}
+use Rattle.ssh_key.specs.types.Error.TheVariants.{Memory}
+use Rattle.ssh_key.specs.types.known_hosts.Verdict.{Verdict}
+use Rattle.ssh_key.specs.types.known_hosts.Verdict.TheVariants.{Changed, Revoked, Trusted, Unknown, Unreadable}
+use Rattle.host_keys.specs.Hosts.{IsBadFor, IsSaidOfKey, IsSaidOfSigned}
+use Rattle.host_keys.specs.declared.refusal.Refusal.{Refusal}
+use Rattle.host_keys.specs.declared.refusal.Refusal.TheVariants as refusal
+
+-- Out of memory aside, Ok exactly if this holds.
+abbrev pub OkExactly : Type 0 → Result Unit Refusal → Type 0
+OkExactly Holds (Ok x) = Holds
+OkExactly Holds (Err e) = e ≢ refusal.Memory → Holds → ⊥
+
+-- The refusal is that of a certificate for the error, or memory ran out.
+abbrev pub Names : Error → Refusal → Type 0
+Names e r = ((e ≡ Memory) × (r ≡ refusal.Memory)) ⊎ ((e ≢ Memory) × (r ≡ refusal.Certificate e))
+
+-- what follows from a verdict
+abbrev pub answer_of : Verdict → Result Unit Refusal
+answer_of Trusted = Ok tt
+answer_of Revoked = Err refusal.Revoked
+answer_of Unreadable = Err refusal.Unreadable
+answer_of Changed = Err refusal.Changed
+answer_of Unknown = Err refusal.Unknown
+
+-- That is said; or the host is trusted so far, and the certificate is bad for that error; or memory ran out.
+abbrev pub IsWhy : (Verdict → Type 0) → (Error → Type 0) → Refusal → Type 0
+IsWhy Said Bad refusal.Revoked = Said Revoked
+IsWhy Said Bad refusal.Unreadable = Said Unreadable
+IsWhy Said Bad refusal.Changed = Said Changed
+IsWhy Said Bad refusal.Unknown = Said Unknown
+IsWhy Said Bad (refusal.Certificate e) = Said Trusted × Bad e
+IsWhy Said Bad refusal.Memory = Unit {0}
+
+abbrev pub IsWhyNoKey : (List ℕ → List ℕ → List ℕ) → List ℕ → ℕ → Key → List (List ℕ) → Refusal → Type 0
+IsWhyNoKey hmac host port key lines = IsWhy (IsSaidOfKey hmac host port key lines) (λ e. ⊥)
+
+abbrev pub IsWhyNoCertificate : (List ℕ → List ℕ → List ℕ) → (Question → Bool) → ℕ → List ℕ → ℕ → Certificate → List (List ℕ) → Refusal → Type 0
+IsWhyNoCertificate hmac accepts t host port c lines = IsWhy (IsSaidOfSigned hmac host port c.signed.key c.signed.signature_key lines) (IsBadFor accepts t host c)

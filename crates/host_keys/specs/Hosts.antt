@@ -1,0 +1,73 @@
+-- When a key or a certificate is a host's, by the lines of known_hosts (ssh(1), "VERIFYING HOST KEYS"; sshd(8), "SSH_KNOWN_HOSTS FILE FORMAT"; PROTOCOL.certkeys).
+use Rattle.std.specs.Prelude.{◌≡◌, ◌≢◌, ◌⊎◌, ℕ, List, [], ◌∷◌, Bool, Some, option_map}
+use Rattle.ssh_key.specs.cert.Validity.{refusal_error}
+use Rattle.ssh_key.specs.entries.HostNames.{known_name, standard_port}
+use Rattle.ssh_key.specs.entries.HostVerdicts.{HidesSome, IsAuthority, IsRevoked}
+use Rattle.ssh_key.specs.known_hosts.Verdicts.{IsVerdict}
+use Rattle.ssh_key.specs.model.Certificates.{Certificate, Host}
+use Rattle.ssh_key.specs.model.Fingerprints.{Fingerprint, fingerprint}
+use Rattle.ssh_key.specs.model.Keys.{Key}
+use Rattle.ssh_key.specs.model.Names.{Sha256}
+use Rattle.ssh_key.specs.model.Principals.{IsValidFor}
+use Rattle.ssh_key.specs.model.Refusals.{first_refusal_for}
+use Rattle.ssh_key.specs.model.Verification.{Question}
+use Rattle.ssh_key.specs.types.Error.{Error}
+use Rattle.ssh_key.specs.types.Error.TheVariants.{CertificateFieldInvalid}
+use Rattle.ssh_key.specs.types.certificate.Field.TheVariants as field
+use Rattle.ssh_key.specs.types.known_hosts.Verdict.{Verdict}
+use Rattle.ssh_key.specs.types.known_hosts.Verdict.TheVariants.{Changed, Revoked, Trusted, Unknown, Unreadable}
+
+-- ---- what is said
+
+-- Something is said of the host at that port, or there is no other name to ask about.
+abbrev pub IsSettled : Verdict → ℕ → Type 0
+IsSettled v port = (port ≡ standard_port) ⊎ (v ≢ Unknown)
+
+-- It is said of the host at that port. Where nothing is, it is what is said of the host's plain name.
+abbrev pub IsSaid : (List ℕ → Verdict → Type 0) → List ℕ → ℕ → Verdict → Type 0
+IsSaid Says host port v = ((v ≢ Unknown) × Says (known_name host port) v) ⊎ (Says (known_name host port) Unknown × Says (known_name host standard_port) v)
+
+abbrev pub IsSaidOfKey : (List ℕ → List ℕ → List ℕ) → List ℕ → ℕ → Key → List (List ℕ) → Verdict → Type 0
+IsSaidOfKey hmac host port key lines = IsSaid (λ name. IsVerdict hmac name key lines) host port
+
+-- A line revokes the key, or the key that signed it.
+abbrev pub IsEitherRevoked : (List ℕ → List ℕ → List ℕ) → List ℕ → Key → Key → List (List ℕ) → Type 0
+IsEitherRevoked hmac name key signer lines = IsRevoked hmac name key lines ⊎ IsRevoked hmac name signer lines
+
+-- Of a key that another signed, the first of these that holds: a line revokes one of them; one may be hidden; the signer is an authority; it is not.
+abbrev pub IsVerdictOfSigned : (List ℕ → List ℕ → List ℕ) → List ℕ → Key → Key → List (List ℕ) → Verdict → Type 0
+IsVerdictOfSigned hmac name key signer lines Revoked = IsEitherRevoked hmac name key signer lines
+IsVerdictOfSigned hmac name key signer lines Unreadable = ¬ IsEitherRevoked hmac name key signer lines × HidesSome hmac name lines
+IsVerdictOfSigned hmac name key signer lines Trusted = ¬ IsEitherRevoked hmac name key signer lines × ¬ HidesSome hmac name lines × IsAuthority hmac name signer lines
+IsVerdictOfSigned hmac name key signer lines Unknown = ¬ IsEitherRevoked hmac name key signer lines × ¬ HidesSome hmac name lines × ¬ IsAuthority hmac name signer lines
+IsVerdictOfSigned hmac name key signer lines Changed = ⊥
+
+abbrev pub IsSaidOfSigned : (List ℕ → List ℕ → List ℕ) → List ℕ → ℕ → Key → Key → List (List ℕ) → Verdict → Type 0
+IsSaidOfSigned hmac host port key signer lines = IsSaid (λ name. IsVerdictOfSigned hmac name key signer lines) host port
+
+-- ---- what is trusted
+
+-- the fingerprint of the key that signed
+abbrev pub signers : Certificate → List Fingerprint
+signers c = fingerprint Sha256 c.signed.signature_key ∷ []
+
+-- For whoever trusts the key that signed, the certificate is good for the host at that time: it is for hosts, without critical options, and valid for the host's name.
+pub record IsGoodFor (accepts : Question → Bool) (t : ℕ) (host : List ℕ) (c : Certificate) : Type 0 where
+  pub for_hosts : c.signed.certificate_type ≡ Host
+  pub no_options : c.signed.critical_options ≡ []
+  pub valid : IsValidFor accepts (signers c) t host c
+
+-- The key is the host's.
+abbrev pub IsTrustedKey : (List ℕ → List ℕ → List ℕ) → List ℕ → ℕ → Key → List (List ℕ) → Type 0
+IsTrustedKey hmac host port key lines = IsSaidOfKey hmac host port key lines Trusted
+
+-- The certificate is the host's: by an authority of the host, and good for it.
+abbrev pub IsTrustedCertificate : (List ℕ → List ℕ → List ℕ) → (Question → Bool) → ℕ → List ℕ → ℕ → Certificate → List (List ℕ) → Type 0
+IsTrustedCertificate hmac accepts t host port c lines = IsSaidOfSigned hmac host port c.signed.key c.signed.signature_key lines Trusted × IsGoodFor accepts t host c
+
+-- ---- what is wrong with a certificate first
+
+pub data IsBadFor (accepts : Question → Bool) (t : ℕ) (host : List ℕ) (c : Certificate) : Error → Type 0 where
+  ForUsers : c.signed.certificate_type ≢ Host → IsBadFor accepts t host c (CertificateFieldInvalid field.CertType)
+  SomeOption : c.signed.certificate_type ≡ Host → c.signed.critical_options ≢ [] → IsBadFor accepts t host c (CertificateFieldInvalid field.CriticalOptions)
+  NotValid : c.signed.certificate_type ≡ Host → c.signed.critical_options ≡ [] → (e : Error) → option_map refusal_error (first_refusal_for accepts (signers c) t host c) ≡ Some e → IsBadFor accepts t host c e

@@ -1,0 +1,91 @@
+//! Whether a certificate is the host's.
+
+ghost use Rattle.std.specs.Prelude.{◌≢◌, IfErr};
+ghost use Rattle.ssh_key.specs.base.Acceptance.{AcceptsExactly};
+ghost use Rattle.ssh_key.specs.cert.CertificateValues.{certificate_of};
+ghost use Rattle.ssh_key.specs.entries.Fields.{filled_lines};
+ghost use Rattle.ssh_key.specs.model.Certificates.{IsCertificate};
+ghost use Rattle.ssh_key.specs.model.Keys.{normal_key};
+ghost use Rattle.ssh_key.specs.model.Parts.{BoxesFit};
+ghost use Rattle.ssh_key.specs.types.Error.TheVariants.{Memory};
+ghost use Rattle.host_keys.specs.Answers.{IsWhyNoCertificate, OkExactly};
+ghost use Rattle.host_keys.specs.Hosts.{IsBadFor, IsGoodFor, IsTrustedCertificate};
+
+use crate::refusal::{Refusal, answer};
+use crate::verdict::signed_verdict;
+use ssh_key::certificate::Field;
+use ssh_key::known_hosts::HmacSha1;
+use ssh_key::laws::key_fits;
+use ssh_key::{Certificate, Error, HashAlg, RawVerifier};
+use std::alloc::Global;
+
+/// Accepts the certificate that a host shows if a line `@cert-authority` of the text of known_hosts,
+/// as OpenSSH reads it, has the key that signed it for the host at that port, no line for it revokes
+/// that key or the certified one, and the certificate is one for hosts, without critical options,
+/// valid at that time for the host's name, which is given as the certificate lists it.
+///
+/// Out of memory aside, it refuses all others: with `Revoked` where a line revokes one of the keys,
+/// else with `Unreadable` where a line that can't be read could be one for the host, else with
+/// `Unknown` where the key that signed is no authority of the host, and else with `Certificate` and
+/// what is wrong first: `CertificateFieldInvalid` with `CertType` or `CriticalOptions`, or a refusal
+/// of `Certificate::validate_principal_at`. So a certificate that lists nobody is for each host of
+/// its authority (PROTOCOL.certkeys).
+///
+/// Where it would refuse a host at another port than 22 with `Unknown`, it asks, as ssh(1) does,
+/// about the host's plain name. Whether the certified key is one that the host is known by is
+/// `check_key`'s question, and not asked here.
+pub fn check_certificate<H: HmacSha1, V: RawVerifier>(
+    alloc: Global,
+    known_hosts: &str,
+    host: &str,
+    port: u16,
+    certificate: &Certificate,
+    unix_timestamp: u64,
+    hmac: &H,
+    verifier: &V,
+) -> Result<(), Refusal>
+    requires { IsCertificate (certificate_of certificate.now) }
+    ensures exactly { OkExactly (IsTrustedCertificate (H.hmac hmac.now) (V.accepts verifier.now)
+        unix_timestamp host.now port (certificate_of certificate.now)
+        (filled_lines known_hosts.now)) result }
+    ensures refused { IfErr result (IsWhyNoCertificate (H.hmac hmac.now) (V.accepts verifier.now)
+        unix_timestamp host.now port (certificate_of certificate.now)
+        (filled_lines known_hosts.now)) }
+{
+    key_fits();
+    let (key, signer) = (certificate.public_key(), certificate.signature_key());
+    let Ok(verdict) = signed_verdict(alloc, known_hosts, host, port, key, signer, hmac) else {
+        return Err(Refusal::Memory);
+    };
+    answer(verdict)?;
+    match validate(alloc, certificate, host, unix_timestamp, verifier) {
+        Ok(()) => Ok(()),
+        Err(error) => Err(Refusal::of_certificate(error)),
+    }
+}
+
+/// Whether the certificate is good for the host at that time, if its authority is.
+fn validate<V: RawVerifier>(
+    alloc: Global,
+    certificate: &Certificate,
+    host: &str,
+    unix_timestamp: u64,
+    verifier: &V,
+) -> ssh_key::Result<()>
+    requires { BoxesFit (normal_key (certificate_of certificate.now).signed.signature_key) }
+    ensures exactly { AcceptsExactly (IsGoodFor (V.accepts verifier.now) unix_timestamp host.now
+        (certificate_of certificate.now)) result }
+    ensures refused { IfErr result (λ e. e ≢ Memory → IsBadFor (V.accepts verifier.now)
+        unix_timestamp host.now (certificate_of certificate.now) e) }
+{
+    if !certificate.cert_type().is_host() {
+        return Err(Error::CertificateFieldInvalid(Field::CertType));
+    }
+    if !certificate.critical_options().is_empty() {
+        return Err(Error::CertificateFieldInvalid(Field::CriticalOptions));
+    }
+    let signer = certificate
+        .signature_key()
+        .fingerprint(alloc, HashAlg::Sha256)?;
+    certificate.validate_principal_at(alloc, unix_timestamp, host, &[signer], verifier)
+}

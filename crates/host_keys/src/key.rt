@@ -1,0 +1,43 @@
+//! Whether a key is the host's.
+
+ghost use Rattle.std.specs.Prelude.{IfErr};
+ghost use Rattle.ssh_key.specs.entries.Fields.{filled_lines};
+ghost use Rattle.ssh_key.specs.keys.Keys.{key_of};
+ghost use Rattle.host_keys.specs.Answers.{IsWhyNoKey, OkExactly};
+ghost use Rattle.host_keys.specs.Hosts.{IsTrustedKey};
+
+use crate::refusal::{Refusal, answer};
+use crate::verdict::key_verdict;
+use ssh_key::known_hosts::HmacSha1;
+use ssh_key::laws::one_verdict;
+use ssh_key::public::KeyData;
+use std::alloc::Global;
+
+/// Accepts the key that a host shows if the text of known_hosts, as OpenSSH reads it, lists the key
+/// for the host at that port, and revokes it in no line for it (`ssh_key::known_hosts::judge_key`).
+///
+/// Out of memory aside, it refuses all others: with `Revoked` where a line revokes the key, else
+/// with `Unreadable` where a line that can't be read could be one for the host, else with `Changed`
+/// where other keys are listed for it, and else with `Unknown`.
+///
+/// Where it would refuse a host at another port than 22 with `Unknown`, it asks, as ssh(1) does,
+/// about the host's plain name, and that answer is the answer.
+pub fn check_key<H: HmacSha1>(
+    alloc: Global,
+    known_hosts: &str,
+    host: &str,
+    port: u16,
+    key: &KeyData,
+    hmac: &H,
+) -> Result<(), Refusal>
+    ensures exactly { OkExactly (IsTrustedKey (H.hmac hmac.now) host.now port (key_of key.now)
+        (filled_lines known_hosts.now)) result }
+    ensures refused { IfErr result (IsWhyNoKey (H.hmac hmac.now) host.now port (key_of key.now)
+        (filled_lines known_hosts.now)) }
+{
+    one_verdict();
+    let Ok(verdict) = key_verdict(alloc, known_hosts, host, port, key, hmac) else {
+        return Err(Refusal::Memory);
+    };
+    answer(verdict)
+}

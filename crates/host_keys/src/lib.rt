@@ -1,0 +1,13 @@
+//! Whether the key or the certificate that a host shows is the host's, by known_hosts.
+//!
+//! It names `ssh_key` alone, and is proved from its contracts. Copy it.
+#![tactic(auto)]
+
+mod certificate;
+mod key;
+mod refusal;
+mod verdict;
+
+pub use certificate::check_certificate;
+pub use key::check_key;
+pub use refusal::Refusal;

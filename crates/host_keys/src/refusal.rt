@@ -1,0 +1,56 @@
+//! Why a host is refused.
+
+ghost use Rattle.std.specs.Prelude.{◌≡◌, ◌↔◌, IsTrue};
+ghost use Rattle.ssh_key.specs.types.Error.TheVariants.{Memory};
+ghost use Rattle.host_keys.specs.Answers.{Names, answer_of};
+
+use ssh_key::Error;
+use ssh_key::known_hosts::Verdict;
+
+/// Why what a host shows is not taken for the host's.
+#[derive(Debug, Drop)]
+pub enum Refusal {
+    /// The key, or the key that signed the certificate, is revoked.
+    Revoked,
+    /// A line can't be read that could be one for the host, perhaps a revocation.
+    Unreadable,
+    /// The host is known by other keys.
+    Changed,
+    /// Nothing is known of the host, or of the authority that signed the certificate.
+    Unknown,
+    /// The certificate is by an authority of the host, but not good for it now.
+    Certificate(Error),
+    /// Memory ran out.
+    Memory,
+}
+
+impl Refusal {
+    /// The refusal of a certificate for that error.
+    pub(crate) fn of_certificate(error: Error) -> Refusal
+        ensures { Names error result }
+    {
+        if is_memory(&error) {
+            return Refusal::Memory;
+        }
+        Refusal::Certificate(error)
+    }
+}
+
+fn is_memory(error: &Error) -> bool
+    ensures { IsTrue result ↔ (error.now ≡ Memory) }
+{
+    matches!(error, Error::Memory)
+}
+
+/// What follows from a verdict.
+pub(crate) fn answer(verdict: Verdict) -> Result<(), Refusal>
+    ensures { result ≡ answer_of verdict }
+{
+    match verdict {
+        Verdict::Trusted => Ok(()),
+        Verdict::Revoked => Err(Refusal::Revoked),
+        Verdict::Unreadable => Err(Refusal::Unreadable),
+        Verdict::Changed => Err(Refusal::Changed),
+        Verdict::Unknown => Err(Refusal::Unknown),
+    }
+}

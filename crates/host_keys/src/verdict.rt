@@ -1,0 +1,141 @@
+//! What known_hosts says of what a host shows.
+
+ghost use Rattle.std.specs.List.{Any};
+ghost use Rattle.std.specs.Prelude.{◌≡◌, ◌↔◌, IfErr, IfOk, IsTrue};
+ghost use Rattle.ssh_key.specs.entries.Fields.{filled_lines};
+ghost use Rattle.ssh_key.specs.entries.HostNames.{known_name};
+ghost use Rattle.ssh_key.specs.keys.Keys.{key_of};
+ghost use Rattle.ssh_key.specs.model.Keys.{IsKey};
+ghost use Rattle.ssh_key.specs.public.PublicKeys.{public_of};
+ghost use Rattle.ssh_key.specs.types.Error.TheVariants.{Memory};
+ghost use Rattle.ssh_key.specs.types.known_hosts.Verdict.TheVariants.{Revoked, Unknown, Unreadable};
+ghost use Rattle.host_keys.specs.Hosts.{IsSaidOfKey, IsSaidOfSigned, IsSettled, IsVerdictOfSigned};
+
+use ssh_key::known_hosts::{HmacSha1, Verdict, authorities, judge_key};
+use ssh_key::laws::compared_keys;
+use ssh_key::public::KeyData;
+use ssh_key::{PublicKey, Result};
+use std::alloc::Global;
+
+/// The port at which a host is known by its plain name.
+const STANDARD_PORT: u16 = 22;
+
+/// What the text says of the host's key. Fails only when out of memory.
+pub(crate) fn key_verdict<H: HmacSha1>(
+    alloc: Global,
+    known_hosts: &str,
+    host: &str,
+    port: u16,
+    key: &KeyData,
+    hmac: &H,
+) -> Result<Verdict>
+    ensures answer { IfOk result (IsSaidOfKey (H.hmac hmac.now) host.now port (key_of key.now)
+        (filled_lines known_hosts.now)) }
+    ensures memory { IfErr result (λ e. e ≡ Memory) }
+{
+    let verdict = judge_key(alloc, known_hosts, host, port, key, hmac)?;
+    if is_settled(verdict, port) {
+        return Ok(verdict);
+    }
+    judge_key(alloc, known_hosts, host, STANDARD_PORT, key, hmac)
+}
+
+/// What the text says of a key that the host shows and of the key that signed it. Fails only when
+/// out of memory.
+pub(crate) fn signed_verdict<H: HmacSha1>(
+    alloc: Global,
+    known_hosts: &str,
+    host: &str,
+    port: u16,
+    key: &KeyData,
+    signer: &KeyData,
+    hmac: &H,
+) -> Result<Verdict>
+    requires { IsKey (key_of signer.now) }
+    ensures answer { IfOk result (IsSaidOfSigned (H.hmac hmac.now) host.now port
+        (key_of key.now) (key_of signer.now) (filled_lines known_hosts.now)) }
+    ensures memory { IfErr result (λ e. e ≡ Memory) }
+{
+    let verdict = judge_signed(alloc, known_hosts, host, port, key, signer, hmac)?;
+    if is_settled(verdict, port) {
+        return Ok(verdict);
+    }
+    judge_signed(alloc, known_hosts, host, STANDARD_PORT, key, signer, hmac)
+}
+
+/// Whether nothing else is asked after a verdict on the host at that port.
+fn is_settled(verdict: Verdict, port: u16) -> bool
+    ensures { IsTrue result ↔ IsSettled verdict port }
+{
+    port == STANDARD_PORT || !is_unknown(verdict)
+}
+
+/// What the text says of both at just that port. Fails only when out of memory.
+fn judge_signed<H: HmacSha1>(
+    alloc: Global,
+    known_hosts: &str,
+    host: &str,
+    port: u16,
+    key: &KeyData,
+    signer: &KeyData,
+    hmac: &H,
+) -> Result<Verdict>
+    requires { IsKey (key_of signer.now) }
+    ensures answer { IfOk result (IsVerdictOfSigned (H.hmac hmac.now) (known_name host.now port)
+        (key_of key.now) (key_of signer.now) (filled_lines known_hosts.now)) }
+    ensures memory { IfErr result (λ e. e ≡ Memory) }
+{
+    let of_key = judge_key(alloc, known_hosts, host, port, key, hmac)?;
+    let of_signer = judge_key(alloc, known_hosts, host, port, signer, hmac)?;
+    if is_revoked(of_key) || is_revoked(of_signer) {
+        return Ok(Verdict::Revoked);
+    }
+    if is_unreadable(of_key) {
+        return Ok(Verdict::Unreadable);
+    }
+    let keys = authorities(alloc, known_hosts, host, port, hmac)?;
+    if !has_key(&keys, signer) {
+        return Ok(Verdict::Unknown);
+    }
+    Ok(Verdict::Trusted)
+}
+
+fn is_revoked(verdict: Verdict) -> bool
+    ensures { IsTrue result ↔ (verdict ≡ Revoked) }
+{
+    matches!(verdict, Verdict::Revoked)
+}
+
+fn is_unreadable(verdict: Verdict) -> bool
+    ensures { IsTrue result ↔ (verdict ≡ Unreadable) }
+{
+    matches!(verdict, Verdict::Unreadable)
+}
+
+fn is_unknown(verdict: Verdict) -> bool
+    ensures { IsTrue result ↔ (verdict ≡ Unknown) }
+{
+    matches!(verdict, Verdict::Unknown)
+}
+
+/// Whether one of the keys is that key.
+fn has_key(keys: &[PublicKey], key: &KeyData) -> bool
+    requires { IsKey (key_of key.now) }
+    ensures { IsTrue result ↔ Any (λ k. public_of k ≡ key_of key.now) keys.now }
+{
+    for listed in keys {
+        if is_same(key, listed.key_data()) {
+            return true;
+        }
+    }
+    false
+}
+
+/// Whether a key, which is well-formed, is the same as another.
+fn is_same(key: &KeyData, other: &KeyData) -> bool
+    requires { IsKey (key_of key.now) }
+    ensures { IsTrue result ↔ (key_of other.now ≡ key_of key.now) }
+{
+    compared_keys();
+    key == other
+}

@@ -1,0 +1,5 @@
+use Rattle.sshkey_cert.proofs.BlobsApart.{blobs_apart}
+use Rattle.sshkey_cert.proofs.laws.blobs_apart.Goals as goal
+
+pub returns : goal.returns
+returns c = blobs_apart

@@ -1,0 +1,38 @@
+-- What takes a key or a certificate.
+use Rattle.std.specs.Prelude.{◌≡◌, ◌≢◌, ◌⊎◌, ℕ, List, [], Bool, true, false, Result, Ok, Err, is_ok}
+use Rattle.sshkey_model.specs.CertificateNames.{certificate_algorithm_at}
+use Rattle.sshkey_model.specs.Reading.{whole}
+use Rattle.sshkey_base.specs.Causes.{NoMemory, cause}
+use Rattle.sshkey_base.specs.NameFormats.{certified_format}
+use Rattle.sshkey_base.specs.Reading.{IsRefused}
+use Rattle.sshkey_base.specs.declared.error.Error.{Error}
+use Rattle.sshkey_keys.specs.KeyFormats.{key_format}
+use Rattle.sshkey_keys.specs.Keys.{SpellsKey, key_of, key_data_at}
+use Rattle.sshkey_cert.specs.CertificateFormats.{certificate_format}
+use Rattle.sshkey_cert.specs.CertificateReaders.{SpellsCertificate, certificate_value_at}
+use Rattle.sshkey_cert.specs.CertificateValues.{certificate_of, comment_of}
+use Rattle.sshkey_cert.specs.declared.key_or_certificate.KeyOrCertificate.{KeyOrCertificate}
+use Rattle.sshkey_cert.specs.declared.key_or_certificate.KeyOrCertificate.TheVariants as either
+
+-- whether the bytes begin with the name of an algorithm in a certificate (PROTOCOL.certkeys)
+abbrev pub names_certificate : List ℕ → Bool
+names_certificate bytes = is_ok (certificate_algorithm_at bytes)
+
+-- The bytes spell the certificate, which has no comment, or begin with no certificate's name and spell the key.
+abbrev pub SpellsEither : KeyOrCertificate → List ℕ → Type 0
+SpellsEither (either.Key k) bytes = (names_certificate bytes ≡ false) × SpellsKey (key_of k) bytes
+SpellsEither (either.Certificate c) bytes = SpellsCertificate (certificate_of c) bytes × (comment_of c ≡ [])
+
+-- Out of memory aside, bytes are accepted exactly if they spell either.
+abbrev pub AcceptsEither : List ℕ → Result KeyOrCertificate Error → Type 0
+AcceptsEither bytes (Ok value) = SpellsEither value bytes
+AcceptsEither bytes (Err e) = cause e ≢ NoMemory → (value : KeyOrCertificate) → SpellsEither value bytes → ⊥
+
+-- The error is that of a certificate's reader or of a key's, as the name in front says.
+pub data RefusesEither (bytes : List ℕ) (e : Error) : Type 0 where
+  ByCertificate : names_certificate bytes ≡ true → IsRefused 0 (cause e) (whole certificate_value_at bytes) → RefusesEither bytes e
+  ByKey : names_certificate bytes ≡ false → IsRefused 0 (cause e) (whole key_data_at bytes) → RefusesEither bytes e
+
+-- The name needs memory, or what stands under it.
+abbrev pub NeedsEither : List ℕ → ℕ → Type 0
+NeedsEither bytes missing = certified_format.needs bytes missing ⊎ certificate_format.needs bytes missing ⊎ key_format.needs bytes missing

@@ -1,0 +1,121 @@
+-- A list of options is walked again, option by option.
+use Rattle.std.proofs.Common.{◌≡◌, ℕ, ◌<◌, Option, Some, None, List, [], ◌∷◌, ◌++◌, length, Bool, true, false, ◌&&◌, not, Result, Ok, Err, refl, sym, ap, ◌∙◌, subst, option_map, arith}
+use Rattle.sshkey_model.specs.Reading.{FormatEncoding, box_at, list_whole}
+use Rattle.sshkey_model.specs.Parts.{flat}
+use Rattle.sshkey_model.specs.Texts.{text_at}
+use Rattle.sshkey_model.specs.Options.{CertificateOption, Nesting, Plain, Nested, option, option_before, is_after, in_order, option_value_from, option_at, firsts, seconds}
+use Rattle.sshkey_model.proofs.CombinedReaders.{bind_ok, ok_is, met}
+use Rattle.sshkey_model.proofs.OptionReaders.{option_reads}
+use Rattle.sshkey_base.specs.declared.error.Error as wide-error
+use Rattle.sshkey_base.specs.Answers.{AnswersAlways}
+use Rattle.sshkey_base.specs.Causes.{cause}
+use Rattle.sshkey_base.specs.Reading.{Refuses}
+use Rattle.sshkey_base.specs.Source.{all_of}
+use Rattle.sshkey_base.proofs.ReadLists.{Collects, collects_more, leaves_less}
+use Rattle.sshkey_cert_ref.specs.declared.options_ref.item.SpelledOption.{SpelledOption}
+use Rattle.sshkey_cert_ref.specs.OptionLists.{options_in, are_plain, plainness_from}
+use Rattle.sshkey_cert_ref.specs.SpelledOptions.{pair_of, nesting}
+use Rattle.sshkey_keys_ref.specs.Taking.{Takes}
+use Rattle.sshkey_slices.specs.Slices.{is_taken}
+use Rattle.sshkey_cert_ref.proofs.ListSteps.{first_of, empty_list, all_refused, all_taken}
+
+abbrev Pair : Type 0
+Pair = CertificateOption × Nesting
+
+option_shows : (x : Pair) → 0 < length (flat (option x.0 x.1))
+unfolding flat
+option_shows x = omega arith
+
+pub option_less : (before : Option Pair) (b : List ℕ) (x : Pair) (rest : List ℕ) → option_at before b ≡ Ok (x, rest) → length rest < length b
+option_less before b x rest e = leaves_less (option_reads before) option_shows b x rest e
+
+kept_order : (before : Pair) (x y : Pair) → in_order (Some before) x ≡ Ok y → x ≡ y
+kept_order before x y e = ok_is x y (met (is_after (option_before (Some before)) x.0) FormatEncoding (Ok x) y e).1
+
+-- an option that may stand behind another may stand first
+option_again : (before : Pair) (b : List ℕ) (y : Pair × List ℕ) → option_at (Some before) b ≡ Ok y → option_at None b ≡ Ok y
+unfolding option_at
+option_again before b y e =
+    let n = bind_ok (text_at b) _ y e in
+    let v = bind_ok (box_at option_value_from n.0.1) _ y n.2 in
+    let x = bind_ok (in_order (Some before) (record { name = n.0.0; value = v.0.0.0 }, v.0.0.1)) _ y v.2 in
+    let same = kept_order before (record { name = n.0.0; value = v.0.0.0 }, v.0.0.1) x.0 x.1 in
+    rw (n.1, v.1, same) x.2
+
+-- ---- the first option
+
+abbrev Taken : Option Pair → List ℕ → Result SpelledOption wide-error.Error → List ℕ → Type 0
+Taken before b r rest = Takes pair_of cause (option_at before) b r rest
+
+-- It is the first of the list, and the others stand behind it.
+pub record IsFirstOption (b : List ℕ) (first : CertificateOption) (rest : List ℕ) : Type 0 where
+  pub all : options_in b ≡ first ∷ options_in rest
+  pub later : is_taken (list_whole option_at rest) ≡ true
+  pub shorter : length rest < length b
+
+pub option_first : (b rest : List ℕ) (o : SpelledOption) → 0 < length b → is_taken (list_whole option_at b) ≡ true → Taken None b (Ok o) rest → IsFirstOption b (pair_of o).0 rest
+unfolding options_in
+option_first b rest o some taken h =
+    let f = first_of option_at option_less option_again b some taken in
+    let first = f.2 in
+    let same : (f.0, f.1) ≡ (pair_of o, rest) = ok_is _ _ (sym first.read ∙ h.value) in
+    let all : IsFirstOption b f.0.0 f.1 = record { all = ap firsts first.all; later = first.later; shorter = first.shorter } in
+    subst (λ (z : Pair × List ℕ). IsFirstOption b z.0.0 z.1) same all
+
+pub option_there : (b : List ℕ) (e : wide-error.Error) → 0 < length b → is_taken (list_whole option_at b) ≡ true → Refuses 0 (cause e) (option_at None b) → ⊥
+option_there b e some taken h =
+    let f = first_of option_at option_less option_again b some taken in
+    absurd (cc (sym h.is ∙ f.2.read))
+
+-- some are left where bytes are
+pub some_options : (b : List ℕ) → 0 < length b → is_taken (list_whole option_at b) ≡ true → options_in b ≡ [] → ⊥
+unfolding options_in
+some_options b some taken none =
+    let f = first_of option_at option_less option_again b some taken in
+    let first = f.2 in
+    let all : options_in b ≡ f.0.0 ∷ options_in f.1 = ap firsts first.all in
+    cc
+
+pub no_options : (b : List ℕ) → length b ≡ 0 → options_in b ≡ []
+unfolding options_in
+no_options b none = ap firsts (empty_list option_at b none)
+
+-- ---- a walk to the end
+
+-- the options so far, whether all are plain, and what is left behind them
+pub record Walks (b : List ℕ) (before : Option SpelledOption) (plain : Bool) (rest : List ℕ) : Type 0 where
+  pub done : List Pair
+  pub are : plain ≡ are_plain (seconds done)
+  pub left : Collects option_at (all_of b) (option_map pair_of before) done (all_of rest)
+
+plain_so_far : (done : List Pair) (x : Pair) → are_plain (seconds (done ++ x ∷ [])) ≡ are_plain (seconds done) && are_plain (x.1 ∷ [])
+plain_so_far [] (o, n) = refl
+plain_so_far ((o, Plain) ∷ done) x = plain_so_far done x
+plain_so_far ((o, Nested) ∷ done) x = refl
+
+one_plain : (nested : Bool) → are_plain (nesting nested ∷ []) ≡ not nested
+one_plain true = refl
+one_plain false = refl
+
+still : (plain now_plain nested : Bool) (done : List Pair) (x : Pair) → plain ≡ are_plain (seconds done) → now_plain ≡ plain && not nested → x.1 ≡ nesting nested → now_plain ≡ are_plain (seconds (done ++ x ∷ []))
+still plain now_plain nested done x are says is =
+    let last : are_plain (x.1 ∷ []) ≡ not nested = ap (λ (n : Nesting). are_plain (n ∷ [])) is ∙ one_plain nested in
+    says ∙ rw (are, plain_so_far done x, last) refl
+
+pub walk_less : (before : Option Pair) (b rest : List ℕ) (o : SpelledOption) → Taken before b (Ok o) rest → length rest < length b
+walk_less before b rest o h = option_less before b (pair_of o) rest h.value
+
+-- one more that is plain, or is not
+pub walk_on : (b left rest : List ℕ) (before : Option SpelledOption) (plain now_plain : Bool) (o : SpelledOption) → Walks b before plain left → Taken (option_map pair_of before) left (Ok o) rest → now_plain ≡ plain && not o.nested → Walks b (Some o) now_plain rest
+walk_on b left rest before plain now_plain o w h says = record {
+  done = w.done ++ pair_of o ∷ [];
+  are = still plain now_plain o.nested w.done (pair_of o) w.are says refl;
+  left = collects_more option_at (λ x. x) (all_of b) (all_of left) (all_of rest) (option_map pair_of before) w.done (pair_of o) w.left (record { value = h.value; missing = refl; outer = refl }) (option_less (option_map pair_of before) left (pair_of o) rest h.value);
+}
+
+-- the next option is refused, and so are all the bytes
+pub walk_refused : (b left : List ℕ) (before : Option SpelledOption) (plain : Bool) (e : wide-error.Error) → 0 < length left → Walks b before plain left → Refuses 0 (cause e) (option_at (option_map pair_of before) left) → AnswersAlways (λ (p : Bool). p) cause (plainness_from b) (Err e)
+walk_refused b left before plain e some w h = rw (all_refused option_at b left (option_map pair_of before) w.done h.met some w.left h.is) (h.same refl)
+
+pub walk_ends : (b rest : List ℕ) (before : Option SpelledOption) (plain : Bool) → length rest ≡ 0 → Walks b before plain rest → AnswersAlways (λ (p : Bool). p) cause (plainness_from b) (Ok plain)
+walk_ends b rest before plain none w = rw (all_taken option_at b rest (option_map pair_of before) w.done none w.left) w.are

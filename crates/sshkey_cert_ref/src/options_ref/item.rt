@@ -1,0 +1,88 @@
+//! One option.
+
+ghost use Rattle.std.specs.Prelude.{◌≡◌, option_map};
+ghost use Rattle.sshkey_model.specs.Options.{in_order, is_after, option_at, option_before, option_value_from};
+ghost use Rattle.sshkey_model.specs.Reading.{box_at, whole};
+ghost use Rattle.sshkey_model.specs.Texts.{text_at};
+ghost use Rattle.sshkey_base.specs.Answers.{AnswersAlways};
+ghost use Rattle.sshkey_base.specs.Causes.{cause, encoding_cause};
+ghost use Rattle.sshkey_cert_ref.specs.SpelledOptions.{pair_of, value_pair_of};
+ghost use Rattle.sshkey_keys_ref.specs.Taking.{Takes};
+
+use crate::strings::take_string;
+use sshkey_base::{Error, Result, encoding};
+use sshkey_format::ReadFrom;
+
+/// An option as it is spelled: its value may be an empty text in its string, in place of nothing.
+#[derive(Clone, Copy)]
+pub(super) struct SpelledOption<'a> {
+    pub name: &'a str,
+    pub value: &'a str,
+    pub nested: bool,
+}
+
+/// Takes an option that stands after the one before.
+#[tactic(auto, using(sshkey_format::proofs::Walking::walking), unfolding(sshkey_model::specs::Options::option_at))]
+pub(super) fn take_option<'a>(
+    before: Option<SpelledOption<'a>>,
+    bytes: &mut &'a [u8],
+) -> Result<SpelledOption<'a>>
+    ensures { Takes pair_of cause (option_at (option_map pair_of before.entry))
+        bytes.old.now result bytes.new.now }
+{
+    let name = <&'a str>::read_from(bytes)?;
+    let (value, nested) = take_value(bytes)?;
+    let option = SpelledOption {
+        name,
+        value,
+        nested,
+    };
+    if !may_follow(before, option) {
+        return Err(Error::FormatEncoding);
+    }
+    Ok(option)
+}
+
+/// Whether the option may stand after that one: its name is above that one's.
+fn may_follow(before: Option<SpelledOption<'_>>, option: SpelledOption<'_>) -> bool
+    ensures { result ≡ is_after (option_before (option_map pair_of before.entry))
+        (pair_of option.entry).0 }
+{
+    match before {
+        Some(before) => before.name < option.name,
+        None => true,
+    }
+}
+
+/// Takes a value, and whether it is an empty text in its string.
+fn take_value<'a>(bytes: &mut &'a [u8]) -> encoding::Result<(&'a str, bool)>
+    ensures { Takes value_pair_of encoding_cause (box_at option_value_from)
+        bytes.old.now result bytes.new.now }
+{
+    let string = take_string(bytes)?;
+    value_from(string)
+}
+
+/// The value in a string, and whether it is an empty text there.
+fn value_from(string: &[u8]) -> encoding::Result<(&str, bool)>
+    ensures { AnswersAlways value_pair_of encoding_cause (option_value_from string.now) result }
+{
+    if string.is_empty() {
+        return Ok(("", false));
+    }
+    let text = whole_text(string)?;
+    Ok((text, text.is_empty()))
+}
+
+/// The text that all the bytes spell. Fails with `TrailingData` and the number of bytes after it.
+fn whole_text(bytes: &[u8]) -> encoding::Result<&str>
+    ensures { AnswersAlways (λ t. t.now) encoding_cause (whole text_at bytes.now) result }
+{
+    let mut rest = bytes;
+    let text = <&str>::read_from(&mut rest)?;
+    if !rest.is_empty() {
+        let remaining = rest.len();
+        return Err(encoding::Error::TrailingData { remaining });
+    }
+    Ok(text)
+}

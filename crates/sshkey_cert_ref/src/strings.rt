@@ -1,0 +1,29 @@
+//! Strings whose bytes are judged where they lie.
+
+ghost use Rattle.std.specs.Prelude.{Ok};
+ghost use Rattle.sshkey_base.specs.Causes.{encoding_cause};
+ghost use Rattle.sshkey_keys_ref.specs.Taking.{Takes};
+ghost use Rattle.sshkey_model.specs.Reading.{box_at};
+ghost use Rattle.sshkey_slices.specs.Slices.{Splits};
+
+use sshkey_base::encoding::Result;
+use sshkey_format::ReadFrom;
+
+/// Takes the bytes of a string.
+pub(crate) fn take_string<'a>(bytes: &mut &'a [u8]) -> Result<&'a [u8]>
+    ensures { Takes (λ s. s.now) encoding_cause (box_at (λ s. Ok s))
+        bytes.old.now result bytes.new.now }
+{
+    let (string, rest) = first_string(*bytes)?;
+    *bytes = rest;
+    Ok(string)
+}
+
+/// The bytes of a string, and what stands after it.
+fn first_string(bytes: &[u8]) -> Result<(&[u8], &[u8])>
+    ensures { Splits (λ s. s.now) encoding_cause (box_at (λ s. Ok s)) bytes.now result }
+{
+    let mut rest = bytes;
+    let string = <&[u8]>::read_from(&mut rest)?;
+    Ok((string, rest))
+}

@@ -1,4 +1,0 @@
-pub mod TextLists
-pub mod OptionLists
-pub mod SpelledOptions
-pub mod Views
