@@ -1,7 +1,7 @@
 -- The hash that is told first, one after the other.
 use Rattle.std.proofs.Common.{◌≡◌, ◌∙◌, ap, sym, refl, ℕ, suc, ◌+◌, ◌<◌, ◌≤◌, List, ◌∷◌, length, drop, get_or, true, false, add-one, drop-cons}
 use Rattle.std.proofs.Math.ListN.{drop_of_length-le}
-use Rattle.std.specs.Prelude.{repeat}
+use Rattle.std.specs.Prelude.{replicate}
 use Rattle.callers.specs.Hashed.{hash_among, is_hash_of}
 use Rattle.callers.specs.declared.hashes.Hashed.{Hashed}
 
@@ -20,5 +20,5 @@ module _ (salt name : List ℕ) (hs : List Hashed) (i : ℕ) (was : hash_among s
         let later : hash_among salt name (h ∷ drop (i + 1) hs) ≡ hash_among salt name (drop (i + 1) hs) = rw no refl in
         sym later ∙ ap (hash_among salt name) (sym front) ∙ was
 
-  pub none : length hs ≤ i → repeat 20 0 ≡ hash_among salt name hs
+  pub none : length hs ≤ i → replicate 20 0 ≡ hash_among salt name hs
   none end = sym (ap (hash_among salt name) (drop_of_length-le hs end)) ∙ was
