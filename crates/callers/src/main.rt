@@ -6,6 +6,7 @@
 //! `hashed` tells of an HMAC-SHA1 that another program has computed.
 #![tactic(auto)]
 
+mod agent;
 mod hashes;
 mod host;
 mod issue;
@@ -53,6 +54,8 @@ fn answer(alloc: Global, line: &str, told: &mut Told, hashes: &mut Hashes) -> Re
                 hashes.add(read_hashed(alloc, words)?)?;
                 Ok(String::from_str(alloc, "told")?)
             }
+            "agent-request" => agent::request(alloc, words),
+            "agent-response" => agent::response(alloc, words),
             "host-key" => host::key(alloc, words, hashes),
             "host-certificate" => host::certificate(alloc, words, hashes, told),
             "issue" => issue::answer(alloc, words, told),

@@ -1,0 +1,107 @@
+-- What the messages of an SSH agent hold (draft-miller-ssh-agent, section 5): values, how they are written, and their formats.
+use Rattle.std.proofs.Common.{ℕ, List, Option, Result, Ok, refl}
+use Rattle.std.specs.Int.{w32}
+use Rattle.ssh_key.specs.base.Formats.{Format, number32_format, string_format, text_format}
+use Rattle.ssh_key.specs.base.Leaves.{SpellsNumber32, SpellsString, number32_normal, string_normal}
+use Rattle.ssh_key.specs.base.Texts.{SpellsText, text_normal}
+use Rattle.ssh_key.specs.format.Behind.{SpellsBoth}
+use Rattle.ssh_key.specs.format.Terms.{◌then◌, IsMapped, tested}
+use Rattle.ssh_key.specs.keypairs.KeypairFormats.{keypair_format}
+use Rattle.ssh_key.specs.keypairs.KeypairReaders.{SpellsKeypair}
+use Rattle.ssh_key.specs.keypairs.Keypairs.{keypair_parts, pair_of}
+use Rattle.ssh_key.specs.keypairs.NormalPairs.{IsWellFormedPair, keypair_normal}
+use Rattle.ssh_key.specs.model.KeyPairs.{KeyPair}
+use Rattle.ssh_key.specs.model.Parts.{Parts, number, ◌&◌, flat, Fits}
+use Rattle.ssh_key.specs.model.Reading.{Fault}
+use Rattle.ssh_key.specs.model.Texts.{string, IsText}
+use Rattle.agent_codec.specs.Parts.{both_spelled}
+use Rattle.agent_codec.specs.declared.addition.Addition as code_addition
+use Rattle.agent_codec.specs.declared.identity.Identity as code_identity
+use Rattle.agent_codec.specs.declared.sign_request.SignRequest as code_sign_request
+
+-- ---- a key that the agent holds: its blob and its comment (section 5.5)
+
+pub record Identity : Type 0 where
+  pub key : List ℕ
+  pub comment : List ℕ
+
+abbrev pub identity_of : code_identity.Identity → Identity
+identity_of i = record { key = i.key; comment = i.comment }
+
+abbrev pub identity : Identity → Parts
+identity i = string i.key & string i.comment
+
+abbrev pub identity_of_parts : List ℕ × List ℕ → Result Identity Fault
+identity_of_parts a = Ok (record { key = a.0; comment = a.1 })
+
+abbrev pub identity_format : Format Identity
+identity_format = tested identity_of_parts (string_format then text_format)
+
+-- ---- what is to be signed: the blob of the key, the message and the flags (section 5.6)
+
+pub record SignRequest : Type 0 where
+  pub key : List ℕ
+  pub message : List ℕ
+  pub flags : ℕ
+
+abbrev pub sign_request_of : code_sign_request.SignRequest → SignRequest
+sign_request_of r = record { key = r.key; message = r.message; flags = r.flags }
+
+abbrev pub sign_request : SignRequest → Parts
+sign_request r = string r.key & string r.message & number w32 r.flags
+
+abbrev pub sign_request_of_parts : List ℕ × (List ℕ × ℕ) → Result SignRequest Fault
+sign_request_of_parts a = Ok (record { key = a.0; message = a.1.0; flags = a.1.1 })
+
+abbrev pub sign_request_format : Format SignRequest
+sign_request_format = tested sign_request_of_parts (string_format then string_format then number32_format)
+
+-- ---- a pair that is added: behind its name, and its comment (section 5.2)
+
+pub record Addition : Type 0 where
+  pub pair : Option KeyPair
+  pub comment : List ℕ
+
+abbrev pub addition_of : code_addition.Addition → Addition
+addition_of a = record { pair = pair_of a.keypair; comment = a.comment }
+
+abbrev pub addition : code_addition.Addition → Parts
+addition a = keypair_parts a.keypair & string a.comment
+
+abbrev pub addition_of_parts : Option KeyPair × List ℕ → Result Addition Fault
+addition_of_parts a = Ok (record { pair = a.0; comment = a.1 })
+
+abbrev pub addition_format : Format Addition
+addition_format = tested addition_of_parts (keypair_format then text_format)
+
+-- ---- what is proved of them
+
+pub identity_parts_read : IsMapped identity_format.read identity_of_parts (string_format then text_format).read
+identity_parts_read = record { same = λ b. refl }
+
+pub sign_request_parts_read : IsMapped sign_request_format.read sign_request_of_parts (string_format then string_format then number32_format).read
+sign_request_parts_read = record { same = λ b. refl }
+
+pub addition_parts_read : IsMapped addition_format.read addition_of_parts (keypair_format then text_format).read
+addition_parts_read = record { same = λ b. refl }
+
+pub identity_normal : (i : Identity) → IsText i.comment → Fits (identity i) → identity_format.Spells i (flat (identity i))
+identity_normal i is fits = record {
+  inner = (i.key, i.comment);
+  spelled = both_spelled SpellsString SpellsText i.key i.comment (string i.key) (string i.comment) (string_normal i.key tt) (text_normal i.comment is) fits;
+  makes = refl;
+}
+
+pub sign_request_normal : (r : SignRequest) → Fits (sign_request r) → sign_request_format.Spells r (flat (sign_request r))
+sign_request_normal r fits = record {
+  inner = (r.key, (r.message, r.flags));
+  spelled = both_spelled SpellsString (SpellsBoth SpellsString SpellsNumber32) r.key (r.message, r.flags) (string r.key) (string r.message & number w32 r.flags) (string_normal r.key tt) (both_spelled SpellsString SpellsNumber32 r.message r.flags (string r.message) (number w32 r.flags) (string_normal r.message tt) (number32_normal r.flags tt)) fits;
+  makes = refl;
+}
+
+pub addition_normal : (a : code_addition.Addition) → IsWellFormedPair (pair_of a.keypair) × IsText a.comment → Fits (addition a) → addition_format.Spells (addition_of a) (flat (addition a))
+addition_normal a is fits = record {
+  inner = (pair_of a.keypair, a.comment);
+  spelled = both_spelled SpellsKeypair SpellsText (pair_of a.keypair) a.comment (keypair_parts a.keypair) (string a.comment) (keypair_normal a.keypair is.0) (text_normal a.comment is.1) fits;
+  makes = refl;
+}

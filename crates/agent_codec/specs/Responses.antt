@@ -1,0 +1,117 @@
+-- Responses of an agent (draft-miller-ssh-agent, section 5), their numbers (section 8.1), and how they stand in a frame.
+use Rattle.std.proofs.Common.{◌≡◌, ◌<◌, ◌+◌, ℕ, List, length, map, Option, Some, None, Result, Ok, Err, refl, arith}
+use Rattle.std.specs.Prelude.{◌==◌, if◌then◌else◌}
+use Rattle.std.specs.Int.{w8}
+use Rattle.std.specs.List.{AllByRecursion}
+use Rattle.ssh_key.specs.base.Formats.{Format, byte_format}
+use Rattle.ssh_key.specs.counted.Counted.{counted, counted_format, counted_normal}
+use Rattle.ssh_key.specs.format.Terms.{IsChosen, boxed, choice, tested}
+use Rattle.ssh_key.specs.keys.KeyFormats.{signature_format}
+use Rattle.ssh_key.specs.keys.SignatureReaders.{SpellsSignature, signature_normal}
+use Rattle.ssh_key.specs.keys.Signatures.{signature_of}
+use Rattle.ssh_key.specs.model.Parts.{Parts, box, bytes, flat, Fits, number, ◌&◌}
+use Rattle.ssh_key.specs.model.Reading.{Fault, FormatEncoding}
+use Rattle.ssh_key.specs.model.Signatures.{Signature, IsSignature, signature}
+use Rattle.ssh_key.specs.model.Texts.{string, IsText}
+use Rattle.ssh_key.specs.types.Signature as code_signature
+use Rattle.ssh_key.proofs.Writing.{length_both, length_box}
+use Rattle.agent_codec.specs.Parts.{after_number, choice_read, framed, nothing_format, number_alone}
+use Rattle.agent_codec.specs.Records.{Identity, identity, identity_format, identity_normal, identity_of}
+use Rattle.agent_codec.specs.declared.identity.Identity as code_identity
+use Rattle.agent_codec.specs.declared.response.Response as code
+use Rattle.agent_codec.specs.declared.response.Response.TheVariants as variants
+use Rattle.agent_codec.specs.declared.response.Message as unframed
+use Rattle.agent_codec.specs.declared.response.kind.ResponseKind.{ResponseKind}
+use Rattle.agent_codec.specs.declared.response.kind.ResponseKind.TheVariants as kinds
+
+pub data Response : Type 0 where
+  Failure Success : Response
+  Identities : List Identity → Response
+  Signed : Signature → Response
+
+abbrev pub response_of : code.Response → Response
+response_of variants.Failure = Failure
+response_of variants.Success = Success
+response_of (variants.IdentitiesAnswer keys) = Identities (map identity_of keys.items)
+response_of (variants.SignResponse g) = Signed (signature_of g)
+
+-- the same without its frame
+abbrev pub message_of : unframed.Message → Response
+message_of m = response_of m.0
+
+-- the signature, of a response that is one
+abbrev pub given_of : code.Response → Option code_signature.Signature
+given_of (variants.SignResponse g) = Some g
+given_of _ = None
+
+-- the keys, behind their number
+abbrev pub answer : List code_identity.Identity → Parts
+answer keys = counted (λ i. identity (identity_of i)) keys
+
+-- the signature, in a string
+abbrev pub signed : code_signature.Signature → Parts
+signed g = box (signature (signature_of g))
+
+-- the number, and what it holds
+abbrev pub response : code.Response → Parts
+response variants.Failure = number w8 5
+response variants.Success = number w8 6
+response (variants.IdentitiesAnswer keys) = number w8 12 & answer keys.items
+response (variants.SignResponse g) = number w8 14 & signed g
+
+-- ---- as a format
+
+abbrev pub kind_from : ℕ → Result ResponseKind Fault
+kind_from n =
+    if n == 5 then Ok kinds.Failure
+    else if n == 6 then Ok kinds.Success
+    else if n == 12 then Ok kinds.IdentitiesAnswer
+    else if n == 14 then Ok kinds.SignResponse
+    else Err FormatEncoding
+
+abbrev pub kind_format : Format ResponseKind
+kind_format = tested kind_from byte_format
+
+-- what stands behind the number
+abbrev pub body_format : ResponseKind → Format Response
+body_format kinds.Failure = nothing_format Failure
+body_format kinds.Success = nothing_format Success
+body_format kinds.IdentitiesAnswer = tested (λ keys. Ok (Identities keys)) (counted_format identity_format)
+body_format kinds.SignResponse = tested (λ g. Ok (Signed g)) (boxed signature_format)
+
+abbrev pub message_format : Format Response
+message_format = tested (λ m. Ok m.1) (choice kind_format body_format)
+
+-- a response in its frame
+abbrev pub response_format : Format Response
+response_format = boxed message_format
+
+-- ---- what is proved of it
+
+pub message_chosen : IsChosen message_format.read kind_format.read (λ k. (body_format k).read)
+message_chosen = choice_read kind_format body_format
+
+-- The signature is one of its algorithm, and the comments are texts.
+abbrev pub IsWellFormed : code.Response → Type 0
+IsWellFormed (variants.IdentitiesAnswer keys) = AllByRecursion (λ i. IsText i.comment) keys.items
+IsWellFormed (variants.SignResponse g) = IsSignature (signature_of g)
+IsWellFormed _ = Unit {0}
+
+-- a key has bytes
+shows : (i : code_identity.Identity) → 0 < length (flat (identity (identity_of i)))
+shows i =
+    let all : length (flat (identity (identity_of i))) ≡ length (flat (string i.key)) + length (flat (string i.comment)) = length_both (string i.key) (string i.comment) in
+    let first : length (flat (string i.key)) ≡ 4 + length (flat (bytes i.key)) = length_box (bytes i.key) in
+    omega (arith, all, first)
+
+answer_normal : (keys : List code_identity.Identity) → AllByRecursion (λ i. IsText i.comment) keys → Fits (answer keys) → (counted_format identity_format).Spells (map identity_of keys) (flat (answer keys))
+answer_normal keys all fits = counted_normal identity_of (λ i. identity (identity_of i)) (λ i. IsText i.comment) identity_format.Spells (λ i is f. identity_normal (identity_of i) is f) shows keys all fits
+
+message_normal : (r : code.Response) → IsWellFormed r → Fits (response r) → message_format.Spells (response_of r) (flat (response r))
+message_normal variants.Failure is fits = number_alone kind_from body_format 5 kinds.Failure Failure refl (refl, refl) fits
+message_normal variants.Success is fits = number_alone kind_from body_format 6 kinds.Success Success refl (refl, refl) fits
+message_normal (variants.IdentitiesAnswer keys) is fits = after_number kind_from body_format 12 kinds.IdentitiesAnswer (Identities (map identity_of keys.items)) (answer keys.items) refl (λ f. record { inner = map identity_of keys.items; spelled = answer_normal keys.items is f; makes = refl }) fits
+message_normal (variants.SignResponse g) is fits = after_number kind_from body_format 14 kinds.SignResponse (Signed (signature_of g)) (signed g) refl (λ f. record { inner = signature_of g; spelled = framed SpellsSignature (signature_of g) (signature (signature_of g)) (signature_normal (signature_of g) is) f; makes = refl }) fits
+
+pub response_normal : (r : code.Response) → IsWellFormed r → Fits (box (response r)) → response_format.Spells (response_of r) (flat (box (response r)))
+response_normal r is fits = framed message_format.Spells (response_of r) (response r) (message_normal r is) fits

@@ -1,0 +1,58 @@
+//! A key that an agent holds.
+
+ghost use Rattle.std.specs.Prelude.{◌+◌, ◌*◌, ◌^◌};
+ghost use Rattle.ssh_key.specs.model.Texts.{IsText};
+ghost use Rattle.agent_codec.specs.Records as model;
+ghost use Rattle.agent_codec.specs.Records.{identity, identity_format, identity_normal, identity_of};
+
+use ssh_key::encoding::{
+    Bytes, Decode, Encode, Error, NormalForm, Reader, Result, Text, Then, Writer, both_len,
+    encode_both,
+};
+use std::alloc::Global;
+
+/// A key of the answer to `SSH_AGENTC_REQUEST_IDENTITIES` (draft-miller-ssh-agent, section 5.5).
+#[derive(Debug, Drop)]
+pub struct Identity {
+    /// The blob of the key or of its certificate.
+    pub key: Bytes,
+    /// What the user calls it.
+    pub comment: Text,
+}
+
+/// Two strings. Fails with `CharacterEncoding` for a comment that is not UTF-8.
+#[tactic(auto, using(ssh_key::proofs::Mapped::mapped, crate::specs::Records::identity_parts_read))]
+impl Decode for Identity {
+    type Error = Error;
+
+    ghost Meaning = { model.Identity };
+
+    ghost means = { identity_of };
+
+    ghost format = { identity_format };
+
+    fn decode<R: Reader>(alloc: Global, reader: &mut R) -> Result<Identity> {
+        let Then(key, comment) = Then::<Bytes, Text>::decode(alloc, reader)?;
+        Ok(Identity { key, comment })
+    }
+}
+
+impl Encode for Identity {
+    ghost normal = { λ i. identity (identity_of i) };
+
+    ghost max_len = { 2 * (2 ^ 32 + 3) };
+
+    fn encoded_len(&self) -> Result<usize> {
+        both_len(&self.key, &self.comment)
+    }
+
+    fn encode<W: Writer>(&self, writer: &mut W) -> Result<()> {
+        encode_both(&self.key, &self.comment, writer)
+    }
+}
+
+impl NormalForm for Identity {
+    ghost IsWellFormed = { λ i. IsText i.comment };
+
+    ghost normal_spells = { λ i. identity_normal (identity_of i) };
+}

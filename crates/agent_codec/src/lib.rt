@@ -1,0 +1,22 @@
+//! The messages of an SSH agent: what a client asks, and what the agent answers
+//! (draft-miller-ssh-agent, section 5).
+//!
+//! A message stands in a frame, a length of four bytes before it. It names `ssh_key` alone, and is
+//! proved from its contracts. Copy it.
+#![tactic(auto)]
+
+mod addition;
+mod agent_key;
+mod frame;
+mod identity;
+pub mod laws;
+mod request;
+mod response;
+mod sign_request;
+
+pub use addition::Addition;
+pub use agent_key::{Agent, AgentKey};
+pub use identity::Identity;
+pub use request::Request;
+pub use response::Response;
+pub use sign_request::SignRequest;

@@ -1,0 +1,232 @@
+//! What an agent answers.
+
+ghost use Rattle.std.specs.Prelude.{◌≡◌, ◌+◌, ◌^◌};
+ghost use Rattle.ssh_key.specs.base.Causes.{cause};
+ghost use Rattle.ssh_key.specs.base.Formats.{Stops};
+ghost use Rattle.ssh_key.specs.base.Needs.{Asks};
+ghost use Rattle.ssh_key.specs.base.Reading.{Gives};
+ghost use Rattle.ssh_key.specs.base.Sink.{Encodes, MeasuresBoxed};
+ghost use Rattle.ssh_key.specs.base.Source.{Later};
+ghost use Rattle.ssh_key.specs.model.Parts.{box, number, ◌&◌};
+ghost use Rattle.std.specs.Int.{w8};
+ghost use Rattle.agent_codec.specs.declared.response.kind.ResponseKind.TheVariants as kinds;
+ghost use Rattle.agent_codec.specs.Responses as model;
+ghost use Rattle.agent_codec.specs.Responses.{IsWellFormed, answer, body_format, given_of, message_format, message_of, response, response_format, response_normal, response_of, signed};
+
+mod kind;
+
+use crate::identity::Identity;
+use kind::ResponseKind;
+use ssh_key::encoding::{
+    Boxed, Counted, Decode, Encode, NormalForm, Reader, Wide, Writer, counted_len, decode_boxed,
+    encode_counted, u32_of,
+};
+use ssh_key::{Error, Result, Signature, encoding};
+use std::alloc::Global;
+
+/// An answer (draft-miller-ssh-agent, section 5).
+#[derive(Debug)]
+pub enum Response {
+    /// The agent refused.
+    Failure,
+    /// The agent did it.
+    Success,
+    /// The keys that it holds.
+    IdentitiesAnswer(Vec<Identity>),
+    /// The signature.
+    SignResponse(Signature),
+}
+
+/// By hand, so that who holds a response lets it go by one call.
+impl Drop for Response {
+    fn drop(self) {
+        match self {
+            Response::Failure
+            | Response::Success
+            | Response::IdentitiesAnswer(_)
+            | Response::SignResponse(_) => {}
+        }
+    }
+}
+
+/// A length of four bytes, the number of the response in one byte, and what it holds.
+///
+/// Fails with `Length` where a stated length or count passes what is left, without an allocation,
+/// with `TrailingData` where bytes of the frame are left over, with `FormatEncoding` for the number
+/// of no response, and with the errors of what it holds.
+impl Decode for Response {
+    type Error = Error;
+
+    ghost Meaning = { model.Response };
+
+    ghost means = { response_of };
+
+    ghost format = { response_format };
+
+    fn decode<R: Reader>(alloc: Global, reader: &mut R) -> Result<Response> {
+        Ok(decode_boxed::<Message, R>(alloc, reader)?.0)
+    }
+}
+
+/// Fails with `Length` where a frame can't hold the response, or a string in it is too long.
+#[tactic(auto, using(ssh_key::proofs::Writing::measuring_leaves))]
+impl Encode for Response {
+    ghost normal = { λ r. box (response r) };
+
+    ghost max_len = { 2 ^ 32 + 3 };
+
+    fn encoded_len(&self) -> encoding::Result<usize> {
+        Ok(4 + self.message_len()? as usize)
+    }
+
+    fn encode<W: Writer>(&self, writer: &mut W) -> encoding::Result<()> {
+        self.message_len()?.encode(writer)?;
+        self.encode_message(writer)
+    }
+}
+
+/// The signature has the form that its algorithm asks for, and the comments are UTF-8.
+impl NormalForm for Response {
+    ghost IsWellFormed = { IsWellFormed };
+
+    ghost normal_spells = { response_normal };
+}
+
+impl Response {
+    /// The signature, if it is one that the agent answered.
+    pub fn into_signature(self) -> Option<Signature>
+        ensures { result ≡ given_of self }
+    {
+        match self {
+            Response::SignResponse(signature) => Some(signature),
+            Response::Failure | Response::Success | Response::IdentitiesAnswer(_) => None,
+        }
+    }
+
+    /// How many bytes stand in the frame. Fails with `Length` exactly if it can't hold them, or a
+    /// string in them is too long.
+    #[tactic(auto, using(ssh_key::proofs::Writing::measuring_leaves))]
+    fn message_len(&self) -> encoding::Result<u32>
+        ensures { MeasuresBoxed (response self.now) result }
+    {
+        match self {
+            Response::Failure | Response::Success => Ok(1),
+            Response::IdentitiesAnswer(identities) => answer_len(identities),
+            Response::SignResponse(signature) => signed_len(signature),
+        }
+    }
+
+    /// Writes what stands in the frame.
+    fn encode_message<W: Writer>(&self, writer: &mut W) -> encoding::Result<()>
+        ensures { Encodes W.fault (response self.now)
+            (W.sink writer.old) result (W.sink writer.new) }
+    {
+        match self {
+            Response::Failure => 5u8.encode(writer),
+            Response::Success => 6u8.encode(writer),
+            Response::IdentitiesAnswer(identities) => encode_answer(identities, writer),
+            Response::SignResponse(signature) => encode_signed(signature, writer),
+        }
+    }
+}
+
+/// How many bytes the answer has that holds these keys.
+fn answer_len(identities: &[Identity]) -> encoding::Result<u32>
+    ensures { MeasuresBoxed (number w8 12 & answer identities.now) result }
+{
+    u32_of(1 + counted_len(identities)? as usize)
+}
+
+/// Writes the answer that holds these keys.
+#[tactic(auto, using(ssh_key::proofs::Writing::writing))]
+fn encode_answer<W: Writer>(identities: &[Identity], writer: &mut W) -> encoding::Result<()>
+    ensures { Encodes W.fault (number w8 12 & answer identities.now)
+        (W.sink writer.old) result (W.sink writer.new) }
+{
+    12u8.encode(writer)?;
+    encode_counted(identities, writer)
+}
+
+/// How many bytes the answer has that holds the signature.
+fn signed_len(signature: &Signature) -> encoding::Result<u32>
+    ensures { MeasuresBoxed (number w8 14 & signed signature.now) result }
+{
+    u32_of(1 + signature.encoded_len_prefixed()?)
+}
+
+/// Writes the answer that holds the signature.
+#[tactic(auto, using(ssh_key::proofs::Writing::writing))]
+fn encode_signed<W: Writer>(signature: &Signature, writer: &mut W) -> encoding::Result<()>
+    ensures { Encodes W.fault (number w8 14 & signed signature.now)
+        (W.sink writer.old) result (W.sink writer.new) }
+{
+    14u8.encode(writer)?;
+    signature.encode_prefixed(writer)
+}
+
+/// A response without its frame.
+#[derive(Drop)]
+struct Message(Response);
+
+#[tactic(auto, using(ssh_key::proofs::Chosen::chosen, crate::specs::Responses::message_chosen))]
+impl Decode for Message {
+    type Error = Error;
+
+    ghost Meaning = { model.Response };
+
+    ghost means = { message_of };
+
+    ghost format = { message_format };
+
+    fn decode<R: Reader>(alloc: Global, reader: &mut R) -> Result<Message> {
+        let kind = ResponseKind::decode(alloc, reader)?;
+        message_from(alloc, reader, kind)
+    }
+}
+
+/// What stands after the number of a response of that kind.
+#[tactic(auto, using(ssh_key::proofs::Places::places, crate::proofs::Frames::nothing_reads))]
+fn message_from<R: Reader>(alloc: Global, reader: &mut R, kind: ResponseKind) -> Result<Message>
+    ensures gives { Gives message_of cause (body_format kind).read
+        (R.source reader.old) result (R.source reader.new) }
+    ensures later { Later (R.source reader.old) (R.source reader.new) }
+    ensures asks { Asks cause (body_format kind).needs (R.source reader.old) result }
+    ensures past { Stops cause (body_format kind) (R.source reader.old) result }
+{
+    match kind {
+        ResponseKind::Failure => Ok(Message(Response::Failure)),
+        ResponseKind::Success => Ok(Message(Response::Success)),
+        ResponseKind::IdentitiesAnswer => answer_from(alloc, reader),
+        ResponseKind::SignResponse => signed_from(alloc, reader),
+    }
+}
+
+/// The keys, after their number.
+#[tactic(auto, using(ssh_key::proofs::Mapped::mapped, crate::specs::Parts::checked_read))]
+fn answer_from<R: Reader>(alloc: Global, reader: &mut R) -> Result<Message>
+    ensures gives { Gives message_of cause (body_format kinds.IdentitiesAnswer).read
+        (R.source reader.old) result (R.source reader.new) }
+    ensures later { Later (R.source reader.old) (R.source reader.new) }
+    ensures asks { Asks cause (body_format kinds.IdentitiesAnswer).needs
+        (R.source reader.old) result }
+    ensures past { Stops cause (body_format kinds.IdentitiesAnswer)
+        (R.source reader.old) result }
+{
+    let Wide(Counted(identities)) = Wide::<Counted<Identity>>::decode(alloc, reader)?;
+    Ok(Message(Response::IdentitiesAnswer(identities)))
+}
+
+/// The signature, in a string.
+#[tactic(auto, using(ssh_key::proofs::Mapped::mapped, crate::specs::Parts::checked_read))]
+fn signed_from<R: Reader>(alloc: Global, reader: &mut R) -> Result<Message>
+    ensures gives { Gives message_of cause (body_format kinds.SignResponse).read
+        (R.source reader.old) result (R.source reader.new) }
+    ensures later { Later (R.source reader.old) (R.source reader.new) }
+    ensures asks { Asks cause (body_format kinds.SignResponse).needs
+        (R.source reader.old) result }
+    ensures past { Stops cause (body_format kinds.SignResponse)
+        (R.source reader.old) result }
+{
+    let Boxed(signature) = Boxed::<Signature>::decode(alloc, reader)?;
+    Ok(Message(Response::SignResponse(signature)))
+}
