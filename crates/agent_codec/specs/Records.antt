@@ -1,4 +1,4 @@
--- What the messages of an SSH agent hold (draft-miller-ssh-agent, section 5): values, how they are written, and their formats.
+-- What the messages of an SSH agent hold (draft-miller-ssh-agent, section 4): values, how they are written, and their formats.
 use Rattle.std.proofs.Common.{ℕ, List, Option, Result, Ok, refl}
 use Rattle.std.specs.Int.{w32}
 use Rattle.ssh_key.specs.base.Formats.{Format, number32_format, string_format, text_format}
@@ -19,7 +19,7 @@ use Rattle.agent_codec.specs.declared.addition.Addition as code_addition
 use Rattle.agent_codec.specs.declared.identity.Identity as code_identity
 use Rattle.agent_codec.specs.declared.sign_request.SignRequest as code_sign_request
 
--- ---- a key that the agent holds: its blob and its comment (section 5.5)
+-- ---- a key that the agent holds: its blob and its comment (section 4.4)
 
 pub record Identity : Type 0 where
   pub key : List ℕ
@@ -37,7 +37,7 @@ identity_of_parts a = Ok (record { key = a.0; comment = a.1 })
 abbrev pub identity_format : Format Identity
 identity_format = tested identity_of_parts (string_format then text_format)
 
--- ---- what is to be signed: the blob of the key, the message and the flags (section 5.6)
+-- ---- what is to be signed: the blob of the key, the message and the flags (section 4.5)
 
 pub record SignRequest : Type 0 where
   pub key : List ℕ
@@ -56,7 +56,7 @@ sign_request_of_parts a = Ok (record { key = a.0; message = a.1.0; flags = a.1.1
 abbrev pub sign_request_format : Format SignRequest
 sign_request_format = tested sign_request_of_parts (string_format then string_format then number32_format)
 
--- ---- a pair that is added: behind its name, and its comment (section 5.2)
+-- ---- a pair that is added: behind its name, and its comment (section 4.2)
 
 pub record Addition : Type 0 where
   pub pair : Option KeyPair

@@ -14,7 +14,7 @@ use ssh_key::private::KeypairData;
 use ssh_key::{Error, Result, encoding};
 use std::alloc::Global;
 
-/// A key pair and what the user calls it (draft-miller-ssh-agent, section 5.2).
+/// A key pair and what the user calls it (draft-miller-ssh-agent, section 4.2).
 #[derive(Debug)]
 pub struct Addition {
     /// The pair.

@@ -11,7 +11,7 @@ use ssh_key::encoding::{
 };
 use std::alloc::Global;
 
-/// A key of the answer to `SSH_AGENTC_REQUEST_IDENTITIES` (draft-miller-ssh-agent, section 5.5).
+/// A key of the answer to `SSH_AGENTC_REQUEST_IDENTITIES` (draft-miller-ssh-agent, section 4.4).
 #[derive(Debug, Drop)]
 pub struct Identity {
     /// The blob of the key or of its certificate.

@@ -24,7 +24,7 @@ use ssh_key::encoding::{
 use ssh_key::{Error, Result, encoding};
 use std::alloc::Global;
 
-/// A request (draft-miller-ssh-agent, section 5).
+/// A request (draft-miller-ssh-agent, section 4).
 #[derive(Debug)]
 pub enum Request {
     /// Which keys the agent holds.

@@ -24,7 +24,7 @@ use ssh_key::encoding::{
 use ssh_key::{Error, Result, Signature, encoding};
 use std::alloc::Global;
 
-/// An answer (draft-miller-ssh-agent, section 5).
+/// An answer (draft-miller-ssh-agent, section 4).
 #[derive(Debug)]
 pub enum Response {
     /// The agent refused.

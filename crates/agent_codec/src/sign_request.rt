@@ -4,13 +4,11 @@ ghost use Rattle.std.specs.Prelude.{◌+◌, ◌*◌, ◌^◌};
 ghost use Rattle.agent_codec.specs.Records as model;
 ghost use Rattle.agent_codec.specs.Records.{sign_request, sign_request_format, sign_request_normal, sign_request_of};
 
-use ssh_key::encoding::{
-    Bytes, Decode, Encode, NormalForm, Reader, Then, Wide, Writer, both_len,
-};
+use ssh_key::encoding::{Bytes, Decode, Encode, NormalForm, Reader, Then, Wide, Writer, both_len};
 use ssh_key::{Error, Result, encoding};
 use std::alloc::Global;
 
-/// What is to be signed, and by which key (draft-miller-ssh-agent, section 5.6).
+/// What is to be signed, and by which key (draft-miller-ssh-agent, section 4.5).
 #[derive(Debug, Drop)]
 pub struct SignRequest {
     /// The blob of the key.
@@ -36,7 +34,11 @@ impl Decode for SignRequest {
         let Wide(Then(key, Then(message, flags))) = Wide::<Then<Bytes, Then<Bytes, u32>>>::decode(
             alloc, reader,
         )?;
-        Ok(SignRequest { key, message, flags })
+        Ok(SignRequest {
+            key,
+            message,
+            flags,
+        })
     }
 }
 

@@ -9,7 +9,7 @@ use ssh_key::encoding::{Decode, Reader};
 use ssh_key::{Error, Result};
 use std::alloc::Global;
 
-/// Which request it is (draft-miller-ssh-agent, section 8.1).
+/// Which request it is (draft-miller-ssh-agent, section 5.1).
 #[derive(Clone, Copy)]
 pub(crate) enum RequestKind {
     /// `SSH_AGENTC_REQUEST_IDENTITIES`, 11.
