@@ -1,1 +1,1 @@
-mod Hashes
+mod FirstTold

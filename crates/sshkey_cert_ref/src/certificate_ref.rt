@@ -86,7 +86,8 @@ impl<'a> CertificateRef<'a> {
 
 /// The signature in the string that all the bytes are.
 fn signature_in(bytes: &[u8]) -> Result<SignatureRef<'_>>
-    ensures { TakesWhole IsSignatureIn cause (whole (box_at (whole signature_at)) bytes.now) result }
+    ensures { TakesWhole IsSignatureIn cause (whole (box_at (whole signature_at)) bytes.now)
+        result }
 {
     let (signature, rest) = split_signature(bytes)?;
     if !rest.is_empty() {

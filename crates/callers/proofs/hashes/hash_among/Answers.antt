@@ -1,5 +1,5 @@
 use Rattle.std.proofs.Common.{sym, ◌∙◌}
-use Rattle.callers.proofs.Hashes.{found, none, passed}
+use Rattle.callers.proofs.FirstTold.{found, none, passed}
 use Rattle.callers.proofs.hashes.hash_among.Goals as goal
 
 pub returns-then-is_of : goal.returns-then-is_of

@@ -15,6 +15,11 @@ returns-then-not-is_key_of-clause-refused g c = λ other. OtherKey (sym c.cert_t
     let yes : c.is_key_of.result ≡ true = c.is_key_of.ensures.1 own in
     absurd cc)
 
+pub returns-then-not-are_known-clause-exactly : goal.returns-then-not-are_known-clause-exactly
+returns-then-not-are_known-clause-exactly g c = λ other lets.
+    let yes : c.are_known.result ≡ true = c.are_known.ensures.1 (rw c.critical_options.ensures lets.known) in
+    absurd cc
+
 pub returns-then-not-are_known-clause-refused : goal.returns-then-not-are_known-clause-refused
 returns-then-not-are_known-clause-refused g c = λ other. UnknownOption (sym c.cert_type.ensures ∙ c.is_user.ensures.0 c.if-not-is_user.false) (c.is_key_of.ensures.0 c.if-not-is_key_of.false) (λ all.
     let yes : c.are_known.result ≡ true = c.are_known.ensures.1 (rw c.critical_options.ensures all) in

@@ -1,7 +1,7 @@
 -- The hash that is told first, one after the other.
 use Rattle.std.proofs.Common.{◌≡◌, ◌∙◌, ap, sym, refl, ℕ, suc, ◌+◌, ◌<◌, ◌≤◌, List, ◌∷◌, length, drop, get_or, true, false, add-one, drop-cons}
 use Rattle.std.proofs.Math.ListN.{drop_of_length-le}
-use Rattle.std.specs.Prelude.{repeat}
+use Rattle.std.specs.Prelude.{replicate}
 use Rattle.callers.specs.Hashed.{hash_among, is_hash_of}
 use Rattle.callers.specs.declared.hashes.Hashed.{Hashed}
 
@@ -11,14 +11,14 @@ module _ (salt name : List ℕ) (hs : List Hashed) (i : ℕ) (was : hash_among s
     front = rw add-one (drop-cons hs i h lt ∙ ap (λ (x : Hashed). x ∷ drop (suc i) hs) is)
 
     pub found : is_hash_of salt name h ≡ true → h.hash ≡ hash_among salt name hs
-    found yes =
-        let here : hash_among salt name (h ∷ drop (i + 1) hs) ≡ h.hash = rw yes refl in
+    found same =
+        let here : hash_among salt name (h ∷ drop (i + 1) hs) ≡ h.hash = rw same refl in
         sym here ∙ ap (hash_among salt name) (sym front) ∙ was
 
     pub passed : is_hash_of salt name h ≡ false → hash_among salt name (drop (i + 1) hs) ≡ hash_among salt name hs
-    passed no =
-        let later : hash_among salt name (h ∷ drop (i + 1) hs) ≡ hash_among salt name (drop (i + 1) hs) = rw no refl in
+    passed other =
+        let later : hash_among salt name (h ∷ drop (i + 1) hs) ≡ hash_among salt name (drop (i + 1) hs) = rw other refl in
         sym later ∙ ap (hash_among salt name) (sym front) ∙ was
 
-  pub none : length hs ≤ i → repeat 20 0 ≡ hash_among salt name hs
+  pub none : length hs ≤ i → replicate 20 0 ≡ hash_among salt name hs
   none end = sym (ap (hash_among salt name) (drop_of_length-le hs end)) ∙ was
