@@ -4,3 +4,4 @@ pub mod OptionStops
 pub mod WrittenOptions
 pub mod OptionPairs
 pub mod OptionsAmong
+pub mod RisingNames

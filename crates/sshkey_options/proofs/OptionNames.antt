@@ -1,15 +1,14 @@
 -- Names of options are ordered as the map orders its keys.
-use Rattle.std.proofs.Common.{◌≡◌, ℕ, suc, ◌<◌, ◌-◌, Bool, true, false, Some, List, [], ◌∷◌, ◌++◌, length, map, option_map, refl, sym, ap, ◌∙◌, arith, bytes_eq, lt-ltb, eq-eqb}
+use Rattle.std.proofs.Common.{◌≡◌, ℕ, ◌<◌, ◌-◌, Bool, true, false, Some, List, [], ◌∷◌, ◌++◌, length, map, option_map, refl, sym, ap, ◌∙◌, arith, bytes_eq, lt-ltb, eq-eqb}
 use Rattle.std.specs.Prelude.{String, string_bytes, slice_get}
-use Rattle.std.specs.BTreeMap.{insert_entry, BTreeMap, is_at}
+use Rattle.std.specs.BTreeMap.{insert_entry, is_at}
 use Rattle.std.specs.Cmp.{ranks}
 use Rattle.std.specs.Cmp.Lexicographic.{slice_cmp}
-use Rattle.std.specs.List.{All}
-use Rattle.std.specs.Map.{keys_of, lookup}
+use Rattle.std.specs.Map.{lookup}
 use Rattle.std.specs.declared.cmp.Ordering.{Ordering}
 use Rattle.std.specs.declared.cmp.Ordering.TheVariants.{Less, Equal, Greater}
-use Rattle.std.specs.Ordering.{nat_cmp, is_lt, is_eq, ordering_reverse, MatchOrdering}
-use Rattle.std.specs.String.{string_cmp, string_cmp_total}
+use Rattle.std.specs.Ordering.{nat_cmp, is_lt, is_eq, MatchOrdering}
+use Rattle.std.specs.String.{string_cmp}
 use Rattle.std.proofs.lemmas.Bool.{ne_eqb, le-ltb}
 use Rattle.std.proofs.lemmas.List.{length-append}
 use Rattle.std.proofs.lemmas.Cmp.{same_from_slice_cmp}
@@ -17,7 +16,7 @@ use Rattle.std.proofs.lemmas.Slice.Eq.{bytes_eq-Decides}
 use Rattle.std.proofs.lemmas.Map.Text.{is_eq-slice_cmp}
 use Rattle.sshkey_model.specs.Options.{CertificateOption, is_below}
 use Rattle.sshkey_model.specs.OptionMaps.{value_of, with_option}
-use Rattle.sshkey_options.specs.OptionMaps.{option_of, last_name, GoesLast}
+use Rattle.sshkey_options.specs.OptionMaps.{option_of, name_at_end}
 
 below_first : (x y : ℕ) (xs ys : List ℕ) → x < y → is_below (x ∷ xs) (y ∷ ys) ≡ true
 below_first x y xs ys lt = rw (ne_eqb x y (λ e. omega arith), lt-ltb x y lt) refl
@@ -36,33 +35,10 @@ step x y xs ys Greater h = above_first x y xs ys h
 pub below_is : (a b : List ℕ) → is_lt (slice_cmp nat_cmp a b) ≡ is_below a b
 below_is a b = same_from_slice_cmp nat_cmp is_lt is_below refl (λ y ys. refl) (λ x xs. refl) (λ x y xs ys o is. step x y xs ys o (rw is (ranks x y))) a b _ refl
 
-less_is : (o : Ordering) → is_lt o ≡ true → o ≡ Less
+pub less_is : (o : Ordering) → is_lt o ≡ true → o ≡ Less
 less_is Less e = refl
 less_is Equal e = cc
 less_is Greater e = cc
-
-module _ {Z : Type 0} where
-  -- above a key that is not below another, a name is above that other
-  passes : (last name q : String Z) (o : Ordering) → string_cmp last q ≡ o → is_lt o ≡ false → string_cmp last name ≡ Less → string_cmp name q ≡ Greater
-  passes last name q Less e not_less less = cc
-  passes last name q Equal e not_less less =
-      let f : string_cmp q name ≡ Less = sym (string_cmp_total.congr last q name e) ∙ less in
-      string_cmp_total.antisymm name q ∙ ap ordering_reverse f
-  passes last name q Greater e not_less less =
-      let f : string_cmp q last ≡ Less = string_cmp_total.antisymm q last ∙ ap ordering_reverse e in
-      string_cmp_total.antisymm name q ∙ ap ordering_reverse (string_cmp_total.trans q last name f less)
-
-  insert_last : {X : Type 0} (last name : String Z) (value : X) (es : List (String Z × X)) → string_cmp last name ≡ Less → All (λ q. is_lt (string_cmp last q) ≡ false) (keys_of es) → insert_entry string_cmp es name value ≡ es ++ (name, value) ∷ []
-  insert_last last name value [] less all = refl
-  insert_last last name value (e ∷ es) less all =
-      let g : string_cmp name e.0 ≡ Greater = passes last name e.0 _ refl (all 0 name (omega arith)) less in
-      rw (g, insert_last last name value es less (λ k d lt. all (suc k) d (omega arith))) refl
-
-  -- what may follow the greatest name goes to the end
-  pub goes_last : {X : Type 0} (m : BTreeMap (String Z) (String X)) (last : String Z) (before : List ℕ) → before ≡ string_bytes last → All (λ q. is_lt (string_cmp last q) ≡ false) (keys_of m.entries) → GoesLast (Some before) m
-  goes_last m last before same all name value above =
-      let below : is_below (string_bytes last) (string_bytes name) ≡ true = rw same at above in
-      insert_last last name value m.entries (less_is _ (below_is (string_bytes last) (string_bytes name) ∙ below)) all
 
 -- the last of some
 last_get : {A : Type 0} (xs : List A) (x : A) → slice_get (xs ++ x ∷ []) (length xs) ≡ Some x
@@ -72,8 +48,8 @@ last_get (y ∷ xs) x = last_get xs x
 long : {A : Type 0} (xs : List A) (x : A) → length (xs ++ x ∷ []) - 1 ≡ length xs
 long xs x = omega (arith, length-append xs (x ∷ []))
 
-pub last_added : {Y Z : Type 0} (m n : BTreeMap (String Y) (String Z)) (name : String Y) (value : String Z) → n.entries ≡ m.entries ++ (name, value) ∷ [] → last_name n ≡ Some (string_bytes name)
-last_added m n name value e = rw (e, long m.entries (name, value), last_get m.entries (name, value)) refl
+pub end_added : {Y Z : Type 0} (es : List (String Y × String Z)) (name : String Y) (value : String Z) → name_at_end (es ++ (name, value) ∷ []) ≡ Some (string_bytes name)
+end_added es name value = rw (long es (name, value), last_get es (name, value)) refl
 
 -- the value that the map finds
 pub found : {Y Z : Type 0} (name : List ℕ) (es : List (String Y × String Z)) → option_map string_bytes (lookup (is_at (λ k. slice_cmp nat_cmp name (string_bytes k))) es) ≡ value_of name (map option_of es)

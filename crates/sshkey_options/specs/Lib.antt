@@ -5,3 +5,4 @@ pub mod OptionReaders
 pub mod OptionLists
 pub mod OptionMaps
 pub mod Comparisons
+pub mod GatheredPairs

@@ -17,6 +17,7 @@ ghost use Rattle.sshkey_options.specs.OptionReaders.{item, option_list_at, optio
 ghost use Rattle.sshkey_options.specs.OptionLists.{options_format};
 ghost use Rattle.sshkey_options.specs.OptionMaps.{IsNamedAmong, is_among, option_of, options_of};
 
+mod gathered;
 mod read;
 mod write;
 

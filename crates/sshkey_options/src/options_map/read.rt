@@ -1,8 +1,6 @@
 //! How options are read.
 
-ghost use Rattle.std.specs.Prelude.{◌≡◌, ◌∷◌, ◌++◌, [], true, option_map, string_bytes, OnOk, IfErr};
-ghost use Rattle.std.specs.BTreeMap.{insert_entry};
-ghost use Rattle.std.specs.String.{string_cmp};
+ghost use Rattle.std.specs.Prelude.{◌≡◌, option_map, string_bytes};
 ghost use Rattle.sshkey_base.specs.Causes.{cause, encoding_cause};
 ghost use Rattle.sshkey_base.specs.Nested.{nested_source};
 ghost use Rattle.sshkey_base.specs.Reading.{Decodes, DecodesWide, Gives, to_end};
@@ -10,12 +8,12 @@ ghost use Rattle.sshkey_base.specs.Needs.{NeedsString};
 ghost use Rattle.sshkey_base.specs.Source.{Later};
 ghost use Rattle.sshkey_base.specs.Stops.{OverrunsString, OverrunsList, StopsBy, StopsToEnd};
 ghost use Rattle.sshkey_options.specs.OptionReaders.{may_follow, value_front, option_box_at, option_behind, item, option_list_at, NeedsOption, OverrunsValue, OverrunsOption};
-ghost use Rattle.sshkey_options.specs.OptionMaps.{option_of, options_of, last_name, GoesLast};
+ghost use Rattle.sshkey_options.specs.OptionMaps.{option_of, options_of};
 
 use super::OptionsMap;
+use super::gathered::Gathered;
 use sshkey_base::{Decode, Error, NestedReader, Reader, Result, encoding};
 use std::alloc::Global;
-use std::collections::BTreeMap;
 
 /// The options up to the end of the reader.
 #[tactic(auto, using(sshkey_base::proofs::Places::places))]
@@ -26,33 +24,13 @@ pub(super) fn options_from<R: Reader>(alloc: Global, reader: &mut R) -> Result<O
     ensures past { StopsToEnd cause (OverrunsList item OverrunsOption)
         (R.source reader.old) result }
 {
-    let mut options = BTreeMap::new(alloc);
+    let mut gathered = Gathered::new(alloc, reader.remaining_len());
     'reads: while !reader.is_finished() {
-        let (name, value) = option_from(alloc, reader, greatest_name(&options))?;
-        add(&mut options, name, value)?;
+        let (name, value) = option_from(alloc, reader, gathered.last_name())?;
+        gathered.push(name, value)?;
     }
-    Ok(OptionsMap(options))
-}
-
-/// The options, and that one instead of one of its name.
-fn add(options: &mut BTreeMap<String, String>, name: String, value: String) -> Result<()>
-    ensures added { OnOk result
-        (options.new.entries ≡ insert_entry string_cmp options.old.entries name value) }
-    ensures memory { IfErr result (λ e. e ≡ Error.Memory) }
-{
-    options.insert(name, value)?;
-    Ok(())
-}
-
-/// The greatest of the names: each that may follow it goes to the end.
-fn greatest_name(options: &BTreeMap<String, String>) -> Option<&str>
-    ensures name { option_map (λ name. name.now) result ≡ last_name options.now }
-    ensures last { GoesLast (option_map (λ name. name.now) result) options.now }
-{
-    match options.last_key_value() {
-        Some((name, _)) => Some(name.as_str()),
-        None => None,
-    }
+    let options = gathered.into_map(alloc)?;
+    Ok(options)
 }
 
 /// An option that stands after that of the name before.
