@@ -7,7 +7,7 @@ use Rattle.ssh_key.specs.base.Source.{Source}
 use Rattle.ssh_key.specs.model.Parts.{Parts, box, number, ◌&◌, flat, BoxesFit}
 use Rattle.ssh_key.specs.types.encoding.Error.{Error}
 use Rattle.agent_codec.specs.Parts.{nothing_at}
-use Rattle.ssh_key.proofs.Writing.{boxes_both, boxes_box, boxes_inside, boxes_length, boxes_number, boxes_second, length_both, length_number8}
+use Rattle.ssh_key.proofs.Writing.{boxes_both, boxes_box, boxes_first, boxes_inside, boxes_length, boxes_number, boxes_second, length_both, length_number8}
 
 pub boxed_misfit : (p : Parts) → (BoxesFit p → ⊥) → BoxesFit (box p) → ⊥
 boxed_misfit p h b = h (boxes_inside p b)
@@ -30,3 +30,10 @@ second_past p q h b = h (boxes_box q (omega (arith, boxes_length (p & q) b, leng
 -- nothing is read
 pub nothing_reads : {X A : Type 0} (means : X → A) (value : A) (x : X) (s : Source) → means x ≡ value → Reads means (nothing_at value) s x s
 nothing_reads means value x s is = record { value = rw is refl; missing = refl; outer = refl }
+
+-- a number, a value and a list, which stands in no box of its own
+pub first_misfit : (k p q : Parts) → (BoxesFit p → ⊥) → BoxesFit (box (k & p & q)) → ⊥
+first_misfit k p q h b = h (boxes_first p q (boxes_second k (p & q) (boxes_inside (k & p & q) b)))
+
+pub list_measured : (k : ℕ) (p q : Parts) (n m : ℕ) (r : Result ℕ Error) → BoxesFit p × (n ≡ length (flat p)) → BoxesFit (box q) × (m ≡ length (flat q)) → IsLength (1 + n + m) r → MeasuresBoxed (number w8 k & p & q) r
+list_measured k p q n m r a b l = boxed_measured (number w8 k & p & q) (1 + n + m) r (boxes_both (number w8 k) (p & q) (boxes_number w8 k) (boxes_both p q a.0 (boxes_inside q b.0)), omega (arith, a.1, b.1, length_both (number w8 k) (p & q), length_both p q, length_number8 k)) l

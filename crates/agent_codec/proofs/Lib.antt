@@ -1,1 +1,3 @@
+pub mod Constraints
 pub mod Frames
+pub mod Held

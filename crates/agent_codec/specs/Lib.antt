@@ -1,3 +1,5 @@
+pub mod Constraints
+pub mod Contents
 pub mod Parts
 pub mod Records
 pub mod Requests

@@ -1,18 +1,21 @@
 -- Formats of messages: nothing at all, and what is written of two values. The lemmas are proved, and need not be believed.
-use Rattle.std.proofs.Common.{◌≡◌, ℕ, List, [], ◌++◌, append-nil, Result, Ok, Err, refl, subst, sym}
+use Rattle.std.proofs.Common.{◌≡◌, ◌<◌, ℕ, List, [], ◌++◌, append-nil, length, Result, Ok, Err, refl, subst, sym, ap, arith}
+use Rattle.std.proofs.lemmas.List.{length-append}
 use Rattle.std.specs.Int.{w8}
-use Rattle.ssh_key.specs.base.Formats.{Format, byte_format}
-use Rattle.ssh_key.specs.base.Leaves.{byte_normal}
+use Rattle.ssh_key.specs.base.Formats.{Format}
+use Rattle.ssh_key.specs.base.Leaves.{SpellsByte, byte_normal}
 use Rattle.ssh_key.specs.base.Reading.{SpellsBoxed}
 use Rattle.ssh_key.specs.base.Needs.{NoNeed}
 use Rattle.ssh_key.specs.base.Stops.{NoOverrun}
 use Rattle.ssh_key.specs.base.Lengths.{no_lengths}
-use Rattle.ssh_key.specs.format.Behind.{SpellsBoth, behind_at}
-use Rattle.ssh_key.specs.format.Terms.{IsChosen, IsMapped, choice, tested}
+use Rattle.ssh_key.specs.format.Behind.{SpellsBoth, SpellsThen, behind_at}
+use Rattle.ssh_key.specs.format.Terms.{IsChosen, IsMapped}
+use Rattle.ssh_key.specs.format.Tested.{SpellsTested}
 use Rattle.ssh_key.specs.model.Grammar.{IsGrammar}
 use Rattle.ssh_key.specs.model.Parts.{Parts, ◌&◌, box, flat, number, Fits}
 use Rattle.ssh_key.specs.model.Reading.{Fault, Front, checked_at, ◌>>=◌}
 use Rattle.ssh_key.proofs.CombinedReaders.{fits_first, fits_inside, fits_length, fits_second, ok_is}
+use Rattle.ssh_key.proofs.Writing.{length_number8}
 
 -- ---- no bytes, which spell that value
 
@@ -50,11 +53,11 @@ both_spelled S T x y p q first second fits = record {
 
 -- ---- a number of one byte, and what it calls for
 
-module _ {K M : Type 0} (kind_from : ℕ → Result K Fault) (body : K → Format M) where
-  abbrev pub numbered_format : Format M
-  numbered_format = tested (λ m. Ok m.1) (choice (tested kind_from byte_format) body)
+module _ {K M : Type 0} (kind_from : ℕ → Result K Fault) (Body : K → M → List ℕ → Type 0) where
+  abbrev pub SpellsNumbered : M → List ℕ → Type 0
+  SpellsNumbered = SpellsTested (SpellsThen (SpellsTested SpellsByte kind_from) Body) (λ m. Ok m.1)
 
-  pub after_number : (n : ℕ) (k : K) (m : M) (p : Parts) → kind_from n ≡ Ok k → (Fits p → (body k).Spells m (flat p)) → Fits (number w8 n & p) → numbered_format.Spells m (flat (number w8 n & p))
+  pub after_number : (n : ℕ) (k : K) (m : M) (p : Parts) → kind_from n ≡ Ok k → (Fits p → Body k m (flat p)) → Fits (number w8 n & p) → SpellsNumbered m (flat (number w8 n & p))
   unfolding flat
   after_number n k m p is second fits = record {
     inner = (k, m);
@@ -69,7 +72,7 @@ module _ {K M : Type 0} (kind_from : ℕ → Result K Fault) (body : K → Forma
   }
 
   -- nothing stands behind it
-  pub number_alone : (n : ℕ) (k : K) (m : M) → kind_from n ≡ Ok k → (body k).Spells m [] → Fits (number w8 n) → numbered_format.Spells m (flat (number w8 n))
+  pub number_alone : (n : ℕ) (k : K) (m : M) → kind_from n ≡ Ok k → Body k m [] → Fits (number w8 n) → SpellsNumbered m (flat (number w8 n))
   number_alone n k m is second fits = record {
     inner = (k, m);
     spelled = record {
@@ -82,6 +85,12 @@ module _ {K M : Type 0} (kind_from : ℕ → Result K Fault) (body : K → Forma
     makes = refl;
   }
 
+  -- the number is a byte
+  pub number_shows : (m : M) (b : List ℕ) → SpellsNumbered m b → 0 < length b
+  number_shows m b s =
+      let byte = s.spelled.first in
+      omega (arith, ap length s.spelled.all, length-append s.spelled.front s.spelled.behind, ap length byte.spelled.shape, length_number8 byte.inner)
+
 -- ---- a value that another one calls for, without that one
 
 abbrev both_with : {A B : Type 0} → A → B × List ℕ → Result ((A × B) × List ℕ) Fault
@@ -90,16 +99,16 @@ both_with a y = Ok ((a, y.0), y.1)
 abbrev second_of : {A B : Type 0} → (A × B) × List ℕ → Result (B × List ℕ) Fault
 second_of z = Ok (z.0.1, z.1)
 
-pub choice_read : {A B : Type 0} (first : Format A) (second : A → Format B) → IsChosen (tested (λ (m : A × B). Ok m.1) (choice first second)).read first.read (λ a. (second a).read)
+pub choice_read : {A B : Type 0} (first : Front A) (second : A → Front B) → IsChosen (checked_at (λ (m : A × B). Ok m.1) (behind_at first second)) first second
 unfolding behind_at
-choice_read {A} {B} first second = record { same = λ b. go (first.read b) }
+choice_read {A} {B} first second = record { same = λ b. go (first b) }
   where
     behind : (a : A) (r : Result (B × List ℕ) Fault) → ((r >>= both_with a) >>= second_of) ≡ r
     behind a (Ok y) = refl
     behind a (Err e) = refl
 
-    go : (r : Result (A × List ℕ) Fault) → ((r >>= λ x. (second x.0).read x.1 >>= both_with x.0) >>= second_of) ≡ (r >>= λ x. (second x.0).read x.1)
-    go (Ok x) = behind x.0 ((second x.0).read x.1)
+    go : (r : Result (A × List ℕ) Fault) → ((r >>= λ x. second x.0 x.1 >>= both_with x.0) >>= second_of) ≡ (r >>= λ x. second x.0 x.1)
+    go (Ok x) = behind x.0 (second x.0 x.1)
     go (Err e) = refl
 
 -- ---- a frame

@@ -1,20 +1,25 @@
 -- Requests to an agent (draft-miller-ssh-agent, section 4), their numbers (section 5.1), and how they stand in a frame.
 use Rattle.std.proofs.Common.{ℕ, List, Result, Ok, Err, refl}
-use Rattle.std.specs.Prelude.{◌==◌, if◌then◌else◌}
+use Rattle.std.specs.Prelude.{◌==◌, if◌then◌else◌, map}
 use Rattle.std.specs.Int.{w8}
+use Rattle.std.specs.List.{AllByRecursion}
 use Rattle.ssh_key.specs.base.Formats.{Format, byte_format, string_format}
 use Rattle.ssh_key.specs.base.Leaves.{string_normal}
-use Rattle.ssh_key.specs.format.Terms.{IsChosen, boxed, choice, tested}
+use Rattle.ssh_key.specs.format.Behind.{both_at}
+use Rattle.ssh_key.specs.format.Terms.{IsChosen, IsMapped, tested}
 use Rattle.ssh_key.specs.keypairs.Keypairs.{pair_of}
 use Rattle.ssh_key.specs.keypairs.NormalPairs.{IsWellFormedPair}
-use Rattle.ssh_key.specs.model.Parts.{Parts, box, flat, Fits, number, ◌&◌}
+use Rattle.ssh_key.specs.model.Parts.{Parts, box, each, flat, Fits, number, ◌&◌}
 use Rattle.ssh_key.specs.model.Reading.{Fault, FormatEncoding}
 use Rattle.ssh_key.specs.model.Texts.{string, IsText}
-use Rattle.agent_codec.specs.Parts.{after_number, choice_read, framed, nothing_format, number_alone}
+use Rattle.agent_codec.specs.Constraints.{Constraint, IsWellFormedConstraint, constraint, constraint_of, constraints, constraints_normal}
+use Rattle.agent_codec.specs.Contents.{Contents, alone, choice_to_end, held, tested_to_end}
+use Rattle.agent_codec.specs.Parts.{after_number, both_spelled, choice_read, framed, nothing_format, number_alone}
 use Rattle.agent_codec.specs.Records.{Addition, SignRequest, addition, addition_format, addition_normal, addition_of, sign_request, sign_request_format, sign_request_normal, sign_request_of}
+use Rattle.agent_codec.specs.declared.addition.Addition as code_addition
+use Rattle.agent_codec.specs.declared.constraint.Constraint as code_constraint
 use Rattle.agent_codec.specs.declared.request.Request as code
 use Rattle.agent_codec.specs.declared.request.Request.TheVariants as variants
-use Rattle.agent_codec.specs.declared.request.Message as unframed
 use Rattle.agent_codec.specs.declared.request.kind.RequestKind.{RequestKind}
 use Rattle.agent_codec.specs.declared.request.kind.RequestKind.TheVariants as kinds
 
@@ -22,6 +27,7 @@ pub data Request : Type 0 where
   Identities RemoveAll : Request
   Sign : SignRequest → Request
   Add : Addition → Request
+  AddConstrained : Addition → List Constraint → Request
   Remove Lock Unlock : List ℕ → Request
 
 abbrev pub request_of : code.Request → Request
@@ -32,10 +38,11 @@ request_of (variants.RemoveIdentity key) = Remove key
 request_of variants.RemoveAllIdentities = RemoveAll
 request_of (variants.Lock passphrase) = Lock passphrase
 request_of (variants.Unlock passphrase) = Unlock passphrase
+request_of (variants.AddIdentityConstrained a cs) = AddConstrained (addition_of a) (map constraint_of cs.items)
 
--- the same without its frame
-abbrev pub message_of : unframed.Message → Request
-message_of m = request_of m.0
+-- the message that adds a key with these limits
+abbrev pub constrained : code_addition.Addition → List code_constraint.Constraint → Parts
+constrained a cs = number w8 25 & addition a & each constraint cs
 
 -- the number, and what it holds
 abbrev pub request : code.Request → Parts
@@ -46,6 +53,7 @@ request (variants.RemoveIdentity key) = number w8 18 & string key
 request variants.RemoveAllIdentities = number w8 19
 request (variants.Lock passphrase) = number w8 22 & string passphrase
 request (variants.Unlock passphrase) = number w8 23 & string passphrase
+request (variants.AddIdentityConstrained a cs) = constrained a cs.items
 
 -- ---- as a format
 
@@ -58,46 +66,80 @@ kind_from n =
     else if n == 19 then Ok kinds.RemoveAllIdentities
     else if n == 22 then Ok kinds.Lock
     else if n == 23 then Ok kinds.Unlock
+    else if n == 25 then Ok kinds.AddIdentityConstrained
     else Err FormatEncoding
 
 abbrev pub kind_format : Format RequestKind
 kind_format = tested kind_from byte_format
 
--- what stands behind the number
-abbrev pub body_format : RequestKind → Format Request
-body_format kinds.RequestIdentities = nothing_format Identities
-body_format kinds.SignRequest = tested (λ r. Ok (Sign r)) sign_request_format
-body_format kinds.AddIdentity = tested (λ a. Ok (Add a)) addition_format
-body_format kinds.RemoveIdentity = tested (λ key. Ok (Remove key)) string_format
-body_format kinds.RemoveAllIdentities = nothing_format RemoveAll
-body_format kinds.Lock = tested (λ passphrase. Ok (Lock passphrase)) string_format
-body_format kinds.Unlock = tested (λ passphrase. Ok (Unlock passphrase)) string_format
+-- ---- what stands behind the number
 
-abbrev pub message_format : Format Request
-message_format = tested (λ m. Ok m.1) (choice kind_format body_format)
+abbrev pub signing_format : Format Request
+signing_format = tested (λ r. Ok (Sign r)) sign_request_format
+
+abbrev pub adding_format : Format Request
+adding_format = tested (λ a. Ok (Add a)) addition_format
+
+abbrev pub removing_format : Format Request
+removing_format = tested (λ key. Ok (Remove key)) string_format
+
+abbrev pub locking_format : Format Request
+locking_format = tested (λ passphrase. Ok (Lock passphrase)) string_format
+
+abbrev pub unlocking_format : Format Request
+unlocking_format = tested (λ passphrase. Ok (Unlock passphrase)) string_format
+
+-- constraints stand to the end of the frame
+abbrev pub constrained_body : Contents Request
+constrained_body = tested_to_end (λ a. Ok (AddConstrained a.0 a.1)) (choice_to_end addition_format (λ _. constraints))
+
+abbrev pub body : RequestKind → Contents Request
+body kinds.RequestIdentities = alone (nothing_format Identities)
+body kinds.SignRequest = alone signing_format
+body kinds.AddIdentity = alone adding_format
+body kinds.RemoveIdentity = alone removing_format
+body kinds.RemoveAllIdentities = alone (nothing_format RemoveAll)
+body kinds.Lock = alone locking_format
+body kinds.Unlock = alone unlocking_format
+body kinds.AddIdentityConstrained = constrained_body
+
+abbrev pub message : Contents Request
+message = tested_to_end (λ m. Ok m.1) (choice_to_end kind_format body)
 
 -- a request in its frame
 abbrev pub request_format : Format Request
-request_format = boxed message_format
+request_format = held message
 
 -- ---- what is proved of it
 
-pub message_chosen : IsChosen message_format.read kind_format.read (λ k. (body_format k).read)
-message_chosen = choice_read kind_format body_format
+pub message_chosen : IsChosen message.read kind_format.read (λ k. (body k).read)
+message_chosen = choice_read kind_format.read (λ k. (body k).read)
 
--- What is added is no encrypted pair.
+pub constrained_read : IsMapped constrained_body.read (λ a. Ok (AddConstrained a.0 a.1)) (both_at addition_format.read constraints.read)
+constrained_read = record { same = λ b. refl }
+
+-- What is added is no encrypted pair, and what is said in words is UTF-8.
 abbrev pub IsWellFormed : code.Request → Type 0
 IsWellFormed (variants.AddIdentity a) = IsWellFormedPair (pair_of a.keypair) × IsText a.comment
+IsWellFormed (variants.AddIdentityConstrained a cs) = (IsWellFormedPair (pair_of a.keypair) × IsText a.comment) × AllByRecursion IsWellFormedConstraint cs.items
 IsWellFormed _ = Unit {0}
 
-message_normal : (r : code.Request) → IsWellFormed r → Fits (request r) → message_format.Spells (request_of r) (flat (request r))
-message_normal variants.RequestIdentities is fits = number_alone kind_from body_format 11 kinds.RequestIdentities Identities refl (refl, refl) fits
-message_normal (variants.SignRequest r) is fits = after_number kind_from body_format 13 kinds.SignRequest (Sign (sign_request_of r)) (sign_request (sign_request_of r)) refl (λ f. record { inner = sign_request_of r; spelled = sign_request_normal (sign_request_of r) f; makes = refl }) fits
-message_normal (variants.AddIdentity a) is fits = after_number kind_from body_format 17 kinds.AddIdentity (Add (addition_of a)) (addition a) refl (λ f. record { inner = addition_of a; spelled = addition_normal a is f; makes = refl }) fits
-message_normal (variants.RemoveIdentity key) is fits = after_number kind_from body_format 18 kinds.RemoveIdentity (Remove key) (string key) refl (λ f. record { inner = key; spelled = string_normal key tt f; makes = refl }) fits
-message_normal variants.RemoveAllIdentities is fits = number_alone kind_from body_format 19 kinds.RemoveAllIdentities RemoveAll refl (refl, refl) fits
-message_normal (variants.Lock passphrase) is fits = after_number kind_from body_format 22 kinds.Lock (Lock passphrase) (string passphrase) refl (λ f. record { inner = passphrase; spelled = string_normal passphrase tt f; makes = refl }) fits
-message_normal (variants.Unlock passphrase) is fits = after_number kind_from body_format 23 kinds.Unlock (Unlock passphrase) (string passphrase) refl (λ f. record { inner = passphrase; spelled = string_normal passphrase tt f; makes = refl }) fits
+abbrev SpellsBody : RequestKind → Request → List ℕ → Type 0
+SpellsBody k = (body k).Spells
+
+message_normal : (r : code.Request) → IsWellFormed r → Fits (request r) → message.Spells (request_of r) (flat (request r))
+message_normal variants.RequestIdentities is fits = number_alone kind_from SpellsBody 11 kinds.RequestIdentities Identities refl (refl, refl) fits
+message_normal (variants.SignRequest r) is fits = after_number kind_from SpellsBody 13 kinds.SignRequest (Sign (sign_request_of r)) (sign_request (sign_request_of r)) refl (λ f. record { inner = sign_request_of r; spelled = sign_request_normal (sign_request_of r) f; makes = refl }) fits
+message_normal (variants.AddIdentity a) is fits = after_number kind_from SpellsBody 17 kinds.AddIdentity (Add (addition_of a)) (addition a) refl (λ f. record { inner = addition_of a; spelled = addition_normal a is f; makes = refl }) fits
+message_normal (variants.RemoveIdentity key) is fits = after_number kind_from SpellsBody 18 kinds.RemoveIdentity (Remove key) (string key) refl (λ f. record { inner = key; spelled = string_normal key tt f; makes = refl }) fits
+message_normal variants.RemoveAllIdentities is fits = number_alone kind_from SpellsBody 19 kinds.RemoveAllIdentities RemoveAll refl (refl, refl) fits
+message_normal (variants.Lock passphrase) is fits = after_number kind_from SpellsBody 22 kinds.Lock (Lock passphrase) (string passphrase) refl (λ f. record { inner = passphrase; spelled = string_normal passphrase tt f; makes = refl }) fits
+message_normal (variants.Unlock passphrase) is fits = after_number kind_from SpellsBody 23 kinds.Unlock (Unlock passphrase) (string passphrase) refl (λ f. record { inner = passphrase; spelled = string_normal passphrase tt f; makes = refl }) fits
+message_normal (variants.AddIdentityConstrained a cs) is fits = after_number kind_from SpellsBody 25 kinds.AddIdentityConstrained (AddConstrained (addition_of a) (map constraint_of cs.items)) (addition a & each constraint cs.items) refl (λ f. record {
+  inner = (addition_of a, map constraint_of cs.items);
+  spelled = both_spelled addition_format.Spells constraints.Spells (addition_of a) (map constraint_of cs.items) (addition a) (each constraint cs.items) (addition_normal a is.0) (constraints_normal cs.items is.1) f;
+  makes = refl;
+}) fits
 
 pub request_normal : (r : code.Request) → IsWellFormed r → Fits (box (request r)) → request_format.Spells (request_of r) (flat (box (request r)))
-request_normal r is fits = framed message_format.Spells (request_of r) (request r) (message_normal r is) fits
+request_normal r is fits = framed message.Spells (request_of r) (request r) (message_normal r is) fits

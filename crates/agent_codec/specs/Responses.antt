@@ -52,12 +52,19 @@ answer keys = counted (λ i. identity (identity_of i)) keys
 abbrev pub signed : code_signature.Signature → Parts
 signed g = box (signature (signature_of g))
 
+-- the messages that hold these
+abbrev pub answered : List code_identity.Identity → Parts
+answered keys = number w8 12 & answer keys
+
+abbrev pub given : code_signature.Signature → Parts
+given g = number w8 14 & signed g
+
 -- the number, and what it holds
 abbrev pub response : code.Response → Parts
 response variants.Failure = number w8 5
 response variants.Success = number w8 6
-response (variants.IdentitiesAnswer keys) = number w8 12 & answer keys.items
-response (variants.SignResponse g) = number w8 14 & signed g
+response (variants.IdentitiesAnswer keys) = answered keys.items
+response (variants.SignResponse g) = given g
 
 -- ---- as a format
 
@@ -89,7 +96,7 @@ response_format = boxed message_format
 -- ---- what is proved of it
 
 pub message_chosen : IsChosen message_format.read kind_format.read (λ k. (body_format k).read)
-message_chosen = choice_read kind_format body_format
+message_chosen = choice_read kind_format.read (λ k. (body_format k).read)
 
 -- The signature is one of its algorithm, and the comments are texts.
 abbrev pub IsWellFormed : code.Response → Type 0
@@ -107,11 +114,14 @@ shows i =
 answer_normal : (keys : List code_identity.Identity) → AllByRecursion (λ i. IsText i.comment) keys → Fits (answer keys) → (counted_format identity_format).Spells (map identity_of keys) (flat (answer keys))
 answer_normal keys all fits = counted_normal identity_of (λ i. identity (identity_of i)) (λ i. IsText i.comment) identity_format.Spells (λ i is f. identity_normal (identity_of i) is f) shows keys all fits
 
+abbrev SpellsBody : ResponseKind → Response → List ℕ → Type 0
+SpellsBody k = (body_format k).Spells
+
 message_normal : (r : code.Response) → IsWellFormed r → Fits (response r) → message_format.Spells (response_of r) (flat (response r))
-message_normal variants.Failure is fits = number_alone kind_from body_format 5 kinds.Failure Failure refl (refl, refl) fits
-message_normal variants.Success is fits = number_alone kind_from body_format 6 kinds.Success Success refl (refl, refl) fits
-message_normal (variants.IdentitiesAnswer keys) is fits = after_number kind_from body_format 12 kinds.IdentitiesAnswer (Identities (map identity_of keys.items)) (answer keys.items) refl (λ f. record { inner = map identity_of keys.items; spelled = answer_normal keys.items is f; makes = refl }) fits
-message_normal (variants.SignResponse g) is fits = after_number kind_from body_format 14 kinds.SignResponse (Signed (signature_of g)) (signed g) refl (λ f. record { inner = signature_of g; spelled = framed SpellsSignature (signature_of g) (signature (signature_of g)) (signature_normal (signature_of g) is) f; makes = refl }) fits
+message_normal variants.Failure is fits = number_alone kind_from SpellsBody 5 kinds.Failure Failure refl (refl, refl) fits
+message_normal variants.Success is fits = number_alone kind_from SpellsBody 6 kinds.Success Success refl (refl, refl) fits
+message_normal (variants.IdentitiesAnswer keys) is fits = after_number kind_from SpellsBody 12 kinds.IdentitiesAnswer (Identities (map identity_of keys.items)) (answer keys.items) refl (λ f. record { inner = map identity_of keys.items; spelled = answer_normal keys.items is f; makes = refl }) fits
+message_normal (variants.SignResponse g) is fits = after_number kind_from SpellsBody 14 kinds.SignResponse (Signed (signature_of g)) (signed g) refl (λ f. record { inner = signature_of g; spelled = framed SpellsSignature (signature_of g) (signature (signature_of g)) (signature_normal (signature_of g) is) f; makes = refl }) fits
 
 pub response_normal : (r : code.Response) → IsWellFormed r → Fits (box (response r)) → response_format.Spells (response_of r) (flat (box (response r)))
 response_normal r is fits = framed message_format.Spells (response_of r) (response r) (message_normal r is) fits

@@ -7,15 +7,18 @@
 
 mod addition;
 mod agent_key;
+mod constraint;
 mod frame;
 mod identity;
 pub mod laws;
+mod numbers;
 mod request;
 mod response;
 mod sign_request;
 
 pub use addition::Addition;
 pub use agent_key::{Agent, AgentKey};
+pub use constraint::Constraint;
 pub use identity::Identity;
 pub use request::Request;
 pub use response::Response;

@@ -2,24 +2,32 @@
 
 ghost use Rattle.std.specs.Prelude.{◌+◌, ◌^◌};
 ghost use Rattle.ssh_key.specs.base.Causes.{cause};
-ghost use Rattle.ssh_key.specs.base.Formats.{Stops};
 ghost use Rattle.ssh_key.specs.base.Needs.{Asks};
+ghost use Rattle.ssh_key.specs.base.Nested.{nested_source};
 ghost use Rattle.ssh_key.specs.base.Reading.{Gives};
 ghost use Rattle.ssh_key.specs.base.Sink.{Encodes, MeasuresBoxed};
 ghost use Rattle.ssh_key.specs.base.Source.{Later};
 ghost use Rattle.ssh_key.specs.model.Parts.{box};
-ghost use Rattle.agent_codec.specs.declared.request.kind.RequestKind.TheVariants as kinds;
+ghost use Rattle.agent_codec.specs.Contents.{StopsIn};
 ghost use Rattle.agent_codec.specs.Requests as model;
-ghost use Rattle.agent_codec.specs.Requests.{IsWellFormed, body_format, message_format, message_of, request, request_format, request_normal, request_of};
+ghost use Rattle.agent_codec.specs.Requests.{IsWellFormed, message, request, request_format, request_normal, request_of};
 
+mod constrained;
 mod kind;
+mod read;
 
 use crate::addition::Addition;
+use crate::constraint::Constraint;
 use crate::frame::message_len;
+use crate::numbers::{
+    ADD_IDENTITY, LOCK, REMOVE_ALL_IDENTITIES, REMOVE_IDENTITY, REQUEST_IDENTITIES, SIGN_REQUEST,
+    UNLOCK,
+};
 use crate::sign_request::SignRequest;
-use kind::RequestKind;
+use constrained::{constrained_len, encode_constrained};
+use read::request_from;
 use ssh_key::encoding::{
-    Bytes, Decode, Encode, NormalForm, Reader, Wide, Writer, decode_boxed, encode_both,
+    Bytes, Decode, Encode, NestedReader, NormalForm, Reader, Writer, encode_both,
 };
 use ssh_key::{Error, Result, encoding};
 use std::alloc::Global;
@@ -41,6 +49,13 @@ pub enum Request {
     Lock(Bytes),
     /// Use the keys again: the passphrase.
     Unlock(Bytes),
+    /// Hold this key, with limits.
+    AddIdentityConstrained {
+        /// The key.
+        addition: Addition,
+        /// What limits its use. An agent refuses the key where it does not know one of them.
+        constraints: Vec<Constraint>,
+    },
 }
 
 /// By hand, so that who holds a request lets it go by one call.
@@ -53,7 +68,11 @@ impl Drop for Request {
             | Request::RemoveIdentity(_)
             | Request::RemoveAllIdentities
             | Request::Lock(_)
-            | Request::Unlock(_) => {}
+            | Request::Unlock(_)
+            | Request::AddIdentityConstrained {
+                addition: _,
+                constraints: _,
+            } => {}
         }
     }
 }
@@ -62,7 +81,8 @@ impl Drop for Request {
 ///
 /// Fails with `Length` where a stated length passes what is left, without an allocation, with
 /// `TrailingData` where bytes of the frame are left over, with `FormatEncoding` for the number of no
-/// request, and with the errors of what it holds.
+/// request, and with the errors of what it holds. Constraints stand up to the end of the frame, so
+/// bytes behind them are read as one more.
 impl Decode for Request {
     type Error = Error;
 
@@ -73,7 +93,16 @@ impl Decode for Request {
     ghost format = { request_format };
 
     fn decode<R: Reader>(alloc: Global, reader: &mut R) -> Result<Request> {
-        Ok(decode_boxed::<Message, R>(alloc, reader)?.0)
+        reader.read_prefixed(
+            |part: &mut NestedReader<'_, R>| -> Result<Request>
+                ensures gives { Gives request_of cause message.read
+                    (nested_source R.source part.old) result (nested_source R.source part.new) }
+                ensures later { Later (nested_source R.source part.old)
+                    (nested_source R.source part.new) }
+                ensures asks { Asks cause message.needs (nested_source R.source part.old) result }
+                ensures past { StopsIn cause message (nested_source R.source part.old) result }
+            { request_from(alloc, part) },
+        )
     }
 }
 
@@ -94,7 +123,7 @@ impl Encode for Request {
     }
 }
 
-/// What is added is no encrypted pair.
+/// What is added is no encrypted pair, and comments and names are UTF-8.
 impl NormalForm for Request {
     ghost IsWellFormed = { IsWellFormed };
 
@@ -110,11 +139,15 @@ impl Request {
     {
         match self {
             Request::RequestIdentities | Request::RemoveAllIdentities => Ok(1),
-            Request::SignRequest(request) => message_len(&13u8, request),
-            Request::AddIdentity(addition) => message_len(&17u8, addition),
-            Request::RemoveIdentity(key) => message_len(&18u8, key),
-            Request::Lock(passphrase) => message_len(&22u8, passphrase),
-            Request::Unlock(passphrase) => message_len(&23u8, passphrase),
+            Request::SignRequest(request) => message_len(&SIGN_REQUEST, request),
+            Request::AddIdentity(addition) => message_len(&ADD_IDENTITY, addition),
+            Request::RemoveIdentity(key) => message_len(&REMOVE_IDENTITY, key),
+            Request::Lock(passphrase) => message_len(&LOCK, passphrase),
+            Request::Unlock(passphrase) => message_len(&UNLOCK, passphrase),
+            Request::AddIdentityConstrained {
+                addition,
+                constraints,
+            } => constrained_len(addition, constraints),
         }
     }
 
@@ -124,128 +157,17 @@ impl Request {
             (W.sink writer.old) result (W.sink writer.new) }
     {
         match self {
-            Request::RequestIdentities => 11u8.encode(writer),
-            Request::SignRequest(request) => encode_both(&13u8, request, writer),
-            Request::AddIdentity(addition) => encode_both(&17u8, addition, writer),
-            Request::RemoveIdentity(key) => encode_both(&18u8, key, writer),
-            Request::RemoveAllIdentities => 19u8.encode(writer),
-            Request::Lock(passphrase) => encode_both(&22u8, passphrase, writer),
-            Request::Unlock(passphrase) => encode_both(&23u8, passphrase, writer),
+            Request::RequestIdentities => REQUEST_IDENTITIES.encode(writer),
+            Request::SignRequest(request) => encode_both(&SIGN_REQUEST, request, writer),
+            Request::AddIdentity(addition) => encode_both(&ADD_IDENTITY, addition, writer),
+            Request::RemoveIdentity(key) => encode_both(&REMOVE_IDENTITY, key, writer),
+            Request::RemoveAllIdentities => REMOVE_ALL_IDENTITIES.encode(writer),
+            Request::Lock(passphrase) => encode_both(&LOCK, passphrase, writer),
+            Request::Unlock(passphrase) => encode_both(&UNLOCK, passphrase, writer),
+            Request::AddIdentityConstrained {
+                addition,
+                constraints,
+            } => encode_constrained(addition, constraints, writer),
         }
     }
-}
-
-/// A request without its frame.
-#[derive(Drop)]
-struct Message(Request);
-
-#[tactic(auto, using(ssh_key::proofs::Chosen::chosen, crate::specs::Requests::message_chosen))]
-impl Decode for Message {
-    type Error = Error;
-
-    ghost Meaning = { model.Request };
-
-    ghost means = { message_of };
-
-    ghost format = { message_format };
-
-    fn decode<R: Reader>(alloc: Global, reader: &mut R) -> Result<Message> {
-        let kind = RequestKind::decode(alloc, reader)?;
-        message_from(alloc, reader, kind)
-    }
-}
-
-/// What stands after the number of a request of that kind.
-#[tactic(auto, using(ssh_key::proofs::Places::places, crate::proofs::Frames::nothing_reads))]
-fn message_from<R: Reader>(alloc: Global, reader: &mut R, kind: RequestKind) -> Result<Message>
-    ensures gives { Gives message_of cause (body_format kind).read
-        (R.source reader.old) result (R.source reader.new) }
-    ensures later { Later (R.source reader.old) (R.source reader.new) }
-    ensures asks { Asks cause (body_format kind).needs (R.source reader.old) result }
-    ensures past { Stops cause (body_format kind) (R.source reader.old) result }
-{
-    match kind {
-        RequestKind::RequestIdentities => Ok(Message(Request::RequestIdentities)),
-        RequestKind::SignRequest => sign_request_from(alloc, reader),
-        RequestKind::AddIdentity => addition_from(alloc, reader),
-        RequestKind::RemoveIdentity => removed_from(alloc, reader),
-        RequestKind::RemoveAllIdentities => Ok(Message(Request::RemoveAllIdentities)),
-        RequestKind::Lock => lock_from(alloc, reader),
-        RequestKind::Unlock => unlock_from(alloc, reader),
-    }
-}
-
-/// What is to be signed.
-#[tactic(auto, using(ssh_key::proofs::Mapped::mapped, crate::specs::Parts::checked_read))]
-fn sign_request_from<R: Reader>(alloc: Global, reader: &mut R) -> Result<Message>
-    ensures gives { Gives message_of cause (body_format kinds.SignRequest).read
-        (R.source reader.old) result (R.source reader.new) }
-    ensures later { Later (R.source reader.old) (R.source reader.new) }
-    ensures asks { Asks cause (body_format kinds.SignRequest).needs
-        (R.source reader.old) result }
-    ensures past { Stops cause (body_format kinds.SignRequest)
-        (R.source reader.old) result }
-{
-    let request = SignRequest::decode(alloc, reader)?;
-    Ok(Message(Request::SignRequest(request)))
-}
-
-/// A pair and its comment.
-#[tactic(auto, using(ssh_key::proofs::Mapped::mapped, crate::specs::Parts::checked_read))]
-fn addition_from<R: Reader>(alloc: Global, reader: &mut R) -> Result<Message>
-    ensures gives { Gives message_of cause (body_format kinds.AddIdentity).read
-        (R.source reader.old) result (R.source reader.new) }
-    ensures later { Later (R.source reader.old) (R.source reader.new) }
-    ensures asks { Asks cause (body_format kinds.AddIdentity).needs
-        (R.source reader.old) result }
-    ensures past { Stops cause (body_format kinds.AddIdentity)
-        (R.source reader.old) result }
-{
-    let addition = Addition::decode(alloc, reader)?;
-    Ok(Message(Request::AddIdentity(addition)))
-}
-
-/// The blob of a key.
-#[tactic(auto, using(ssh_key::proofs::Mapped::mapped, crate::specs::Parts::checked_read))]
-fn removed_from<R: Reader>(alloc: Global, reader: &mut R) -> Result<Message>
-    ensures gives { Gives message_of cause (body_format kinds.RemoveIdentity).read
-        (R.source reader.old) result (R.source reader.new) }
-    ensures later { Later (R.source reader.old) (R.source reader.new) }
-    ensures asks { Asks cause (body_format kinds.RemoveIdentity).needs
-        (R.source reader.old) result }
-    ensures past { Stops cause (body_format kinds.RemoveIdentity)
-        (R.source reader.old) result }
-{
-    let Wide(key) = Wide::<Bytes>::decode(alloc, reader)?;
-    Ok(Message(Request::RemoveIdentity(key)))
-}
-
-/// A passphrase.
-#[tactic(auto, using(ssh_key::proofs::Mapped::mapped, crate::specs::Parts::checked_read))]
-fn lock_from<R: Reader>(alloc: Global, reader: &mut R) -> Result<Message>
-    ensures gives { Gives message_of cause (body_format kinds.Lock).read
-        (R.source reader.old) result (R.source reader.new) }
-    ensures later { Later (R.source reader.old) (R.source reader.new) }
-    ensures asks { Asks cause (body_format kinds.Lock).needs
-        (R.source reader.old) result }
-    ensures past { Stops cause (body_format kinds.Lock)
-        (R.source reader.old) result }
-{
-    let Wide(passphrase) = Wide::<Bytes>::decode(alloc, reader)?;
-    Ok(Message(Request::Lock(passphrase)))
-}
-
-/// A passphrase.
-#[tactic(auto, using(ssh_key::proofs::Mapped::mapped, crate::specs::Parts::checked_read))]
-fn unlock_from<R: Reader>(alloc: Global, reader: &mut R) -> Result<Message>
-    ensures gives { Gives message_of cause (body_format kinds.Unlock).read
-        (R.source reader.old) result (R.source reader.new) }
-    ensures later { Later (R.source reader.old) (R.source reader.new) }
-    ensures asks { Asks cause (body_format kinds.Unlock).needs
-        (R.source reader.old) result }
-    ensures past { Stops cause (body_format kinds.Unlock)
-        (R.source reader.old) result }
-{
-    let Wide(passphrase) = Wide::<Bytes>::decode(alloc, reader)?;
-    Ok(Message(Request::Unlock(passphrase)))
 }

@@ -7,15 +7,15 @@ ghost use Rattle.ssh_key.specs.base.Needs.{Asks};
 ghost use Rattle.ssh_key.specs.base.Reading.{Gives};
 ghost use Rattle.ssh_key.specs.base.Sink.{Encodes, MeasuresBoxed};
 ghost use Rattle.ssh_key.specs.base.Source.{Later};
-ghost use Rattle.ssh_key.specs.model.Parts.{box, number, ◌&◌};
-ghost use Rattle.std.specs.Int.{w8};
+ghost use Rattle.ssh_key.specs.model.Parts.{box};
 ghost use Rattle.agent_codec.specs.declared.response.kind.ResponseKind.TheVariants as kinds;
 ghost use Rattle.agent_codec.specs.Responses as model;
-ghost use Rattle.agent_codec.specs.Responses.{IsWellFormed, answer, body_format, given_of, message_format, message_of, response, response_format, response_normal, response_of, signed};
+ghost use Rattle.agent_codec.specs.Responses.{IsWellFormed, answered, body_format, given, given_of, message_format, message_of, response, response_format, response_normal, response_of};
 
 mod kind;
 
 use crate::identity::Identity;
+use crate::numbers::{FAILURE, IDENTITIES_ANSWER, SIGN_RESPONSE, SUCCESS};
 use kind::ResponseKind;
 use ssh_key::encoding::{
     Boxed, Counted, Decode, Encode, NormalForm, Reader, Wide, Writer, counted_len, decode_boxed,
@@ -122,8 +122,8 @@ impl Response {
             (W.sink writer.old) result (W.sink writer.new) }
     {
         match self {
-            Response::Failure => 5u8.encode(writer),
-            Response::Success => 6u8.encode(writer),
+            Response::Failure => FAILURE.encode(writer),
+            Response::Success => SUCCESS.encode(writer),
             Response::IdentitiesAnswer(identities) => encode_answer(identities, writer),
             Response::SignResponse(signature) => encode_signed(signature, writer),
         }
@@ -132,7 +132,7 @@ impl Response {
 
 /// How many bytes the answer has that holds these keys.
 fn answer_len(identities: &[Identity]) -> encoding::Result<u32>
-    ensures { MeasuresBoxed (number w8 12 & answer identities.now) result }
+    ensures { MeasuresBoxed (answered identities.now) result }
 {
     u32_of(1 + counted_len(identities)? as usize)
 }
@@ -140,16 +140,16 @@ fn answer_len(identities: &[Identity]) -> encoding::Result<u32>
 /// Writes the answer that holds these keys.
 #[tactic(auto, using(ssh_key::proofs::Writing::writing))]
 fn encode_answer<W: Writer>(identities: &[Identity], writer: &mut W) -> encoding::Result<()>
-    ensures { Encodes W.fault (number w8 12 & answer identities.now)
+    ensures { Encodes W.fault (answered identities.now)
         (W.sink writer.old) result (W.sink writer.new) }
 {
-    12u8.encode(writer)?;
+    IDENTITIES_ANSWER.encode(writer)?;
     encode_counted(identities, writer)
 }
 
 /// How many bytes the answer has that holds the signature.
 fn signed_len(signature: &Signature) -> encoding::Result<u32>
-    ensures { MeasuresBoxed (number w8 14 & signed signature.now) result }
+    ensures { MeasuresBoxed (given signature.now) result }
 {
     u32_of(1 + signature.encoded_len_prefixed()?)
 }
@@ -157,10 +157,10 @@ fn signed_len(signature: &Signature) -> encoding::Result<u32>
 /// Writes the answer that holds the signature.
 #[tactic(auto, using(ssh_key::proofs::Writing::writing))]
 fn encode_signed<W: Writer>(signature: &Signature, writer: &mut W) -> encoding::Result<()>
-    ensures { Encodes W.fault (number w8 14 & signed signature.now)
+    ensures { Encodes W.fault (given signature.now)
         (W.sink writer.old) result (W.sink writer.new) }
 {
-    14u8.encode(writer)?;
+    SIGN_RESPONSE.encode(writer)?;
     signature.encode_prefixed(writer)
 }
 

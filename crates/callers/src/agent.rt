@@ -27,6 +27,10 @@ fn name(request: &Request) -> &'static str {
         Request::RemoveAllIdentities => "remove-all-identities",
         Request::Lock(_) => "lock",
         Request::Unlock(_) => "unlock",
+        Request::AddIdentityConstrained {
+            addition: _,
+            constraints: _,
+        } => "add-identity-constrained",
     }
 }
 

@@ -6,6 +6,7 @@ pub mod Grammars
 pub mod Judging
 pub mod Mapped
 pub mod Places
+pub mod ReadLists
 pub mod Steps
 pub mod Stopping
 pub mod Writing

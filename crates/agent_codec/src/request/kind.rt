@@ -5,6 +5,10 @@ ghost use Rattle.ssh_key.specs.base.Causes.{cause};
 ghost use Rattle.agent_codec.specs.Requests.{kind_format, kind_from};
 ghost use Rattle.agent_codec.specs.declared.request.kind.RequestKind.{RequestKind};
 
+use crate::numbers::{
+    ADD_ID_CONSTRAINED, ADD_IDENTITY, LOCK, REMOVE_ALL_IDENTITIES, REMOVE_IDENTITY,
+    REQUEST_IDENTITIES, SIGN_REQUEST, UNLOCK,
+};
 use ssh_key::encoding::{Decode, Reader};
 use ssh_key::{Error, Result};
 use std::alloc::Global;
@@ -12,20 +16,22 @@ use std::alloc::Global;
 /// Which request it is (draft-miller-ssh-agent, section 5.1).
 #[derive(Clone, Copy)]
 pub(crate) enum RequestKind {
-    /// `SSH_AGENTC_REQUEST_IDENTITIES`, 11.
+    /// `SSH_AGENTC_REQUEST_IDENTITIES`.
     RequestIdentities,
-    /// `SSH_AGENTC_SIGN_REQUEST`, 13.
+    /// `SSH_AGENTC_SIGN_REQUEST`.
     SignRequest,
-    /// `SSH_AGENTC_ADD_IDENTITY`, 17.
+    /// `SSH_AGENTC_ADD_IDENTITY`.
     AddIdentity,
-    /// `SSH_AGENTC_REMOVE_IDENTITY`, 18.
+    /// `SSH_AGENTC_REMOVE_IDENTITY`.
     RemoveIdentity,
-    /// `SSH_AGENTC_REMOVE_ALL_IDENTITIES`, 19.
+    /// `SSH_AGENTC_REMOVE_ALL_IDENTITIES`.
     RemoveAllIdentities,
-    /// `SSH_AGENTC_LOCK`, 22.
+    /// `SSH_AGENTC_LOCK`.
     Lock,
-    /// `SSH_AGENTC_UNLOCK`, 23.
+    /// `SSH_AGENTC_UNLOCK`.
     Unlock,
+    /// `SSH_AGENTC_ADD_ID_CONSTRAINED`.
+    AddIdentityConstrained,
 }
 
 /// The request of that number. Fails with `FormatEncoding` where it has none.
@@ -33,13 +39,14 @@ fn kind_from(number: u8) -> Result<RequestKind>
     ensures { AnswersAlways (λ k. k) cause (kind_from number) result }
 {
     match number {
-        11 => Ok(RequestKind::RequestIdentities),
-        13 => Ok(RequestKind::SignRequest),
-        17 => Ok(RequestKind::AddIdentity),
-        18 => Ok(RequestKind::RemoveIdentity),
-        19 => Ok(RequestKind::RemoveAllIdentities),
-        22 => Ok(RequestKind::Lock),
-        23 => Ok(RequestKind::Unlock),
+        REQUEST_IDENTITIES => Ok(RequestKind::RequestIdentities),
+        SIGN_REQUEST => Ok(RequestKind::SignRequest),
+        ADD_IDENTITY => Ok(RequestKind::AddIdentity),
+        REMOVE_IDENTITY => Ok(RequestKind::RemoveIdentity),
+        REMOVE_ALL_IDENTITIES => Ok(RequestKind::RemoveAllIdentities),
+        LOCK => Ok(RequestKind::Lock),
+        UNLOCK => Ok(RequestKind::Unlock),
+        ADD_ID_CONSTRAINED => Ok(RequestKind::AddIdentityConstrained),
         _ => Err(Error::FormatEncoding),
     }
 }

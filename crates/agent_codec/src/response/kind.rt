@@ -5,6 +5,7 @@ ghost use Rattle.ssh_key.specs.base.Causes.{cause};
 ghost use Rattle.agent_codec.specs.Responses.{kind_format, kind_from};
 ghost use Rattle.agent_codec.specs.declared.response.kind.ResponseKind.{ResponseKind};
 
+use crate::numbers::{FAILURE, IDENTITIES_ANSWER, SIGN_RESPONSE, SUCCESS};
 use ssh_key::encoding::{Decode, Reader};
 use ssh_key::{Error, Result};
 use std::alloc::Global;
@@ -12,13 +13,13 @@ use std::alloc::Global;
 /// Which response it is (draft-miller-ssh-agent, section 5.1).
 #[derive(Clone, Copy)]
 pub(crate) enum ResponseKind {
-    /// `SSH_AGENT_FAILURE`, 5.
+    /// `SSH_AGENT_FAILURE`.
     Failure,
-    /// `SSH_AGENT_SUCCESS`, 6.
+    /// `SSH_AGENT_SUCCESS`.
     Success,
-    /// `SSH_AGENT_IDENTITIES_ANSWER`, 12.
+    /// `SSH_AGENT_IDENTITIES_ANSWER`.
     IdentitiesAnswer,
-    /// `SSH_AGENT_SIGN_RESPONSE`, 14.
+    /// `SSH_AGENT_SIGN_RESPONSE`.
     SignResponse,
 }
 
@@ -27,10 +28,10 @@ fn kind_from(number: u8) -> Result<ResponseKind>
     ensures { AnswersAlways (λ k. k) cause (kind_from number) result }
 {
     match number {
-        5 => Ok(ResponseKind::Failure),
-        6 => Ok(ResponseKind::Success),
-        12 => Ok(ResponseKind::IdentitiesAnswer),
-        14 => Ok(ResponseKind::SignResponse),
+        FAILURE => Ok(ResponseKind::Failure),
+        SUCCESS => Ok(ResponseKind::Success),
+        IDENTITIES_ANSWER => Ok(ResponseKind::IdentitiesAnswer),
+        SIGN_RESPONSE => Ok(ResponseKind::SignResponse),
         _ => Err(Error::FormatEncoding),
     }
 }

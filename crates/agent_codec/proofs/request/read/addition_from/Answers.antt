@@ -4,7 +4,7 @@ use Rattle.ssh_key.proofs.Stopping.{mapped_stopped}
 use Rattle.agent_codec.specs.Parts.{checked_read}
 use Rattle.agent_codec.specs.Records.{addition_format}
 use Rattle.agent_codec.specs.Requests.{Add}
-use Rattle.agent_codec.proofs.request.addition_from.Goals as goal
+use Rattle.agent_codec.proofs.request.read.addition_from.Goals as goal
 
 pub returns-in_err-addition-clause-past : goal.returns-in_err-addition-clause-past
 returns-in_err-addition-clause-past g c =

@@ -4,7 +4,7 @@ use Rattle.ssh_key.proofs.Stopping.{mapped_stopped}
 use Rattle.agent_codec.specs.Parts.{checked_read}
 use Rattle.agent_codec.specs.Records.{sign_request_format}
 use Rattle.agent_codec.specs.Requests.{Sign}
-use Rattle.agent_codec.proofs.request.sign_request_from.Goals as goal
+use Rattle.agent_codec.proofs.request.read.sign_request_from.Goals as goal
 
 pub returns-in_err-request-clause-past : goal.returns-in_err-request-clause-past
 returns-in_err-request-clause-past g c =

@@ -1,0 +1,106 @@
+"""Questions for the program deploy_keys: `ssh-keygen -Y sign` signs, and `ssh-keygen -Y verify` says under which keys that is a
+signature of the content in the namespace."""
+import base64
+import hashlib
+import os
+import subprocess
+
+from lib.harness import string, take
+from lib.signatures import TYPES, told
+
+NAMESPACE = "git"
+CONTENT = b"object 0123\ntype commit\ntag v1\n\na tag\n"
+BROKEN = "ssh-ed25519 AAAA"
+
+# the lines of the keys, what is asked otherwise than it was signed, and the answer
+CASES = [
+    ("the key", ["{key} the key"], {}, "signed by the key"),
+    ("without a comment", ["{key}"], {}, "signed by "),
+    ("another key", ["{other} another"], {}, "nobody"),
+    ("no key", [], {}, "nobody"),
+    ("other content", ["{key} the key"], {"content": CONTENT + b"."}, "nobody"),
+    ("another namespace", ["{key} the key"], {"namespace": "file"}, "nobody"),
+    ("a byte of the signature is another", ["{key} the key"], {"flipped": True}, "nobody"),
+    ("behind comments", ["# {other} no key", "", "  # neither", "{key} the key"], {}, "signed by the key"),
+    ("behind a line that is none", [BROKEN, "{key} the key"], {}, "signed by the key"),
+    ("in a comment", ["# {key} the key"], {}, "nobody"),
+    ("with options", ["no-pty {key} the key"], {}, "nobody"),
+    ("with options, and without", ['command="true" {key} bound', "{key} free"], {}, "signed by free"),
+    ("the second of several", ["{other} another", "{key} the key", "{third} a third"], {}, "signed by the key"),
+    ("under two comments", ["{other} another", "{key} first", "{key} second"], {}, "signed by first"),
+    ("none of several", ["{other} another", "{third} a third"], {}, "nobody"),
+]  # fmt: skip
+
+
+def deploys(maker):
+    """Names, lines and answers."""
+    keys = {"other": maker.key("deploy-other", "ed25519"), "third": maker.key("deploy-third", "rsa -b 2048")}
+    keys = {name: bare(line) for name, line in keys.items()}
+    for number, kind in enumerate(TYPES):
+        name = f"deploy{number}"
+        keys["key"] = bare(maker.key(name, kind))
+        for case, lines, changes, wanted in CASES:
+            # each case has a signature of its own, so that what was told before plays no part
+            content = CONTENT + f"{kind}: {case}".encode()
+            blob = signed(maker, name, content, flipped=changes.get("flipped"))
+            asked = changes.get("content", content), changes.get("namespace", NAMESPACE)
+            lines = [line.format(**keys) for line in lines]
+            text = "".join(line + "\n" for line in lines).encode()
+            before = told_of(blob, content)
+            words = ["deploy", text.hex(), asked[1], asked[0].hex(), blob.hex()]
+            answer = compared(maker, lines, blob, *asked, wanted)
+            yield f"deploy key of {kind}: {case}", [before] if before else [], "\t".join(words), answer
+
+
+def bare(line):
+    """The line of a key without its comment."""
+    return " ".join(line.split(" ")[:2])
+
+
+def armoured(blob):
+    """The bytes as `ssh-keygen -Y sign` writes them (PROTOCOL.sshsig)."""
+    text = base64.b64encode(blob).decode()
+    rows = [text[at : at + 70] for at in range(0, len(text), 70)]
+    return "".join(f"{row}\n" for row in ["-----BEGIN SSH SIGNATURE-----", *rows, "-----END SSH SIGNATURE-----"])
+
+
+def signed(maker, name, content, flipped):
+    """What stands in the armour of a signature by that key, its last byte another one where that is asked for."""
+    path = maker.path("content")
+    with open(path, "wb") as file:
+        file.write(content)
+    maker.run("-Y", "sign", "-q", "-f", maker.path(name), "-n", NAMESPACE, path)
+    blob = base64.b64decode("".join(maker.read("content.sig").split("\n")[1:-1]))
+    os.remove(path + ".sig")
+    return blob[:-1] + bytes([blob[-1] ^ 1]) if flipped else blob
+
+
+def told_of(blob, content):
+    """The line that tells of the signature: it is over the namespace and the digest of the content (PROTOCOL.sshsig)."""
+    key, rest = take(blob[len(b"SSHSIG") + 4 :])
+    namespace, rest = take(rest)
+    reserved, rest = take(rest)
+    name, rest = take(rest)
+    digest = hashlib.new(name.decode(), content).digest()
+    message = b"SSHSIG" + b"".join(map(string, (namespace, reserved, name, digest)))
+    return told(f"{take(key)[0].decode()} {base64.b64encode(key).decode()}", take(rest)[0], message)
+
+
+def compared(maker, lines, blob, content, namespace, wanted):
+    """The answer that is wanted, or what ssh-keygen says instead: the comment of the first line of a key alone under which it
+    verifies the signature."""
+    found = "nobody"
+    for line in reversed(lines):
+        if line.startswith("ssh-") or line.startswith("ecdsa-"):
+            key, comment = bare(line), " ".join(line.split(" ")[2:])
+            found = f"signed by {comment}" if verifies(maker, key, blob, content, namespace) else found
+    return wanted if found == wanted else f"{wanted}, and ssh-keygen says {found}"
+
+
+def verifies(maker, key, blob, content, namespace):
+    with open(maker.path("allowed"), "w", encoding="ascii") as file:
+        file.write(f"somebody {key}\n")
+    with open(maker.path("signature"), "w", encoding="ascii") as file:
+        file.write(armoured(blob))
+    words = ["-Y", "verify", "-f", maker.path("allowed"), "-I", "somebody", "-n", namespace, "-s", maker.path("signature")]
+    return maker.run(*words, input=content, check=False).returncode == 0

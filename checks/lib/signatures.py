@@ -1,0 +1,61 @@
+"""What the checks verify by the Python package `cryptography`: signatures as keys, certificates and agents hold them."""
+import sys
+
+from lib.harness import string, take
+
+try:
+    from cryptography.exceptions import InvalidSignature
+    from cryptography.hazmat.primitives import hashes, serialization
+    from cryptography.hazmat.primitives.asymmetric import ec, padding, utils
+except ImportError:
+    sys.exit("the Python package cryptography is missing (Debian: python3-cryptography)\n0 passed, 1 failed")
+
+HASHES = {
+    "ssh-rsa": hashes.SHA1, "rsa-sha2-256": hashes.SHA256, "rsa-sha2-512": hashes.SHA512, "ecdsa-sha2-nistp256": hashes.SHA256,
+    "ecdsa-sha2-nistp384": hashes.SHA384, "ecdsa-sha2-nistp521": hashes.SHA512,
+}  # fmt: skip
+# the types of key that ssh-keygen makes, as it is told of them
+TYPES = ["ed25519", "ecdsa -b 256", "ecdsa -b 384", "ecdsa -b 521", "rsa -b 2048"]
+
+
+def is_signed(key, algorithm, message, signature):
+    """Whether the bytes are a signature of the message under the key in that line by that algorithm."""
+    public = serialization.load_ssh_public_key(key.encode())
+    try:
+        if algorithm == "ssh-ed25519":
+            public.verify(signature, message)
+        elif algorithm in ("ssh-rsa", "rsa-sha2-256", "rsa-sha2-512"):
+            public.verify(signature, message, padding.PKCS1v15(), HASHES[algorithm]())
+        else:
+            r, rest = take(signature)
+            r, s = int.from_bytes(r, "big"), int.from_bytes(take(rest)[0], "big")
+            public.verify(utils.encode_dss_signature(r, s), message, ec.ECDSA(HASHES[algorithm]()))
+    except InvalidSignature:
+        return False
+    return True
+
+
+def told(key, signature, message):
+    """The line that tells the program of the signature in that blob, if it is one."""
+    algorithm, rest = take(signature)
+    algorithm, signature = algorithm.decode(), take(rest)[0]
+    if not is_signed(key, algorithm, message, signature):
+        return None
+    return "\t".join(["verified", algorithm, key, message.hex(), signature.hex()])
+
+
+def mpint(number):
+    return string(number.to_bytes(number.bit_length() // 8 + 1, "big"))
+
+
+def signed(private, key, message):
+    """The blob of a signature of the message by the private key that stands in that file, whose public line is `key`."""
+    with open(private, "rb") as file:
+        private = serialization.load_ssh_private_key(file.read(), None)
+    algorithm = key.split(" ")[0]
+    if algorithm == "ssh-ed25519":
+        return string(algorithm.encode()) + string(private.sign(message))
+    if algorithm == "ssh-rsa":
+        return string(b"rsa-sha2-512") + string(private.sign(message, padding.PKCS1v15(), hashes.SHA512()))
+    r, s = utils.decode_dss_signature(private.sign(message, ec.ECDSA(HASHES[algorithm]())))
+    return string(algorithm.encode()) + string(mpint(r) + mpint(s))

@@ -1,7 +1,0 @@
-use Rattle.ssh_key.specs.base.Causes.{cause}
-use Rattle.ssh_key.proofs.Chosen.{chosen_stops}
-use Rattle.agent_codec.specs.Requests.{body_format, kind_format, message_chosen, message_format}
-use Rattle.agent_codec.proofs.request.MessageDecode.decode.Goals as goal
-
-pub returns-clause-past : goal.returns-clause-past
-returns-clause-past g c = chosen_stops _ kind_format.read (λ k. (body_format k).read) message_format.read _ _ _ cause _ kind_format.needs kind_format.overruns (λ k. (body_format k).needs) (λ k. (body_format k).overruns) c.in_ok-kind.ensures.gives kind_format.lengths message_chosen c.message_from.ensures.past

@@ -1,0 +1,33 @@
+use Rattle.std.proofs.Common.{map, refl}
+use Rattle.std.proofs.lemmas.Result.{err_from_is_err_and}
+use Rattle.ssh_key.proofs.Mapped.{mapped_reads, mapped_refused}
+use Rattle.ssh_key.proofs.Stopping.{stopped_first}
+use Rattle.agent_codec.specs.Constraints.{constraint_of, constraints}
+use Rattle.agent_codec.specs.Records.{addition_format, addition_of}
+use Rattle.agent_codec.specs.Requests.{constrained_read, request_of}
+use Rattle.agent_codec.proofs.Held.{behind_stops, both_reads, both_refused_first, both_refused_later, ran_anywhere}
+use Rattle.agent_codec.proofs.request.read.constrained_from.Goals as goal
+
+pub returns-in_err-addition-clause-gives : goal.returns-in_err-addition-clause-gives
+returns-in_err-addition-clause-gives g c =
+    let p = err_from_is_err_and c.from_residual.result c.from_residual.ensures.1 in
+    rw (p.1, p.2) (mapped_refused _ _ _ _ _ _ constrained_read (both_refused_first addition_format.read constraints.read _ _ _ c.in_err-addition.ensures.gives))
+
+pub returns-in_err-addition-clause-past : goal.returns-in_err-addition-clause-past
+returns-in_err-addition-clause-past g c =
+    let p = err_from_is_err_and c.from_residual.result c.from_residual.ensures.1 in
+    rw (p.1, p.2) (stopped_first addition_format.needs addition_format.overruns addition_format.read (λ _. constraints.needs) (λ _. constraints.overruns) (λ _. constraints.read) _ _ c.in_err-addition.ensures.past).past
+
+pub returns-in_err-constraints-clause-gives : goal.returns-in_err-constraints-clause-gives
+returns-in_err-constraints-clause-gives g c =
+    let p = err_from_is_err_and c.from_residual-in_err-constraints.result c.from_residual-in_err-constraints.ensures.1 in
+    rw (p.1, p.2) (mapped_refused _ _ _ _ _ _ constrained_read (both_refused_later addition_format.read constraints.read addition_of _ _ _ _ c.in_ok-addition.ensures.gives c.in_err-constraints.ensures.gives))
+
+pub returns-in_err-constraints-clause-past : goal.returns-in_err-constraints-clause-past
+returns-in_err-constraints-clause-past g c =
+    let p = err_from_is_err_and c.from_residual-in_err-constraints.result c.from_residual-in_err-constraints.ensures.1 in
+    rw (p.1, p.2) (behind_stops addition_of addition_format (λ _. constraints.needs) (λ _. constraints.overruns) _ _ _ _ c.in_ok-addition.ensures.gives (λ o. ran_anywhere _ _ (c.in_err-constraints.ensures.past o)))
+
+pub returns-clause-gives : goal.returns-clause-gives
+returns-clause-gives g c =
+    mapped_reads _ _ _ _ _ _ _ request_of _ (both_reads addition_format.read constraints.read addition_of (λ (v : _). map constraint_of v.items) _ _ _ _ _ c.in_ok-addition.ensures.gives c.in_ok-constraints.ensures.gives) constrained_read refl

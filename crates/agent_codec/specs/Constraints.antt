@@ -1,0 +1,85 @@
+-- What an agent is told about the use of a key that is added (draft-miller-ssh-agent, section 4.2.6), and their numbers.
+use Rattle.std.proofs.Common.{◌≡◌, ℕ, List, [], ◌∷◌, Result, Ok, Err, refl}
+use Rattle.std.specs.Prelude.{◌==◌, if◌then◌else◌, map}
+use Rattle.std.specs.Int.{w8, w32}
+use Rattle.std.specs.List.{AllByRecursion}
+use Rattle.ssh_key.specs.base.Formats.{Format, byte_format, number32_format, string_format, text_format}
+use Rattle.ssh_key.specs.base.Leaves.{SpellsString, number32_normal, string_normal}
+use Rattle.ssh_key.specs.base.Texts.{SpellsText, text_normal}
+use Rattle.ssh_key.specs.counted.Counted.{SpellsEach}
+use Rattle.ssh_key.specs.format.Terms.{◌then◌, IsChosen, choice, tested}
+use Rattle.ssh_key.specs.model.Parts.{Parts, number, ◌&◌, each, flat, Fits}
+use Rattle.ssh_key.specs.model.Reading.{Fault, FormatEncoding}
+use Rattle.ssh_key.specs.model.Texts.{string, IsText}
+use Rattle.ssh_key.proofs.CombinedReaders.{fits_first, fits_second}
+use Rattle.agent_codec.specs.Contents.{Contents, values}
+use Rattle.agent_codec.specs.Parts.{after_number, both_spelled, choice_read, nothing_format, number_alone, number_shows}
+use Rattle.agent_codec.specs.declared.constraint.Constraint as code
+use Rattle.agent_codec.specs.declared.constraint.Constraint.TheVariants as variants
+use Rattle.agent_codec.specs.declared.constraint.kind.ConstraintKind.{ConstraintKind}
+use Rattle.agent_codec.specs.declared.constraint.kind.ConstraintKind.TheVariants as kinds
+
+-- for so many seconds, only where the user confirms it, or what stands under a name
+pub data Constraint : Type 0 where
+  Lifetime : ℕ → Constraint
+  Confirm : Constraint
+  Extension : List ℕ → List ℕ → Constraint
+
+abbrev pub constraint_of : code.Constraint → Constraint
+constraint_of (variants.Lifetime seconds) = Lifetime seconds
+constraint_of variants.Confirm = Confirm
+constraint_of (variants.Extension name details) = Extension name details
+
+-- the number, and what it holds
+abbrev pub constraint : code.Constraint → Parts
+constraint (variants.Lifetime seconds) = number w8 1 & number w32 seconds
+constraint variants.Confirm = number w8 2
+constraint (variants.Extension name details) = number w8 255 & string name & string details
+
+-- ---- as a format
+
+abbrev pub kind_from : ℕ → Result ConstraintKind Fault
+kind_from n =
+    if n == 1 then Ok kinds.Lifetime
+    else if n == 2 then Ok kinds.Confirm
+    else if n == 255 then Ok kinds.Extension
+    else Err FormatEncoding
+
+abbrev pub kind_format : Format ConstraintKind
+kind_format = tested kind_from byte_format
+
+-- what stands behind the number
+abbrev pub body_format : ConstraintKind → Format Constraint
+body_format kinds.Lifetime = tested (λ seconds. Ok (Lifetime seconds)) number32_format
+body_format kinds.Confirm = nothing_format Confirm
+body_format kinds.Extension = tested (λ e. Ok (Extension e.0 e.1)) (text_format then string_format)
+
+abbrev pub constraint_format : Format Constraint
+constraint_format = tested (λ c. Ok c.1) (choice kind_format body_format)
+
+-- constraints up to the end of the frame
+abbrev pub constraints : Contents (List Constraint)
+constraints = values constraint_format (number_shows kind_from (λ k. (body_format k).Spells))
+
+-- ---- what is proved of it
+
+pub constraint_chosen : IsChosen constraint_format.read kind_format.read (λ k. (body_format k).read)
+constraint_chosen = choice_read kind_format.read (λ k. (body_format k).read)
+
+-- The name is a text.
+abbrev pub IsWellFormedConstraint : code.Constraint → Type 0
+IsWellFormedConstraint (variants.Extension name details) = IsText name
+IsWellFormedConstraint _ = Unit {0}
+
+abbrev SpellsBody : ConstraintKind → Constraint → List ℕ → Type 0
+SpellsBody k = (body_format k).Spells
+
+pub constraint_normal : (c : code.Constraint) → IsWellFormedConstraint c → Fits (constraint c) → constraint_format.Spells (constraint_of c) (flat (constraint c))
+constraint_normal (variants.Lifetime seconds) is fits = after_number kind_from SpellsBody 1 kinds.Lifetime (Lifetime seconds) (number w32 seconds) refl (λ f. record { inner = seconds; spelled = number32_normal seconds tt f; makes = refl }) fits
+constraint_normal variants.Confirm is fits = number_alone kind_from SpellsBody 2 kinds.Confirm Confirm refl (refl, refl) fits
+constraint_normal (variants.Extension name details) is fits = after_number kind_from SpellsBody 255 kinds.Extension (Extension name details) (string name & string details) refl (λ f. record { inner = (name, details); spelled = both_spelled SpellsText SpellsString name details (string name) (string details) (text_normal name is) (string_normal details tt) f; makes = refl }) fits
+
+pub constraints_normal : (cs : List code.Constraint) → AllByRecursion IsWellFormedConstraint cs → Fits (each constraint cs) → constraints.Spells (map constraint_of cs) (flat (each constraint cs))
+unfolding flat
+constraints_normal [] all fits = refl
+constraints_normal (c ∷ cs) all fits = (flat (constraint c), flat (each constraint cs), constraint_normal c all.0 (fits_first (constraint c) (each constraint cs) fits), constraints_normal cs all.1 (fits_second (constraint c) (each constraint cs) fits), refl)
