@@ -3,6 +3,7 @@ pub use Rattle.sshkey_cert.specs.CertificateReaders
 pub use Rattle.sshkey_cert.specs.CertificateFormats
 pub use Rattle.sshkey_cert.specs.CertificateValues
 pub use Rattle.sshkey_cert.specs.Validity
+pub use Rattle.sshkey_cert.specs.Questions
 pub use Rattle.sshkey_cert.specs.Signing
 pub use Rattle.sshkey_cert.specs.Lines
 pub use Rattle.sshkey_cert.specs.Comparisons

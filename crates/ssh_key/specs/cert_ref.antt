@@ -6,4 +6,3 @@ pub use Rattle.sshkey_cert_ref.specs.TextLists
 pub use Rattle.sshkey_cert_ref.specs.OptionLists
 pub use Rattle.sshkey_cert_ref.specs.SpelledOptions
 pub use Rattle.sshkey_cert_ref.specs.Views
-pub use Rattle.sshkey_cert_ref.specs.Questions

@@ -2,9 +2,7 @@
 
 pub use sshkey_base::certificate::Field;
 pub use sshkey_builder::Builder;
-pub use sshkey_cert::{Certificate, CertificateRefusal, KeyOrCertificate};
-pub use sshkey_cert_ref::{
-    CertificateQuestion, CertificateRef, Options, OptionsRef, Texts, TextsRef,
-};
+pub use sshkey_cert::{Certificate, CertificateQuestion, CertificateRefusal, KeyOrCertificate};
+pub use sshkey_cert_ref::{CertificateRef, Options, OptionsRef, Texts, TextsRef};
 pub use sshkey_options::{CertType, EndTime, FOREVER, MAX_SECS, OptionsMap, UnixTime};
 pub use sshkey_to_be_signed::ToBeSigned;

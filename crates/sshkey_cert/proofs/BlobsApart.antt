@@ -8,7 +8,7 @@ use Rattle.sshkey_model.specs.Names.{Nistp256, Nistp384, Nistp521, Algorithm, al
 use Rattle.sshkey_model.specs.CertificateNames.{certificate_name, certified_from}
 use Rattle.sshkey_model.specs.Keys.{Key, Dsa, Ecdsa, Ed25519, Rsa, SkEcdsa, SkEd25519, Opaque, Head, Plain, Head256, Head512, HasKeyPlaces, body, headed, key, key_algorithm}
 use Rattle.sshkey_model.specs.Signatures.{signature}
-use Rattle.sshkey_model.specs.Certificates.{Certificate, CertificateChoices, certificate, to_be_signed}
+use Rattle.sshkey_model.specs.Certificates.{Certificate, to_be_signed}
 use Rattle.sshkey_model.proofs.CombinedReaders.{prefix, string_reads, fits_first, fits_second}
 use Rattle.sshkey_model.proofs.TextReaders.{box_shows}
 use Rattle.sshkey_model.proofs.CertificateNameReaders.{certified_again}

@@ -1,5 +1,5 @@
 -- What is read and leaves nothing is read whole.
-use Rattle.std.proofs.Common.{◌≡◌, ℕ, List, [], ◌∷◌, length, Result, Ok, Err, Bool, true, false, cond, eqb, refl, sym, ◌∙◌, arith}
+use Rattle.std.proofs.Common.{◌≡◌, ℕ, List, [], ◌∷◌, length, Ok, Err, Bool, true, false, cond, eqb, refl, sym, ◌∙◌, arith}
 use Rattle.std.proofs.lemmas.Bool.{eqb-true}
 use Rattle.sshkey_model.specs.Reading.{Front, whole}
 use Rattle.sshkey_base.specs.declared.encoding.Error.{Error}

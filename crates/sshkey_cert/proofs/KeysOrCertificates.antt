@@ -1,5 +1,5 @@
 -- Bytes under a certificate's name are a certificate or nothing, and others a key or nothing.
-use Rattle.std.proofs.Common.{◌≡◌, ◌≢◌, ℕ, List, [], ◌++◌, true, false, Result, Ok, Err, refl, sym, ap, ◌∙◌, append-nil}
+use Rattle.std.proofs.Common.{◌≡◌, ◌≢◌, ℕ, List, [], true, false, Result, Ok, Err, refl, sym, ap, ◌∙◌, append-nil}
 use Rattle.std.specs.Prelude.{is_ok}
 use Rattle.sshkey_model.specs.CertificateNames.{certificate_algorithm_at}
 use Rattle.sshkey_model.specs.Certificates.{Certificate, certificate_at, signed_fields_at}
@@ -11,8 +11,7 @@ use Rattle.sshkey_base.specs.Source.{IsSound, all_of}
 use Rattle.sshkey_base.specs.declared.error.Error.{Error}
 use Rattle.sshkey_keys.specs.Keys.{SpellsKey}
 use Rattle.sshkey_cert.specs.CertificateReaders.{SpellsCertificate, certificate_grammar, certificate_value_at}
-use Rattle.sshkey_cert.specs.KeysOrCertificates.{AcceptsEither, SpellsEither, names_certificate}
-use Rattle.sshkey_cert.specs.declared.key_or_certificate.KeyOrCertificate.{KeyOrCertificate}
+use Rattle.sshkey_cert.specs.KeysOrCertificates.{AcceptsEither, names_certificate}
 use Rattle.sshkey_cert.specs.declared.key_or_certificate.KeyOrCertificate.TheVariants as either
 
 -- what has no name in front is no certificate

@@ -9,7 +9,7 @@ use Rattle.std.proofs.Math.Seq.{get_or-append_seam}
 use Rattle.sshkey_model.specs.CertificateNames.{certificate_name, suffix, with_suffix}
 use Rattle.sshkey_model.specs.Lines.{written}
 use Rattle.sshkey_model.specs.Names.{Algorithm, Dsa, Ecdsa, Ed25519, Rsa, SkEcdsa, SkEd25519, Other, Nistp256, Nistp384, Nistp521, algorithm_name, are_ascii, at_sign, cut}
-use Rattle.sshkey_model.specs.Parts.{Parts, bytes, flat}
+use Rattle.sshkey_model.specs.Parts.{bytes, flat}
 use Rattle.sshkey_model.proofs.CertificateNameReaders.{cut_parts}
 use Rattle.sshkey_base.specs.Sink.{Sink, Written}
 use Rattle.sshkey_base.proofs.CertificateTypes.{certificate_name-cut}

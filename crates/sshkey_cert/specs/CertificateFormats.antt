@@ -1,7 +1,7 @@
 -- A certificate (PROTOCOL.certkeys), by the terms that it is read as.
-use Rattle.std.proofs.Common.{◌≡◌, ℕ, List, Result, Ok}
+use Rattle.std.proofs.Common.{Result, Ok}
 use Rattle.sshkey_model.specs.Certificates.{SignedFields, Certificate, certificate_at}
-use Rattle.sshkey_model.specs.Reading.{Fault, ◌>>=◌}
+use Rattle.sshkey_model.specs.Reading.{Fault}
 use Rattle.sshkey_model.specs.Signatures.{Signature}
 use Rattle.sshkey_model.proofs.CombinedReaders.{bind_assoc}
 use Rattle.sshkey_base.specs.Formats.{Format}

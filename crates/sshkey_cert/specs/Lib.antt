@@ -3,6 +3,7 @@ pub mod CertificateReaders
 pub mod CertificateFormats
 pub mod CertificateValues
 pub mod Validity
+pub mod Questions
 pub mod Signing
 pub mod Lines
 pub mod Comparisons

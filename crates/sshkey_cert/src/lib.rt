@@ -6,6 +6,7 @@ mod key_or_certificate;
 pub mod laws;
 
 pub use certificate::{
-    Certificate, CertificateRefusal, is_given, judge_authority_and_time, wrong_authority_or_time,
+    Certificate, CertificateQuestion, CertificateRefusal, is_given, or_principal, question_about,
+    tell, wrong_authority_or_time,
 };
 pub use key_or_certificate::KeyOrCertificate;

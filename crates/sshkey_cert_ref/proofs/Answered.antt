@@ -42,16 +42,10 @@ well_formed k is (Err e) h = tt
 
 -- ---- principals
 
-pub not_allowed : (b : Bool) (ps : List (List ℕ)) (wanted : List ℕ) → b ≡ false → ((ps ≡ []) ⊎ Contains ps wanted → b ≡ true) → allows ps wanted ≡ false
-not_allowed b ps wanted no_ h = go (allows ps wanted) refl
-  where
-    go : (found : Bool) → allows ps wanted ≡ found → found ≡ false
-    go false e = refl
-    go true e = let yes_ = h (allowed ps wanted e) in absurd (cc (no_, yes_))
-
-pub is_allowed : (b : Bool) (ps : List (List ℕ)) (wanted : List ℕ) → b ≡ true → (b ≡ true → (ps ≡ []) ⊎ Contains ps wanted) → allows ps wanted ≡ true
-is_allowed b ps wanted yes_ h = allows_it ps wanted (h yes_)
-
 pub allows_is : (b : Bool) (ps : List (List ℕ)) (wanted : List ℕ) → (b ≡ true → (ps ≡ []) ⊎ Contains ps wanted) × ((ps ≡ []) ⊎ Contains ps wanted → b ≡ true) → b ≡ allows ps wanted
-allows_is true ps wanted both = sym (is_allowed true ps wanted refl both.0)
-allows_is false ps wanted both = sym (not_allowed false ps wanted refl both.1)
+allows_is true ps wanted both = sym (allows_it ps wanted (both.0 refl))
+allows_is false ps wanted both = go (allows ps wanted) refl
+  where
+    go : (found : Bool) → allows ps wanted ≡ found → false ≡ found
+    go false e = refl
+    go true e = both.1 (allowed ps wanted e)

@@ -7,4 +7,3 @@ pub mod Parts
 pub mod Fields
 pub mod Spelled
 pub mod CertificateRef
-pub mod Questions

@@ -23,7 +23,6 @@ mod validity;
 use crate::leaves::split_signature;
 use crate::parts::Parts;
 use crate::walk::split_parts;
-pub use question::CertificateQuestion;
 use sshkey_base::{Error, Result, encoding};
 use sshkey_keys_ref::SignatureRef;
 

@@ -11,6 +11,6 @@ mod strings;
 mod texts_ref;
 mod walk;
 
-pub use certificate_ref::{CertificateQuestion, CertificateRef};
+pub use certificate_ref::CertificateRef;
 pub use options_ref::{Options, OptionsRef};
 pub use texts_ref::{Texts, TextsRef};

@@ -1,6 +1,7 @@
 pub use Rattle.sshkey_base.specs.declared.certificate.field.Field
 pub use Rattle.sshkey_builder.specs.declared.builder.Builder
 pub use Rattle.sshkey_cert.specs.declared.certificate.Certificate
+pub use Rattle.sshkey_cert.specs.declared.certificate.question.CertificateQuestion
 pub use Rattle.sshkey_cert.specs.declared.certificate.refusal.CertificateRefusal
 pub use Rattle.sshkey_cert.specs.declared.key_or_certificate.KeyOrCertificate
 pub use Rattle.sshkey_cert_ref.specs.declared.certificate_ref.CertificateRef
@@ -8,7 +9,6 @@ pub use Rattle.sshkey_cert_ref.specs.declared.options_ref.OptionsRef
 pub use Rattle.sshkey_cert_ref.specs.declared.options_ref.iter.Options
 pub use Rattle.sshkey_cert_ref.specs.declared.texts_ref.TextsRef
 pub use Rattle.sshkey_cert_ref.specs.declared.texts_ref.iter.Texts
-pub use Rattle.sshkey_cert_ref.specs.declared.certificate_ref.question.CertificateQuestion
 pub use Rattle.sshkey_options.specs.declared.cert_type.CertType
 pub use Rattle.sshkey_options.specs.declared.end_time.EndTime
 pub use Rattle.sshkey_options.specs.declared.options_map.OptionsMap

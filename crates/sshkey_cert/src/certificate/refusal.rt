@@ -1,10 +1,11 @@
 //! What is wrong with a certificate.
 
-ghost use Rattle.std.specs.Prelude.{◌≡◌};
-ghost use Rattle.sshkey_cert.specs.Validity.{refusal_error, refusal_of};
+ghost use Rattle.std.specs.Prelude.{◌≡◌, None, option_map};
+ghost use Rattle.sshkey_model.specs.Refusals.{OtherPrincipal, or_else, unless};
+ghost use Rattle.sshkey_cert.specs.Validity.{Tells, refusal_error, refusal_of};
 
-use sshkey_base::Error;
 use sshkey_base::certificate::Field;
+use sshkey_base::{Error, Result};
 
 /// What is wrong with a certificate that is not valid: the first of these, in this order.
 ///
@@ -36,5 +37,34 @@ impl CertificateRefusal {
             CertificateRefusal::Time => Error::Time,
             CertificateRefusal::Principal => Error::CertificateFieldInvalid(Field::ValidPrincipals),
         }
+    }
+}
+
+/// `Ok` where nothing is wrong, and else the error of what is. Does not allocate.
+pub fn tell(first: Option<CertificateRefusal>) -> Result<()>
+    ensures { Tells (option_map refusal_of first) result }
+{
+    match first {
+        None => Ok(()),
+        Some(refusal) => Err(refusal.error()),
+    }
+}
+
+/// The first refusal, if there is one, and else the principal's where it is not allowed. Does not
+/// allocate.
+pub fn or_principal(
+    first: Option<CertificateRefusal>,
+    is_allowed: bool,
+) -> Option<CertificateRefusal>
+    ensures { option_map refusal_of result
+        ≡ or_else (option_map refusal_of first) (unless is_allowed OtherPrincipal None) }
+{
+    match first {
+        Some(refusal) => Some(refusal),
+        None => if is_allowed {
+            None
+        } else {
+            Some(CertificateRefusal::Principal)
+        },
     }
 }

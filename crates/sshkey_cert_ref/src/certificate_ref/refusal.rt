@@ -1,14 +1,12 @@
 //! What is wrong with a certificate, for logs.
 
-ghost use Rattle.std.specs.Prelude.{◌≡◌, IfErr, IfOk, None, option_map};
-ghost use Rattle.sshkey_base.specs.declared.error.Error.TheVariants as wide;
-ghost use Rattle.sshkey_cert.specs.Validity.{FindsFirst, fingerprints_of, refusal_of};
-ghost use Rattle.sshkey_model.specs.Refusals.{OtherPrincipal, first_refusal, first_refusal_for, is_signed, or_else, unless};
+ghost use Rattle.sshkey_cert.specs.Validity.{FindsFirst, fingerprints_of};
+ghost use Rattle.sshkey_model.specs.Refusals.{first_refusal, first_refusal_for};
 ghost use Rattle.sshkey_cert_ref.specs.CertificateRef.{certificate_of};
 
 use super::CertificateRef;
-use sshkey_base::{Error, Result};
-use sshkey_cert::{CertificateRefusal, wrong_authority_or_time};
+use sshkey_base::Result;
+use sshkey_cert::{CertificateRefusal, or_principal, wrong_authority_or_time};
 use sshkey_fingerprints::Fingerprint;
 use sshkey_keys::RawVerifier;
 use std::alloc::Global;
@@ -51,33 +49,5 @@ impl CertificateRef<'_> {
     {
         let first = self.first_refusal(alloc, unix_timestamp, fingerprints, verifier)?;
         Ok(or_principal(first, self.allows_principal(wanted)))
-    }
-
-    /// Whether the verifier accepts the signature. Fails only when out of memory.
-    fn is_signed<V: RawVerifier>(&self, alloc: Global, verifier: &V) -> Result<bool>
-        ensures yes { IfOk result
-            (λ yes. yes ≡ is_signed (V.accepts verifier.now) (certificate_of self.now)) }
-        ensures memory { IfErr result (λ e. e ≡ wide.Memory) }
-    {
-        match self.verify_signature(alloc, verifier) {
-            Ok(()) => Ok(true),
-            Err(Error::Memory) => Err(Error::Memory),
-            Err(_) => Ok(false),
-        }
-    }
-}
-
-/// The first refusal, if there is one, and else the principal's where it is not allowed.
-fn or_principal(first: Option<CertificateRefusal>, is_allowed: bool) -> Option<CertificateRefusal>
-    ensures { option_map refusal_of result
-        ≡ or_else (option_map refusal_of first) (unless is_allowed OtherPrincipal None) }
-{
-    match first {
-        Some(refusal) => Some(refusal),
-        None => if is_allowed {
-            None
-        } else {
-            Some(CertificateRefusal::Principal)
-        },
     }
 }

@@ -1,20 +1,17 @@
 //! When a certificate is valid.
 
-ghost use Rattle.std.specs.Prelude.{◌≡◌, ◌↔◌, IsTrue, IfOk, IfErr, OnOk, None};
+ghost use Rattle.std.specs.Prelude.{◌≡◌, ◌↔◌, IsTrue, IfOk, IfErr, OnOk};
 ghost use Rattle.sshkey_base.specs.declared.error.Error.TheVariants as wide;
-ghost use Rattle.sshkey_cert.specs.Validity.{IsSigned, IsUnsigned, Judges, JudgesFor, Tells, fingerprints_of};
+ghost use Rattle.sshkey_cert.specs.Validity.{IsSigned, IsUnsigned, Judges, JudgesFor};
 ghost use Rattle.sshkey_keys.specs.Fingerprints.{IsFingerprint};
-ghost use Rattle.sshkey_model.specs.Certificates.{normal_to_be_signed};
 ghost use Rattle.sshkey_model.specs.Names.{Sha256};
-ghost use Rattle.sshkey_model.specs.Parts.{flat};
 ghost use Rattle.sshkey_model.specs.Principals.{Allows};
-ghost use Rattle.sshkey_model.specs.Refusals.{NotSigned, first_refusal, is_signed, unless};
+ghost use Rattle.sshkey_model.specs.Refusals.{is_signed};
 ghost use Rattle.sshkey_cert_ref.specs.CertificateRef.{certificate_of};
 
 use super::CertificateRef;
-use sshkey_base::certificate::Field;
 use sshkey_base::{Error, HashAlg, Result};
-use sshkey_cert::judge_authority_and_time;
+use sshkey_cert::tell;
 use sshkey_fingerprints::Fingerprint;
 use sshkey_keys::RawVerifier;
 use std::alloc::Global;
@@ -32,10 +29,10 @@ impl CertificateRef<'_> {
         ensures refused { IfErr result
             (IsUnsigned (V.accepts verifier.now) (certificate_of self.now)) }
     {
-        match self.signed_bytes() {
-            Some(signed) => self.verify_slice(alloc, signed, verifier),
-            None => self.verify_in_memory(alloc, verifier),
+        if !self.is_signed(alloc, verifier)? {
+            return Err(Error::CertificateValidation);
         }
+        Ok(())
     }
 
     /// Whether the certificate is valid at that time, in seconds since 1970, for an authority with
@@ -56,7 +53,7 @@ impl CertificateRef<'_> {
         ensures { Judges (V.accepts verifier.now) fingerprints.now unix_timestamp
             (certificate_of self.now) result }
     {
-        self.judge_at(alloc, unix_timestamp, fingerprints, verifier)
+        tell(self.first_refusal(alloc, unix_timestamp, fingerprints, verifier)?)
     }
 
     /// Whether the certificate lists no principals, or lists that very text. Does not allocate.
@@ -85,64 +82,18 @@ impl CertificateRef<'_> {
         ensures { JudgesFor (V.accepts verifier.now) fingerprints.now unix_timestamp wanted.now
             (certificate_of self.now) result }
     {
-        self.judge_at(alloc, unix_timestamp, fingerprints, verifier)?;
-        if !self.allows_principal(wanted) {
-            return Err(Error::CertificateFieldInvalid(Field::ValidPrincipals));
-        }
-        Ok(())
+        tell(self.first_refusal_for(alloc, unix_timestamp, wanted, fingerprints, verifier)?)
     }
 
-    /// What is wrong with the certificate first.
-    fn judge_at<V: RawVerifier>(
-        &self,
-        alloc: Global,
-        unix_timestamp: u64,
-        fingerprints: &[Fingerprint],
-        verifier: &V,
-    ) -> Result<()>
-        ensures { Tells (first_refusal (V.accepts verifier.now) (fingerprints_of fingerprints.now)
-            unix_timestamp (certificate_of self.now)) result }
+    /// Whether the verifier accepts the signature. Fails only when out of memory.
+    pub(super) fn is_signed<V: RawVerifier>(&self, alloc: Global, verifier: &V) -> Result<bool>
+        ensures yes { IfOk result
+            (λ yes. yes ≡ is_signed (V.accepts verifier.now) (certificate_of self.now)) }
+        ensures memory { IfErr result (λ e. e ≡ wide.Memory) }
     {
-        self.ask(alloc, verifier)?;
-        let authority = self.authority(alloc)?;
-        let window = (self.valid_after(), self.valid_before());
-        judge_authority_and_time(authority.as_bytes(), window, fingerprints, unix_timestamp)
-    }
-
-    /// What is wrong with the signature.
-    fn ask<V: RawVerifier>(&self, alloc: Global, verifier: &V) -> Result<()>
-        ensures { Tells (unless (is_signed (V.accepts verifier.now) (certificate_of self.now))
-            NotSigned None) result }
-    {
-        self.verify_signature(alloc, verifier)
-    }
-
-    /// Asks the verifier about the signature over these bytes.
-    fn verify_slice<V: RawVerifier>(&self, alloc: Global, signed: &[u8], verifier: &V) -> Result<()>
-        requires { signed.now ≡ flat (normal_to_be_signed (certificate_of self.now).signed) }
-        ensures accepted { OnOk result
-            (IsSigned (V.accepts verifier.now) (certificate_of self.now)) }
-        ensures refused { IfErr result
-            (IsUnsigned (V.accepts verifier.now) (certificate_of self.now)) }
-    {
+        let message = self.message(alloc)?;
         let key = self.parts.signature_key;
-        if !key.accepts(alloc, signed, &self.signature, verifier)? {
-            return Err(Error::CertificateValidation);
-        }
-        Ok(())
-    }
-
-    /// Asks the verifier about the signature over bytes that are made anew.
-    fn verify_in_memory<V: RawVerifier>(&self, alloc: Global, verifier: &V) -> Result<()>
-        ensures accepted { OnOk result
-            (IsSigned (V.accepts verifier.now) (certificate_of self.now)) }
-        ensures refused { IfErr result
-            (IsUnsigned (V.accepts verifier.now) (certificate_of self.now)) }
-    {
-        match self.to_certificate(alloc) {
-            Ok(certificate) => certificate.verify_signature(alloc, verifier),
-            Err(_) => Err(Error::Memory),
-        }
+        Ok(key.accepts(alloc, &message, &self.signature, verifier)?)
     }
 
     /// The SHA-256 fingerprint of the key that signed. Fails only when out of memory.

@@ -1,4 +1,3 @@
-use Rattle.std.proofs.Common.{◌↔◌}
 use Rattle.sshkey_model.specs.Certificates.{normal_certificate}
 use Rattle.sshkey_model.specs.Keys.{key_algorithm}
 use Rattle.sshkey_model.specs.Parts.{flat}

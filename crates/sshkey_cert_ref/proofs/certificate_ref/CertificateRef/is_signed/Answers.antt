@@ -1,0 +1,11 @@
+use Rattle.sshkey_cert_ref.specs.Spelled.{spelled_in}
+use Rattle.sshkey_cert_ref.proofs.Certificates.{spelled_by}
+use Rattle.sshkey_cert_ref.proofs.Spellings.{signer_spells, signature_spells}
+use Rattle.sshkey_cert_ref.proofs.certificate_ref.CertificateRef.is_signed.Goals as goal
+
+pub returns-clause-yes : goal.returns-clause-yes
+returns-clause-yes g c =
+    let r = c.args.self.now in
+    let x = spelled_in r.bytes.now in
+    let s = spelled_by r.bytes.now r.form in
+    rw (c.deref.ensures.value, c.in_ok-message.ensures.value) at (c.in_ok-accepts.ensures.answer x.0.signed.signature_key x.0.signature (signer_spells r.bytes.now x s _ r.fields.signature_key) (signature_spells r.bytes.now x s _ r.last))
