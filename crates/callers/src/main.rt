@@ -7,6 +7,7 @@
 #![tactic(auto)]
 
 mod agent;
+mod allowed;
 mod hashes;
 mod host;
 mod issue;
@@ -56,6 +57,7 @@ fn answer(alloc: Global, line: &str, told: &mut Told, hashes: &mut Hashes) -> Re
             }
             "agent-request" => agent::request(alloc, words),
             "agent-response" => agent::response(alloc, words),
+            "allowed-signer" => allowed::answer(alloc, words, told),
             "host-key" => host::key(alloc, words, hashes),
             "host-certificate" => host::certificate(alloc, words, hashes, told),
             "issue" => issue::answer(alloc, words, told),

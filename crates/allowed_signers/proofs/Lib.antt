@@ -1,0 +1,5 @@
+mod Decisions
+mod Fronts
+mod ReadOptions
+mod SomeLine
+mod Words

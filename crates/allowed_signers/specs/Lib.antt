@@ -1,0 +1,6 @@
+pub mod OneValue
+pub mod PatternLists
+pub mod Times
+pub mod SignerOptions
+pub mod Principals
+pub mod AllowedSigners

@@ -1,0 +1,14 @@
+//! Allowed signers: may this key sign for that identity?
+//!
+//! `ssh-keygen -Y verify` as a library: the file of allowed signers, a signature and a message in, a
+//! yes or a refusal out (ssh-keygen(1), ALLOWED SIGNERS). It names `ssh_key` alone, and is proved
+//! from its contracts.
+#![tactic(auto)]
+
+mod line;
+mod options;
+mod pattern_list;
+mod signers;
+mod times;
+
+pub use signers::{Refusal, verify};
