@@ -1,0 +1,3 @@
+mod Calendar
+mod Matching
+mod PatternLists

@@ -1,0 +1,3 @@
+pub mod PatternLists
+pub mod Matching
+pub mod Times
