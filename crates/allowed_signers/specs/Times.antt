@@ -1,5 +1,5 @@
 -- The times of allowed signers (ssh-keygen(1), "ALLOWED SIGNERS": YYYYMMDD, YYYYMMDDHHMM or YYYYMMDDHHMMSS, and Z), as OpenSSH reads them (strptime(3), timegm(3)).
-use Rattle.std.specs.Prelude.{◌≡◌, ◌⊎◌, ℕ, zero, suc, ◌+◌, ◌-◌, ◌*◌, ◌%◌, ◌<◌, List, [], length, map, drop, slice_index, codes, Bool, not, ◌&&◌, ◌||◌, ◌==◌, if◌then◌else◌}
+use Rattle.std.specs.Prelude.{◌≡◌, ◌⊎◌, ℕ, zero, suc, ◌+◌, ◌-◌, ◌*◌, ◌%◌, ◌<◌, List, [], length, map, drop, slice_index, codes, Bool, not, Option, MatchOption, ◌&&◌, ◌||◌, ◌==◌, if◌then◌else◌}
 use Rattle.std.specs.Char.{is_ascii_digit, to_ascii_lowercase}
 use Rattle.std.specs.Int.{IsInRange}
 use Rattle.std.specs.List.{prefix_len, take_while}
@@ -76,13 +76,14 @@ pub record IsMoment (m : Moment) : Type 0 where
   pub minute : m.minute < 60
   pub second : m.second < 62
 
--- The text is that of a time after the start of 1970.
-pub record IsTime (text : List ℕ) : Type 0 where
+-- The text is that of a time so many seconds after the start of 1970, at least one.
+pub record IsTime (text : List ℕ) (t : ℕ) : Type 0 where
   pub size : (length (digits text) ≡ 8) ⊎ (length (digits text) ≡ 12) ⊎ (length (digits text) ≡ 14)
   pub in_utc : IsZone (zone text)
   pub valid : IsMoment (moment (digits text))
-  pub later : epoch < seconds_before (moment (digits text))
+  pub is : seconds_before (moment (digits text)) ≡ epoch + t
+  pub later : 0 < t
 
--- its seconds since then
-abbrev pub time : List ℕ → ℕ
-time text = seconds_before (moment (digits text)) - epoch
+-- the one time that it is; or it is none
+abbrev pub ReadsTime : List ℕ → Option ℕ → Type 0
+ReadsTime text result = MatchOption result ((t : ℕ) → IsTime text t → ⊥) (λ t. IsTime text t × ((u : ℕ) → IsTime text u → u ≡ t))

@@ -1,9 +1,9 @@
 //! Times of allowed signers.
 
-ghost use Rattle.std.specs.Prelude.{◌≡◌, ◌+◌, ◌-◌, ◌*◌, ◌^◌, ◌<◌, ◌≤◌, ◌↔◌, IsTrue, MatchOption, slice_index};
+ghost use Rattle.std.specs.Prelude.{◌≡◌, ◌+◌, ◌-◌, ◌*◌, ◌^◌, ◌<◌, ◌≤◌, ◌↔◌, IsTrue, slice_index};
 ghost use Rattle.std.specs.Char.{is_ascii_digit};
 ghost use Rattle.std.specs.List.{prefix_len};
-ghost use Rattle.allowed_signers.specs.Times.{IsMoment, IsTime, IsZone, days_of_months, days_of_years, digits, is_leap, moment, month_days, seconds_before, time, two_digits, zone};
+ghost use Rattle.allowed_signers.specs.Times.{IsMoment, IsZone, ReadsTime, days_of_months, days_of_years, digits, is_leap, moment, month_days, seconds_before, two_digits, zone};
 
 const SECONDS_A_DAY: u64 = 86_400;
 
@@ -27,8 +27,7 @@ struct Moment {
 /// As strptime(3) does, it takes each month for one of 31 days and each minute for one of 62
 /// seconds: 20230230 is 2 March. Unlike there, a digit can't be a space.
 pub(crate) fn read_time(text: &str) -> Option<u64>
-    ensures { MatchOption result (IsTime text.now → ⊥)
-        (λ t. IsTime text.now × (t ≡ time text.now)) }
+    ensures { ReadsTime text.now result }
 {
     let (digits, zone) = split_digits(text.as_bytes());
     if !matches!(digits.len(), 8 | 12 | 14) || !is_zone(zone) {
