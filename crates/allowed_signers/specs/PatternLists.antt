@@ -4,7 +4,7 @@ use Rattle.std.specs.List.{All, Any}
 use Rattle.ssh_key.specs.entries.HostNames.{exclamation_mark, question_mark, star}
 use Rattle.ssh_key.specs.entries.Items.{patterns}
 
--- The pattern matches the name: a star stands for any characters, also for none, a question mark for one, and each character for itself.
+-- The pattern matches the name: a star stands for any bytes, also for none, a question mark for one, and each byte for itself.
 pub data Matches : List ℕ → List ℕ → Type 0 where
   Done : Matches [] []
   Star : (part pattern name : List ℕ) → Matches pattern name → Matches (star ∷ pattern) (part ++ name)
@@ -24,7 +24,7 @@ Names name pattern = (slice_index pattern 0 ≢ exclamation_mark) × Matches pat
 abbrev pub Refuses : List ℕ → List ℕ → Type 0
 Refuses name pattern = (slice_index pattern 0 ≡ exclamation_mark) × Matches (unmarked pattern) name
 
--- OpenSSH reads none that is longer.
+-- OpenSSH has 1,024 bytes for a pattern, and takes a list with one that does not fit for nobody's.
 abbrev pub IsShort : List ℕ → Type 0
 IsShort pattern = length (unmarked pattern) < 1023
 

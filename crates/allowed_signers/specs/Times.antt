@@ -64,7 +64,7 @@ moment text = record {
   second = two_digits text 12;
 }
 
--- None, or UTC.
+-- None is named, or UTC is.
 abbrev pub IsZone : List ℕ → Type 0
 IsZone text = (text ≡ []) ⊎ (map to_ascii_lowercase text ≡ codes "z") ⊎ (map to_ascii_lowercase text ≡ codes "utc")
 

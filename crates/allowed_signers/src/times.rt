@@ -20,12 +20,12 @@ struct Moment {
 
 /// The seconds from the start of 1970 to a time that is written `YYYYMMDD`, `YYYYMMDDHHMM` or
 /// `YYYYMMDDHHMMSS`, alone or before `Z` or `UTC` in small or large letters (ssh-keygen(1),
-/// "ALLOWED SIGNERS"). Without one OpenSSH takes the time for one of the zone that the machine is
-/// set to; here it is UTC too. `None` for any other text, and for a time that is not after the
-/// start of 1970. Does not allocate.
+/// "ALLOWED SIGNERS"). `None` for any other text, and for a time that is not after the start of
+/// 1970. Does not allocate.
 ///
-/// As strptime(3) does, it takes each month for one of 31 days and each minute for one of 62
-/// seconds: 20230230 is 2 March. Unlike there, a digit can't be a space.
+/// A time without a zone is one of UTC here; OpenSSH takes it for one of the zone that the machine
+/// is set to. As strptime(3) does, it takes each month for one of 31 days and each minute for one
+/// of 62 seconds: 20230230 is 2 March 2023. It takes no space for a leading 0, as strptime(3) does.
 pub(crate) fn read_time(text: &str) -> Option<u64>
     ensures { ReadsTime text.now result }
 {
