@@ -1,5 +1,6 @@
 pub mod OneValue
 pub mod PatternLists
+pub mod Matching
 pub mod Times
 pub mod SignerOptions
 pub mod Principals

@@ -26,10 +26,10 @@ word_text Namespaces = codes "namespaces"
 word_text ValidAfter = codes "valid-after"
 word_text ValidBefore = codes "valid-before"
 
--- A time after the first second of 1970.
+-- The value is a time.
 abbrev pub IsTimeValue : Option (List ℕ) → ℕ → Type 0
 IsTimeValue None n = ⊥
-IsTimeValue (Some text) n = IsTime text n × (0 < n)
+IsTimeValue (Some text) n = IsTime text n
 
 -- What an option with that value adds to what is said. Only `cert-authority`, which has no value, may stand twice.
 abbrev pub AddsValue : Word → Option (List ℕ) → Terms → Terms → Type 0

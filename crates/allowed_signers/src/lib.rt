@@ -1,14 +1,17 @@
 //! Allowed signers: may this key sign for that identity?
 //!
-//! `ssh-keygen -Y verify` as a library: the file of allowed signers, a signature and a message in, a
+//! `ssh-keygen -Y verify` as a library: a file of allowed signers, a message and a signature in, a
 //! yes or a refusal out (ssh-keygen(1), ALLOWED SIGNERS). It names `ssh_key` alone, and is proved
 //! from its contracts.
 #![tactic(auto)]
 
 mod line;
 mod options;
+mod pattern;
 mod pattern_list;
 mod signers;
+#[cfg(test)]
+mod tests;
 mod times;
 
 pub use signers::{Refusal, verify};

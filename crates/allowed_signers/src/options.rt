@@ -42,20 +42,14 @@ fn word_of(option: &OpenSshOption) -> Option<Word>
     None
 }
 
-/// The second that a value names, which is not the first of 1970.
+/// The second that a value names.
 fn time_of(value: Option<String>) -> Option<u64>
     ensures { IsTheOne (λ n. n) (IsTimeValue (option_map string_bytes value)) result }
 {
-    let Some(text) = value else {
-        return None;
-    };
-    let Some(time) = read_time(text.as_str()) else {
-        return None;
-    };
-    if time == 0 {
-        return None;
+    match value {
+        Some(text) => read_time(text.as_str()),
+        None => None,
     }
-    Some(time)
 }
 
 /// What the options of a line say (ssh-keygen(1), ALLOWED SIGNERS).
