@@ -1,9 +1,10 @@
--- An option has one name.
+-- An option has one name, and a time one second.
 use Rattle.std.proofs.Common.{◌≡◌, ℕ, List, length, map, Option, None, Some, refl, sym, ap, subst, ◌∙◌, arith}
-use Rattle.std.specs.Prelude.{option_map, string_bytes}
+use Rattle.std.proofs.lemmas.List.{length-map}
 use Rattle.ssh_key.specs.entries.OptionItems.{IsSameName, KeyOption}
 use Rattle.allowed_signers.specs.OneValue.{IsTheOne}
-use Rattle.allowed_signers.specs.SignerOptions.{AddsOption, AddsValue, Terms, terms_of, word_text}
+use Rattle.allowed_signers.specs.SignerOptions.{AddsOption, AddsValue, IsTimeValue, Terms, terms_of, word_text}
+use Rattle.allowed_signers.specs.Times.{ReadsTime}
 use Rattle.allowed_signers.specs.declared.options.SignerOptions.{SignerOptions}
 use Rattle.allowed_signers.specs.declared.options.Word.{Word}
 use Rattle.allowed_signers.specs.declared.options.Word.TheVariants.{CertAuthority, Namespaces, ValidAfter, ValidBefore}
@@ -43,3 +44,9 @@ no_word name a b c d ValidBefore same = d same
 pub adds : (o : KeyOption) (s : Terms) (w : Word) → IsSameName o.name (word_text w) → ((v : Word) → IsSameName o.name (word_text v) → v ≡ w) → (r : Option SignerOptions) → IsTheOne terms_of (AddsValue w o.value s) r → IsTheOne terms_of (AddsOption o s) r
 adds o s w named one None none = λ t other. none t (subst (λ (v : Word). AddsValue v o.value s t) (one other.0 other.1) other.2)
 adds o s w named one (Some x) is = ((w, named, is.0), λ t other. is.1 t (subst (λ (v : Word). AddsValue v o.value s t) (one other.0 other.1) other.2))
+
+-- ---- times
+
+pub time_read : (text : List ℕ) (r : Option ℕ) → ReadsTime text r → IsTheOne {X = ℕ} {Y = ℕ} (λ n. n) (IsTimeValue (Some text)) r
+time_read text None none = none
+time_read text (Some n) is = is

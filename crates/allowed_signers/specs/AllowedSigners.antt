@@ -86,6 +86,10 @@ abbrev pub Answers : Result (Unit {0}) Error → Result Bool Error → Type 0
 Answers (Ok x) answer = answer ≡ Ok true
 Answers (Err e) answer = IsNo e answer
 
+-- Memory was refused, or the bytes are no signature.
+abbrev pub Names : Error → Refusal → Type 0
+Names e r = ((e ≡ error.Memory) × (r ≡ Memory)) ⊎ ((e ≢ error.Memory) × (r ≡ NoSignature))
+
 -- The signature that the bytes spell; or they spell none, or memory ran out.
 abbrev pub ReadsSignature : List ℕ → Result SshSig Refusal → Type 0
 ReadsSignature bytes (Ok f) = SpellsSshSignature (ssh_signature_of f) bytes

@@ -87,7 +87,8 @@ impl SignerOptions {
             let Ok(option) = option else {
                 return Ok(None);
             };
-            let Some(more) = said.with(alloc, &option)? else {
+            let added = said.with(alloc, &option)?;
+            let Some(more) = added else {
                 return Ok(None);
             };
             said = more;

@@ -7,7 +7,7 @@ ghost use Rattle.ssh_key.specs.model.Keys.{IsKey};
 ghost use Rattle.ssh_key.specs.model.SignedMessages.{IsVerified};
 ghost use Rattle.ssh_key.specs.sshsig.SshSignatures.{ssh_signature_of};
 ghost use Rattle.ssh_key.specs.types.Error.TheVariants.{Memory};
-ghost use Rattle.allowed_signers.specs.AllowedSigners.{Allows, Answers, Counts, HasEntryFor, HasSignature, IsAllowed, IsEntryFor, IsNo, IsWhy, OkExactly, OptionsPermit, ReadsSignature, SpelledBySome};
+ghost use Rattle.allowed_signers.specs.AllowedSigners.{Allows, Answers, Counts, HasEntryFor, HasSignature, IsAllowed, IsEntryFor, IsNo, IsWhy, Names, OkExactly, OptionsPermit, ReadsSignature, SpelledBySome};
 
 use crate::line::split_principals;
 use crate::options::SignerOptions;
@@ -72,9 +72,18 @@ fn read_signature(alloc: Global, bytes: &[u8]) -> std::result::Result<SshSig, Re
 {
     match SshSig::from_bytes(alloc, bytes) {
         Ok(signature) => Ok(signature),
-        Err(error) if error == Error::Memory => Err(Refusal::Memory),
-        Err(_) => Err(Refusal::NoSignature),
+        Err(error) => Err(refusal_of(error)),
     }
+}
+
+/// Why bytes are no signature.
+fn refusal_of(error: Error) -> Refusal
+    ensures { Names error result }
+{
+    if error == Error::Memory {
+        return Refusal::Memory;
+    }
+    Refusal::NoSignature
 }
 
 /// Whether the signature's own key has made it of the message in the namespace.
@@ -131,7 +140,8 @@ fn is_allowed(
     ensures memory { IfErr result (λ e. e ≡ Memory) }
 {
     for line in FilledLines::new(signers) {
-        if allows(alloc, line, identity, namespace, unix_timestamp, key)? {
+        let allowed = allows(alloc, line, identity, namespace, unix_timestamp, key)?;
+        if allowed {
             return Ok(true);
         }
     }
@@ -211,7 +221,8 @@ fn options_permit(
         options.now) }
     ensures memory { IfErr result (λ e. e ≡ Memory) }
 {
-    match SignerOptions::read(alloc, options)? {
+    let found = SignerOptions::read(alloc, options)?;
+    match found {
         Some(said) => Ok(said.permit(namespace, unix_timestamp)),
         None => Ok(false),
     }
