@@ -1,5 +1,5 @@
 -- A line has one front.
-use Rattle.std.proofs.Common.{◌≡◌, ◌≢◌, ℕ, ◌<◌, List, [], ◌∷◌, ◌++◌, length, get_or, Bool, true, false, Option, None, Some, MatchOption, refl, sym, ap, subst, ◌∙◌, arith, inl, inr, lit<}
+use Rattle.std.proofs.Common.{◌≡◌, ◌≢◌, ℕ, ◌<◌, List, [], ◌∷◌, ◌++◌, length, get_or, Option, None, Some, sym, ap, ◌∙◌, arith, inl, inr, lit<}
 use Rattle.std.proofs.lemmas.Str.Pattern.{IsSplitOnceResult, split_after, split_parts}
 use Rattle.std.specs.Prelude.{slice_index}
 use Rattle.ssh_key.specs.entries.Fields.{EndsField}

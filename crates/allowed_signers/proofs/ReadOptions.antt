@@ -1,5 +1,5 @@
 -- What options say, one after the other.
-use Rattle.std.proofs.Common.{◌≡◌, ◌≢◌, ℕ, ◌<◌, List, [], ◌∷◌, length, Option, None, Some, refl, sym, ap, subst, ◌∙◌, arith}
+use Rattle.std.proofs.Common.{◌≡◌, ℕ, ◌<◌, List, [], ◌∷◌, length, refl, ap, subst, arith}
 use Rattle.ssh_key.specs.entries.OptionItems.{KeyOption, AreKeyOptions, IsNoOption, IsOptionAt, without_commas}
 use Rattle.ssh_key.proofs.Entries.{one_option, some_option}
 use Rattle.allowed_signers.specs.SignerOptions.{AddOptions, AddsOption, Terms}

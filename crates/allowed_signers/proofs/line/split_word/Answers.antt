@@ -1,4 +1,4 @@
-use Rattle.std.proofs.Common.{◌≡◌, ◌∙◌, false, lit<, sym, true}
+use Rattle.std.proofs.Common.{◌∙◌, lit<, sym}
 use Rattle.std.proofs.lemmas.Str.Pattern.{contains_char}
 use Rattle.ssh_key.specs.entries.OptionItems.{quote}
 use Rattle.allowed_signers.proofs.Fronts.{one_word, quoted_word}
