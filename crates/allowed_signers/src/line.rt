@@ -5,8 +5,8 @@ ghost use Rattle.allowed_signers.specs.Principals.{IsFront, IsPlainFront, parts_
 
 use ssh_key::authorized_keys::split_field;
 
-/// The principals at the front of a line, and what follows them. They are a word, or stand in double
-/// quotes; none is read where a quote stands within a word.
+/// The principals at the front of a line, and what follows them. They are a word, or stand in
+/// double quotes. None are read where a quote stands within a word, or quotes stay open.
 pub(crate) fn split_principals(line: &str) -> Option<(&str, &str)>
     ensures { IsTheOne parts_of (IsFront line.now) result }
 {

@@ -14,7 +14,7 @@ use ssh_key::authorized_keys::{OpenSshOption, OpenSshOptions};
 use std::alloc::Global;
 
 /// The name of an option.
-#[derive(Clone, Copy, Debug)]
+#[derive(Clone, Copy)]
 enum Word {
     CertAuthority,
     Namespaces,
@@ -53,7 +53,7 @@ fn time_of(value: Option<String>) -> Option<u64>
 }
 
 /// What the options of a line say (ssh-keygen(1), ALLOWED SIGNERS).
-#[derive(Debug, Drop)]
+#[derive(Drop)]
 pub(crate) struct SignerOptions {
     /// The patterns of the namespaces that the key signs in; in all of them without.
     namespaces: Option<String>,
@@ -104,7 +104,8 @@ impl SignerOptions {
 
     /// What is said with one more option, or `None` where it adds nothing.
     fn with(self, alloc: Global, option: &OpenSshOption) -> Result<Option<SignerOptions>>
-        ensures { ReadsTheOne terms_of (AddsOption (key_option_of option.now) (terms_of self)) result }
+        ensures { ReadsTheOne terms_of
+            (AddsOption (key_option_of option.now) (terms_of self)) result }
     {
         let Some(word) = word_of(option) else {
             return Ok(None);

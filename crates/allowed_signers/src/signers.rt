@@ -31,8 +31,20 @@ pub enum Refusal {
     Memory,
 }
 
-/// Whether the bytes are a signature of the message, in the namespace, by a key that `signers` lets
-/// sign for the identity at that time, in seconds since 1970.
+/// Whether the bytes are a signature of the message, in the namespace, by a key that a line of
+/// `signers` lets sign for the identity at that time, in seconds since 1970. That is what
+/// `ssh-keygen -Y verify` asks (ssh-keygen(1), ALLOWED SIGNERS).
+///
+/// A line is a list of patterns, options or none, and a key, as in authorized_keys. It lets the key
+/// sign if one of the patterns matches the identity and none that begins with a `!` does, and if
+/// each option is one of these and stands there once: `namespaces="..."`, a list of patterns for
+/// the namespace, and `valid-after="..."` and `valid-before="..."`, the first and the last second,
+/// in UTC. A line with `cert-authority` lets certificates sign, which are not read in a signature:
+/// it is passed over. So is each line in which something else stands, as ssh-keygen does.
+///
+/// `signature` is what stands in the armour of `ssh-keygen -Y sign`, decoded. Unless memory runs
+/// out, it is refused for the first of these that holds: `NoSignature`, `NotAllowed`,
+/// `NotVerified`.
 pub fn verify<V: RawVerifier>(
     alloc: Global,
     signers: &str,
