@@ -96,13 +96,51 @@ TEXTS = [
     ("a day too many", '{who} valid-after="20231232" {key}\n', NO),
     ("letters for a time", '{who} valid-after="yesterday" {key}\n', NO),
     ("the first second of 1970", '{who} valid-after="19700101Z" {key}\n', NO),
+    ("an empty pattern first", ",{who} {key}\n", OK),
+    ("an empty pattern last", "{who}, {key}\n", OK),
+    ("a mark of negation alone", "!,{who} {key}\n", OK),
+    ("two marks of negation", "!!{who},* {key}\n", OK),
+    ("a mark behind a star", "*!* {key}\n", NO),
+    ("another is negated, and nobody named", "!bob@example.com {key}\n", NO),
+    ("brackets", "[a-z]lice@example.com {key}\n", NO),
+    ("a pattern of 1,022 bytes beside", "{who}," + 1022 * "x" + " {key}\n", OK),
+    ("a pattern of 1,023 bytes beside", "{who}," + 1023 * "x" + " {key}\n", NO),
+    ("a negated pattern of 1,022 bytes", "{who},!" + 1022 * "x" + " {key}\n", OK),
+    ("a negated pattern of 1,023 bytes", "!" + 1023 * "x" + ",{who} {key}\n", NO),
+    ("from that second, in UTC", '{who} valid-after="20240101120000UTC" {key}\n', OK),
+    ("from that minute, in small letters", '{who} valid-after="202401011200z" {key}\n', OK),
+    ("another zone", '{who} valid-after="202401011200GMT" {key}\n', NO),
+    ("two zones", '{who} valid-after="202401011200ZZ" {key}\n', NO),
+    ("from the second 60 of a minute", '{who} valid-after="20240101115960Z" {key}\n', OK),
+    ("from the second 61 of a minute", '{who} valid-after="20240101115961Z" {key}\n', NO),
+    ("to the second 60 of a minute", '{who} valid-before="20240101115960Z" {key}\n', OK),
+    ("to the second 62 of a minute", '{who} valid-before="20240101120062Z" {key}\n', NO),
+    ("to the hour 24", '{who} valid-before="202401022400Z" {key}\n', NO),
+    ("to the minute 60", '{who} valid-before="202401011260Z" {key}\n', NO),
+    ("to a year of four digits", '{who} valid-before="99991231235959Z" {key}\n', OK),
+    ("from the second second of 1970", '{who} valid-after="19700101000001Z" {key}\n', OK),
+    ("from 1969", '{who} valid-after="19691231Z" {key}\n', NO),
+    ("a time without minutes", '{who} valid-after="2024010111Z" {key}\n', NO),
+    ("a sign in a time", '{who} valid-after="+2230101Z" {key}\n', NO),
 ]  # fmt: skip
 
 # read by ssh-keygen and not here, which lets nobody else in
 STRICTER = [
     ("quotes within a word", 'ali"ce@example.com" {key}\n', NO),
     ("a carriage return within a line", "{who}\r{key}\n", NO),
+    ("a form feed within a key", "{who} ssh-ed25519 \f{word}\n", NO),
+    ("a space in a time", '{who} valid-after="2023 101Z" {key}\n', NO),
 ]
+
+# the name, the text, the answer, and the time
+TIMES = [
+    ("from 31 February, on 2 March", '{who} valid-after="20240231Z" {key}\n', OK, 1709337600),
+    ("from 31 February, a second before", '{who} valid-after="20240231Z" {key}\n', NO, 1709337599),
+    ("from 29 February 2100, on 1 March", '{who} valid-after="21000229Z" {key}\n', OK, 4107542400),
+    ("from 29 February 2100, a second before", '{who} valid-after="21000229Z" {key}\n', NO, 4107542399),
+    ("from 1 March 2000", '{who} valid-after="20000301Z" {key}\n', OK, 951868800),
+    ("to the last of February 2000", '{who} valid-before="20000229235959Z" {key}\n', NO, 951868800),
+]  # fmt: skip
 
 
 def string(data):
@@ -167,6 +205,8 @@ def signers(maker, types, told):
         yield case(name, text, wanted)
     for name, text, wanted in STRICTER:
         yield case(name, text, wanted, same=False)
+    for name, text, wanted, at in TIMES:
+        yield case(name, text, wanted, at=at)
     line = "{who} {key}\n"
     yield case("another message", line, "not verified", of=b"another commit\n")
     yield case("another namespace is asked for", line, "not verified", namespace="file")

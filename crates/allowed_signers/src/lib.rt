@@ -10,8 +10,6 @@ mod options;
 mod pattern;
 mod pattern_list;
 mod signers;
-#[cfg(test)]
-mod tests;
 mod times;
 
 pub use signers::{Refusal, verify};
