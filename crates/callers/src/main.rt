@@ -7,6 +7,7 @@
 #![tactic(auto)]
 
 mod agent;
+mod allowed;
 mod deploy;
 mod hashes;
 mod host;
@@ -57,6 +58,7 @@ fn answer(alloc: Global, line: &str, told: &mut Told, hashes: &mut Hashes) -> Re
             }
             "agent-request" => agent::request(alloc, words),
             "agent-response" => agent::response(alloc, words),
+            "allowed-signer" => allowed::answer(alloc, words, told),
             "deploy" => deploy::answer(alloc, words, told),
             "host-key" => host::key(alloc, words, hashes),
             "host-certificate" => host::certificate(alloc, words, hashes, told),

@@ -2,6 +2,7 @@ pub mod Acceptance
 pub mod Boxes
 pub mod Chosen
 pub mod CombinedReaders
+pub mod Entries
 pub mod Grammars
 pub mod Judging
 pub mod Mapped

@@ -1,0 +1,226 @@
+"""Questions for the program allowed_signers: what `ssh-keygen -Y verify` says of a signature is what it has to say."""
+import base64
+import hashlib
+import os
+import time
+
+NAMESPACE = "git"
+WHO = "alice@example.com"
+# 2024-01-01 12:00:00, UTC
+NOON = 1704110400
+OK, NO = "ok", "not allowed"
+
+# the text of allowed signers, and the answer; where only the text is given, the identity, the namespace and the time are those above
+TEXTS = [
+    ("her key", "{who} {key}\n", OK),
+    ("no line", "", NO),
+    ("no line end", "{who} {key}", OK),
+    ("a line end of two characters", "{who} {key}\r\n", OK),
+    ("a comment behind the key", "{who} {key} # work\n", OK),
+    ("tabs and spaces", " \t{who}\t {tabbed}\t me\n", OK),
+    ("a comment, and an empty line", "# {who} {other}\n\n \t\n  # x\n{who} {key}\n", OK),
+    ("her line is a comment", "#{who} {key}\n", NO),
+    ("a comment behind the identity", "{who} #{key}\n", NO),
+    ("another key", "{who} {other}\n", NO),
+    ("another key first", "{who} {other}\n{who} {key}\n", OK),
+    ("another identity", "bob@example.com {key}\n", NO),
+    ("another identity first", "bob@example.com {key}\n{who} {key}\n", OK),
+    ("a beginning of her name", "alice {key}\n", NO),
+    ("capitals", "Alice@example.com {key}\n", NO),
+    ("one of two", "bob@example.com,{who} {key}\n", OK),
+    ("a pattern", "*@example.com {key}\n", OK),
+    ("a pattern of another host", "*@example.org {key}\n", NO),
+    ("two stars", "a*@*.com {key}\n", OK),
+    ("one character for another", "?lice@example.com {key}\n", OK),
+    ("one character too many", "?alice@example.com {key}\n", NO),
+    ("negated", "!{who} {key}\n", NO),
+    ("negated first", "!{who},*@example.com {key}\n", NO),
+    ("negated last", "*@example.com,!alice@* {key}\n", NO),
+    ("another is negated", "*@example.com,!bob@* {key}\n", OK),
+    ("negated, and another line", "!{who},* {key}\n* {key}\n", OK),
+    ("in quotes", '"{who}" {key}\n', OK),
+    ("in quotes, with a space", '"a b,{who}" {key}\n', OK),
+    ("in quotes, without a space behind", '"{who}"{key}\n', OK),
+    ("in quotes that stay open", '"{who} {key}\n', NO),
+    ("open quotes in another line", '"x y\n{who} {key}\n', OK),
+    ("a line without a key", "{who}\n{who} {key}\n", OK),
+    ("a broken key before", "{who} ssh-ed25519 AAAA\n{who} {key}\n", OK),
+    ("a broken line behind", "{who} {key}\n{who} x\n", OK),
+    ("a broken key alone", "{who} ssh-ed25519 AAAA\n", NO),
+    ("the name of another algorithm", "{who} ssh-rsa {word}\n", NO),
+    ("her namespace", '{who} namespaces="git" {key}\n', OK),
+    ("another namespace", '{who} namespaces="file" {key}\n', NO),
+    ("one of two namespaces", '{who} namespaces="file,git" {key}\n', OK),
+    ("a pattern of namespaces", '{who} namespaces="g*" {key}\n', OK),
+    ("a negated namespace", '{who} namespaces="*,!git" {key}\n', NO),
+    ("another is negated, of namespaces", '{who} namespaces="*,!file" {key}\n', OK),
+    ("no namespace", '{who} namespaces="" {key}\n', NO),
+    ("another namespace, and a line without", '{who} namespaces="file" {key}\n{who} {key}\n', OK),
+    ("an option in capitals", '{who} NameSpaces="git" {key}\n', OK),
+    ("a namespace in capitals", '{who} namespaces="GIT" {key}\n', NO),
+    ("two options", '{who} namespaces="git",valid-after="20231231" {key}\n', OK),
+    ("two options the other way round", '{who} valid-after="20231231",namespaces="git" {key}\n', OK),
+    ("three options", '{who} valid-before="20250101Z",namespaces="git",valid-after="20231231" {key}\n', OK),
+    ("commas in front and between", '{who} ,,namespaces="git",,valid-after="20231231" {key}\n', OK),
+    ("a comma at the end", '{who} namespaces="git", {key}\n', NO),
+    ("a comma alone", "{who} , {key}\n", NO),
+    ("a space behind a comma", '{who} namespaces="git", valid-after="20231231" {key}\n', NO),
+    ("the same option twice", '{who} namespaces="git",namespaces="git" {key}\n', NO),
+    ("the same time twice", '{who} valid-after="20231231",valid-after="20231231" {key}\n', NO),
+    ("an option that is not known", "{who} no-pty {key}\n", NO),
+    ("an option that is not known, and a line without", "{who} no-pty {key}\n{who} {key}\n", OK),
+    ("an option without its value", "{who} namespaces {key}\n", NO),
+    ("a value without quotes", "{who} namespaces=git {key}\n", NO),
+    ("a value in open quotes", '{who} namespaces="git {key}\n', NO),
+    ("a quote in a value", '{who} namespaces="x\\"y,git" {key}\n', OK),
+    ("text behind a value", '{who} namespaces="git"x {key}\n', NO),
+    ("options without a key", '{who} namespaces="git"\n', NO),
+    ("an authority", "{who} cert-authority {key}\n", NO),
+    ("an authority, and a line without", "{who} CERT-authority,cert-authority {key}\n{who} {key}\n", OK),
+    ("an authority with a value", '{who} cert-authority="x" {key}\n', NO),
+    ("from the day before", '{who} valid-after="20231231" {key}\n', OK),
+    ("from that day", '{who} valid-after="20240101" {key}\n', OK),
+    ("from the next day", '{who} valid-after="20240102" {key}\n', NO),
+    ("from that minute", '{who} valid-after="202401011200Z" {key}\n', OK),
+    ("from that second", '{who} valid-after="20240101120000" {key}\n', OK),
+    ("from the next second", '{who} valid-after="20240101120001" {key}\n', NO),
+    ("to the next day", '{who} valid-before="20240102Z" {key}\n', OK),
+    ("to the beginning of that day", '{who} valid-before="20240101" {key}\n', NO),
+    ("to that second", '{who} valid-before="20240101120000Z" {key}\n', OK),
+    ("to the second before", '{who} valid-before="20240101115959" {key}\n', NO),
+    ("from one second to the next", '{who} valid-after="20240101120000",valid-before="20240101120001" {key}\n', OK),
+    ("from and to one second", '{who} valid-after="20240101120000",valid-before="20240101120000" {key}\n', NO),
+    ("to a time before the first", '{who} valid-after="20240102",valid-before="20240101" {key}\n', NO),
+    ("no time", '{who} valid-after="" {key}\n', NO),
+    ("a month too many", '{who} valid-after="20231301" {key}\n', NO),
+    ("a day too many", '{who} valid-after="20231232" {key}\n', NO),
+    ("letters for a time", '{who} valid-after="yesterday" {key}\n', NO),
+    ("the first second of 1970", '{who} valid-after="19700101Z" {key}\n', NO),
+    ("an empty pattern first", ",{who} {key}\n", OK),
+    ("an empty pattern last", "{who}, {key}\n", OK),
+    ("a mark of negation alone", "!,{who} {key}\n", OK),
+    ("two marks of negation", "!!{who},* {key}\n", OK),
+    ("a mark behind a star", "*!* {key}\n", NO),
+    ("another is negated, and nobody named", "!bob@example.com {key}\n", NO),
+    ("brackets", "[a-z]lice@example.com {key}\n", NO),
+    ("a pattern of 1,022 bytes beside", "{who}," + 1022 * "x" + " {key}\n", OK),
+    ("a pattern of 1,023 bytes beside", "{who}," + 1023 * "x" + " {key}\n", NO),
+    ("a negated pattern of 1,022 bytes", "{who},!" + 1022 * "x" + " {key}\n", OK),
+    ("a negated pattern of 1,023 bytes", "!" + 1023 * "x" + ",{who} {key}\n", NO),
+    ("from that second, in UTC", '{who} valid-after="20240101120000UTC" {key}\n', OK),
+    ("from that minute, in small letters", '{who} valid-after="202401011200z" {key}\n', OK),
+    ("another zone", '{who} valid-after="202401011200GMT" {key}\n', NO),
+    ("two zones", '{who} valid-after="202401011200ZZ" {key}\n', NO),
+    ("from the second 60 of a minute", '{who} valid-after="20240101115960Z" {key}\n', OK),
+    ("from the second 61 of a minute", '{who} valid-after="20240101115961Z" {key}\n', NO),
+    ("to the second 60 of a minute", '{who} valid-before="20240101115960Z" {key}\n', OK),
+    ("to the second 62 of a minute", '{who} valid-before="20240101120062Z" {key}\n', NO),
+    ("to the hour 24", '{who} valid-before="202401022400Z" {key}\n', NO),
+    ("to the minute 60", '{who} valid-before="202401011260Z" {key}\n', NO),
+    ("to a year of four digits", '{who} valid-before="99991231235959Z" {key}\n', OK),
+    ("from the second second of 1970", '{who} valid-after="19700101000001Z" {key}\n', OK),
+    ("from 1969", '{who} valid-after="19691231Z" {key}\n', NO),
+    ("a time without minutes", '{who} valid-after="2024010111Z" {key}\n', NO),
+    ("a sign in a time", '{who} valid-after="+2230101Z" {key}\n', NO),
+]  # fmt: skip
+
+# read by ssh-keygen and not here, which lets nobody else in
+STRICTER = [
+    ("quotes within a word", 'ali"ce@example.com" {key}\n', NO),
+    ("a carriage return within a line", "{who}\r{key}\n", NO),
+    ("a form feed within a key", "{who} ssh-ed25519 \f{word}\n", NO),
+    ("a space in a time", '{who} valid-after="2023 101Z" {key}\n', NO),
+]
+
+# the name, the text, the answer, and the time
+TIMES = [
+    ("from 31 February, on 2 March", '{who} valid-after="20240231Z" {key}\n', OK, 1709337600),
+    ("from 31 February, a second before", '{who} valid-after="20240231Z" {key}\n', NO, 1709337599),
+    ("from 29 February 2100, on 1 March", '{who} valid-after="21000229Z" {key}\n', OK, 4107542400),
+    ("from 29 February 2100, a second before", '{who} valid-after="21000229Z" {key}\n', NO, 4107542399),
+    ("from 1 March 2000", '{who} valid-after="20000301Z" {key}\n', OK, 951868800),
+    ("to the last of February 2000", '{who} valid-before="20000229235959Z" {key}\n', NO, 951868800),
+]  # fmt: skip
+
+
+def string(data):
+    return len(data).to_bytes(4, "big") + data
+
+
+def take(data):
+    length = int.from_bytes(data[:4], "big")
+    return data[4 : 4 + length], data[4 + length :]
+
+
+def signed(maker, name, message, namespace=NAMESPACE, *words):
+    """The bytes of a signature of ssh-keygen by the key of that name, and what is signed in place of the message."""
+    path = maker.path("message")
+    with open(path, "wb") as file:
+        file.write(message)
+    maker.run("-q", "-Y", "sign", "-f", maker.path(name), "-n", namespace, *words, path)
+    with open(path + ".sig", encoding="ascii") as file:
+        blob = base64.b64decode("".join(file.read().split("\n")[1:-2]))
+    os.remove(path + ".sig")
+    rest = blob[10:]
+    parts = []
+    while rest:
+        part, rest = take(rest)
+        parts.append(part)
+    _, namespace, reserved, algorithm, signature = parts
+    digest = hashlib.new(algorithm.decode(), message).digest()
+    return blob, b"SSHSIG" + b"".join(map(string, (namespace, reserved, algorithm, digest))), signature
+
+
+def says(maker, text, blob, message, who, namespace, at):
+    """Whether ssh-keygen takes the signature for that identity's."""
+    with open(maker.path("allowed"), "wb") as file:
+        file.write(text)
+    armour = base64.b64encode(blob).decode()
+    lines = [armour[at : at + 70] for at in range(0, len(armour), 70)]
+    with open(maker.path("armour"), "w", encoding="ascii") as file:
+        file.write("\n".join(["-----BEGIN SSH SIGNATURE-----", *lines, "-----END SSH SIGNATURE-----", ""]))
+    words = ["-Y", "verify", "-f", maker.path("allowed"), "-I", who, "-n", namespace, "-s", maker.path("armour")]
+    words += ["-O", "verify-time=" + time.strftime("%Y%m%d%H%M%SZ", time.gmtime(at))]
+    return maker.run(*words, input=message, check=False).returncode == 0
+
+
+def signers(maker, types, told):
+    """Names, lines and answers."""
+    keys = {"who": WHO, "key": maker.key("signer"), "other": maker.key("another-signer")}
+    keys["tabbed"] = keys["key"].replace(" ", " \t ")
+    keys["word"] = keys["key"].split(" ")[1]
+    message = b"a commit\n"
+    made = signed(maker, "signer", message)
+
+    def case(name, text, wanted, who=WHO, namespace=NAMESPACE, at=NOON, of=message, made=made, key=keys["key"], tell=True, same=True):
+        text = text.format(**keys).encode()
+        blob, covered, signature = made
+        asked = "\t".join(["allowed-signer", text.hex(), who, namespace, str(at), of.hex(), blob.hex()])
+        line = told(key, signature, covered) if tell else None
+        if tell and says(maker, text, blob, of, who, namespace, at) != ((wanted == OK) == same):
+            wanted = f"{wanted}, and ssh-keygen says otherwise"
+        return f"allowed signer: {name}", [line] if line else [], asked, wanted
+
+    for name, text, wanted in TEXTS:
+        yield case(name, text, wanted)
+    for name, text, wanted in STRICTER:
+        yield case(name, text, wanted, same=False)
+    for name, text, wanted, at in TIMES:
+        yield case(name, text, wanted, at=at)
+    line = "{who} {key}\n"
+    yield case("another message", line, "not verified", of=b"another commit\n")
+    yield case("another namespace is asked for", line, "not verified", namespace="file")
+    yield case("another identity is asked for", line, NO, who="bob@example.com")
+    yield case("nobody is asked for", "* {key}\n", OK, who="")
+    yield case("two days later", '{who} valid-before="20240102" {key}\n', NO, at=NOON + 2 * 86400)
+    yield case("two days before", '{who} valid-after="20240101" {key}\n', NO, at=NOON - 2 * 86400)
+    for number, kind in enumerate(types):
+        name = f"signer{number}"
+        keys["by"] = maker.key(name, kind)
+        yield case(f"by {kind}", "{who} {by}\n", OK, made=signed(maker, name, message), key=keys["by"])
+    yield case("a digest of 256 bits", line, OK, made=signed(maker, "signer", message, NAMESPACE, "-O", "hashalg=sha256"))
+    keys["fresh"] = maker.key("fresh-signer")
+    fresh = signed(maker, "fresh-signer", message)
+    yield case("a signature that nobody verified", "{who} {fresh}\n", "not verified", made=fresh, key=keys["fresh"], tell=False)
+    cut = (made[0][:-1], *made[1:])
+    yield case("bytes that are no signature", line, "no signature", made=cut, tell=False)

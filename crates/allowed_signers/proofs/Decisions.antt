@@ -1,0 +1,102 @@
+-- What a verdict, an entry and a line decide.
+use Rattle.std.proofs.Common.{◌≡◌, ◌≢◌, ◌↔◌, ℕ, List, Bool, true, false, Option, Some, None, Result, Ok, Err, IfErr, IfOk, IsTrue, refl, subst, inl, inr}
+use Rattle.ssh_key.specs.base.Acceptance.{AcceptsExactly}
+use Rattle.ssh_key.specs.base.Causes.{NoMemory, cause}
+use Rattle.ssh_key.specs.base.Reading.{NoSpelling}
+use Rattle.ssh_key.specs.base.Source.{IsSound, all_of}
+use Rattle.ssh_key.specs.entries.AuthorizedKeys.{AuthorizedKey}
+use Rattle.ssh_key.specs.entries.Entries.{IsNoEntry}
+use Rattle.ssh_key.specs.entries.Laws.{EntriesDetermineValues}
+use Rattle.ssh_key.specs.entries.OpenSshLines.{IsAuthorizedLine}
+use Rattle.ssh_key.specs.model.Keys.{Key}
+use Rattle.ssh_key.specs.model.SshSignatures.{SshSignature}
+use Rattle.ssh_key.specs.sshsig.SshSignatureReaders.{SpellsSshSignature}
+use Rattle.ssh_key.specs.types.Error.{Error}
+use Rattle.ssh_key.specs.types.Error.TheVariants.{Memory}
+use Rattle.ssh_key.proofs.Acceptance.{other_cause}
+use Rattle.allowed_signers.specs.AllowedSigners.{Allows, Answers, HasEntryFor, HasSignature, IsEntryFor, IsNo, Names, OkExactly, OptionsPermit, ReadsSignature}
+use Rattle.allowed_signers.specs.OneValue.{IsTheOne}
+use Rattle.allowed_signers.specs.PatternLists.{IsListed}
+use Rattle.allowed_signers.specs.Principals.{IsFront}
+use Rattle.allowed_signers.specs.SignerOptions.{AreTerms, Permits, Terms, terms_of}
+use Rattle.allowed_signers.specs.declared.options.SignerOptions.{SignerOptions}
+use Rattle.allowed_signers.specs.declared.signers.Refusal.{Refusal}
+
+is_no : false ≡ true → ⊥
+is_no same = cc
+
+pub never : (P : Type 0) → (P → ⊥) → IsTrue false ↔ P
+never P none = (λ yes. absurd (is_no yes), λ p. absurd (none p))
+
+-- one fact in place of another
+pub told_as : (P Q : Type 0) → (P → Q) → (Q → P) → (r : Result Bool Error) → IfOk r (λ yes. IsTrue yes ↔ P) → IfOk r (λ yes. IsTrue yes ↔ Q)
+told_as P Q there back (Ok answer) is = (λ e. there (is.0 e), λ q. is.1 (back q))
+told_as P Q there back (Err e) is = tt
+
+-- ---- from a refusal to an answer
+
+pub refused : (P : Type 0) (e : Error) → (e ≢ Memory → P → ⊥) → (r : Result Bool Error) → IsNo e r → IfOk r (λ yes. IsTrue yes ↔ P)
+refused P e none r (inl memory) = rw memory.1 tt
+refused P e none r (inr other) = rw other.1 (never P (none other.0))
+
+pub only_memory : (e : Error) (r : Result Bool Error) → IsNo e r → IfErr r (λ d. d ≡ Memory)
+only_memory e r (inl memory) = rw memory.1 memory.0
+only_memory e r (inr other) = rw other.1 tt
+
+pub answered : (P : Type 0) (verdict : Result (Unit {0}) Error) (r : Result Bool Error) → AcceptsExactly P verdict → Answers verdict r → IfOk r (λ yes. IsTrue yes ↔ P)
+answered P (Ok x) r holds is = rw is (λ yes. holds, λ p. refl)
+answered P (Err e) r none is = refused P e none r is
+
+pub answered_memory : (verdict : Result (Unit {0}) Error) (r : Result Bool Error) → Answers verdict r → IfErr r (λ d. d ≡ Memory)
+answered_memory (Ok x) r is = rw is tt
+answered_memory (Err e) r is = only_memory e r is
+
+-- ---- the signature
+
+pub unread : (bytes : List ℕ) (e : Error) (r : Refusal) → (cause e ≢ NoMemory → IsSound (all_of bytes) → NoSpelling SpellsSshSignature bytes) → Names e r → ReadsSignature bytes (Err r)
+unread bytes e r none (inl memory) = inl memory.1
+unread bytes e r none (inr other) = inr (other.1, none (other_cause e other.0) refl)
+
+pub nothing_counts : (Holds : SshSignature → Type 0) (bytes : List ℕ) (r : Refusal) → ReadsSignature bytes (Err r) → OkExactly (HasSignature bytes Holds) (Err r)
+nothing_counts Holds bytes r (inl memory) = λ other has. absurd (other memory)
+nothing_counts Holds bytes r (inr none) = λ other has. none.1 has.0 has.1
+
+-- ---- an entry
+
+pub permitted : (namespace : List ℕ) (time : ℕ) (options : List ℕ) (found : Option SignerOptions) (said : SignerOptions) → found ≡ Some said → IsTheOne terms_of (AreTerms options) found
+    → (b : Bool) → IsTrue b ↔ Permits namespace time (terms_of said) → IsTrue b ↔ OptionsPermit namespace time options
+permitted namespace time options found said e one b is =
+    let first : IsTheOne terms_of (AreTerms options) (Some said) = subst (λ (o : Option SignerOptions). IsTheOne terms_of (AreTerms options) o) e one in (
+      λ yes. record { terms = terms_of said; said = first.0; permitted = is.0 yes },
+      λ p. is.1 (subst (λ (t : Terms). Permits namespace time t) (first.1 p.terms p.said) p.permitted),
+    )
+
+pub nothing_permitted : (namespace : List ℕ) (time : ℕ) (options : List ℕ) (found : Option SignerOptions) → found ≡ None → IsTheOne terms_of (AreTerms options) found → IsTrue false ↔ OptionsPermit namespace time options
+nothing_permitted namespace time options found e one =
+    let none : IsTheOne terms_of (AreTerms options) None = subst (λ (o : Option SignerOptions). IsTheOne terms_of (AreTerms options) o) e one in
+    never (OptionsPermit namespace time options) (λ p. none p.terms p.said)
+
+pub entry_decides : (namespace : List ℕ) (time : ℕ) (key : Key) (text : List ℕ) (a : AuthorizedKey) → EntriesDetermineValues IsAuthorizedLine → IsAuthorizedLine text a
+    → (r : Result Bool Error) → IfOk r (λ yes. IsTrue yes ↔ IsEntryFor namespace time key a) → IfOk r (λ yes. IsTrue yes ↔ HasEntryFor namespace time key text)
+entry_decides namespace time key text a one read =
+    told_as (IsEntryFor namespace time key a) (HasEntryFor namespace time key text) (λ is. (a, read, is))
+    (λ has. subst (λ (b : AuthorizedKey). IsEntryFor namespace time key b) (one text has.0 a has.1 read) has.2)
+
+pub no_entry : (namespace : List ℕ) (time : ℕ) (key : Key) (text : List ℕ) (e : Error) → (cause e ≢ NoMemory → IsNoEntry IsAuthorizedLine text) → (r : Result Bool Error) → IsNo e r → IfOk r (λ yes. IsTrue yes ↔ HasEntryFor namespace time key text)
+no_entry namespace time key text e none = refused (HasEntryFor namespace time key text) e (λ other has. none (other_cause e other) has.0 has.1)
+
+-- ---- a line
+
+module _ (identity namespace : List ℕ) (time : ℕ) (key : Key) (line : List ℕ) where
+  pub no_front : ((p : List ℕ × List ℕ) → IsFront line p → ⊥) → IsTrue false ↔ Allows identity namespace time key line
+  no_front none = never (Allows identity namespace time key line) (λ a. none (a.principals, a.rest) a.front)
+
+  module _ (principals rest : List ℕ) (front : IsFront line (principals, rest)) (one : (p : List ℕ × List ℕ) → IsFront line p → p ≡ (principals, rest)) where
+    pub not_listed : (IsListed principals identity → ⊥) → IsTrue false ↔ Allows identity namespace time key line
+    not_listed none = never (Allows identity namespace time key line) (λ a. none (subst (λ (p : List ℕ × List ℕ). IsListed p.0 identity) (one (a.principals, a.rest) a.front) a.listed))
+
+    pub line_decides : IsListed principals identity → (r : Result Bool Error) → IfOk r (λ yes. IsTrue yes ↔ HasEntryFor namespace time key rest) → IfOk r (λ yes. IsTrue yes ↔ Allows identity namespace time key line)
+    line_decides listed =
+        told_as (HasEntryFor namespace time key rest) (Allows identity namespace time key line)
+        (λ entry. record { principals = principals; rest = rest; front = front; listed = listed; entry = entry })
+        (λ a. subst (λ (p : List ℕ × List ℕ). HasEntryFor namespace time key p.1) (one (a.principals, a.rest) a.front) a.entry)

@@ -1,0 +1,64 @@
+-- A line has one front.
+use Rattle.std.proofs.Common.{◌≡◌, ◌≢◌, ℕ, ◌<◌, List, [], ◌∷◌, ◌++◌, length, get_or, Option, None, Some, sym, ap, ◌∙◌, arith, inl, inr, lit<}
+use Rattle.std.proofs.lemmas.Str.Pattern.{IsSplitOnceResult, split_after, split_parts}
+use Rattle.std.specs.Prelude.{slice_index}
+use Rattle.ssh_key.specs.entries.Fields.{EndsField}
+use Rattle.ssh_key.specs.entries.OptionItems.{quote}
+use Rattle.ssh_key.specs.entries.StrictReading.{is_blank}
+use Rattle.ssh_key.specs.files.Cuts.{CutsField}
+use Rattle.ssh_key.proofs.Entries.{same_field}
+use Rattle.allowed_signers.specs.OneValue.{IsTheOne}
+use Rattle.allowed_signers.specs.Principals.{HasPrincipals, IsFront, IsPlainFront, IsUnquoted, parts_of}
+use denote.Ref.{Bor}
+
+abbrev Parts : Type 0
+Parts = List ℕ × List ℕ
+
+same_parts : (a b r s : List ℕ) → a ≡ b → r ≡ s → ◌≡◌ {A = Parts} (a, r) (b, s)
+same_parts a b r s e f = λ j. (e j, f j)
+
+-- no word without quotes stands before a quote
+no_word : (word rest quoted : List ℕ) → IsUnquoted word → EndsField rest → quote ∷ quoted ≡ word ++ rest → ⊥
+no_word [] rest quoted plain (inl none) e = cc (e ∙ none)
+no_word [] rest quoted plain (inr blank) e = cc (sym blank ∙ ap (λ (t : List ℕ). is_blank (slice_index t 0)) (sym e))
+no_word (c ∷ word) rest quoted plain ends e = plain 0 (omega arith) (ap (λ (t : List ℕ). slice_index t 0) (sym e))
+
+-- behind a quote stand the principals and another
+behind_quote : (line quoted : List ℕ) (p : Parts) → line ≡ quote ∷ quoted → HasPrincipals line p.0 p.1 → quoted ≡ p.0 ++ (quote ∷ p.1)
+behind_quote line quoted p e has = elim has.is [
+  | inl cut ↦ absurd (no_word p.0 p.1 quoted has.unquoted cut.ends (sym e ∙ cut.is))
+  | inr is ↦ let same : quote ∷ quoted ≡ quote ∷ (p.0 ++ (quote ∷ p.1)) = sym e ∙ is in cc same
+]
+
+pub quoted_front : (line quoted : List ℕ) (r : Option (Bor (List ℕ) × Bor (List ℕ))) → line ≡ quote ∷ quoted → IsSplitOnceResult quote quoted r → IsTheOne parts_of (IsFront line) r
+quoted_front line quoted None e split = λ p has. split_after quote quoted p.0 p.1 None split (lit< tt) (behind_quote line quoted p e has) has.unquoted
+quoted_front line quoted (Some x) e split =
+    let parts = split_parts quote quoted (Some x) split (lit< tt) in (
+      record { unquoted = parts.1; is = inr (e ∙ ap (λ (t : List ℕ). quote ∷ t) parts.0) },
+      λ p has. let same = split_after quote quoted p.0 p.1 (Some x) split (lit< tt) (behind_quote line quoted p e has) has.unquoted in
+          same_parts p.0 x.0.now p.1 x.1.now (sym same.0) (sym same.1),
+    )
+
+pub plain_front : (line : List ℕ) (r : Option (Bor (List ℕ) × Bor (List ℕ))) → ((rest : List ℕ) → line ≢ quote ∷ rest) → IsTheOne parts_of (IsPlainFront line) r → IsTheOne parts_of (IsFront line) r
+plain_front line None other none = λ p has. elim has.is [
+  | inl cut ↦ none p (has.unquoted, cut)
+  | inr is ↦ other (p.0 ++ (quote ∷ p.1)) is
+]
+plain_front line (Some x) other one = (
+  record { unquoted = one.0.0; is = inl one.0.1 },
+  λ p has. elim has.is [
+    | inl cut ↦ one.1 p (has.unquoted, cut)
+    | inr is ↦ absurd (other (p.0 ++ (quote ∷ p.1)) is)
+  ],
+)
+
+one_cut : (line a b r s : List ℕ) → CutsField line a r → CutsField line b s → (a ≡ b) × (r ≡ s)
+one_cut line a b r s x y = same_field a b r s x.one_word y.one_word x.ends y.ends (sym x.is ∙ y.is)
+
+pub quoted_word : (line word rest : List ℕ) (k : ℕ) → CutsField line word rest → k < length word → get_or word k 0 ≡ quote → (p : Parts) → IsPlainFront line p → ⊥
+quoted_word line word rest k cut l here p is =
+    let same = one_cut line word p.0 rest p.1 cut is.1 in
+    is.0 k (omega (arith, l, ap length same.0)) (ap (λ (t : List ℕ). get_or t k 0) (sym same.0) ∙ here)
+
+pub one_word : (line word rest : List ℕ) → CutsField line word rest → (p : Parts) → IsPlainFront line p → ◌≡◌ {A = Parts} p (word, rest)
+one_word line word rest cut p is = let same = one_cut line p.0 word p.1 rest is.1 cut in same_parts p.0 word p.1 rest same.0 same.1

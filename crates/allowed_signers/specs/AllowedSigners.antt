@@ -1,0 +1,96 @@
+-- When a signature counts as an identity's, by a file of allowed signers (ssh-keygen(1), ALLOWED SIGNERS).
+use Rattle.std.specs.Prelude.{◌≡◌, ◌≢◌, ◌⊎◌, ℕ, List, Bool, true, false, Result, Ok, Err}
+use Rattle.std.specs.List.{Any}
+use Rattle.ssh_key.specs.base.Reading.{NoSpelling}
+use Rattle.ssh_key.specs.entries.AuthorizedKeys.{AuthorizedKey}
+use Rattle.ssh_key.specs.entries.Fields.{filled_lines}
+use Rattle.ssh_key.specs.entries.OpenSshLines.{IsAuthorizedLine}
+use Rattle.ssh_key.specs.model.Keys.{Key}
+use Rattle.ssh_key.specs.model.SignedMessages.{IsVerified}
+use Rattle.ssh_key.specs.model.SshSignatures.{SshSignature}
+use Rattle.ssh_key.specs.model.Verification.{Question}
+use Rattle.ssh_key.specs.sshsig.SshSignatureReaders.{SpellsSshSignature}
+use Rattle.ssh_key.specs.sshsig.SshSignatures.{ssh_signature_of}
+use Rattle.ssh_key.specs.types.Error.{Error}
+use Rattle.ssh_key.specs.types.Error.TheVariants as error
+use Rattle.ssh_key.specs.types.SshSig.{SshSig}
+use Rattle.allowed_signers.specs.PatternLists.{IsListed}
+use Rattle.allowed_signers.specs.Principals.{HasPrincipals}
+use Rattle.allowed_signers.specs.SignerOptions.{Terms, AreTerms, Permits}
+use Rattle.allowed_signers.specs.declared.signers.Refusal.{Refusal}
+use Rattle.allowed_signers.specs.declared.signers.Refusal.TheVariants.{Memory, NoSignature, NotAllowed, NotVerified}
+
+-- ---- a line
+
+-- The options permit the namespace and the time.
+pub record OptionsPermit (namespace : List ℕ) (time : ℕ) (options : List ℕ) : Type 0 where
+  pub terms : Terms
+  pub said : AreTerms options terms
+  pub permitted : Permits namespace time terms
+
+-- The entry is that key, and its options permit the namespace and the time.
+pub record IsEntryFor (namespace : List ℕ) (time : ℕ) (key : Key) (entry : AuthorizedKey) : Type 0 where
+  pub own_key : entry.key ≡ key
+  pub options : OptionsPermit namespace time entry.options
+
+-- So is an entry that the text spells, like a line of authorized_keys.
+abbrev pub HasEntryFor : List ℕ → ℕ → Key → List ℕ → Type 0
+HasEntryFor namespace time key text = (entry : AuthorizedKey) × IsAuthorizedLine text entry × IsEntryFor namespace time key entry
+
+-- The line lets the key sign for the identity, in the namespace and at the time: its principals list the identity, and behind them stands such an entry.
+pub record Allows (identity namespace : List ℕ) (time : ℕ) (key : Key) (line : List ℕ) : Type 0 where
+  pub principals : List ℕ
+  pub rest : List ℕ
+  pub front : HasPrincipals line principals rest
+  pub listed : IsListed principals identity
+  pub entry : HasEntryFor namespace time key rest
+
+-- ---- all lines
+
+-- One of the lines does.
+abbrev pub IsAllowed : List ℕ → List ℕ → ℕ → Key → List ℕ → Type 0
+IsAllowed identity namespace time key signers = Any (Allows identity namespace time key) (filled_lines signers)
+
+-- The signature counts: its key is allowed to sign, and has signed the message in the namespace.
+pub record Counts (accepts : Question → Bool) (signers identity namespace message : List ℕ) (time : ℕ) (f : SshSignature) : Type 0 where
+  pub allowed : IsAllowed identity namespace time f.key signers
+  pub verified : IsVerified accepts f.key namespace message f
+
+-- The bytes spell a signature of which this holds.
+abbrev pub HasSignature : List ℕ → (SshSignature → Type 0) → Type 0
+HasSignature bytes Holds = (f : SshSignature) × SpellsSshSignature f bytes × Holds f
+
+-- Out of memory aside, Ok exactly if this holds.
+abbrev pub OkExactly : Type 0 → Result (Unit {0}) Refusal → Type 0
+OkExactly Holds (Ok x) = Holds
+OkExactly Holds (Err e) = e ≢ Memory → Holds → ⊥
+
+-- What is wrong first, or memory ran out.
+abbrev pub IsWhy : (Question → Bool) → List ℕ → List ℕ → List ℕ → List ℕ → ℕ → List ℕ → Refusal → Type 0
+IsWhy accepts signers identity namespace message time bytes NoSignature = NoSpelling SpellsSshSignature bytes
+IsWhy accepts signers identity namespace message time bytes NotAllowed = HasSignature bytes (λ f. ¬ IsAllowed identity namespace time f.key signers)
+IsWhy accepts signers identity namespace message time bytes NotVerified = HasSignature bytes (λ f. IsAllowed identity namespace time f.key signers × ¬ IsVerified accepts f.key namespace message f)
+IsWhy accepts signers identity namespace message time bytes Memory = Unit {0}
+
+-- ---- the steps
+
+abbrev pub SpelledBySome : SshSignature → Type 0
+SpelledBySome f = (bytes : List ℕ) × SpellsSshSignature f bytes
+
+-- A no, unless memory was refused.
+abbrev pub IsNo : Error → Result Bool Error → Type 0
+IsNo e answer = ((e ≡ error.Memory) × (answer ≡ Err e)) ⊎ ((e ≢ error.Memory) × (answer ≡ Ok false))
+
+-- A verdict is a yes.
+abbrev pub Answers : Result (Unit {0}) Error → Result Bool Error → Type 0
+Answers (Ok x) answer = answer ≡ Ok true
+Answers (Err e) answer = IsNo e answer
+
+-- Memory was refused, or the bytes are no signature.
+abbrev pub Names : Error → Refusal → Type 0
+Names e r = ((e ≡ error.Memory) × (r ≡ Memory)) ⊎ ((e ≢ error.Memory) × (r ≡ NoSignature))
+
+-- The signature that the bytes spell; or they spell none, or memory ran out.
+abbrev pub ReadsSignature : List ℕ → Result SshSig Refusal → Type 0
+ReadsSignature bytes (Ok f) = SpellsSshSignature (ssh_signature_of f) bytes
+ReadsSignature bytes (Err e) = (e ≡ Memory) ⊎ ((e ≡ NoSignature) × NoSpelling SpellsSshSignature bytes)

@@ -1,0 +1,72 @@
+-- What the options of a line of allowed signers say (ssh-keygen(1), ALLOWED SIGNERS).
+use Rattle.std.specs.Prelude.{◌≡◌, ◌≢◌, ◌<◌, ◌≤◌, ◌-◌, ℕ, List, [], ◌∷◌, Bool, true, false, Option, Some, None, IfSome, codes, length, slice_index, option_map, string_bytes}
+use Rattle.ssh_key.specs.entries.KnownHosts.{comma}
+use Rattle.ssh_key.specs.entries.OptionItems.{KeyOption, AreKeyOptions, IsSameName}
+use Rattle.allowed_signers.specs.PatternLists.{IsListed}
+use Rattle.allowed_signers.specs.Times.{IsTime}
+use Rattle.allowed_signers.specs.declared.options.SignerOptions.{SignerOptions}
+use Rattle.allowed_signers.specs.declared.options.Word.{Word}
+use Rattle.allowed_signers.specs.declared.options.Word.TheVariants.{CertAuthority, Namespaces, ValidAfter, ValidBefore}
+
+-- The namespaces that the key signs in, the first and the last second at which it does, and whether it signs certificates alone.
+pub record Terms : Type 0 where
+  pub namespaces : Option (List ℕ)
+  pub valid_after : Option ℕ
+  pub valid_before : Option ℕ
+  pub is_authority : Bool
+
+abbrev pub no_terms : Terms
+no_terms = record { namespaces = None; valid_after = None; valid_before = None; is_authority = false }
+
+-- ---- one option
+
+abbrev pub word_text : Word → List ℕ
+word_text CertAuthority = codes "cert-authority"
+word_text Namespaces = codes "namespaces"
+word_text ValidAfter = codes "valid-after"
+word_text ValidBefore = codes "valid-before"
+
+-- The value is a time.
+abbrev pub IsTimeValue : Option (List ℕ) → ℕ → Type 0
+IsTimeValue None n = ⊥
+IsTimeValue (Some text) n = IsTime text n
+
+-- What an option with that value adds to what is said. Only `cert-authority`, which has no value, may stand twice.
+abbrev pub AddsValue : Word → Option (List ℕ) → Terms → Terms → Type 0
+AddsValue CertAuthority value s t = (value ≡ None) × (t ≡ record s { is_authority = true })
+AddsValue Namespaces value s t = (list : List ℕ) × (value ≡ Some list) × (s.namespaces ≡ None) × (t ≡ record s { namespaces = Some list })
+AddsValue ValidAfter value s t = (n : ℕ) × IsTimeValue value n × (s.valid_after ≡ None) × (t ≡ record s { valid_after = Some n })
+AddsValue ValidBefore value s t = (n : ℕ) × IsTimeValue value n × (s.valid_before ≡ None) × (t ≡ record s { valid_before = Some n })
+
+abbrev pub AddsOption : KeyOption → Terms → Terms → Type 0
+AddsOption o s t = (word : Word) × IsSameName o.name (word_text word) × AddsValue word o.value s t
+
+-- ---- all options
+
+-- One option after the other.
+abbrev pub AddOptions : List KeyOption → Terms → Terms → Type 0
+AddOptions [] s t = t ≡ s
+AddOptions (o ∷ more) s t = (between : Terms) × AddsOption o s between × AddOptions more between t
+
+abbrev pub AreInOrder : Terms → Type 0
+AreInOrder t = IfSome t.valid_after (λ first. IfSome t.valid_before (λ last. first < last))
+
+-- The text is options that say this. No comma ends it, and the first second stands before the last.
+pub record AreTerms (text : List ℕ) (t : Terms) : Type 0 where
+  pub options : List KeyOption
+  pub are : AreKeyOptions text options
+  pub say : AddOptions options no_terms t
+  pub no_comma : slice_index text (length text - 1) ≢ comma
+  pub in_order : AreInOrder t
+
+-- ---- what they permit
+
+-- The key signs more than certificates, in that namespace and at that time.
+pub record Permits (namespace : List ℕ) (time : ℕ) (t : Terms) : Type 0 where
+  pub no_authority : t.is_authority ≡ false
+  pub in_namespace : IfSome t.namespaces (λ list. IsListed list namespace)
+  pub not_before : IfSome t.valid_after (λ first. first ≤ time)
+  pub not_behind : IfSome t.valid_before (λ last. time ≤ last)
+
+abbrev pub terms_of : SignerOptions → Terms
+terms_of o = record { namespaces = option_map string_bytes o.namespaces; valid_after = o.valid_after; valid_before = o.valid_before; is_authority = o.is_authority }

@@ -1,0 +1,15 @@
+//! Allowed signers: may this key sign for that identity?
+//!
+//! `ssh-keygen -Y verify` as a library: a file of allowed signers, a message and a signature in, a
+//! yes or a refusal out (ssh-keygen(1), ALLOWED SIGNERS). It names `ssh_key` alone, and is proved
+//! from its contracts.
+#![tactic(auto)]
+
+mod line;
+mod options;
+mod pattern;
+mod pattern_list;
+mod signers;
+mod times;
+
+pub use signers::{Refusal, verify};

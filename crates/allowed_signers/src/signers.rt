@@ -1,0 +1,250 @@
+//! Lines of allowed signers, and whether a signature counts.
+
+ghost use Rattle.std.specs.Prelude.{◌≡◌, ◌↔◌, IfErr, IfOk, IsTrue};
+ghost use Rattle.ssh_key.specs.authorized_keys.OpenSshEntries.{openssh_entry_of};
+ghost use Rattle.ssh_key.specs.keys.Keys.{key_of};
+ghost use Rattle.ssh_key.specs.model.Keys.{IsKey};
+ghost use Rattle.ssh_key.specs.model.SignedMessages.{IsVerified};
+ghost use Rattle.ssh_key.specs.sshsig.SshSignatures.{ssh_signature_of};
+ghost use Rattle.ssh_key.specs.types.Error.TheVariants.{Memory};
+ghost use Rattle.allowed_signers.specs.AllowedSigners.{Allows, Answers, Counts, HasEntryFor, HasSignature, IsAllowed, IsEntryFor, IsNo, IsWhy, Names, OkExactly, OptionsPermit, ReadsSignature, SpelledBySome};
+
+use crate::line::split_principals;
+use crate::options::SignerOptions;
+use crate::pattern_list::is_listed;
+use ssh_key::authorized_keys::{Entry, FilledLines, OpenSshEntry, OpenSshOptions};
+use ssh_key::laws::{compared_keys, one_authorized_line, one_ssh_signature};
+use ssh_key::public::KeyData;
+use ssh_key::{Error, PublicKey, RawVerifier, Result, SshSig};
+use std::alloc::Global;
+
+/// Why a signature does not count.
+#[derive(Debug, Drop, PartialEq, Eq)]
+pub enum Refusal {
+    /// The bytes are no SSH signature.
+    NoSignature,
+    /// No line lets its key sign for the identity, in the namespace and at the time.
+    NotAllowed,
+    /// It is not the key's signature of the message in the namespace.
+    NotVerified,
+    /// Memory ran out.
+    Memory,
+}
+
+/// Whether the bytes are a signature of the message, in the namespace, by a key that a line of
+/// `signers` lets sign for the identity at that time, in seconds since 1970. That is what
+/// `ssh-keygen -Y verify` asks (ssh-keygen(1), ALLOWED SIGNERS).
+///
+/// A line is a list of patterns, options or none, and a key, as in authorized_keys. It lets the key
+/// sign if one of the patterns matches the identity and none that begins with a `!` does, and if
+/// each option is one of these and stands there once: `namespaces="..."`, a list of patterns for
+/// the namespace, and `valid-after="..."` and `valid-before="..."`, the first and the last second,
+/// in UTC. A line with `cert-authority` lets certificates sign, which are not read in a signature:
+/// it is passed over. So is each line in which something else stands, as ssh-keygen does.
+///
+/// `signature` is what stands in the armour of `ssh-keygen -Y sign`, decoded. Unless memory runs
+/// out, it is refused for the first of these that holds: `NoSignature`, `NotAllowed`,
+/// `NotVerified`.
+pub fn verify<V: RawVerifier>(
+    alloc: Global,
+    signers: &str,
+    identity: &str,
+    namespace: &str,
+    message: &[u8],
+    signature: &[u8],
+    unix_timestamp: u64,
+    verifier: &V,
+) -> std::result::Result<(), Refusal>
+    ensures exactly { OkExactly (HasSignature signature.now (Counts (V.accepts verifier.now)
+        signers.now identity.now namespace.now message.now unix_timestamp)) result }
+    ensures refused { IfErr result (IsWhy (V.accepts verifier.now) signers.now identity.now
+        namespace.now message.now unix_timestamp signature.now) }
+{
+    one_ssh_signature();
+    let signature = read_signature(alloc, signature)?;
+    let key = signature.public_key();
+    let Ok(allowed) = is_allowed(alloc, signers, identity, namespace, unix_timestamp, key) else {
+        return Err(Refusal::Memory);
+    };
+    if !allowed {
+        return Err(Refusal::NotAllowed);
+    }
+    let Ok(signed) = has_signed(alloc, &signature, namespace, message, verifier) else {
+        return Err(Refusal::Memory);
+    };
+    if !signed {
+        return Err(Refusal::NotVerified);
+    }
+    Ok(())
+}
+
+/// The signature that the bytes spell.
+fn read_signature(alloc: Global, bytes: &[u8]) -> std::result::Result<SshSig, Refusal>
+    ensures { ReadsSignature bytes.now result }
+{
+    match SshSig::from_bytes(alloc, bytes) {
+        Ok(signature) => Ok(signature),
+        Err(error) => Err(refusal_of(error)),
+    }
+}
+
+/// Why bytes are no signature.
+fn refusal_of(error: Error) -> Refusal
+    ensures { Names error result }
+{
+    if error == Error::Memory {
+        return Refusal::Memory;
+    }
+    Refusal::NoSignature
+}
+
+/// Whether the signature's own key has made it of the message in the namespace.
+fn has_signed<V: RawVerifier>(
+    alloc: Global,
+    signature: &SshSig,
+    namespace: &str,
+    message: &[u8],
+    verifier: &V,
+) -> Result<bool>
+    requires { SpelledBySome (ssh_signature_of signature.now) }
+    ensures answer { IfOk result (λ yes. IsTrue yes
+        ↔ IsVerified (V.accepts verifier.now) (ssh_signature_of signature.now).key namespace.now
+        message.now (ssh_signature_of signature.now)) }
+    ensures memory { IfErr result (λ e. e ≡ Memory) }
+{
+    let key_data = signature.public_key().try_clone(alloc)?;
+    let key = PublicKey::new(key_data, String::new(alloc));
+    answer_of(key.verify(alloc, namespace, message, signature, verifier))
+}
+
+/// Yes or no, unless an allocation failed.
+fn answer_of(verdict: Result<()>) -> Result<bool>
+    ensures { Answers verdict result }
+{
+    match verdict {
+        Ok(()) => Ok(true),
+        Err(error) => no(error),
+    }
+}
+
+/// No, unless an allocation failed.
+fn no(error: Error) -> Result<bool>
+    ensures { IsNo error result }
+{
+    if error == Error::Memory {
+        return Err(error);
+    }
+    Ok(false)
+}
+
+/// Whether a line lets the key sign for the identity.
+fn is_allowed(
+    alloc: Global,
+    signers: &str,
+    identity: &str,
+    namespace: &str,
+    unix_timestamp: u64,
+    key: &KeyData,
+) -> Result<bool>
+    requires { IsKey (key_of key.now) }
+    ensures answer { IfOk result (λ yes. IsTrue yes ↔ IsAllowed identity.now namespace.now
+        unix_timestamp (key_of key.now) signers.now) }
+    ensures memory { IfErr result (λ e. e ≡ Memory) }
+{
+    for line in FilledLines::new(signers) {
+        let allowed = allows(alloc, line, identity, namespace, unix_timestamp, key)?;
+        if allowed {
+            return Ok(true);
+        }
+    }
+    Ok(false)
+}
+
+/// Whether the line lets the key sign for the identity.
+fn allows(
+    alloc: Global,
+    line: &str,
+    identity: &str,
+    namespace: &str,
+    unix_timestamp: u64,
+    key: &KeyData,
+) -> Result<bool>
+    requires { IsKey (key_of key.now) }
+    ensures answer { IfOk result (λ yes. IsTrue yes ↔ Allows identity.now namespace.now
+        unix_timestamp (key_of key.now) line.now) }
+    ensures memory { IfErr result (λ e. e ≡ Memory) }
+{
+    let Some((principals, rest)) = split_principals(line) else {
+        return Ok(false);
+    };
+    if !is_listed(principals, identity) {
+        return Ok(false);
+    }
+    has_entry_for(alloc, rest, namespace, unix_timestamp, key)
+}
+
+/// Whether the text spells an entry of that key whose options permit the namespace and the time.
+fn has_entry_for(
+    alloc: Global,
+    text: &str,
+    namespace: &str,
+    unix_timestamp: u64,
+    key: &KeyData,
+) -> Result<bool>
+    requires { IsKey (key_of key.now) }
+    ensures answer { IfOk result (λ yes. IsTrue yes ↔ HasEntryFor namespace.now unix_timestamp
+        (key_of key.now) text.now) }
+    ensures memory { IfErr result (λ e. e ≡ Memory) }
+{
+    one_authorized_line();
+    match Entry::from_line_openssh(alloc, text) {
+        Ok(entry) => is_entry_for(alloc, &entry, namespace, unix_timestamp, key),
+        Err(error) => no(error),
+    }
+}
+
+/// Whether the entry is of that key, and its options permit the namespace and the time.
+fn is_entry_for(
+    alloc: Global,
+    entry: &OpenSshEntry,
+    namespace: &str,
+    unix_timestamp: u64,
+    key: &KeyData,
+) -> Result<bool>
+    requires { IsKey (key_of key.now) }
+    ensures answer { IfOk result (λ yes. IsTrue yes ↔ IsEntryFor namespace.now unix_timestamp
+        (key_of key.now) (openssh_entry_of entry.now)) }
+    ensures memory { IfErr result (λ e. e ≡ Memory) }
+{
+    if !is_same(key, entry.public_key().key_data()) {
+        return Ok(false);
+    }
+    options_permit(alloc, entry.options(), namespace, unix_timestamp)
+}
+
+/// Whether the options permit the namespace and the time.
+fn options_permit(
+    alloc: Global,
+    options: &OpenSshOptions,
+    namespace: &str,
+    unix_timestamp: u64,
+) -> Result<bool>
+    ensures answer { IfOk result (λ yes. IsTrue yes ↔ OptionsPermit namespace.now unix_timestamp
+        options.now) }
+    ensures memory { IfErr result (λ e. e ≡ Memory) }
+{
+    let found = SignerOptions::read(alloc, options)?;
+    match found {
+        Some(said) => Ok(said.permit(namespace, unix_timestamp)),
+        None => Ok(false),
+    }
+}
+
+/// Whether a key, which is well-formed, is the same as another.
+fn is_same(key: &KeyData, other: &KeyData) -> bool
+    requires { IsKey (key_of key.now) }
+    ensures { IsTrue result ↔ (key_of other.now ≡ key_of key.now) }
+{
+    compared_keys();
+    key == other
+}

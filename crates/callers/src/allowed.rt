@@ -1,0 +1,40 @@
+//! Asks whether a signature is an identity's.
+
+use crate::verified::Told;
+use crate::words::{NO_LINE, bytes, number, text};
+use allowed_signers::{Refusal, verify};
+use ssh_key::Result;
+use std::alloc::{AllocError, Global};
+
+/// Whether the last word is the identity's signature of the message before it, by the text of allowed
+/// signers, all three in hexadecimal digits.
+pub(crate) fn answer(alloc: Global, words: &[&str], told: &Told) -> Result<String> {
+    let [signers, identity, namespace, seconds, message, signature] = words else {
+        return Err(NO_LINE);
+    };
+    let signers = text(alloc, signers)?;
+    let message = bytes(alloc, message)?;
+    let signature = bytes(alloc, signature)?;
+    let answer = verify(
+        alloc,
+        &signers,
+        identity,
+        namespace,
+        &message,
+        &signature,
+        number(seconds)?,
+        told,
+    );
+    shown(alloc, answer)
+}
+
+fn shown(alloc: Global, answer: std::result::Result<(), Refusal>) -> Result<String> {
+    let text = match answer {
+        Ok(()) => "ok",
+        Err(Refusal::NoSignature) => "no signature",
+        Err(Refusal::NotAllowed) => "not allowed",
+        Err(Refusal::NotVerified) => "not verified",
+        Err(Refusal::Memory) => return Err(ssh_key::Error::Memory),
+    };
+    Ok(String::from_str(alloc, text)?)
+}
