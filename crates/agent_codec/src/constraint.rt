@@ -38,7 +38,8 @@ pub enum Constraint {
     },
 }
 
-/// The number of the constraint in one byte, and what it holds: four bytes, nothing, or two strings.
+/// The number of the constraint in one byte, and what it holds: four bytes, nothing, or two
+/// strings.
 ///
 /// The draft leaves it to each extension how its details end. Here they are a string, as those of
 /// OpenSSH's `restrict-destination-v00@openssh.com` and `sk-provider@openssh.com` are (the latter
