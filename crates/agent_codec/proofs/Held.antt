@@ -1,13 +1,12 @@
 -- How a call stops that reads what fills a string.
 use Rattle.std.proofs.Common.{◌≡◌, ◌⊎◌, inl, inr, ◌≤◌, ◌<◌, ◌+◌, ◌-◌, ℕ, List, IsOk, length, take, Result, Ok, Err, refl, ◌∙◌, arith}
 use Rattle.std.proofs.lemmas.Bool.{cases_lt, lt-ltb}
-use Rattle.std.specs.Prelude.{IsOkAnd}
 use denote.Ref.{MutBor}
 use denote.Param.Members.{Once}
 use Rattle.ssh_key.specs.base.Causes.{Cause, NoMemory, Faulty, encoding_cause}
 use Rattle.ssh_key.specs.base.Formats.{Format, Stops}
 use Rattle.ssh_key.specs.base.Needs.{NeedsBoxed, NeedsString, NeedsThen}
-use Rattle.ssh_key.specs.base.Nested.{AsksBy, Calls, NoLength, Past, Prefixed, ReadsBy, Trails}
+use Rattle.ssh_key.specs.base.Nested.{AsksBy, Calls, Prefixed, ReadsBy}
 use Rattle.ssh_key.specs.base.Reading.{IsRefused, Reads}
 use Rattle.ssh_key.specs.base.Source.{Source, part}
 use Rattle.ssh_key.specs.base.Stops.{OverrunsBoxed, OverrunsThen, RanOut, Stopped, StopsToEnd}
