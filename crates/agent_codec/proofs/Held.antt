@@ -1,13 +1,12 @@
 -- How a call stops that reads what fills a string.
 use Rattle.std.proofs.Common.{◌≡◌, ◌⊎◌, inl, inr, ◌≤◌, ◌<◌, ◌+◌, ◌-◌, ℕ, List, IsOk, length, take, Result, Ok, Err, refl, ◌∙◌, arith}
 use Rattle.std.proofs.lemmas.Bool.{cases_lt, lt-ltb}
-use Rattle.std.specs.Prelude.{IsOkAnd}
 use denote.Ref.{MutBor}
 use denote.Param.Members.{Once}
 use Rattle.ssh_key.specs.base.Causes.{Cause, NoMemory, Faulty, encoding_cause}
 use Rattle.ssh_key.specs.base.Formats.{Format, Stops}
 use Rattle.ssh_key.specs.base.Needs.{NeedsBoxed, NeedsString, NeedsThen}
-use Rattle.ssh_key.specs.base.Nested.{AsksBy, Calls, NoLength, Past, Prefixed, ReadsBy, Trails}
+use Rattle.ssh_key.specs.base.Nested.{AsksBy, Calls, Prefixed, ReadsBy}
 use Rattle.ssh_key.specs.base.Reading.{IsRefused, Reads}
 use Rattle.ssh_key.specs.base.Source.{Source, part}
 use Rattle.ssh_key.specs.base.Stops.{OverrunsBoxed, OverrunsThen, RanOut, Stopped, StopsToEnd}
@@ -18,7 +17,7 @@ use Rattle.ssh_key.specs.types.encoding.Error.TheVariants as encoding
 use Rattle.ssh_key.proofs.Boxes.{prefixed_stops_to_end}
 use Rattle.ssh_key.proofs.Steps.{refused_first, refused_later}
 use Rattle.ssh_key.proofs.Stopping.{not_taken}
-use Rattle.agent_codec.specs.Contents.{Contents, StopsIn, alone, choice_to_end, held}
+use Rattle.agent_codec.specs.Contents.{Contents, StopsIn, choice_to_end, held}
 
 -- ---- a value, and what stands behind it
 
@@ -51,11 +50,6 @@ module _ {A B : Type 0} (first : Front A) (second : Front B) where
 pub ran_anywhere : (c : Cause) (s : Source) → (c ≡ Faulty Length) ⊎ (c ≡ NoMemory) → (c ≡ Faulty Length) ⊎ RanOut c (λ b m. Unit {0}) s
 ran_anywhere c s (inl length) = inl length
 ran_anywhere c s (inr memory) = inr (record { memory = memory; needed = tt })
-
--- a value alone
-pub alone_stops : {X Y E : Type 0} (cause : E → Cause) (f : Format Y) (s : Source) (r : Result X E) → Stops cause f s r → StopsIn cause (alone f) s r
-alone_stops cause f s (Ok x) h = tt
-alone_stops cause f s (Err e) h = h.past
 
 -- ---- in a string
 

@@ -1,12 +1,11 @@
 -- What an agent is told about the use of a key that is added (draft-miller-ssh-agent, section 4.2.6), and their numbers.
-use Rattle.std.proofs.Common.{◌≡◌, ℕ, List, [], ◌∷◌, Result, Ok, Err, refl}
+use Rattle.std.proofs.Common.{ℕ, List, [], ◌∷◌, Result, Ok, Err, refl}
 use Rattle.std.specs.Prelude.{◌==◌, if◌then◌else◌, map}
 use Rattle.std.specs.Int.{w8, w32}
 use Rattle.std.specs.List.{AllByRecursion}
 use Rattle.ssh_key.specs.base.Formats.{Format, byte_format, number32_format, string_format, text_format}
 use Rattle.ssh_key.specs.base.Leaves.{SpellsString, number32_normal, string_normal}
 use Rattle.ssh_key.specs.base.Texts.{SpellsText, text_normal}
-use Rattle.ssh_key.specs.counted.Counted.{SpellsEach}
 use Rattle.ssh_key.specs.format.Terms.{◌then◌, IsChosen, choice, tested}
 use Rattle.ssh_key.specs.model.Parts.{Parts, number, ◌&◌, each, flat, Fits}
 use Rattle.ssh_key.specs.model.Reading.{Fault, FormatEncoding}

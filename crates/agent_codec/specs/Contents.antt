@@ -139,7 +139,7 @@ module _ {A : Type 0} {S : A → List ℕ → Type 0} {read : Front A} (g : IsGr
 abbrev pub alone : {A : Type 0} → Format A → Contents A
 alone f = record { Spells = f.Spells; read = f.read; needs = f.needs; overruns = f.overruns; grammar = alone_whole f.grammar; lengths = f.lengths }
 
--- values, one behind the other, each of which has a byte
+-- Values, one behind the other, each of which has a byte. Memory may be asked for anywhere in them.
 abbrev pub values : {A : Type 0} (item : Format A) → ((x : A) (b : List ℕ) → item.Spells x b → 0 < length b) → Contents (List A)
 values item shows = record {
   Spells = SpellsEach item.Spells;

@@ -74,33 +74,18 @@ kind_format = tested kind_from byte_format
 
 -- ---- what stands behind the number
 
-abbrev pub signing_format : Format Request
-signing_format = tested (λ r. Ok (Sign r)) sign_request_format
-
-abbrev pub adding_format : Format Request
-adding_format = tested (λ a. Ok (Add a)) addition_format
-
-abbrev pub removing_format : Format Request
-removing_format = tested (λ key. Ok (Remove key)) string_format
-
-abbrev pub locking_format : Format Request
-locking_format = tested (λ passphrase. Ok (Lock passphrase)) string_format
-
-abbrev pub unlocking_format : Format Request
-unlocking_format = tested (λ passphrase. Ok (Unlock passphrase)) string_format
-
 -- constraints stand to the end of the frame
 abbrev pub constrained_body : Contents Request
 constrained_body = tested_to_end (λ a. Ok (AddConstrained a.0 a.1)) (choice_to_end addition_format (λ _. constraints))
 
 abbrev pub body : RequestKind → Contents Request
 body kinds.RequestIdentities = alone (nothing_format Identities)
-body kinds.SignRequest = alone signing_format
-body kinds.AddIdentity = alone adding_format
-body kinds.RemoveIdentity = alone removing_format
+body kinds.SignRequest = alone (tested (λ r. Ok (Sign r)) sign_request_format)
+body kinds.AddIdentity = alone (tested (λ a. Ok (Add a)) addition_format)
+body kinds.RemoveIdentity = alone (tested (λ key. Ok (Remove key)) string_format)
 body kinds.RemoveAllIdentities = alone (nothing_format RemoveAll)
-body kinds.Lock = alone locking_format
-body kinds.Unlock = alone unlocking_format
+body kinds.Lock = alone (tested (λ passphrase. Ok (Lock passphrase)) string_format)
+body kinds.Unlock = alone (tested (λ passphrase. Ok (Unlock passphrase)) string_format)
 body kinds.AddIdentityConstrained = constrained_body
 
 abbrev pub message : Contents Request

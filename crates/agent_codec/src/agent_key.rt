@@ -19,8 +19,8 @@ pub trait Agent {
 
 /// A key whose private half an agent holds.
 ///
-/// The agent may answer anything, so `try_sign` asks `KeyData::verify` about the signature before it
-/// returns it.
+/// The agent may answer anything, so `try_sign` asks `KeyData::verify` about the signature before
+/// it returns it.
 #[derive(Debug)]
 pub struct AgentKey<'a, A, V> {
     /// The public key.

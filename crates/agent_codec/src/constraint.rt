@@ -38,7 +38,8 @@ pub enum Constraint {
     },
 }
 
-/// The number of the constraint in one byte, and what it holds: four bytes, nothing, or two strings.
+/// The number of the constraint in one byte, and what it holds: four bytes, nothing, or two
+/// strings.
 ///
 /// The draft leaves it to each extension how its details end. Here they are a string, as those of
 /// OpenSSH's `restrict-destination-v00@openssh.com` and `sk-provider@openssh.com` are (the latter
@@ -63,7 +64,7 @@ impl Decode for Constraint {
 }
 
 /// What stands after the number of a constraint of that kind.
-#[tactic(auto, using(ssh_key::proofs::Places::places, crate::proofs::Frames::nothing_reads))]
+#[tactic(auto, using(ssh_key::proofs::Places::places, ssh_key::proofs::Mapped::mapped, crate::specs::Parts::checked_read, crate::proofs::Frames::nothing_reads))]
 fn constraint_from<R: Reader>(
     alloc: Global,
     reader: &mut R,
@@ -76,23 +77,13 @@ fn constraint_from<R: Reader>(
     ensures past { Stops cause (body_format kind) (R.source reader.old) result }
 {
     match kind {
-        ConstraintKind::Lifetime => lifetime_from(alloc, reader),
+        ConstraintKind::Lifetime => {
+            let Wide(seconds) = Wide::<u32>::decode(alloc, reader)?;
+            Ok(Constraint::Lifetime(seconds))
+        }
         ConstraintKind::Confirm => Ok(Constraint::Confirm),
         ConstraintKind::Extension => extension_from(alloc, reader),
     }
-}
-
-/// The seconds.
-#[tactic(auto, using(ssh_key::proofs::Mapped::mapped, crate::specs::Parts::checked_read))]
-fn lifetime_from<R: Reader>(alloc: Global, reader: &mut R) -> Result<Constraint>
-    ensures gives { Gives constraint_of cause (body_format kinds.Lifetime).read
-        (R.source reader.old) result (R.source reader.new) }
-    ensures later { Later (R.source reader.old) (R.source reader.new) }
-    ensures asks { Asks cause (body_format kinds.Lifetime).needs (R.source reader.old) result }
-    ensures past { Stops cause (body_format kinds.Lifetime) (R.source reader.old) result }
-{
-    let Wide(seconds) = Wide::<u32>::decode(alloc, reader)?;
-    Ok(Constraint::Lifetime(seconds))
 }
 
 /// The name and the details.

@@ -14,7 +14,8 @@ use std::alloc::Global;
 /// A key of the answer to `SSH_AGENTC_REQUEST_IDENTITIES` (draft-miller-ssh-agent, section 4.4).
 #[derive(Debug, Drop)]
 pub struct Identity {
-    /// The blob of the key or of its certificate.
+    /// The blob of the key or of its certificate: `KeyOrCertificate::from_bytes` reads either. It
+    /// is kept as bytes, since a key of a kind that nobody knows here is no fault of the answer.
     pub key: Bytes,
     /// What the user calls it.
     pub comment: Text,

@@ -4,4 +4,3 @@ pub mod Signed
 pub mod SignedFiles
 pub mod Logins
 pub mod HostCertificates
-pub mod SignRequests

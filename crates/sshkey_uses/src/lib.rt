@@ -10,7 +10,6 @@ mod host_key;
 mod key_blob;
 mod login;
 mod normal_blob;
-mod sign_request;
 mod signed;
 mod signed_file;
 
@@ -20,6 +19,5 @@ pub use host_key::fingerprint_if_known;
 pub use key_blob::read_key;
 pub use login::let_in;
 pub use normal_blob::is_normal_blob;
-pub use sign_request::{SignRequest, read_request};
 pub use signed::is_signed;
 pub use signed_file::accept_file;

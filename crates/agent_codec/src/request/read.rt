@@ -1,12 +1,13 @@
 //! How a request is read.
 
 ghost use Rattle.ssh_key.specs.base.Causes.{cause};
-ghost use Rattle.ssh_key.specs.base.Formats.{Stops};
+ghost use Rattle.ssh_key.specs.base.Formats.{Stops, string_format};
 ghost use Rattle.ssh_key.specs.base.Needs.{Asks};
-ghost use Rattle.ssh_key.specs.base.Reading.{Gives};
+ghost use Rattle.ssh_key.specs.base.Reading.{DecodesWide, Gives};
 ghost use Rattle.ssh_key.specs.base.Source.{Later};
+ghost use Rattle.ssh_key.specs.model.Reading.{string_at};
 ghost use Rattle.agent_codec.specs.Contents.{StopsIn};
-ghost use Rattle.agent_codec.specs.Requests.{adding_format, body, constrained_body, locking_format, message, removing_format, request_of, signing_format, unlocking_format};
+ghost use Rattle.agent_codec.specs.Requests.{body, constrained_body, message, request_of};
 
 use super::Request;
 use super::kind::RequestKind;
@@ -31,7 +32,7 @@ pub(super) fn request_from<R: Reader>(alloc: Global, reader: &mut R) -> Result<R
 }
 
 /// What stands after the number of a request of that kind.
-#[tactic(auto, using(ssh_key::proofs::Places::places, crate::proofs::Frames::nothing_reads, crate::proofs::Held::alone_stops))]
+#[tactic(auto, using(ssh_key::proofs::Places::places, ssh_key::proofs::Mapped::mapped, crate::specs::Parts::checked_read, crate::proofs::Frames::nothing_reads))]
 fn body_from<R: Reader>(alloc: Global, reader: &mut R, kind: RequestKind) -> Result<Request>
     ensures gives { Gives request_of cause (body kind).read
         (R.source reader.old) result (R.source reader.new) }
@@ -41,89 +42,25 @@ fn body_from<R: Reader>(alloc: Global, reader: &mut R, kind: RequestKind) -> Res
 {
     match kind {
         RequestKind::RequestIdentities => Ok(Request::RequestIdentities),
-        RequestKind::SignRequest => sign_request_from(alloc, reader),
-        RequestKind::AddIdentity => addition_from(alloc, reader),
-        RequestKind::RemoveIdentity => removed_from(alloc, reader),
+        RequestKind::SignRequest => Ok(Request::SignRequest(SignRequest::decode(alloc, reader)?)),
+        RequestKind::AddIdentity => Ok(Request::AddIdentity(Addition::decode(alloc, reader)?)),
+        RequestKind::RemoveIdentity => Ok(Request::RemoveIdentity(bytes_from(alloc, reader)?)),
         RequestKind::RemoveAllIdentities => Ok(Request::RemoveAllIdentities),
-        RequestKind::Lock => lock_from(alloc, reader),
-        RequestKind::Unlock => unlock_from(alloc, reader),
+        RequestKind::Lock => Ok(Request::Lock(bytes_from(alloc, reader)?)),
+        RequestKind::Unlock => Ok(Request::Unlock(bytes_from(alloc, reader)?)),
         RequestKind::AddIdentityConstrained => constrained_from(alloc, reader),
     }
 }
 
-/// What is to be signed.
-#[tactic(auto, using(ssh_key::proofs::Mapped::mapped, crate::specs::Parts::checked_read))]
-fn sign_request_from<R: Reader>(alloc: Global, reader: &mut R) -> Result<Request>
-    ensures gives { Gives request_of cause signing_format.read
-        (R.source reader.old) result (R.source reader.new) }
+/// The blob of a key, or a passphrase.
+fn bytes_from<R: Reader>(alloc: Global, reader: &mut R) -> Result<Bytes>
+    ensures gives { DecodesWide (λ b. b) string_at R.source reader.old result reader.new }
     ensures later { Later (R.source reader.old) (R.source reader.new) }
-    ensures asks { Asks cause signing_format.needs
-        (R.source reader.old) result }
-    ensures past { Stops cause signing_format
-        (R.source reader.old) result }
+    ensures asks { Asks cause string_format.needs (R.source reader.old) result }
+    ensures past { Stops cause string_format (R.source reader.old) result }
 {
-    let request = SignRequest::decode(alloc, reader)?;
-    Ok(Request::SignRequest(request))
-}
-
-/// A pair and its comment.
-#[tactic(auto, using(ssh_key::proofs::Mapped::mapped, crate::specs::Parts::checked_read))]
-fn addition_from<R: Reader>(alloc: Global, reader: &mut R) -> Result<Request>
-    ensures gives { Gives request_of cause adding_format.read
-        (R.source reader.old) result (R.source reader.new) }
-    ensures later { Later (R.source reader.old) (R.source reader.new) }
-    ensures asks { Asks cause adding_format.needs
-        (R.source reader.old) result }
-    ensures past { Stops cause adding_format
-        (R.source reader.old) result }
-{
-    let addition = Addition::decode(alloc, reader)?;
-    Ok(Request::AddIdentity(addition))
-}
-
-/// The blob of a key.
-#[tactic(auto, using(ssh_key::proofs::Mapped::mapped, crate::specs::Parts::checked_read))]
-fn removed_from<R: Reader>(alloc: Global, reader: &mut R) -> Result<Request>
-    ensures gives { Gives request_of cause removing_format.read
-        (R.source reader.old) result (R.source reader.new) }
-    ensures later { Later (R.source reader.old) (R.source reader.new) }
-    ensures asks { Asks cause removing_format.needs
-        (R.source reader.old) result }
-    ensures past { Stops cause removing_format
-        (R.source reader.old) result }
-{
-    let Wide(key) = Wide::<Bytes>::decode(alloc, reader)?;
-    Ok(Request::RemoveIdentity(key))
-}
-
-/// A passphrase.
-#[tactic(auto, using(ssh_key::proofs::Mapped::mapped, crate::specs::Parts::checked_read))]
-fn lock_from<R: Reader>(alloc: Global, reader: &mut R) -> Result<Request>
-    ensures gives { Gives request_of cause locking_format.read
-        (R.source reader.old) result (R.source reader.new) }
-    ensures later { Later (R.source reader.old) (R.source reader.new) }
-    ensures asks { Asks cause locking_format.needs
-        (R.source reader.old) result }
-    ensures past { Stops cause locking_format
-        (R.source reader.old) result }
-{
-    let Wide(passphrase) = Wide::<Bytes>::decode(alloc, reader)?;
-    Ok(Request::Lock(passphrase))
-}
-
-/// A passphrase.
-#[tactic(auto, using(ssh_key::proofs::Mapped::mapped, crate::specs::Parts::checked_read))]
-fn unlock_from<R: Reader>(alloc: Global, reader: &mut R) -> Result<Request>
-    ensures gives { Gives request_of cause unlocking_format.read
-        (R.source reader.old) result (R.source reader.new) }
-    ensures later { Later (R.source reader.old) (R.source reader.new) }
-    ensures asks { Asks cause unlocking_format.needs
-        (R.source reader.old) result }
-    ensures past { Stops cause unlocking_format
-        (R.source reader.old) result }
-{
-    let Wide(passphrase) = Wide::<Bytes>::decode(alloc, reader)?;
-    Ok(Request::Unlock(passphrase))
+    let Wide(bytes) = Wide::<Bytes>::decode(alloc, reader)?;
+    Ok(bytes)
 }
 
 /// A pair, its comment and its constraints, up to the end of the reader.
