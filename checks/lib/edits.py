@@ -16,8 +16,22 @@ class BadEdit(Exception):
 @dataclass
 class Change:
     file: str
+    # text behind which 'old' stands first, or none where it stands once in the file
+    behind: str
     old: str
     new: str
+
+    def made(self, text):
+        """The text of the file with the change."""
+        front, found, rest = "", "", text
+        if self.behind:
+            front, found, rest = text.partition(self.behind)
+            if text.count(self.behind) != 1 or self.old not in rest:
+                raise BadEdit(f"its old text stands nowhere behind '{self.behind}' in {self.file}")
+        elif text.count(self.old) != 1:
+            count = text.count(self.old)
+            raise BadEdit(f"its old text stands {count} times in {self.file}, and not once")
+        return front + found + rest.replace(self.old, self.new, 1)
 
 
 @dataclass
@@ -52,7 +66,7 @@ def blocks_of(path):
 
 
 def read_edit(lines):
-    edit, file, old = Edit(), "", None
+    edit, file, behind, old = Edit(), "", "", None
     for line in lines:
         word, _, text = line.partition(":")
         text = text.removeprefix(" ")
@@ -60,11 +74,13 @@ def read_edit(lines):
             setattr(edit, word, text.strip())
         elif word == "file":
             file = text.strip()
+        elif word == "behind" and old is None:
+            behind = text
         elif word == "old" and old is None:
             old = text
         elif word == "new" and file and old:
-            edit.changes.append(Change(file, old, text))
-            old = None
+            edit.changes.append(Change(file, behind, old, text))
+            behind, old = "", None
         else:
             raise BadEdit(f"cannot be read at: {line.strip()[:80]}")
     if not edit.changes or not edit.function or not edit.says or old is not None:
@@ -95,10 +111,7 @@ def spans_of(crate, edit):
     for path in dict.fromkeys(it.file for it in edit.changes):
         before = after = text_of(crate, path)
         for change in (it for it in edit.changes if it.file == path):
-            count = after.count(change.old)
-            if count != 1:
-                raise BadEdit(f"its old text stands {count} times in {path}, and not once")
-            after = after.replace(change.old, change.new)
+            after = change.made(after)
         # both texts of a change are of one line, so that lines stay where they are
         for at, (one, other) in enumerate(zip(before.split("\n"), after.split("\n"))):
             if one != other:
@@ -137,7 +150,8 @@ def is_in_bodies(crate, edit):
             continue
         if not change.file.endswith(".rt"):
             return False
-        above = text_of(crate, change.file).partition(change.old)[0]
+        front, behind, rest = text_of(crate, change.file).partition(change.behind or change.old)
+        above = front + behind + rest.partition(change.old)[0] if change.behind else front
         # an edit may add something behind the line that begins the function
         above += change.old if change.new.startswith(change.old) else ""
         above = above.split("\n")
