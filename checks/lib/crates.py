@@ -62,7 +62,7 @@ class Crate:
             words += ["-L", f"dependency={os.path.dirname(crate.library)}"]
         words += ["--antt-project", f"{kit}/rattle/logic/antt-project.json"]
         words += ["--logic-built", f"{kit}/logic_built"]
-        words += ["--incremental", kept, "--jobs", "1"]
+        words += ["--incremental", kept, "--jobs", "1", "--progress"]
         return words + [it for name in functions for it in ("--only", name)]
 
 

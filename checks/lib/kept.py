@@ -9,7 +9,8 @@ class Kept:
     def __init__(self, root, kit):
         cache = os.environ.get("XDG_CACHE_HOME") or os.path.expanduser("~/.cache")
         self.folder = f"{cache}/rafendilo/wrong-bodies"
-        scripts = [f"{root}/checks/{it}" for it in ("wrong-bodies", "lib/crates.py", "lib/kept.py")]
+        names = ("wrong-bodies", "lib/crates.py", "lib/edits.py", "lib/kept.py")
+        scripts = [f"{root}/checks/{it}" for it in names]
         self.common = self.sum_of([f"{kit}/WHAT", *scripts], root)
 
     @staticmethod

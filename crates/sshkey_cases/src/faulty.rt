@@ -63,21 +63,48 @@ where
     Error: From<T::Error>,
 {
     for place in places.chunks_exact(2) {
-        let at = match place {
-            [high, low] => u16::from_be_bytes([*high, *low]) as usize,
-            _ => return Err(NO_LINE),
-        };
-        let mut front = Vec::from_slice(alloc, bytes.get(..at).unwrap_or(bytes))?;
-        front.extend_from_slice(&[0xff; 4])?;
-        let missing = u32::try_from(bytes.len().saturating_sub(front.len())).unwrap_or(u32::MAX);
-        match refusal::<T>(alloc, &mut Faulty::new(&front, missing)) {
-            Some(Error::Encoding(encoding::Error::Length)) => {}
-            Some(Error::Memory) => return Err(Error::Memory),
-            Some(error) => return Ok(format!(in alloc; "at {at}: {error}")?),
-            None => return Ok(format!(in alloc; "at {at}: read")?),
+        let at = number_of(place)?;
+        let refusal = refusal_at::<T>(alloc, bytes, at)?;
+        if !is_invalid(&refusal)? {
+            return otherwise_at(alloc, at, refusal);
         }
     }
     Ok(format!(in alloc; "invalid at each of {}", places.len() / 2)?)
+}
+
+fn number_of(place: &[u8]) -> Result<usize> {
+    match place {
+        [high, low] => Ok(u16::from_be_bytes([*high, *low]) as usize),
+        _ => Err(NO_LINE),
+    }
+}
+
+/// The refusal of the value whose length there is `ffffffff`, where its source breaks off behind.
+fn refusal_at<T>(alloc: Global, bytes: &[u8], at: usize) -> Result<Option<Error>>
+where
+    T: Decode + Drop,
+    Error: From<T::Error>,
+{
+    let mut front = Vec::from_slice(alloc, bytes.get(..at).unwrap_or(bytes))?;
+    front.extend_from_slice(&[0xff; 4])?;
+    let missing = u32::try_from(bytes.len().saturating_sub(front.len())).unwrap_or(u32::MAX);
+    Ok(refusal::<T>(alloc, &mut Faulty::new(&front, missing)))
+}
+
+/// Whether it is for the length. Refused when out of memory alone.
+fn is_invalid(refusal: &Option<Error>) -> Result<bool> {
+    match refusal {
+        Some(Error::Memory) => Err(Error::Memory),
+        Some(Error::Encoding(encoding::Error::Length)) => Ok(true),
+        _ => Ok(false),
+    }
+}
+
+fn otherwise_at(alloc: Global, at: usize, refusal: Option<Error>) -> Result<String> {
+    match refusal {
+        Some(error) => Ok(format!(in alloc; "at {at}: {error}")?),
+        None => Ok(format!(in alloc; "at {at}: read")?),
+    }
 }
 
 /// The source of the first `len` bytes, which lacks the others.

@@ -26,20 +26,38 @@ use std::fs::Files;
 /// The answer to a line: a question and the byte strings that it is about.
 pub(crate) fn answer_line<R: Files>(rt: &R, alloc: Global, line: &str) -> Result<String> {
     let (question, words) = line.split_once(' ').unwrap_or((line, ""));
-    let (kind, behind) = words.split_once(' ').unwrap_or((words, ""));
     match question {
-        "beginnings" => beginnings(alloc, kind, part(&parts(alloc, behind)?, 0)),
-        "copy" => copies::value(alloc, kind, &parts(alloc, behind)?),
-        "faulty" => faulty::value(alloc, kind, part(&parts(alloc, behind)?, 0)),
-        "overlong" => faulty::overlong(alloc, kind, &parts(alloc, behind)?),
-        "file" => files::value(rt, alloc, kind, &parts(alloc, behind)?),
-        "narrow" => narrow::value(alloc, kind, part(&parts(alloc, behind)?, 0)),
-        "without-memory" | "with-memory" => without_memory::value(
-            alloc,
-            kind,
-            &parts(alloc, behind)?,
-        ),
+        "beginnings"
+        | "copy"
+        | "faulty"
+        | "overlong"
+        | "file"
+        | "narrow"
+        | "without-memory"
+        | "with-memory" => {
+            let (kind, behind) = words.split_once(' ').unwrap_or((words, ""));
+            answer_about_kind(rt, alloc, question, kind, &parts(alloc, behind)?)
+        }
         _ => answer(alloc, question, &parts(alloc, words)?),
+    }
+}
+
+/// The answer to a question about values of a kind, or about the beginnings of those of a question.
+fn answer_about_kind<R: Files>(
+    rt: &R,
+    alloc: Global,
+    question: &str,
+    kind: &str,
+    parts: &[Vec<u8>],
+) -> Result<String> {
+    match question {
+        "beginnings" => beginnings(alloc, kind, part(parts, 0)),
+        "copy" => copies::value(alloc, kind, parts),
+        "faulty" => faulty::value(alloc, kind, part(parts, 0)),
+        "overlong" => faulty::overlong(alloc, kind, parts),
+        "file" => files::value(rt, alloc, kind, parts),
+        "narrow" => narrow::value(alloc, kind, part(parts, 0)),
+        _ => without_memory::value(alloc, kind, parts),
     }
 }
 
@@ -51,13 +69,20 @@ fn beginnings(alloc: Global, question: &str, bytes: &[u8]) -> Result<String> {
     for len in 1..=bytes.len() {
         let next = said_of(alloc, question, bytes.get(..len).unwrap_or(bytes))?;
         if next != last {
-            answers.push_str(&format!(in alloc; "{from} to {}: {last}; ", len - 1)?)?;
+            tell(alloc, &mut answers, from, len - 1, &last)?;
             from = len;
             last = next;
         }
     }
-    answers.push_str(&format!(in alloc; "{from} to {}: {last}", bytes.len())?)?;
+    tell(alloc, &mut answers, from, bytes.len(), &last)?;
     Ok(answers)
+}
+
+/// Adds what is said of the beginnings from one length to another.
+fn tell(alloc: Global, answers: &mut String, from: usize, to: usize, said: &str) -> Result<()> {
+    let between = if answers.is_empty() { "" } else { "; " };
+    answers.push_str(&format!(in alloc; "{between}{from} to {to}: {said}")?)?;
+    Ok(())
 }
 
 /// What is answered about one byte string, or the text of the refusal. Refused when out of memory
@@ -101,20 +126,9 @@ fn answer_of_names(alloc: Global, question: &str, parts: &[Vec<u8>]) -> Result<S
     let bytes = part(parts, 0);
     match question {
         "algorithm" => wire::front::<Algorithm>(alloc, bytes),
-        "algorithm-name" => names::algorithm(alloc, text(parts, 0)?),
         "certified-algorithm" => names::certified(alloc, bytes),
-        "certified-name" => shown(alloc, Algorithm::new_certificate(alloc, text(parts, 0)?)),
-        "private-name" => AlgorithmName::new(alloc, text(parts, 0)?)?.certificate_type(alloc),
-        "private-certified-name" => {
-            shown(
-                alloc,
-                AlgorithmName::from_certificate_type(alloc, text(parts, 0)?),
-            )
-        }
         "curve" => wire::front::<EcdsaCurve>(alloc, bytes),
-        "curve-name" => shown(alloc, EcdsaCurve::new(text(parts, 0)?)),
         "hash" => wire::front::<HashAlg>(alloc, bytes),
-        "hash-name" => shown(alloc, HashAlg::new(text(parts, 0)?)),
         "digest" => names::digest(alloc, parts),
         "rising-algorithms" => wire::rising::<Algorithm>(alloc, parts),
         _ => answer_of_kinds(alloc, question, parts),
@@ -148,7 +162,6 @@ fn answer_of_keys(alloc: Global, question: &str, parts: &[Vec<u8>]) -> Result<St
         "key-in-front" => wire::kept::<KeyData>(alloc, bytes),
         "kind" => keys::name_and_kind(alloc, bytes),
         "fingerprints" => keys::fingerprints(alloc, bytes),
-        "fingerprint-text" => shown(alloc, text(parts, 0)?.parse::<Fingerprint>()),
         "art" => keys::art(alloc, parts),
         "body-under" => keys::named(alloc, parts),
         "key-of-parts" => keys::made(alloc, parts),
@@ -171,7 +184,6 @@ fn answer_of_messages(alloc: Global, question: &str, parts: &[Vec<u8>]) -> Resul
         "ssh-signature-made" => messages::made(alloc, parts),
         "verified" => messages::verified(alloc, parts),
         "public-key" => certificates::public_key(alloc, bytes),
-        "drawn-derivation" => drawn::derivation(alloc, text(parts, 0)?),
         "drawn-certificate" => drawn::certificate(alloc, bytes),
         _ => answer_of_slices(alloc, question, parts),
     }
@@ -204,7 +216,6 @@ fn answer_of_certificates(alloc: Global, question: &str, parts: &[Vec<u8>]) -> R
         "end-time" => wire::whole::<EndTime>(alloc, bytes),
         "certificate" => wire::whole::<Certificate>(alloc, bytes),
         "key-or-certificate" => certificates::key_or_certificate(alloc, bytes),
-        "certificate-line" => certificates::line(alloc, text(parts, 0)?),
         "options-of-pairs" => certificates::options(alloc, parts),
         "issued" => issued::certificate(alloc, parts),
         "validity" | "validity-of" => validity::owned(alloc, parts),
@@ -237,26 +248,48 @@ fn answer_of_entries(alloc: Global, question: &str, parts: &[Vec<u8>]) -> Result
     match question {
         "keys" => shown_by_program(alloc, &["keys"], part(parts, 0)),
         "hosts" => shown_by_program(alloc, &["hosts"], part(parts, 0)),
-        "each-key" => again::each_key(alloc, text(parts, 0)?),
-        "each-host" => again::each_host(alloc, text(parts, 0)?),
-        "authorized-key" => entries::authorized(alloc, text(parts, 0)?),
-        "strict-keys" => entries::strict(alloc, text(parts, 0)?),
-        "strict-key" => entries::strict_key(alloc, text(parts, 0)?),
-        "openssh-keys" => openssh_lines::keys(alloc, text(parts, 0)?),
-        "openssh-key" => openssh_lines::key(alloc, text(parts, 0)?),
-        "openssh-hosts" => openssh_lines::hosts(alloc, text(parts, 0)?),
-        "openssh-host" => openssh_lines::host(alloc, text(parts, 0)?),
-        "openssh-options" => option_items::all(alloc, text(parts, 0)?),
         "openssh-option" => option_items::named(alloc, parts),
         "made-authorized-key" => option_items::made(alloc, parts),
-        "config-options" => entries::options(alloc, text(parts, 0)?),
-        "known-host" => entries::host(alloc, text(parts, 0)?),
         "hosts-for" => hosts::are_for(alloc, parts),
         "host-verdict" => hosts::judged(alloc, parts),
         "host-authorities" => hosts::authorities_of(alloc, parts),
         "made-host" => hosts::made(alloc, parts),
-        "host-patterns" => entries::hosts(alloc, text(parts, 0)?),
-        "marker" => entries::marker(alloc, text(parts, 0)?),
+        _ => answer_about_name(alloc, question, text(parts, 0)?),
+    }
+}
+
+/// The answer to a question about a text.
+fn answer_about_name(alloc: Global, question: &str, name: &str) -> Result<String> {
+    match question {
+        "algorithm-name" => names::algorithm(alloc, name),
+        "certified-name" => shown(alloc, Algorithm::new_certificate(alloc, name)),
+        "private-name" => AlgorithmName::new(alloc, name)?.certificate_type(alloc),
+        "private-certified-name" => shown(alloc, AlgorithmName::from_certificate_type(alloc, name)),
+        "curve-name" => shown(alloc, EcdsaCurve::new(name)),
+        "hash-name" => shown(alloc, HashAlg::new(name)),
+        "fingerprint-text" => shown(alloc, name.parse::<Fingerprint>()),
+        "drawn-derivation" => drawn::derivation(alloc, name),
+        _ => answer_about_line(alloc, question, name),
+    }
+}
+
+fn answer_about_line(alloc: Global, question: &str, line: &str) -> Result<String> {
+    match question {
+        "certificate-line" => certificates::line(alloc, line),
+        "each-key" => again::each_key(alloc, line),
+        "each-host" => again::each_host(alloc, line),
+        "authorized-key" => entries::authorized(alloc, line),
+        "strict-keys" => entries::strict(alloc, line),
+        "strict-key" => entries::strict_key(alloc, line),
+        "openssh-keys" => openssh_lines::keys(alloc, line),
+        "openssh-key" => openssh_lines::key(alloc, line),
+        "openssh-hosts" => openssh_lines::hosts(alloc, line),
+        "openssh-host" => openssh_lines::host(alloc, line),
+        "openssh-options" => option_items::all(alloc, line),
+        "config-options" => entries::options(alloc, line),
+        "known-host" => entries::host(alloc, line),
+        "host-patterns" => entries::hosts(alloc, line),
+        "marker" => entries::marker(alloc, line),
         _ => Err(NO_LINE),
     }
 }

@@ -1,0 +1,169 @@
+"""Wrong bodies as edits: how they stand in files, and how they are applied to a crate."""
+import os
+import re
+from dataclasses import dataclass, field
+
+from lib.crates import PARTS
+
+# the folder beside a crate's edits of what only --all tries
+MORE = "more"
+
+
+class BadEdit(Exception):
+    """Why an edit cannot be tried."""
+
+
+@dataclass
+class Change:
+    file: str
+    # text behind which 'old' stands first, or none where it stands once in the file
+    behind: str
+    old: str
+    new: str
+
+    def made(self, text):
+        """The text of the file with the change."""
+        front, found, rest = "", "", text
+        if self.behind:
+            front, found, rest = text.partition(self.behind)
+            if text.count(self.behind) != 1 or self.old not in rest:
+                raise BadEdit(f"its old text stands nowhere behind '{self.behind}' in {self.file}")
+        elif text.count(self.old) != 1:
+            count = text.count(self.old)
+            raise BadEdit(f"its old text stands {count} times in {self.file}, and not once")
+        return front + found + rest.replace(self.old, self.new, 1)
+
+
+@dataclass
+class Edit:
+    """One wrong body: what is changed in which files, and the function that must be refused."""
+
+    # what the wrong body does
+    says: str = ""
+    function: str = ""
+    # for the self-check: words of the failure that must be reported
+    failure: str = ""
+    changes: list = field(default_factory=list)
+
+    def module(self):
+        """The file that it turns, and whose name its own file has: the first of src/, if any is."""
+        files = [it.file for it in self.changes]
+        return next((it for it in files if it.startswith("src/")), files[0])
+
+
+def files_of(folder):
+    """The files below the folder, but for those of MORE."""
+    for at, folders, files in os.walk(folder):
+        folders[:] = sorted(it for it in folders if (at, it) != (folder, MORE))
+        yield from (f"{at}/{it}" for it in sorted(files))
+
+
+def blocks_of(path):
+    """The blocks of lines of a file, which empty lines divide."""
+    with open(path, encoding="utf-8") as file:
+        blocks = re.split(r"\n(?:[ \t]*\n)+", file.read().strip("\n"))
+    return [it.split("\n") for it in blocks if it.strip()]
+
+
+def read_edit(lines):
+    edit, file, behind, old = Edit(), "", "", None
+    for line in lines:
+        word, _, text = line.partition(":")
+        text = text.removeprefix(" ")
+        if word in ("says", "function", "failure") and not getattr(edit, word):
+            setattr(edit, word, text.strip())
+        elif word == "file":
+            file = text.strip()
+        elif word == "behind" and old is None:
+            behind = text
+        elif word == "old" and old is None:
+            old = text
+        elif word == "new" and file and old:
+            edit.changes.append(Change(file, behind, old, text))
+            behind, old = "", None
+        else:
+            raise BadEdit(f"cannot be read at: {line.strip()[:80]}")
+    if not edit.changes or not edit.function or not edit.says or old is not None:
+        raise BadEdit("lacks a line 'says:', 'function:', 'file:', 'old:' or 'new:'")
+    return edit
+
+
+def text_of(crate, path):
+    if os.path.normpath(path) != path or path.split("/")[0] not in PARTS:
+        raise BadEdit(f"names no file of src/, specs/ or proofs/: {path}")
+    try:
+        with open(f"{crate.folder}/{path}", encoding="utf-8") as file:
+            return file.read()
+    except OSError:
+        raise BadEdit(f"names no file of the crate: {path}") from None
+
+
+def changed(before, after):
+    """What differs in a line: (begin, end, new text)."""
+    head = len(os.path.commonprefix([before, after]))
+    tail = len(os.path.commonprefix([before[head:][::-1], after[head:][::-1]]))
+    return head, len(before) - tail, after[head : len(after) - tail]
+
+
+def spans_of(crate, edit):
+    """What the edit puts where into the crate's files: {(file, line): [(begin, end, new text)]}."""
+    found = {}
+    for path in dict.fromkeys(it.file for it in edit.changes):
+        before = after = text_of(crate, path)
+        for change in (it for it in edit.changes if it.file == path):
+            after = change.made(after)
+        # both texts of a change are of one line, so that lines stay where they are
+        for at, (one, other) in enumerate(zip(before.split("\n"), after.split("\n"))):
+            if one != other:
+                found[path, at] = [changed(one, other)]
+    return found
+
+
+def join(spans, more):
+    """Both edits' spans, None where they change the same text in two ways."""
+    whole = {at: sorted({*spans.get(at, []), *more.get(at, [])}) for at in {**spans, **more}}
+    for found in whole.values():
+        if any(then[0] < max(one[1], one[0] + 1) for one, then in zip(found, found[1:])):
+            return None
+    return whole
+
+
+def texts_of(crate, spans):
+    """The texts of the files that are changed."""
+    texts = {path: text_of(crate, path).split("\n") for path, _ in spans}
+    for (path, at), found in spans.items():
+        for begin, end, new in reversed(found):
+            line = texts[path][at]
+            texts[path][at] = line[:begin] + new + line[end:]
+    return {path: "\n".join(lines) for path, lines in texts.items()}
+
+
+HEAD = re.compile(r"(\s*)(?:pub(?:\([^)]*\))? )?(?:final )?(?:const )?fn \w")
+
+
+def is_in_bodies(crate, edit):
+    """Whether each changed text stands in a body, in the function's own proof or in what a search
+    of its block may use: others see none of these."""
+    own = f"proofs/{edit.function.replace('::', '/')}/"
+    for change in edit.changes:
+        if change.file.startswith(own):
+            continue
+        if not change.file.endswith(".rt"):
+            return False
+        front, behind, rest = text_of(crate, change.file).partition(change.behind or change.old)
+        above = front + behind + rest.partition(change.old)[0] if change.behind else front
+        # an edit may add something behind the line that begins the function
+        above += change.old if change.new.startswith(change.old) else ""
+        above = above.split("\n")
+        if above[-1].startswith("#[tactic("):
+            continue
+        heads = [at for at, line in enumerate(above) if HEAD.match(line)]
+        if not heads:
+            return False
+        head, below = above[heads[-1]], above[heads[-1] + 1 :]
+        indent = HEAD.match(head)[1]
+        # the body begins on the head's line, behind its parameters, or behind its clauses
+        begins = [it for it in below if re.fullmatch(rf"{indent}(\).*)?{{", it)]
+        if not (head.endswith("{") or begins) or f"{indent}}}" in below:
+            return False
+    return True
