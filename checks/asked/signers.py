@@ -171,6 +171,15 @@ def signed(maker, name, message, namespace=NAMESPACE, *words):
     return blob, b"SSHSIG" + b"".join(map(string, (namespace, reserved, algorithm, digest))), signature
 
 
+def reserving(maker, name, key, message, sign, covered):
+    """A signature that shows a reserved byte, by the key of that name over data in which those reserved bytes stand."""
+    namespace, digest = NAMESPACE.encode(), hashlib.sha512(message).digest()
+    covered = b"SSHSIG" + b"".join(map(string, (namespace, covered, b"sha512", digest)))
+    signature = sign(maker.path(name), key, covered)
+    head = b"SSHSIG" + (1).to_bytes(4, "big") + string(base64.b64decode(key.split(" ")[1]))
+    return head + b"".join(map(string, (namespace, b"x", b"sha512", signature))), covered, signature
+
+
 def says(maker, text, blob, message, who, namespace, at):
     """Whether ssh-keygen takes the signature for that identity's."""
     with open(maker.path("allowed"), "wb") as file:
@@ -184,7 +193,7 @@ def says(maker, text, blob, message, who, namespace, at):
     return maker.run(*words, input=message, check=False).returncode == 0
 
 
-def signers(maker, types, told):
+def signers(maker, types, told, sign):
     """Names, lines and answers."""
     keys = {"who": WHO, "key": maker.key("signer"), "other": maker.key("another-signer")}
     keys["tabbed"] = keys["key"].replace(" ", " \t ")
@@ -222,5 +231,9 @@ def signers(maker, types, told):
     keys["fresh"] = maker.key("fresh-signer")
     fresh = signed(maker, "fresh-signer", message)
     yield case("a signature that nobody verified", "{who} {fresh}\n", "not verified", made=fresh, key=keys["fresh"], tell=False)
+    reserved = reserving(maker, "signer", keys["key"], message, sign, b"x")
+    yield case("a reserved byte", line, "not verified", made=reserved)
+    reserved = reserving(maker, "signer", keys["key"], message, sign, b"")
+    yield case("a reserved byte that is not signed", line, "not verified", made=reserved, same=False)
     cut = (made[0][:-1], *made[1:])
     yield case("bytes that are no signature", line, "no signature", made=cut, tell=False)

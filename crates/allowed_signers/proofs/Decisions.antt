@@ -1,5 +1,5 @@
 -- What a verdict, an entry and a line decide.
-use Rattle.std.proofs.Common.{◌≡◌, ◌≢◌, ◌↔◌, ℕ, List, Bool, true, false, Option, Some, None, Result, Ok, Err, IfErr, IfOk, IsTrue, refl, subst, inl, inr}
+use Rattle.std.proofs.Common.{◌≡◌, ◌≢◌, ◌↔◌, ◌==◌, ◌∙◌, ℕ, List, [], ◌∷◌, length, eqb-true, arith, sym, Bool, true, false, Option, Some, None, Result, Ok, Err, IfErr, IfOk, IsTrue, refl, subst, inl, inr}
 use Rattle.ssh_key.specs.base.Acceptance.{AcceptsExactly}
 use Rattle.ssh_key.specs.base.Causes.{NoMemory, cause}
 use Rattle.ssh_key.specs.base.Reading.{NoSpelling}
@@ -60,6 +60,15 @@ unread bytes e r none (inr other) = inr (other.1, none (other_cause e other.0) r
 pub nothing_counts : (Holds : SshSignature → Type 0) (bytes : List ℕ) (r : Refusal) → ReadsSignature bytes (Err r) → OkExactly (HasSignature bytes Holds) (Err r)
 nothing_counts Holds bytes r (inl memory) = λ other has. absurd (other memory)
 nothing_counts Holds bytes r (inr none) = λ other has. none.1 has.0 has.1
+
+-- whether bytes are left, by the test of their number
+pub none_reserved : (bytes : List ℕ) (empty : Bool) → empty ≡ (length bytes == 0) → empty ≡ true → bytes ≡ []
+none_reserved [] empty judged e = refl
+none_reserved (x ∷ bytes) empty judged e = let zero_long : length (x ∷ bytes) ≡ 0 = eqb-true _ 0 (sym judged ∙ e) in absurd (omega arith)
+
+pub some_reserved : (bytes : List ℕ) (empty : Bool) → empty ≡ (length bytes == 0) → empty ≡ false → bytes ≡ [] → ⊥
+some_reserved [] empty judged e is = cc
+some_reserved (x ∷ bytes) empty judged e is = absurd cc
 
 -- ---- an entry
 

@@ -1,5 +1,5 @@
 -- When a signature counts as an identity's, by a file of allowed signers (ssh-keygen(1), ALLOWED SIGNERS).
-use Rattle.std.specs.Prelude.{◌≡◌, ◌≢◌, ◌⊎◌, ℕ, List, Bool, true, false, Result, Ok, Err}
+use Rattle.std.specs.Prelude.{◌≡◌, ◌≢◌, ◌⊎◌, ℕ, List, [], Bool, true, false, Result, Ok, Err}
 use Rattle.std.specs.List.{Any}
 use Rattle.ssh_key.specs.base.Reading.{NoSpelling}
 use Rattle.ssh_key.specs.entries.AuthorizedKeys.{AuthorizedKey}
@@ -51,10 +51,15 @@ pub record Allows (identity namespace : List ℕ) (time : ℕ) (key : Key) (line
 abbrev pub IsAllowed : List ℕ → List ℕ → ℕ → Key → List ℕ → Type 0
 IsAllowed identity namespace time key signers = Any (Allows identity namespace time key) (filled_lines signers)
 
+-- It is its key's signature of the message in the namespace, with nothing reserved (ssh-keygen verifies no other).
+pub record HasSigned (accepts : Question → Bool) (namespace message : List ℕ) (f : SshSignature) : Type 0 where
+  pub verified : IsVerified accepts f.key namespace message f
+  pub nothing_reserved : f.reserved ≡ []
+
 -- The signature counts: its key is allowed to sign, and has signed the message in the namespace.
 pub record Counts (accepts : Question → Bool) (signers identity namespace message : List ℕ) (time : ℕ) (f : SshSignature) : Type 0 where
   pub allowed : IsAllowed identity namespace time f.key signers
-  pub verified : IsVerified accepts f.key namespace message f
+  pub signed : HasSigned accepts namespace message f
 
 -- The bytes spell a signature of which this holds.
 abbrev pub HasSignature : List ℕ → (SshSignature → Type 0) → Type 0
@@ -69,7 +74,7 @@ OkExactly Holds (Err e) = e ≢ Memory → Holds → ⊥
 abbrev pub IsWhy : (Question → Bool) → List ℕ → List ℕ → List ℕ → List ℕ → ℕ → List ℕ → Refusal → Type 0
 IsWhy accepts signers identity namespace message time bytes NoSignature = NoSpelling SpellsSshSignature bytes
 IsWhy accepts signers identity namespace message time bytes NotAllowed = HasSignature bytes (λ f. ¬ IsAllowed identity namespace time f.key signers)
-IsWhy accepts signers identity namespace message time bytes NotVerified = HasSignature bytes (λ f. IsAllowed identity namespace time f.key signers × ¬ IsVerified accepts f.key namespace message f)
+IsWhy accepts signers identity namespace message time bytes NotVerified = HasSignature bytes (λ f. IsAllowed identity namespace time f.key signers × ¬ HasSigned accepts namespace message f)
 IsWhy accepts signers identity namespace message time bytes Memory = Unit {0}
 
 -- ---- the steps

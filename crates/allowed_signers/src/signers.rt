@@ -4,10 +4,9 @@ ghost use Rattle.std.specs.Prelude.{◌≡◌, ◌↔◌, IfErr, IfOk, IsTrue};
 ghost use Rattle.ssh_key.specs.authorized_keys.OpenSshEntries.{openssh_entry_of};
 ghost use Rattle.ssh_key.specs.keys.Keys.{key_of};
 ghost use Rattle.ssh_key.specs.model.Keys.{IsKey};
-ghost use Rattle.ssh_key.specs.model.SignedMessages.{IsVerified};
 ghost use Rattle.ssh_key.specs.sshsig.SshSignatures.{ssh_signature_of};
 ghost use Rattle.ssh_key.specs.types.Error.TheVariants.{Memory};
-ghost use Rattle.allowed_signers.specs.AllowedSigners.{Allows, Answers, Counts, HasEntryFor, HasSignature, IsAllowed, IsEntryFor, IsNo, IsWhy, Names, OkExactly, OptionsPermit, ReadsSignature, SpelledBySome};
+ghost use Rattle.allowed_signers.specs.AllowedSigners.{Allows, Answers, Counts, HasEntryFor, HasSignature, HasSigned, IsAllowed, IsEntryFor, IsNo, IsWhy, Names, OkExactly, OptionsPermit, ReadsSignature, SpelledBySome};
 
 use crate::line::split_principals;
 use crate::options::SignerOptions;
@@ -44,7 +43,8 @@ pub enum Refusal {
 ///
 /// `signature` is what stands in the armour of `ssh-keygen -Y sign`, decoded. Unless memory runs
 /// out, it is refused for the first of these that holds: `NoSignature`, `NotAllowed`,
-/// `NotVerified`.
+/// `NotVerified`. One with reserved bytes is not verified. RSA keys of less than 1,024 bits, which
+/// ssh-keygen does not read, are left to the verifier.
 pub fn verify<V: RawVerifier>(
     alloc: Global,
     signers: &str,
@@ -98,7 +98,8 @@ fn refusal_of(error: Error) -> Refusal
     Refusal::NoSignature
 }
 
-/// Whether the signature's own key has made it of the message in the namespace.
+/// Whether the signature's own key has made it of the message in the namespace, with nothing
+/// reserved.
 fn has_signed<V: RawVerifier>(
     alloc: Global,
     signature: &SshSig,
@@ -107,11 +108,13 @@ fn has_signed<V: RawVerifier>(
     verifier: &V,
 ) -> Result<bool>
     requires { SpelledBySome (ssh_signature_of signature.now) }
-    ensures answer { IfOk result (λ yes. IsTrue yes
-        ↔ IsVerified (V.accepts verifier.now) (ssh_signature_of signature.now).key namespace.now
-        message.now (ssh_signature_of signature.now)) }
+    ensures answer { IfOk result (λ yes. IsTrue yes ↔ HasSigned (V.accepts verifier.now)
+        namespace.now message.now (ssh_signature_of signature.now)) }
     ensures memory { IfErr result (λ e. e ≡ Memory) }
 {
+    if !signature.reserved().is_empty() {
+        return Ok(false);
+    }
     let key_data = signature.public_key().try_clone(alloc)?;
     let key = PublicKey::new(key_data, String::new(alloc));
     answer_of(key.verify(alloc, namespace, message, signature, verifier))

@@ -2,10 +2,9 @@ use Rattle.std.proofs.Common.{◌≡◌, ◌∙◌, [], ap, refl, subst, sym, tr
 use Rattle.std.proofs.lemmas.Result.{err_from_is_err_and}
 use Rattle.ssh_key.specs.keys.Keys.{key_of}
 use Rattle.ssh_key.specs.model.Keys.{Key}
-use Rattle.ssh_key.specs.model.SignedMessages.{IsVerified}
 use Rattle.ssh_key.specs.model.SshSignatures.{SshSignature}
 use Rattle.ssh_key.specs.sshsig.SshSignatures.{ssh_signature_of}
-use Rattle.allowed_signers.specs.AllowedSigners.{Counts, IsAllowed}
+use Rattle.allowed_signers.specs.AllowedSigners.{Counts, HasSigned, IsAllowed}
 use Rattle.allowed_signers.proofs.Decisions.{nothing_counts}
 use Rattle.allowed_signers.proofs.signers.verify.Goals as goal
 
@@ -23,5 +22,5 @@ returns-then-not-allowed-clause-exactly g c = λ other has.
 pub returns-then-not-signed-clause-exactly : goal.returns-then-not-signed-clause-exactly
 returns-then-not-signed-clause-exactly g c = λ other has.
     let same = (c.one_ssh_signature.ensures has.0 (ssh_signature_of c.in_ok-signature.signature) c.args.signature.now c.args.signature.now [] [] has.1 c.in_ok-signature.ensures refl).0 in
-    let verified = subst (λ (f : SshSignature). IsVerified (g.V.RawVerifier.accepts c.args.verifier.now) f.key c.args.namespace.now c.args.message.now f) same has.2.verified in
-    let yes : c.in-Ok-has_signed.signed ≡ true = c.in-Ok-has_signed.ensures.answer.1 verified in absurd cc
+    let has_signed = subst (HasSigned (g.V.RawVerifier.accepts c.args.verifier.now) c.args.namespace.now c.args.message.now) same has.2.signed in
+    let yes : c.in-Ok-has_signed.signed ≡ true = c.in-Ok-has_signed.ensures.answer.1 has_signed in absurd cc
