@@ -1,12 +1,8 @@
 """Questions for the program deploy_keys: `ssh-keygen -Y sign` signs, and `ssh-keygen -Y verify` says under which keys that is a
 signature of the content in the namespace."""
-import base64
-import hashlib
 import os
-import subprocess
 
-from lib.harness import string, take
-from lib.signatures import TYPES, told
+from lib.signatures import TYPES, armoured, told_of_file, unarmoured
 
 NAMESPACE = "git"
 CONTENT = b"object 0123\ntype commit\ntag v1\n\na tag\n"
@@ -46,7 +42,7 @@ def deploys(maker):
             asked = changes.get("content", content), changes.get("namespace", NAMESPACE)
             lines = [line.format(**keys) for line in lines]
             text = "".join(line + "\n" for line in lines).encode()
-            before = told_of(blob, content)
+            before = told_of_file(blob, content)
             words = ["deploy", text.hex(), asked[1], asked[0].hex(), blob.hex()]
             answer = compared(maker, lines, blob, *asked, wanted)
             yield f"deploy key of {kind}: {case}", [before] if before else [], "\t".join(words), answer
@@ -57,33 +53,15 @@ def bare(line):
     return " ".join(line.split(" ")[:2])
 
 
-def armoured(blob):
-    """The bytes as `ssh-keygen -Y sign` writes them (PROTOCOL.sshsig)."""
-    text = base64.b64encode(blob).decode()
-    rows = [text[at : at + 70] for at in range(0, len(text), 70)]
-    return "".join(f"{row}\n" for row in ["-----BEGIN SSH SIGNATURE-----", *rows, "-----END SSH SIGNATURE-----"])
-
-
 def signed(maker, name, content, flipped):
     """What stands in the armour of a signature by that key, its last byte another one where that is asked for."""
     path = maker.path("content")
     with open(path, "wb") as file:
         file.write(content)
     maker.run("-Y", "sign", "-q", "-f", maker.path(name), "-n", NAMESPACE, path)
-    blob = base64.b64decode("".join(maker.read("content.sig").split("\n")[1:-1]))
+    blob = unarmoured(maker.read("content.sig"))
     os.remove(path + ".sig")
     return blob[:-1] + bytes([blob[-1] ^ 1]) if flipped else blob
-
-
-def told_of(blob, content):
-    """The line that tells of the signature: it is over the namespace and the digest of the content (PROTOCOL.sshsig)."""
-    key, rest = take(blob[len(b"SSHSIG") + 4 :])
-    namespace, rest = take(rest)
-    reserved, rest = take(rest)
-    name, rest = take(rest)
-    digest = hashlib.new(name.decode(), content).digest()
-    message = b"SSHSIG" + b"".join(map(string, (namespace, reserved, name, digest)))
-    return told(f"{take(key)[0].decode()} {base64.b64encode(key).decode()}", take(rest)[0], message)
 
 
 def compared(maker, lines, blob, content, namespace, wanted):

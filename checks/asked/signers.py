@@ -1,8 +1,10 @@
 """Questions for the program allowed_signers: what `ssh-keygen -Y verify` says of a signature is what it has to say."""
 import base64
-import hashlib
 import os
 import time
+
+from lib.harness import string
+from lib.signatures import TYPES, armoured, signed, signed_data, told, told_of_file, unarmoured
 
 NAMESPACE = "git"
 WHO = "alice@example.com"
@@ -143,70 +145,51 @@ TIMES = [
 ]  # fmt: skip
 
 
-def string(data):
-    return len(data).to_bytes(4, "big") + data
-
-
-def take(data):
-    length = int.from_bytes(data[:4], "big")
-    return data[4 : 4 + length], data[4 + length :]
-
-
-def signed(maker, name, message, namespace=NAMESPACE, *words):
-    """The bytes of a signature of ssh-keygen by the key of that name, and what is signed in place of the message."""
+def made_by(maker, name, message, *words):
+    """The bytes of a signature of ssh-keygen by the key of that name."""
     path = maker.path("message")
     with open(path, "wb") as file:
         file.write(message)
-    maker.run("-q", "-Y", "sign", "-f", maker.path(name), "-n", namespace, *words, path)
-    with open(path + ".sig", encoding="ascii") as file:
-        blob = base64.b64decode("".join(file.read().split("\n")[1:-2]))
+    maker.run("-q", "-Y", "sign", "-f", maker.path(name), "-n", NAMESPACE, *words, path)
+    blob = unarmoured(maker.read("message.sig"))
     os.remove(path + ".sig")
-    rest = blob[10:]
-    parts = []
-    while rest:
-        part, rest = take(rest)
-        parts.append(part)
-    _, namespace, reserved, algorithm, signature = parts
-    digest = hashlib.new(algorithm.decode(), message).digest()
-    return blob, b"SSHSIG" + b"".join(map(string, (namespace, reserved, algorithm, digest))), signature
+    return blob
 
 
-def reserving(maker, name, key, message, sign, covered):
-    """A signature that shows a reserved byte, by the key of that name over data in which those reserved bytes stand."""
-    namespace, digest = NAMESPACE.encode(), hashlib.sha512(message).digest()
-    covered = b"SSHSIG" + b"".join(map(string, (namespace, covered, b"sha512", digest)))
-    signature = sign(maker.path(name), key, covered)
+def reserving(maker, name, key, message, covered):
+    """A signature that shows a reserved byte, by the key of that name over data in which those reserved bytes stand; and the line
+    that tells the program of it."""
+    namespace, name_of_hash = NAMESPACE.encode(), b"sha512"
+    data = signed_data(namespace, covered, name_of_hash, message)
+    signature = signed(maker.path(name), key, data)
     head = b"SSHSIG" + (1).to_bytes(4, "big") + string(base64.b64decode(key.split(" ")[1]))
-    return head + b"".join(map(string, (namespace, b"x", b"sha512", signature))), covered, signature
+    return head + b"".join(map(string, (namespace, b"x", name_of_hash, signature))), told(key, signature, data)
 
 
 def says(maker, text, blob, message, who, namespace, at):
     """Whether ssh-keygen takes the signature for that identity's."""
     with open(maker.path("allowed"), "wb") as file:
         file.write(text)
-    armour = base64.b64encode(blob).decode()
-    lines = [armour[at : at + 70] for at in range(0, len(armour), 70)]
     with open(maker.path("armour"), "w", encoding="ascii") as file:
-        file.write("\n".join(["-----BEGIN SSH SIGNATURE-----", *lines, "-----END SSH SIGNATURE-----", ""]))
+        file.write(armoured(blob))
     words = ["-Y", "verify", "-f", maker.path("allowed"), "-I", who, "-n", namespace, "-s", maker.path("armour")]
     words += ["-O", "verify-time=" + time.strftime("%Y%m%d%H%M%SZ", time.gmtime(at))]
     return maker.run(*words, input=message, check=False).returncode == 0
 
 
-def signers(maker, types, told, sign):
+def signers(maker):
     """Names, lines and answers."""
     keys = {"who": WHO, "key": maker.key("signer"), "other": maker.key("another-signer")}
     keys["tabbed"] = keys["key"].replace(" ", " \t ")
     keys["word"] = keys["key"].split(" ")[1]
     message = b"a commit\n"
-    made = signed(maker, "signer", message)
+    made = made_by(maker, "signer", message)
+    of_made = told_of_file(made, message)
 
-    def case(name, text, wanted, who=WHO, namespace=NAMESPACE, at=NOON, of=message, made=made, key=keys["key"], tell=True, same=True):
+    def case(name, text, wanted, who=WHO, namespace=NAMESPACE, at=NOON, of=message, blob=made, line=of_made, same=True):
         text = text.format(**keys).encode()
-        blob, covered, signature = made
         asked = "\t".join(["allowed-signer", text.hex(), who, namespace, str(at), of.hex(), blob.hex()])
-        line = told(key, signature, covered) if tell else None
-        if tell and says(maker, text, blob, of, who, namespace, at) != ((wanted == OK) == same):
+        if line and says(maker, text, blob, of, who, namespace, at) != ((wanted == OK) == same):
             wanted = f"{wanted}, and ssh-keygen says otherwise"
         return f"allowed signer: {name}", [line] if line else [], asked, wanted
 
@@ -216,24 +199,25 @@ def signers(maker, types, told, sign):
         yield case(name, text, wanted, same=False)
     for name, text, wanted, at in TIMES:
         yield case(name, text, wanted, at=at)
-    line = "{who} {key}\n"
-    yield case("another message", line, "not verified", of=b"another commit\n")
-    yield case("another namespace is asked for", line, "not verified", namespace="file")
-    yield case("another identity is asked for", line, NO, who="bob@example.com")
+    text = "{who} {key}\n"
+    yield case("another message", text, "not verified", of=b"another commit\n")
+    yield case("another namespace is asked for", text, "not verified", namespace="file")
+    yield case("another identity is asked for", text, NO, who="bob@example.com")
     yield case("nobody is asked for", "* {key}\n", OK, who="")
     yield case("two days later", '{who} valid-before="20240102" {key}\n', NO, at=NOON + 2 * 86400)
     yield case("two days before", '{who} valid-after="20240101" {key}\n', NO, at=NOON - 2 * 86400)
-    for number, kind in enumerate(types):
+    for number, kind in enumerate(TYPES):
         name = f"signer{number}"
         keys["by"] = maker.key(name, kind)
-        yield case(f"by {kind}", "{who} {by}\n", OK, made=signed(maker, name, message), key=keys["by"])
-    yield case("a digest of 256 bits", line, OK, made=signed(maker, "signer", message, NAMESPACE, "-O", "hashalg=sha256"))
+        blob = made_by(maker, name, message)
+        yield case(f"by {kind}", "{who} {by}\n", OK, blob=blob, line=told_of_file(blob, message))
+    blob = made_by(maker, "signer", message, "-O", "hashalg=sha256")
+    yield case("a digest of 256 bits", text, OK, blob=blob, line=told_of_file(blob, message))
     keys["fresh"] = maker.key("fresh-signer")
-    fresh = signed(maker, "fresh-signer", message)
-    yield case("a signature that nobody verified", "{who} {fresh}\n", "not verified", made=fresh, key=keys["fresh"], tell=False)
-    reserved = reserving(maker, "signer", keys["key"], message, sign, b"x")
-    yield case("a reserved byte", line, "not verified", made=reserved)
-    reserved = reserving(maker, "signer", keys["key"], message, sign, b"")
-    yield case("a reserved byte that is not signed", line, "not verified", made=reserved, same=False)
-    cut = (made[0][:-1], *made[1:])
-    yield case("bytes that are no signature", line, "no signature", made=cut, tell=False)
+    fresh = made_by(maker, "fresh-signer", message)
+    yield case("a signature that nobody verified", "{who} {fresh}\n", "not verified", blob=fresh, line=None)
+    blob, line = reserving(maker, "signer", keys["key"], message, b"x")
+    yield case("a reserved byte", text, "not verified", blob=blob, line=line)
+    blob, line = reserving(maker, "signer", keys["key"], message, b"")
+    yield case("a reserved byte that is not signed", text, "not verified", blob=blob, line=line, same=False)
+    yield case("bytes that are no signature", text, "no signature", blob=made[:-1], line=None)

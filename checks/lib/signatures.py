@@ -1,4 +1,7 @@
-"""What the checks verify by the Python package `cryptography`: signatures as keys, certificates and agents hold them."""
+"""What the checks verify by the Python package `cryptography`: signatures as keys, certificates and agents hold them; and SSH
+signatures of files (PROTOCOL.sshsig)."""
+import base64
+import hashlib
 import sys
 
 from lib.harness import string, take
@@ -59,3 +62,34 @@ def signed(private, key, message):
         return string(b"rsa-sha2-512") + string(private.sign(message, padding.PKCS1v15(), hashes.SHA512()))
     r, s = utils.decode_dss_signature(private.sign(message, ec.ECDSA(HASHES[algorithm]())))
     return string(algorithm.encode()) + string(mpint(r) + mpint(s))
+
+
+# ---- SSH signatures
+
+
+def armoured(blob):
+    """The bytes as `ssh-keygen -Y sign` writes them."""
+    text = base64.b64encode(blob).decode()
+    rows = [text[at : at + 70] for at in range(0, len(text), 70)]
+    return "".join(f"{row}\n" for row in ["-----BEGIN SSH SIGNATURE-----", *rows, "-----END SSH SIGNATURE-----"])
+
+
+def unarmoured(text):
+    """The bytes that stand in such a text."""
+    return base64.b64decode("".join(text.splitlines()[1:-1]))
+
+
+def signed_data(namespace, reserved, name, content):
+    """What is signed in place of the content, by the hash of that name."""
+    digest = hashlib.new(name.decode(), content).digest()
+    return b"SSHSIG" + b"".join(map(string, (namespace, reserved, name, digest)))
+
+
+def told_of_file(blob, content):
+    """The line that tells the program of an SSH signature of the content, if it is one."""
+    key, rest = take(blob[len(b"SSHSIG") + 4 :])
+    namespace, rest = take(rest)
+    reserved, rest = take(rest)
+    name, rest = take(rest)
+    line = f"{take(key)[0].decode()} {base64.b64encode(key).decode()}"
+    return told(line, take(rest)[0], signed_data(namespace, reserved, name, content))
