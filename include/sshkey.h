@@ -13,23 +13,23 @@
  *
  * What you owe, which nothing checks:
  *
- *  - Both calls get the SAME certificate, of which no byte changed in between, and `verified` is what
- *    your verification said of the question of that certificate.
+ *  - Both calls get the SAME certificate, of which no byte changed in between, and `verified` is
+ *    what your verification said of the question of that certificate.
  *  - No pointer is null, also where the length beside it is 0: sshkey_bytes(p) below gives one that
  *    may be passed.
- *  - A length is the true one: so many bytes, all initialised, lie behind the pointer, in one object,
- *    and at most PTRDIFF_MAX of them.
- *  - What a call writes (room, answer, signer: the pointers without const) overlaps no other argument
- *    of the call, is initialised (zero it once), and nobody else reads or writes it during the call.
- *    What it only reads may overlap, and nobody writes it during the call.
+ *  - A length is the true one: so many bytes, all initialised, lie behind the pointer, in one
+ *    object, and at most PTRDIFF_MAX of them.
+ *  - What a call writes (room, answer, signer: the pointers without const) overlaps no other
+ *    argument of the call, is initialised (zero it once), and nobody else reads or writes it during
+ *    the call. What it only reads may overlap, and nobody writes it during the call.
  *  - malloc, realloc and free come from one allocator, and no call is made from a signal handler or
  *    from the forked child of a process with threads.
  *
  * In return no call keeps a pointer or hands one out, and there is no state: threads may call at
  * once. No call writes more than `room_length` bytes to a room. All that a call tells lies in the
  * room, and a part of it is a place and a number of bytes. Where the room is too short, the call
- * answers SSHKEY_ROOM, leaves the room as it was, and `length` says how many bytes are needed: a room
- * of 0 bytes asks for that.
+ * answers SSHKEY_ROOM and leaves the room as it was, and `length` says how many bytes are needed: a
+ * room of 0 bytes asks for that. Every other answer leaves nothing in room and answer to rely on.
  */
 #ifndef SSHKEY_H
 #define SSHKEY_H
@@ -52,16 +52,17 @@ enum {
   /* 10 to 29: the bytes are no certificate, key or signature; the first fault from the left */
   SSHKEY_CHARACTER_ENCODING = 11, /* a text is not UTF-8 */
   SSHKEY_LABEL = 12,              /* a name that is none of those that may stand there */
-  SSHKEY_LENGTH = 13,             /* a stated length passes the bytes, or is not the wanted one */
+  SSHKEY_LENGTH = 13,             /* a stated length passes the bytes, or is not the one wanted */
   SSHKEY_TRAILING_DATA = 14,      /* bytes stand behind the end */
-  SSHKEY_FORMAT_ENCODING = 15,
-  SSHKEY_ALGORITHM_UNKNOWN = 16,
-  SSHKEY_CRYPTO = 17,
-  SSHKEY_ECDSA = 18,
-  SSHKEY_TIME = 19,
-  SSHKEY_NAMESPACE = 20,
-  SSHKEY_PUBLIC_KEY = 21,
-  SSHKEY_VERSION = 22,
+  SSHKEY_FORMAT = 15,             /* a value does not keep the form of its kind */
+  SSHKEY_ALGORITHM_UNKNOWN = 16,  /* two names differ that have to be one */
+  SSHKEY_CRYPTO = 17,             /* a number in a signature is not positive */
+  SSHKEY_ECDSA = 18,              /* no encoding of a point */
+  SSHKEY_TIME = 19,               /* a time above 2^63 - 1 in the certificate */
+  SSHKEY_NAMESPACE = 20,          /* an empty namespace in the SSH signature */
+  SSHKEY_PUBLIC_KEY = 21,         /* the key in the SSH signature is none */
+  SSHKEY_VERSION = 22,            /* an SSH signature of a version above 1 */
+  SSHKEY_OTHER_FAULT = 23,
 
   /* 30 to 34: what is wrong with a certificate that is not valid; the first of these */
   SSHKEY_NOT_SIGNED = 30,      /* it raises no question, or `verified` is not 1 */
@@ -88,18 +89,22 @@ typedef struct {
   uint8_t bytes[32];
 } sshkey_sha256;
 
-/* How a signature is made. In the key's blob (RFC 4253, section 6.6) all is strings, four bytes of
- * length and so many bytes; the first is the name of the key's type. Numbers are big-endian, and may
- * have a 0 in front. */
+/* How a signature is made. A key's blob (RFC 4253, section 6.6) is strings, one behind the other:
+ * four bytes of length, big-endian, and so many bytes. The first is the name of the key's type. So
+ * are the signatures of ECDSA. Numbers are big-endian, and may have a 0 in front. */
 enum {
-  SSHKEY_ASK_DSA = 1,        /* with SHA-1; behind the name p, q, g, y; signature: r and s, 20 bytes each */
-  SSHKEY_ASK_P256 = 2,       /* ECDSA with SHA-256; behind the name the curve's name, and the point as in
-                                SEC 1; signature: two strings, r and s */
-  SSHKEY_ASK_P384 = 3,       /* the same with SHA-384 */
-  SSHKEY_ASK_P521 = 4,       /* the same with SHA-512 */
-  SSHKEY_ASK_ED25519 = 5,    /* behind the name the key, 32 bytes; signature: 64 bytes */
-  SSHKEY_ASK_RSA_SHA256 = 6, /* PKCS#1 v1.5 with SHA-256; behind the name e, n; signature: its bytes */
-  SSHKEY_ASK_RSA_SHA512 = 7  /* the same with SHA-512 */
+  /* with SHA-1; behind the name p, q, g, y; signature: r and s, 20 bytes each */
+  SSHKEY_ASK_DSA = 1,
+  /* ECDSA; behind the name the curve's name, and the point as in SEC 1; signature: two strings, r
+   * and s */
+  SSHKEY_ASK_P256 = 2, /* with SHA-256 */
+  SSHKEY_ASK_P384 = 3, /* with SHA-384 */
+  SSHKEY_ASK_P521 = 4, /* with SHA-512 */
+  /* behind the name the key, 32 bytes; signature: 64 bytes */
+  SSHKEY_ASK_ED25519 = 5,
+  /* PKCS#1 v1.5; behind the name e and n; signature: a number */
+  SSHKEY_ASK_RSA_SHA256 = 6, /* with SHA-256 */
+  SSHKEY_ASK_RSA_SHA512 = 7  /* with SHA-512 */
 };
 
 /* What has to be verified: that `signature` is one of `message` under `key`, made as `algorithm`
@@ -150,9 +155,12 @@ uint32_t sshkey_certificate_validate_for(const uint8_t *certificate, size_t cert
  * SSHKEY_DONE exactly if the bytes are a key, SSHKEY_MEMORY aside; else 10 to 29. */
 uint32_t sshkey_fingerprint(const uint8_t *key, size_t key_length, sshkey_sha256 *answer);
 
-/* Writes the text of a SHA-256 fingerprint to the front of the room, as ssh-keygen shows it:
- * "SHA256:" and 43 characters, 50 bytes without a zero behind them. SSHKEY_DONE, SSHKEY_ROOM where the
- * room is shorter, or SSHKEY_MEMORY. */
+/* How many bytes the text of a SHA-256 fingerprint has, as ssh-keygen shows it: "SHA256:" and 43
+ * characters. */
+#define SSHKEY_FINGERPRINT_TEXT 50
+
+/* Writes that text to the front of the room, without a zero behind it. SSHKEY_DONE, SSHKEY_ROOM
+ * where the room has fewer bytes, or SSHKEY_MEMORY. */
 uint32_t sshkey_fingerprint_text(const sshkey_sha256 *digest, uint8_t *room, size_t room_length);
 
 /* ---- signatures (PROTOCOL.sshsig) ------------------------------------------------------------ */
@@ -161,9 +169,9 @@ uint32_t sshkey_fingerprint_text(const sshkey_sha256 *digest, uint8_t *room, siz
  * fingerprint of the key that signed: whether that key may sign is yours to judge. The signature is
  * what stands in the armour, Base64 decoded.
  *
- * SSHKEY_DONE exactly if the bytes are an SSH signature for that namespace whose key and signature go
- * together (memory and room aside); else SSHKEY_OTHER_NAMESPACE, SSHKEY_UNSUPPORTED, or 10 to 29 for
- * bytes that are no signature. */
+ * SSHKEY_DONE exactly if the bytes are an SSH signature for that namespace whose key and signature
+ * go together (memory and room aside); else SSHKEY_OTHER_NAMESPACE, SSHKEY_UNSUPPORTED, or 10 to 29
+ * for bytes that are no signature. A room of twice its length and 256 bytes is enough. */
 uint32_t sshkey_signature_question(const uint8_t *signature, size_t signature_length,
                                    const uint8_t *name_space, size_t name_space_length,
                                    const uint8_t *message, size_t message_length, uint8_t *room,

@@ -6,11 +6,11 @@
  *     AuthorizedPrincipalsCommand /usr/local/bin/principals /etc/ssh/authorities %u %k
  *     AuthorizedPrincipalsCommandUser nobody
  *
- * Lines of /etc/ssh/authorities are `USER[,USER..] TYPE BASE64 [COMMENT]`. The user is let in if the
- * certificate is valid now, for a principal of that name, by an authority of a line that has the
- * user: then the name is printed, which is the principal that sshd looks for. Else nothing is
- * printed on standard output, standard error says why, and the status is 1. That it is a user
- * certificate, that it lists a principal at all, and what its options say, sshd itself judges. */
+ * Lines of /etc/ssh/authorities are `USER[,USER..] TYPE BASE64 [COMMENT]`. The user is let in if
+ * the certificate is valid now, for a principal of that name, by an authority of a line that has the
+ * user: then the name is printed, which is the principal that sshd looks for. Else nothing is printed
+ * on standard output, standard error says why, and the status is 1. That it is a user certificate,
+ * that it lists a principal at all, and what its options say, sshd itself judges. */
 #include <stdio.h>
 #include <stdlib.h>
 #include <string.h>

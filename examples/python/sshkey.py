@@ -30,7 +30,7 @@ class Status(enum.IntEnum):
     LABEL = 12
     LENGTH = 13
     TRAILING_DATA = 14
-    FORMAT_ENCODING = 15
+    FORMAT = 15
     ALGORITHM_UNKNOWN = 16
     CRYPTO = 17
     ECDSA = 18
@@ -38,6 +38,7 @@ class Status(enum.IntEnum):
     NAMESPACE = 20
     PUBLIC_KEY = 21
     VERSION = 22
+    OTHER_FAULT = 23
     NOT_SIGNED = 30
     OTHER_AUTHORITY = 31
     NO_TIME = 32
