@@ -14,7 +14,7 @@ use sshkey_calls::{
 };
 use std::alloc::Global;
 
-/// `sshkey_calls::certificate_question`.
+/// What has to be verified of a certificate: `sshkey_calls::certificate_question`.
 #[unsafe(no_mangle)]
 pub extern "C" fn sshkey_certificate_question(
     alloc: Global,
@@ -29,7 +29,7 @@ pub extern "C" fn sshkey_certificate_question(
     certificate_question(alloc, certificate, room, answer)
 }
 
-/// `sshkey_calls::certificate_validate`.
+/// Whether a certificate is valid: `sshkey_calls::certificate_validate`.
 #[unsafe(no_mangle)]
 pub extern "C" fn sshkey_certificate_validate(
     alloc: Global,
@@ -49,7 +49,7 @@ pub extern "C" fn sshkey_certificate_validate(
     certificate_validate(alloc, certificate, unix_time, authorities, verified)
 }
 
-/// `sshkey_calls::certificate_validate_for`.
+/// Whether a certificate is valid for a principal: `sshkey_calls::certificate_validate_for`.
 #[unsafe(no_mangle)]
 pub extern "C" fn sshkey_certificate_validate_for(
     alloc: Global,
