@@ -1,0 +1,5 @@
+pub mod Kept
+pub mod Laid
+pub mod Questions
+pub mod Signatures
+pub mod Verdicts

@@ -1,0 +1,6 @@
+pub mod Numbers
+pub mod Rooms
+pub mod Fingerprints
+pub mod Questions
+pub mod Signatures
+pub mod Verdicts
