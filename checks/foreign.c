@@ -4,7 +4,9 @@
  *     certificate BYTES                      what has to be verified
  *     signature BYTES NAMESPACE MESSAGE      the same, and the signer
  *     validate BYTES SECOND PRINCIPAL|* AUTHORITY VERIFIED
+ *     fields BYTES                           numbers of a certificate
  *     key BYTES                              the fingerprint, and its text
+ *     strings BYTES                          the strings that the bytes are, from each place
  *     rooms BYTES                            certificate with each room that is too short
  *     layout                                 sizes and offsets of structs
  *
@@ -112,11 +114,13 @@ static void ask_validate(blob certificate, const char *second, const char *princ
   size_t count = authority.length / sizeof(sshkey_sha256);
   sshkey_sha256 *keys = (sshkey_sha256 *)authority.bytes;
   blob name = bytes_of(principal[0] == '*' ? "-" : principal);
-  uint32_t answer =
-      principal[0] == '*'
-          ? sshkey_certificate_validate(certificate.bytes, certificate.length, now, keys, count, yes)
-          : sshkey_certificate_validate_for(certificate.bytes, certificate.length, now, name.bytes,
-                                            name.length, keys, count, yes);
+  uint32_t answer;
+  if (principal[0] == '*')
+    answer = sshkey_certificate_validate(certificate.bytes, certificate.length, now, keys, count,
+                                         yes);
+  else
+    answer = sshkey_certificate_validate_for(certificate.bytes, certificate.length, now, name.bytes,
+                                             name.length, keys, count, yes);
   printf("%" PRIu32, answer);
   free(name.bytes);
 }
@@ -137,6 +141,32 @@ static void ask_key(blob key) {
   free(digest);
   free(text.bytes);
   free(shorter.bytes);
+}
+
+static void ask_fields(blob certificate) {
+  sshkey_fields *fields = calloc(1, sizeof *fields);
+  if (!fields) exit(3);
+  uint32_t answer = sshkey_certificate_fields(certificate.bytes, certificate.length, fields);
+  printf("%" PRIu32, answer);
+  if (answer == SSHKEY_DONE) {
+    printf(" %" PRIu64 " %" PRIu64 " %" PRIu64, fields->serial, fields->valid_after,
+           fields->valid_before);
+    printf(" %" PRIu32 " %" PRIu32 " %" PRIu32, fields->certificate_type, fields->lists_principals,
+           fields->has_critical_options);
+  }
+  free(fields);
+}
+
+/* What is answered at each place, and at some behind the end. */
+static void ask_strings(blob bytes) {
+  size_t places[] = {bytes.length + 1, bytes.length + 4, SIZE_MAX - 4, SIZE_MAX};
+  for (size_t at = 0; at <= bytes.length + 4; at++) {
+    size_t place = at <= bytes.length ? at : places[at - bytes.length - 1];
+    sshkey_part part = {7, 7};
+    uint32_t answer = sshkey_string(bytes.bytes, bytes.length, place, &part);
+    printf("%s%" PRIu32, at ? " " : "", answer);
+    if (answer == SSHKEY_DONE) printf(":%zu:%zu", part.start, part.length);
+  }
 }
 
 /* Whether a call with that room answers as it has to, where so many bytes are needed. */
@@ -173,6 +203,13 @@ static void ask_layout(void) {
   OFFSET(sshkey_part, length);
   SIZE(sshkey_sha256);
   OFFSET(sshkey_sha256, bytes);
+  SIZE(sshkey_fields);
+  OFFSET(sshkey_fields, serial);
+  OFFSET(sshkey_fields, valid_after);
+  OFFSET(sshkey_fields, valid_before);
+  OFFSET(sshkey_fields, certificate_type);
+  OFFSET(sshkey_fields, lists_principals);
+  OFFSET(sshkey_fields, has_critical_options);
   SIZE(sshkey_question);
   OFFSET(sshkey_question, key);
   OFFSET(sshkey_question, message);
@@ -192,6 +229,10 @@ static void ask(char **words) {
     ask_certificate(first);
   } else if (!strcmp(what, "rooms")) {
     ask_rooms(first);
+  } else if (!strcmp(what, "fields")) {
+    ask_fields(first);
+  } else if (!strcmp(what, "strings")) {
+    ask_strings(first);
   } else if (!strcmp(what, "key")) {
     ask_key(first);
   } else if (!strcmp(what, "signature")) {

@@ -47,6 +47,7 @@ enum {
   SSHKEY_DONE = 0,   /* done; of a validation: it is valid */
   SSHKEY_MEMORY = 1, /* malloc refused; nothing is said of the input */
   SSHKEY_ROOM = 2,   /* the room is too short; `length` says how many bytes are needed */
+  SSHKEY_END = 3,    /* the place is the end of the bytes */
   SSHKEY_TEXT = 4,   /* the principal is not UTF-8; nothing is said of the certificate */
 
   /* 10 to 29: the bytes are no certificate, key or signature; the first fault from the left */
@@ -78,7 +79,7 @@ enum {
 
 /* ---- what is written ------------------------------------------------------------------------- */
 
-/* A part of a room: where it begins, and how many bytes it has. */
+/* A part of a room, or of other bytes: where it begins, and how many bytes it has. */
 typedef struct {
   size_t start;
   size_t length;
@@ -91,7 +92,8 @@ typedef struct {
 
 /* How a signature is made. A key's blob (RFC 4253, section 6.6) is strings, one behind the other:
  * four bytes of length, big-endian, and so many bytes. The first is the name of the key's type. So
- * are the signatures of ECDSA. Numbers are big-endian, and may have a 0 in front. */
+ * are the signatures of ECDSA. sshkey_string goes over them. Numbers are big-endian, and may have a
+ * 0 in front. */
 enum {
   /* with SHA-1; behind the name p, q, g, y; signature: r and s, 20 bytes each */
   SSHKEY_ASK_DSA = 1,
@@ -149,6 +151,21 @@ uint32_t sshkey_certificate_validate_for(const uint8_t *certificate, size_t cert
                                          size_t principal_length, const sshkey_sha256 *authorities,
                                          size_t authority_count, uint32_t verified);
 
+/* What a policy asks of a certificate. */
+typedef struct {
+  uint64_t serial;
+  uint64_t valid_after;          /* the first second of its window */
+  uint64_t valid_before;         /* the first second behind its window; 2^64 - 1 if it has no end */
+  uint32_t certificate_type;     /* 1 for users, 2 for hosts */
+  uint32_t lists_principals;     /* 0 where it lists none, and so allows everybody; else 1 */
+  uint32_t has_critical_options; /* 0 where it has none; else 1: refuse it, or know them all */
+} sshkey_fields;
+
+/* The fields of a certificate, whether it is valid or not. SSHKEY_DONE exactly if the bytes are a
+ * certificate; else 10 to 29. Takes no memory. */
+uint32_t sshkey_certificate_fields(const uint8_t *certificate, size_t certificate_length,
+                                   sshkey_fields *answer);
+
 /* ---- keys ------------------------------------------------------------------------------------ */
 
 /* The SHA-256 fingerprint of the key of that blob, as sshkey_certificate_validate takes it.
@@ -178,6 +195,13 @@ uint32_t sshkey_signature_question(const uint8_t *signature, size_t signature_le
                                    size_t room_length, sshkey_question *answer,
                                    sshkey_sha256 *signer);
 
+/* ---- strings (RFC 4251, section 5) ----------------------------------------------------------- */
+
+/* The string that begins at that place: four bytes of length, and so many bytes, which are the
+ * answer. The next begins at answer.start + answer.length. SSHKEY_DONE exactly if one stands there;
+ * SSHKEY_END at the end of the bytes, else SSHKEY_LENGTH. Takes no memory. */
+uint32_t sshkey_string(const uint8_t *bytes, size_t length, size_t place, sshkey_part *answer);
+
 /* ---------------------------------------------------------------------------------------------- */
 
 /* A pointer that may be passed beside the length 0, whatever `bytes` is. */
@@ -203,6 +227,13 @@ SSHKEY_IS(offsetof(sshkey_question, signature) == 32);
 SSHKEY_IS(offsetof(sshkey_question, length) == 48);
 SSHKEY_IS(offsetof(sshkey_question, algorithm) == 56);
 SSHKEY_IS(sizeof(sshkey_question) == 64);
+SSHKEY_IS(offsetof(sshkey_fields, serial) == 0);
+SSHKEY_IS(offsetof(sshkey_fields, valid_after) == 8);
+SSHKEY_IS(offsetof(sshkey_fields, valid_before) == 16);
+SSHKEY_IS(offsetof(sshkey_fields, certificate_type) == 24);
+SSHKEY_IS(offsetof(sshkey_fields, lists_principals) == 28);
+SSHKEY_IS(offsetof(sshkey_fields, has_critical_options) == 32);
+SSHKEY_IS(sizeof(sshkey_fields) == 40);
 #undef SSHKEY_IS
 
 #ifdef __cplusplus

@@ -7,10 +7,10 @@
  *     AuthorizedPrincipalsCommandUser nobody
  *
  * Lines of /etc/ssh/authorities are `USER[,USER..] TYPE BASE64 [COMMENT]`. The user is let in if
- * the certificate is valid now, for a principal of that name, by an authority of a line that has the
- * user: then the name is printed, which is the principal that sshd looks for. Else nothing is printed
- * on standard output, standard error says why, and the status is 1. That it is a user certificate,
- * that it lists a principal at all, and what its options say, sshd itself judges. */
+ * the certificate is valid now, for a principal of that name, by an authority of a line that has
+ * the user, and is one for users that lists principals: then the name is printed, which is the
+ * principal that sshd looks for. Else nothing is printed on standard output, standard error says
+ * why, and the status is 1. What the options of the certificate say, sshd itself judges. */
 #include <stdio.h>
 #include <stdlib.h>
 #include <string.h>
@@ -45,6 +45,15 @@ static int read_authorities(FILE *file, const char *user, authorities *to) {
   return good;
 }
 
+/* Whether it is a certificate for users that lists principals: one that lists none allows all. */
+static int is_for_listed_users(blob certificate) {
+  sshkey_fields fields;
+  memset(&fields, 0, sizeof fields);
+  return sshkey_certificate_fields(sshkey_bytes(certificate.bytes), certificate.length, &fields) ==
+             SSHKEY_DONE &&
+         fields.certificate_type == 1 && fields.lists_principals;
+}
+
 int main(int count, char **words) {
   if (count != 4) {
     fprintf(stderr, "usage: principals AUTHORITIES USER CERTIFICATE\n");
@@ -61,6 +70,8 @@ int main(int count, char **words) {
     fprintf(stderr, "principals: a line of %s has no key\n", user);
   } else if (!decode(words[3], strlen(words[3]), &certificate)) {
     fprintf(stderr, "principals: the certificate is not Base64\n");
+  } else if (!is_for_listed_users(certificate)) {
+    fprintf(stderr, "principals: the certificate is not one for users that are listed\n");
   } else {
     uint32_t answer = judge(certificate, (uint64_t)time(NULL), user, by);
     status = answer != SSHKEY_DONE;

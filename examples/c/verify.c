@@ -20,14 +20,13 @@ static slice slice_of(const uint8_t *room, sshkey_part part) {
 
 /* The string in front of the bytes, which it takes away; empty where none stands there. */
 static slice take(slice *from) {
-  slice none = {from->bytes, 0};
-  if (from->length < 4) return none;
-  const uint8_t *at = from->bytes;
-  size_t length = (size_t)at[0] << 24 | (size_t)at[1] << 16 | (size_t)at[2] << 8 | at[3];
-  if (length > from->length - 4) return none;
-  slice string = {at + 4, length};
-  from->bytes += 4 + length;
-  from->length -= 4 + length;
+  sshkey_part part = {0, 0};
+  slice string = {from->bytes, 0};
+  if (sshkey_string(from->bytes, from->length, 0, &part) != SSHKEY_DONE) return string;
+  string.bytes += part.start;
+  string.length = part.length;
+  from->bytes += part.start + part.length;
+  from->length -= part.start + part.length;
   return string;
 }
 

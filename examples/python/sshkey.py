@@ -25,6 +25,7 @@ class Status(enum.IntEnum):
     DONE = 0
     MEMORY = 1
     ROOM = 2
+    END = 3
     TEXT = 4
     CHARACTER_ENCODING = 11
     LABEL = 12
@@ -99,6 +100,16 @@ class Sha256(ctypes.Structure):
     _fields_ = [("bytes", ctypes.c_uint8 * 32)]
 
 
+class Fields(ctypes.Structure):
+    """sshkey_fields: serial, valid_after, valid_before, certificate_type (1 for users, 2 for hosts), lists_principals and
+    has_critical_options (0 or 1)"""
+
+    _fields_ = [
+        ("serial", ctypes.c_uint64), ("valid_after", ctypes.c_uint64), ("valid_before", ctypes.c_uint64),
+        ("certificate_type", ctypes.c_uint32), ("lists_principals", ctypes.c_uint32), ("has_critical_options", ctypes.c_uint32),
+    ]  # fmt: skip
+
+
 HERE = os.path.dirname(os.path.abspath(__file__))
 BUILT = os.path.join(HERE, "..", "out", "libsshkey.so")
 # bytes that are only read: a pointer and a length
@@ -110,9 +121,11 @@ CALLS = {
     "sshkey_certificate_question": (*BYTES, *ROOM, ctypes.POINTER(Asked)),
     "sshkey_certificate_validate": (*BYTES, ctypes.c_uint64, *DIGESTS, ctypes.c_uint32),
     "sshkey_certificate_validate_for": (*BYTES, ctypes.c_uint64, *BYTES, *DIGESTS, ctypes.c_uint32),
+    "sshkey_certificate_fields": (*BYTES, ctypes.POINTER(Fields)),
     "sshkey_fingerprint": (*BYTES, ctypes.POINTER(Sha256)),
     "sshkey_fingerprint_text": (ctypes.POINTER(Sha256), *ROOM),
     "sshkey_signature_question": (*BYTES, *BYTES, *BYTES, *ROOM, ctypes.POINTER(Asked), ctypes.POINTER(Sha256)),
+    "sshkey_string": (*BYTES, ctypes.c_size_t, ctypes.POINTER(Part)),
 }
 
 
@@ -187,6 +200,13 @@ def validate_certificate(certificate, now, authorities, verified, principal=None
     return status
 
 
+def certificate_fields(certificate):
+    """What a policy asks of a certificate, valid or not. Refused where the bytes are none."""
+    answer = Fields()
+    _done(_LIBRARY.sshkey_certificate_fields(*_bytes(certificate), ctypes.byref(answer)))
+    return answer
+
+
 def fingerprint(key):
     """The SHA-256 fingerprint of a key, given as its blob: 32 bytes. Refused where the bytes are no key."""
     answer = Sha256()
@@ -214,12 +234,12 @@ def signature_question(signature, namespace, message):
 
 
 def strings(blob):
-    """The strings, one behind the other, that the bytes of a question's key or of an ECDSA signature are."""
-    found = []
-    while blob:
-        length = int.from_bytes(blob[:4], "big")
-        if len(blob) < 4 + length:
-            raise Refused(Status.LENGTH)
-        found.append(blob[4 : 4 + length])
-        blob = blob[4 + length :]
+    """The strings, one behind the other, that the bytes of a question's key or of an ECDSA signature are. Refused where they are
+    none."""
+    found, place, part = [], 0, Part()
+    blob, length = _bytes(blob)
+    while (status := _LIBRARY.sshkey_string(blob, length, place, ctypes.byref(part))) != Status.END:
+        _done(status)
+        place = part.start + part.length
+        found.append(blob[part.start : place])
     return found
