@@ -1,8 +1,4 @@
-use Rattle.std.proofs.Common.{◌≡◌, ◌≢◌, refl, sym, ap, ◌∙◌}
-use Rattle.sshkey_base.specs.Causes.{NoMemory, cause}
-use Rattle.sshkey_base.specs.Reading.{NoSpelling}
-use Rattle.sshkey_model.specs.SshSignatures.{SshSignature}
-use Rattle.sshkey_sshsig.specs.SshSignatureReaders.{SpellsSshSignature}
+use Rattle.std.proofs.Common.{refl}
 use Rattle.sshkey_sshsig.specs.SshSignatures.{ssh_signature_of}
 use Rattle.sshkey_calls.proofs.Signatures.{asked_by, digest_of_each, in_its_namespace, none_asked, other_namespace}
 use Rattle.sshkey_calls.proofs.signature.signature_question.Goals as goal
