@@ -5,12 +5,14 @@ ghost use Rattle.std.specs.Str.{IsUtf8};
 ghost use Rattle.sshkey_model.specs.Certificates.{certificate_at};
 ghost use Rattle.sshkey_model.specs.Reading.{Fault, whole};
 ghost use Rattle.sshkey_model.specs.Verification.{Question as TheQuestion};
+ghost use Rattle.sshkey_calls.specs.Fields.{GivesFields};
 ghost use Rattle.sshkey_calls.specs.Numbers.{fault_number};
 ghost use Rattle.sshkey_calls.specs.Questions.{Asks, RaisedBy};
 ghost use Rattle.sshkey_calls.specs.Verdicts.{IsGood, IsGoodFor, Says, TellsFirst, TellsFirstFor, Verified, authorities_of};
 
 use sshkey_calls::{
-    Question, Sha256Digest, certificate_question, certificate_validate, certificate_validate_for,
+    CertificateFields, Question, Sha256Digest, certificate_fields, certificate_question,
+    certificate_validate, certificate_validate_for,
 };
 use std::alloc::Global;
 
@@ -22,7 +24,7 @@ pub extern "C" fn sshkey_certificate_question(
     room: &mut [u8],
     answer: &mut Question,
 ) -> u32
-    ensures asks { Asks (RaisedBy certificate.now) result answer.new room.old room.new }
+    ensures raised { Asks (RaisedBy certificate.now) result answer.new room.old room.new }
     ensures fault { (fault : Fault) → whole certificate_at certificate.now ≡ Err fault
         → result ≡ fault_number fault }
 {
@@ -79,4 +81,17 @@ pub extern "C" fn sshkey_certificate_validate_for(
         authorities,
         verified,
     )
+}
+
+/// The fields of a certificate that a policy asks for: `sshkey_calls::certificate_fields`.
+#[unsafe(no_mangle)]
+pub extern "C" fn sshkey_certificate_fields(
+    certificate: &[u8],
+    answer: &mut CertificateFields,
+) -> u32
+    ensures fields { GivesFields certificate.now result answer.new }
+    ensures fault { (fault : Fault) → whole certificate_at certificate.now ≡ Err fault
+        → result ≡ fault_number fault }
+{
+    certificate_fields(certificate, answer)
 }

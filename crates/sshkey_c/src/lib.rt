@@ -8,3 +8,4 @@
 mod certificate;
 mod key;
 mod signature;
+mod walk;

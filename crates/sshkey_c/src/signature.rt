@@ -22,7 +22,7 @@ pub extern "C" fn sshkey_signature_question(
     answer: &mut Question,
     signer: &mut Sha256Digest,
 ) -> u32
-    ensures asks { Asks (RaisedBySignature signature.now namespace.now message.now)
+    ensures raised { Asks (RaisedBySignature signature.now namespace.now message.now)
         result answer.new room.old room.new }
     ensures signer { result ≡ 0 → IsSignerOf signature.now signer.new.bytes }
     ensures namespace { (f : SshSignature) → SpellsSshSignature f signature.now

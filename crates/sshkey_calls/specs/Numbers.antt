@@ -1,6 +1,6 @@
 -- The numbers that calls answer with.
 use Rattle.std.specs.Prelude.{ℕ, Option, Some, None}
-use Rattle.sshkey_model.specs.Names.{Algorithm, Hash, Sha256, Sha512, Nistp256, Nistp384, Nistp521}
+use Rattle.sshkey_model.specs.Names.{Algorithm, Sha256, Sha512, Nistp256, Nistp384, Nistp521}
 use Rattle.sshkey_model.specs.Reading.{Fault}
 use Rattle.sshkey_model.specs.Reading as fault
 use Rattle.sshkey_model.specs.Refusals.{Refusal, NotSigned, OtherAuthority, NoTime, OutOfWindow, OtherPrincipal}

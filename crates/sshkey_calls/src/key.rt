@@ -24,7 +24,7 @@ use std::alloc::Global;
 /// Returns 0 if they spell one, 1 if memory ran out, and else from 10 to 29 their fault. Memory is
 /// taken only for an RSA key under another name than `ssh-rsa`.
 pub fn fingerprint(alloc: Global, key: &[u8], answer: &mut Sha256Digest) -> u32
-    ensures digest { GivesDigest key.now result answer.new.bytes }
+    ensures fingerprint { GivesDigest key.now result answer.new.bytes }
     ensures fault { (fault : Fault) → whole key_data_at key.now ≡ Err fault
         → result ≡ fault_number fault }
 {

@@ -7,6 +7,7 @@
 #![tactic(auto)]
 
 mod digest;
+mod fields;
 mod key;
 mod number;
 mod part;
@@ -14,10 +15,13 @@ mod question;
 mod signature;
 mod validity;
 mod verdict;
+mod walk;
 
 pub use digest::Sha256Digest;
+pub use fields::{CertificateFields, certificate_fields};
 pub use key::{fingerprint, fingerprint_text};
 pub use part::Part;
 pub use question::{Question, certificate_question};
 pub use signature::signature_question;
 pub use validity::{certificate_validate, certificate_validate_for};
+pub use walk::next_string;

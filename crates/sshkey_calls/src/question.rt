@@ -47,7 +47,7 @@ pub fn certificate_question(
     room: &mut [u8],
     answer: &mut Question,
 ) -> u32
-    ensures asks { Asks (RaisedBy certificate.now) result answer.new room.old room.new }
+    ensures raised { Asks (RaisedBy certificate.now) result answer.new room.old room.new }
     ensures fault { (fault : Fault) → whole certificate_at certificate.now ≡ Err fault
         → result ≡ fault_number fault }
 {

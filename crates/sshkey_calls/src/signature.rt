@@ -40,7 +40,7 @@ pub fn signature_question(
     answer: &mut Question,
     signer: &mut Sha256Digest,
 ) -> u32
-    ensures asks { Asks (RaisedBySignature signature.now namespace.now message.now)
+    ensures raised { Asks (RaisedBySignature signature.now namespace.now message.now)
         result answer.new room.old room.new }
     ensures signer { result ≡ 0 → IsSignerOf signature.now signer.new.bytes }
     ensures namespace { (f : SshSignature) → SpellsSshSignature f signature.now
@@ -75,7 +75,7 @@ fn ask(
     answer: &mut Question,
     signer: &mut Sha256Digest,
 ) -> u32
-    ensures asks { Asks (λ q. question (ssh_signature_of read.now).key
+    ensures raised { Asks (λ q. question (ssh_signature_of read.now).key
         (signed_by (ssh_signature_of read.now) message.now)
         (ssh_signature_of read.now).signature ≡ Some q) result answer.new room.old room.new }
     ensures signer { result ≡ 0 → GivesDigestOf (ssh_signature_of read.now).key signer.new.bytes }

@@ -8,8 +8,8 @@ use Rattle.sshkey_calls.specs.Fingerprints.{GivesDigestOf}
 use Rattle.sshkey_calls.proofs.Kept.{kept_bytes}
 use Rattle.sshkey_calls.proofs.key.fingerprint.Goals as goal
 
-pub returns-in-Ok-clause-digest : goal.returns-in-Ok-clause-digest
-returns-in-Ok-clause-digest c =
+pub returns-in-Ok-clause-fingerprint : goal.returns-in-Ok-clause-fingerprint
+returns-in-Ok-clause-fingerprint c =
     let same = kept_bytes key_bytes cause c.args.key.now c.in-Ok.key (whole key_data_at c.args.key.now) c.in-Ok.ensures.keeps in
     record {
       given = λ zero_. subst (λ (b : List ℕ). (k : Key) × SpellsKey k b × GivesDigestOf k c.write_digest.new.answer.bytes) same (c.write_digest.ensures.digest zero_);

@@ -1,4 +1,4 @@
-use Rattle.std.proofs.Common.{◌≡◌, true, false, refl, sym, subst, ◌∙◌, ℕ, List}
+use Rattle.std.proofs.Common.{refl}
 use Rattle.sshkey_keys.specs.Questions.{question_of}
 use Rattle.sshkey_calls.specs.Questions.{IsLaidOut}
 use Rattle.sshkey_calls.proofs.Questions.{answers}

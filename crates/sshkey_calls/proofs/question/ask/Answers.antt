@@ -1,4 +1,4 @@
-use Rattle.std.proofs.Common.{◌≡◌, refl, sym, ◌∙◌}
+use Rattle.std.proofs.Common.{refl, sym, ◌∙◌}
 use Rattle.sshkey_calls.proofs.Questions.{no_memory, raised}
 use Rattle.sshkey_calls.proofs.question.ask.Goals as goal
 

@@ -1,4 +1,4 @@
-use Rattle.std.proofs.Common.{◌≡◌, ℕ, List, rules, sym, subst}
+use Rattle.std.proofs.Common.{◌≡◌, ℕ, List, rules, subst}
 use Rattle.sshkey_calls.specs.Verdicts.{TellsFirstFor, authorities_of}
 use Rattle.sshkey_calls.proofs.validity.certificate_validate_for.Goals as goal
 
