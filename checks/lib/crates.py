@@ -10,8 +10,9 @@ PARTS = ("src", "specs", "proofs")
 class Crate:
     """A crate of the repository, as a line of crates.txt gives it."""
 
-    def __init__(self, root, name, given, crates):
+    def __init__(self, root, name, given, crates, is_static=False):
         self.name = name
+        self.is_static = is_static
         self.folder = f"{root}/crates/{name}"
         self.own = [crates[it] for it in given if it in crates]
         self.of_kit = ["std", *(it for it in given if it not in crates)]
@@ -53,6 +54,7 @@ class Crate:
         is_program = os.path.isfile(f"{self.folder}/src/main.rt")
         words = [f"{kit}/bin/rattle", "check", "--crate-name", self.name]
         words += ["src/main.rt" if is_program else "src/lib.rt"]
+        words += ["--crate-type", "staticlib"] * self.is_static
         for name in self.of_kit:
             words += ["--extern", f"{name}={kit}/rlibs/{name}.rlib"]
         words += ["-L", f"dependency={kit}/rlibs"]
@@ -68,12 +70,14 @@ class Crate:
 
 def crates_of(root):
     """The crates that crates.txt lists, by their names, lowest first."""
-    lines = {}
+    lines, static = {}, set()
     with open(f"{root}/crates.txt", encoding="utf-8") as file:
         for line in file:
             name, colon, given = line.partition("#")[0].partition(":")
             if colon:
-                lines[name.split()[0]] = given.split()
+                name, *words = name.split()
+                lines[name] = given.split()
+                static |= {name} if "staticlib" in words else set()
     crates = {}
     while len(crates) < len(lines):
         ready = [
@@ -83,7 +87,7 @@ def crates_of(root):
         ]
         if not ready:
             sys.exit("crates.txt has a cycle")
-        crates.update({it: Crate(root, it, lines[it], crates) for it in ready})
+        crates.update({it: Crate(root, it, lines[it], crates, it in static) for it in ready})
     return crates
 
 

@@ -1,0 +1,108 @@
+"""What is linked for other languages, for checks/foreign: how it is built, the header, and what the shared library exports."""
+import ctypes
+import os
+import re
+import subprocess
+
+from lib.harness import ROOT
+
+EXAMPLES = os.path.join(ROOT, "examples")
+HEADER = os.path.join(ROOT, "include", "sshkey.h")
+SANITIZED = "-O1 -g -fsanitize=address,undefined -fno-sanitize-recover=all -fno-omit-frame-pointer"
+WARNINGS = ["-Wall", "-Wextra", "-pedantic", "-Werror"]
+C = ["cc", "-std=c11", "-D_POSIX_C_SOURCE=200809L", *WARNINGS, f"-I{ROOT}/include"]
+# what the library may take of the C library
+TAKEN = {"malloc", "realloc", "free", "memcpy", "memmove", "memset", "memcmp", "__cxa_finalize"}
+
+
+def run(words, **how):
+    return subprocess.run(words, **{"check": False, "capture_output": True, "text": True, **how})
+
+
+class Built:
+    """The libraries and programs, built in a folder: plain, and the C that calls the library with sanitizers."""
+
+    def __init__(self, folder, library):
+        self.plain, self.sanitized = f"{folder}/plain", f"{folder}/sanitized"
+        given = [f"LIBRARY={os.path.abspath(library)}"] if library else []
+        self.said = ""
+        self.made = self.make(self.plain, given, "-O2 -g") and self.make(self.sanitized, given, SANITIZED)
+
+    def make(self, out, given, flags):
+        made = run(["make", "-C", EXAMPLES, f"OUT={out}", f"CFLAGS={flags}", *given])
+        asks = [*C, *flags.split(), f"{ROOT}/checks/foreign.c", f"{out}/libsshkey.a", "-o", f"{out}/foreign"]
+        asking = run(asks) if made.returncode == 0 else made
+        self.said += made.stderr + asking.stderr
+        return made.returncode == 0 and asking.returncode == 0
+
+
+def declared():
+    """The calls that the header declares."""
+    with open(HEADER, encoding="ascii") as file:
+        return set(re.findall(r"^uint32_t (sshkey_\w+)\(", file.read(), re.M))
+
+
+def numbers(prefix):
+    """The constants of the header whose names begin so, without that beginning."""
+    with open(HEADER, encoding="ascii") as file:
+        return {name: int(value) for name, value in re.findall(rf"^  {prefix}_(\w+) = (\d+)", file.read(), re.M)}
+
+
+def exported():
+    """The exports of the crate."""
+    found = set()
+    for at, _, files in os.walk(f"{ROOT}/crates/sshkey_c/src"):
+        for name in files:
+            with open(f"{at}/{name}", encoding="utf-8") as file:
+                found |= set(re.findall(r'^pub extern "C" fn (\w+)\(', file.read(), re.M))
+    return found
+
+
+def symbols(library, *flags):
+    return {it.split()[-1].partition("@")[0] for it in run(["nm", "-D", *flags, library]).stdout.splitlines()}
+
+
+def check_header(count, folder):
+    for compiler, standard, ending in (("cc", "c11", "c"), ("c++", "c++17", "cc")):
+        path = f"{folder}/header.{ending}"
+        with open(path, "w", encoding="ascii") as file:
+            file.write('#include "sshkey.h"\nint main(void) { return sshkey_bytes(NULL) == NULL; }\n')
+        said = run([compiler, f"-std={standard}", *WARNINGS, f"-I{ROOT}/include", "-o", f"{path}.out", path])
+        count.check(f"the header is {standard}", said.returncode == 0 and not said.stderr, said.stderr[:2000])
+
+
+def check_symbols(count, built, sshkey):
+    library, calls = f"{built.plain}/libsshkey.so", declared()
+    count.check("the header declares what the crate exports", calls == exported(), calls ^ exported())
+    found = symbols(library, "--defined-only")
+    count.check("the shared library exports what the header declares, and nothing else", found == calls, found ^ calls)
+    taken = symbols(library, "--undefined-only") - TAKEN
+    taken = {it for it in taken if not it.startswith(("_ITM_", "__gmon_start__"))}
+    count.check("and takes memory and copying of the C library, and nothing else", not taken, taken)
+    count.check("the Python module has all calls", set(sshkey.CALLS) == calls, set(sshkey.CALLS) ^ calls)
+    names = {it.name: int(it) for it in sshkey.Status}, {it.name: int(it) for it in sshkey.Algorithm}
+    wanted = {name: it for name, it in numbers("SSHKEY").items() if not name.startswith("ASK_")}, numbers("SSHKEY_ASK")
+    count.check("and all numbers of the header", names == wanted, names, wanted)
+
+
+def check_layout(count, built, sshkey):
+    wanted = {}
+    structs = {"sshkey_part": sshkey.Part, "sshkey_sha256": sshkey.Sha256, "sshkey_question": sshkey.Asked}
+    for name, struct in {**structs, "sshkey_fields": sshkey.Fields}.items():
+        wanted[name] = ctypes.sizeof(struct)
+        wanted.update({f"{name}.{field}": getattr(struct, field).offset for field, _ in struct._fields_})
+    said = run([f"{built.plain}/foreign"], input="layout\n").stdout.split()
+    found = {name: int(value) for name, value in (it.split("=") for it in said)}
+    count.check("the structs of C lie as those of Python", found == wanted, found, wanted)
+
+
+def check_package(count, built, folder):
+    """A program of one line finds header and library by pkg-config, and runs."""
+    path = f"{folder}/linked"
+    with open(f"{path}.c", "w", encoding="ascii") as file:
+        file.write('#include "sshkey.h"\nint main(void) { sshkey_sha256 d = {{0}};')
+        file.write("return sshkey_fingerprint(sshkey_bytes(NULL), 0, &d) != SSHKEY_LENGTH; }\n")
+    words = run(["pkg-config", "--cflags", "--libs", "sshkey"], env={**os.environ, "PKG_CONFIG_PATH": built.plain})
+    made = run(["cc", "-std=c11", "-o", path, f"{path}.c", *words.stdout.split()])
+    ran = run([path], env={**os.environ, "LD_LIBRARY_PATH": built.plain}) if made.returncode == 0 else made
+    count.check("pkg-config finds the library", ran.returncode == 0, words.stderr, made.stderr, ran.returncode)

@@ -1,0 +1,93 @@
+"""Logins at a real sshd that asks examples/c/principals whom a certificate lets in, for checks/foreign."""
+import getpass
+import os
+import shlex
+import subprocess
+from concurrent.futures import ThreadPoolExecutor
+
+from .linked import run
+
+SSHD = "/usr/sbin/sshd"
+CONFIGURATION = """\
+HostKey {0}/host
+TrustedUserCAKeys {0}/trusted
+AuthorizedKeysFile none
+StrictModes no
+PidFile none
+UsePAM no
+PasswordAuthentication no
+KbdInteractiveAuthentication no
+PermitRootLogin yes
+LogLevel VERBOSE
+"""
+# sshd wants a program that nobody else can change, on its whole path, which a new folder is not: env is, and runs it
+COMMAND = """\
+AuthorizedPrincipalsCommand /usr/bin/env {1} {0}/authorities %u %k
+AuthorizedPrincipalsCommandUser {2}
+"""
+
+
+class Logins:
+    """Logins at a real sshd, over its standard input, with certificates that are made for it."""
+
+    def __init__(self, maker, program, me):
+        self.maker, self.me = maker, me
+        for name, kind in (("host", "ed25519"), ("own", "ed25519"), ("second", "ecdsa -b 256"), ("strange", "ed25519")):
+            maker.key(name, kind)
+        keys = {name: " ".join(maker.read(f"{name}.pub").split()[:2]) for name in ("own", "second", "strange")}
+        maker.write("trusted", "".join(f"{it}\n" for it in keys.values()))
+        lines = [f"{me},nobody {keys['own']}", f"x{me},{me} {keys['second']} a comment", f"x{me} {keys['strange']}"]
+        maker.write("authorities", "# who may sign for whom\n" + "".join(f"{it}\n" for it in lines))
+        maker.write("plain", CONFIGURATION.format(maker.folder))
+        maker.write("asking", CONFIGURATION.format(maker.folder) + COMMAND.format(maker.folder, program, me))
+
+    def is_let_in(self, number, user, authority, words, configuration="asking"):
+        key, log = f"login{number}", self.maker.path(f"login{number}.log")
+        self.maker.key(key, "ed25519")
+        self.maker.certificate(authority, key, *words)
+        sshd = f"{SSHD} -i -f {shlex.quote(self.maker.path(configuration))} -E {shlex.quote(log)}"
+        asked = ["ssh", "-F", "none", "-T", "-o", f"ProxyCommand={sshd}", "-i", self.maker.path(key)]
+        for option in (
+            "StrictHostKeyChecking=no", "UserKnownHostsFile=/dev/null", "BatchMode=yes", "IdentitiesOnly=yes",
+            "IdentityAgent=none", "LogLevel=ERROR", f"CertificateFile={self.maker.path(f'{key}-cert.pub')}",
+        ):  # fmt: skip
+            asked += ["-o", option]
+        run([*asked, f"{user}@localhost", "true"], stdin=subprocess.DEVNULL, timeout=60)
+        with open(log, encoding="utf-8", errors="replace") as file:
+            return f"Accepted publickey for {user} " in file.read()
+
+    def cases(self):
+        """Names, users, authorities, words for ssh-keygen, configurations, and whether the user is let in."""
+        me, now = self.me, ["-V", "-5m:+5m"]
+        yield "its user, by an authority of the user", me, "own", ["-n", me, *now], "asking", True
+        yield "the same by the other authority", me, "second", ["-n", f"y,{me}", *now], "asking", True
+        yield "another user's certificate", me, "own", ["-n", f"x{me}", *now], "asking", False
+        yield "an authority of another user, which sshd trusts", me, "strange", ["-n", me, *now], "asking", False
+        yield "where sshd alone lets in", me, "strange", ["-n", me, *now], "plain", True
+        yield "too early", me, "own", ["-n", me, "-V", "+5m:+6m"], "asking", False
+        yield "too late", me, "own", ["-n", me, "-V", "-6m:-5m"], "asking", False
+        yield "nobody is listed", me, "own", now, "asking", False
+        yield "for hosts", me, "own", ["-h", "-n", me, *now], "asking", False
+        if os.getuid() == 0:
+            yield "another user, by its own", "nobody", "own", ["-n", "nobody", *now], "asking", True
+            yield "another user, by the first one's", "nobody", "own", ["-n", me, *now], "asking", False
+            yield "another user, by an authority of the first", "nobody", "second", ["-n", "nobody", *now], "asking", False
+
+
+def check_logins(count, built, folder, maker_in):
+    """maker_in gives what makes keys and certificates in a folder."""
+    if not os.path.exists(SSHD):
+        count.check(f"{SSHD} (Debian: openssh-server)", False)
+        return
+    # where sshd separates its privileges
+    if os.getuid() == 0:
+        os.makedirs("/run/sshd", mode=0o755, exist_ok=True)
+    for name, out in (("plain", built.plain), ("with sanitizers", built.sanitized)):
+        room = f"{folder}/logins-{os.path.basename(out)}"
+        os.mkdir(room)
+        logins = Logins(maker_in(room), f"{out}/principals", getpass.getuser())
+        cases = list(logins.cases()) if out == built.plain else list(logins.cases())[:4]
+        with ThreadPoolExecutor(len(os.sched_getaffinity(0))) as pool:
+            found = pool.map(lambda it: logins.is_let_in(it[0], *it[1][1:5]), list(enumerate(cases)))
+            for (case, *_, wanted), is_let_in in zip(cases, found):
+                count.check(f"login by principals, {name}: {case}", is_let_in == wanted, is_let_in)

@@ -1,0 +1,97 @@
+//! What has to be verified of a certificate, and whether it is valid.
+
+ghost use Rattle.std.specs.Prelude.{◌≡◌, Bool, Err};
+ghost use Rattle.std.specs.Str.{IsUtf8};
+ghost use Rattle.sshkey_model.specs.Certificates.{certificate_at};
+ghost use Rattle.sshkey_model.specs.Reading.{Fault, whole};
+ghost use Rattle.sshkey_model.specs.Verification.{Question as TheQuestion};
+ghost use Rattle.sshkey_calls.specs.Fields.{GivesFields};
+ghost use Rattle.sshkey_calls.specs.Numbers.{fault_number};
+ghost use Rattle.sshkey_calls.specs.Questions.{Asks, RaisedBy};
+ghost use Rattle.sshkey_calls.specs.Verdicts.{IsGood, IsGoodFor, Says, TellsFirst, TellsFirstFor, Verified, authorities_of};
+
+use sshkey_calls::{
+    CertificateFields, Question, Sha256Digest, certificate_fields, certificate_question,
+    certificate_validate, certificate_validate_for,
+};
+use std::alloc::Global;
+
+/// What has to be verified of a certificate: `sshkey_calls::certificate_question`.
+#[unsafe(no_mangle)]
+pub extern "C" fn sshkey_certificate_question(
+    alloc: Global,
+    certificate: &[u8],
+    room: &mut [u8],
+    answer: &mut Question,
+) -> u32
+    ensures raised { Asks (RaisedBy certificate.now) result answer.new room.old room.new }
+    ensures fault { (fault : Fault) → whole certificate_at certificate.now ≡ Err fault
+        → result ≡ fault_number fault }
+{
+    certificate_question(alloc, certificate, room, answer)
+}
+
+/// Whether a certificate is valid: `sshkey_calls::certificate_validate`.
+#[unsafe(no_mangle)]
+pub extern "C" fn sshkey_certificate_validate(
+    alloc: Global,
+    certificate: &[u8],
+    unix_time: u64,
+    authorities: &[Sha256Digest],
+    verified: u32,
+) -> u32
+    ensures exactly { (accepts : TheQuestion → Bool) → Verified accepts certificate.now verified
+        → Says (IsGood accepts (authorities_of authorities.now) unix_time certificate.now)
+        result }
+    ensures first { (accepts : TheQuestion → Bool) → Verified accepts certificate.now verified
+        → TellsFirst accepts (authorities_of authorities.now) unix_time certificate.now result }
+    ensures fault { (fault : Fault) → whole certificate_at certificate.now ≡ Err fault
+        → result ≡ fault_number fault }
+{
+    certificate_validate(alloc, certificate, unix_time, authorities, verified)
+}
+
+/// Whether a certificate is valid for a principal: `sshkey_calls::certificate_validate_for`.
+#[unsafe(no_mangle)]
+pub extern "C" fn sshkey_certificate_validate_for(
+    alloc: Global,
+    certificate: &[u8],
+    unix_time: u64,
+    principal: &[u8],
+    authorities: &[Sha256Digest],
+    verified: u32,
+) -> u32
+    ensures exactly { IsUtf8 principal.now → (accepts : TheQuestion → Bool)
+        → Verified accepts certificate.now verified
+        → Says (IsGoodFor accepts (authorities_of authorities.now) unix_time principal.now
+        certificate.now) result }
+    ensures first { IsUtf8 principal.now → (accepts : TheQuestion → Bool)
+        → Verified accepts certificate.now verified
+        → TellsFirstFor accepts (authorities_of authorities.now) unix_time principal.now
+        certificate.now result }
+    ensures fault { IsUtf8 principal.now → (fault : Fault)
+        → whole certificate_at certificate.now ≡ Err fault → result ≡ fault_number fault }
+    ensures text { (IsUtf8 principal.now → ⊥) → result ≡ 4 }
+{
+    certificate_validate_for(
+        alloc,
+        certificate,
+        unix_time,
+        principal,
+        authorities,
+        verified,
+    )
+}
+
+/// The fields of a certificate that a policy asks for: `sshkey_calls::certificate_fields`.
+#[unsafe(no_mangle)]
+pub extern "C" fn sshkey_certificate_fields(
+    certificate: &[u8],
+    answer: &mut CertificateFields,
+) -> u32
+    ensures fields { GivesFields certificate.now result answer.new }
+    ensures fault { (fault : Fault) → whole certificate_at certificate.now ≡ Err fault
+        → result ≡ fault_number fault }
+{
+    certificate_fields(certificate, answer)
+}

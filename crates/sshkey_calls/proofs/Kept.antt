@@ -1,0 +1,16 @@
+-- Values that are slices, read from bytes.
+use Rattle.std.proofs.Common.{◌≡◌, List, ℕ, Result, Ok, Err}
+use Rattle.sshkey_model.specs.Reading.{Fault}
+use Rattle.sshkey_base.specs.Causes.{Cause}
+use Rattle.sshkey_slices.specs.Slices.{Keeps}
+
+module _ {X Y E : Type 0} (bytes_of : X → List ℕ) (cause : E → Cause) (b : List ℕ) (x : X) where
+  -- it keeps them
+  pub kept_bytes : (found : Result Y Fault) → Keeps bytes_of cause found b (Ok x) → bytes_of x ≡ b
+  kept_bytes (Ok y) h = h
+  kept_bytes (Err fault) h = absurd h
+
+  -- and they have no fault
+  pub no_fault : (found : Result Y Fault) (fault : Fault) → found ≡ Err fault → Keeps bytes_of cause found b (Ok x) → ⊥
+  no_fault (Ok y) fault is h = cc is
+  no_fault (Err other) fault is h = h

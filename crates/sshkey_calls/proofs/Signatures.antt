@@ -1,0 +1,37 @@
+-- The one SSH signature that bytes spell.
+use Rattle.std.proofs.Common.{◌≡◌, ◌≢◌, ℕ, List, [], Some, refl, subst, ap, ◌∙◌}
+use Rattle.sshkey_model.specs.SignedMessages.{signed_by}
+use Rattle.sshkey_model.specs.SshSignatures.{SshSignature}
+use Rattle.sshkey_model.specs.Verification as model
+use Rattle.sshkey_model.proofs.Grammars.{one_front}
+use Rattle.sshkey_sshsig.specs.SshSignatureReaders.{SpellsSshSignature, ssh_signature_grammar}
+use Rattle.sshkey_calls.specs.Fingerprints.{GivesDigestOf}
+use Rattle.sshkey_calls.specs.Questions.{Asks}
+use Rattle.sshkey_calls.specs.Signatures.{RaisedBySignature}
+use Rattle.sshkey_calls.specs.declared.question.Question.{Question}
+use Rattle.sshkey_calls.proofs.Questions.{none_raised, raised}
+
+pub one_signature : (f g : SshSignature) (bytes : List ℕ) → SpellsSshSignature f bytes → SpellsSshSignature g bytes → f ≡ g
+one_signature f g bytes spelled other = (one_front ssh_signature_grammar f g bytes bytes [] [] spelled other refl).0
+
+module _ (f : SshSignature) (bytes namespace message : List ℕ) (spelled : SpellsSshSignature f bytes) (n : ℕ) (answer : Question) (before after : List ℕ) where
+  abbrev Raises : SshSignature → model.Question → Type 0
+  Raises g q = model.question g.key (signed_by g message) g.signature ≡ Some q
+
+  pub asked_by : f.namespace ≡ namespace → Asks (Raises f) n answer before after → Asks (RaisedBySignature bytes namespace message) n answer before after
+  asked_by same = raised n answer before after
+      (λ q is. record { signature = f; spelled = spelled; in_namespace = same; raised = is })
+      (λ q is. subst (λ (g : SshSignature). Raises g q) (one_signature is.signature f bytes is.spelled spelled) is.raised)
+
+  pub other_namespace : n ≢ 0 → n ≢ 2 → f.namespace ≢ namespace → Asks (RaisedBySignature bytes namespace message) n answer before after
+  other_namespace some apart other = none_raised n answer before after some apart (λ _ q is. other (ap (λ (g : SshSignature). g.namespace) (one_signature f is.signature bytes spelled is.spelled) ∙ is.in_namespace))
+
+  pub in_its_namespace : f.namespace ≡ namespace → (g : SshSignature) → SpellsSshSignature g bytes → g.namespace ≢ namespace → ⊥
+  in_its_namespace same g is other = other (ap (λ (x : SshSignature). x.namespace) (one_signature g f bytes is spelled) ∙ same)
+
+  pub digest_of_each : (digest : List ℕ) → GivesDigestOf f.key digest → (g : SshSignature) → SpellsSshSignature g bytes → GivesDigestOf g.key digest
+  digest_of_each digest is g other = subst (λ (x : SshSignature). GivesDigestOf x.key digest) (one_signature f g bytes spelled other) is
+
+-- no bytes spell one
+pub none_asked : (bytes namespace message : List ℕ) (n : ℕ) (answer : Question) (before after : List ℕ) → n ≢ 0 → n ≢ 2 → (n ≢ 1 → (g : SshSignature) → SpellsSshSignature g bytes → ⊥) → Asks (RaisedBySignature bytes namespace message) n answer before after
+none_asked bytes namespace message n answer before after some apart none = none_raised n answer before after some apart (λ not_memory q is. none not_memory is.signature is.spelled)

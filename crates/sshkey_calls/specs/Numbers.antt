@@ -1,0 +1,45 @@
+-- The numbers that calls answer with.
+use Rattle.std.specs.Prelude.{ℕ, Option, Some, None}
+use Rattle.sshkey_model.specs.Names.{Algorithm, Sha256, Sha512, Nistp256, Nistp384, Nistp521}
+use Rattle.sshkey_model.specs.Reading.{Fault}
+use Rattle.sshkey_model.specs.Reading as fault
+use Rattle.sshkey_model.specs.Refusals.{Refusal, NotSigned, OtherAuthority, NoTime, OutOfWindow, OtherPrincipal}
+
+-- why bytes are none of what they are to be
+abbrev pub fault_number : Fault → ℕ
+fault_number fault.CharacterEncoding = 11
+fault_number fault.Label = 12
+fault_number fault.Length = 13
+fault_number (fault.TrailingData n) = 14
+fault_number fault.FormatEncoding = 15
+fault_number fault.AlgorithmUnknown = 16
+fault_number fault.Crypto = 17
+fault_number fault.Ecdsa = 18
+fault_number fault.Time = 19
+fault_number fault.Namespace = 20
+fault_number fault.PublicKey = 21
+fault_number (fault.Version n) = 22
+fault_number (fault.TrailingKeyData n) = 14
+
+-- what is wrong with a certificate first, and 0 where nothing is
+abbrev pub refusal_number : Option Refusal → ℕ
+refusal_number None = 0
+refusal_number (Some NotSigned) = 30
+refusal_number (Some OtherAuthority) = 31
+refusal_number (Some NoTime) = 32
+refusal_number (Some OutOfWindow) = 33
+refusal_number (Some OtherPrincipal) = 34
+
+-- the algorithm of a question; no question has one of the last
+abbrev pub algorithm_number : Algorithm → ℕ
+algorithm_number Algorithm.Dsa = 1
+algorithm_number (Algorithm.Ecdsa Nistp256) = 2
+algorithm_number (Algorithm.Ecdsa Nistp384) = 3
+algorithm_number (Algorithm.Ecdsa Nistp521) = 4
+algorithm_number Algorithm.Ed25519 = 5
+algorithm_number (Algorithm.Rsa (Some Sha256)) = 6
+algorithm_number (Algorithm.Rsa (Some Sha512)) = 7
+algorithm_number (Algorithm.Rsa None) = 0
+algorithm_number Algorithm.SkEcdsa = 0
+algorithm_number Algorithm.SkEd25519 = 0
+algorithm_number (Algorithm.Other name) = 0

@@ -1,0 +1,47 @@
+-- What is answered of a question.
+use Rattle.std.specs.Prelude.{◌≡◌, ◌≢◌, ℕ, ◌<◌, ◌+◌, List, ◌++◌, length, Some}
+use Rattle.sshkey_model.specs.Certificates.{Certificate}
+use Rattle.sshkey_model.specs.Keys.{normal_key}
+use Rattle.sshkey_model.specs.Parts.{flat}
+use Rattle.sshkey_model.specs.Verification as model
+use Rattle.sshkey_cert.specs.CertificateReaders.{SpellsCertificate}
+use Rattle.sshkey_cert_ref.specs.Questions.{certificate_question}
+use Rattle.sshkey_calls.specs.Numbers.{algorithm_number}
+use Rattle.sshkey_calls.specs.Rooms.{bytes_of}
+use Rattle.sshkey_calls.specs.declared.question.Question.{Question}
+
+-- the bytes spell a certificate that raises the question
+abbrev pub RaisedBy : List ℕ → model.Question → Type 0
+RaisedBy bytes q = (c : Certificate) × SpellsCertificate c bytes × (certificate_question c ≡ Some q)
+
+-- The answer is the question: each part of the room that it names has that field of it.
+pub record IsAnswer (q : model.Question) (answer : Question) (room : List ℕ) : Type 0 where
+  pub algorithm : answer.algorithm ≡ algorithm_number q.algorithm
+  pub key : bytes_of answer.key room ≡ flat (normal_key q.key)
+  pub message : bytes_of answer.message room ≡ q.message
+  pub signature : bytes_of answer.signature room ≡ q.blob
+
+-- so much room it takes
+abbrev pub room_for : model.Question → ℕ
+room_for q = length (flat (normal_key q.key)) + length q.message + length q.blob
+
+-- The room is too short for the question, and stays as it was; the answer says how much is needed.
+pub record IsTooShort (q : model.Question) (answer : Question) (before after : List ℕ) : Type 0 where
+  pub needed : answer.length ≡ room_for q
+  pub short : length before < room_for q
+  pub stays : after ≡ before
+
+-- The content of the room is the parts of the question, one behind the other, and the answer says where each is.
+pub record IsLaidOut (q : model.Question) (room : List ℕ) (answer : Question) : Type 0 where
+  pub content : room ≡ flat (normal_key q.key) ++ (q.message ++ q.blob)
+  pub algorithm : answer.algorithm ≡ algorithm_number q.algorithm
+  pub key : (answer.key.start ≡ 0) × (answer.key.length ≡ length (flat (normal_key q.key)))
+  pub message : (answer.message.start ≡ length (flat (normal_key q.key))) × (answer.message.length ≡ length q.message)
+  pub signature : (answer.signature.start ≡ length (flat (normal_key q.key)) + length q.message) × (answer.signature.length ≡ length q.blob)
+  pub length : answer.length ≡ room_for q
+
+-- What a call answers that looks for the one question that `Raised` tells: 0 with the question, 1 for memory, which says nothing, 2 where there is a question, and the room is too short for it; and every other number where there is none.
+pub record Asks (Raised : model.Question → Type 0) (n : ℕ) (answer : Question) (before after : List ℕ) : Type 0 where
+  pub asked : n ≡ 0 → (q : model.Question) × Raised q × IsAnswer q answer after
+  pub short : n ≡ 2 → (q : model.Question) × Raised q × IsTooShort q answer before after
+  pub none : n ≢ 0 → n ≢ 1 → n ≢ 2 → (q : model.Question) → Raised q → ⊥

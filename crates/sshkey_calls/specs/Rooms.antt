@@ -1,0 +1,12 @@
+-- Parts of the caller's room.
+use Rattle.std.specs.Prelude.{◌≡◌, ℕ, ◌<◌, List, ◌++◌, length, take, drop, Bool, true, false}
+use Rattle.sshkey_calls.specs.declared.part.Part.{Part}
+
+-- the bytes of the part
+abbrev pub bytes_of : Part → List ℕ → List ℕ
+bytes_of part room = take part.length (drop part.start room)
+
+-- The content stands at the front of the room, and nothing else changed; or nothing did, for it is longer than the room.
+abbrev pub Fills : List ℕ → List ℕ → Bool → List ℕ → Type 0
+Fills content before true after = after ≡ content ++ drop (length content) before
+Fills content before false after = (after ≡ before) × (length before < length content)

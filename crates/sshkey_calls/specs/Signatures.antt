@@ -1,0 +1,18 @@
+-- What is answered of an SSH signature (PROTOCOL.sshsig).
+use Rattle.std.specs.Prelude.{◌≡◌, ℕ, List, Some}
+use Rattle.sshkey_model.specs.SignedMessages.{signed_by}
+use Rattle.sshkey_model.specs.SshSignatures.{SshSignature}
+use Rattle.sshkey_model.specs.Verification as model
+use Rattle.sshkey_sshsig.specs.SshSignatureReaders.{SpellsSshSignature}
+use Rattle.sshkey_calls.specs.Fingerprints.{GivesDigestOf}
+
+-- the bytes spell an SSH signature in the namespace that raises the question, over what is signed in place of the message
+pub record RaisedBySignature (bytes namespace message : List ℕ) (q : model.Question) : Type 0 where
+  pub signature : SshSignature
+  pub spelled : SpellsSshSignature signature bytes
+  pub in_namespace : signature.namespace ≡ namespace
+  pub raised : model.question signature.key (signed_by signature message) signature.signature ≡ Some q
+
+-- the digest is the fingerprint of the key of the SSH signature that the bytes spell
+abbrev pub IsSignerOf : List ℕ → List ℕ → Type 0
+IsSignerOf bytes digest = (f : SshSignature) → SpellsSshSignature f bytes → GivesDigestOf f.key digest

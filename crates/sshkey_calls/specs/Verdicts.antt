@@ -1,0 +1,50 @@
+-- What a verdict says, given what the caller's verification said.
+use Rattle.std.specs.Prelude.{◌≡◌, ◌≢◌, ℕ, List, map, Bool, ◌==◌, Some}
+use Rattle.sshkey_model.specs.Certificates.{Certificate}
+use Rattle.sshkey_model.specs.Fingerprints.{Fingerprint}
+use Rattle.sshkey_model.specs.Names.{Sha256}
+use Rattle.sshkey_model.specs.Principals.{IsValidFor}
+use Rattle.sshkey_model.specs.Refusals.{first_refusal, first_refusal_for}
+use Rattle.sshkey_model.specs.Validity.{IsValid}
+use Rattle.sshkey_model.specs.Verification.{Question}
+use Rattle.sshkey_cert.specs.CertificateReaders.{SpellsCertificate}
+use Rattle.sshkey_cert_ref.specs.Questions.{certificate_question}
+use Rattle.sshkey_calls.specs.Numbers.{refusal_number}
+use Rattle.sshkey_calls.specs.declared.digest.Sha256Digest.{Sha256Digest}
+
+-- 1 says yes, and every other number no
+abbrev pub is_yes : ℕ → Bool
+is_yes verified = verified == 1
+
+-- That verifier says so about the question of the certificate that the bytes spell, if it raises one, and may say anything about all others.
+abbrev pub Verified : (Question → Bool) → List ℕ → ℕ → Type 0
+Verified accepts bytes verified = (c : Certificate) → SpellsCertificate c bytes → (q : Question) → certificate_question c ≡ Some q → accepts q ≡ is_yes verified
+
+-- the fingerprints with these digests
+abbrev pub authorities_of : List Sha256Digest → List Fingerprint
+authorities_of digests = map (λ d. record { hash = Sha256; digest = d.bytes }) digests
+
+-- The bytes spell a certificate that is valid.
+pub record IsGood (accepts : Question → Bool) (authorities : List Fingerprint) (t : ℕ) (bytes : List ℕ) : Type 0 where
+  pub certificate : Certificate
+  pub spelled : SpellsCertificate certificate bytes
+  pub valid : IsValid accepts authorities t certificate
+
+-- The bytes spell a certificate that is valid for the principal.
+pub record IsGoodFor (accepts : Question → Bool) (authorities : List Fingerprint) (t : ℕ) (principal bytes : List ℕ) : Type 0 where
+  pub certificate : Certificate
+  pub spelled : SpellsCertificate certificate bytes
+  pub valid : IsValidFor accepts authorities t principal certificate
+
+-- 0 exactly where it holds; 1 is memory, and says nothing.
+pub record Says (Holds : Type 0) (n : ℕ) : Type 0 where
+  pub yes_ : n ≡ 0 → Holds
+  pub no_ : n ≢ 0 → n ≢ 1 → Holds → ⊥
+
+-- The number is that of the first refusal of the certificate that the bytes spell, memory aside.
+abbrev pub TellsFirst : (Question → Bool) → List Fingerprint → ℕ → List ℕ → ℕ → Type 0
+TellsFirst accepts authorities t bytes n = (c : Certificate) → SpellsCertificate c bytes → n ≢ 1 → n ≡ refusal_number (first_refusal accepts authorities t c)
+
+-- The same where a principal is wanted.
+abbrev pub TellsFirstFor : (Question → Bool) → List Fingerprint → ℕ → List ℕ → List ℕ → ℕ → Type 0
+TellsFirstFor accepts authorities t principal bytes n = (c : Certificate) → SpellsCertificate c bytes → n ≢ 1 → n ≡ refusal_number (first_refusal_for accepts authorities t principal c)

@@ -1,0 +1,79 @@
+//! Fields of certificates.
+
+ghost use Rattle.std.specs.Prelude.{◌≡◌, ◌↔◌, Err, IsTrue};
+ghost use Rattle.sshkey_cert_ref.specs.CertificateRef.{certificate_of};
+ghost use Rattle.sshkey_model.specs.Certificates.{certificate_at, type_number};
+ghost use Rattle.sshkey_model.specs.Reading.{Fault, whole};
+ghost use Rattle.sshkey_options.specs.CertTypes.{type_of};
+ghost use Rattle.sshkey_calls.specs.Fields.{AreFieldsOf, GivesFields};
+ghost use Rattle.sshkey_calls.specs.Numbers.{fault_number};
+
+use crate::number::{DONE, error_number};
+use sshkey_cert_ref::CertificateRef;
+use sshkey_options::CertType;
+
+/// The fields of a certificate that a policy asks for.
+#[repr(C)]
+#[derive(Clone, Copy, Debug)]
+pub struct CertificateFields {
+    /// The number that the signer gave it.
+    pub serial: u64,
+    /// The first second of its window.
+    pub valid_after: u64,
+    /// The first second after its window, or 2^64 - 1 if it has no end.
+    pub valid_before: u64,
+    /// 1 for users, 2 for hosts.
+    pub certificate_type: u32,
+    /// 0 where it lists no principals, and else 1.
+    pub lists_principals: u32,
+    /// 0 where it has no critical options, and else 1.
+    pub has_critical_options: u32,
+}
+
+/// The fields of the certificate that all the bytes spell.
+///
+/// Returns 0 if they spell one, and else from 10 to 29 their fault. Does not allocate.
+pub fn certificate_fields(certificate: &[u8], answer: &mut CertificateFields) -> u32
+    ensures fields { GivesFields certificate.now result answer.new }
+    ensures fault { (fault : Fault) → whole certificate_at certificate.now ≡ Err fault
+        → result ≡ fault_number fault }
+{
+    match CertificateRef::from_bytes(certificate) {
+        Ok(read) => {
+            *answer = fields_of(&read);
+            DONE
+        }
+        Err(error) => error_number(error),
+    }
+}
+
+/// The fields of a certificate that was read.
+fn fields_of(read: &CertificateRef<'_>) -> CertificateFields
+    ensures { AreFieldsOf (certificate_of read.now) result }
+{
+    CertificateFields {
+        serial: read.serial(),
+        valid_after: read.valid_after(),
+        valid_before: read.valid_before(),
+        certificate_type: number_of_type(read.cert_type()),
+        lists_principals: number_unless(read.valid_principals().is_empty()),
+        has_critical_options: number_unless(read.critical_options().is_empty()),
+    }
+}
+
+/// 1 for users, 2 for hosts.
+fn number_of_type(cert_type: CertType) -> u32
+    ensures { result ≡ type_number (type_of cert_type) }
+{
+    match cert_type {
+        CertType::User => 1,
+        CertType::Host => 2,
+    }
+}
+
+/// 0 where this holds, and else 1.
+fn number_unless(holds: bool) -> u32
+    ensures { (result ≡ 0) ↔ IsTrue holds }
+{
+    if holds { 0 } else { 1 }
+}

@@ -1,0 +1,128 @@
+//! What has to be verified.
+
+ghost use Rattle.std.specs.Prelude.{◌≡◌, Err, IfOk, Some};
+ghost use Rattle.sshkey_cert_ref.specs.CertificateRef.{certificate_of};
+ghost use Rattle.sshkey_cert_ref.specs.Questions.{asks, certificate_question};
+ghost use Rattle.sshkey_keys.specs.Questions.{question_of};
+ghost use Rattle.sshkey_model.specs.Certificates.{certificate_at};
+ghost use Rattle.sshkey_model.specs.Reading.{Fault, whole};
+ghost use Rattle.sshkey_calls.specs.Numbers.{fault_number};
+ghost use Rattle.sshkey_calls.specs.Questions.{Asks, IsLaidOut, RaisedBy};
+
+use crate::number::{DONE, MEMORY, ROOM, UNSUPPORTED, algorithm_number, error_number};
+use crate::part::{Part, add, write_to};
+use sshkey_base::{Result, encode_vec};
+use sshkey_cert_ref::{CertificateQuestion, CertificateRef};
+use sshkey_keys::Question as Asked;
+use std::alloc::Global;
+
+/// What has to be verified: that the signature is one of the message under the key, by the
+/// algorithm. The parts are parts of the room that was given.
+#[repr(C)]
+#[derive(Clone, Copy, Debug)]
+pub struct Question {
+    /// The key's blob (RFC 4253, section 6.6): one of DSA, ECDSA, Ed25519 or RSA.
+    pub key: Part,
+    /// The message that was signed.
+    pub message: Part,
+    /// The bytes of the signature, in the form that the algorithm has (RFC 4253, section 6.6;
+    /// RFC 5656, section 3.1.2; RFC 8709, section 6).
+    pub signature: Part,
+    /// How many bytes of the room this takes.
+    pub length: usize,
+    /// 1 for DSA, 2, 3 and 4 for ECDSA on P-256, P-384 and P-521, 5 for Ed25519, 6 and 7 for RSA
+    /// with SHA-256 and with SHA-512.
+    pub algorithm: u32,
+}
+
+/// What has to be verified of the certificate that all the bytes spell.
+///
+/// Returns 0 with the question in the room, 2 where the room is too short for it, 1 if memory ran
+/// out, from 10 to 29 the fault of bytes that are no certificate, and 40 where the signature raises
+/// no question, since the key and its algorithm do not go together: such a certificate is not
+/// valid. With 2 the answer says how much room is needed, and the room is as it was.
+pub fn certificate_question(
+    alloc: Global,
+    certificate: &[u8],
+    room: &mut [u8],
+    answer: &mut Question,
+) -> u32
+    ensures raised { Asks (RaisedBy certificate.now) result answer.new room.old room.new }
+    ensures fault { (fault : Fault) → whole certificate_at certificate.now ≡ Err fault
+        → result ≡ fault_number fault }
+{
+    match CertificateRef::from_bytes(certificate) {
+        Ok(read) => ask(alloc, &read, room, answer),
+        Err(error) => error_number(error),
+    }
+}
+
+/// The same of a certificate that was read.
+fn ask(
+    alloc: Global,
+    certificate: &CertificateRef<'_>,
+    room: &mut [u8],
+    answer: &mut Question,
+) -> u32
+    ensures { Asks (λ q. certificate_question (certificate_of certificate.now) ≡ Some q)
+        result answer.new room.old room.new }
+{
+    match certificate.question(alloc) {
+        Ok(asked) => tell(alloc, &asked, room, answer),
+        Err(_) => MEMORY,
+    }
+}
+
+/// Answers with the question of a certificate, if it raises one.
+fn tell(
+    alloc: Global,
+    asked: &CertificateQuestion<'_>,
+    room: &mut [u8],
+    answer: &mut Question,
+) -> u32
+    ensures { Asks (λ q. asks asked.now ≡ Some q) result answer.new room.old room.new }
+{
+    match asked.question() {
+        Some(question) => answer_with(alloc, &question, room, answer),
+        None => UNSUPPORTED,
+    }
+}
+
+/// Answers with the question, its parts in the room where there is room for them.
+pub(crate) fn answer_with(
+    alloc: Global,
+    question: &Asked<'_>,
+    room: &mut [u8],
+    answer: &mut Question,
+) -> u32
+    ensures { Asks (λ q. q ≡ question_of question.now) result answer.new room.old room.new }
+{
+    match laid_out(alloc, question) {
+        Ok((content, parts)) => {
+            *answer = parts;
+            if write_to(room, &content) { DONE } else { ROOM }
+        }
+        Err(_) => MEMORY,
+    }
+}
+
+/// The bytes of the question's parts, one behind the other, and where they are.
+fn laid_out(alloc: Global, question: &Asked<'_>) -> Result<(Vec<u8>, Question)>
+    ensures { IfOk result (λ laid. IsLaidOut (question_of question.now) laid.0.items laid.1) }
+{
+    let mut content = Vec::new(alloc);
+    let key = add(&encode_vec(alloc, question.key())?, &mut content)?;
+    let message = add(question.message(), &mut content)?;
+    let signature = add(question.signature(), &mut content)?;
+    let length = content.len();
+    Ok((
+        content,
+        Question {
+            key,
+            message,
+            signature,
+            length,
+            algorithm: algorithm_number(question.algorithm()),
+        },
+    ))
+}

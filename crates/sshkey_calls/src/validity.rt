@@ -1,0 +1,179 @@
+//! Whether a certificate is valid, given what the caller's verification said.
+
+ghost use Rattle.std.specs.Prelude.{◌≡◌, ◌≢◌, Bool, Err};
+ghost use Rattle.std.specs.Str.{IsUtf8};
+ghost use Rattle.sshkey_cert.specs.Validity.{FindsFirst};
+ghost use Rattle.sshkey_cert_ref.specs.CertificateRef.{certificate_of};
+ghost use Rattle.sshkey_model.specs.Certificates.{certificate_at};
+ghost use Rattle.sshkey_model.specs.Reading.{Fault, whole};
+ghost use Rattle.sshkey_model.specs.Refusals.{first_refusal, first_refusal_for};
+ghost use Rattle.sshkey_model.specs.Verification.{Question};
+ghost use Rattle.sshkey_calls.specs.Numbers.{fault_number, refusal_number};
+ghost use Rattle.sshkey_calls.specs.Verdicts.{IsGood, IsGoodFor, Says, TellsFirst, TellsFirstFor, Verified, authorities_of, is_yes};
+
+use crate::digest::{Sha256Digest, fingerprints};
+use crate::number::{MEMORY, TEXT, error_number, refusal_number};
+use crate::verdict::Verdict;
+use sshkey_base::Result;
+use sshkey_cert::CertificateRefusal;
+use sshkey_cert_ref::CertificateRef;
+use std::alloc::Global;
+use std::str;
+
+/// Whether the bytes spell a certificate that is valid at that time, in seconds since 1970, for an
+/// authority with one of these SHA-256 fingerprints, where 1 says that its question was answered
+/// yes, and every other number that it was not.
+///
+/// Returns 0 if it is, 1 if memory ran out, from 10 to 29 the fault of bytes that are no
+/// certificate, and else what is wrong first: 30 for the signature, 31 for the authority, 32 for a
+/// time above 2^63 - 1, 33 for a time before `valid_after`, or not before `valid_before`. What a
+/// certificate is for, its critical options and whether it is revoked are not looked at.
+pub fn certificate_validate(
+    alloc: Global,
+    certificate: &[u8],
+    unix_time: u64,
+    authorities: &[Sha256Digest],
+    verified: u32,
+) -> u32
+    ensures exactly { (accepts : Question → Bool) → Verified accepts certificate.now verified
+        → Says (IsGood accepts (authorities_of authorities.now) unix_time certificate.now)
+        result }
+    ensures first { (accepts : Question → Bool) → Verified accepts certificate.now verified
+        → TellsFirst accepts (authorities_of authorities.now) unix_time certificate.now result }
+    ensures fault { (fault : Fault) → whole certificate_at certificate.now ≡ Err fault
+        → result ≡ fault_number fault }
+{
+    match CertificateRef::from_bytes(certificate) {
+        Ok(read) => judge(alloc, &read, unix_time, authorities, verified),
+        Err(error) => error_number(error),
+    }
+}
+
+/// The same where a principal is wanted: the certificate lists it, or no principals, and 34, the
+/// last of what is wrong, where it does not. 4 for a principal that is not UTF-8, whatever the
+/// certificate is.
+///
+/// A certificate without principals allows everybody here (PROTOCOL.certkeys), while sshd(8)
+/// rejects it for a user.
+pub fn certificate_validate_for(
+    alloc: Global,
+    certificate: &[u8],
+    unix_time: u64,
+    principal: &[u8],
+    authorities: &[Sha256Digest],
+    verified: u32,
+) -> u32
+    ensures exactly { IsUtf8 principal.now → (accepts : Question → Bool)
+        → Verified accepts certificate.now verified
+        → Says (IsGoodFor accepts (authorities_of authorities.now) unix_time principal.now
+        certificate.now) result }
+    ensures first { IsUtf8 principal.now → (accepts : Question → Bool)
+        → Verified accepts certificate.now verified
+        → TellsFirstFor accepts (authorities_of authorities.now) unix_time principal.now
+        certificate.now result }
+    ensures fault { IsUtf8 principal.now → (fault : Fault)
+        → whole certificate_at certificate.now ≡ Err fault → result ≡ fault_number fault }
+    ensures text { (IsUtf8 principal.now → ⊥) → result ≡ 4 }
+{
+    match str::from_utf8(principal) {
+        Ok(wanted) => validate_for(alloc, certificate, unix_time, wanted, authorities, verified),
+        Err(_) => TEXT,
+    }
+}
+
+/// The same for a principal that is a text.
+fn validate_for(
+    alloc: Global,
+    certificate: &[u8],
+    unix_time: u64,
+    wanted: &str,
+    authorities: &[Sha256Digest],
+    verified: u32,
+) -> u32
+    ensures exactly { (accepts : Question → Bool) → Verified accepts certificate.now verified
+        → Says (IsGoodFor accepts (authorities_of authorities.now) unix_time wanted.now
+        certificate.now) result }
+    ensures first { (accepts : Question → Bool) → Verified accepts certificate.now verified
+        → TellsFirstFor accepts (authorities_of authorities.now) unix_time wanted.now
+        certificate.now result }
+    ensures fault { (fault : Fault) → whole certificate_at certificate.now ≡ Err fault
+        → result ≡ fault_number fault }
+{
+    match CertificateRef::from_bytes(certificate) {
+        Ok(read) => judge_for(alloc, &read, unix_time, wanted, authorities, verified),
+        Err(error) => error_number(error),
+    }
+}
+
+/// The number of what is wrong with the certificate first.
+fn judge(
+    alloc: Global,
+    certificate: &CertificateRef<'_>,
+    unix_time: u64,
+    authorities: &[Sha256Digest],
+    verified: u32,
+) -> u32
+    ensures { result ≢ 1 → result ≡ refusal_number (first_refusal (λ _. is_yes verified)
+        (authorities_of authorities.now) unix_time (certificate_of certificate.now)) }
+{
+    match first_refusal(
+        alloc,
+        certificate,
+        unix_time,
+        authorities,
+        Verdict::of(verified),
+    ) {
+        Ok(first) => refusal_number(first),
+        Err(_) => MEMORY,
+    }
+}
+
+/// The same where a principal is wanted.
+fn judge_for(
+    alloc: Global,
+    certificate: &CertificateRef<'_>,
+    unix_time: u64,
+    wanted: &str,
+    authorities: &[Sha256Digest],
+    verified: u32,
+) -> u32
+    ensures { result ≢ 1 → result ≡ refusal_number (first_refusal_for (λ _. is_yes verified)
+        (authorities_of authorities.now) unix_time wanted.now (certificate_of certificate.now)) }
+{
+    let verdict = Verdict::of(verified);
+    match first_refusal_for(alloc, certificate, unix_time, wanted, authorities, verdict) {
+        Ok(first) => refusal_number(first),
+        Err(_) => MEMORY,
+    }
+}
+
+/// What is wrong with the certificate first.
+fn first_refusal(
+    alloc: Global,
+    certificate: &CertificateRef<'_>,
+    unix_time: u64,
+    authorities: &[Sha256Digest],
+    verdict: Verdict,
+) -> Result<Option<CertificateRefusal>>
+    ensures { FindsFirst (first_refusal (λ _. verdict.is_yes) (authorities_of authorities.now)
+        unix_time (certificate_of certificate.now)) result }
+{
+    let given = fingerprints(alloc, authorities)?;
+    certificate.first_refusal(alloc, unix_time, &given, &verdict)
+}
+
+/// What is wrong with the certificate first, where a principal is wanted.
+fn first_refusal_for(
+    alloc: Global,
+    certificate: &CertificateRef<'_>,
+    unix_time: u64,
+    wanted: &str,
+    authorities: &[Sha256Digest],
+    verdict: Verdict,
+) -> Result<Option<CertificateRefusal>>
+    ensures { FindsFirst (first_refusal_for (λ _. verdict.is_yes) (authorities_of authorities.now)
+        unix_time wanted.now (certificate_of certificate.now)) result }
+{
+    let given = fingerprints(alloc, authorities)?;
+    certificate.first_refusal_for(alloc, unix_time, wanted, &given, &verdict)
+}

@@ -1,0 +1,35 @@
+//! Strings that stand in bytes, one behind the other.
+
+ghost use Rattle.std.specs.Prelude.{◌≡◌, ◌≤◌, ◌+◌, drop, length, IfOk, Err, Ok};
+ghost use Rattle.sshkey_model.specs.Reading.{string_at};
+ghost use Rattle.sshkey_calls.specs.Strings.{FindsString};
+
+use crate::number::{DONE, END, LENGTH};
+use crate::part::Part;
+use sshkey_slices::split_string;
+
+/// The content of the string that begins at that place: what stands behind a length of four bytes,
+/// as many bytes as it says (RFC 4251, section 5). The next one begins behind it.
+///
+/// Returns 0, 3 exactly where the place is the end of the bytes, and 13 where the length or its
+/// bytes are not all there, or the place is behind the end. Does not allocate.
+pub fn next_string(bytes: &[u8], place: usize, answer: &mut Part) -> u32
+    ensures { FindsString bytes.now place result answer.new }
+{
+    if place == bytes.len() {
+        return END;
+    }
+    if bytes.len() < place {
+        return LENGTH;
+    }
+    match split_string(&bytes[place..]) {
+        Ok((string, behind)) => {
+            *answer = Part {
+                start: bytes.len() - behind.len() - string.len(),
+                length: string.len(),
+            };
+            DONE
+        }
+        Err(_) => LENGTH,
+    }
+}

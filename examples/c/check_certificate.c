@@ -1,0 +1,77 @@
+/* Says of each certificate on standard input whether it is valid, or what is wrong with it first.
+ *
+ *     check_certificate AUTHORITIES PRINCIPAL [SECOND] <id_ed25519-cert.pub
+ *
+ * AUTHORITIES is a file of public keys, a line each (as sshd's TrustedUserCAKeys), PRINCIPAL a
+ * name, or - for any, and SECOND the time as seconds since 1970, or else it is now. Each line of
+ * the input has a line of the answer. The status is 0 if all are valid, 1 if not, and 2 where it
+ * can't tell. */
+#include <stdio.h>
+#include <stdlib.h>
+#include <string.h>
+
+#include "judge.h"
+
+/* Reads the authorities; false, with a word to standard error, where a line is no key. */
+static int read_authorities(const char *path, authorities *to) {
+  FILE *file = fopen(path, "r");
+  char *line = NULL;
+  size_t room = 0, number = 0;
+  int good = 1;
+  if (!file) {
+    perror(path);
+    return 0;
+  }
+  while (good && getline(&line, &room, file) >= 0) {
+    const char *rest = line;
+    size_t length;
+    number++;
+    next_word(&rest, &length); /* the type's name, which the key begins with too */
+    if (!length || line[0] == '#') continue;
+    const char *word = next_word(&rest, &length);
+    good = add_authority(to, word, length);
+  }
+  free(line);
+  fclose(file);
+  if (!good) fprintf(stderr, "%s:%zu: no key\n", path, number);
+  return good;
+}
+
+/* Judges the certificate of a line, and says so. Returns 0, 1 or 2, as the program does. */
+static int judge_line(const char *line, uint64_t second, const char *principal, authorities by) {
+  blob certificate;
+  size_t length;
+  next_word(&line, &length);
+  const char *word = next_word(&line, &length);
+  if (!decode(word, length, &certificate)) {
+    puts("refused: not Base64");
+    return 1;
+  }
+  uint32_t answer = judge(certificate, second, principal, by);
+  free(certificate.bytes);
+  if (answer == SSHKEY_DONE)
+    puts("valid");
+  else
+    printf("refused: %s (%u)\n", meaning(answer), answer);
+  return answer == SSHKEY_DONE ? 0 : answer == SSHKEY_MEMORY ? 2 : 1;
+}
+
+int main(int count, char **words) {
+  if (count < 3 || count > 4) {
+    fprintf(stderr, "usage: check_certificate AUTHORITIES PRINCIPAL|- [SECOND] <CERTIFICATES\n");
+    return 2;
+  }
+  authorities by = {NULL, 0};
+  const char *principal = strcmp(words[2], "-") ? words[2] : NULL;
+  uint64_t second = count > 3 ? strtoull(words[3], NULL, 10) : (uint64_t)time(NULL);
+  int status = read_authorities(words[1], &by) ? 0 : 2;
+  char *line = NULL;
+  size_t room = 0;
+  while (status != 2 && getline(&line, &room, stdin) >= 0) {
+    int said = judge_line(line, second, principal, by);
+    if (said > status) status = said;
+  }
+  free(line);
+  free(by.keys);
+  return status;
+}

@@ -1,0 +1,143 @@
+#!/usr/bin/env python3
+"""Says whether certificates and SSH signatures are valid, or what is wrong first. The package `cryptography` verifies.
+
+    check.py certificates AUTHORITIES PRINCIPAL|- [SECOND] <id_ed25519-cert.pub
+    check.py signature SIGNERS NAMESPACE FILE <FILE.sig
+
+AUTHORITIES and SIGNERS are files of public keys, a line each. The first answers of each line of its input, as the example in C
+does. The status is 0 if all is valid, 1 if not, and 2 where it can't tell.
+"""
+import base64
+import binascii
+import sys
+import time
+
+from cryptography.exceptions import InvalidSignature
+from cryptography.hazmat.primitives import hashes
+from cryptography.hazmat.primitives.asymmetric import ec, ed25519, padding, rsa, utils
+
+import sshkey
+from sshkey import Algorithm, Status
+
+MEANING = {
+    Status.CHARACTER_ENCODING: "a text that is not UTF-8", Status.LABEL: "a name that may not stand there",
+    Status.LENGTH: "a length that passes the bytes", Status.TRAILING_DATA: "bytes behind the end",
+    Status.NOT_SIGNED: "not signed", Status.OTHER_AUTHORITY: "another authority", Status.NO_TIME: "a time too late to be one",
+    Status.OUT_OF_WINDOW: "not valid at that time", Status.OTHER_PRINCIPAL: "another principal",
+    Status.OTHER_NAMESPACE: "another namespace", Status.UNSUPPORTED: "key and signature do not go together",
+}  # fmt: skip
+ECDSA = {
+    Algorithm.P256: (ec.SECP256R1(), hashes.SHA256()), Algorithm.P384: (ec.SECP384R1(), hashes.SHA384()),
+    Algorithm.P521: (ec.SECP521R1(), hashes.SHA512()),
+}  # fmt: skip
+RSA = {Algorithm.RSA_SHA256: hashes.SHA256(), Algorithm.RSA_SHA512: hashes.SHA512()}
+
+
+def number(digits):
+    return int.from_bytes(digits, "big")
+
+
+def verify(question):
+    """Raises InvalidSignature, or ValueError where the key is none, unless the signature is one."""
+    _, *parts = sshkey.strings(question.key)
+    if question.algorithm == Algorithm.ED25519:
+        key = ed25519.Ed25519PublicKey.from_public_bytes(parts[0])
+        key.verify(question.signature, question.message)
+    elif question.algorithm in ECDSA:
+        curve, digest = ECDSA[question.algorithm]
+        key = ec.EllipticCurvePublicKey.from_encoded_point(curve, parts[1])
+        r, s = map(number, sshkey.strings(question.signature))
+        key.verify(utils.encode_dss_signature(r, s), question.message, ec.ECDSA(digest))
+    elif question.algorithm in RSA:
+        key = rsa.RSAPublicNumbers(number(parts[0]), number(parts[1])).public_key()
+        key.verify(question.signature, question.message, padding.PKCS1v15(), RSA[question.algorithm])
+    else:  # DSA: too weak to count
+        raise InvalidSignature
+
+
+def is_signature(question):
+    try:
+        verify(question)
+    except (InvalidSignature, ValueError):
+        return False
+    return True
+
+
+def judge(certificate, now, principal, authorities):
+    """Status.DONE, or what is wrong first."""
+    try:
+        verified = is_signature(sshkey.certificate_question(certificate))
+    except sshkey.Refused:
+        verified = False
+    return sshkey.validate_certificate(certificate, now, authorities, verified, principal)
+
+
+def judge_signature(signature, namespace, message, signers):
+    """Status.DONE, or what is wrong first."""
+    try:
+        question, signer = sshkey.signature_question(signature, namespace, message)
+    except sshkey.Refused as refused:
+        return refused.status
+    if not is_signature(question):
+        return Status.NOT_SIGNED
+    return Status.DONE if signer in signers else Status.OTHER_AUTHORITY
+
+
+def said(status):
+    return "valid" if status == Status.DONE else f"refused: {MEANING.get(status, 'not in its format')} ({status:d})"
+
+
+def blob_of(line):
+    """What stands in the second word of a line; None where that is no Base64."""
+    words = line.split()
+    try:
+        return base64.b64decode(words[1] if len(words) > 1 else b"", validate=True)
+    except binascii.Error:
+        return None
+
+
+def fingerprints(path):
+    """The fingerprints of the keys in a file."""
+    with open(path, "rb") as file:
+        return {sshkey.fingerprint(blob_of(it)) for it in file if it.strip() and not it.startswith(b"#")}
+
+
+def certificates(authorities, principal, second=None):
+    now = int(second) if second else int(time.time())
+    authorities, are_valid = fingerprints(authorities), True
+    for line in sys.stdin.buffer:
+        blob = blob_of(line)
+        if blob is None:
+            print("refused: not Base64")
+            are_valid = False
+            continue
+        status = judge(blob, now, None if principal == "-" else principal, authorities)
+        print(said(status))
+        are_valid &= status == Status.DONE
+    return not are_valid
+
+
+def signature(signers, namespace, file):
+    armour = sys.stdin.read().split("-----")
+    with open(file, "rb") as opened:
+        status = judge_signature(base64.b64decode(armour[2]), namespace, opened.read(), fingerprints(signers))
+    print(said(status))
+    return status != Status.DONE
+
+
+COMMANDS = {"certificates": certificates, "signature": signature}
+
+
+def main():
+    if len(sys.argv) < 4 or sys.argv[1] not in COMMANDS:
+        print(__doc__, file=sys.stderr)
+        return 2
+    try:
+        return int(COMMANDS[sys.argv[1]](*sys.argv[2:]))
+    except (OSError, TypeError, ValueError, IndexError, MemoryError) as error:
+        print(f"check.py: {error}", file=sys.stderr)
+        return 2
+
+
+if __name__ == "__main__":
+    sys.exit(main())
