@@ -1,0 +1,49 @@
+/* Makes a call of the library for C so many times, for bench/foreign:
+ *
+ *     foreign question|validate|fields|fingerprint|verify CALLS <certificate-or-key.pub
+ *
+ * `verify` is what libcrypto takes to answer the question. It prints nanoseconds of processor time
+ * a call. */
+#include <stdio.h>
+#include <stdlib.h>
+#include <string.h>
+#include <time.h>
+
+#include "judge.h"
+#include "verify.h"
+
+static sshkey_question question;
+static uint8_t room[1 << 16];
+
+static uint32_t call(const char *what, blob given) {
+  sshkey_sha256 digest = {{0}};
+  sshkey_fields fields = {0, 0, 0, 0, 0, 0};
+  if (!strcmp(what, "verify")) return is_signature(&question, room);
+  if (!strcmp(what, "validate"))
+    return sshkey_certificate_validate_for(given.bytes, given.length, 1, (const uint8_t *)"user", 4,
+                                           &digest, 1, 1);
+  if (!strcmp(what, "fields")) return sshkey_certificate_fields(given.bytes, given.length, &fields);
+  if (!strcmp(what, "fingerprint")) return sshkey_fingerprint(given.bytes, given.length, &digest);
+  return sshkey_certificate_question(given.bytes, given.length, room, sizeof room, &question);
+}
+
+int main(int count, char **words) {
+  char *line = NULL;
+  size_t held = 0, length;
+  blob given;
+  if (count != 3 || getline(&line, &held, stdin) < 0) return 2;
+  const char *rest = line;
+  next_word(&rest, &length);
+  const char *word = next_word(&rest, &length);
+  if (!decode(word, length, &given)) return 2;
+  long calls = strtol(words[2], NULL, 10);
+  call("question", given);
+  volatile uint32_t last = 0;
+  clock_t began = clock();
+  for (long at = 0; at < calls; at++) last = call(words[1], given);
+  double took = (double)(clock() - began) / CLOCKS_PER_SEC;
+  printf("%s: %.0f ns, answer %u\n", words[1], calls ? took / (double)calls * 1e9 : 0, last);
+  free(given.bytes);
+  free(line);
+  return 0;
+}
