@@ -4,7 +4,7 @@ use denote.Ref.{Bor}
 use Rattle.sshkey_model.specs.Parts.{flat}
 use Rattle.sshkey_model.specs.Grammar.{SpellsAs}
 use Rattle.sshkey_model.specs.Options.{CertificateOption, Nesting, Plain, Nested, AreOptions, HasOptionPlaces, each_option, options, plain_nestings, option_at, firsts, seconds}
-use Rattle.sshkey_model.specs.Reading.{Whole, list_whole}
+use Rattle.sshkey_model.specs.Reading.{◌>>=◌, Whole, list_whole}
 use Rattle.sshkey_slices.specs.Slices.{found_or}
 
 -- the bytes are those of the options, each empty value as its choice says
