@@ -12,7 +12,7 @@ use Rattle.sshkey_model.proofs.Grammars.{one_front}
 use Rattle.sshkey_model.proofs.Refusals.{none_where_valid, none_where_wanted}
 use Rattle.sshkey_base.specs.Reading.{NoSpelling}
 use Rattle.sshkey_cert.specs.CertificateReaders.{SpellsCertificate, certificate_grammar}
-use Rattle.sshkey_cert_ref.specs.Questions.{certificate_question}
+use Rattle.sshkey_cert.specs.Questions.{certificate_question}
 use Rattle.sshkey_calls.specs.Numbers.{refusal_number}
 use Rattle.sshkey_calls.specs.Verdicts.{IsGood, IsGoodFor, Says, TellsFirst, TellsFirstFor, Verified, is_yes}
 

@@ -8,7 +8,7 @@ use Rattle.sshkey_model.specs.Refusals.{first_refusal, first_refusal_for}
 use Rattle.sshkey_model.specs.Validity.{IsValid}
 use Rattle.sshkey_model.specs.Verification.{Question}
 use Rattle.sshkey_cert.specs.CertificateReaders.{SpellsCertificate}
-use Rattle.sshkey_cert_ref.specs.Questions.{certificate_question}
+use Rattle.sshkey_cert.specs.Questions.{certificate_question}
 use Rattle.sshkey_calls.specs.Numbers.{refusal_number}
 use Rattle.sshkey_calls.specs.declared.digest.Sha256Digest.{Sha256Digest}
 

@@ -2,7 +2,7 @@
 
 ghost use Rattle.std.specs.Prelude.{◌≡◌, Err, IfOk, Some};
 ghost use Rattle.sshkey_cert_ref.specs.CertificateRef.{certificate_of};
-ghost use Rattle.sshkey_cert_ref.specs.Questions.{asks, certificate_question};
+ghost use Rattle.sshkey_cert.specs.Questions.{asks, certificate_question};
 ghost use Rattle.sshkey_keys.specs.Questions.{question_of};
 ghost use Rattle.sshkey_model.specs.Certificates.{certificate_at};
 ghost use Rattle.sshkey_model.specs.Reading.{Fault, whole};
@@ -12,7 +12,8 @@ ghost use Rattle.sshkey_calls.specs.Questions.{Asks, IsLaidOut, RaisedBy};
 use crate::number::{DONE, MEMORY, ROOM, UNSUPPORTED, algorithm_number, error_number};
 use crate::part::{Part, add, write_to};
 use sshkey_base::{Result, encode_vec};
-use sshkey_cert_ref::{CertificateQuestion, CertificateRef};
+use sshkey_cert::CertificateQuestion;
+use sshkey_cert_ref::CertificateRef;
 use sshkey_keys::Question as Asked;
 use std::alloc::Global;
 

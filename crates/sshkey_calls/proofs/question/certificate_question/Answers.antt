@@ -1,7 +1,7 @@
 use Rattle.std.proofs.Common.{ap, ◌∙◌}
 use Rattle.sshkey_base.specs.Causes.{cause}
 use Rattle.sshkey_cert_ref.specs.CertificateRef.{certificate_bytes, certificate_of}
-use Rattle.sshkey_cert_ref.specs.Questions.{certificate_question}
+use Rattle.sshkey_cert.specs.Questions.{certificate_question}
 use Rattle.sshkey_model.specs.Certificates.{certificate_at}
 use Rattle.sshkey_model.specs.Reading.{whole}
 use Rattle.sshkey_calls.proofs.Kept.{no_fault}

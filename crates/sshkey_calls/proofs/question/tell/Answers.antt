@@ -1,6 +1,6 @@
 use Rattle.std.proofs.Common.{◌≡◌, Some, ap, sym, ◌∙◌}
 use Rattle.sshkey_model.specs.Verification as model
-use Rattle.sshkey_cert_ref.specs.Questions.{asks}
+use Rattle.sshkey_cert.specs.Questions.{asks}
 use Rattle.sshkey_keys.specs.Questions.{question_of}
 use Rattle.sshkey_calls.proofs.Questions.{no_question, none_raised, one_question, question_is, raised}
 use Rattle.sshkey_calls.proofs.question.tell.Goals as goal
