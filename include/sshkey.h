@@ -63,7 +63,7 @@ enum {
   SSHKEY_NAMESPACE = 20,          /* an empty namespace in the SSH signature */
   SSHKEY_PUBLIC_KEY = 21,         /* the key in the SSH signature is none */
   SSHKEY_VERSION = 22,            /* an SSH signature of a version above 1 */
-  SSHKEY_OTHER_FAULT = 23,
+  SSHKEY_OTHER_FAULT = 23, /* none of the above */
 
   /* 30 to 34: what is wrong with a certificate that is not valid; the first of these */
   SSHKEY_NOT_SIGNED = 30,      /* it raises no question, or `verified` is not 1 */
@@ -158,7 +158,7 @@ typedef struct {
   uint64_t valid_before;         /* the first second behind its window; 2^64 - 1 if it has no end */
   uint32_t certificate_type;     /* 1 for users, 2 for hosts */
   uint32_t lists_principals;     /* 0 where it lists none, and so allows everybody; else 1 */
-  uint32_t has_critical_options; /* 0 where it has none; else 1: refuse it, or know them all */
+  uint32_t has_critical_options; /* 0 where it has none; else 1: refuse it, no call lists them */
 } sshkey_fields;
 
 /* The fields of a certificate, whether it is valid or not. SSHKEY_DONE exactly if the bytes are a

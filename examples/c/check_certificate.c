@@ -26,8 +26,8 @@ static int read_authorities(const char *path, authorities *to) {
     const char *rest = line;
     size_t length;
     number++;
-    next_word(&rest, &length); /* the type's name, which the key begins with too */
-    if (!length || line[0] == '#') continue;
+    const char *name = next_word(&rest, &length); /* the type's, which the key begins with too */
+    if (!length || name[0] == '#') continue;
     const char *word = next_word(&rest, &length);
     good = add_authority(to, word, length);
   }

@@ -109,7 +109,8 @@ static bool is_ecdsa(const char *curve, const EVP_MD *digest, slice key, slice m
 static bool is_rsa(const EVP_MD *digest, slice key, slice message, slice signature) {
   slice exponent = take(&key);
   EVP_PKEY *made = rsa_key(exponent, take(&key));
-  bool yes = verifies(made, digest, message, signature);
+  /* a shorter key is too weak to count */
+  bool yes = made && EVP_PKEY_get_bits(made) >= 2048 && verifies(made, digest, message, signature);
   EVP_PKEY_free(made);
   return yes;
 }

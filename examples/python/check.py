@@ -50,6 +50,8 @@ def verify(question):
         key.verify(utils.encode_dss_signature(r, s), question.message, ec.ECDSA(digest))
     elif question.algorithm in RSA:
         key = rsa.RSAPublicNumbers(number(parts[0]), number(parts[1])).public_key()
+        if key.key_size < 2048:  # too weak to count
+            raise InvalidSignature
         key.verify(question.signature, question.message, padding.PKCS1v15(), RSA[question.algorithm])
     else:  # DSA: too weak to count
         raise InvalidSignature

@@ -3,7 +3,7 @@
 Cryptography is yours. A certificate takes two calls, with your verification between them:
 
     question = sshkey.certificate_question(certificate)
-    verified = verify(question)  # yours
+    verified = is_signature(question)  # yours: True or False
     status = sshkey.validate_certificate(certificate, now, authorities, verified, principal="alice")
 
 It is valid exactly if the status is Status.DONE; any other says what is wrong first. An SSH signature takes one call: it is
@@ -189,7 +189,7 @@ def certificate_question(certificate):
 def validate_certificate(certificate, now, authorities, verified, principal=None):
     """Status.DONE exactly if the certificate is valid at that second for one of the authorities, which are fingerprints of 32
     bytes, and for the principal if one is given; else what is wrong first. `verified` is what your verification said of the
-    question of this very certificate, and False where it raised none."""
+    question of this very certificate, True or False, and False where it raised none; anything but True is a no."""
     if not 0 <= now < 1 << 64:
         raise ValueError("a time is a number of seconds from 0 to 2^64 - 1")
     whom = () if principal is None else _bytes(principal.encode() if isinstance(principal, str) else principal)
