@@ -7,7 +7,7 @@ ghost use Rattle.sshkey_model.specs.Reading.{Fault, whole};
 ghost use Rattle.sshkey_model.specs.Verification.{Question as TheQuestion};
 ghost use Rattle.sshkey_calls.specs.Fields.{GivesFields};
 ghost use Rattle.sshkey_calls.specs.Numbers.{fault_number};
-ghost use Rattle.sshkey_calls.specs.Questions.{Asks, RaisedBy};
+ghost use Rattle.sshkey_calls.specs.Questions.{Asks, RaisedBy, TellsNone};
 ghost use Rattle.sshkey_calls.specs.Verdicts.{IsGood, IsGoodFor, Says, TellsFirst, TellsFirstFor, Verified, authorities_of};
 
 use sshkey_calls::{
@@ -25,6 +25,7 @@ pub extern "C" fn sshkey_certificate_question(
     answer: &mut Question,
 ) -> u32
     ensures raised { Asks (RaisedBy certificate.now) result answer.new room.old room.new }
+    ensures unsupported { TellsNone certificate.now result }
     ensures fault { (fault : Fault) → whole certificate_at certificate.now ≡ Err fault
         → result ≡ fault_number fault }
 {

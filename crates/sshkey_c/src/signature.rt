@@ -6,7 +6,7 @@ ghost use Rattle.sshkey_model.specs.SshSignatures.{SshSignature};
 ghost use Rattle.sshkey_sshsig.specs.SshSignatureReaders.{SpellsSshSignature, ssh_signature_value_at};
 ghost use Rattle.sshkey_calls.specs.Numbers.{fault_number};
 ghost use Rattle.sshkey_calls.specs.Questions.{Asks};
-ghost use Rattle.sshkey_calls.specs.Signatures.{IsSignerOf, RaisedBySignature};
+ghost use Rattle.sshkey_calls.specs.Signatures.{IsSignerOf, RaisedBySignature, TellsNoneOfSignature};
 
 use sshkey_calls::{Question, Sha256Digest, signature_question};
 use std::alloc::Global;
@@ -24,6 +24,7 @@ pub extern "C" fn sshkey_signature_question(
 ) -> u32
     ensures raised { Asks (RaisedBySignature signature.now namespace.now message.now)
         result answer.new room.old room.new }
+    ensures unsupported { TellsNoneOfSignature signature.now namespace.now message.now result }
     ensures signer { result ≡ 0 → IsSignerOf signature.now signer.new.bytes }
     ensures namespace { (f : SshSignature) → SpellsSshSignature f signature.now
         → f.namespace ≢ namespace.now → result ≢ 1 → result ≡ 41 }

@@ -1,5 +1,5 @@
 -- The one SSH signature that bytes spell.
-use Rattle.std.proofs.Common.{◌≡◌, ◌≢◌, ℕ, List, [], Some, refl, subst, ap, ◌∙◌}
+use Rattle.std.proofs.Common.{◌≡◌, ◌≢◌, ℕ, List, [], Some, None, refl, subst, ap, ◌∙◌}
 use Rattle.sshkey_model.specs.SignedMessages.{signed_by}
 use Rattle.sshkey_model.specs.SshSignatures.{SshSignature}
 use Rattle.sshkey_model.specs.Verification as model
@@ -29,8 +29,15 @@ module _ (f : SshSignature) (bytes namespace message : List ℕ) (spelled : Spel
   pub in_its_namespace : f.namespace ≡ namespace → (g : SshSignature) → SpellsSshSignature g bytes → g.namespace ≢ namespace → ⊥
   in_its_namespace same g is other = other (ap (λ (x : SshSignature). x.namespace) (one_signature g f bytes is spelled) ∙ same)
 
+  pub none_of_each : (g : SshSignature) → SpellsSshSignature g bytes → model.question g.key (signed_by g message) g.signature ≡ None → model.question f.key (signed_by f message) f.signature ≡ None
+  none_of_each g other none = subst (λ (x : SshSignature). model.question x.key (signed_by x message) x.signature ≡ None) (one_signature g f bytes other spelled) none
+
   pub digest_of_each : (digest : List ℕ) → GivesDigestOf f.key digest → (g : SshSignature) → SpellsSshSignature g bytes → GivesDigestOf g.key digest
   digest_of_each digest is g other = subst (λ (x : SshSignature). GivesDigestOf x.key digest) (one_signature f g bytes spelled other) is
+
+-- what is in that namespace by one reading is so by the other
+pub namespace_of_each : (f : SshSignature) (bytes namespace : List ℕ) (g : SshSignature) → SpellsSshSignature f bytes → SpellsSshSignature g bytes → g.namespace ≡ namespace → f.namespace ≡ namespace
+namespace_of_each f bytes namespace g spelled other same = ap (λ (x : SshSignature). x.namespace) (one_signature f g bytes spelled other) ∙ same
 
 -- no bytes spell one
 pub none_asked : (bytes namespace message : List ℕ) (n : ℕ) (answer : Question) (before after : List ℕ) → n ≢ 0 → n ≢ 2 → (n ≢ 1 → (g : SshSignature) → SpellsSshSignature g bytes → ⊥) → Asks (RaisedBySignature bytes namespace message) n answer before after

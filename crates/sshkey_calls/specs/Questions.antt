@@ -1,5 +1,5 @@
 -- What is answered of a question.
-use Rattle.std.specs.Prelude.{◌≡◌, ◌≢◌, ℕ, ◌<◌, ◌+◌, List, ◌++◌, length, Some}
+use Rattle.std.specs.Prelude.{◌≡◌, ◌≢◌, ℕ, ◌<◌, ◌+◌, List, ◌++◌, length, Some, None}
 use Rattle.sshkey_model.specs.Certificates.{Certificate}
 use Rattle.sshkey_model.specs.Keys.{normal_key}
 use Rattle.sshkey_model.specs.Parts.{flat}
@@ -13,6 +13,10 @@ use Rattle.sshkey_calls.specs.declared.question.Question.{Question}
 -- the bytes spell a certificate that raises the question
 abbrev pub RaisedBy : List ℕ → model.Question → Type 0
 RaisedBy bytes q = (c : Certificate) × SpellsCertificate c bytes × (certificate_question c ≡ Some q)
+
+-- 40 where the bytes spell a certificate that raises none, memory aside
+abbrev pub TellsNone : List ℕ → ℕ → Type 0
+TellsNone bytes n = (c : Certificate) → SpellsCertificate c bytes → certificate_question c ≡ None → n ≢ 1 → n ≡ 40
 
 -- The answer is the question: each part of the room that it names has that field of it.
 pub record IsAnswer (q : model.Question) (answer : Question) (room : List ℕ) : Type 0 where

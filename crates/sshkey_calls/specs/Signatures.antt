@@ -1,5 +1,5 @@
 -- What is answered of an SSH signature (PROTOCOL.sshsig).
-use Rattle.std.specs.Prelude.{◌≡◌, ℕ, List, Some}
+use Rattle.std.specs.Prelude.{◌≡◌, ◌≢◌, ℕ, List, Some, None}
 use Rattle.sshkey_model.specs.SignedMessages.{signed_by}
 use Rattle.sshkey_model.specs.SshSignatures.{SshSignature}
 use Rattle.sshkey_model.specs.Verification as model
@@ -12,6 +12,10 @@ pub record RaisedBySignature (bytes namespace message : List ℕ) (q : model.Que
   pub spelled : SpellsSshSignature signature bytes
   pub in_namespace : signature.namespace ≡ namespace
   pub raised : model.question signature.key (signed_by signature message) signature.signature ≡ Some q
+
+-- 40 where the bytes spell one in the namespace that raises none, memory aside
+abbrev pub TellsNoneOfSignature : List ℕ → List ℕ → List ℕ → ℕ → Type 0
+TellsNoneOfSignature bytes namespace message n = (f : SshSignature) → SpellsSshSignature f bytes → f.namespace ≡ namespace → model.question f.key (signed_by f message) f.signature ≡ None → n ≢ 1 → n ≡ 40
 
 -- the digest is the fingerprint of the key of the SSH signature that the bytes spell
 abbrev pub IsSignerOf : List ℕ → List ℕ → Type 0

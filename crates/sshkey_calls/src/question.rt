@@ -1,13 +1,13 @@
 //! What has to be verified.
 
-ghost use Rattle.std.specs.Prelude.{◌≡◌, Err, IfOk, Some};
+ghost use Rattle.std.specs.Prelude.{◌≡◌, ◌≢◌, Err, IfOk, None, Some};
 ghost use Rattle.sshkey_cert_ref.specs.CertificateRef.{certificate_of};
 ghost use Rattle.sshkey_cert.specs.Questions.{asks, certificate_question};
 ghost use Rattle.sshkey_keys.specs.Questions.{question_of};
 ghost use Rattle.sshkey_model.specs.Certificates.{certificate_at};
 ghost use Rattle.sshkey_model.specs.Reading.{Fault, whole};
 ghost use Rattle.sshkey_calls.specs.Numbers.{fault_number};
-ghost use Rattle.sshkey_calls.specs.Questions.{Asks, IsLaidOut, RaisedBy};
+ghost use Rattle.sshkey_calls.specs.Questions.{Asks, IsLaidOut, RaisedBy, TellsNone};
 
 use crate::number::{DONE, MEMORY, ROOM, UNSUPPORTED, algorithm_number, error_number};
 use crate::part::{Part, add, write_to};
@@ -49,6 +49,7 @@ pub fn certificate_question(
     answer: &mut Question,
 ) -> u32
     ensures raised { Asks (RaisedBy certificate.now) result answer.new room.old room.new }
+    ensures unsupported { TellsNone certificate.now result }
     ensures fault { (fault : Fault) → whole certificate_at certificate.now ≡ Err fault
         → result ≡ fault_number fault }
 {
@@ -65,8 +66,10 @@ fn ask(
     room: &mut [u8],
     answer: &mut Question,
 ) -> u32
-    ensures { Asks (λ q. certificate_question (certificate_of certificate.now) ≡ Some q)
+    ensures raised { Asks (λ q. certificate_question (certificate_of certificate.now) ≡ Some q)
         result answer.new room.old room.new }
+    ensures unsupported { certificate_question (certificate_of certificate.now) ≡ None
+        → result ≢ 1 → result ≡ 40 }
 {
     match certificate.question(alloc) {
         Ok(asked) => tell(alloc, &asked, room, answer),
@@ -81,7 +84,8 @@ fn tell(
     room: &mut [u8],
     answer: &mut Question,
 ) -> u32
-    ensures { Asks (λ q. asks asked.now ≡ Some q) result answer.new room.old room.new }
+    ensures raised { Asks (λ q. asks asked.now ≡ Some q) result answer.new room.old room.new }
+    ensures unsupported { asks asked.now ≡ None → result ≡ 40 }
 {
     match asked.question() {
         Some(question) => answer_with(alloc, &question, room, answer),

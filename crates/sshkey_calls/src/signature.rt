@@ -1,6 +1,6 @@
 //! What has to be verified of an SSH signature.
 
-ghost use Rattle.std.specs.Prelude.{◌≡◌, ◌≢◌, ◌↔◌, true, Err, IsTrue, Some};
+ghost use Rattle.std.specs.Prelude.{◌≡◌, ◌≢◌, ◌↔◌, true, Err, IsTrue, None, Some};
 ghost use Rattle.sshkey_keys.specs.Keys.{key_of};
 ghost use Rattle.sshkey_keys.specs.Questions.{question_of};
 ghost use Rattle.sshkey_model.specs.Reading.{Fault, whole};
@@ -12,7 +12,7 @@ ghost use Rattle.sshkey_sshsig.specs.SshSignatures.{ssh_signature_of};
 ghost use Rattle.sshkey_calls.specs.Fingerprints.{GivesDigestOf};
 ghost use Rattle.sshkey_calls.specs.Numbers.{fault_number};
 ghost use Rattle.sshkey_calls.specs.Questions.{Asks};
-ghost use Rattle.sshkey_calls.specs.Signatures.{IsSignerOf, RaisedBySignature};
+ghost use Rattle.sshkey_calls.specs.Signatures.{IsSignerOf, RaisedBySignature, TellsNoneOfSignature};
 
 use crate::digest::Sha256Digest;
 use crate::number::{MEMORY, OTHER_NAMESPACE, UNSUPPORTED, error_number};
@@ -42,6 +42,7 @@ pub fn signature_question(
 ) -> u32
     ensures raised { Asks (RaisedBySignature signature.now namespace.now message.now)
         result answer.new room.old room.new }
+    ensures unsupported { TellsNoneOfSignature signature.now namespace.now message.now result }
     ensures signer { result ≡ 0 → IsSignerOf signature.now signer.new.bytes }
     ensures namespace { (f : SshSignature) → SpellsSshSignature f signature.now
         → f.namespace ≢ namespace.now → result ≢ 1 → result ≡ 41 }
@@ -78,6 +79,9 @@ fn ask(
     ensures raised { Asks (λ q. question (ssh_signature_of read.now).key
         (signed_by (ssh_signature_of read.now) message.now)
         (ssh_signature_of read.now).signature ≡ Some q) result answer.new room.old room.new }
+    ensures unsupported { question (ssh_signature_of read.now).key
+        (signed_by (ssh_signature_of read.now) message.now)
+        (ssh_signature_of read.now).signature ≡ None → result ≢ 1 → result ≡ 40 }
     ensures signer { result ≡ 0 → GivesDigestOf (ssh_signature_of read.now).key signer.new.bytes }
 {
     let Ok(signed) = read.signed_bytes(alloc, message) else {

@@ -15,13 +15,20 @@ returns-in-Ok-clause-raised c =
     raised _ _ _ _
     (λ q is. (certificate_of c.in-Ok.read, read, is))
     (λ q is. ap certificate_question (one_spelled (certificate_of c.in-Ok.read) is.0 c.args.certificate.now read is.1) ∙ is.2)
-    c.ask.ensures
+    c.ask.ensures.raised
+
+pub returns-in-Ok-clause-unsupported : goal.returns-in-Ok-clause-unsupported
+returns-in-Ok-clause-unsupported c d spelled none =
+    c.ask.ensures.unsupported (ap certificate_question (one_spelled (certificate_of c.in-Ok.read) d c.args.certificate.now c.in-Ok.ensures.accepts spelled) ∙ none)
 
 pub returns-in-Ok-clause-fault : goal.returns-in-Ok-clause-fault
 returns-in-Ok-clause-fault c fault is = absurd (no_fault certificate_bytes cause c.args.certificate.now c.in-Ok.read (whole certificate_at c.args.certificate.now) fault is c.in-Ok.ensures.keeps)
 
 pub returns-in-Err-clause-raised : goal.returns-in-Err-clause-raised
 returns-in-Err-clause-raised c = none_raised _ _ _ _ c.error_number.ensures.some c.error_number.ensures.apart (λ _ q is. c.in-Err.ensures.accepts is.0 is.1)
+
+pub returns-in-Err-clause-unsupported : goal.returns-in-Err-clause-unsupported
+returns-in-Err-clause-unsupported c d spelled _ _ = absurd (c.in-Err.ensures.accepts d spelled)
 
 pub returns-in-Err-clause-fault : goal.returns-in-Err-clause-fault
 returns-in-Err-clause-fault c fault is = c.error_number.ensures.fault fault (rw is at c.in-Err.ensures.keeps)
