@@ -8,6 +8,7 @@ use Rattle.ssh_key.specs.entries.AuthorizedKeys.{AuthorizedKey}
 use Rattle.ssh_key.specs.entries.Entries.{IsNoEntry}
 use Rattle.ssh_key.specs.entries.Laws.{EntriesDetermineValues}
 use Rattle.ssh_key.specs.entries.OpenSshLines.{IsAuthorizedLine}
+use Rattle.ssh_key.specs.entries.Patterns.{MatchesList}
 use Rattle.ssh_key.specs.model.Keys.{Key}
 use Rattle.ssh_key.specs.model.SshSignatures.{SshSignature}
 use Rattle.ssh_key.specs.sshsig.SshSignatureReaders.{SpellsSshSignature}
@@ -16,7 +17,6 @@ use Rattle.ssh_key.specs.types.Error.TheVariants.{Memory}
 use Rattle.ssh_key.proofs.Acceptance.{other_cause}
 use Rattle.allowed_signers.specs.AllowedSigners.{Allows, Answers, HasEntryFor, HasSignature, IsEntryFor, IsNo, Names, OkExactly, OptionsPermit, ReadsSignature}
 use Rattle.allowed_signers.specs.OneValue.{IsTheOne}
-use Rattle.allowed_signers.specs.PatternLists.{IsListed}
 use Rattle.allowed_signers.specs.Principals.{IsFront}
 use Rattle.allowed_signers.specs.SignerOptions.{AreTerms, Permits, Terms, terms_of}
 use Rattle.allowed_signers.specs.declared.options.SignerOptions.{SignerOptions}
@@ -101,10 +101,10 @@ module _ (identity namespace : List ℕ) (time : ℕ) (key : Key) (line : List �
   no_front none = never (Allows identity namespace time key line) (λ a. none (a.principals, a.rest) a.front)
 
   module _ (principals rest : List ℕ) (front : IsFront line (principals, rest)) (one : (p : List ℕ × List ℕ) → IsFront line p → p ≡ (principals, rest)) where
-    pub not_listed : (IsListed principals identity → ⊥) → IsTrue false ↔ Allows identity namespace time key line
-    not_listed none = never (Allows identity namespace time key line) (λ a. none (subst (λ (p : List ℕ × List ℕ). IsListed p.0 identity) (one (a.principals, a.rest) a.front) a.listed))
+    pub not_listed : (MatchesList (λ c. c) principals identity → ⊥) → IsTrue false ↔ Allows identity namespace time key line
+    not_listed none = never (Allows identity namespace time key line) (λ a. none (subst (λ (p : List ℕ × List ℕ). MatchesList (λ c. c) p.0 identity) (one (a.principals, a.rest) a.front) a.listed))
 
-    pub line_decides : IsListed principals identity → (r : Result Bool Error) → IfOk r (λ yes. IsTrue yes ↔ HasEntryFor namespace time key rest) → IfOk r (λ yes. IsTrue yes ↔ Allows identity namespace time key line)
+    pub line_decides : MatchesList (λ c. c) principals identity → (r : Result Bool Error) → IfOk r (λ yes. IsTrue yes ↔ HasEntryFor namespace time key rest) → IfOk r (λ yes. IsTrue yes ↔ Allows identity namespace time key line)
     line_decides listed =
         told_as (HasEntryFor namespace time key rest) (Allows identity namespace time key line)
         (λ entry. record { principals = principals; rest = rest; front = front; listed = listed; entry = entry })

@@ -1,8 +1,6 @@
 mod Calendar
 mod Decisions
 mod Fronts
-mod Matching
-mod PatternLists
 mod ReadOptions
 mod SomeLine
 mod Words

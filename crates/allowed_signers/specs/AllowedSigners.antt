@@ -5,6 +5,7 @@ use Rattle.ssh_key.specs.base.Reading.{NoSpelling}
 use Rattle.ssh_key.specs.entries.AuthorizedKeys.{AuthorizedKey}
 use Rattle.ssh_key.specs.entries.Fields.{filled_lines}
 use Rattle.ssh_key.specs.entries.OpenSshLines.{IsAuthorizedLine}
+use Rattle.ssh_key.specs.entries.Patterns.{MatchesList}
 use Rattle.ssh_key.specs.model.Keys.{Key}
 use Rattle.ssh_key.specs.model.SignedMessages.{IsVerified}
 use Rattle.ssh_key.specs.model.SshSignatures.{SshSignature}
@@ -14,7 +15,6 @@ use Rattle.ssh_key.specs.sshsig.SshSignatures.{ssh_signature_of}
 use Rattle.ssh_key.specs.types.Error.{Error}
 use Rattle.ssh_key.specs.types.Error.TheVariants as error
 use Rattle.ssh_key.specs.types.SshSig.{SshSig}
-use Rattle.allowed_signers.specs.PatternLists.{IsListed}
 use Rattle.allowed_signers.specs.Principals.{HasPrincipals}
 use Rattle.allowed_signers.specs.SignerOptions.{Terms, AreTerms, Permits}
 use Rattle.allowed_signers.specs.declared.signers.Refusal.{Refusal}
@@ -37,12 +37,12 @@ pub record IsEntryFor (namespace : List ℕ) (time : ℕ) (key : Key) (entry : A
 abbrev pub HasEntryFor : List ℕ → ℕ → Key → List ℕ → Type 0
 HasEntryFor namespace time key text = (entry : AuthorizedKey) × IsAuthorizedLine text entry × IsEntryFor namespace time key entry
 
--- The line lets the key sign for the identity, in the namespace and at the time: its principals list the identity, and behind them stands such an entry.
+-- The line lets the key sign for the identity, in the namespace and at the time: its principals list the identity, letters in their own case, and behind them stands such an entry.
 pub record Allows (identity namespace : List ℕ) (time : ℕ) (key : Key) (line : List ℕ) : Type 0 where
   pub principals : List ℕ
   pub rest : List ℕ
   pub front : HasPrincipals line principals rest
-  pub listed : IsListed principals identity
+  pub listed : MatchesList (λ c. c) principals identity
   pub entry : HasEntryFor namespace time key rest
 
 -- ---- all lines

@@ -1,6 +1,4 @@
 pub mod OneValue
-pub mod PatternLists
-pub mod Matching
 pub mod Times
 pub mod SignerOptions
 pub mod Principals

@@ -2,7 +2,7 @@
 use Rattle.std.specs.Prelude.{◌≡◌, ◌≢◌, ◌<◌, ◌≤◌, ◌-◌, ℕ, List, [], ◌∷◌, Bool, true, false, Option, Some, None, IfSome, codes, length, slice_index, option_map, string_bytes}
 use Rattle.ssh_key.specs.entries.KnownHosts.{comma}
 use Rattle.ssh_key.specs.entries.OptionItems.{KeyOption, AreKeyOptions, IsSameName}
-use Rattle.allowed_signers.specs.PatternLists.{IsListed}
+use Rattle.ssh_key.specs.entries.Patterns.{MatchesList}
 use Rattle.allowed_signers.specs.Times.{IsTime}
 use Rattle.allowed_signers.specs.declared.options.SignerOptions.{SignerOptions}
 use Rattle.allowed_signers.specs.declared.options.Word.{Word}
@@ -61,10 +61,10 @@ pub record AreTerms (text : List ℕ) (t : Terms) : Type 0 where
 
 -- ---- what they permit
 
--- The key signs more than certificates, in that namespace and at that time.
+-- The key signs more than certificates, in that namespace, letters in their own case, and at that time.
 pub record Permits (namespace : List ℕ) (time : ℕ) (t : Terms) : Type 0 where
   pub no_authority : t.is_authority ≡ false
-  pub in_namespace : IfSome t.namespaces (λ list. IsListed list namespace)
+  pub in_namespace : IfSome t.namespaces (λ list. MatchesList (λ c. c) list namespace)
   pub not_before : IfSome t.valid_after (λ first. first ≤ time)
   pub not_behind : IfSome t.valid_before (λ last. time ≤ last)
 

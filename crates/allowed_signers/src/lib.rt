@@ -7,8 +7,6 @@
 
 mod line;
 mod options;
-mod pattern;
-mod pattern_list;
 mod signers;
 mod times;
 

@@ -3,14 +3,14 @@
 ghost use Rattle.std.specs.Prelude.{◌≡◌, ◌↔◌, ◌≤◌, IfSome, IsTrue, option_map, string_bytes};
 ghost use Rattle.ssh_key.specs.authorized_keys.OpenSshItems.{key_option_of};
 ghost use Rattle.ssh_key.specs.entries.OptionItems.{IsSameName};
+ghost use Rattle.ssh_key.specs.entries.Patterns.{MatchesList};
 ghost use Rattle.allowed_signers.specs.OneValue.{IsTheOne, ReadsTheOne};
-ghost use Rattle.allowed_signers.specs.PatternLists.{IsListed};
 ghost use Rattle.allowed_signers.specs.SignerOptions.{AddsOption, AddsValue, AreInOrder, AreTerms, IsTimeValue, Permits, no_terms, terms_of, word_text};
 
-use crate::pattern_list::is_listed;
 use crate::times::read_time;
 use ssh_key::Result;
 use ssh_key::authorized_keys::{OpenSshOption, OpenSshOptions};
+use ssh_key::patterns::{LetterCase, matches_pattern_list};
 use std::alloc::Global;
 
 /// The name of an option.
@@ -198,10 +198,10 @@ impl SignerOptions {
 
     fn has_namespace(&self, namespace: &str) -> bool
         ensures { IsTrue result ↔ IfSome (terms_of self.now).namespaces
-            (λ list. IsListed list namespace.now) }
+            (λ list. MatchesList (λ c. c) list namespace.now) }
     {
         match &self.namespaces {
-            Some(list) => is_listed(list.as_str(), namespace),
+            Some(list) => matches_pattern_list(namespace, list.as_str(), LetterCase::Sensitive),
             None => true,
         }
     }

@@ -10,9 +10,9 @@ ghost use Rattle.allowed_signers.specs.AllowedSigners.{Allows, Answers, Counts, 
 
 use crate::line::split_principals;
 use crate::options::SignerOptions;
-use crate::pattern_list::is_listed;
 use ssh_key::authorized_keys::{Entry, FilledLines, OpenSshEntry, OpenSshOptions};
 use ssh_key::laws::{compared_keys, one_authorized_line, one_ssh_signature};
+use ssh_key::patterns::{LetterCase, matches_pattern_list};
 use ssh_key::public::KeyData;
 use ssh_key::{Error, PublicKey, RawVerifier, Result, SshSig};
 use std::alloc::Global;
@@ -180,7 +180,7 @@ fn allows(
     let Some((principals, rest)) = split_principals(line) else {
         return Ok(false);
     };
-    if !is_listed(principals, identity) {
+    if !matches_pattern_list(identity, principals, LetterCase::Sensitive) {
         return Ok(false);
     }
     has_entry_for(alloc, rest, namespace, unix_timestamp, key)

@@ -8,6 +8,7 @@ pub mod SshdReading
 pub mod Fields
 pub mod OpenSshLines
 pub mod OptionItems
+pub mod Patterns
 pub mod HostNames
 pub mod HostVerdicts
 pub mod Laws

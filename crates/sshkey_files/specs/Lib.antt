@@ -1,3 +1,5 @@
 pub mod Answers
 pub mod MadeTexts
 pub mod Cuts
+pub mod LetterCases
+pub mod Matching

@@ -26,26 +26,6 @@ use Rattle.sshkey_known_hosts.specs.declared.host_patterns.HostPatterns.{HostPat
 use Rattle.sshkey_known_hosts.specs.HostFaults.{HasNoBar, HasNoBase64, HasOtherSize, IsNoBase64, RefusesHosts}
 use Rattle.sshkey_entries.proofs.Cuts.{kept_first, kept_last}
 
--- ---- patterns
-
-pub no_patterns : patterns [] ≡ []
-unfolding patterns
-no_patterns = refl
-
-pub patterns_first : (text : List ℕ) (pattern rest : Bor (List ℕ)) → IsSplitOnceResult 0x2c text (Some (pattern, rest)) → patterns text ≡ pattern.now ∷ patterns rest.now
-unfolding patterns
-patterns_first text pattern rest cut =
-    let at = split_once_first 0x2c text (Some (pattern, rest)) cut (omega arith) in
-    ap without_empty_last (slice_split_first is_comma text 0 at.0)
-    ∙ kept_first (before_first is_comma text) _ (omega (arith, length-slice_split is_comma (after_first is_comma text)))
-    ∙ (λ j. sym at.1 j ∷ without_empty_last (slice_split is_comma (sym at.2 j)))
-
-pub patterns_last : (text : List ℕ) → IsSplitOnceResult 0x2c text None → 0 < length text → patterns text ≡ text ∷ patterns []
-unfolding patterns
-patterns_last text none some =
-    ap without_empty_last (slice_split_none is_comma text (All-from_get_or (λ c. is_comma c ≡ false) text 0 (λ k l. ne_eqb _ 0x2c (split_parts 0x2c text None none (omega arith) k l))))
-    ∙ kept_last text some
-
 -- ---- a hashed name
 
 module _ (text : List ℕ) (salt_word hash_word : Bor (List ℕ)) (cut : IsSplitOnceResult bar text (Some (salt_word, hash_word))) where
@@ -124,8 +104,3 @@ refused_is_none text e x other = absurd x
 pub reads_behind_mark : (text rest : List ℕ) (r : Result HostPatterns Error) → text ≡ hashed_mark ++ rest → ReadsHashed rest r → ReadsEntry hosts_of IsHosts text r
 reads_behind_mark text rest (Ok h) is x = subst (λ (t : List ℕ). IsHosts t (hosts_of h)) (sym is) x
 reads_behind_mark text rest (Err e) is x = λ other. subst (IsNoEntry IsHosts) (sym is) (refused_is_none (hashed_mark ++ rest) e x other)
-
--- an empty text has no patterns
-pub no_patterns_left : (text : List ℕ) (empty : Bool) → empty ≡ (length text == 0) → empty ≡ true → patterns text ≡ []
-no_patterns_left [] empty judged e = no_patterns
-no_patterns_left (c ∷ text) empty judged e = let zero : length (c ∷ text) ≡ 0 = eqb-true _ 0 (sym judged ∙ e) in absurd (omega arith)

@@ -3,7 +3,6 @@ pub mod Joins
 pub mod Marked
 pub mod OneLine
 pub mod HostLines
-pub mod Matching
 pub mod SomeOf
 pub mod Verdicts
 pub mod OtherHosts

@@ -1,12 +1,14 @@
 //! The name of a host in known_hosts, and which patterns name it.
 
 ghost use Rattle.std.specs.Prelude.{◌≡◌, ◌↔◌, IsTrue, IfOk, IfErr, string_bytes};
+ghost use Rattle.std.specs.Char.{to_ascii_lowercase};
 ghost use Rattle.std.specs.List.{Any};
 ghost use Rattle.sshkey_base.specs.declared.error.Error.TheVariants as wide;
-ghost use Rattle.sshkey_entries.specs.HostNames.{AreNamed, Names, Refuses, known_name};
+ghost use Rattle.sshkey_entries.specs.HostNames.{known_name};
+ghost use Rattle.sshkey_entries.specs.Patterns.{IsNamed, Names, Refuses};
 
-use crate::pattern::is_match;
 use sshkey_base::{Result, Text};
+use sshkey_files::{LetterCase, is_named_by, is_refused_by};
 use std::alloc::Global;
 
 /// The port at which a host is known by its bare name.
@@ -25,37 +27,22 @@ pub(crate) fn known_name(alloc: Global, host: &str, port: u16) -> Result<String>
     Ok(format!(in alloc; "[{name}]:{port}")?)
 }
 
-fn refuses(pattern: &[u8], name: &[u8]) -> bool
-    ensures { IsTrue result ↔ Refuses name.now pattern.now }
-{
-    match pattern.split_first() {
-        Some((b'!', behind)) => is_match(behind, name),
-        _ => false,
-    }
-}
-
-fn names(pattern: &[u8], name: &[u8]) -> bool
-    ensures { IsTrue result ↔ Names name.now pattern.now }
-{
-    pattern.first() != Some(&b'!') && is_match(pattern, name)
-}
-
-fn some_refuses(patterns: &[Text], name: &[u8]) -> bool
-    ensures { IsTrue result ↔ Any (Refuses name.now) patterns.now }
+fn some_refuses(patterns: &[Text], name: &str) -> bool
+    ensures { IsTrue result ↔ Any (Refuses to_ascii_lowercase name.now) patterns.now }
 {
     for pattern in patterns {
-        if refuses(pattern.as_str().as_bytes(), name) {
+        if is_refused_by(name, pattern.as_str(), LetterCase::Insensitive) {
             return true;
         }
     }
     false
 }
 
-fn some_names(patterns: &[Text], name: &[u8]) -> bool
-    ensures { IsTrue result ↔ Any (Names name.now) patterns.now }
+fn some_names(patterns: &[Text], name: &str) -> bool
+    ensures { IsTrue result ↔ Any (Names to_ascii_lowercase name.now) patterns.now }
 {
     for pattern in patterns {
-        if names(pattern.as_str().as_bytes(), name) {
+        if is_named_by(name, pattern.as_str(), LetterCase::Insensitive) {
             return true;
         }
     }
@@ -63,8 +50,8 @@ fn some_names(patterns: &[Text], name: &[u8]) -> bool
 }
 
 /// Whether a pattern names it, and no negated one rejects it.
-pub(crate) fn are_named(patterns: &[Text], name: &[u8]) -> bool
-    ensures { IsTrue result ↔ AreNamed name.now patterns.now }
+pub(crate) fn are_named(patterns: &[Text], name: &str) -> bool
+    ensures { IsTrue result ↔ IsNamed to_ascii_lowercase name.now patterns.now }
 {
     some_names(patterns, name) && !some_refuses(patterns, name)
 }

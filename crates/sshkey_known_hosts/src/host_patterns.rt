@@ -1,10 +1,9 @@
 //! Hosts of lines of known_hosts.
 
-ghost use Rattle.std.specs.Prelude.{◌≡◌, ◌<◌, ◌∷◌, ◌++◌, ◌↔◌, length, IsTrue, IfOk, IfErr, OnOk, string_bytes};
+ghost use Rattle.std.specs.Prelude.{◌≡◌, ◌++◌, ◌↔◌, IsTrue, IfOk, IfErr, OnOk, string_bytes};
 ghost use Rattle.std.specs.List.{All, join_with_byte};
 ghost use Rattle.sshkey_base.specs.declared.error.Error.TheVariants as wide;
 ghost use Rattle.sshkey_entries.specs.HostNames.{AreFor, known_name};
-ghost use Rattle.sshkey_entries.specs.Items.{patterns};
 ghost use Rattle.sshkey_entries.specs.KnownHosts.{IsHosts, comma, hosts_text};
 ghost use Rattle.sshkey_files.specs.Answers.{ReadsEntry};
 ghost use Rattle.sshkey_public.specs.OneLine.{IsOneLine};
@@ -16,6 +15,7 @@ use crate::host_name::{are_named, known_name};
 use base64::DecodeAllocError;
 use base64::engine::general_purpose::STANDARD;
 use sshkey_base::{Bytes, Error, Result, Text, encoding};
+use sshkey_files::split_pattern;
 use sshkey_public::is_one_line;
 use std::alloc::Global;
 
@@ -142,7 +142,7 @@ impl HostPatterns {
         ensures { IsTrue result ↔ AreFor (H.hmac hmac.now) name.now (hosts_of self.now) }
     {
         match self {
-            HostPatterns::Patterns(patterns) => are_named(patterns, name.as_bytes()),
+            HostPatterns::Patterns(patterns) => are_named(patterns, name),
             HostPatterns::HashedName { salt, hash } => {
                 hmac.hash(salt.as_slice(), name.as_bytes()) == *hash
             }
@@ -174,17 +174,6 @@ fn decode_word(alloc: Global, word: &str) -> Result<Vec<u8>>
         Ok(bytes) => Ok(bytes),
         Err(DecodeAllocError::OutOfMemory) => Err(Error::Memory),
         Err(DecodeAllocError::DecodeError(_)) => Err(Error::Encoding(encoding::Error::Base64)),
-    }
-}
-
-/// A text up to its first comma, and what follows it.
-fn split_pattern(text: &str) -> (&str, &str)
-    requires { 0 < length text.now }
-    ensures { patterns text.now ≡ result.0.now ∷ patterns result.1.now }
-{
-    match text.split_once(',') {
-        Some((pattern, rest)) => (pattern, rest),
-        None => (text, ""),
     }
 }
 

@@ -11,7 +11,6 @@ pub mod laws;
 mod made;
 mod marker;
 mod openssh;
-mod pattern;
 mod verdict;
 
 pub use authority::authorities;

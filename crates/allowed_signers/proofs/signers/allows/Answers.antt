@@ -6,12 +6,12 @@ use Rattle.allowed_signers.proofs.signers.allows.Goals as goal
 pub returns-in_default-clause-answer : goal.returns-in_default-clause-answer
 returns-in_default-clause-answer c = no_front c.args.identity.now c.args.namespace.now c.args.unix_timestamp (key_of c.args.key.now) c.args.line.now c.in_default.ensures
 
-pub returns-then-not-is_listed-clause-answer : goal.returns-then-not-is_listed-clause-answer
-returns-then-not-is_listed-clause-answer c =
+pub returns-then-not-matches_pattern_list-clause-answer : goal.returns-then-not-matches_pattern_list-clause-answer
+returns-then-not-matches_pattern_list-clause-answer c =
     not_listed c.args.identity.now c.args.namespace.now c.args.unix_timestamp (key_of c.args.key.now) c.args.line.now c.in-Some.principals.now c.in-Some.rest.now c.in-Some.ensures.0 c.in-Some.ensures.1
-    (λ listed. let yes : c.is_listed.result ≡ true = c.is_listed.ensures.1 listed in absurd cc)
+    (λ listed. let yes : c.matches_pattern_list.result ≡ true = c.matches_pattern_list.ensures.1 listed in absurd cc)
 
 pub returns-clause-answer : goal.returns-clause-answer
 returns-clause-answer c =
     line_decides c.args.identity.now c.args.namespace.now c.args.unix_timestamp (key_of c.args.key.now) c.args.line.now c.in-Some.principals.now c.in-Some.rest.now c.in-Some.ensures.0 c.in-Some.ensures.1
-    (c.is_listed.ensures.0 c.if-not-is_listed.false) c.has_entry_for.result c.has_entry_for.ensures.answer
+    (c.matches_pattern_list.ensures.0 c.if-not-matches_pattern_list.false) c.has_entry_for.result c.has_entry_for.ensures.answer
