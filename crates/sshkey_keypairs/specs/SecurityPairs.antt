@@ -4,11 +4,10 @@ use Rattle.sshkey_model.specs.KeyPairs.{KeyPair, SkEcdsaPair, SkEd25519Pair, Sec
 use Rattle.sshkey_kinds.specs.Comparisons.{sk_ecdsa_parts, sk_ed25519_parts}
 use Rattle.sshkey_kinds.specs.EcPoint.{point_of}
 use Rattle.sshkey_kinds.specs.Kinds.{sk_ecdsa_point, sk_ecdsa_application, sk_ed25519_key, sk_ed25519_application}
-use Rattle.sshkey_kinds.specs.declared.sk.SkEcdsaSha2NistP256 as public_ecdsa
-use Rattle.sshkey_kinds.specs.declared.sk.SkEd25519 as public_ed25519
+use Rattle.sshkey_keypairs.specs.SkEcdsaSha2NistP256.{SkEcdsaSha2NistP256}
+use Rattle.sshkey_keypairs.specs.SkEd25519.{SkEd25519}
 use Rattle.sshkey_keypairs.specs.declared.held.Held.{Held}
-use Rattle.sshkey_keypairs.specs.declared.sk_ecdsa.SkEcdsaSha2NistP256.{SkEcdsaSha2NistP256}
-use Rattle.sshkey_keypairs.specs.declared.sk_ed25519.SkEd25519 as sk
+use Rattle.sshkey_keypairs.specs.declared.security_pair.SecurityPair.{SecurityPair}
 
 -- ---- what is kept of a key that a security key holds
 
@@ -22,23 +21,17 @@ held_anew flags handle = record { flags = flags; handle = handle; reserved = [] 
 -- ---- the pairs
 
 -- the public key of a security key, and what is kept of it
-abbrev pub sk_ecdsa_public : SkEcdsaSha2NistP256 → public_ecdsa.SkEcdsaSha2NistP256
-sk_ecdsa_public k = k.public
+abbrev pub sk_public : {P : Type 0} → SecurityPair P → P
+sk_public k = k.public
 
-abbrev pub sk_ecdsa_held : SkEcdsaSha2NistP256 → SecurityPrivate
-sk_ecdsa_held k = held_of k.held
+abbrev pub sk_held : {P : Type 0} → SecurityPair P → SecurityPrivate
+sk_held k = held_of k.held
 
 abbrev pub sk_ecdsa_pair_of : SkEcdsaSha2NistP256 → KeyPair
-sk_ecdsa_pair_of k = SkEcdsaPair (record { key = point_of (sk_ecdsa_point (sk_ecdsa_public k)); application = sk_ecdsa_application (sk_ecdsa_public k) }) (sk_ecdsa_held k)
+sk_ecdsa_pair_of k = SkEcdsaPair (record { key = point_of (sk_ecdsa_point (sk_public k)); application = sk_ecdsa_application (sk_public k) }) (sk_held k)
 
-abbrev pub sk_ed25519_public : sk.SkEd25519 → public_ed25519.SkEd25519
-sk_ed25519_public k = k.public
-
-abbrev pub sk_ed25519_held : sk.SkEd25519 → SecurityPrivate
-sk_ed25519_held k = held_of k.held
-
-abbrev pub sk_ed25519_pair_of : sk.SkEd25519 → KeyPair
-sk_ed25519_pair_of k = SkEd25519Pair (record { key = (sk_ed25519_key (sk_ed25519_public k)).0; application = sk_ed25519_application (sk_ed25519_public k) }) (sk_ed25519_held k)
+abbrev pub sk_ed25519_pair_of : SkEd25519 → KeyPair
+sk_ed25519_pair_of k = SkEd25519Pair (record { key = (sk_ed25519_key (sk_public k)).0; application = sk_ed25519_application (sk_public k) }) (sk_held k)
 
 -- ---- what their order goes by
 
@@ -48,7 +41,7 @@ held_parts h = (h.flags ∷ []) ∷ h.handle ∷ h.reserved ∷ []
 
 -- the parts of the public key, and of what is kept of it
 abbrev pub sk_ecdsa_pair_parts : SkEcdsaSha2NistP256 → List (List ℕ)
-sk_ecdsa_pair_parts k = sk_ecdsa_parts (sk_ecdsa_public k) ++ held_parts (sk_ecdsa_held k)
+sk_ecdsa_pair_parts k = sk_ecdsa_parts (sk_public k) ++ held_parts (sk_held k)
 
-abbrev pub sk_ed25519_pair_parts : sk.SkEd25519 → List (List ℕ)
-sk_ed25519_pair_parts k = sk_ed25519_parts (sk_ed25519_public k) ++ held_parts (sk_ed25519_held k)
+abbrev pub sk_ed25519_pair_parts : SkEd25519 → List (List ℕ)
+sk_ed25519_pair_parts k = sk_ed25519_parts (sk_public k) ++ held_parts (sk_held k)

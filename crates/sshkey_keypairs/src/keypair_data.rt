@@ -17,8 +17,7 @@ mod from;
 mod kinds;
 
 use crate::opaque::{OpaqueKeypair, OpaquePrivateKeyBytes};
-use crate::sk_ecdsa::SkEcdsaSha2NistP256;
-use crate::sk_ed25519::SkEd25519;
+use crate::security_pair::{SkEcdsaSha2NistP256, SkEd25519};
 use sshkey_base::{
     Algorithm, Decode, EcdsaCurve, Encode, Error, NormalForm, Reader, Result, Writer, both_len,
     encode_both, encoding,

@@ -7,8 +7,7 @@ ghost use Rattle.sshkey_keypairs.specs.SecurityPairs.{sk_ecdsa_pair_of, sk_ecdsa
 
 use crate::keypair_data::KeypairData;
 use crate::opaque::{OpaqueKeypair, OpaqueKeypairBytes, OpaquePrivateKeyBytes};
-use crate::sk_ecdsa::SkEcdsaSha2NistP256;
-use crate::sk_ed25519::SkEd25519;
+use crate::security_pair::{SkEcdsaSha2NistP256, SkEd25519};
 use sshkey_kinds::laws::{compared_sk_ecdsa_keys, compared_sk_ed25519_keys};
 pub use sshkey_model::laws::private::{prefix_keypair, prefix_pair};
 use sshkey_pairs::laws::{

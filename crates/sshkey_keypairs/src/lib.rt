@@ -5,10 +5,8 @@ mod held;
 mod keypair_data;
 pub mod laws;
 mod opaque;
-mod sk_ecdsa;
-mod sk_ed25519;
+mod security_pair;
 
 pub use keypair_data::KeypairData;
 pub use opaque::{OpaqueKeypair, OpaqueKeypairBytes, OpaquePrivateKeyBytes};
-pub use sk_ecdsa::SkEcdsaSha2NistP256;
-pub use sk_ed25519::SkEd25519;
+pub use security_pair::{SkEcdsaSha2NistP256, SkEd25519};

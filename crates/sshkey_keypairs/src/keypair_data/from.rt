@@ -5,8 +5,7 @@ ghost use Rattle.sshkey_keypairs.specs.declared.keypair_data.KeypairData.TheVari
 
 use super::KeypairData;
 use crate::opaque::OpaqueKeypair;
-use crate::sk_ecdsa::SkEcdsaSha2NistP256;
-use crate::sk_ed25519::SkEd25519;
+use crate::security_pair::{SkEcdsaSha2NistP256, SkEd25519};
 use sshkey_pairs::{DsaKeypair, EcdsaKeypair, Ed25519Keypair, RsaKeypair};
 
 /// That DSA pair. Does not allocate.
