@@ -1,3 +1,4 @@
 pub mod Points
 pub mod Parts
 pub mod PointStrings
+pub mod EqualPoints

@@ -1,6 +1,6 @@
 //! Points of elliptic curves.
 
-ghost use Rattle.std.specs.Prelude.{◌≡◌, ◌≤◌, true, take, option_map};
+ghost use Rattle.std.specs.Prelude.{◌≡◌, ◌≤◌, ◌-◌, true, take, drop, replicate, option_map};
 ghost use Rattle.sshkey_model.specs.Points.{is_point};
 ghost use Rattle.sshkey_base.specs.Names.{curve_of};
 ghost use Rattle.sshkey_kinds.specs.PointSizes.{curve_of_longest, is_point_within};
@@ -27,6 +27,7 @@ pub struct EcPoint<const LEN: usize> {
     len: usize,
     pub ghost within: { len ≤ LEN },
     pub ghost form: { is_point_within LEN (take len bytes) ≡ true },
+    pub ghost zeros: { drop len bytes ≡ replicate (LEN - len) 0 },
 }
 
 /// A point of P-256.
@@ -112,7 +113,8 @@ impl<const LEN: usize> PartialEq for EcPoint<LEN> {
         ensures value { result ≡ on point_of bytes_eq self.now other.now }
         ensures exact { IsTrue result ↔ (point_of self.now ≡ point_of other.now) }
     {
-        self.as_bytes() == other.as_bytes()
+        // Zeros stand behind the bytes of both, and arrays are compared faster than slices.
+        self.len == other.len && self.bytes == other.bytes
     }
 }
 
