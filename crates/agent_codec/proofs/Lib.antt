@@ -1,3 +1,1 @@
-pub mod Constraints
 pub mod Frames
-pub mod Held

@@ -3,16 +3,16 @@ use Rattle.std.proofs.Common.{ℕ, List, [], ◌∷◌, Result, Ok, Err, refl}
 use Rattle.std.specs.Prelude.{◌==◌, if◌then◌else◌, map}
 use Rattle.std.specs.Int.{w8, w32}
 use Rattle.std.specs.List.{AllByRecursion}
-use Rattle.ssh_key.specs.base.Formats.{Format, byte_format, number32_format, string_format, text_format}
+use Rattle.ssh_key.specs.base.Formats.{Format, number32_format, string_format, text_format}
 use Rattle.ssh_key.specs.base.Leaves.{SpellsString, number32_normal, string_normal}
 use Rattle.ssh_key.specs.base.Texts.{SpellsText, text_normal}
+use Rattle.ssh_key.specs.counted.Contents.{Contents, HasBytes, values}
 use Rattle.ssh_key.specs.format.Terms.{◌then◌, IsChosen, choice, tested}
 use Rattle.ssh_key.specs.model.Parts.{Parts, number, ◌&◌, each, flat, Fits}
 use Rattle.ssh_key.specs.model.Reading.{Fault, FormatEncoding}
 use Rattle.ssh_key.specs.model.Texts.{string, IsText}
 use Rattle.ssh_key.proofs.CombinedReaders.{fits_first, fits_second}
-use Rattle.agent_codec.specs.Contents.{Contents, values}
-use Rattle.agent_codec.specs.Parts.{after_number, both_spelled, choice_read, nothing_format, number_alone, number_shows}
+use Rattle.agent_codec.specs.Parts.{after_number, both_spelled, choice_read, nothing_format, number_alone, number_shows, numbered}
 use Rattle.agent_codec.specs.declared.constraint.Constraint as code
 use Rattle.agent_codec.specs.declared.constraint.Constraint.TheVariants as variants
 use Rattle.agent_codec.specs.declared.constraint.kind.ConstraintKind.{ConstraintKind}
@@ -45,7 +45,7 @@ kind_from n =
     else Err FormatEncoding
 
 abbrev pub kind_format : Format ConstraintKind
-kind_format = tested kind_from byte_format
+kind_format = numbered kind_from
 
 -- what stands behind the number
 abbrev pub body_format : ConstraintKind → Format Constraint
@@ -56,9 +56,12 @@ body_format kinds.Extension = tested (λ e. Ok (Extension e.0 e.1)) (text_format
 abbrev pub constraint_format : Format Constraint
 constraint_format = tested (λ c. Ok c.1) (choice kind_format body_format)
 
+pub has_bytes : HasBytes constraint_format
+has_bytes = number_shows kind_from (λ k. (body_format k).Spells)
+
 -- constraints up to the end of the frame
 abbrev pub constraints : Contents (List Constraint)
-constraints = values constraint_format (number_shows kind_from (λ k. (body_format k).Spells))
+constraints = values constraint_format has_bytes
 
 -- ---- what is proved of it
 
@@ -67,8 +70,9 @@ constraint_chosen = choice_read kind_format.read (λ k. (body_format k).read)
 
 -- The name is a text.
 abbrev pub IsWellFormedConstraint : code.Constraint → Type 0
+IsWellFormedConstraint (variants.Lifetime seconds) = Unit {0}
+IsWellFormedConstraint variants.Confirm = Unit {0}
 IsWellFormedConstraint (variants.Extension name details) = IsText name
-IsWellFormedConstraint _ = Unit {0}
 
 abbrev SpellsBody : ConstraintKind → Constraint → List ℕ → Type 0
 SpellsBody k = (body_format k).Spells

@@ -1,5 +1,4 @@
 pub mod Constraints
-pub mod Contents
 pub mod Parts
 pub mod Records
 pub mod Requests

@@ -2,14 +2,14 @@
 use Rattle.std.proofs.Common.{◌≡◌, ◌<◌, ℕ, List, [], ◌++◌, append-nil, length, Result, Ok, Err, refl, subst, sym, ap, arith}
 use Rattle.std.proofs.lemmas.List.{length-append}
 use Rattle.std.specs.Int.{w8}
-use Rattle.ssh_key.specs.base.Formats.{Format}
+use Rattle.ssh_key.specs.base.Formats.{Format, byte_format}
 use Rattle.ssh_key.specs.base.Leaves.{SpellsByte, byte_normal}
 use Rattle.ssh_key.specs.base.Reading.{SpellsBoxed}
 use Rattle.ssh_key.specs.base.Needs.{NoNeed}
 use Rattle.ssh_key.specs.base.Stops.{NoOverrun}
 use Rattle.ssh_key.specs.base.Lengths.{no_lengths}
 use Rattle.ssh_key.specs.format.Behind.{SpellsBoth, SpellsThen, behind_at}
-use Rattle.ssh_key.specs.format.Terms.{IsChosen, IsMapped}
+use Rattle.ssh_key.specs.format.Terms.{IsChosen, IsMapped, tested}
 use Rattle.ssh_key.specs.format.Tested.{SpellsTested}
 use Rattle.ssh_key.specs.model.Grammar.{IsGrammar}
 use Rattle.ssh_key.specs.model.Parts.{Parts, ◌&◌, box, flat, number, Fits}
@@ -52,6 +52,10 @@ both_spelled S T x y p q first second fits = record {
 }
 
 -- ---- a number of one byte, and what it calls for
+
+-- what it stands for
+abbrev pub numbered : {K : Type 0} → (ℕ → Result K Fault) → Format K
+numbered kind_from = tested kind_from byte_format
 
 module _ {K M : Type 0} (kind_from : ℕ → Result K Fault) (Body : K → M → List ℕ → Type 0) where
   abbrev pub SpellsNumbered : M → List ℕ → Type 0

@@ -74,6 +74,10 @@ addition_of_parts a = Ok (record { pair = a.0; comment = a.1 })
 abbrev pub addition_format : Format Addition
 addition_format = tested addition_of_parts (keypair_format then text_format)
 
+-- The pair is no encrypted one, and the comment is a text.
+abbrev pub IsWellFormedAddition : code_addition.Addition → Type 0
+IsWellFormedAddition a = IsWellFormedPair (pair_of a.keypair) × IsText a.comment
+
 -- ---- what is proved of them
 
 pub identity_parts_read : IsMapped identity_format.read identity_of_parts (string_format then text_format).read
@@ -99,7 +103,7 @@ sign_request_normal r fits = record {
   makes = refl;
 }
 
-pub addition_normal : (a : code_addition.Addition) → IsWellFormedPair (pair_of a.keypair) × IsText a.comment → Fits (addition a) → addition_format.Spells (addition_of a) (flat (addition a))
+pub addition_normal : (a : code_addition.Addition) → IsWellFormedAddition a → Fits (addition a) → addition_format.Spells (addition_of a) (flat (addition a))
 addition_normal a is fits = record {
   inner = (pair_of a.keypair, a.comment);
   spelled = both_spelled SpellsKeypair SpellsText (pair_of a.keypair) a.comment (keypair_parts a.keypair) (string a.comment) (keypair_normal a.keypair is.0) (text_normal a.comment is.1) fits;

@@ -3,19 +3,17 @@ use Rattle.std.proofs.Common.{ℕ, List, Result, Ok, Err, refl}
 use Rattle.std.specs.Prelude.{◌==◌, if◌then◌else◌, map}
 use Rattle.std.specs.Int.{w8}
 use Rattle.std.specs.List.{AllByRecursion}
-use Rattle.ssh_key.specs.base.Formats.{Format, byte_format, string_format}
+use Rattle.ssh_key.specs.base.Formats.{Format, string_format}
 use Rattle.ssh_key.specs.base.Leaves.{string_normal}
+use Rattle.ssh_key.specs.counted.Contents.{Contents, alone, choice_to_end, held, tested_to_end}
 use Rattle.ssh_key.specs.format.Behind.{both_at}
 use Rattle.ssh_key.specs.format.Terms.{IsChosen, IsMapped, tested}
-use Rattle.ssh_key.specs.keypairs.Keypairs.{pair_of}
-use Rattle.ssh_key.specs.keypairs.NormalPairs.{IsWellFormedPair}
 use Rattle.ssh_key.specs.model.Parts.{Parts, box, each, flat, Fits, number, ◌&◌}
 use Rattle.ssh_key.specs.model.Reading.{Fault, FormatEncoding}
-use Rattle.ssh_key.specs.model.Texts.{string, IsText}
+use Rattle.ssh_key.specs.model.Texts.{string}
 use Rattle.agent_codec.specs.Constraints.{Constraint, IsWellFormedConstraint, constraint, constraint_of, constraints, constraints_normal}
-use Rattle.agent_codec.specs.Contents.{Contents, alone, choice_to_end, held, tested_to_end}
-use Rattle.agent_codec.specs.Parts.{after_number, both_spelled, choice_read, framed, nothing_format, number_alone}
-use Rattle.agent_codec.specs.Records.{Addition, SignRequest, addition, addition_format, addition_normal, addition_of, sign_request, sign_request_format, sign_request_normal, sign_request_of}
+use Rattle.agent_codec.specs.Parts.{after_number, both_spelled, choice_read, framed, nothing_format, number_alone, numbered}
+use Rattle.agent_codec.specs.Records.{Addition, IsWellFormedAddition, SignRequest, addition, addition_format, addition_normal, addition_of, sign_request, sign_request_format, sign_request_normal, sign_request_of}
 use Rattle.agent_codec.specs.declared.addition.Addition as code_addition
 use Rattle.agent_codec.specs.declared.constraint.Constraint as code_constraint
 use Rattle.agent_codec.specs.declared.request.Request as code
@@ -70,7 +68,7 @@ kind_from n =
     else Err FormatEncoding
 
 abbrev pub kind_format : Format RequestKind
-kind_format = tested kind_from byte_format
+kind_format = numbered kind_from
 
 -- ---- what stands behind the number
 
@@ -105,9 +103,14 @@ constrained_read = record { same = λ b. refl }
 
 -- What is added is no encrypted pair, and what is said in words is UTF-8.
 abbrev pub IsWellFormed : code.Request → Type 0
-IsWellFormed (variants.AddIdentity a) = IsWellFormedPair (pair_of a.keypair) × IsText a.comment
-IsWellFormed (variants.AddIdentityConstrained a cs) = (IsWellFormedPair (pair_of a.keypair) × IsText a.comment) × AllByRecursion IsWellFormedConstraint cs.items
-IsWellFormed _ = Unit {0}
+IsWellFormed variants.RequestIdentities = Unit {0}
+IsWellFormed (variants.SignRequest r) = Unit {0}
+IsWellFormed (variants.AddIdentity a) = IsWellFormedAddition a
+IsWellFormed (variants.RemoveIdentity key) = Unit {0}
+IsWellFormed variants.RemoveAllIdentities = Unit {0}
+IsWellFormed (variants.Lock passphrase) = Unit {0}
+IsWellFormed (variants.Unlock passphrase) = Unit {0}
+IsWellFormed (variants.AddIdentityConstrained a cs) = IsWellFormedAddition a × AllByRecursion IsWellFormedConstraint cs.items
 
 abbrev SpellsBody : RequestKind → Request → List ℕ → Type 0
 SpellsBody k = (body k).Spells

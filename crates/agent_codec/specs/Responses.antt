@@ -3,7 +3,7 @@ use Rattle.std.proofs.Common.{◌≡◌, ◌<◌, ◌+◌, ℕ, List, length, ma
 use Rattle.std.specs.Prelude.{◌==◌, if◌then◌else◌}
 use Rattle.std.specs.Int.{w8}
 use Rattle.std.specs.List.{AllByRecursion}
-use Rattle.ssh_key.specs.base.Formats.{Format, byte_format}
+use Rattle.ssh_key.specs.base.Formats.{Format}
 use Rattle.ssh_key.specs.counted.Counted.{counted, counted_format, counted_normal}
 use Rattle.ssh_key.specs.format.Terms.{IsChosen, boxed, choice, tested}
 use Rattle.ssh_key.specs.keys.KeyFormats.{signature_format}
@@ -15,7 +15,7 @@ use Rattle.ssh_key.specs.model.Signatures.{Signature, IsSignature, signature}
 use Rattle.ssh_key.specs.model.Texts.{string, IsText}
 use Rattle.ssh_key.specs.types.Signature as code_signature
 use Rattle.ssh_key.proofs.Writing.{length_both, length_box}
-use Rattle.agent_codec.specs.Parts.{after_number, choice_read, framed, nothing_format, number_alone}
+use Rattle.agent_codec.specs.Parts.{after_number, choice_read, framed, nothing_format, number_alone, numbered}
 use Rattle.agent_codec.specs.Records.{Identity, identity, identity_format, identity_normal, identity_of}
 use Rattle.agent_codec.specs.declared.identity.Identity as code_identity
 use Rattle.agent_codec.specs.declared.response.Response as code
@@ -41,8 +41,10 @@ message_of m = response_of m.0
 
 -- the signature, of a response that is one
 abbrev pub given_of : code.Response → Option code_signature.Signature
+given_of variants.Failure = None
+given_of variants.Success = None
+given_of (variants.IdentitiesAnswer keys) = None
 given_of (variants.SignResponse g) = Some g
-given_of _ = None
 
 -- the keys, behind their number
 abbrev pub answer : List code_identity.Identity → Parts
@@ -77,7 +79,7 @@ kind_from n =
     else Err FormatEncoding
 
 abbrev pub kind_format : Format ResponseKind
-kind_format = tested kind_from byte_format
+kind_format = numbered kind_from
 
 -- what stands behind the number
 abbrev pub body_format : ResponseKind → Format Response
@@ -100,9 +102,10 @@ message_chosen = choice_read kind_format.read (λ k. (body_format k).read)
 
 -- The signature is one of its algorithm, and the comments are texts.
 abbrev pub IsWellFormed : code.Response → Type 0
+IsWellFormed variants.Failure = Unit {0}
+IsWellFormed variants.Success = Unit {0}
 IsWellFormed (variants.IdentitiesAnswer keys) = AllByRecursion (λ i. IsText i.comment) keys.items
 IsWellFormed (variants.SignResponse g) = IsSignature (signature_of g)
-IsWellFormed _ = Unit {0}
 
 -- a key has bytes
 shows : (i : code_identity.Identity) → 0 < length (flat (identity (identity_of i)))

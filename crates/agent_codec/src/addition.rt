@@ -1,11 +1,8 @@
 //! A key pair that an agent is given.
 
 ghost use Rattle.std.specs.Prelude.{◌+◌, ◌^◌};
-ghost use Rattle.ssh_key.specs.keypairs.Keypairs.{pair_of};
-ghost use Rattle.ssh_key.specs.keypairs.NormalPairs.{IsWellFormedPair};
-ghost use Rattle.ssh_key.specs.model.Texts.{IsText};
 ghost use Rattle.agent_codec.specs.Records as model;
-ghost use Rattle.agent_codec.specs.Records.{addition, addition_format, addition_normal, addition_of};
+ghost use Rattle.agent_codec.specs.Records.{IsWellFormedAddition, addition, addition_format, addition_normal, addition_of};
 
 use ssh_key::encoding::{
     Decode, Encode, NormalForm, Reader, Text, Then, Wide, Writer, both_len, encode_both,
@@ -15,7 +12,6 @@ use ssh_key::{Error, Result, encoding};
 use std::alloc::Global;
 
 /// A key pair and what the user calls it (draft-miller-ssh-agent, section 4.2).
-#[derive(Debug)]
 pub struct Addition {
     /// The pair.
     pub keypair: KeypairData,
@@ -66,7 +62,7 @@ impl Encode for Addition {
 
 /// An encrypted pair is not well-formed: it is not spelled by itself.
 impl NormalForm for Addition {
-    ghost IsWellFormed = { λ a. IsWellFormedPair (pair_of a.keypair) × IsText a.comment };
+    ghost IsWellFormed = { IsWellFormedAddition };
 
     ghost normal_spells = { addition_normal };
 }

@@ -21,7 +21,6 @@ pub trait Agent {
 ///
 /// The agent may answer anything, so `try_sign` asks `KeyData::verify` about the signature before
 /// it returns it.
-#[derive(Debug)]
 pub struct AgentKey<'a, A, V> {
     /// The public key.
     pub key: KeyData,
@@ -47,16 +46,30 @@ impl<A, V> Drop for AgentKey<'_, A, V> {
 impl<A: Agent, V: RawVerifier> AgentKey<'_, A, V> {
     /// What the agent answers. Fails with `Crypto` where it answers no signature.
     fn ask(&self, alloc: Global, message: &[u8]) -> Result<Signature> {
+        let request = self.request_for(alloc, message)?;
+        let answer = self.agent.ask(alloc, &request)?;
+        signature_from(alloc, &answer)
+    }
+
+    /// The bytes of the request to sign the message.
+    fn request_for(&self, alloc: Global, message: &[u8]) -> Result<Vec<u8>> {
+        let key = Bytes::new(encode_vec(alloc, &self.key)?);
+        let message = Bytes::from_slice(alloc, message)?;
+        let flags = self.flags;
         let request = Request::SignRequest(SignRequest {
-            key: Bytes::new(encode_vec(alloc, &self.key)?),
-            message: Bytes::from_slice(alloc, message)?,
-            flags: self.flags,
+            key,
+            message,
+            flags,
         });
-        let answer = self.agent.ask(alloc, &encode_vec(alloc, &request)?)?;
-        match decode_whole::<Response, &[u8]>(alloc, answer.as_slice())?.into_signature() {
-            Some(signature) => Ok(signature),
-            None => Err(Error::Crypto),
-        }
+        Ok(encode_vec(alloc, &request)?)
+    }
+}
+
+/// The signature of an answer. Fails with `Crypto` where it has none.
+fn signature_from(alloc: Global, answer: &[u8]) -> Result<Signature> {
+    match decode_whole::<Response, &[u8]>(alloc, answer)?.into_signature() {
+        Some(signature) => Ok(signature),
+        None => Err(Error::Crypto),
     }
 }
 

@@ -11,11 +11,10 @@ ghost use Rattle.agent_codec.specs.Constraints as model;
 ghost use Rattle.agent_codec.specs.Constraints.{IsWellFormedConstraint, body_format, constraint, constraint_format, constraint_normal, constraint_of};
 
 mod kind;
-mod list;
 
+use crate::kind::decode_kind;
 use crate::numbers::{CONSTRAIN_CONFIRM, CONSTRAIN_EXTENSION, CONSTRAIN_LIFETIME};
 use kind::ConstraintKind;
-pub(crate) use list::constraints_from;
 use ssh_key::encoding::{
     Bytes, Decode, Encode, NormalForm, Reader, Text, Then, Wide, Writer, both_len, encode_both,
 };
@@ -23,7 +22,7 @@ use ssh_key::{Error, Result, encoding};
 use std::alloc::Global;
 
 /// A limit on the use of a key that an agent is given (draft-miller-ssh-agent, section 4.2.6).
-#[derive(Debug, Drop)]
+#[derive(Drop)]
 pub enum Constraint {
     /// Forget the key after so many seconds.
     Lifetime(u32),
@@ -58,7 +57,7 @@ impl Decode for Constraint {
     ghost format = { constraint_format };
 
     fn decode<R: Reader>(alloc: Global, reader: &mut R) -> Result<Constraint> {
-        let kind = ConstraintKind::decode(alloc, reader)?;
+        let kind = decode_kind::<ConstraintKind, R>(alloc, reader)?;
         constraint_from(alloc, reader, kind)
     }
 }

@@ -12,7 +12,7 @@ use ssh_key::encoding::{
 use std::alloc::Global;
 
 /// A key of the answer to `SSH_AGENTC_REQUEST_IDENTITIES` (draft-miller-ssh-agent, section 4.4).
-#[derive(Debug, Drop)]
+#[derive(Drop)]
 pub struct Identity {
     /// The blob of the key or of its certificate: `KeyOrCertificate::from_bytes` reads either. It
     /// is kept as bytes, since a key of a kind that nobody knows here is no fault of the answer.

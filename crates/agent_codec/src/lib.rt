@@ -10,6 +10,7 @@ mod agent_key;
 mod constraint;
 mod frame;
 mod identity;
+mod kind;
 pub mod laws;
 mod numbers;
 mod request;

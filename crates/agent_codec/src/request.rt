@@ -5,10 +5,9 @@ ghost use Rattle.ssh_key.specs.base.Causes.{cause};
 ghost use Rattle.ssh_key.specs.base.Needs.{Asks};
 ghost use Rattle.ssh_key.specs.base.Nested.{nested_source};
 ghost use Rattle.ssh_key.specs.base.Reading.{Gives};
-ghost use Rattle.ssh_key.specs.base.Sink.{Encodes, MeasuresBoxed};
 ghost use Rattle.ssh_key.specs.base.Source.{Later};
+ghost use Rattle.ssh_key.specs.counted.Contents.{StopsIn};
 ghost use Rattle.ssh_key.specs.model.Parts.{box};
-ghost use Rattle.agent_codec.specs.Contents.{StopsIn};
 ghost use Rattle.agent_codec.specs.Requests as model;
 ghost use Rattle.agent_codec.specs.Requests.{IsWellFormed, message, request, request_format, request_normal, request_of};
 
@@ -18,7 +17,7 @@ mod read;
 
 use crate::addition::Addition;
 use crate::constraint::Constraint;
-use crate::frame::message_len;
+use crate::frame::{Framed, encode_frame, frame_len, message_len};
 use crate::numbers::{
     ADD_IDENTITY, LOCK, REMOVE_ALL_IDENTITIES, REMOVE_IDENTITY, REQUEST_IDENTITIES, SIGN_REQUEST,
     UNLOCK,
@@ -32,8 +31,7 @@ use ssh_key::encoding::{
 use ssh_key::{Error, Result, encoding};
 use std::alloc::Global;
 
-/// A request (draft-miller-ssh-agent, section 4).
-#[derive(Debug)]
+/// A request (draft-miller-ssh-agent, section 4). It has no `Debug`, since it may hold a passphrase.
 pub enum Request {
     /// Which keys the agent holds.
     RequestIdentities,
@@ -107,19 +105,17 @@ impl Decode for Request {
 }
 
 /// Fails with `Length` where a frame can't hold the request, or a string in it is too long.
-#[tactic(auto, using(ssh_key::proofs::Writing::measuring_leaves))]
 impl Encode for Request {
     ghost normal = { λ r. box (request r) };
 
     ghost max_len = { 2 ^ 32 + 3 };
 
     fn encoded_len(&self) -> encoding::Result<usize> {
-        Ok(4 + self.message_len()? as usize)
+        frame_len(self)
     }
 
     fn encode<W: Writer>(&self, writer: &mut W) -> encoding::Result<()> {
-        self.message_len()?.encode(writer)?;
-        self.encode_message(writer)
+        encode_frame(self, writer)
     }
 }
 
@@ -130,13 +126,11 @@ impl NormalForm for Request {
     ghost normal_spells = { request_normal };
 }
 
-impl Request {
-    /// How many bytes stand in the frame. Fails with `Length` exactly if it can't hold them, or a
-    /// string in them is too long.
+impl Framed for Request {
+    ghost message = { request };
+
     #[tactic(auto, using(ssh_key::proofs::Writing::measuring_leaves))]
-    fn message_len(&self) -> encoding::Result<u32>
-        ensures { MeasuresBoxed (request self.now) result }
-    {
+    fn message_len(&self) -> encoding::Result<u32> {
         match self {
             Request::RequestIdentities | Request::RemoveAllIdentities => Ok(1),
             Request::SignRequest(request) => message_len(&SIGN_REQUEST, request),
@@ -151,11 +145,7 @@ impl Request {
         }
     }
 
-    /// Writes what stands in the frame.
-    fn encode_message<W: Writer>(&self, writer: &mut W) -> encoding::Result<()>
-        ensures { Encodes W.fault (request self.now)
-            (W.sink writer.old) result (W.sink writer.new) }
-    {
+    fn encode_message<W: Writer>(&self, writer: &mut W) -> encoding::Result<()> {
         match self {
             Request::RequestIdentities => REQUEST_IDENTITIES.encode(writer),
             Request::SignRequest(request) => encode_both(&SIGN_REQUEST, request, writer),

@@ -14,7 +14,9 @@ ghost use Rattle.agent_codec.specs.Responses.{IsWellFormed, answered, body_forma
 
 mod kind;
 
+use crate::frame::{Framed, encode_frame, frame_len};
 use crate::identity::Identity;
+use crate::kind::decode_kind;
 use crate::numbers::{FAILURE, IDENTITIES_ANSWER, SIGN_RESPONSE, SUCCESS};
 use kind::ResponseKind;
 use ssh_key::encoding::{
@@ -25,7 +27,6 @@ use ssh_key::{Error, Result, Signature, encoding};
 use std::alloc::Global;
 
 /// An answer (draft-miller-ssh-agent, section 4).
-#[derive(Debug)]
 pub enum Response {
     /// The agent refused.
     Failure,
@@ -69,19 +70,17 @@ impl Decode for Response {
 }
 
 /// Fails with `Length` where a frame can't hold the response, or a string in it is too long.
-#[tactic(auto, using(ssh_key::proofs::Writing::measuring_leaves))]
 impl Encode for Response {
     ghost normal = { λ r. box (response r) };
 
     ghost max_len = { 2 ^ 32 + 3 };
 
     fn encoded_len(&self) -> encoding::Result<usize> {
-        Ok(4 + self.message_len()? as usize)
+        frame_len(self)
     }
 
     fn encode<W: Writer>(&self, writer: &mut W) -> encoding::Result<()> {
-        self.message_len()?.encode(writer)?;
-        self.encode_message(writer)
+        encode_frame(self, writer)
     }
 }
 
@@ -102,13 +101,13 @@ impl Response {
             Response::Failure | Response::Success | Response::IdentitiesAnswer(_) => None,
         }
     }
+}
 
-    /// How many bytes stand in the frame. Fails with `Length` exactly if it can't hold them, or a
-    /// string in them is too long.
+impl Framed for Response {
+    ghost message = { response };
+
     #[tactic(auto, using(ssh_key::proofs::Writing::measuring_leaves))]
-    fn message_len(&self) -> encoding::Result<u32>
-        ensures { MeasuresBoxed (response self.now) result }
-    {
+    fn message_len(&self) -> encoding::Result<u32> {
         match self {
             Response::Failure | Response::Success => Ok(1),
             Response::IdentitiesAnswer(identities) => answer_len(identities),
@@ -116,11 +115,7 @@ impl Response {
         }
     }
 
-    /// Writes what stands in the frame.
-    fn encode_message<W: Writer>(&self, writer: &mut W) -> encoding::Result<()>
-        ensures { Encodes W.fault (response self.now)
-            (W.sink writer.old) result (W.sink writer.new) }
-    {
+    fn encode_message<W: Writer>(&self, writer: &mut W) -> encoding::Result<()> {
         match self {
             Response::Failure => FAILURE.encode(writer),
             Response::Success => SUCCESS.encode(writer),
@@ -179,7 +174,7 @@ impl Decode for Message {
     ghost format = { message_format };
 
     fn decode<R: Reader>(alloc: Global, reader: &mut R) -> Result<Message> {
-        let kind = ResponseKind::decode(alloc, reader)?;
+        let kind = decode_kind::<ResponseKind, R>(alloc, reader)?;
         message_from(alloc, reader, kind)
     }
 }

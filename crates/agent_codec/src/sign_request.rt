@@ -4,12 +4,14 @@ ghost use Rattle.std.specs.Prelude.{◌+◌, ◌*◌, ◌^◌};
 ghost use Rattle.agent_codec.specs.Records as model;
 ghost use Rattle.agent_codec.specs.Records.{sign_request, sign_request_format, sign_request_normal, sign_request_of};
 
-use ssh_key::encoding::{Bytes, Decode, Encode, NormalForm, Reader, Then, Wide, Writer, both_len};
+use ssh_key::encoding::{
+    Bytes, Decode, Encode, NormalForm, Reader, Then, Wide, Writer, both_len, encode_both,
+};
 use ssh_key::{Error, Result, encoding};
 use std::alloc::Global;
 
 /// What is to be signed, and by which key (draft-miller-ssh-agent, section 4.5).
-#[derive(Debug, Drop)]
+#[derive(Drop)]
 pub struct SignRequest {
     /// The blob of the key.
     pub key: Bytes,
@@ -54,8 +56,7 @@ impl Encode for SignRequest {
 
     fn encode<W: Writer>(&self, writer: &mut W) -> encoding::Result<()> {
         self.key.encode(writer)?;
-        self.message.encode(writer)?;
-        self.flags.encode(writer)
+        encode_both(&self.message, &self.flags, writer)
     }
 }
 

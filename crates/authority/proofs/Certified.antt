@@ -1,5 +1,5 @@
 -- What a builder that was told of a request signs.
-use Rattle.std.proofs.Common.{◌≡◌, ◌≢◌, ◌∙◌, ℕ, List, [], Bool, Result, Ok, Err, IfOk, IfErr, subst}
+use Rattle.std.proofs.Common.{◌≡◌, ◌∙◌, ℕ, List, Bool, Result, Ok, Err, IfOk, IfErr, subst}
 use Rattle.std.specs.Prelude.{Option, None, Some, IsNone, IsSome, option_map, string_bytes}
 use Rattle.ssh_key.specs.builder.Builders.{IsValidExactlyIn, RefusesAlways, field_error, no_principals}
 use Rattle.ssh_key.specs.cert.CertificateValues.{certificate_of}

@@ -1,5 +1,5 @@
 -- What holds of histories of serial numbers.
-use Rattle.std.proofs.Common.{◌≡◌, ℕ, zero, suc, ◌+◌, ◌<◌, ◌≤◌, List, [], ◌∷◌, ◌++◌, length, slice_index, get_or, rules, arith}
+use Rattle.std.proofs.Common.{ℕ, zero, suc, ◌+◌, ◌<◌, ◌≤◌, List, [], ◌∷◌, ◌++◌, length, slice_index, arith}
 use Rattle.authority.specs.Serials.{IsHistory}
 
 weaker : (a b to : ℕ) (ss : List ℕ) → a ≤ b → IsHistory b ss to → IsHistory a ss to

@@ -7,7 +7,7 @@ use Rattle.ssh_key.specs.model.Keys.{Key}
 use Rattle.ssh_key.specs.model.Verification.{Question}
 use Rattle.ssh_key.specs.types.Certificate.{Certificate}
 use Rattle.ssh_key.specs.types.Error.{Error}
-use Rattle.authority.specs.Requests.{CertifiesExactly, IsWithin, IssuesExactly}
+use Rattle.authority.specs.Requests.{CertifiesExactly, IsWithin, IssuesExactly, OtherUsers, OtherWindow, RefusesRequest}
 use Rattle.authority.specs.Serials.{IsHistory, serial_of}
 use Rattle.authority.specs.declared.limits.Limits.{Limits}
 use Rattle.authority.specs.declared.request.Request.{Request}
@@ -18,6 +18,11 @@ used accepts authority refuses r serial next nonce more (Ok c) certified =
     let same = ap (λ (s : SignedFields). s.serial) certified.fields in
     (omega (arith, same), omega (arith, same, more))
 used accepts authority refuses r serial next nonce more (Err e) refused = omega (arith, more)
+
+-- a request is refused for what is outside the limits
+pub outside : (limits : Limits) (r : Request) (e : Error) → RefusesRequest limits r e → IsWithin limits r → ⊥
+outside limits r e (OtherUsers none) within = none within.0
+outside limits r e (OtherWindow names none) within = none within.1
 
 window : (after before : ℕ) → before < 2 ^ 63 → after < before → bad_window after before ≡ None
 window after before time less =

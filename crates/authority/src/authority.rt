@@ -1,6 +1,6 @@
 //! An authority.
 
-ghost use Rattle.std.specs.Prelude.{◌≡◌, ◌↔◌, ◌++◌, ◌∷◌, [], IfErr, OnErr, OnOk, IsTrue, Contains};
+ghost use Rattle.std.specs.Prelude.{◌≡◌, ◌≤◌, ◌<◌, ◌+◌, ◌^◌, ◌⊎◌, ◌↔◌, ◌++◌, ◌∷◌, [], IfErr, OnErr, OnOk, IsTrue, Contains};
 ghost use Rattle.ssh_key.specs.keys.Keys.{key_of};
 ghost use Rattle.ssh_key.specs.types.Error.TheVariants.{Memory};
 ghost use Rattle.authority.specs.Requests.{IssuesExactly, IsWithin};
@@ -54,7 +54,10 @@ impl Authority {
             (key_of (S.public_of signer.now)) (S.refuses signer.now) self.old.limits request
             self.old.next_serial nonce.items result }
         ensures history { IsHistory self.old.next_serial (serial_of result) self.new.next_serial }
-        ensures unused { (IsWithin self.old.limits request → ⊥)
+        ensures used { IsWithin self.old.limits request → self.old.next_serial + 1 < 2 ^ 64
+            → self.new.next_serial ≡ self.old.next_serial + 1 }
+        ensures unused { ((IsWithin self.old.limits request → ⊥)
+            ⊎ (2 ^ 64 ≤ self.old.next_serial + 1))
             → self.new.next_serial ≡ self.old.next_serial }
         ensures limits { self.new.limits ≡ self.old.limits }
         ensures revoked { self.new.revoked ≡ self.old.revoked }

@@ -17,7 +17,7 @@ use Rattle.ssh_key.specs.sshsig.SshSignatureReaders.{SpellsSshSignature}
 use Rattle.ssh_key.specs.types.Error.{Error}
 use Rattle.ssh_key.specs.types.Error.TheVariants.{Memory}
 use Rattle.ssh_key.proofs.Acceptance.{other_cause}
-use Rattle.deploy_keys.specs.Signers.{Answers, FindsAmong, HasSigned, Here, IsFirst, IsSigner, JudgesEntry, JudgesLine, Later, NamesSigner, Nobody, PassesOver}
+use Rattle.deploy_keys.specs.Signers.{Answers, FindsAmong, HasSignatureFault, HasSigned, Here, IsFirst, IsSigner, JudgesEntry, JudgesLine, Later, NamesSigner, Nobody, PassesOver}
 
 -- ---- from a verdict to an answer
 
@@ -72,6 +72,11 @@ nobody Signs all left was is = was None (subst (λ (l : List (List ℕ)). IsFirs
 pub named : {Y : Type 0} (accepts : Question → Bool) (keys namespace content bytes : List ℕ) (f : SshSignature) → SpellsSshSignature f bytes → (r : Result (Option (String Y)) Error) → FindsAmong (IsSigner accepts namespace content f) (filled_lines keys) r → NamesSigner accepts keys namespace content bytes r
 named accepts keys namespace content bytes f spelled (Ok found) is = (f, spelled, is)
 named accepts keys namespace content bytes f spelled (Err e) memory = λ other g read. other memory
+
+-- who was found, or memory ran out
+pub faultless : {Y : Type 0} (Signs : List ℕ → List ℕ → Type 0) (lines : List (List ℕ)) (bytes : List ℕ) (r : Result (Option (String Y)) Error) → FindsAmong Signs lines r → IfErr r (HasSignatureFault bytes)
+faultless Signs lines bytes (Ok found) is = tt
+faultless Signs lines bytes (Err e) memory = λ other. absurd (other memory)
 
 pub no_signature : (bytes : List ℕ) (e : Error) → (cause e ≢ NoMemory → IsSound (all_of bytes) → NoSpelling SpellsSshSignature bytes) → e ≢ Memory → (f : SshSignature) → SpellsSshSignature f bytes → ⊥
 no_signature bytes e none other f spelled = none (other_cause e other) refl f spelled

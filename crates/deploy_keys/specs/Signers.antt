@@ -1,12 +1,14 @@
 -- Which of the keys in a text like authorized_keys has signed.
-use Rattle.std.specs.Prelude.{◌≡◌, ◌≢◌, ◌⊎◌, ℕ, List, [], ◌∷◌, Bool, true, false, Option, Some, None, Result, Ok, Err, String, option_map, string_bytes}
+use Rattle.std.specs.Prelude.{◌≡◌, ◌≢◌, ◌⊎◌, ℕ, List, [], ◌∷◌, Bool, true, false, Option, Some, None, Result, Ok, Err, String, IsErrAnd, option_map, string_bytes}
+use Rattle.ssh_key.specs.base.Causes.{Faulty, cause}
 use Rattle.ssh_key.specs.entries.AuthorizedKeys.{AuthorizedKey}
 use Rattle.ssh_key.specs.entries.Fields.{filled_lines}
 use Rattle.ssh_key.specs.entries.OpenSshLines.{IsAuthorizedLine}
+use Rattle.ssh_key.specs.model.Reading.{whole}
 use Rattle.ssh_key.specs.model.SignedMessages.{IsVerified}
 use Rattle.ssh_key.specs.model.SshSignatures.{SshSignature}
 use Rattle.ssh_key.specs.model.Verification.{Question}
-use Rattle.ssh_key.specs.sshsig.SshSignatureReaders.{SpellsSshSignature}
+use Rattle.ssh_key.specs.sshsig.SshSignatureReaders.{SpellsSshSignature, ssh_signature_value_at}
 use Rattle.ssh_key.specs.types.Error.{Error}
 use Rattle.ssh_key.specs.types.Error.TheVariants.{Memory}
 
@@ -32,6 +34,10 @@ pub data IsFirst (Signs : List ℕ → List ℕ → Type 0) : List (List ℕ) �
 abbrev pub NamesSigner : {Y : Type 0} → (Question → Bool) → List ℕ → List ℕ → List ℕ → List ℕ → Result (Option (String Y)) Error → Type 0
 NamesSigner accepts keys namespace content bytes (Ok found) = (f : SshSignature) × SpellsSshSignature f bytes × IsFirst (IsSigner accepts namespace content f) (filled_lines keys) (option_map string_bytes found)
 NamesSigner accepts keys namespace content bytes (Err e) = e ≢ Memory → (f : SshSignature) → SpellsSshSignature f bytes → ⊥
+
+-- Out of memory aside, the error is the first fault of the bytes, from the left.
+abbrev pub HasSignatureFault : List ℕ → Error → Type 0
+HasSignatureFault bytes e = e ≢ Memory → IsErrAnd (whole ssh_signature_value_at bytes) (λ fault. cause e ≡ Faulty fault)
 
 -- ---- the steps
 

@@ -9,7 +9,7 @@ ghost use Rattle.ssh_key.specs.model.Keys.{IsKey};
 ghost use Rattle.ssh_key.specs.model.SignedMessages.{IsVerified};
 ghost use Rattle.ssh_key.specs.sshsig.SshSignatures.{ssh_signature_of};
 ghost use Rattle.ssh_key.specs.types.Error.TheVariants.{Memory};
-ghost use Rattle.deploy_keys.specs.Signers.{Answers, FindsAmong, IsSigner, JudgesEntry, JudgesLine, NamesSigner, PassesOver, SpelledBySome};
+ghost use Rattle.deploy_keys.specs.Signers.{Answers, FindsAmong, HasSignatureFault, IsSigner, JudgesEntry, JudgesLine, NamesSigner, PassesOver, SpelledBySome};
 
 use ssh_key::authorized_keys::OpenSshEntry;
 use ssh_key::laws::one_authorized_line;
@@ -31,8 +31,9 @@ pub fn find_signer<V: RawVerifier>(
     signature: &[u8],
     verifier: &V,
 ) -> Result<Option<String>>
-    ensures { NamesSigner (V.accepts verifier.now) keys.now namespace.now content.now signature.now
-        result }
+    ensures names { NamesSigner (V.accepts verifier.now) keys.now namespace.now content.now
+        signature.now result }
+    ensures fault { IfErr result (HasSignatureFault signature.now) }
 {
     let signature = SshSig::from_bytes(alloc, signature)?;
     find_among(alloc, keys, namespace, content, &signature, verifier)

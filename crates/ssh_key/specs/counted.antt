@@ -1,1 +1,2 @@
+pub use Rattle.sshkey_counted.specs.Contents
 pub use Rattle.sshkey_counted.specs.Counted

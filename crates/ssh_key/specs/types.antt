@@ -23,5 +23,6 @@ pub mod authorized_keys
 pub mod certificate
 pub mod encoding
 pub mod known_hosts
+pub mod patterns
 pub mod private
 pub mod public

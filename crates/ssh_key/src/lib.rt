@@ -12,6 +12,7 @@ pub mod certificate;
 pub mod encoding;
 pub mod known_hosts;
 pub mod laws;
+pub mod patterns;
 pub mod private;
 pub mod public;
 

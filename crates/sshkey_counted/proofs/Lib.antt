@@ -1,3 +1,5 @@
+pub mod Each
 pub mod Gathering
+pub mod Held
 mod Measured
 mod Filled

@@ -1,11 +1,13 @@
-//! Counted lists: a number of four bytes, and so many values, one after the other.
+//! Lists of values, one after the other: after their number, or up to the end of the reader.
 //!
 //! [`Counted`] is a term as those of `sshkey_format` are: any value that is a
 //! [`Decode`](sshkey_base::Decode) may stand in it.
 #![tactic(auto)]
 
 mod read;
+mod to_end;
 mod write;
 
 pub use read::Counted;
+pub use to_end::decode_each;
 pub use write::{counted_len, each_len, encode_counted, encode_each};

@@ -83,7 +83,7 @@ fn times_from<T: Decode + Drop, R: Reader>(
 }
 
 /// The values, and that one after them. Fails only when out of memory.
-fn add<T: Drop>(values: &mut Vec<T>, value: T) -> encoding::Result<()>
+pub(crate) fn add<T: Drop>(values: &mut Vec<T>, value: T) -> encoding::Result<()>
     ensures added { OnOk result (values.new.items ≡ values.old.items ++ value ∷ []) }
     ensures memory { IfErr result (λ e. e ≡ Error.Memory) }
 {

@@ -5,17 +5,18 @@ ghost use Rattle.ssh_key.specs.base.Formats.{Stops, string_format};
 ghost use Rattle.ssh_key.specs.base.Needs.{Asks};
 ghost use Rattle.ssh_key.specs.base.Reading.{DecodesWide, Gives};
 ghost use Rattle.ssh_key.specs.base.Source.{Later};
+ghost use Rattle.ssh_key.specs.counted.Contents.{StopsIn};
 ghost use Rattle.ssh_key.specs.model.Reading.{string_at};
-ghost use Rattle.agent_codec.specs.Contents.{StopsIn};
 ghost use Rattle.agent_codec.specs.Requests.{body, constrained_body, message, request_of};
 
 use super::Request;
 use super::kind::RequestKind;
 use crate::addition::Addition;
-use crate::constraint::constraints_from;
+use crate::constraint::Constraint;
+use crate::kind::decode_kind;
 use crate::sign_request::SignRequest;
 use ssh_key::Result;
-use ssh_key::encoding::{Bytes, Decode, Reader, Wide};
+use ssh_key::encoding::{Bytes, Decode, Reader, Wide, decode_each};
 use std::alloc::Global;
 
 /// A request without its frame, up to the end of the reader.
@@ -27,7 +28,7 @@ pub(super) fn request_from<R: Reader>(alloc: Global, reader: &mut R) -> Result<R
     ensures asks { Asks cause message.needs (R.source reader.old) result }
     ensures past { StopsIn cause message (R.source reader.old) result }
 {
-    let kind = RequestKind::decode(alloc, reader)?;
+    let kind = decode_kind::<RequestKind, R>(alloc, reader)?;
     body_from(alloc, reader, kind)
 }
 
@@ -73,7 +74,7 @@ fn constrained_from<R: Reader>(alloc: Global, reader: &mut R) -> Result<Request>
     ensures past { StopsIn cause constrained_body (R.source reader.old) result }
 {
     let addition = Addition::decode(alloc, reader)?;
-    let constraints = constraints_from(alloc, reader)?;
+    let constraints = decode_each::<Constraint, R>(alloc, reader)?;
     Ok(Request::AddIdentityConstrained {
         addition,
         constraints,

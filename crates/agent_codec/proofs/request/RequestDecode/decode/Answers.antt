@@ -2,7 +2,7 @@ use Rattle.std.proofs.Common.{rules}
 use Rattle.ssh_key.specs.base.Causes.{cause}
 use Rattle.ssh_key.proofs.Boxes.{prefixed_asks, prefixed_gives}
 use Rattle.agent_codec.specs.Requests.{message, request_of}
-use Rattle.agent_codec.proofs.Held.{held_stops}
+use Rattle.ssh_key.proofs.Held.{held_stops}
 use Rattle.agent_codec.proofs.request.RequestDecode.decode.Goals as goal
 
 pub returns-clause-gives : goal.returns-clause-gives

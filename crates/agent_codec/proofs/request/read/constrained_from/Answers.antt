@@ -1,17 +1,28 @@
-use Rattle.std.proofs.Common.{map, refl}
+use Rattle.std.proofs.Common.{Err, inl, map, refl}
 use Rattle.std.proofs.lemmas.Result.{err_from_is_err_and}
+use Rattle.ssh_key.specs.base.Causes.{cause}
+use Rattle.ssh_key.proofs.Held.{both_reads, both_refused_first, both_refused_later, choice_stops}
 use Rattle.ssh_key.proofs.Mapped.{mapped_reads, mapped_refused}
+use Rattle.ssh_key.proofs.Places.{later_then}
+use Rattle.ssh_key.proofs.Steps.{asks_later}
 use Rattle.ssh_key.proofs.Stopping.{stopped_first}
-use Rattle.agent_codec.specs.Constraints.{constraint_of, constraints}
+use Rattle.agent_codec.specs.Constraints.{constraint_of, constraints, has_bytes}
 use Rattle.agent_codec.specs.Records.{addition_format, addition_of}
 use Rattle.agent_codec.specs.Requests.{constrained_read, request_of}
-use Rattle.agent_codec.proofs.Held.{behind_stops, both_reads, both_refused_first, both_refused_later, ran_anywhere}
 use Rattle.agent_codec.proofs.request.read.constrained_from.Goals as goal
 
 pub returns-in_err-addition-clause-gives : goal.returns-in_err-addition-clause-gives
 returns-in_err-addition-clause-gives g c =
     let p = err_from_is_err_and c.from_residual.result c.from_residual.ensures.1 in
     rw (p.1, p.2) (mapped_refused _ _ _ _ _ _ constrained_read (both_refused_first addition_format.read constraints.read _ _ _ c.in_err-addition.ensures.gives))
+
+pub returns-in_err-addition-clause-later : goal.returns-in_err-addition-clause-later
+returns-in_err-addition-clause-later g c = c.in_err-addition.ensures.later
+
+pub returns-in_err-addition-clause-asks : goal.returns-in_err-addition-clause-asks
+returns-in_err-addition-clause-asks g c =
+    let p = err_from_is_err_and c.from_residual.result c.from_residual.ensures.1 in
+    rw (p.1, p.2) (λ memory sound. inl (c.in_err-addition.ensures.asks memory sound))
 
 pub returns-in_err-addition-clause-past : goal.returns-in_err-addition-clause-past
 returns-in_err-addition-clause-past g c =
@@ -23,10 +34,24 @@ returns-in_err-constraints-clause-gives g c =
     let p = err_from_is_err_and c.from_residual-in_err-constraints.result c.from_residual-in_err-constraints.ensures.1 in
     rw (p.1, p.2) (mapped_refused _ _ _ _ _ _ constrained_read (both_refused_later addition_format.read constraints.read addition_of _ _ _ _ c.in_ok-addition.ensures.gives c.in_err-constraints.ensures.gives))
 
+pub returns-in_err-constraints-clause-later : goal.returns-in_err-constraints-clause-later
+returns-in_err-constraints-clause-later g c = later_then _ _ _ c.in_ok-addition.ensures.later c.in_err-constraints.ensures.later
+
+pub returns-in_err-constraints-clause-asks : goal.returns-in_err-constraints-clause-asks
+returns-in_err-constraints-clause-asks g c =
+    let p = err_from_is_err_and c.from_residual-in_err-constraints.result c.from_residual-in_err-constraints.ensures.1 in
+    rw (p.1, p.2) (asks_later addition_of addition_format.needs (λ _. constraints.needs) addition_format.read _ _ _ _ c.in_ok-addition.ensures.gives c.in_err-constraints.ensures.asks)
+
 pub returns-in_err-constraints-clause-past : goal.returns-in_err-constraints-clause-past
 returns-in_err-constraints-clause-past g c =
     let p = err_from_is_err_and c.from_residual-in_err-constraints.result c.from_residual-in_err-constraints.ensures.1 in
-    rw (p.1, p.2) (behind_stops addition_of addition_format (λ _. constraints.needs) (λ _. constraints.overruns) _ _ _ _ c.in_ok-addition.ensures.gives (λ o. ran_anywhere _ _ (c.in_err-constraints.ensures.past o)))
+    rw (p.1, p.2) (choice_stops {W = Unit {0}} addition_of addition_format (λ _. constraints) cause _ _ _ (Err _) c.in_ok-addition.ensures.gives c.in_err-constraints.ensures.past)
+
+pub decode_each-requires : goal.decode_each-requires
+decode_each-requires g c = has_bytes
+
+pub returns-clause-later : goal.returns-clause-later
+returns-clause-later g c = later_then _ _ _ c.in_ok-addition.ensures.later c.in_ok-constraints.ensures.later
 
 pub returns-clause-gives : goal.returns-clause-gives
 returns-clause-gives g c =

@@ -1,7 +1,37 @@
+use Rattle.std.proofs.Common.{inl}
+use Rattle.std.proofs.lemmas.Result.{err_from_is_err_and}
 use Rattle.ssh_key.specs.base.Causes.{cause}
-use Rattle.ssh_key.proofs.Chosen.{chosen_stops}
-use Rattle.agent_codec.specs.Responses.{body_format, kind_format, message_chosen, message_format}
+use Rattle.ssh_key.proofs.Chosen.{chosen_asks, chosen_gives, chosen_refused, chosen_stopped, chosen_stops}
+use Rattle.ssh_key.proofs.Places.{later_then}
+use Rattle.agent_codec.specs.Responses.{body_format, kind_format, message_chosen, message_format, message_of}
 use Rattle.agent_codec.proofs.response.MessageDecode.decode.Goals as goal
+
+pub returns-in_err-kind-clause-gives : goal.returns-in_err-kind-clause-gives
+returns-in_err-kind-clause-gives g c =
+    let p = err_from_is_err_and c.from_residual.result c.from_residual.ensures.1 in
+    rw (p.1, p.2) (chosen_refused kind_format.read (λ k. (body_format k).read) _ _ _ message_format.read message_chosen c.in_err-kind.ensures.gives)
+
+pub returns-in_err-kind-clause-later : goal.returns-in_err-kind-clause-later
+returns-in_err-kind-clause-later g c = c.in_err-kind.ensures.later
+
+pub returns-in_err-kind-clause-asks : goal.returns-in_err-kind-clause-asks
+returns-in_err-kind-clause-asks g c =
+    let p = err_from_is_err_and c.from_residual.result c.from_residual.ensures.1 in
+    rw (p.1, p.2) (λ memory sound. inl (c.in_err-kind.ensures.asks memory sound))
+
+pub returns-in_err-kind-clause-past : goal.returns-in_err-kind-clause-past
+returns-in_err-kind-clause-past g c =
+    let p = err_from_is_err_and c.from_residual.result c.from_residual.ensures.1 in
+    rw (p.1, p.2) (chosen_stopped kind_format.read (λ k. (body_format k).read) kind_format.needs kind_format.overruns (λ k. (body_format k).needs) (λ k. (body_format k).overruns) _ _ message_format.read message_chosen c.in_err-kind.ensures.past)
+
+pub returns-clause-gives : goal.returns-clause-gives
+returns-clause-gives g c = chosen_gives _ kind_format.read (λ k. (body_format k).read) message_format.read _ _ _ cause _ message_of _ c.in_ok-kind.ensures.gives message_chosen c.message_from.ensures.gives
+
+pub returns-clause-later : goal.returns-clause-later
+returns-clause-later g c = later_then _ _ _ c.in_ok-kind.ensures.later c.message_from.ensures.later
+
+pub returns-clause-asks : goal.returns-clause-asks
+returns-clause-asks g c = chosen_asks _ kind_format.read (λ k. (body_format k).read) message_format.read _ _ _ cause _ kind_format.needs (λ k. (body_format k).needs) c.in_ok-kind.ensures.gives c.message_from.ensures.asks
 
 pub returns-clause-past : goal.returns-clause-past
 returns-clause-past g c = chosen_stops _ kind_format.read (λ k. (body_format k).read) message_format.read _ _ _ cause _ kind_format.needs kind_format.overruns (λ k. (body_format k).needs) (λ k. (body_format k).overruns) c.in_ok-kind.ensures.gives kind_format.lengths message_chosen c.message_from.ensures.past

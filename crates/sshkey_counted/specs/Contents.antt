@@ -1,25 +1,25 @@
 -- What a string holds, read to its end: there values may stand without their number. The grammars are proved, and need not
 -- be believed.
-use Rattle.std.proofs.Common.{◌≡◌, ◌≤◌, ◌<◌, ◌+◌, ◌⊎◌, ◌^◌, inl, inr, ℕ, zero, suc, Option, None, Some, List, [], ◌∷◌, ◌++◌, append-nil, length, take, drop, Result, Ok, Err, refl, sym, ap, subst, ◌∙◌, arith}
+use Rattle.std.proofs.Common.{◌≡◌, ◌≤◌, ◌<◌, ◌+◌, ◌⊎◌, ◌^◌, inl, inr, ℕ, zero, suc, Option, None, Some, List, [], ◌∷◌, ◌++◌, append-nil, length, take, drop, IsOk, Result, Ok, Err, refl, sym, ap, subst, ◌∙◌, arith}
 use Rattle.std.specs.Int.{w32, to_be_bytes}
 use Rattle.std.proofs.lemmas.Bool.{cases_lt, lt-ltb, le-ltb}
 use Rattle.std.proofs.lemmas.List.{length-append, length-take-le, take_at, drop_at, take-append-drop}
-use Rattle.ssh_key.specs.base.Causes.{Cause, Faulty}
-use Rattle.ssh_key.specs.base.Formats.{Format}
-use Rattle.ssh_key.specs.base.Leaves.{number32_grammar, number32_normal}
-use Rattle.ssh_key.specs.base.Lengths.{boxed_lengths, checked_lengths, to_end_lengths}
-use Rattle.ssh_key.specs.base.Needs.{NeedsBoxed, NeedsThen}
-use Rattle.ssh_key.specs.base.Reading.{SpellsBoxed, to_end}
-use Rattle.ssh_key.specs.base.Source.{Source}
-use Rattle.ssh_key.specs.base.Stops.{AreLengths, OverrunsBoxed, OverrunsList, OverrunsThen, RanOut}
-use Rattle.ssh_key.specs.counted.Counted.{SpellsEach}
-use Rattle.ssh_key.specs.format.Behind.{SpellsThen, behind_at}
-use Rattle.ssh_key.specs.format.Terms.{then_lengths}
-use Rattle.ssh_key.specs.format.Tested.{SpellsTested}
-use Rattle.ssh_key.specs.model.Grammar.{IsGrammar}
-use Rattle.ssh_key.specs.model.Parts.{InRange, flat}
-use Rattle.ssh_key.specs.model.Reading.{Fault, Length, ◌>>=◌, Front, checked_at, end_of, list_whole, list_within, number_at, box_at, whole}
-use Rattle.ssh_key.proofs.CombinedReaders.{bind_ok, done, fits_number, ok_is}
+use Rattle.sshkey_base.specs.Causes.{Cause, Faulty}
+use Rattle.sshkey_base.specs.Formats.{Format}
+use Rattle.sshkey_base.specs.Leaves.{number32_grammar, number32_normal}
+use Rattle.sshkey_base.specs.Lengths.{boxed_lengths, checked_lengths, to_end_lengths}
+use Rattle.sshkey_base.specs.Needs.{NeedsBoxed, NeedsThen}
+use Rattle.sshkey_base.specs.Reading.{SpellsBoxed, to_end}
+use Rattle.sshkey_base.specs.Source.{Source}
+use Rattle.sshkey_base.specs.Stops.{AreLengths, OverrunsBoxed, OverrunsList, OverrunsThen, RanOut}
+use Rattle.sshkey_counted.specs.Counted.{SpellsEach}
+use Rattle.sshkey_format.specs.Behind.{SpellsThen, behind_at}
+use Rattle.sshkey_format.specs.Terms.{then_lengths}
+use Rattle.sshkey_format.specs.Tested.{SpellsTested}
+use Rattle.sshkey_model.specs.Grammar.{IsGrammar}
+use Rattle.sshkey_model.specs.Parts.{InRange, flat}
+use Rattle.sshkey_model.specs.Reading.{Fault, Length, ◌>>=◌, Front, checked_at, end_of, list_whole, list_within, number_at, box_at, whole}
+use Rattle.sshkey_model.proofs.CombinedReaders.{bind_ok, done, fits_number, ok_is}
 
 -- The reader takes exactly the spellings, where nothing stands behind them.
 pub record IsWhole {A : Type 0} (Spells : A → List ℕ → Type 0) (read : Front A) : Type 0 where
@@ -35,11 +35,30 @@ pub record Contents (A : Type 0) : Type 1 where
   pub grammar : IsWhole Spells read
   pub lengths : AreLengths read overruns
 
--- How a call refuses that reads them: a length that passes all that was announced is `Length`, unless memory ran out for a
--- value before it.
+-- How a call refuses that reads to the end: a length that passes all that was announced is `Length`, unless memory ran out
+-- for a value before it.
+abbrev pub StopsInBy : {X E : Type 0} → (E → Cause) → (needs overruns : List ℕ → ℕ → Type 0) → Source → Result X E → Type 0
+StopsInBy cause needs overruns s (Ok x) = Unit {0}
+StopsInBy cause needs overruns s (Err e) = overruns s.left s.missing → (cause e ≡ Faulty Length) ⊎ RanOut (cause e) needs s
+
 abbrev pub StopsIn : {X Y E : Type 0} → (E → Cause) → Contents Y → Source → Result X E → Type 0
-StopsIn cause c s (Ok x) = Unit {0}
-StopsIn cause c s (Err e) = c.overruns s.left s.missing → (cause e ≡ Faulty Length) ⊎ RanOut (cause e) c.needs s
+StopsIn cause c = StopsInBy cause c.needs c.overruns
+
+-- Each spelling of such a value has a byte.
+abbrev pub HasBytes : {A : Type 0} → Format A → Type 0
+HasBytes {A} item = (x : A) (b : List ℕ) → item.Spells x b → 0 < length b
+
+-- Values, one behind the other, up to the end.
+abbrev pub each_at : {A : Type 0} → Format A → Front (List A)
+each_at item = to_end (list_whole (λ _. item.read))
+
+-- The first one needs memory, or stands there.
+abbrev pub NeedsEach : {A : Type 0} → Format A → List ℕ → ℕ → Type 0
+NeedsEach item b m = (0 < length b + m) × (item.needs b m ⊎ IsOk (item.read b))
+
+-- One of them overruns.
+abbrev pub OverrunsEach : {A : Type 0} → Format A → List ℕ → ℕ → Type 0
+OverrunsEach item = OverrunsList (λ _. item.read) item.overruns
 
 -- ---- what is read is what is spelled
 
@@ -139,13 +158,13 @@ module _ {A : Type 0} {S : A → List ℕ → Type 0} {read : Front A} (g : IsGr
 abbrev pub alone : {A : Type 0} → Format A → Contents A
 alone f = record { Spells = f.Spells; read = f.read; needs = f.needs; overruns = f.overruns; grammar = alone_whole f.grammar; lengths = f.lengths }
 
--- Values, one behind the other, each of which has a byte. Memory may be asked for anywhere in them.
-abbrev pub values : {A : Type 0} (item : Format A) → ((x : A) (b : List ℕ) → item.Spells x b → 0 < length b) → Contents (List A)
+-- values, one behind the other, each of which has a byte
+abbrev pub values : {A : Type 0} (item : Format A) → HasBytes item → Contents (List A)
 values item shows = record {
   Spells = SpellsEach item.Spells;
-  read = to_end (list_whole (λ _. item.read));
-  needs = λ b m. Unit {0};
-  overruns = OverrunsList (λ _. item.read) item.overruns;
+  read = each_at item;
+  needs = NeedsEach item;
+  overruns = OverrunsEach item;
   grammar = values_whole item.grammar shows;
   lengths = to_end_lengths (λ _. item.lengths);
 }

@@ -3,35 +3,35 @@ use Rattle.std.proofs.Common.{◌≡◌, ◌⊎◌, inl, inr, ◌≤◌, ◌<◌
 use Rattle.std.proofs.lemmas.Bool.{cases_lt, lt-ltb}
 use denote.Ref.{MutBor}
 use denote.Param.Members.{Once}
-use Rattle.ssh_key.specs.base.Causes.{Cause, NoMemory, Faulty, encoding_cause}
-use Rattle.ssh_key.specs.base.Formats.{Format, Stops}
-use Rattle.ssh_key.specs.base.Needs.{NeedsBoxed, NeedsString, NeedsThen}
-use Rattle.ssh_key.specs.base.Nested.{AsksBy, Calls, Prefixed, ReadsBy}
-use Rattle.ssh_key.specs.base.Reading.{IsRefused, Reads}
-use Rattle.ssh_key.specs.base.Source.{Source, part}
-use Rattle.ssh_key.specs.base.Stops.{OverrunsBoxed, OverrunsThen, RanOut, Stopped, StopsToEnd}
-use Rattle.ssh_key.specs.format.Behind.{behind_at, both_at}
-use Rattle.ssh_key.specs.model.Reading.{Front, Length, box_at, whole}
-use Rattle.ssh_key.specs.types.encoding.Error.{Error}
-use Rattle.ssh_key.specs.types.encoding.Error.TheVariants as encoding
-use Rattle.ssh_key.proofs.Boxes.{prefixed_stops_to_end}
-use Rattle.ssh_key.proofs.Steps.{refused_first, refused_later}
-use Rattle.ssh_key.proofs.Stopping.{not_taken}
-use Rattle.agent_codec.specs.Contents.{Contents, StopsIn, choice_to_end, held}
+use Rattle.sshkey_base.specs.Causes.{Cause, NoMemory, Faulty, encoding_cause}
+use Rattle.sshkey_base.specs.Formats.{Format, Stops}
+use Rattle.sshkey_base.specs.Needs.{NeedsBoxed, NeedsString, NeedsThen}
+use Rattle.sshkey_base.specs.Nested.{AsksBy, Calls, Prefixed, ReadsBy}
+use Rattle.sshkey_base.specs.Reading.{IsRefused, Reads}
+use Rattle.sshkey_base.specs.Source.{Source, part}
+use Rattle.sshkey_base.specs.Stops.{OverrunsBoxed, OverrunsThen, RanOut, Stopped, StopsToEnd}
+use Rattle.sshkey_format.specs.Behind.{behind_at, both_at}
+use Rattle.sshkey_model.specs.Reading.{Front, Length, box_at, whole}
+use Rattle.sshkey_base.specs.declared.encoding.Error.{Error}
+use Rattle.sshkey_base.specs.declared.encoding.Error.TheVariants as encoding
+use Rattle.sshkey_base.proofs.Boxes.{prefixed_stops_to_end}
+use Rattle.sshkey_base.proofs.Steps.{refused_first, refused_later}
+use Rattle.sshkey_base.proofs.Stopping.{not_taken}
+use Rattle.sshkey_counted.specs.Contents.{Contents, StopsIn, choice_to_end, held}
 
 -- ---- a value, and what stands behind it
 
 -- it was read, and the call behind it decides
-pub behind_stops : {A X : Type 0} (means : X → A) (first : Format A) (needs overs : A → List ℕ → ℕ → Type 0) (c : Cause) (s t : Source) (x : X) → Reads means first.read s x t → (overs (means x) t.left t.missing → (c ≡ Faulty Length) ⊎ RanOut c (needs (means x)) t) → OverrunsThen first.overruns first.read overs s.left s.missing → (c ≡ Faulty Length) ⊎ RanOut c (NeedsThen first.needs first.read needs) s
-behind_stops means first needs overs c s t x h k (inl o) = let e = first.lengths s.left s.missing o in let v = h.value in absurd cc
-behind_stops means first needs overs c s t x h k (inr o) = elim (k (rw (h.value, ← h.missing) at o)) [
+second_stops : {A X : Type 0} (means : X → A) (first : Format A) (needs overs : A → List ℕ → ℕ → Type 0) (c : Cause) (s t : Source) (x : X) → Reads means first.read s x t → (overs (means x) t.left t.missing → (c ≡ Faulty Length) ⊎ RanOut c (needs (means x)) t) → OverrunsThen first.overruns first.read overs s.left s.missing → (c ≡ Faulty Length) ⊎ RanOut c (NeedsThen first.needs first.read needs) s
+second_stops means first needs overs c s t x h k (inl o) = let e = first.lengths s.left s.missing o in let v = h.value in absurd cc
+second_stops means first needs overs c s t x h k (inr o) = elim (k (rw (h.value, ← h.missing) at o)) [
   | inl is ↦ inl is
   | inr m ↦ inr (record { memory = m.memory; needed = inr (rw (h.value, ← h.missing) m.needed) })
 ]
 
 pub choice_stops : {A B X W E : Type 0} (means : X → A) (first : Format A) (second : A → Contents B) (why : E → Cause) (s t : Source) (x : X) (r : Result W E) → Reads means first.read s x t → StopsIn why (second (means x)) t r → StopsIn why (choice_to_end first second) s r
 choice_stops means first second why s t x (Ok w) h k = tt
-choice_stops means first second why s t x (Err e) h k = behind_stops means first (λ a. (second a).needs) (λ a. (second a).overruns) (why e) s t x h k
+choice_stops means first second why s t x (Err e) h k = second_stops means first (λ a. (second a).needs) (λ a. (second a).overruns) (why e) s t x h k
 
 module _ {A B : Type 0} (first : Front A) (second : Front B) where
   pub both_refused_first : (m : ℕ) (c : Cause) (b : List ℕ) → IsRefused m c (first b) → IsRefused m c (both_at first second b)
@@ -45,11 +45,6 @@ module _ {A B : Type 0} (first : Front A) (second : Front B) where
   pub both_reads : {X Y : Type 0} (means : X → A) (holds : Y → B) (s t u : Source) (x : X) (y : Y) → Reads means first s x t → Reads holds second t y u → Reads (λ (p : X × Y). (means p.0, holds p.1)) (both_at first second) s (x, y) u
   unfolding behind_at
   both_reads means holds s t u x y h k = record { value = rw (h.value, k.value) refl; missing = k.missing ∙ h.missing; outer = k.outer ∙ h.outer }
-
--- where memory may run out anywhere
-pub ran_anywhere : (c : Cause) (s : Source) → (c ≡ Faulty Length) ⊎ (c ≡ NoMemory) → (c ≡ Faulty Length) ⊎ RanOut c (λ b m. Unit {0}) s
-ran_anywhere c s (inl length) = inl length
-ran_anywhere c s (inr memory) = inr (record { memory = memory; needed = tt })
 
 -- ---- in a string
 

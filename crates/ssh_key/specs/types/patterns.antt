@@ -1,0 +1,1 @@
+pub use Rattle.sshkey_files.specs.declared.pattern.LetterCase
