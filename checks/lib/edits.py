@@ -138,7 +138,8 @@ def texts_of(crate, spans):
     return {path: "\n".join(lines) for path, lines in texts.items()}
 
 
-HEAD = re.compile(r"(\s*)(?:pub(?:\([^)]*\))? )?(?:final )?(?:const )?fn \w")
+MARKS = r'(?:pub(?:\([^)]*\))? )?(?:final )?(?:const )?(?:extern "C" )?'
+HEAD = re.compile(rf"(\s*){MARKS}fn \w")
 
 
 def is_in_bodies(crate, edit):
