@@ -10,6 +10,8 @@
  *     rooms BYTES                            certificate with each room that is too short
  *     layout                                 sizes and offsets of structs
  *
+ * and those of asked/key_calls.h, asked/certificate_calls.h and asked/entry_calls.h.
+ *
  * All memory that a call gets is as long as is said, of malloc, and a room is filled beforehand. */
 #include <inttypes.h>
 #include <stdio.h>
@@ -20,7 +22,7 @@
 
 #define FILLED 0xa5
 /* of words in a line */
-#define MOST 6
+#define MOST 13
 
 typedef struct {
   uint8_t *bytes;
@@ -194,6 +196,10 @@ static void ask_rooms(blob certificate) {
   printf("%" PRIu32 " %zu %zu", answer, needed, length);
 }
 
+#include "asked/certificate_calls.h"
+#include "asked/entry_calls.h"
+#include "asked/key_calls.h"
+
 #define OFFSET(type, field) printf(" " #type "." #field "=%zu", offsetof(type, field))
 #define SIZE(type) printf(" " #type "=%zu", sizeof(type))
 
@@ -203,6 +209,13 @@ static void ask_layout(void) {
   OFFSET(sshkey_part, length);
   SIZE(sshkey_sha256);
   OFFSET(sshkey_sha256, bytes);
+  SIZE(sshkey_sha512);
+  OFFSET(sshkey_sha512, bytes);
+  SIZE(sshkey_line);
+  OFFSET(sshkey_line, blob);
+  OFFSET(sshkey_line, comment);
+  OFFSET(sshkey_line, length);
+  OFFSET(sshkey_line, kind);
   SIZE(sshkey_fields);
   OFFSET(sshkey_fields, serial);
   OFFSET(sshkey_fields, valid_after);
@@ -216,6 +229,43 @@ static void ask_layout(void) {
   OFFSET(sshkey_question, signature);
   OFFSET(sshkey_question, length);
   OFFSET(sshkey_question, algorithm);
+  SIZE(sshkey_parts);
+  OFFSET(sshkey_parts, key_id);
+  OFFSET(sshkey_parts, principals);
+  OFFSET(sshkey_parts, critical_options);
+  OFFSET(sshkey_parts, extensions);
+  OFFSET(sshkey_parts, authority);
+  SIZE(sshkey_certificate_option_parts);
+  OFFSET(sshkey_certificate_option_parts, name);
+  OFFSET(sshkey_certificate_option_parts, value);
+  OFFSET(sshkey_certificate_option_parts, next);
+  SIZE(sshkey_span);
+  OFFSET(sshkey_span, bytes);
+  OFFSET(sshkey_span, length);
+  SIZE(sshkey_draft);
+  OFFSET(sshkey_draft, key);
+  OFFSET(sshkey_draft, nonce);
+  OFFSET(sshkey_draft, key_id);
+  OFFSET(sshkey_draft, principals);
+  OFFSET(sshkey_draft, critical_options);
+  OFFSET(sshkey_draft, extensions);
+  OFFSET(sshkey_draft, authority);
+  OFFSET(sshkey_draft, serial);
+  OFFSET(sshkey_draft, valid_after);
+  OFFSET(sshkey_draft, valid_before);
+  OFFSET(sshkey_draft, certificate_type);
+  OFFSET(sshkey_draft, all_principals);
+  SIZE(sshkey_entry);
+  OFFSET(sshkey_entry, front);
+  OFFSET(sshkey_entry, key);
+  OFFSET(sshkey_entry, comment);
+  OFFSET(sshkey_entry, length);
+  OFFSET(sshkey_entry, marker);
+  SIZE(sshkey_entry_option_parts);
+  OFFSET(sshkey_entry_option_parts, name);
+  OFFSET(sshkey_entry_option_parts, value);
+  OFFSET(sshkey_entry_option_parts, length);
+  OFFSET(sshkey_entry_option_parts, has_value);
 }
 
 static void ask(char **words) {
@@ -224,6 +274,7 @@ static void ask(char **words) {
     ask_layout();
     return;
   }
+  if (ask_about_keys(words) || ask_about_certificates(words)) return;
   blob first = bytes_of(words[1]);
   if (!strcmp(what, "certificate")) {
     ask_certificate(first);
@@ -244,6 +295,8 @@ static void ask(char **words) {
     blob authority = bytes_of(words[4]);
     ask_validate(first, words[2], words[3], authority, words[5]);
     free(authority.bytes);
+  } else {
+    ask_of_files(words, first);
   }
   free(first.bytes);
 }

@@ -1,4 +1,5 @@
-/* sshkey.h: certificates, signatures and keys of OpenSSH, for C and whoever calls C.
+/* sshkey.h: certificates, signatures, keys, authorized_keys and known_hosts of OpenSSH, for C and
+ * whoever calls C.
  *
  * Cryptography is yours. A check is two calls with your verification between them:
  *
@@ -19,7 +20,7 @@
  *    may be passed.
  *  - A length is the true one: so many bytes, all initialised, lie behind the pointer, in one
  *    object, and at most PTRDIFF_MAX of them.
- *  - What a call writes (room, answer, signer: the pointers without const) overlaps no other
+ *  - What a call writes (room, answer, ..: the pointers without const) overlaps no other
  *    argument of the call, is initialised (zero it once), and nobody else reads or writes it during
  *    the call. What it only reads may overlap, and nobody writes it during the call.
  *  - malloc, realloc and free come from one allocator, and no call is made from a signal handler or
@@ -48,9 +49,12 @@ enum {
   SSHKEY_MEMORY = 1, /* malloc refused; nothing is said of the input */
   SSHKEY_ROOM = 2,   /* the room is too short; `length` says how many bytes are needed */
   SSHKEY_END = 3,    /* the place is the end of the bytes */
-  SSHKEY_TEXT = 4,   /* the principal is not UTF-8; nothing is said of the certificate */
+  SSHKEY_TEXT = 4,   /* the principal is not UTF-8, or a line, options, a text of known_hosts or a
+                        host's name; nothing is said of the rest */
 
-  /* 10 to 29: the bytes are no certificate, key or signature; the first fault from the left */
+  /* 10 to 29: the bytes are no certificate, key or signature, or the line is none; the first fault
+   * from the left */
+  SSHKEY_BASE64 = 10,             /* a word of a line is no Base64, or not the one of its bytes */
   SSHKEY_CHARACTER_ENCODING = 11, /* a text is not UTF-8 */
   SSHKEY_LABEL = 12,              /* a name that is none of those that may stand there */
   SSHKEY_LENGTH = 13,             /* a stated length passes the bytes, or is not the one wanted */
@@ -74,7 +78,17 @@ enum {
 
   /* there is nothing to verify */
   SSHKEY_UNSUPPORTED = 40,    /* key and signature do not go together: it is not signed */
-  SSHKEY_OTHER_NAMESPACE = 41 /* the SSH signature is for another namespace */
+  SSHKEY_OTHER_NAMESPACE = 41, /* the SSH signature is for another namespace */
+
+  /* a draft of a certificate contradicts itself */
+  SSHKEY_PRINCIPALS = 45,    /* it lists none and does not say so, or says so and lists some */
+  SSHKEY_EMPTY_WINDOW = 46,  /* its window has no second */
+
+  /* 50 to 53: a host's key is not trusted; the first of these that holds */
+  SSHKEY_HOST_REVOKED = 50,    /* a line for the host revokes the key */
+  SSHKEY_HOST_UNREADABLE = 51, /* a line is no entry, and may be one for the host */
+  SSHKEY_HOST_CHANGED = 52,    /* a line for the host has another key, and none has this one */
+  SSHKEY_HOST_UNKNOWN = 53     /* no line without a marker is for the host */
 };
 
 /* ---- what is written ------------------------------------------------------------------------- */
@@ -89,6 +103,11 @@ typedef struct {
 typedef struct {
   uint8_t bytes[32];
 } sshkey_sha256;
+
+/* A SHA-512 digest. */
+typedef struct {
+  uint8_t bytes[64];
+} sshkey_sha512;
 
 /* How a signature is made. A key's blob (RFC 4253, section 6.6) is strings, one behind the other:
  * four bytes of length, big-endian, and so many bytes. The first is the name of the key's type. So
@@ -120,9 +139,32 @@ typedef struct {
   uint32_t algorithm; /* SSHKEY_ASK_* */
 } sshkey_question;
 
+/* What stands in a line of a key file or of a certificate file: a blob, as the calls below take it,
+ * and the comment, which may be empty. */
+typedef struct {
+  sshkey_part blob;
+  sshkey_part comment;
+  size_t length; /* how many bytes of the room these take */
+  uint32_t kind; /* SSHKEY_LINE_* */
+} sshkey_line;
+
+enum { SSHKEY_LINE_KEY = 1, SSHKEY_LINE_CERTIFICATE = 2 };
+
+/* ---- lines ----------------------------------------------------------------------------------- */
+
+/* What stands in a line of a file of public keys (id_ed25519.pub) or of certificates
+ * (id_ed25519-cert.pub): a type, a blob in Base64 and a comment, with a space between. White space
+ * at the end is cut off; a line end before that is part of the comment. Lines of authorized_keys
+ * and known_hosts may have more, and are not read.
+ *
+ * SSHKEY_DONE exactly if the line is that of a key or of a certificate (memory and room aside);
+ * else 10 to 29. A room of the line's length is enough. */
+uint32_t sshkey_read_line(const uint8_t *line, size_t line_length, uint8_t *room,
+                          size_t room_length, sshkey_line *answer);
+
 /* ---- certificates (PROTOCOL.certkeys) -------------------------------------------------------- */
 
-/* What has to be verified of a certificate, given as its blob: the Base64 of a line, decoded.
+/* What has to be verified of a certificate, given as its blob, which sshkey_read_line gives.
  *
  * SSHKEY_DONE exactly if the bytes are a certificate and key and signature go together (memory and
  * room aside); else SSHKEY_UNSUPPORTED, or 10 to 29 for bytes that are no certificate. A room of
@@ -158,13 +200,91 @@ typedef struct {
   uint64_t valid_before;         /* the first second behind its window; 2^64 - 1 if it has no end */
   uint32_t certificate_type;     /* 1 for users, 2 for hosts */
   uint32_t lists_principals;     /* 0 where it lists none, and so allows everybody; else 1 */
-  uint32_t has_critical_options; /* 0 where it has none; else 1: refuse it, no call lists them */
+  uint32_t has_critical_options; /* 0 where it has none; else 1: refuse it unless you know each */
 } sshkey_fields;
 
 /* The fields of a certificate, whether it is valid or not. SSHKEY_DONE exactly if the bytes are a
  * certificate; else 10 to 29. Takes no memory. */
 uint32_t sshkey_certificate_fields(const uint8_t *certificate, size_t certificate_length,
                                    sshkey_fields *answer);
+
+/* ---- what a certificate lists ---------------------------------------------------------------- */
+
+/* Where parts of a certificate stand in its bytes, without the length before them. */
+typedef struct {
+  sshkey_part key_id;           /* a text, for logs */
+  sshkey_part principals;       /* strings, one behind the other: sshkey_string goes over them */
+  sshkey_part critical_options; /* one behind the other: sshkey_certificate_option goes over them */
+  sshkey_part extensions;       /* likewise */
+  sshkey_part authority;        /* the blob of the key that signed */
+} sshkey_parts;
+
+/* The parts of a certificate, whether it is valid or not. SSHKEY_DONE exactly if the bytes are a
+ * certificate; else 10 to 29. Takes no memory, and copies nothing. */
+uint32_t sshkey_certificate_parts(const uint8_t *certificate, size_t certificate_length,
+                                  sshkey_parts *answer);
+
+/* Where the name and the value of an option stand, and the place of the next one. */
+typedef struct {
+  sshkey_part name;
+  sshkey_part value; /* of no bytes where the option has none */
+  size_t next;
+} sshkey_certificate_option_parts;
+
+/* The option that begins at that place of critical options or extensions: the string of a name, and
+ * a string that is empty or holds the string of a value. SSHKEY_DONE exactly if one stands there;
+ * SSHKEY_END at the end of the bytes, else SSHKEY_LENGTH. Takes no memory. */
+uint32_t sshkey_certificate_option(const uint8_t *bytes, size_t length, size_t place,
+                                   sshkey_certificate_option_parts *answer);
+
+/* Writes the blob of the key that is certified to the front of the room, which does not stand whole
+ * in the certificate. SSHKEY_DONE exactly if the bytes are a certificate, memory and room aside;
+ * else 10 to 29. `length` says how many bytes the blob has. A room as long as the certificate is
+ * enough. */
+uint32_t sshkey_certificate_key(const uint8_t *certificate, size_t certificate_length,
+                                uint8_t *room, size_t room_length, size_t *length);
+
+/* ---- how a certificate is made --------------------------------------------------------------- */
+
+/* Bytes that a call reads; no null pointer, also where the length is 0 (sshkey_bytes). */
+typedef struct {
+  const uint8_t *bytes;
+  size_t length;
+} sshkey_span;
+
+/* What a certificate is to say. */
+typedef struct {
+  sshkey_span key;              /* the blob of the key that is certified */
+  sshkey_span nonce;            /* random bytes of yours: 16 or 32 */
+  sshkey_span key_id;           /* a text, for logs */
+  sshkey_span principals;       /* strings, one behind the other */
+  sshkey_span critical_options; /* as sshkey_certificate_option reads them, with rising names */
+  sshkey_span extensions;       /* likewise */
+  sshkey_span authority;        /* the blob of the key that is to sign */
+  uint64_t serial;
+  uint64_t valid_after;      /* the first second of its window, since 1970 */
+  uint64_t valid_before;     /* the first second behind its window; 2^64 - 1 for no end */
+  uint32_t certificate_type; /* 1 for users, 2 for hosts */
+  uint32_t all_principals;   /* 1 where it lists no principals, and so allows everybody; else 0 */
+} sshkey_draft;
+
+/* Writes the bytes that are to be signed to the front of the room; `length` says how many they are.
+ * Sign them with the authority's key, and make the signature's blob (RFC 4253, section 6.6): the
+ * string of the algorithm's name, and the string of what it makes.
+ *
+ * SSHKEY_DONE exactly if the draft tells a certificate, memory and room aside. Else what is wrong,
+ * in this order: SSHKEY_FORMAT for a type that is neither 1 nor 2, SSHKEY_TIME for a time above
+ * 2^63 - 1, SSHKEY_EMPTY_WINDOW, SSHKEY_PRINCIPALS; then 10 to 29 for a key, a text or a list that
+ * is none. Keys under private-use names have no certificates: SSHKEY_LABEL. */
+uint32_t sshkey_certificate_to_be_signed(const sshkey_draft *draft, uint8_t *room,
+                                         size_t room_length, size_t *length);
+
+/* Writes the certificate that a signature makes of these bytes. SSHKEY_DONE exactly if that is a
+ * certificate, memory and room aside; else 10 to 29. Whether the signature is one of these bytes
+ * sshkey_certificate_question asks, and .._validate says. */
+uint32_t sshkey_certificate_signed(const uint8_t *to_be_signed, size_t to_be_signed_length,
+                                   const uint8_t *signature, size_t signature_length, uint8_t *room,
+                                   size_t room_length, size_t *length);
 
 /* ---- keys ------------------------------------------------------------------------------------ */
 
@@ -179,6 +299,28 @@ uint32_t sshkey_fingerprint(const uint8_t *key, size_t key_length, sshkey_sha256
 /* Writes that text to the front of the room, without a zero behind it. SSHKEY_DONE, SSHKEY_ROOM
  * where the room has fewer bytes, or SSHKEY_MEMORY. */
 uint32_t sshkey_fingerprint_text(const sshkey_sha256 *digest, uint8_t *room, size_t room_length);
+
+/* The same by SHA-512. SSHKEY_MEMORY only for an RSA key that is not in its normal form. */
+uint32_t sshkey_fingerprint_sha512(const uint8_t *key, size_t key_length, sshkey_sha512 *answer);
+
+/* "SHA512:" and 86 characters. */
+#define SSHKEY_FINGERPRINT_SHA512_TEXT 93
+
+uint32_t sshkey_fingerprint_sha512_text(const sshkey_sha512 *digest, uint8_t *room,
+                                        size_t room_length);
+
+/* What has to be verified of a signature (RFC 4253, section 6.6) of the message under the key of
+ * that blob: as an agent gives it, or a client at a login.
+ *
+ * SSHKEY_DONE exactly if the bytes are a key and a signature that go together (memory and room
+ * aside); else SSHKEY_UNSUPPORTED, or 10 to 29 for bytes that are no key, or else no signature.
+ * SSHKEY_MEMORY only where they are both. A room as long as the three together, and 256 bytes, is
+ * enough. */
+uint32_t sshkey_plain_signature_question(const uint8_t *key, size_t key_length,
+                                         const uint8_t *message, size_t message_length,
+                                         const uint8_t *signature, size_t signature_length,
+                                         uint8_t *room, size_t room_length,
+                                         sshkey_question *answer);
 
 /* ---- signatures (PROTOCOL.sshsig) ------------------------------------------------------------ */
 
@@ -195,12 +337,105 @@ uint32_t sshkey_signature_question(const uint8_t *signature, size_t signature_le
                                    size_t room_length, sshkey_question *answer,
                                    sshkey_sha256 *signer);
 
+/* ---- normal forms ---------------------------------------------------------------------------- */
+
+/* A value may have more spellings than one: the name of an RSA key may be rsa-sha2-256, and an
+ * empty option of a certificate may be written in two ways. Bytes that spell one value have one
+ * normal form, which is what fingerprints digest: two keys are the same exactly if theirs are.
+ *
+ * Each call writes it to the front of the room, and its length to `length`, also with SSHKEY_ROOM.
+ * SSHKEY_DONE exactly if the bytes are a value of that kind (memory and room aside); else 10 to
+ * 29. A room of the bytes' length is enough. */
+
+/* Of a key. SSHKEY_MEMORY only where the bytes are a key, and not its normal form. */
+uint32_t sshkey_key_normal(const uint8_t *key, size_t key_length, uint8_t *room,
+                           size_t room_length, size_t *length);
+
+/* Of a certificate. SSHKEY_MEMORY only where the bytes are one. */
+uint32_t sshkey_certificate_normal(const uint8_t *certificate, size_t certificate_length,
+                                   uint8_t *room, size_t room_length, size_t *length);
+
+/* Of an SSH signature, as sshkey_signature_question takes it. */
+uint32_t sshkey_signature_normal(const uint8_t *signature, size_t signature_length, uint8_t *room,
+                                 size_t room_length, size_t *length);
+
+/* Of a signature, as sshkey_plain_signature_question takes it, which is its own normal form. Takes
+ * no memory. */
+uint32_t sshkey_plain_signature_normal(const uint8_t *signature, size_t signature_length,
+                                       uint8_t *room, size_t room_length, size_t *length);
+
 /* ---- strings (RFC 4251, section 5) ----------------------------------------------------------- */
 
 /* The string that begins at that place: four bytes of length, and so many bytes, which are the
  * answer. The next begins at answer.start + answer.length. SSHKEY_DONE exactly if one stands there;
  * SSHKEY_END at the end of the bytes, else SSHKEY_LENGTH. Takes no memory. */
 uint32_t sshkey_string(const uint8_t *bytes, size_t length, size_t place, sshkey_part *answer);
+
+/* ---- authorized_keys and known_hosts (sshd(8)) ----------------------------------------------- */
+
+/* The next line from that place on that may be an entry: neither empty nor a comment, without the
+ * spaces and tabs at its front and without its end (a line feed, and a carriage return before it).
+ * SSHKEY_DONE exactly if there is one, else SSHKEY_END. Begin at 0, and go on at answer.start +
+ * answer.length: all lines take time in proportion to the text. Takes no memory. */
+uint32_t sshkey_next_line(const uint8_t *text, size_t length, size_t place, sshkey_part *answer);
+
+/* An entry of a line: where its parts stand in the room. */
+typedef struct {
+  sshkey_part front;   /* the options as they stand in the line, or the hosts */
+  sshkey_part key;     /* the key's blob in its normal form, of which fingerprints are digests */
+  sshkey_part comment; /* all that follows */
+  size_t length;       /* how many bytes of the room these take */
+  uint32_t marker;     /* of known_hosts: 1 for @cert-authority, 2 for @revoked, 0 for none */
+} sshkey_entry;
+
+/* The entry of a line of authorized_keys, as sshd reads it. SSHKEY_DONE exactly if the line is one
+ * (memory and room aside); SSHKEY_TEXT for a line that is not UTF-8, else 10 to 29. A room of the
+ * line's length is enough. Which options there may be is yours to judge: sshkey_entry_option. */
+uint32_t sshkey_authorized_entry(const uint8_t *line, size_t line_length, uint8_t *room,
+                                 size_t room_length, sshkey_entry *answer);
+
+/* The same of a line of known_hosts, as ssh reads it. A line that is refused may be a revocation:
+ * to judge a host's key, ask sshkey_host_verdict about the whole text. */
+uint32_t sshkey_known_host(const uint8_t *line, size_t line_length, uint8_t *room,
+                           size_t room_length, sshkey_entry *answer);
+
+/* An option of an entry: where its parts stand in the room. */
+typedef struct {
+  sshkey_part name;   /* as it stands in the line: letters are compared without case */
+  sshkey_part value;  /* without its quotes, and without each backslash before a quote */
+  size_t length;      /* how many bytes of the room these take */
+  uint32_t has_value; /* 0 where there is no value; else 1 */
+} sshkey_entry_option_parts;
+
+/* The option of that number, the first being 0, of the options of an entry. SSHKEY_DONE exactly if
+ * they are a list of options, all of them, and have more than that number (memory and room aside);
+ * SSHKEY_END if they have no more, SSHKEY_FORMAT if they are no list of options, also behind the
+ * option that is asked for, and SSHKEY_TEXT for bytes that are not UTF-8. A room of the options'
+ * length is enough. Each call reads all of them, so do not go on for ever: refuse an entry with an
+ * option that you do not know, and one that names an option twice. */
+uint32_t sshkey_entry_option(const uint8_t *options, size_t options_length, size_t number,
+                             uint8_t *room, size_t room_length, sshkey_entry_option_parts *answer);
+
+/* What a text of known_hosts says of the key, given as its blob, that a host shows at a port. The
+ * host is the name or address that was asked for, without brackets. HMAC-SHA1, under which names
+ * are hashed there, is computed here.
+ *
+ * SSHKEY_DONE exactly if the key is trusted: an entry for the host has it, none revokes it, and no
+ * line that is no entry could be one for the host (SSHKEY_MEMORY aside). Else 50 to 53, 10 to 29
+ * for bytes that are no key, or SSHKEY_TEXT where the text or the host is not UTF-8. Ask it of each
+ * file, and refuse what one of them calls revoked or unreadable. Of authorities nothing is said. */
+uint32_t sshkey_host_verdict(const uint8_t *known_hosts, size_t known_hosts_length,
+                             const uint8_t *host, size_t host_length, uint16_t port,
+                             const uint8_t *key, size_t key_length);
+
+/* The same of the key of an authority that signed a certificate of the host: SSHKEY_DONE exactly if
+ * an entry @cert-authority for the host has the key, none revokes it, and no line that is no entry
+ * could be one for the host (SSHKEY_MEMORY aside). SSHKEY_HOST_CHANGED is never answered, and
+ * SSHKEY_HOST_UNKNOWN where no such entry has the key. The certificate itself is yours to validate,
+ * by sshkey_certificate_validate_for with that key's fingerprint. */
+uint32_t sshkey_host_authority(const uint8_t *known_hosts, size_t known_hosts_length,
+                               const uint8_t *host, size_t host_length, uint16_t port,
+                               const uint8_t *key, size_t key_length);
 
 /* ---------------------------------------------------------------------------------------------- */
 
@@ -221,6 +456,13 @@ SSHKEY_IS(offsetof(sshkey_part, length) == 8);
 SSHKEY_IS(sizeof(sshkey_part) == 16);
 SSHKEY_IS(offsetof(sshkey_sha256, bytes) == 0);
 SSHKEY_IS(sizeof(sshkey_sha256) == 32);
+SSHKEY_IS(offsetof(sshkey_sha512, bytes) == 0);
+SSHKEY_IS(sizeof(sshkey_sha512) == 64);
+SSHKEY_IS(offsetof(sshkey_line, blob) == 0);
+SSHKEY_IS(offsetof(sshkey_line, comment) == 16);
+SSHKEY_IS(offsetof(sshkey_line, length) == 32);
+SSHKEY_IS(offsetof(sshkey_line, kind) == 40);
+SSHKEY_IS(sizeof(sshkey_line) == 48);
 SSHKEY_IS(offsetof(sshkey_question, key) == 0);
 SSHKEY_IS(offsetof(sshkey_question, message) == 16);
 SSHKEY_IS(offsetof(sshkey_question, signature) == 32);
@@ -234,6 +476,43 @@ SSHKEY_IS(offsetof(sshkey_fields, certificate_type) == 24);
 SSHKEY_IS(offsetof(sshkey_fields, lists_principals) == 28);
 SSHKEY_IS(offsetof(sshkey_fields, has_critical_options) == 32);
 SSHKEY_IS(sizeof(sshkey_fields) == 40);
+SSHKEY_IS(offsetof(sshkey_parts, key_id) == 0);
+SSHKEY_IS(offsetof(sshkey_parts, principals) == 16);
+SSHKEY_IS(offsetof(sshkey_parts, critical_options) == 32);
+SSHKEY_IS(offsetof(sshkey_parts, extensions) == 48);
+SSHKEY_IS(offsetof(sshkey_parts, authority) == 64);
+SSHKEY_IS(sizeof(sshkey_parts) == 80);
+SSHKEY_IS(offsetof(sshkey_certificate_option_parts, name) == 0);
+SSHKEY_IS(offsetof(sshkey_certificate_option_parts, value) == 16);
+SSHKEY_IS(offsetof(sshkey_certificate_option_parts, next) == 32);
+SSHKEY_IS(sizeof(sshkey_certificate_option_parts) == 40);
+SSHKEY_IS(offsetof(sshkey_span, bytes) == 0);
+SSHKEY_IS(offsetof(sshkey_span, length) == 8);
+SSHKEY_IS(sizeof(sshkey_span) == 16);
+SSHKEY_IS(offsetof(sshkey_draft, key) == 0);
+SSHKEY_IS(offsetof(sshkey_draft, nonce) == 16);
+SSHKEY_IS(offsetof(sshkey_draft, key_id) == 32);
+SSHKEY_IS(offsetof(sshkey_draft, principals) == 48);
+SSHKEY_IS(offsetof(sshkey_draft, critical_options) == 64);
+SSHKEY_IS(offsetof(sshkey_draft, extensions) == 80);
+SSHKEY_IS(offsetof(sshkey_draft, authority) == 96);
+SSHKEY_IS(offsetof(sshkey_draft, serial) == 112);
+SSHKEY_IS(offsetof(sshkey_draft, valid_after) == 120);
+SSHKEY_IS(offsetof(sshkey_draft, valid_before) == 128);
+SSHKEY_IS(offsetof(sshkey_draft, certificate_type) == 136);
+SSHKEY_IS(offsetof(sshkey_draft, all_principals) == 140);
+SSHKEY_IS(sizeof(sshkey_draft) == 144);
+SSHKEY_IS(offsetof(sshkey_entry, front) == 0);
+SSHKEY_IS(offsetof(sshkey_entry, key) == 16);
+SSHKEY_IS(offsetof(sshkey_entry, comment) == 32);
+SSHKEY_IS(offsetof(sshkey_entry, length) == 48);
+SSHKEY_IS(offsetof(sshkey_entry, marker) == 56);
+SSHKEY_IS(sizeof(sshkey_entry) == 64);
+SSHKEY_IS(offsetof(sshkey_entry_option_parts, name) == 0);
+SSHKEY_IS(offsetof(sshkey_entry_option_parts, value) == 16);
+SSHKEY_IS(offsetof(sshkey_entry_option_parts, length) == 32);
+SSHKEY_IS(offsetof(sshkey_entry_option_parts, has_value) == 40);
+SSHKEY_IS(sizeof(sshkey_entry_option_parts) == 48);
 #undef SSHKEY_IS
 
 #ifdef __cplusplus

@@ -88,7 +88,11 @@ def check_symbols(count, built, sshkey):
 def check_layout(count, built, sshkey):
     wanted = {}
     structs = {"sshkey_part": sshkey.Part, "sshkey_sha256": sshkey.Sha256, "sshkey_question": sshkey.Asked}
-    for name, struct in {**structs, "sshkey_fields": sshkey.Fields}.items():
+    structs.update(sshkey_sha512=sshkey.Sha512, sshkey_line=sshkey.ReadLine, sshkey_fields=sshkey.Fields)
+    structs.update(sshkey_parts=sshkey.Parts, sshkey_certificate_option_parts=sshkey.OptionParts)
+    structs.update(sshkey_span=sshkey.Span, sshkey_draft=sshkey.Draft)
+    structs.update(sshkey_entry=sshkey.Entry, sshkey_entry_option_parts=sshkey.EntryOption)
+    for name, struct in structs.items():
         wanted[name] = ctypes.sizeof(struct)
         wanted.update({f"{name}.{field}": getattr(struct, field).offset for field, _ in struct._fields_})
     said = run([f"{built.plain}/foreign"], input="layout\n").stdout.split()

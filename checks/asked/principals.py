@@ -22,7 +22,7 @@ LogLevel VERBOSE
 """
 # sshd wants a program that nobody else can change, on its whole path, which a new folder is not: env is, and runs it
 COMMAND = """\
-AuthorizedPrincipalsCommand /usr/bin/env {1} {0}/authorities %u %k
+AuthorizedPrincipalsCommand /usr/bin/env {1} {0}/authorities %u %t %k
 AuthorizedPrincipalsCommandUser {2}
 """
 

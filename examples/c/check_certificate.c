@@ -22,14 +22,11 @@ static int read_authorities(const char *path, authorities *to) {
     perror(path);
     return 0;
   }
-  while (good && getline(&line, &room, file) >= 0) {
-    const char *rest = line;
-    size_t length;
+  for (ssize_t length; good && (length = getline(&line, &room, file)) >= 0;) {
+    size_t blanks = strspn(line, " \t\r\n");
     number++;
-    const char *name = next_word(&rest, &length); /* the type's, which the key begins with too */
-    if (!length || name[0] == '#') continue;
-    const char *word = next_word(&rest, &length);
-    good = add_authority(to, word, length);
+    if (line[blanks] && line[blanks] != '#')
+      good = add_authority(to, line + blanks, (size_t)length - blanks);
   }
   free(line);
   fclose(file);
@@ -38,17 +35,14 @@ static int read_authorities(const char *path, authorities *to) {
 }
 
 /* Judges the certificate of a line, and says so. Returns 0, 1 or 2, as the program does. */
-static int judge_line(const char *line, uint64_t second, const char *principal, authorities by) {
+static int judge_line(const char *line, size_t length, uint64_t second, const char *principal,
+                      authorities by) {
   blob certificate;
-  size_t length;
-  next_word(&line, &length);
-  const char *word = next_word(&line, &length);
-  if (!decode(word, length, &certificate)) {
-    puts("refused: not Base64");
-    return 1;
+  uint32_t answer = read_line(line, length, SSHKEY_LINE_CERTIFICATE, &certificate);
+  if (answer == SSHKEY_DONE) {
+    answer = judge(certificate, second, principal, by);
+    free(certificate.bytes);
   }
-  uint32_t answer = judge(certificate, second, principal, by);
-  free(certificate.bytes);
   if (answer == SSHKEY_DONE)
     puts("valid");
   else
@@ -67,8 +61,8 @@ int main(int count, char **words) {
   int status = read_authorities(words[1], &by) ? 0 : 2;
   char *line = NULL;
   size_t room = 0;
-  while (status != 2 && getline(&line, &room, stdin) >= 0) {
-    int said = judge_line(line, second, principal, by);
+  for (ssize_t length; status != 2 && (length = getline(&line, &room, stdin)) >= 0;) {
+    int said = judge_line(line, (size_t)length, second, principal, by);
     if (said > status) status = said;
   }
   free(line);

@@ -1,32 +1,32 @@
 /* The two calls about a certificate, with libcrypto between them. */
 #include "judge.h"
 
-#include <limits.h>
-#include <openssl/evp.h>
 #include <stdlib.h>
 #include <string.h>
 
 #include "verify.h"
 
-int decode(const char *text, size_t length, blob *answer) {
-  size_t padding = 0;
-  while (padding < 2 && padding < length && text[length - 1 - padding] == '=') padding++;
-  if (length % 4 || length > INT_MAX) return 0;
-  answer->bytes = malloc(length / 4 * 3 + 1);
-  if (!answer->bytes) return 0;
-  int made = EVP_DecodeBlock(answer->bytes, (const unsigned char *)text, (int)length);
-  if (made < 0 || (size_t)made < padding) {
-    free(answer->bytes);
-    return 0;
+uint32_t read_line(const char *line, size_t length, uint32_t kind, blob *answer) {
+  /* a room as long as the line is enough */
+  uint8_t *room = calloc(1, length + 1);
+  sshkey_line found;
+  memset(&found, 0, sizeof found);
+  if (!room) return SSHKEY_MEMORY;
+  uint32_t status = sshkey_read_line((const uint8_t *)line, length, room, length, &found);
+  if (status == SSHKEY_DONE && found.kind != kind) status = SSHKEY_LABEL;
+  if (status != SSHKEY_DONE) {
+    free(room);
+    return status;
   }
-  answer->length = (size_t)made - padding;
-  return 1;
+  memmove(room, room + found.blob.start, found.blob.length);
+  *answer = (blob){room, found.blob.length};
+  return status;
 }
 
-int add_authority(authorities *to, const char *text, size_t length) {
+int add_authority(authorities *to, const char *line, size_t length) {
   blob key;
   sshkey_sha256 digest = {{0}};
-  if (!decode(text, length, &key)) return 0;
+  if (read_line(line, length, SSHKEY_LINE_KEY, &key) != SSHKEY_DONE) return 0;
   uint32_t answer = sshkey_fingerprint(key.bytes, key.length, &digest);
   free(key.bytes);
   if (answer != SSHKEY_DONE) return 0;
@@ -66,6 +66,7 @@ const char *meaning(uint32_t answer) {
   case SSHKEY_DONE: return "valid";
   case SSHKEY_MEMORY: return "no memory";
   case SSHKEY_ROOM: return "the room is too short";
+  case SSHKEY_BASE64: return "not Base64";
   case SSHKEY_CHARACTER_ENCODING: return "a text that is not UTF-8";
   case SSHKEY_LABEL: return "a name that may not stand there";
   case SSHKEY_LENGTH: return "a length that passes the bytes";
@@ -77,11 +78,4 @@ const char *meaning(uint32_t answer) {
   case SSHKEY_OTHER_PRINCIPAL: return "another principal";
   default: return "not in its format";
   }
-}
-
-const char *next_word(const char **line, size_t *length) {
-  const char *word = *line + strspn(*line, " \t\r\n");
-  *length = strcspn(word, " \t\r\n");
-  *line = word + *length;
-  return word;
 }

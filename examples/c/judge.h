@@ -19,11 +19,11 @@ typedef struct {
   size_t count;
 } authorities;
 
-/* The bytes that the Base64 of so many characters stands for; false where they are none. */
-int decode(const char *text, size_t length, blob *answer);
+/* The key or the certificate of a line, as the kind says: SSHKEY_DONE, or why there is none. */
+uint32_t read_line(const char *line, size_t length, uint32_t kind, blob *answer);
 
-/* Adds the key of that Base64 to the authorities; false where it is none. */
-int add_authority(authorities *to, const char *text, size_t length);
+/* Adds the key of the line to the authorities; false where it is the line of none. */
+int add_authority(authorities *to, const char *line, size_t length);
 
 /* Whether the certificate is valid: SSHKEY_DONE, or what is wrong first. The principal may be null,
  * and then any is meant. */
@@ -31,8 +31,5 @@ uint32_t judge(blob certificate, uint64_t unix_time, const char *principal, auth
 
 /* What an answer means, in words. */
 const char *meaning(uint32_t answer);
-
-/* The next word of the line, which ends at a space, a tab or the line's end, and its length. */
-const char *next_word(const char **line, size_t *length);
 
 #endif

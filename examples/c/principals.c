@@ -3,7 +3,7 @@
  *
  *     # sshd_config
  *     TrustedUserCAKeys /etc/ssh/authorities.pub
- *     AuthorizedPrincipalsCommand /usr/local/bin/principals /etc/ssh/authorities %u %k
+ *     AuthorizedPrincipalsCommand /usr/local/bin/principals /etc/ssh/authorities %u %t %k
  *     AuthorizedPrincipalsCommandUser nobody
  *
  * Lines of /etc/ssh/authorities are `USER[,USER..] TYPE BASE64 [COMMENT]`. The user is let in if
@@ -32,17 +32,27 @@ static int has_user(const char *list, size_t length, const char *user) {
 /* Reads the authorities of the user; false where a line of the user has no key. */
 static int read_authorities(FILE *file, const char *user, authorities *to) {
   char *line = NULL;
-  size_t room = 0, length;
+  size_t room = 0;
   int good = 1;
   while (good && getline(&line, &room, file) >= 0) {
-    const char *rest = line, *users = next_word(&rest, &length);
-    if (users[0] == '#' || !has_user(users, length, user)) continue;
-    next_word(&rest, &length); /* the type's name, which the key begins with too */
-    const char *word = next_word(&rest, &length);
-    good = add_authority(to, word, length);
+    size_t length = strcspn(line, " \t\r\n");
+    const char *rest = line + length + strspn(line + length, " \t\r\n");
+    if (line[0] == '#' || !has_user(line, length, user)) continue;
+    good = add_authority(to, rest, strlen(rest));
   }
   free(line);
   return good;
+}
+
+/* Reads the certificate of the words that sshd gives: its type, and its Base64. */
+static uint32_t read_certificate(const char *type, const char *base64, blob *answer) {
+  size_t length = strlen(type) + 1 + strlen(base64);
+  char *line = malloc(length + 1);
+  if (!line) return SSHKEY_MEMORY;
+  snprintf(line, length + 1, "%s %s", type, base64);
+  uint32_t status = read_line(line, length, SSHKEY_LINE_CERTIFICATE, answer);
+  free(line);
+  return status;
 }
 
 /* Whether it is a certificate for users that lists principals: one that lists none allows all. */
@@ -55,8 +65,8 @@ static int is_for_listed_users(blob certificate) {
 }
 
 int main(int count, char **words) {
-  if (count != 4) {
-    fprintf(stderr, "usage: principals AUTHORITIES USER CERTIFICATE\n");
+  if (count != 5) {
+    fprintf(stderr, "usage: principals AUTHORITIES USER TYPE CERTIFICATE\n");
     return 1;
   }
   const char *user = words[2];
@@ -68,8 +78,8 @@ int main(int count, char **words) {
     perror(words[1]);
   } else if (!read_authorities(file, user, &by)) {
     fprintf(stderr, "principals: a line of %s has no key\n", user);
-  } else if (!decode(words[3], strlen(words[3]), &certificate)) {
-    fprintf(stderr, "principals: the certificate is not Base64\n");
+  } else if (read_certificate(words[3], words[4], &certificate) != SSHKEY_DONE) {
+    fprintf(stderr, "principals: the certificate is none\n");
   } else if (!is_for_listed_users(certificate)) {
     fprintf(stderr, "principals: the certificate is not one for users that are listed\n");
   } else {

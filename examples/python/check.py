@@ -8,7 +8,6 @@ AUTHORITIES and SIGNERS are files of public keys, a line each. The first answers
 does. The status is 0 if all is valid, 1 if not, and 2 where it can't tell.
 """
 import base64
-import binascii
 import sys
 import time
 
@@ -20,6 +19,7 @@ import sshkey
 from sshkey import Algorithm, Status
 
 MEANING = {
+    Status.BASE64: "not Base64",
     Status.CHARACTER_ENCODING: "a text that is not UTF-8", Status.LABEL: "a name that may not stand there",
     Status.LENGTH: "a length that passes the bytes", Status.TRAILING_DATA: "bytes behind the end",
     Status.NOT_SIGNED: "not signed", Status.OTHER_AUTHORITY: "another authority", Status.NO_TIME: "a time too late to be one",
@@ -89,31 +89,35 @@ def said(status):
     return "valid" if status == Status.DONE else f"refused: {MEANING.get(status, 'not in its format')} ({status:d})"
 
 
-def blob_of(line):
-    """What stands in the second word of a line; None where that is no Base64."""
-    words = line.split()
+def read(line, is_certificate):
+    """The key or the certificate of a line. Raises Refused where it is none."""
+    found = sshkey.read_line(line)
+    if found.is_certificate != is_certificate:
+        raise sshkey.Refused(Status.LABEL)
+    return found.blob
+
+
+def judge_line(line, now, principal, authorities):
+    """Status.DONE, or what is wrong first."""
     try:
-        return base64.b64decode(words[1] if len(words) > 1 else b"", validate=True)
-    except binascii.Error:
-        return None
+        certificate = read(line, is_certificate=True)
+    except sshkey.Refused as refused:
+        return refused.status
+    return judge(certificate, now, principal, authorities)
 
 
 def fingerprints(path):
     """The fingerprints of the keys in a file."""
     with open(path, "rb") as file:
-        return {sshkey.fingerprint(blob_of(it)) for it in file if it.strip() and not it.startswith(b"#")}
+        lines = [it.lstrip() for it in file]
+    return {sshkey.fingerprint(read(it, is_certificate=False)) for it in lines if it and not it.startswith(b"#")}
 
 
 def certificates(authorities, principal, second=None):
     now = int(second) if second else int(time.time())
     authorities, are_valid = fingerprints(authorities), True
     for line in sys.stdin.buffer:
-        blob = blob_of(line)
-        if blob is None:
-            print("refused: not Base64")
-            are_valid = False
-            continue
-        status = judge(blob, now, None if principal == "-" else principal, authorities)
+        status = judge_line(line, now, None if principal == "-" else principal, authorities)
         print(said(status))
         are_valid &= status == Status.DONE
     return not are_valid

@@ -1,11 +1,19 @@
 //! The library for programs in C, and for whoever calls C. `include/sshkey.h` declares what it
 //! exports.
 //!
-//! Each export makes one call of `sshkey_calls`, whose clauses it states again. In C a slice is a
-//! pointer and a length, and an allocator is nothing.
+//! Each export makes one call of `sshkey_calls` or of `sshkey_file_calls`, whose clauses it states
+//! again. In C a slice is a pointer and a length, and an allocator is nothing.
 #![tactic(auto)]
 
 mod certificate;
+mod draft;
+mod entry;
+mod host;
 mod key;
+mod line;
+mod normal;
+mod parts;
+mod plain_signature;
+mod sha512;
 mod signature;
 mod walk;

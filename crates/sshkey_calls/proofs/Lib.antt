@@ -4,3 +4,13 @@ pub mod Strings
 pub mod Questions
 pub mod Signatures
 pub mod Verdicts
+pub mod KeyLines
+pub mod NormalForms
+pub mod PlainSignatures
+pub mod Options
+pub mod OptionValues
+pub mod OptionPlaces
+pub mod Writing
+pub mod Drafts
+pub mod DraftNumbers
+pub mod Places

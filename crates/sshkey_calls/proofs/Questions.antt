@@ -1,5 +1,5 @@
 -- Questions that stand in the room.
-use Rattle.std.proofs.Common.{◌≡◌, ◌≢◌, ◌<◌, ℕ, List, ◌++◌, length, drop, Bool, true, false, Option, Some, None, option_map, refl, sym, ap, ◌∙◌, arith, length-append}
+use Rattle.std.proofs.Common.{◌≡◌, ◌≢◌, ◌<◌, ◌+◌, ℕ, List, ◌++◌, length, drop, Bool, true, false, Option, Some, None, option_map, refl, sym, ap, ◌∙◌, arith, length-append}
 use Rattle.sshkey_model.specs.Keys.{normal_key}
 use Rattle.sshkey_model.specs.Parts.{flat}
 use Rattle.sshkey_model.specs.Verification as model
@@ -14,7 +14,12 @@ is_answer q content behind after answer laid is = record {
   key = rw (is, laid.content, laid.key.0, laid.key.1) (first_part (flat (normal_key q.key)) q.message q.blob behind);
   message = rw (is, laid.content, laid.message.0, laid.message.1) (second_part (flat (normal_key q.key)) q.message q.blob behind);
   signature = rw (is, laid.content, laid.signature.0, laid.signature.1) (third_part (flat (normal_key q.key)) q.message q.blob behind);
+  within = (omega (arith, whole, laid.key), omega (arith, whole, laid.message), omega (arith, whole, laid.signature));
+  length = laid.length;
 }
+  where
+    whole : length after ≡ room_for q + length behind
+    whole = omega (arith, ap length is, length-append content behind, ap length laid.content, length-append (flat (normal_key q.key)) (q.message ++ q.blob), length-append q.message q.blob)
 
 -- The room was filled, or is too short.
 pub answers : (q : model.Question) (content before after : List ℕ) (filled : Bool) (answer : Question) (n : ℕ) → IsLaidOut q content answer → Fills content before filled after → (filled ≡ true → n ≡ 0) → (filled ≡ false → n ≡ 2) → Asks (λ x. x ≡ q) n answer before after

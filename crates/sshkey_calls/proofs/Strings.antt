@@ -15,7 +15,7 @@ use Rattle.sshkey_calls.specs.declared.part.Part.{Part}
 -- ---- a string behind other bytes, and its head
 
 module _ (before head s rest : List ℕ) where
-  content : take (length s) (drop (length before + length head) (before ++ ((head ++ s) ++ rest))) ≡ s
+  pub content : take (length s) (drop (length before + length head) (before ++ ((head ++ s) ++ rest))) ≡ s
   content = simp (append_assoc, drop-append-add, drop-append_seam, take-append_seam)
 
   behind : drop (length before + (length head + length s)) (before ++ ((head ++ s) ++ rest)) ≡ rest
@@ -76,6 +76,7 @@ module _ (b : List ℕ) (place : ℕ) (s rest : List ℕ) (within : place ≤ le
   pub finds : string_at (drop place b) ≡ Ok (s, rest) → FindsString b place 0 (record { start = (length b - length rest) - length s; length = length s })
   finds is = record {
     found = λ _. is ∙ both s rest _ _ (sym content_is) (sym behind_is);
+    within = λ _. omega (arith, fits_before);
     last = λ e. absurd (cc e);
     at_end = λ e. absurd (nothing_at b place e (s, rest) is);
     none = λ some _ _. some refl;
@@ -86,7 +87,7 @@ module _ (b : List ℕ) (place : ℕ) (s rest : List ℕ) (within : place ≤ le
 
 module _ (b : List ℕ) (place : ℕ) (answer : Part) where
   pub ends : place ≡ length b → FindsString b place 3 answer
-  ends e = record { found = λ z. absurd (cc z); last = λ _. e; at_end = λ _. refl; none = λ _ x is. nothing_at b place e x is; others = λ _ other. absurd (other refl) }
+  ends e = record { found = λ z. absurd (cc z); within = λ z. absurd (cc z); last = λ _. e; at_end = λ _. refl; none = λ _ x is. nothing_at b place e x is; others = λ _ other. absurd (other refl) }
 
   pub is_past : length b < place → FindsString b place 13 answer
-  is_past h = record { found = λ z. absurd (cc z); last = λ z. absurd (cc z); at_end = λ e. absurd (omega (arith, h, e)); none = λ _ x is. nothing_behind b place (omega (arith, h)) x is; others = λ _ _. refl }
+  is_past h = record { found = λ z. absurd (cc z); within = λ z. absurd (cc z); last = λ z. absurd (cc z); at_end = λ e. absurd (omega (arith, h, e)); none = λ _ x is. nothing_behind b place (omega (arith, h)) x is; others = λ _ _. refl }

@@ -6,3 +6,11 @@ pub mod Fingerprints
 pub mod Questions
 pub mod Signatures
 pub mod Verdicts
+pub mod KeyLines
+pub mod NormalForms
+pub mod PlainSignatures
+pub mod Sha512
+pub mod Lists
+pub mod Options
+pub mod Writing
+pub mod Drafts

@@ -1,5 +1,9 @@
 -- The numbers that calls answer with.
 use Rattle.std.specs.Prelude.{ℕ, Option, Some, None}
+use Rattle.sshkey_base.specs.Causes.{Cause, Faulty, NoMemory, Other, cause}
+use Rattle.sshkey_base.specs.declared.encoding.Error.TheVariants.{Base64}
+use Rattle.sshkey_base.specs.declared.error.Error.{Error}
+use Rattle.sshkey_base.specs.declared.error.Error.TheVariants.{Encoding}
 use Rattle.sshkey_model.specs.Names.{Algorithm, Sha256, Sha512, Nistp256, Nistp384, Nistp521}
 use Rattle.sshkey_model.specs.Reading.{Fault}
 use Rattle.sshkey_model.specs.Reading as fault
@@ -20,6 +24,16 @@ fault_number fault.Namespace = 20
 fault_number fault.PublicKey = 21
 fault_number (fault.Version n) = 22
 fault_number (fault.TrailingKeyData n) = 14
+
+-- an error: memory, a fault of a word in Base64, another fault, or what no call meets
+abbrev pub cause_number : Cause → ℕ
+cause_number NoMemory = 1
+cause_number (Faulty f) = fault_number f
+cause_number Other = 23
+
+abbrev pub error_number : Error → ℕ
+error_number (Encoding Base64) = 10
+error_number e = cause_number (cause e)
 
 -- what is wrong with a certificate first, and 0 where nothing is
 abbrev pub refusal_number : Option Refusal → ℕ

@@ -7,7 +7,7 @@ use Rattle.sshkey_model.specs.Verification as model
 use Rattle.sshkey_cert.specs.CertificateReaders.{SpellsCertificate}
 use Rattle.sshkey_cert.specs.Questions.{certificate_question}
 use Rattle.sshkey_calls.specs.Numbers.{algorithm_number}
-use Rattle.sshkey_calls.specs.Rooms.{bytes_of}
+use Rattle.sshkey_calls.specs.Rooms.{bytes_of, IsWithin}
 use Rattle.sshkey_calls.specs.declared.question.Question.{Question}
 
 -- the bytes spell a certificate that raises the question
@@ -18,16 +18,18 @@ RaisedBy bytes q = (c : Certificate) × SpellsCertificate c bytes × (certificat
 abbrev pub TellsNone : List ℕ → ℕ → Type 0
 TellsNone bytes n = (c : Certificate) → SpellsCertificate c bytes → certificate_question c ≡ None → n ≢ 1 → n ≡ 40
 
--- The answer is the question: each part of the room that it names has that field of it.
+-- so much room it takes
+abbrev pub room_for : model.Question → ℕ
+room_for q = length (flat (normal_key q.key)) + length q.message + length q.blob
+
+-- The answer is the question: each part of the room that it names has that field of it, and together they take that many bytes.
 pub record IsAnswer (q : model.Question) (answer : Question) (room : List ℕ) : Type 0 where
   pub algorithm : answer.algorithm ≡ algorithm_number q.algorithm
   pub key : bytes_of answer.key room ≡ flat (normal_key q.key)
   pub message : bytes_of answer.message room ≡ q.message
   pub signature : bytes_of answer.signature room ≡ q.blob
-
--- so much room it takes
-abbrev pub room_for : model.Question → ℕ
-room_for q = length (flat (normal_key q.key)) + length q.message + length q.blob
+  pub within : IsWithin answer.key room × IsWithin answer.message room × IsWithin answer.signature room
+  pub length : answer.length ≡ room_for q
 
 -- The room is too short for the question, and stays as it was; the answer says how much is needed.
 pub record IsTooShort (q : model.Question) (answer : Question) (before after : List ℕ) : Type 0 where

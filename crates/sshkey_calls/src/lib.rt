@@ -6,22 +6,42 @@
 //! it answers with stand in the caller's room.
 #![tactic(auto)]
 
+mod certified_key;
 mod digest;
+mod draft;
+mod draft_fields;
 mod fields;
 mod key;
-mod number;
-mod part;
+mod line;
+mod lists;
+mod normal;
+pub mod number;
+mod option;
+pub mod part;
+mod plain_signature;
 mod question;
+mod sha512;
 mod signature;
+mod signed;
 mod validity;
 mod verdict;
 mod walk;
+mod write;
 
+pub use certified_key::certificate_key;
 pub use digest::Sha256Digest;
+pub use draft::{CertificateDraft, certificate_to_be_signed};
 pub use fields::{CertificateFields, certificate_fields};
 pub use key::{fingerprint, fingerprint_text};
+pub use line::{Line, read_line};
+pub use lists::{CertificateParts, certificate_parts};
+pub use normal::{certificate_normal, key_normal, plain_signature_normal, signature_normal};
+pub use option::{OptionParts, next_option};
 pub use part::Part;
+pub use plain_signature::plain_signature_question;
 pub use question::{Question, certificate_question};
+pub use sha512::{Sha512Digest, fingerprint_sha512, fingerprint_sha512_text};
 pub use signature::signature_question;
+pub use signed::certificate_signed;
 pub use validity::{certificate_validate, certificate_validate_for};
 pub use walk::next_string;

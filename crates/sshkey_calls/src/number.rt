@@ -2,25 +2,26 @@
 
 ghost use Rattle.std.specs.Prelude.{◌≡◌, ◌≢◌, ◌<◌, option_map};
 ghost use Rattle.sshkey_base.specs.Causes.{Faulty, NoMemory, cause, encoding_cause};
+ghost use Rattle.sshkey_base.specs.declared.error.Error.TheVariants.{Encoding};
 ghost use Rattle.sshkey_base.specs.Names.{algorithm_of, curve_of, hash_of};
 ghost use Rattle.sshkey_cert.specs.Validity.{refusal_of};
 ghost use Rattle.sshkey_model.specs.Names.{Ecdsa, Rsa};
 ghost use Rattle.sshkey_model.specs.Reading.{Fault};
-ghost use Rattle.sshkey_calls.specs.Numbers.{algorithm_number, fault_number, refusal_number};
+ghost use Rattle.sshkey_calls.specs.Numbers.{algorithm_number, error_number, fault_number, refusal_number};
 
 use sshkey_base::{Algorithm, EcdsaCurve, Error, HashAlg, encoding};
 use sshkey_cert::CertificateRefusal;
 
 /// It is done, or holds.
-pub(crate) const DONE: u32 = 0;
+pub const DONE: u32 = 0;
 /// Memory was refused, and nothing is said.
-pub(crate) const MEMORY: u32 = 1;
+pub const MEMORY: u32 = 1;
 /// The room is too short.
-pub(crate) const ROOM: u32 = 2;
+pub const ROOM: u32 = 2;
 /// Nothing is left.
-pub(crate) const END: u32 = 3;
+pub const END: u32 = 3;
 /// A text of the caller's is not UTF-8.
-pub(crate) const TEXT: u32 = 4;
+pub const TEXT: u32 = 4;
 /// The SSH signature is in another namespace.
 pub(crate) const OTHER_NAMESPACE: u32 = 41;
 /// A length passes the bytes.
@@ -28,12 +29,27 @@ pub(crate) const LENGTH: u32 = 13;
 /// Key and signature do not go together, so nothing is asked.
 pub(crate) const UNSUPPORTED: u32 = 40;
 
+/// A text is not UTF-8.
+pub(crate) const CHARACTER_ENCODING: u32 = 11;
+/// A name may not stand there.
+pub(crate) const LABEL: u32 = 12;
+/// A value does not keep the form of its kind.
+pub(crate) const FORMAT: u32 = 15;
+/// A time is above 2^63 - 1.
+pub(crate) const TIME: u32 = 19;
+/// A draft lists no principals without saying that all are allowed, or says so and lists some.
+pub(crate) const PRINCIPALS: u32 = 45;
+/// The window of a draft has no second.
+pub(crate) const EMPTY_WINDOW: u32 = 46;
+
 /// The number of an error: 1 for memory, and else that of its fault.
-pub(crate) fn error_number(error: Error) -> u32
+pub fn error_number(error: Error) -> u32
     ensures fault { (fault : Fault) → cause error ≡ Faulty fault → result ≡ fault_number fault }
     ensures memory { cause error ≡ NoMemory → result ≡ 1 }
+    ensures number { result ≡ error_number error }
     ensures some { result ≢ 0 }
     ensures apart { result ≢ 2 }
+    ensures range { cause error ≢ NoMemory → (9 < result) × (result < 30) }
 {
     match error {
         Error::Memory => MEMORY,
@@ -58,9 +74,11 @@ pub(crate) fn error_number(error: Error) -> u32
 
 /// The number of a fault of the encoding.
 fn encoding_number(fault: encoding::Error) -> u32
+    ensures number { result ≡ error_number (Encoding fault) }
     ensures fault { (met : Fault) → encoding_cause fault ≡ Faulty met
         → result ≡ fault_number met }
     ensures some { 9 < result }
+    ensures range { result < 30 }
 {
     match fault {
         encoding::Error::Base64 => 10,

@@ -17,7 +17,7 @@ pub struct Part {
 }
 
 /// Adds the bytes to those that the room is to hold. Fails only when out of memory.
-pub(crate) fn add(bytes: &[u8], content: &mut Vec<u8>) -> Result<Part>
+pub fn add(bytes: &[u8], content: &mut Vec<u8>) -> Result<Part>
     ensures added { IfOk result (λ _. content.new.items ≡ content.old.items ++ bytes.now) }
     ensures start { IfOk result (λ part. part.start ≡ length content.old.items) }
     ensures length { IfOk result (λ part. part.length ≡ length bytes.now) }
@@ -32,7 +32,7 @@ pub(crate) fn add(bytes: &[u8], content: &mut Vec<u8>) -> Result<Part>
 }
 
 /// Writes the content to the front of the room, if there is room for it, and else nothing.
-pub(crate) fn write_to(room: &mut [u8], content: &[u8]) -> bool
+pub fn write_to(room: &mut [u8], content: &[u8]) -> bool
     ensures { Fills content.now room.old result room.new }
 {
     if room.len() < content.len() {

@@ -1,0 +1,322 @@
+"""The lines of authorized_keys and known_hosts, for checks/foreign: what the library for C answers in C with sanitizers and in
+Python, against ssh-keygen. The lines, the options and the files are those of checks/entry-lines and checks/hosts, a sample."""
+import base64
+import importlib.machinery
+import importlib.util
+import os
+import random
+import re
+import sys
+import tempfile
+import zlib
+
+from asked.linked import EXAMPLES, run
+from lib.harness import ROOT, ssh_keygen
+
+LINES, TEXTS, FILES, CUTS = 90, 30, 200, 40
+# what texts of lines are put together of
+PIECES = [
+    b"a", b"ssh", b"#", b" ", b"\t", b"\r", b"\n", b"\n", b"\r\n", b"\x0b", b"\x0c", b"\x1c",
+    b"\xc2\x85", b"\xe2\x80\xa8", b"\0", b"\xff",
+]  # fmt: skip
+VERDICTS = {
+    "Trusted": "DONE", "Revoked": "HOST_REVOKED", "Unreadable": "HOST_UNREADABLE", "Changed": "HOST_CHANGED",
+    "Unknown": "HOST_UNKNOWN",
+}  # fmt: skip
+OPTIONS = [
+    (b"", []), (b",,", []), (b"no-pty", [(b"no-pty", None)]), (b'A="",b', [(b"A", b""), (b"b", None)]),
+    (b',x="a,b c",,restrict,', [(b"x", b"a,b c"), (b"restrict", None)]), (b'c="say \\"hi\\" \\n"', [(b"c", b'say "hi" \\n')]),
+    (b'from="*.example.com,!a.b",X11-forwarding', [(b"from", b"*.example.com,!a.b"), (b"X11-forwarding", None)]),
+    (b"command=ls", "FORMAT"), (b'no-pty,command="ls', "FORMAT"), (b'x="a"b', "FORMAT"), (b"a b", "FORMAT"), (b"=", "FORMAT"),
+    (b"\xff", "TEXT"),
+]  # fmt: skip
+
+
+def loaded(name):
+    """A check without an ending, as a module."""
+    loader = importlib.machinery.SourceFileLoader(name.replace("-", "_"), os.path.join(ROOT, "checks", name))
+    module = importlib.util.module_from_spec(importlib.util.spec_from_loader(loader.name, loader))
+    loader.exec_module(module)
+    return module
+
+
+def word(data):
+    return data.hex() or "-"
+
+
+def part(data):
+    return f"{len(data)}:{zlib.crc32(data):08x}"
+
+
+def asked(count, built, name, questions):
+    """What C with sanitizers answers to each."""
+    ran = run([f"{built.sanitized}/foreign"], input="".join(f"{it}\n" for it in questions))
+    said = ran.stdout.splitlines()
+    whole = ran.returncode == 0 and len(said) == len(questions)
+    count.check(f"{name}: C is asked {len(questions)} times without a fault", whole, ran.stderr[-2000:])
+    return said
+
+
+# ---- lines
+
+
+def lines_of(text):
+    """The lines that sshd(8) does not pass over, and where each begins. Lines end at line feeds alone."""
+    place, parts = 0, text.split(b"\n")
+    for at, whole in enumerate(parts):
+        line = whole[:-1] if whole.endswith(b"\r") and at < len(parts) - 1 else whole
+        filled = line.lstrip(b" \t")
+        if filled and not filled.startswith(b"#"):
+            yield place + len(line) - len(filled), filled
+        place += len(whole) + 1
+
+
+def check_lines(count, built, sshkey, draw):
+    texts = [b"", b"a", b"a\r", b"\r\n", b" \t", b"# a\n b\n", b"a\r\r\nb\n\n"]
+    texts += [b"".join(draw.choice(PIECES) for _ in range(draw.randrange(24))) for _ in range(400)]
+    said = asked(count, built, "lines", [f"lines {word(it)}" for it in texts])
+    wrong = []
+    for text, answer in zip(texts, said):
+        wanted = list(lines_of(text))
+        by_c = "".join(f" {part(line)}@{start}" for start, line in wanted) + " 3 3 3 3"
+        if answer != by_c or sshkey.entry_lines(text) != [line for _, line in wanted]:
+            wrong.append((text, answer, by_c, sshkey.entry_lines(text)))
+    count.check(f"the lines of {len(texts)} texts that may be entries", not wrong, *wrong[:3])
+
+
+def check_file(count, sshkey, folder, keys):
+    """The keys of a file, in order, are those that ssh-keygen shows."""
+    ed25519, rsa, ecdsa = (f"{name} {blob}" for name, blob in keys.items())
+    text = f"# keys\n\n{ed25519} a\r\n \t{rsa} b # c\n\n#{ecdsa} off\n{ecdsa}\n{ed25519} last"
+    path = os.path.join(folder, "file")
+    with open(path, "w", encoding="utf-8", newline="") as file:
+        file.write(text)
+    shown = re.findall(r"SHA256:\S+", ssh_keygen("-l", "-f", path, text=True).stdout)
+    entries = [sshkey.authorized_entry(line) for line in sshkey.entry_lines(text.encode())]
+    found = [sshkey.fingerprint_text(sshkey.fingerprint(it.key)) for it in entries]
+    count.check("the keys of a file are those that ssh-keygen shows", found == shown and len(found) == 4, found, shown)
+
+
+# ---- entries
+
+
+def read_by_python(sshkey, kind, line):
+    """What the Python module reads of the line, or None, and the same as C says it."""
+    try:
+        entry = (sshkey.authorized_entry if kind == "entry" else sshkey.known_host)(line)
+    except sshkey.Refused as refused:
+        return None, f"{int(refused.status)}"
+    marker, front = (0, entry.options) if kind == "entry" else (int(entry.marker), entry.hosts)
+    return entry, " ".join([f"0 {marker}", *map(part, (front, entry.key, entry.comment))])
+
+
+def is_key_shown(entry, wanted, keys):
+    if entry is None or wanted is None:
+        return entry is None and wanted is None
+    shown = entry.comment.decode()
+    return entry.key == keys[wanted[0]] and (shown == wanted[1] or not shown or shown.startswith("#"))
+
+
+def is_host_found(entry, wanted, keys, lines):
+    if entry is None or not lines.names_host(entry.hosts.decode()):
+        return wanted is None
+    marker = {0: "no marker", 1: "@cert-authority", 2: "@revoked"}[int(entry.marker)]
+    return wanted is not None and marker == wanted[0] and entry.key == keys[wanted[1]]
+
+
+def check_entries(count, built, sshkey, draw, folder, lines):
+    texts = lines.made(folder)
+    keys = {name: base64.b64decode(it) for name, it in texts.items()}
+    check_file(count, sshkey, folder, texts)
+    cases = []
+    for _ in range(LINES):
+        line, plain = lines.authorized_line(draw, texts)
+        cases.append(("entry", line.encode(), lines.shown(folder, plain)))
+        line = lines.host_line(draw, texts)
+        cases.append(("host", line.encode(), lines.found(folder, line)))
+    said = asked(count, built, "entries", [f"{kind} {word(line)}" for kind, line, _ in cases])
+    wrong, read = [], {"entry": [], "host": []}
+    for (kind, line, wanted), answer in zip(cases, said):
+        entry, by_python = read_by_python(sshkey, kind, line)
+        fits = is_key_shown(entry, wanted, keys) if kind == "entry" else is_host_found(entry, wanted, keys, lines)
+        if answer != by_python or not fits:
+            wrong.append((line, answer, by_python, entry, wanted))
+        if entry:
+            read[kind].append((line, entry))
+    count.check(f"{len(cases)} lines are read as ssh-keygen reads them", not wrong, *wrong[:3])
+    count.check("and many of each kind are entries", min(map(len, read.values())) > LINES // 8, *map(len, read.values()))
+    check_faults(count, built, sshkey, texts["ssh-ed25519"])
+    check_rooms(count, built, read)
+    check_hostile(count, built, sshkey, draw, read)
+
+
+def check_faults(count, built, sshkey, key):
+    """Which number a line is refused with."""
+    ed25519 = f"ssh-ed25519 {key}"
+    cases = [
+        ("entry", f"# {ed25519}", "FORMAT"), ("entry", "", "FORMAT"), ("entry", f'command="ls {ed25519}', "FORMAT"),
+        ("entry", f"restrict {ed25519[:-1]}", "BASE64"), ("entry", f"restrict ssh-rsa {key}", "ALGORITHM_UNKNOWN"),
+        ("entry", "a b", "LENGTH"), ("entry", "restrict ssh-ed25519", "LENGTH"), ("host", f"@gone h {ed25519}", "FORMAT"),
+        ("host", f"# h {ed25519}", "FORMAT"), ("host", f"|1|AAAA {ed25519}", "FORMAT"),
+        ("host", f"|1|AAAA|AAAA {ed25519}", "LENGTH"), ("host", f"|1|AAAA|A {ed25519}", "BASE64"),
+        ("host", f"h ssh-rsa {key}", "ALGORITHM_UNKNOWN"), ("host", f"h {ed25519[:-1]}", "BASE64"), ("host", "h", "LENGTH"),
+    ]  # fmt: skip
+    cases = [(kind, line.encode(), wanted) for kind, line, wanted in cases]
+    cases += [(kind, b"\xff " + ed25519.encode(), "TEXT") for kind in ("entry", "host")]
+    said = asked(count, built, "faults of lines", [f"{kind} {word(line)}" for kind, line, _ in cases])
+    wrong = [(*it, answer) for it, answer in zip(cases, said) if answer != str(int(sshkey.Status[it[2]]))]
+    count.check("a line is refused for its fault", not wrong, *wrong)
+
+
+def check_rooms(count, built, read):
+    some = [(kind, line, entry) for kind, them in read.items() for line, entry in them[:8]]
+    said = asked(count, built, "rooms for entries", [f"short {kind} {word(line)}" for kind, line, _ in some])
+    for (kind, line, entry), answer in zip(some, said):
+        front = entry.options if kind == "entry" else entry.hosts
+        needed = len(front) + len(entry.key) + len(entry.comment)
+        kept = answer == f"{needed} {needed + 1}" and needed <= len(line)
+        count.check(f"each room below the {needed} bytes of a line is too short", kept, answer)
+
+
+def check_hostile(count, built, sshkey, draw, read):
+    """Lines that are cut, or have a byte turned, are answered, and the same in C and in Python."""
+    cases = []
+    for kind, them in read.items():
+        for line, _ in them[:3]:
+            for at, byte in enumerate(line):
+                cases.append((kind, line[:at] + bytes([byte ^ draw.choice([1, 32, 128])]) + line[at + 1 :]))
+            cases += [(kind, line[: draw.randrange(len(line))]) for _ in range(CUTS)]
+    said = asked(count, built, "hostile lines", [f"{kind} {word(line)}" for kind, line in cases])
+    wrong = [(line, answer) for (kind, line), answer in zip(cases, said) if answer != read_by_python(sshkey, kind, line)[1]]
+    numbers = {int(it.split()[0]) for it in said}
+    count.check("hostile lines are answered the same in C and in Python", not wrong, *wrong[:3])
+    count.check("and each is an entry, no text, or has a fault", all(it in (0, 4) or 10 <= it < 30 for it in numbers), numbers)
+
+
+# ---- options
+
+
+def options_by_python(sshkey, text):
+    """The options, or the name of the number they are refused with; and the same as C says it."""
+    found = []
+    try:
+        found += sshkey.entry_options(text)
+        status = sshkey.Status.END
+    except sshkey.Refused as refused:
+        status = refused.status
+    said = "".join(f" {part(name)} {part(value or b'')} {int(value is not None)}" for name, value in found)
+    return found if status == sshkey.Status.END else status.name, f"{said} {int(status)}"
+
+
+def check_options(count, built, sshkey, draw, folder, lines):
+    with open(f"{folder}/ssh-ed25519.pub", encoding="ascii") as file:
+        key = " ".join(file.read().split()[:2])
+    cases = list(OPTIONS)
+    for _ in range(TEXTS):
+        text, value = lines.options_text(draw)
+        wanted = lines.verified(folder, text, value, key)
+        cases.append((text.encode(), (value.encode(), wanted)))
+    said = asked(count, built, "options", [f"options {word(text)}" for text, _ in cases])
+    wrong = []
+    for (text, wanted), answer in zip(cases, said):
+        found, by_python = options_by_python(sshkey, text)
+        taken = [(name.lower(), value) for name, value in found] if isinstance(found, list) else None
+        fits = found == wanted if not isinstance(wanted, tuple) else (taken == [(b"namespaces", wanted[0])]) == wanted[1]
+        if answer != by_python or not fits:
+            wrong.append((text, answer, by_python, found, wanted))
+    count.check(f"the options of {len(cases)} texts", not wrong, *wrong[:3])
+    some = [(text, found[0]) for text, found in OPTIONS if found and isinstance(found, list)]
+    said = asked(count, built, "rooms for options", [f"short options {word(text)}" for text, _ in some])
+    needed = [len(name) + len(value or b"") for _, (name, value) in some]
+    count.check("each room below an option is too short", said == [f"{it} {it + 1}" for it in needed], said, needed)
+
+
+# ---- hosts
+
+
+def bytes_of(spelled):
+    return b"" if spelled == '""' else bytes.fromhex(spelled)
+
+
+def authority_in(folder, hosts, text, name, port, key, verdict):
+    """What is said of the key as an authority's, by the lines that ssh-keygen finds for the name: none of them has a fault
+    where the verdict on the key is not one of the first two."""
+    if verdict in ("HOST_REVOKED", "HOST_UNREADABLE"):
+        return verdict
+    path = hosts.written(folder, text.decode().splitlines())
+    found = hosts.found(path, hosts.looked_up(name.decode(), port)).values()
+    return "DONE" if ("CA", key) in found else "HOST_UNKNOWN"
+
+
+def host_cases(draw, folder, hosts):
+    """Names, texts, hosts, ports and keys, and the names of what is wanted of a host's key and of an authority's."""
+    keys, hosts.FILES = hosts.made(folder), FILES
+    types = {line: name for name, line in keys.items()}
+    for question, shown, wanted in hosts.of_files(draw, folder, keys):
+        text, name, port, key = map(bytes_of, question.removeprefix("host-verdict ").split(" , "))
+        verdict, blob = VERDICTS[wanted], base64.b64decode(key.split()[1])
+        authority = authority_in(folder, hosts, text, name, int(port), types[key.decode()], verdict)
+        yield shown, text, name, int(port), blob, verdict, authority
+    for shown, text, name, given, wanted in (
+        ("no text", b"\xff", b"h", blob, "TEXT"), ("no host", b"", b"\xff", blob, "TEXT"),
+        ("neither", b"\xff", b"\xff", b"", "TEXT"), ("no key", b"", b"h", b"", "LENGTH"),
+        ("more than a key", b"", b"h", blob + b"\0", "TRAILING_DATA"),
+    ):  # fmt: skip
+        yield shown, text, name, 22, given, wanted, wanted
+
+
+def judged_by_python(call, *given):
+    try:
+        return call(*given).name
+    except ValueError as refused:
+        return refused.status.name
+
+
+def check_verdicts(count, built, sshkey, draw, folder, hosts):
+    cases = list(host_cases(draw, folder, hosts))
+    questions = [f"verdict {word(text)} {word(host)} {port} {word(key)}" for _, text, host, port, key, *_ in cases]
+    said = asked(count, built, "hosts", questions)
+    wrong = []
+    for (shown, *given, verdict, authority), answer in zip(cases, said):
+        found = judged_by_python(sshkey.judge_host, *given), judged_by_python(sshkey.judge_authority, *given)
+        if (verdict, authority) != found or answer != " ".join(str(int(sshkey.Status[it])) for it in found):
+            wrong.append((shown, answer, found, verdict, authority))
+    name = f"{len(cases)} verdicts on the keys of hosts and authorities are what ssh-keygen -F finds"
+    count.check(name, not wrong, *wrong[:3])
+    few = [name for name in VERDICTS.values() if sum(it[-2] == name for it in cases) < FILES // 60]
+    count.check("and each verdict is among them", not few and sum(it[-1] == "DONE" for it in cases) > 2, few)
+
+
+def check_example(count, folder, hosts):
+    """examples/python/host.py, over a file in which ssh-keygen hashed the names."""
+    keys = hosts.made(folder)
+    lines = [f"h.example,[h.example]:2222 {keys['ED25519']}", f"other.example {keys['RSA']}"]
+    lines.append(f"@revoked h.example {keys['ECDSA']}")
+    path = hosts.written(folder, lines)
+    run(["ssh-keygen", "-H", "-f", path])
+    with open(path, encoding="ascii") as file:
+        count.check("ssh-keygen hashed the names", "|1|" in file.read())
+    script = os.path.join(EXAMPLES, "python", "host.py")
+    given = "".join(f"{key} comment\n" for key in keys.values())
+    for host, port, wanted, status in (
+        ("H.example", 22, ["trusted", "changed", "revoked"], 1), ("h.example", 2222, ["trusted", "changed", "changed"], 1),
+        ("other.example", 22, ["changed", "trusted", "changed"], 1), ("x.example", 22, ["unknown"] * 3, 1),
+    ):  # fmt: skip
+        ran = run([sys.executable, script, host, str(port), path], input=given)
+        same = ran.stdout.split() == wanted and ran.returncode == status
+        count.check(f"host.py says of {host} at {port}", same, ran.stdout, ran.stderr)
+    one = run([sys.executable, script, "h.example", "22", path], input=f"{keys['ED25519']}\n")
+    trusted = one.returncode == 0 and one.stdout == "trusted\n"
+    count.check("and ends with 0 where all is trusted", trusted, one.stdout, one.stderr)
+
+
+def check_entry_calls(count, built, sshkey):
+    lines, hosts, draw = loaded("entry-lines"), loaded("hosts"), random.Random(3)
+    check_lines(count, built, sshkey, draw)
+    with tempfile.TemporaryDirectory() as folder:
+        check_entries(count, built, sshkey, draw, folder, lines)
+        check_options(count, built, sshkey, draw, folder, lines)
+    with tempfile.TemporaryDirectory() as folder:
+        check_verdicts(count, built, sshkey, random.Random(hosts.SEED), folder, hosts)
+    with tempfile.TemporaryDirectory() as folder:
+        check_example(count, folder, hosts)

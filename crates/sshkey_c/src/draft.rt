@@ -1,0 +1,42 @@
+//! How a certificate is made.
+
+ghost use Rattle.std.specs.Prelude.{◌≡◌, ◌≢◌, ℕ, List, Err};
+ghost use Rattle.sshkey_model.specs.Certificates.{certificate_at};
+ghost use Rattle.sshkey_model.specs.Reading.{Fault, whole};
+ghost use Rattle.sshkey_calls.specs.Drafts.{IsJoined, IsSigned, IsToBeSigned, draft_fault};
+ghost use Rattle.sshkey_calls.specs.Numbers.{fault_number};
+ghost use Rattle.sshkey_calls.specs.Writing.{Writes};
+
+use sshkey_calls::{CertificateDraft, certificate_signed, certificate_to_be_signed};
+use std::alloc::Global;
+
+/// What is to be signed of a certificate: `sshkey_calls::certificate_to_be_signed`.
+#[unsafe(no_mangle)]
+pub extern "C" fn sshkey_certificate_to_be_signed(
+    alloc: Global,
+    draft: &CertificateDraft<'_>,
+    room: &mut [u8],
+    length: &mut usize,
+) -> u32
+    ensures written { Writes (IsToBeSigned draft.now) result length.new room.old room.new }
+    ensures numbers { draft_fault draft.now ≢ 0 → result ≡ draft_fault draft.now }
+{
+    certificate_to_be_signed(alloc, draft, room, length)
+}
+
+/// The certificate that a signature makes: `sshkey_calls::certificate_signed`.
+#[unsafe(no_mangle)]
+pub extern "C" fn sshkey_certificate_signed(
+    alloc: Global,
+    to_be_signed: &[u8],
+    signature: &[u8],
+    room: &mut [u8],
+    length: &mut usize,
+) -> u32
+    ensures written { Writes (IsSigned to_be_signed.now signature.now)
+        result length.new room.old room.new }
+    ensures fault { (s : List ℕ) (fault : Fault) → IsJoined to_be_signed.now signature.now s
+        → whole certificate_at s ≡ Err fault → result ≢ 1 → result ≡ fault_number fault }
+{
+    certificate_signed(alloc, to_be_signed, signature, room, length)
+}

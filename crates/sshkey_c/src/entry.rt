@@ -1,0 +1,72 @@
+//! Lines of authorized_keys and known_hosts, and the options of an entry.
+
+ghost use Rattle.std.specs.Prelude.{◌≡◌};
+ghost use Rattle.std.specs.Str.{IsUtf8};
+ghost use Rattle.sshkey_authorized_keys.specs.OpenSshFaults as keys;
+ghost use Rattle.sshkey_entries.specs.OpenSshLines.{IsAuthorizedLine, IsHostLine};
+ghost use Rattle.sshkey_known_hosts.specs.OpenSshHosts as hosts;
+ghost use Rattle.sshkey_file_calls.specs.Entries.{FindsEntry, TellsFault, of_authorized_key, of_known_host};
+ghost use Rattle.sshkey_file_calls.specs.Lines.{FindsLine};
+ghost use Rattle.sshkey_file_calls.specs.Options.{FindsOption};
+
+use sshkey_calls::part::Part;
+use sshkey_file_calls::{
+    EntryParts, OptionParts, authorized_entry, known_host, next_line, nth_option,
+};
+use std::alloc::Global;
+
+/// The next line that may be an entry: `sshkey_file_calls::next_line`.
+#[unsafe(no_mangle)]
+pub extern "C" fn sshkey_next_line(text: &[u8], place: usize, answer: &mut Part) -> u32
+    ensures { FindsLine text.now place result answer.new }
+{
+    next_line(text, place, answer)
+}
+
+/// The entry of a line of authorized_keys: `sshkey_file_calls::authorized_entry`.
+#[unsafe(no_mangle)]
+pub extern "C" fn sshkey_authorized_entry(
+    alloc: Global,
+    line: &[u8],
+    room: &mut [u8],
+    answer: &mut EntryParts,
+) -> u32
+    ensures entry { IsUtf8 line.now → FindsEntry (IsAuthorizedLine line.now) of_authorized_key
+        result answer.new room.old room.new }
+    ensures fault { IsUtf8 line.now → TellsFault keys.HasLineFault line.now result }
+    ensures text { (IsUtf8 line.now → ⊥) → result ≡ 4 }
+{
+    authorized_entry(alloc, line, room, answer)
+}
+
+/// The option of that number: `sshkey_file_calls::nth_option`.
+#[unsafe(no_mangle)]
+pub extern "C" fn sshkey_entry_option(
+    alloc: Global,
+    options: &[u8],
+    number: usize,
+    room: &mut [u8],
+    answer: &mut OptionParts,
+) -> u32
+    ensures option { IsUtf8 options.now → FindsOption options.now number
+        result answer.new room.old room.new }
+    ensures text { (IsUtf8 options.now → ⊥) → result ≡ 4 }
+{
+    nth_option(alloc, options, number, room, answer)
+}
+
+/// The entry of a line of known_hosts: `sshkey_file_calls::known_host`.
+#[unsafe(no_mangle)]
+pub extern "C" fn sshkey_known_host(
+    alloc: Global,
+    line: &[u8],
+    room: &mut [u8],
+    answer: &mut EntryParts,
+) -> u32
+    ensures entry { IsUtf8 line.now → FindsEntry (IsHostLine line.now) of_known_host
+        result answer.new room.old room.new }
+    ensures fault { IsUtf8 line.now → TellsFault hosts.HasLineFault line.now result }
+    ensures text { (IsUtf8 line.now → ⊥) → result ≡ 4 }
+{
+    known_host(alloc, line, room, answer)
+}

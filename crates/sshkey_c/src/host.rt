@@ -1,0 +1,48 @@
+//! What a text of known_hosts says of a host's key and of the authority that signed it.
+
+ghost use Rattle.std.specs.Prelude.{◌≡◌, Err};
+ghost use Rattle.std.specs.Str.{IsUtf8};
+ghost use Rattle.sshkey_keys.specs.Keys.{key_data_at};
+ghost use Rattle.sshkey_model.specs.Reading.{Fault, whole};
+ghost use Rattle.sshkey_calls.specs.Numbers.{fault_number};
+ghost use Rattle.sshkey_file_calls.specs.Verdicts.{TellsAuthority, TellsVerdict};
+
+use sshkey_file_calls::{authority_verdict, host_verdict};
+use std::alloc::Global;
+
+/// What a text of known_hosts says of the key that a host shows: `sshkey_file_calls::host_verdict`.
+#[unsafe(no_mangle)]
+pub extern "C" fn sshkey_host_verdict(
+    alloc: Global,
+    known_hosts: &[u8],
+    host: &[u8],
+    port: u16,
+    key: &[u8],
+) -> u32
+    ensures verdict { IsUtf8 known_hosts.now → IsUtf8 host.now
+        → TellsVerdict known_hosts.now host.now port key.now result }
+    ensures fault { IsUtf8 known_hosts.now → IsUtf8 host.now → (fault : Fault)
+        → whole key_data_at key.now ≡ Err fault → result ≡ fault_number fault }
+    ensures text { (IsUtf8 known_hosts.now → IsUtf8 host.now → ⊥) → result ≡ 4 }
+{
+    host_verdict(alloc, known_hosts, host, port, key)
+}
+
+/// What a text of known_hosts says of the key of an authority that signed a host's certificate:
+/// `sshkey_file_calls::authority_verdict`.
+#[unsafe(no_mangle)]
+pub extern "C" fn sshkey_host_authority(
+    alloc: Global,
+    known_hosts: &[u8],
+    host: &[u8],
+    port: u16,
+    key: &[u8],
+) -> u32
+    ensures verdict { IsUtf8 known_hosts.now → IsUtf8 host.now
+        → TellsAuthority known_hosts.now host.now port key.now result }
+    ensures fault { IsUtf8 known_hosts.now → IsUtf8 host.now → (fault : Fault)
+        → whole key_data_at key.now ≡ Err fault → result ≡ fault_number fault }
+    ensures text { (IsUtf8 known_hosts.now → IsUtf8 host.now → ⊥) → result ≡ 4 }
+{
+    authority_verdict(alloc, known_hosts, host, port, key)
+}

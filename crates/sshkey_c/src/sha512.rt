@@ -1,0 +1,39 @@
+//! SHA-512 fingerprints of keys.
+
+ghost use Rattle.std.specs.Prelude.{◌≡◌, Err};
+ghost use Rattle.sshkey_keys.specs.Keys.{key_data_at};
+ghost use Rattle.sshkey_model.specs.Fingerprints.{digest_text};
+ghost use Rattle.sshkey_model.specs.Names.{Sha512};
+ghost use Rattle.sshkey_model.specs.Reading.{Fault, whole};
+ghost use Rattle.sshkey_calls.specs.Fingerprints.{Prints};
+ghost use Rattle.sshkey_calls.specs.Numbers.{fault_number};
+ghost use Rattle.sshkey_calls.specs.Sha512.{GivesSha512};
+
+use sshkey_calls::{Sha512Digest, fingerprint_sha512, fingerprint_sha512_text};
+use std::alloc::Global;
+
+/// The SHA-512 fingerprint of a key: `sshkey_calls::fingerprint_sha512`.
+#[unsafe(no_mangle)]
+pub extern "C" fn sshkey_fingerprint_sha512(
+    alloc: Global,
+    key: &[u8],
+    answer: &mut Sha512Digest,
+) -> u32
+    ensures fingerprint { GivesSha512 key.now result answer.new.bytes }
+    ensures fault { (fault : Fault) → whole key_data_at key.now ≡ Err fault
+        → result ≡ fault_number fault }
+{
+    fingerprint_sha512(alloc, key, answer)
+}
+
+/// The text of a SHA-512 fingerprint: `sshkey_calls::fingerprint_sha512_text`.
+#[unsafe(no_mangle)]
+pub extern "C" fn sshkey_fingerprint_sha512_text(
+    alloc: Global,
+    digest: &Sha512Digest,
+    room: &mut [u8],
+) -> u32
+    ensures { Prints (digest_text Sha512 digest.now.bytes) result room.old room.new }
+{
+    fingerprint_sha512_text(alloc, digest, room)
+}

@@ -1,0 +1,135 @@
+-- What a line holds, and stands in the room.
+use Rattle.std.proofs.Common.{◌≡◌, ◌≢◌, ◌<◌, ◌+◌, ℕ, ◌⊎◌, List, ◌++◌, length, inl, inr, take, drop, Bool, true, false, refl, sym, ap, ◌∙◌, subst, arith, append_assoc, length-append}
+use Rattle.std.proofs.Math.Seq.{take-append_seam, drop-append_seam}
+use Rattle.base64.specs.GeneralPurpose.{IsBytes}
+use Rattle.sshkey_model.specs.Certificates.{Certificate}
+use Rattle.sshkey_model.specs.Keys.{Key}
+use Rattle.sshkey_model.specs.Lines.{IsLine, IsLineOf, IsNoLine, key_name, name_of_certificate}
+use Rattle.sshkey_model.specs.Texts.{IsText}
+use Rattle.sshkey_model.proofs.Blobs.{certificate_blobs, key_blobs}
+use Rattle.sshkey_model.proofs.CombinedReaders.{bytes_fit}
+use Rattle.sshkey_keys.specs.Keys.{SpellsKey}
+use Rattle.sshkey_cert.specs.CertificateReaders.{SpellsCertificate}
+use Rattle.sshkey_calls.specs.KeyLines.{Content, Holds, IsContent, IsLaidOutLine, Reads, content_of}
+use Rattle.sshkey_calls.specs.Rooms.{Fills}
+use Rattle.sshkey_calls.specs.declared.line.Line.{Line}
+
+-- ---- in the room
+
+module _ (a b behind : List ℕ) where
+  front_part : take (length a) ((a ++ b) ++ behind) ≡ a
+  front_part = rw append_assoc (take-append_seam a _)
+
+  back_part : take (length b) (drop (length a) ((a ++ b) ++ behind)) ≡ b
+  back_part = simp (append_assoc, drop-append_seam, take-append_seam)
+
+is_content : (x : Content) (content behind after : List ℕ) (line : Line) → IsLaidOutLine x content line → after ≡ content ++ behind → IsContent x line after
+is_content x content behind after line laid is = record {
+  kind = laid.kind;
+  blob = rw (is, laid.content, laid.blob.0, laid.blob.1) (front_part x.blob x.comment behind);
+  comment = rw (is, laid.content, laid.comment.0, laid.comment.1) (back_part x.blob x.comment behind);
+  within = (omega (arith, whole, laid.blob), omega (arith, whole, laid.comment));
+  length = laid.length;
+}
+  where
+    whole : length after ≡ length x.blob + length x.comment + length behind
+    whole = omega (arith, ap length is, length-append content behind, ap length laid.content, length-append x.blob x.comment)
+
+-- A blob, and a comment that was added behind it.
+pub laid : (kind : ℕ) (blob comment before content : List ℕ) (line : Line) → before ≡ blob → content ≡ before ++ comment → line.kind ≡ kind → line.blob.start ≡ 0 → line.blob.length ≡ length before → line.comment.start ≡ length before → line.comment.length ≡ length comment → line.length ≡ length content → IsLaidOutLine (content_of kind blob comment) content line
+laid kind blob comment before content line is added same at_front blob_length behind comment_length all = record {
+  content = added ∙ ap (λ (x : List ℕ). x ++ comment) is;
+  kind = same;
+  blob = (at_front, blob_length ∙ ap length is);
+  comment = (behind ∙ ap length is, comment_length);
+  length = omega (arith, all, ap length added, length-append before comment, ap length is);
+}
+
+-- The room was filled, or is too short.
+pub told : (x : Content) (content before after : List ℕ) (filled : Bool) (line : Line) (n : ℕ) → IsLaidOutLine x content line → Fills content before filled after → (filled ≡ true → n ≡ 0) → (filled ≡ false → n ≡ 2) → Reads (λ y. y ≡ x) n line before after
+told x content before after true line n laid filled done short = record {
+  read = λ _. (x, refl, is_content x content (drop (length content) before) after line laid filled);
+  short = λ two. absurd (omega (arith, done refl, two));
+  none = λ not_zero _ _ _ _. not_zero (done refl);
+  fault = λ not_zero _ _. absurd (not_zero (done refl));
+}
+told x content before after false line n laid filled done short = record {
+  read = λ zero_. absurd (omega (arith, short refl, zero_));
+  short = λ _. (x, refl, record { needed = laid.length; short = omega (arith, ap length laid.content, length-append x.blob x.comment, laid.length, filled.1); stays = filled.0 });
+  none = λ _ _ not_two _ _. not_two (short refl);
+  fault = λ _ _ not_two. absurd (not_two (short refl));
+}
+
+-- What is read is what is wanted.
+read_one : {Wanted : Content → Type 0} (x : Content) (n : ℕ) (line : Line) (before after : List ℕ) → Wanted x → Reads (λ y. y ≡ x) n line before after → Reads Wanted n line before after
+read_one {Wanted} x n line before after wanted reads = record {
+  read = λ zero_. let r = reads.read zero_ in (r.0, subst Wanted (sym r.1) wanted, r.2);
+  short = λ two. let r = reads.short two in (r.0, subst Wanted (sym r.1) wanted, r.2);
+  none = λ some not_memory fits _ _. reads.none some not_memory fits x refl;
+  fault = reads.fault;
+}
+
+-- Nothing is said.
+pub no_memory : {Wanted : Content → Type 0} (n : ℕ) (line : Line) (before after : List ℕ) → n ≡ 1 → Reads Wanted n line before after
+no_memory n line before after one = record {
+  read = λ zero_. absurd (omega (arith, one, zero_));
+  short = λ two. absurd (omega (arith, one, two));
+  none = λ _ not_one _ _ _. absurd (not_one one);
+  fault = λ _ not_one _. absurd (not_one one);
+}
+
+-- There is none.
+pub none_read : {Wanted : Content → Type 0} (n : ℕ) (line : Line) (before after : List ℕ) → (n ≢ 1 → (9 < n) × (n < 30)) → (n ≢ 1 → (x : Content) → Wanted x → ⊥) → n ≢ 0 → n ≢ 2 → Reads Wanted n line before after
+none_read n line before after range none some apart = record {
+  read = λ zero_. absurd (some zero_);
+  short = λ two. absurd (apart two);
+  none = λ _ not_one _. none not_one;
+  fault = λ _ not_one _. range not_one;
+}
+
+-- ---- in the line
+
+-- What is told of the blob and the comment of a line that was read.
+abbrev Tells : List ℕ → ℕ → List ℕ → ℕ → Line → List ℕ → List ℕ → Type 0
+Tells text kind comment n line before after = (first blob : List ℕ) → IsLine text first blob comment → IsBytes blob → Reads (λ x. x ≡ content_of kind blob comment) n line before after
+
+pub reads_key : (text : List ℕ) (k : Key) (comment : List ℕ) (n : ℕ) (answer : Line) (before after : List ℕ) → IsLineOf key_name SpellsKey text k comment → Tells text 1 comment n answer before after → Reads (Holds text) n answer before after
+reads_key text k comment n answer before after line tells =
+    read_one (content_of 1 line.blob comment) n answer before after (inl (refl, (k, line.spelled, line.line)))
+    (tells (key_name k) line.blob line.line (bytes_fit line.blob (key_blobs.bytes k line.blob line.spelled)))
+
+pub reads_certificate : (text : List ℕ) (c : Certificate) (comment : List ℕ) (n : ℕ) (answer : Line) (before after : List ℕ) → IsLineOf name_of_certificate SpellsCertificate text c comment → Tells text 2 comment n answer before after → Reads (Holds text) n answer before after
+reads_certificate text c comment n answer before after line tells =
+    read_one (content_of 2 line.blob comment) n answer before after (inr (refl, (c, line.spelled, line.line)))
+    (tells (name_of_certificate c) line.blob line.line (bytes_fit line.blob (certificate_blobs.bytes c line.blob line.spelled)))
+
+-- A line of neither holds nothing.
+pub holds_nothing : (text : List ℕ) → IsNoLine key_name SpellsKey text → IsNoLine name_of_certificate SpellsCertificate text → (x : Content) → Holds text x → ⊥
+holds_nothing text no_key no_certificate x holds = elim holds [
+  | inl key ↦ no_key key.1.0 x.comment (record { blob = x.blob; spelled = key.1.1; line = key.1.2 })
+  | inr certificate ↦ no_certificate certificate.1.0 x.comment (record { blob = x.blob; spelled = certificate.1.1; line = certificate.1.2 })
+]
+
+-- What holds something is a text.
+pub held_text : (text : List ℕ) (x : Content) → Holds text x → IsText text
+held_text text x holds = elim holds [
+  | inl key ↦ key.1.2.utf8
+  | inr certificate ↦ certificate.1.2.utf8
+]
+
+-- Of a line of neither one of the two faults is told.
+pub fault_told : (text : List ℕ) (of_key of_certificate n : ℕ) (answer : Line) (before after : List ℕ) → IsNoLine key_name SpellsKey text → (9 < of_key) × (of_key < 30) → (of_certificate ≢ 1 → IsNoLine name_of_certificate SpellsCertificate text) → (of_certificate ≢ 1 → (9 < of_certificate) × (of_certificate < 30)) → of_certificate ≢ 0 → of_certificate ≢ 2 → (n ≡ of_key) ⊎ (n ≡ of_certificate) → (of_certificate ≡ 1 → n ≡ 1) → Reads (Holds text) n answer before after
+fault_told text of_key of_certificate n answer before after no_key range no_certificate ranges some apart either memory = none_read n answer before after
+    (λ not_one. elim either [
+      | inl key ↦ subst (λ (x : ℕ). (9 < x) × (x < 30)) (sym key) range
+      | inr certificate ↦ subst (λ (x : ℕ). (9 < x) × (x < 30)) (sym certificate) (ranges (λ one. not_one (memory one)))
+    ])
+    (λ not_one. holds_nothing text no_key (no_certificate (λ one. not_one (memory one))))
+    (λ zero_. elim either [
+      | inl key ↦ omega (arith, key, zero_, range.0)
+      | inr certificate ↦ some (sym certificate ∙ zero_)
+    ])
+    (λ two. elim either [
+      | inl key ↦ omega (arith, key, two, range.0)
+      | inr certificate ↦ apart (sym certificate ∙ two)
+    ])

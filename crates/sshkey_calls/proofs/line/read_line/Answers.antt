@@ -1,0 +1,13 @@
+use Rattle.std.proofs.Common.{◌≡◌, ℕ, List, arith, rules, subst}
+use Rattle.std.proofs.lemmas.Str.{IsUtf8-from_is_utf8}
+use Rattle.sshkey_calls.specs.KeyLines.{Holds, Reads}
+use Rattle.sshkey_calls.proofs.KeyLines.{held_text, none_read}
+use Rattle.sshkey_calls.proofs.line.read_line.Goals as goal
+
+pub returns-in-Ok : goal.returns-in-Ok
+returns-in-Ok c =
+    let same : c.in-Ok.text.now ≡ c.args.line.now = search rules in
+    subst (λ (b : List ℕ). Reads (Holds b) c.read_text.result c.read_text.new.answer c.args.room.now c.read_text.new.room) same c.read_text.ensures
+
+pub returns-in-Err : goal.returns-in-Err
+returns-in-Err c = none_read 11 _ _ _ (λ _. (omega arith, omega arith)) (λ _ x holds. c.in-Err.ensures.cases.0 (IsUtf8-from_is_utf8 c.args.line.now (held_text c.args.line.now x holds))) (λ e. cc e) (λ e. cc e)

@@ -1,0 +1,63 @@
+//! The key that a certificate certifies.
+
+ghost use Rattle.std.specs.Prelude.{◌≡◌, Err, IfOk};
+ghost use Rattle.sshkey_cert_ref.specs.CertificateRef.{certificate_of};
+ghost use Rattle.sshkey_model.specs.Certificates.{certificate_at};
+ghost use Rattle.sshkey_model.specs.Keys.{normal_key};
+ghost use Rattle.sshkey_model.specs.Parts.{flat};
+ghost use Rattle.sshkey_model.specs.Reading.{Fault, whole};
+ghost use Rattle.sshkey_calls.specs.Drafts.{IsKeyOf};
+ghost use Rattle.sshkey_calls.specs.Numbers.{fault_number};
+ghost use Rattle.sshkey_calls.specs.Writing.{Writes};
+
+use crate::number::{MEMORY, error_number};
+use crate::write::write_bytes;
+use sshkey_base::{Result, encode_vec};
+use sshkey_cert_ref::CertificateRef;
+use std::alloc::Global;
+
+/// Writes the blob of the key that the certificate certifies, as its public key's line has it: a
+/// certificate has the key's parts, and not its name.
+///
+/// Returns 0, 2 where the room is shorter, 1 if memory ran out, and else from 10 to 29 the fault of
+/// bytes that are no certificate. A room as long as the certificate is long enough.
+pub fn certificate_key(
+    alloc: Global,
+    certificate: &[u8],
+    room: &mut [u8],
+    length: &mut usize,
+) -> u32
+    ensures written { Writes (IsKeyOf certificate.now) result length.new room.old room.new }
+    ensures fault { (fault : Fault) → whole certificate_at certificate.now ≡ Err fault
+        → result ≡ fault_number fault }
+{
+    match CertificateRef::from_bytes(certificate) {
+        Ok(read) => write_key(alloc, &read, room, length),
+        Err(error) => error_number(error),
+    }
+}
+
+/// The same of a certificate that was read.
+fn write_key(
+    alloc: Global,
+    certificate: &CertificateRef<'_>,
+    room: &mut [u8],
+    length: &mut usize,
+) -> u32
+    ensures { Writes (λ s. s ≡ flat (normal_key (certificate_of certificate.now).signed.key))
+        result length.new room.old room.new }
+{
+    match key_of(alloc, certificate) {
+        Ok(blob) => write_bytes(&blob, room, length),
+        Err(_) => MEMORY,
+    }
+}
+
+/// The blob of the certified key. Fails only when out of memory.
+fn key_of(alloc: Global, certificate: &CertificateRef<'_>) -> Result<Vec<u8>>
+    ensures { IfOk result (λ blob. blob.items
+        ≡ flat (normal_key (certificate_of certificate.now).signed.key)) }
+{
+    let key = certificate.public_key(alloc)?;
+    Ok(encode_vec(alloc, &key)?)
+}

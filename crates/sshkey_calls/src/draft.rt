@@ -1,0 +1,80 @@
+//! Certificates that are to be signed.
+
+ghost use Rattle.std.specs.Prelude.{◌≡◌, ◌≢◌};
+ghost use Rattle.sshkey_model.specs.Certificates.{normal_to_be_signed};
+ghost use Rattle.sshkey_model.specs.Parts.{Fits, flat};
+ghost use Rattle.sshkey_to_be_signed.specs.ToBeSignedValues.{to_be_signed_of};
+ghost use Rattle.sshkey_calls.specs.Drafts.{IsToBeSigned, draft_fault};
+ghost use Rattle.sshkey_calls.specs.Writing.{Writes};
+
+use crate::draft_fields::fields_of;
+use crate::number::error_number;
+use crate::write::write_bytes;
+use sshkey_to_be_signed::ToBeSigned;
+use std::alloc::Global;
+
+/// What a certificate is to say.
+#[repr(C)]
+#[derive(Clone, Copy, Debug)]
+pub struct CertificateDraft<'a> {
+    /// The blob of the key that is certified.
+    pub key: &'a [u8],
+    /// Random bytes, of which PROTOCOL.certkeys wants 16 or 32.
+    pub nonce: &'a [u8],
+    /// The key id, a text for logs.
+    pub key_id: &'a [u8],
+    /// The principals, each a string, one behind the other.
+    pub principals: &'a [u8],
+    /// The critical options, one behind the other, by rising names: the string of a name, and a
+    /// string that is empty or holds the string of a value.
+    pub critical_options: &'a [u8],
+    /// The extensions, likewise.
+    pub extensions: &'a [u8],
+    /// The blob of the key that is to sign.
+    pub authority: &'a [u8],
+    /// A number of the signer's choice.
+    pub serial: u64,
+    /// The first second of its window, since 1970.
+    pub valid_after: u64,
+    /// The first second after its window, or 2^64 - 1 for no end.
+    pub valid_before: u64,
+    /// 1 for users, 2 for hosts.
+    pub certificate_type: u32,
+    /// 1 where it lists no principals, and so allows everybody.
+    pub all_principals: u32,
+}
+
+/// Writes the bytes that are to be signed of the certificate that the draft tells, which the string
+/// of the signature makes a certificate of: `certificate_signed`.
+///
+/// Returns 0, 2 where the room is shorter, 1 if memory ran out, and else what is wrong, numbers
+/// first: 15 for a type that is neither 1 nor 2, 19 for a time above 2^63 - 1, 46 for a window that
+/// is empty, 45 where no principals are listed and `all_principals` is not 1, or some are and it
+/// is; then from 10 to 29 the fault of a key, of the key id, of principals or of options, 12 for a
+/// key under a private-use name, and 13 for what does not fit a string.
+pub fn certificate_to_be_signed(
+    alloc: Global,
+    draft: &CertificateDraft<'_>,
+    room: &mut [u8],
+    length: &mut usize,
+) -> u32
+    ensures written { Writes (IsToBeSigned draft.now) result length.new room.old room.new }
+    ensures numbers { draft_fault draft.now ≢ 0 → result ≡ draft_fault draft.now }
+{
+    match fields_of(alloc, draft) {
+        Ok(fields) => write_fields(alloc, &fields, room, length),
+        Err(number) => number,
+    }
+}
+
+/// Writes the bytes that are to be signed of these fields.
+fn write_fields(alloc: Global, fields: &ToBeSigned, room: &mut [u8], length: &mut usize) -> u32
+    ensures { Writes (λ s. Fits (normal_to_be_signed (to_be_signed_of fields.now))
+        × (s ≡ flat (normal_to_be_signed (to_be_signed_of fields.now))))
+        result length.new room.old room.new }
+{
+    match fields.signed_bytes(alloc) {
+        Ok(bytes) => write_bytes(&bytes, room, length),
+        Err(error) => error_number(error),
+    }
+}

@@ -1,0 +1,183 @@
+//! Lines of key files and of certificate files.
+
+ghost use Rattle.std.specs.Prelude.{◌≡◌, ◌⊎◌, ◌<◌, ◌++◌, IfOk, List, ℕ};
+ghost use Rattle.base64.specs.GeneralPurpose.{IsBytes};
+ghost use Rattle.sshkey_keys.specs.Keys.{SpellsKey};
+ghost use Rattle.sshkey_model.specs.Lines.{IsCut, IsLine, IsNoLine, IsWithout, after_space, key_name, space};
+ghost use Rattle.sshkey_calls.specs.KeyLines.{Holds, IsLaidOutLine, Reads, content_of};
+
+use crate::number::{DONE, MEMORY, ROOM, error_number};
+use crate::part::{Part, add, write_to};
+use base64::engine::general_purpose::STANDARD;
+use sshkey_base::{Error, Result};
+use sshkey_cert::Certificate;
+use sshkey_keys::KeyData;
+use std::alloc::Global;
+use std::str;
+
+/// What stands in a line of a key file or of a certificate file. The parts are parts of the room
+/// that was given.
+#[repr(C)]
+#[derive(Clone, Copy, Debug)]
+pub struct Line {
+    /// The bytes of the key or of the certificate.
+    pub blob: Part,
+    /// The comment, which may be empty.
+    pub comment: Part,
+    /// How many bytes of the room these take.
+    pub length: usize,
+    /// 1 for a key, 2 for a certificate.
+    pub kind: u32,
+}
+
+/// The line holds a key.
+const KEY: u32 = 1;
+/// The line holds a certificate.
+const CERTIFICATE: u32 = 2;
+/// The line is not UTF-8.
+const CHARACTER_ENCODING: u32 = 11;
+/// The name that it begins with is none.
+const LABEL: u32 = 12;
+
+/// The key or the certificate of a line, and its comment, as `PublicKey::from_openssh` and
+/// `Certificate::from_openssh` read them: the name of its algorithm, the bytes in padded Base64 and
+/// the comment, with a space between, and white space at the end.
+///
+/// Returns 0 with blob and comment in the room, 2 where the room is too short for them, 1 if memory
+/// ran out, and else from 10 to 29 the fault of a line of neither: 10 for what is not canonical
+/// Base64, 13 for a word that is missing, 16 for another first word than the name. With 2 the
+/// answer says how much room is needed, and the room is as it was.
+///
+/// A line end within the line is part of the comment.
+pub fn read_line(alloc: Global, line: &[u8], room: &mut [u8], answer: &mut Line) -> u32
+    ensures { Reads (Holds line.now) result answer.new room.old room.new }
+{
+    match str::from_utf8(line) {
+        Ok(text) => read_text(alloc, text, room, answer),
+        Err(_) => CHARACTER_ENCODING,
+    }
+}
+
+/// The same of a text.
+fn read_text(alloc: Global, text: &str, room: &mut [u8], answer: &mut Line) -> u32
+    ensures { Reads (Holds text.now) result answer.new room.old room.new }
+{
+    match sshkey_public::read_line::<KeyData>(alloc, text) {
+        Ok(read) => tell(alloc, text, read.1.as_str(), KEY, room, answer),
+        Err(error) => {
+            let fault = error_number(error);
+            if fault == MEMORY {
+                return MEMORY;
+            }
+            read_certificate(alloc, text, fault, room, answer)
+        }
+    }
+}
+
+/// The same of a text that is no line of a key, for that fault.
+fn read_certificate(
+    alloc: Global,
+    text: &str,
+    key_fault: u32,
+    room: &mut [u8],
+    answer: &mut Line,
+) -> u32
+    requires none { IsNoLine key_name SpellsKey text.now }
+    requires fault { (9 < key_fault) × (key_fault < 30) }
+    ensures { Reads (Holds text.now) result answer.new room.old room.new }
+{
+    match sshkey_public::read_line::<Certificate>(alloc, text) {
+        Ok(read) => tell(alloc, text, read.1.as_str(), CERTIFICATE, room, answer),
+        Err(error) => fault_of(key_fault, error_number(error)),
+    }
+}
+
+/// The fault of a line of neither a key nor a certificate: that of a key, unless the name in it is
+/// none of a key.
+fn fault_of(of_key: u32, of_certificate: u32) -> u32
+    ensures either { (result ≡ of_key) ⊎ (result ≡ of_certificate) }
+    ensures memory { of_certificate ≡ 1 → result ≡ 1 }
+{
+    if of_key == LABEL || of_certificate == MEMORY {
+        of_certificate
+    } else {
+        of_key
+    }
+}
+
+/// Answers with the content of a line whose comment it is, where there is room for it.
+fn tell(
+    alloc: Global,
+    text: &str,
+    comment: &str,
+    kind: u32,
+    room: &mut [u8],
+    answer: &mut Line,
+) -> u32
+    ensures { (first blob : List ℕ) → IsLine text.now first blob comment.now → IsBytes blob
+        → Reads (λ x. x ≡ content_of kind blob comment.now) result answer.new room.old room.new }
+{
+    match laid_out(alloc, text, comment, kind) {
+        Ok((content, line)) => {
+            *answer = line;
+            if write_to(room, &content) { DONE } else { ROOM }
+        }
+        Err(_) => MEMORY,
+    }
+}
+
+/// The blob of a line and the comment behind it, and where they are.
+fn laid_out(alloc: Global, text: &str, comment: &str, kind: u32) -> Result<(Vec<u8>, Line)>
+    ensures { (first blob : List ℕ) → IsLine text.now first blob comment.now → IsBytes blob
+        → IfOk result (λ laid. IsLaidOutLine (content_of kind blob comment.now) laid.0.items laid.1) }
+{
+    let mut content = blob_in(alloc, text)?;
+    let blob = Part {
+        start: 0,
+        length: content.len(),
+    };
+    let comment = add(comment.as_bytes(), &mut content)?;
+    let length = content.len();
+    Ok((
+        content,
+        Line {
+            blob,
+            comment,
+            length,
+            kind,
+        },
+    ))
+}
+
+/// The blob of a line, newly allocated.
+fn blob_in(alloc: Global, text: &str) -> Result<Vec<u8>>
+    ensures { (first blob comment : List ℕ) → IsLine text.now first blob comment → IsBytes blob
+        → IfOk result (λ read. read.items ≡ blob) }
+{
+    match STANDARD.decode(alloc, base64_word(text).as_bytes()) {
+        Ok(blob) => Ok(blob),
+        Err(_) => Err(Error::Memory),
+    }
+}
+
+/// The second word of a line.
+fn base64_word(text: &str) -> &str
+    ensures { (first word comment : List ℕ) → IsCut text.now first word comment
+        → result.now ≡ word }
+{
+    match text.trim_end().split_once(' ') {
+        Some(cut) => first_word(cut.1),
+        None => "",
+    }
+}
+
+/// The text up to its first space.
+fn first_word(text: &str) -> &str
+    ensures { (word comment : List ℕ) → IsWithout space word
+        → text.now ≡ word ++ after_space comment → result.now ≡ word }
+{
+    match text.split_once(' ') {
+        Some(cut) => cut.0,
+        None => text,
+    }
+}

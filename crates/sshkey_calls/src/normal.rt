@@ -1,0 +1,142 @@
+//! Normal forms: of the spellings that a value has, the one that is written, digested and signed.
+
+ghost use Rattle.std.specs.Prelude.{◌≡◌, ◌≢◌, Err};
+ghost use Rattle.sshkey_base.specs.Acceptance.{SpellsSome};
+ghost use Rattle.sshkey_cert.specs.CertificateReaders.{SpellsCertificate};
+ghost use Rattle.sshkey_cert_ref.specs.CertificateRef.{certificate_of};
+ghost use Rattle.sshkey_keys.specs.Keys.{SpellsKey, key_data_at};
+ghost use Rattle.sshkey_keys_ref.specs.KeyDataRef.{key_bytes};
+ghost use Rattle.sshkey_model.specs.Certificates.{certificate_at, normal_certificate};
+ghost use Rattle.sshkey_model.specs.Parts.{flat};
+ghost use Rattle.sshkey_model.specs.Reading.{Fault, whole};
+ghost use Rattle.sshkey_model.specs.Signatures.{signature_at};
+ghost use Rattle.sshkey_sshsig.specs.SshSignatureReaders.{ssh_signature_value_at};
+ghost use Rattle.sshkey_calls.specs.NormalForms.{IsNormalCertificate, IsNormalKey, IsNormalSignature, IsNormalSshSignature, IsRenamedKey};
+ghost use Rattle.sshkey_calls.specs.Numbers.{fault_number};
+ghost use Rattle.sshkey_calls.specs.Writing.{Writes};
+
+use crate::number::{MEMORY, error_number};
+use crate::write::write_bytes;
+use sshkey_base::{Encode, encode_vec};
+use sshkey_cert_ref::CertificateRef;
+use sshkey_keys_ref::{KeyDataRef, SignatureRef};
+use sshkey_sshsig::SshSig;
+use std::alloc::Global;
+
+/// The normal form of the key that all the bytes spell, at the front of the room, and its length:
+/// an RSA key stands in it under the name `ssh-rsa`. Other keys have one spelling.
+///
+/// Returns 0 if they spell one, 2 where the room is too short for it, 1 if memory ran out, and else
+/// from 10 to 29 their fault. With 2 the room is as it was. Memory is taken only for a key that is
+/// not in its normal form.
+pub fn key_normal(alloc: Global, key: &[u8], room: &mut [u8], len: &mut usize) -> u32
+    ensures normal { Writes (IsNormalKey key.now) result len.new room.old room.new }
+    ensures fault { (fault : Fault) → whole key_data_at key.now ≡ Err fault
+        → result ≡ fault_number fault }
+    ensures memory { result ≡ 1 → IsRenamedKey key.now }
+{
+    match KeyDataRef::from_bytes(key) {
+        Ok(read) => write_key(alloc, &read, room, len),
+        Err(error) => error_number(error),
+    }
+}
+
+/// The same of a key that was read.
+fn write_key(alloc: Global, read: &KeyDataRef<'_>, room: &mut [u8], len: &mut usize) -> u32
+    requires { SpellsSome SpellsKey (key_bytes read.now) }
+    ensures normal { Writes (IsNormalKey (key_bytes read.now)) result len.new room.old room.new }
+    ensures memory { result ≡ 1 → IsRenamedKey (key_bytes read.now) }
+{
+    match read.normal_bytes() {
+        Some(bytes) => write_bytes(bytes, room, len),
+        None => match read.to_key_data(alloc) {
+            Ok(key) => write_encoded(alloc, &key, room, len),
+            Err(_) => MEMORY,
+        },
+    }
+}
+
+/// The normal form of the certificate that all the bytes spell, at the front of the room, and its
+/// length: the key that signed stands in its own, and an empty value of an option as an empty
+/// string.
+///
+/// Returns 0 if they spell one, 2 where the room is too short for it, 1 if memory ran out, and else
+/// from 10 to 29 their fault. With 2 the room is as it was. Memory is taken only for a certificate.
+pub fn certificate_normal(
+    alloc: Global,
+    certificate: &[u8],
+    room: &mut [u8],
+    len: &mut usize,
+) -> u32
+    ensures normal { Writes (IsNormalCertificate certificate.now)
+        result len.new room.old room.new }
+    ensures fault { (fault : Fault) → whole certificate_at certificate.now ≡ Err fault
+        → result ≡ fault_number fault }
+    ensures memory { result ≡ 1 → SpellsSome SpellsCertificate certificate.now }
+{
+    match CertificateRef::from_bytes(certificate) {
+        Ok(read) => write_certificate(alloc, &read, room, len),
+        Err(error) => error_number(error),
+    }
+}
+
+/// The same of a certificate that was read.
+fn write_certificate(
+    alloc: Global,
+    read: &CertificateRef<'_>,
+    room: &mut [u8],
+    len: &mut usize,
+) -> u32
+    ensures { Writes (λ content. content
+        ≡ flat (normal_certificate (certificate_of read.now))) result len.new room.old room.new }
+{
+    match read.to_certificate(alloc) {
+        Ok(certificate) => write_encoded(alloc, &certificate, room, len),
+        Err(_) => MEMORY,
+    }
+}
+
+/// The normal form of the SSH signature that all the bytes spell, at the front of the room, and its
+/// length: the key in it stands in its own.
+///
+/// Returns 0 if they spell one, 2 where the room is too short for it, 1 if memory ran out, and else
+/// from 10 to 29 their fault. With 2 the room is as it was.
+pub fn signature_normal(alloc: Global, signature: &[u8], room: &mut [u8], len: &mut usize) -> u32
+    ensures normal { Writes (IsNormalSshSignature signature.now)
+        result len.new room.old room.new }
+    ensures fault { (fault : Fault) → whole ssh_signature_value_at signature.now ≡ Err fault
+        → result ≢ 1 → result ≡ fault_number fault }
+{
+    match SshSig::from_bytes(alloc, signature) {
+        Ok(read) => write_encoded(alloc, &read, room, len),
+        Err(error) => error_number(error),
+    }
+}
+
+/// The normal form of the signature that all the bytes spell (RFC 4253, section 6.6), at the front
+/// of the room, and its length: they are it themselves.
+///
+/// Returns 0 if they spell one, 2 where the room is too short for it, and else from 10 to 29 their
+/// fault. With 2 the room is as it was. Does not allocate.
+pub fn plain_signature_normal(signature: &[u8], room: &mut [u8], len: &mut usize) -> u32
+    ensures normal { Writes (IsNormalSignature signature.now) result len.new room.old room.new }
+    ensures fault { (fault : Fault) → whole signature_at signature.now ≡ Err fault
+        → result ≡ fault_number fault }
+    ensures memory { result ≢ 1 }
+{
+    match SignatureRef::from_bytes(signature) {
+        Ok(read) => write_bytes(read.as_bytes(), room, len),
+        Err(error) => error_number(error),
+    }
+}
+
+/// Writes the normal form of the value to the front of the room, if there is room for it.
+fn write_encoded<T: Encode>(alloc: Global, value: &T, room: &mut [u8], len: &mut usize) -> u32
+    ensures { Writes (λ content. content ≡ flat (T.normal value.now))
+        result len.new room.old room.new }
+{
+    match encode_vec(alloc, value) {
+        Ok(bytes) => write_bytes(&bytes, room, len),
+        Err(_) => MEMORY,
+    }
+}

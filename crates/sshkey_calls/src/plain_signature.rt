@@ -1,0 +1,99 @@
+//! What has to be verified of a signature under a key.
+
+ghost use Rattle.std.specs.Prelude.{◌≡◌, Err, None, Some};
+ghost use Rattle.sshkey_base.specs.Acceptance.{SpellsSome};
+ghost use Rattle.sshkey_keys.specs.Keys.{SpellsKey, key_data_at};
+ghost use Rattle.sshkey_keys.specs.SignatureReaders.{SpellsSignature};
+ghost use Rattle.sshkey_keys_ref.specs.KeyDataRef.{key_bytes};
+ghost use Rattle.sshkey_keys_ref.specs.SignatureRef.{signature_bytes};
+ghost use Rattle.sshkey_model.specs.Reading.{Fault, whole};
+ghost use Rattle.sshkey_model.specs.Signatures.{signature_at};
+ghost use Rattle.sshkey_calls.specs.Numbers.{fault_number};
+ghost use Rattle.sshkey_calls.specs.PlainSignatures.{AreSigned, RaisedUnder, TellsNoneUnder};
+ghost use Rattle.sshkey_calls.specs.Questions.{Asks};
+
+use crate::number::{MEMORY, UNSUPPORTED, error_number};
+use crate::question::{Question, answer_with};
+use sshkey_keys_ref::{KeyDataRef, SignatureRef};
+use std::alloc::Global;
+
+/// What has to be verified of the signature that all its bytes spell (RFC 4253, section 6.6), as
+/// one of the message under the key that all its bytes spell: as an agent gives it, or a client at
+/// a login.
+///
+/// Returns 0 with the question in the room, 2 where the room is too short for it, 1 if memory ran
+/// out, from 10 to 29 the fault of bytes that are no key, or else of bytes that are no signature,
+/// and 40 where key and signature do not go together: such a signature is not valid. Where the
+/// question is answered, the signature is valid exactly if the verification says yes. Memory is
+/// taken only where both are spelled.
+pub fn plain_signature_question(
+    alloc: Global,
+    key: &[u8],
+    message: &[u8],
+    signature: &[u8],
+    room: &mut [u8],
+    answer: &mut Question,
+) -> u32
+    ensures raised { Asks (RaisedUnder key.now message.now signature.now)
+        result answer.new room.old room.new }
+    ensures unsupported { TellsNoneUnder key.now message.now signature.now result }
+    ensures key { (fault : Fault) → whole key_data_at key.now ≡ Err fault
+        → result ≡ fault_number fault }
+    ensures signature { SpellsSome SpellsKey key.now → (fault : Fault)
+        → whole signature_at signature.now ≡ Err fault → result ≡ fault_number fault }
+    ensures memory { result ≡ 1 → AreSigned key.now signature.now }
+{
+    match KeyDataRef::from_bytes(key) {
+        Ok(signer) => ask_under(alloc, &signer, message, signature, room, answer),
+        Err(error) => error_number(error),
+    }
+}
+
+/// The same of a key that was read.
+fn ask_under(
+    alloc: Global,
+    signer: &KeyDataRef<'_>,
+    message: &[u8],
+    signature: &[u8],
+    room: &mut [u8],
+    answer: &mut Question,
+) -> u32
+    requires { SpellsSome SpellsKey (key_bytes signer.now) }
+    ensures raised { Asks (RaisedUnder (key_bytes signer.now) message.now signature.now)
+        result answer.new room.old room.new }
+    ensures unsupported { TellsNoneUnder (key_bytes signer.now) message.now signature.now result }
+    ensures signature { (fault : Fault) → whole signature_at signature.now ≡ Err fault
+        → result ≡ fault_number fault }
+    ensures memory { result ≡ 1 → SpellsSome SpellsSignature signature.now }
+{
+    match SignatureRef::from_bytes(signature) {
+        Ok(made) => ask(alloc, signer, message, &made, room, answer),
+        Err(error) => error_number(error),
+    }
+}
+
+/// The same of a signature that was read too.
+fn ask(
+    alloc: Global,
+    signer: &KeyDataRef<'_>,
+    message: &[u8],
+    made: &SignatureRef<'_>,
+    room: &mut [u8],
+    answer: &mut Question,
+) -> u32
+    ensures raised { Asks (RaisedUnder (key_bytes signer.now) message.now
+        (signature_bytes made.now)) result answer.new room.old room.new }
+    ensures unsupported { TellsNoneUnder (key_bytes signer.now) message.now
+        (signature_bytes made.now) result }
+{
+    let Ok(key) = signer.to_key_data(alloc) else {
+        return MEMORY;
+    };
+    let Ok(signature) = made.to_signature(alloc) else {
+        return MEMORY;
+    };
+    match key.question(message, &signature) {
+        Some(question) => answer_with(alloc, &question, room, answer),
+        None => UNSUPPORTED,
+    }
+}

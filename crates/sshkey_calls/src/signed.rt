@@ -1,0 +1,72 @@
+//! Certificates that were signed.
+
+ghost use Rattle.std.specs.Prelude.{◌≡◌, ◌≢◌, ◌++◌, ℕ, List, Err, IfOk};
+ghost use Rattle.sshkey_cert.specs.CertificateReaders.{SpellsCertificate};
+ghost use Rattle.sshkey_model.specs.Certificates.{Certificate, certificate_at};
+ghost use Rattle.sshkey_model.specs.Reading.{Fault, whole};
+ghost use Rattle.sshkey_calls.specs.Drafts.{IsJoined, IsSigned};
+ghost use Rattle.sshkey_calls.specs.Numbers.{fault_number};
+ghost use Rattle.sshkey_calls.specs.Writing.{Finds, Writes};
+
+use crate::draft_fields::string_of;
+use crate::number::{MEMORY, error_number};
+use crate::write::write_bytes;
+use sshkey_cert_ref::CertificateRef;
+use std::alloc::Global;
+
+/// Writes the certificate that the signature makes of the bytes that were signed: these, and the
+/// signature's blob in a string. Whether it is a signature of them `certificate_question` asks.
+///
+/// Returns 0, 2 where the room is shorter, 1 if memory ran out, and else from 10 to 29 the fault of
+/// bytes that are no certificate then.
+pub fn certificate_signed(
+    alloc: Global,
+    to_be_signed: &[u8],
+    signature: &[u8],
+    room: &mut [u8],
+    length: &mut usize,
+) -> u32
+    ensures written { Writes (IsSigned to_be_signed.now signature.now)
+        result length.new room.old room.new }
+    ensures fault { (s : List ℕ) (fault : Fault) → IsJoined to_be_signed.now signature.now s
+        → whole certificate_at s ≡ Err fault → result ≢ 1 → result ≡ fault_number fault }
+{
+    match joined(alloc, to_be_signed, signature) {
+        Ok(certificate) => write_certificate(&certificate, room, length),
+        Err(number) => number,
+    }
+}
+
+/// The bytes, and the signature in a string behind them.
+fn joined(alloc: Global, to_be_signed: &[u8], signature: &[u8]) -> Result<Vec<u8>, u32>
+    ensures { Finds (IsJoined to_be_signed.now signature.now) (λ joined. joined.items) result }
+{
+    let string = string_of(alloc, signature)?;
+    match both(alloc, to_be_signed, &string) {
+        Ok(joined) => Ok(joined),
+        Err(_) => Err(MEMORY),
+    }
+}
+
+/// The first, and then the second. Fails only when out of memory.
+fn both(alloc: Global, first: &[u8], second: &[u8]) -> sshkey_base::Result<Vec<u8>>
+    ensures { IfOk result (λ both. both.items ≡ first.now ++ second.now) }
+{
+    let mut both = Vec::from_slice(alloc, first)?;
+    both.extend_from_slice(second)?;
+    Ok(both)
+}
+
+/// Writes the bytes, if they spell a certificate.
+fn write_certificate(certificate: &[u8], room: &mut [u8], length: &mut usize) -> u32
+    ensures written { Writes (λ s. (s ≡ certificate.now)
+        × (c : Certificate) × SpellsCertificate c certificate.now)
+        result length.new room.old room.new }
+    ensures fault { (fault : Fault) → whole certificate_at certificate.now ≡ Err fault
+        → result ≡ fault_number fault }
+{
+    match CertificateRef::from_bytes(certificate) {
+        Ok(_) => write_bytes(certificate, room, length),
+        Err(error) => error_number(error),
+    }
+}

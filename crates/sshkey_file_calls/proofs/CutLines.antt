@@ -1,0 +1,213 @@
+-- The lines of a text, cut off one by one.
+use Rattle.std.proofs.Common.{◌≡◌, ◌⊎◌, ℕ, suc, ◌<◌, ◌≤◌, ◌+◌, ◌-◌, List, [], ◌∷◌, ◌++◌, length, get_or, take, drop, slice_index, filter, map, Bool, true, false, not, cond, eqb, None, Some, position, refl, sym, ap, lt-ltb, ne_eqb, zero, subst, ◌∙◌, arith, tests, inl, inr, append_assoc, append-nil, length-append, length-drop, take-append-drop}
+use Rattle.std.proofs.Math.ListN.{drop_of_length-le}
+use Rattle.std.proofs.Math.Seq.{drop-cons, drop-append-add, drop-append_seam, take-append_seam}
+use Rattle.std.proofs.lemmas.Bool.{cases_lt, not-true}
+use Rattle.std.proofs.lemmas.List.{take_all, get_or-take, length-take-le}
+use Rattle.std.proofs.lemmas.List.Elements.{All-from_get_or}
+use Rattle.std.proofs.lemmas.List.Quantifiers.{position-Some}
+use Rattle.std.proofs.lemmas.List.Splits.{slice_split_none, slice_split_at, length-slice_split}
+use Rattle.std.proofs.lemmas.List.Sums.{fails_before_first}
+use Rattle.std.specs.List.{All, slice_split, position_or_len}
+use Rattle.std.specs.Str.Lines.{lines, lines_of_parts, strip_carriage_return}
+use Rattle.sshkey_entries.specs.Fields.{without_blanks, is_filled, filled_lines}
+use Rattle.sshkey_entries.specs.StrictReading.{is_blank}
+use Rattle.sshkey_entries.proofs.Fields.{blank_skipped, blanks_skipped, nothing_stays, other_stays}
+use Rattle.sshkey_files.proofs.BlankPlaces.{skips_all}
+use Rattle.sshkey_file_calls.specs.Lines.{CutsLine, FindsLine, IsLineEnd, is_line_end}
+use Rattle.sshkey_calls.specs.declared.part.Part.{Part}
+
+-- the slice from a place on
+pub whole_slice : (b : List ℕ) (place : ℕ) → take (length b - place) (drop place b) ≡ drop place b
+whole_slice b place = take_all (length b - place) (drop place b) (omega (arith, length-drop place b))
+
+pub nothing_behind : (b : List ℕ) (place : ℕ) → length b ≤ place → [] ≡ drop place b
+nothing_behind b place h = sym (drop_of_length-le b h)
+
+-- ---- blanks
+
+blank_by : (b : Bool) → not b ≡ false → b ≡ true
+blank_by true e = refl
+blank_by false e = cc e
+
+pub skipped : (text : List ℕ) (n : ℕ) → Some n ≡ position (λ c. not (is_blank c)) text → take (length text - n) (drop n text) ≡ without_blanks text
+skipped text n is =
+    let place = position-Some (λ c. not (is_blank c)) text n 0 (sym is) in
+    whole_slice text n ∙ sym (blanks_skipped n text (λ k l. blank_by (is_blank (slice_index text k)) (place.2 k l)) (not-true _ place.1))
+
+pub skipped_all : (text : List ℕ) → None ≡ position (λ c. not (is_blank c)) text → [] ≡ without_blanks text
+skipped_all text is = sym (skips_all text text refl is)
+
+-- what is skipped stands before what is left
+by_blank : (c : ℕ) (text : List ℕ) (b : Bool) → is_blank c ≡ b → (blanks : List ℕ) × (text ≡ blanks ++ without_blanks text) → (blanks : List ℕ) × (c ∷ text ≡ blanks ++ without_blanks (c ∷ text))
+by_blank c text true e more = (c ∷ more.0, ap (λ (l : List ℕ). c ∷ l) more.1 ∙ ap (λ (l : List ℕ). c ∷ (more.0 ++ l)) (sym (blank_skipped c text e)))
+by_blank c text false e more = ([], sym (other_stays c text e))
+
+pub front_blanks : (text : List ℕ) → (blanks : List ℕ) × (text ≡ blanks ++ without_blanks text)
+front_blanks [] = ([], sym nothing_stays)
+front_blanks (c ∷ text) = by_blank c text (is_blank c) refl (front_blanks text)
+
+-- ---- the first line
+
+more_lines : (x : List ℕ) (parts : List (List ℕ)) → 0 < length parts → lines_of_parts (x ∷ parts) ≡ strip_carriage_return x ∷ lines_of_parts parts
+more_lines x [] some = absurd (omega arith)
+more_lines x (y ∷ more) some = refl
+
+line_before : (front behind : List ℕ) → All (λ c. is_line_end c ≡ false) front → lines (front ++ (10 ∷ behind)) ≡ strip_carriage_return front ∷ lines behind
+line_before front behind none =
+    ap lines_of_parts (slice_split_at is_line_end front 10 behind none refl)
+    ∙ more_lines front (slice_split is_line_end behind) (omega (arith, length-slice_split is_line_end behind))
+
+last_line : (text : List ℕ) → 0 < length text → All (λ c. is_line_end c ≡ false) text → lines text ≡ text ∷ []
+last_line [] some none = absurd (omega arith)
+last_line (c ∷ text) some none =
+    ap lines_of_parts (slice_split_none is_line_end (c ∷ text) none)
+    ∙ ap (λ (t : Bool). cond t [] ((c ∷ text) ∷ [])) (ne_eqb (length (c ∷ text)) 0 (λ z. omega arith))
+
+last_part : (l : List ℕ) → 0 < length l → slice_index l (length l - 1) ≡ 13 → l ≡ take (length l - 1) l ++ (13 ∷ [])
+last_part l some is =
+    let one : suc (length l - 1) ≡ length l = omega (arith, some) in
+    let nothing : drop (suc (length l - 1)) l ≡ [] = drop_of_length-le l {i = suc (length l - 1)} (omega (arith, one)) in
+    let last : drop (length l - 1) l ≡ 13 ∷ [] = drop-cons l (length l - 1) 0 (omega (arith, some)) ∙ ap (λ (c : ℕ). c ∷ drop (suc (length l - 1)) l) is ∙ ap (λ (r : List ℕ). 13 ∷ r) nothing in
+    sym (take-append-drop (length l - 1) l) ∙ ap (λ (r : List ℕ). take (length l - 1) l ++ r) last
+
+some_by : (l : List ℕ) → slice_index l (length l - 1) ≡ 13 → 0 < length l
+some_by [] e = cc e
+some_by (c ∷ l) e = omega arith
+
+stripped_by : (l : List ℕ) (b : Bool) → eqb (slice_index l (length l - 1)) 13 ≡ b → (strip_carriage_return l ≡ l) ⊎ (l ≡ strip_carriage_return l ++ (13 ∷ []))
+stripped_by l false e = inl (ap (λ (b : Bool). cond b (take (length l - 1) l) l) e)
+stripped_by l true e =
+    let last : slice_index l (length l - 1) ≡ 13 = grind (arith, tests) in
+    inr (last_part l (some_by l last) last ∙ ap (λ (x : List ℕ). x ++ (13 ∷ [])) (sym (ap (λ (b : Bool). cond b (take (length l - 1) l) l) e)))
+
+-- the line feed, and a carriage return before it
+ended : (front behind line : List ℕ) → line ≡ strip_carriage_return front → (strip_carriage_return front ≡ front) ⊎ (front ≡ strip_carriage_return front ++ (13 ∷ [])) → (end : List ℕ) × (front ++ (10 ∷ behind) ≡ line ++ (end ++ behind)) × IsLineEnd end behind
+ended front behind line is (inl same) = (10 ∷ [], ap (λ (l : List ℕ). l ++ (10 ∷ behind)) (sym (is ∙ same)), inr (inl refl))
+ended front behind line is (inr more) = (13 ∷ 10 ∷ [], ap (λ (l : List ℕ). l ++ (10 ∷ behind)) (more ∙ ap (λ (l : List ℕ). l ++ (13 ∷ [])) (sym is)) ∙ append_assoc line (13 ∷ []) (10 ∷ behind), inr (inr refl))
+
+pub cut_at : (text line behind : List ℕ) (n : ℕ) → Some n ≡ position is_line_end text → line ≡ strip_carriage_return (take n text) → behind ≡ drop (n + 1) text → CutsLine text line behind
+cut_at text line behind n at is rest =
+    let place = position-Some is_line_end text n 0 (sym at) in
+    let one : n + 1 ≡ suc n = omega arith in
+    let feed : get_or text n 0 ≡ 10 = (let e = place.1 in grind (arith, tests)) in
+    let from : drop n text ≡ 10 ∷ behind = drop-cons text n 0 place.0 ∙ ap (λ (c : ℕ). c ∷ drop (suc n) text) feed ∙ ap (λ (k : ℕ). 10 ∷ drop k text) (sym one) ∙ ap (λ (r : List ℕ). 10 ∷ r) (sym rest) in
+    let whole : text ≡ take n text ++ (10 ∷ behind) = sym (take-append-drop n text) ∙ ap (λ (r : List ℕ). take n text ++ r) from in
+    let size : length (take n text) ≡ n = length-take-le n text (omega (arith, place.0)) in
+    let none : All (λ c. is_line_end c ≡ false) (take n text) = All-from_get_or (λ c. is_line_end c ≡ false) (take n text) 0 (λ i l. ap is_line_end (get_or-take n text i 0 (omega (arith, l, size))) ∙ place.2 i (omega (arith, l, size))) in
+    let end = ended (take n text) behind line is (stripped_by (take n text) (eqb (slice_index (take n text) (length (take n text) - 1)) 13) refl) in
+    record {
+      end = end.0;
+      is = whole ∙ end.1;
+      ends = end.2;
+      first = ap lines whole ∙ line_before (take n text) behind none ∙ ap (λ (l : List ℕ). l ∷ lines behind) (sym is);
+    }
+
+no_place : (p : ℕ → Bool) (xs : List ℕ) → None ≡ position p xs → (k : ℕ) → k < length xs → p (get_or xs k 0) ≡ false
+no_place p xs none k l = elim (cases_lt (position_or_len p xs) (length xs)) [
+  | inl less ↦ cc (none ∙ ap (λ (b : Bool). cond b (Some (position_or_len p xs)) None) (lt-ltb _ _ less))
+  | inr above ↦ fails_before_first p xs k 0 (omega (arith, l, above))
+]
+
+pub cut_last : (text : List ℕ) → 0 < length text → None ≡ position is_line_end text → CutsLine text text []
+cut_last text some is = record {
+  end = [];
+  is = sym (append-nil text);
+  ends = inl (refl, refl);
+  first = last_line text some (All-from_get_or (λ c. is_line_end c ≡ false) text 0 (no_place is_line_end text is));
+}
+
+-- ---- filled lines
+
+step : (text line behind filled : List ℕ) (b : Bool) → CutsLine text line behind → filled ≡ without_blanks line → is_filled filled ≡ b → filled_lines text ≡ cond b (filled ∷ filled_lines behind) (filled_lines behind)
+step text line behind filled b cut is e =
+    ap (λ (all : List (List ℕ)). filter is_filled (map without_blanks all)) cut.first
+    ∙ ap (λ (l : List ℕ). cond (is_filled l) (l ∷ filled_lines behind) (filled_lines behind)) (sym is)
+    ∙ ap (λ (t : Bool). cond t (filled ∷ filled_lines behind) (filled_lines behind)) e
+
+pub passed : (text line behind filled : List ℕ) → CutsLine text line behind → filled ≡ without_blanks line → is_filled filled ≡ false → filled_lines text ≡ filled_lines behind
+passed text line behind filled cut is e = step text line behind filled false cut is e
+
+pub fewer : (text line behind : List ℕ) → CutsLine text line behind → length (lines behind) < length (lines text)
+fewer text line behind cut = omega (arith, ap length cut.first)
+
+-- the end of a line is no line of its own
+unfilled : (front behind : List ℕ) → All (λ c. is_line_end c ≡ false) front → strip_carriage_return front ≡ [] → filled_lines (front ++ (10 ∷ behind)) ≡ filled_lines behind
+unfilled front behind none is =
+    ap (λ (all : List (List ℕ)). filter is_filled (map without_blanks all)) (line_before front behind none ∙ ap (λ (l : List ℕ). l ∷ lines behind) is)
+    ∙ ap (λ (l : List ℕ). cond (is_filled l) (l ∷ filled_lines behind) (filled_lines behind)) nothing_stays
+
+only_return : (i : ℕ) → i < 1 → is_line_end (get_or (13 ∷ []) i 0) ≡ false
+only_return zero l = refl
+only_return (suc i) l = absurd (omega (arith, l))
+
+end_skipped : (end behind : List ℕ) → IsLineEnd end behind → filled_lines (end ++ behind) ≡ filled_lines behind
+end_skipped end behind (inl none) = ap (λ (l : List ℕ). filled_lines (l ++ behind)) none.0
+end_skipped end behind (inr (inl feed)) = ap (λ (l : List ℕ). filled_lines (l ++ behind)) feed ∙ unfilled [] behind (All-from_get_or (λ c. is_line_end c ≡ false) [] 0 (λ i l. absurd (omega (arith, l)))) refl
+end_skipped end behind (inr (inr both)) = ap (λ (l : List ℕ). filled_lines (l ++ behind)) both ∙ unfilled (13 ∷ []) behind (All-from_get_or (λ c. is_line_end c ≡ false) (13 ∷ []) 0 only_return) refl
+
+-- ---- where it is
+
+-- what is left stands behind what was passed, and has the lines that are asked for
+pub record IsLeft (text : List ℕ) (place : ℕ) (left : List ℕ) : Type 0 where
+  pub before : List ℕ
+  pub is : text ≡ before ++ left
+  pub later : 0 < length left → place ≤ length before
+  pub same : filled_lines (drop place text) ≡ filled_lines left
+
+pub left_first : (text left : List ℕ) (place : ℕ) → left ≡ drop place text → IsLeft text place left
+left_first text left place is = record {
+  before = take place text;
+  is = sym (take-append-drop place text) ∙ ap (λ (l : List ℕ). take place text ++ l) (sym is);
+  later = λ some. omega (arith, some, ap length is, length-drop place text, ap length (take-append-drop place text), length-append (take place text) (drop place text));
+  same = ap filled_lines (sym is);
+}
+
+pub left_next : (text left line behind filled : List ℕ) (place : ℕ) → 0 < length left → IsLeft text place left → CutsLine left line behind → filled ≡ without_blanks line → is_filled filled ≡ false → IsLeft text place behind
+left_next text left line behind filled place some was cut is none = record {
+  before = was.before ++ (line ++ cut.end);
+  is = was.is ∙ ap (λ (l : List ℕ). was.before ++ l) (cut.is ∙ sym (append_assoc line cut.end behind)) ∙ sym (append_assoc was.before (line ++ cut.end) behind);
+  later = λ _. omega (arith, was.later some, length-append was.before (line ++ cut.end));
+  same = was.same ∙ passed left line behind filled cut is none;
+}
+
+module _ (text left line behind filled : List ℕ) (place : ℕ) (some : 0 < length left) (was : IsLeft text place left) (cut : CutsLine left line behind) (is : filled ≡ without_blanks line) where
+  abbrev blanks : List ℕ
+  blanks = (front_blanks line).0
+
+  line_is : line ≡ blanks ++ filled
+  line_is = (front_blanks line).1 ∙ ap (λ (l : List ℕ). (front_blanks line).0 ++ l) (sym is)
+
+  text_is : text ≡ (was.before ++ blanks) ++ (filled ++ (cut.end ++ behind))
+  text_is =
+      was.is ∙ ap (λ (l : List ℕ). was.before ++ l) (cut.is ∙ ap (λ (l : List ℕ). l ++ (cut.end ++ behind)) line_is ∙ append_assoc blanks filled (cut.end ++ behind))
+      ∙ sym (append_assoc was.before blanks (filled ++ (cut.end ++ behind)))
+
+  pub left_size : length left ≤ length text
+  left_size = omega (arith, ap length was.is, length-append was.before left)
+
+  pub filled_size : length filled ≤ length line
+  filled_size = omega (arith, ap length line_is, length-append blanks filled)
+
+  line_size : length line ≤ length left
+  line_size = omega (arith, ap length cut.is, length-append line (cut.end ++ behind))
+
+  start_is : (length text - length left) + (length line - length filled) ≡ length (was.before ++ blanks)
+  start_is = omega (arith, ap length was.is, length-append was.before left, ap length line_is, length-append blanks filled, length-append was.before blanks)
+
+  content : take (length filled) (drop ((length text - length left) + (length line - length filled)) text) ≡ filled
+  content = rw start_is (subst (λ (t : List ℕ). take (length filled) (drop (length (was.before ++ blanks)) t) ≡ filled) (sym text_is) (simp (drop-append_seam, take-append_seam)))
+
+  rest : drop (((length text - length left) + (length line - length filled)) + length filled) text ≡ cut.end ++ behind
+  rest = rw start_is (subst (λ (t : List ℕ). drop (length (was.before ++ blanks) + length filled) t ≡ cut.end ++ behind) (sym text_is) (simp (drop-append-add, drop-append_seam)))
+
+  pub finds : is_filled filled ≡ true → FindsLine text place 0 (record { start = (length text - length left) + (length line - length filled); length = length filled })
+  finds full = record {
+    found = λ _. was.same ∙ step left line behind filled true cut is full ∙ (λ i. sym content i ∷ sym (ap filled_lines rest ∙ end_skipped cut.end behind cut.ends) i);
+    within = λ _. (omega (arith, start_is, was.later some, length-append was.before blanks), omega (arith, left_size, filled_size, line_size));
+    none = λ other. absurd (other refl);
+  }
+
+pub finds_none : (text left : List ℕ) (place : ℕ) (answer : Part) → IsLeft text place left → length left ≡ 0 → FindsLine text place 3 answer
+finds_none text [] place answer was none = record { found = λ z. absurd (cc z); within = λ z. absurd (cc z); none = λ _. (was.same, refl) }
+finds_none text (c ∷ left) place answer was none = absurd (omega (arith, none))

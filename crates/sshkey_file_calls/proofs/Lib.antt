@@ -1,0 +1,5 @@
+pub mod CutLines
+pub mod Found
+pub mod Counted
+pub mod Told
+pub mod SomeKey

@@ -1,0 +1,5 @@
+pub mod Hmac
+pub mod Lines
+pub mod Entries
+pub mod Options
+pub mod Verdicts

@@ -1,0 +1,92 @@
+-- What is answered of the options of an entry.
+use Rattle.std.specs.Prelude.{◌≡◌, ◌≢◌, ◌<◌, ◌≤◌, ◌+◌, ℕ, List, [], ◌∷◌, ◌++◌, length, drop, Option, Some, None, Result, Ok, Err}
+use Rattle.sshkey_authorized_keys.specs.OpenSshItems.{key_option_of}
+use Rattle.sshkey_authorized_keys.specs.declared.openssh_option.OpenSshOption.{OpenSshOption}
+use Rattle.sshkey_base.specs.declared.error.Error.{Error}
+use Rattle.sshkey_base.specs.declared.error.Error.TheVariants.{FormatEncoding}
+use Rattle.sshkey_entries.specs.OptionItems.{AreKeyOptions, HasKeyOptions, KeyOption}
+use Rattle.sshkey_file_calls.specs.Entries.{IsPlaced}
+use Rattle.sshkey_file_calls.specs.declared.options.OptionParts.{OptionParts}
+
+-- the option that so many stand before; or there are no more than so many
+abbrev pub IsNumbered : ℕ → List KeyOption → Option KeyOption → Type 0
+IsNumbered number options (Some o) = (before : List KeyOption) × (after : List KeyOption) × (options ≡ before ++ (o ∷ after)) × (length before ≡ number)
+IsNumbered number options None = length options ≤ number
+
+-- The text is options, and of these it is the one of that number.
+abbrev pub IsOptionOf : List ℕ → ℕ → Option KeyOption → Type 0
+IsOptionOf text number o = (options : List KeyOption) × AreKeyOptions text options × IsNumbered number options o
+
+-- ---- in the room
+
+abbrev pub value_bytes : Option (List ℕ) → List ℕ
+value_bytes None = []
+value_bytes (Some value) = value
+
+abbrev pub value_number : Option (List ℕ) → ℕ
+value_number None = 0
+value_number (Some value) = 1
+
+-- the name, and behind it the value
+abbrev pub option_bytes : KeyOption → List ℕ
+option_bytes o = o.name ++ value_bytes o.value
+
+-- The answer says where each of them is, how many bytes they take, and whether there is a value.
+pub record ArePlaced (o : KeyOption) (answer : OptionParts) : Type 0 where
+  pub name : IsPlaced 0 o.name answer.name
+  pub value : IsPlaced (length o.name) (value_bytes o.value) answer.value
+  pub length : answer.length ≡ length (option_bytes o)
+  pub has_value : answer.has_value ≡ value_number o.value
+
+abbrev pub IsLaidOut : KeyOption → List ℕ → OptionParts → Type 0
+IsLaidOut o content answer = (content ≡ option_bytes o) × ArePlaced o answer
+
+-- They stand at the front of the room, and nothing else changed.
+pub record IsWritten (o : KeyOption) (answer : OptionParts) (before after : List ℕ) : Type 0 where
+  pub content : after ≡ option_bytes o ++ drop (length (option_bytes o)) before
+  pub placed : ArePlaced o answer
+
+-- The room is too short for them, and stays as it was; the answer says how much is needed.
+pub record IsTooShort (o : KeyOption) (answer : OptionParts) (before after : List ℕ) : Type 0 where
+  pub needed : answer.length ≡ length (option_bytes o)
+  pub short : length before < length (option_bytes o)
+  pub stays : after ≡ before
+
+-- 0, and it was written; 2, and the room is too short; or 1, for memory.
+pub record WritesOption (o : KeyOption) (n : ℕ) (answer : OptionParts) (before after : List ℕ) : Type 0 where
+  pub written : n ≡ 0 → IsWritten o answer before after
+  pub short : n ≡ 2 → IsTooShort o answer before after
+  pub others : n ≢ 0 → n ≢ 2 → n ≡ 1
+
+-- 0 and the option of that number, 2 where there is one, and the room is too short for it, 3 where there are no more, 15 where the text is no list of options; and 1 is memory, and says nothing.
+pub record FindsOption (text : List ℕ) (number n : ℕ) (answer : OptionParts) (before after : List ℕ) : Type 0 where
+  pub found : n ≡ 0 → (o : KeyOption) × IsOptionOf text number (Some o) × IsWritten o answer before after
+  pub short : n ≡ 2 → (o : KeyOption) × IsOptionOf text number (Some o) × IsTooShort o answer before after
+  pub last : n ≡ 3 → IsOptionOf text number None
+  pub none : n ≡ 15 → HasKeyOptions text → ⊥
+  pub others : n ≢ 0 → n ≢ 1 → n ≢ 2 → n ≢ 3 → n ≡ 15
+
+-- The option that was found; or 3, for there is none.
+abbrev pub TellsOption : Option KeyOption → ℕ → OptionParts → List ℕ → List ℕ → Type 0
+TellsOption (Some o) n answer before after = WritesOption o n answer before after
+TellsOption None n answer before after = n ≡ 3
+
+-- ---- one by one
+
+abbrev pub found_option : Option OpenSshOption → Option KeyOption
+found_option None = None
+found_option (Some o) = Some (key_option_of o)
+
+-- So many options were read, and of them it is the one of that number, or so many are still to be passed over.
+abbrev pub IsCounted : ℕ → List KeyOption → Option OpenSshOption → ℕ → Type 0
+IsCounted number options None passing = length options + passing ≡ number
+IsCounted number options (Some o) passing = IsNumbered number options (Some (key_option_of o))
+
+-- What is known of some options and this one, where that was known of them.
+abbrev pub CountsOn : Option OpenSshOption → ℕ → OpenSshOption → Option OpenSshOption → ℕ → Type 0
+CountsOn found passing o now left = (number : ℕ) (options : List KeyOption) → IsCounted number options found passing → IsCounted number (options ++ (key_option_of o ∷ [])) now left
+
+-- The option of that number, or none; or the text is no list of options, `FormatEncoding`.
+abbrev pub FindsAt : List ℕ → ℕ → Result (Option OpenSshOption) Error → Type 0
+FindsAt text number (Ok found) = IsOptionOf text number (found_option found)
+FindsAt text number (Err e) = (e ≡ FormatEncoding) × (HasKeyOptions text → ⊥)

@@ -1,0 +1,20 @@
+//! The calls of the library for C about authorized_keys and known_hosts, as an ordinary library:
+//! the lines of a text, the entry of a line, the options of an entry, and what a text says of a
+//! host's key.
+//!
+//! As those of `sshkey_calls`, each call answers with a number, and the bytes that it answers with
+//! stand in the caller's room. HMAC-SHA1 is computed here, over the crate sha1.
+#![tactic(auto)]
+
+mod authority;
+mod entries;
+mod hmac;
+mod hosts;
+mod lines;
+mod options;
+
+pub use authority::authority_verdict;
+pub use entries::{EntryParts, authorized_entry, known_host};
+pub use hosts::host_verdict;
+pub use lines::next_line;
+pub use options::{OptionParts, nth_option};

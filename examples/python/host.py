@@ -1,0 +1,50 @@
+#!/usr/bin/env python3
+"""Says what known_hosts files say of the keys of a host, before something is sent to it.
+
+    host.py HOST PORT KNOWN_HOSTS.. <id_ed25519.pub
+
+The input has a line for each key, as public key files have; `ssh-keyscan -p PORT HOST | cut -d' ' -f2-` shows those of a host. The
+answer to each is a word: revoked, unreadable, trusted, changed or unknown, and the first of these that one of the files gives.
+The status is 0 if all are trusted, 1 if not, and 2 where it can't tell.
+"""
+import base64
+import sys
+
+import sshkey
+from sshkey import Status
+
+# the first of these that is said decides
+WORDS = {
+    Status.HOST_REVOKED: "revoked", Status.HOST_UNREADABLE: "unreadable", Status.DONE: "trusted", Status.HOST_CHANGED: "changed",
+    Status.HOST_UNKNOWN: "unknown",
+}  # fmt: skip
+
+
+def judge(texts, host, port, key):
+    """The first verdict of those that the texts give, in the order of WORDS; HOST_UNKNOWN where there are no texts."""
+    said = {sshkey.judge_host(text, host, port, key) for text in texts}
+    return next((it for it in WORDS if it in said), Status.HOST_UNKNOWN)
+
+
+def main():
+    if len(sys.argv) < 4:
+        print(__doc__, file=sys.stderr)
+        return 2
+    host, port, *paths = sys.argv[1:]
+    try:
+        texts = []
+        for path in paths:
+            with open(path, "rb") as file:
+                texts.append(file.read())
+        verdicts = []
+        for line in sys.stdin.buffer:
+            verdicts.append(judge(texts, host, int(port), base64.b64decode(line.split()[1], validate=True)))
+            print(WORDS[verdicts[-1]])
+    except (OSError, ValueError, IndexError, MemoryError) as error:
+        print(f"host.py: {error}", file=sys.stderr)
+        return 2
+    return int(any(it != Status.DONE for it in verdicts))
+
+
+if __name__ == "__main__":
+    sys.exit(main())
