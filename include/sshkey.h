@@ -53,11 +53,13 @@ enum {
                         host's name; nothing is said of the rest */
 
   /* 10 to 29: the bytes are no certificate, key or signature, or the line is none; the first fault
-   * from the left */
+   * from the left. For logs: what a call promises is which answers are not SSHKEY_DONE, and lines
+   * with one fault may answer different numbers */
   SSHKEY_BASE64 = 10,             /* a word of a line is no Base64, or not the one of its bytes */
-  SSHKEY_CHARACTER_ENCODING = 11, /* a text is not UTF-8 */
+  SSHKEY_CHARACTER_ENCODING = 11, /* a text is not UTF-8, or has a character that no name has */
   SSHKEY_LABEL = 12,              /* a name that is none of those that may stand there */
-  SSHKEY_LENGTH = 13,             /* a stated length passes the bytes, or is not the one wanted */
+  SSHKEY_LENGTH = 13,             /* a stated length passes the bytes, or is not the one wanted; a
+                                     word of a line is missing */
   SSHKEY_TRAILING_DATA = 14,      /* bytes stand behind the end */
   SSHKEY_FORMAT = 15,             /* a value does not keep the form of its kind */
   SSHKEY_ALGORITHM_UNKNOWN = 16,  /* two names differ that have to be one */
@@ -155,7 +157,8 @@ enum { SSHKEY_LINE_KEY = 1, SSHKEY_LINE_CERTIFICATE = 2 };
 /* What stands in a line of a file of public keys (id_ed25519.pub) or of certificates
  * (id_ed25519-cert.pub): a type, a blob in Base64 and a comment, with a space between. White space
  * at the end is cut off; a line end before that is part of the comment. Lines of authorized_keys
- * and known_hosts may have more, and are not read.
+ * and known_hosts may have more, and are not read; nor are tabs or several spaces, which sshd takes
+ * in a file of authorities: sshkey_authorized_entry reads those, with an empty `front`.
  *
  * SSHKEY_DONE exactly if the line is that of a key or of a certificate (memory and room aside);
  * else 10 to 29. A room of the line's length is enough. */
@@ -390,7 +393,11 @@ typedef struct {
 
 /* The entry of a line of authorized_keys, as sshd reads it. SSHKEY_DONE exactly if the line is one
  * (memory and room aside); SSHKEY_TEXT for a line that is not UTF-8, else 10 to 29. A room of the
- * line's length is enough. Which options there may be is yours to judge: sshkey_entry_option. */
+ * line's length is enough. Which options there may be is yours to judge: sshkey_entry_option.
+ *
+ * An option cert-authority says that the key is an authority's, which signs certificates: whoever
+ * only has that key is not to be let in. And refuse a line with a zero byte: here it is a byte like
+ * others, while sshd reads no further. */
 uint32_t sshkey_authorized_entry(const uint8_t *line, size_t line_length, uint8_t *room,
                                  size_t room_length, sshkey_entry *answer);
 
@@ -411,8 +418,9 @@ typedef struct {
  * they are a list of options, all of them, and have more than that number (memory and room aside);
  * SSHKEY_END if they have no more, SSHKEY_FORMAT if they are no list of options, also behind the
  * option that is asked for, and SSHKEY_TEXT for bytes that are not UTF-8. A room of the options'
- * length is enough. Each call reads all of them, so do not go on for ever: refuse an entry with an
- * option that you do not know, and one that names an option twice. */
+ * length is enough. A `front` of no bytes has no options. Each call reads all of them, so do not go
+ * on for ever: refuse an entry with an option that you do not know, and one that names an option
+ * twice, but for environment, permitlisten and permitopen, which may come more than once. */
 uint32_t sshkey_entry_option(const uint8_t *options, size_t options_length, size_t number,
                              uint8_t *room, size_t room_length, sshkey_entry_option_parts *answer);
 

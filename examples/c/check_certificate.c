@@ -2,10 +2,10 @@
  *
  *     check_certificate AUTHORITIES PRINCIPAL [SECOND] <id_ed25519-cert.pub
  *
- * AUTHORITIES is a file of public keys, a line each (as sshd's TrustedUserCAKeys), PRINCIPAL a
- * name, or - for any, and SECOND the time as seconds since 1970, or else it is now. Each line of
- * the input has a line of the answer. The status is 0 if all are valid, 1 if not, and 2 where it
- * can't tell. */
+ * AUTHORITIES is a file of public keys, a line each as ssh-keygen writes it (sshd's
+ * TrustedUserCAKeys may have more spaces and tabs), PRINCIPAL a name, or - for any, and SECOND the
+ * time as seconds since 1970, or else it is now. Each line of the input has a line of the answer.
+ * The status is 0 if all are valid, 1 if not, and 2 where it can't tell. */
 #include <stdio.h>
 #include <stdlib.h>
 #include <string.h>
