@@ -3,6 +3,5 @@ mod HostCertificates
 mod AuthorizedEntries
 mod HostKeys
 mod KeyBlobs
-mod Logins
 mod Room
 mod SignedFiles

@@ -2,5 +2,4 @@ pub mod AuthorizedEntries
 pub mod HostKeys
 pub mod Signed
 pub mod SignedFiles
-pub mod Logins
 pub mod HostCertificates
