@@ -72,7 +72,8 @@ IsOfLine (commands.Entries file) bytes text = ShowsFile file bytes text false
 -- The bytes are a file of which some entries are refused, and this text is shown of it.
 abbrev pub IsPartly : Command → List ℕ → List ℕ → Type 0
 IsPartly (commands.Entries file) bytes text = ShowsFile file bytes text true
-IsPartly _ bytes text = ⊥
+IsPartly (commands.Key c) bytes text = ⊥
+IsPartly (commands.Certificate wanted) bytes text = ⊥
 
 -- The bytes are no line of what the command asks for. Every text is a file.
 abbrev pub IsOfNoLine : Command → List ℕ → Type 0
