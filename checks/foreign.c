@@ -19,6 +19,7 @@
 #include <string.h>
 
 #include "sshkey.h"
+#include "verify.h"
 
 #define FILLED 0xa5
 /* of words in a line */

@@ -132,7 +132,8 @@ enum {
 
 /* What has to be verified: that `signature` is one of `message` under `key`, made as `algorithm`
  * says. A security key's question is already the one about the plain key within and about what the
- * device signed (PROTOCOL.u2f). */
+ * device signed (PROTOCOL.u2f): 32 bytes of digest, a byte of flags, four of the counter, and 32 of
+ * digest. Whether somebody touched it (flag 1) or was verified (flag 4) is yours to judge. */
 typedef struct {
   sshkey_part key;
   sshkey_part message;

@@ -30,7 +30,8 @@ class Built:
 
     def make(self, out, given, flags):
         made = run(["make", "-C", EXAMPLES, f"OUT={out}", f"CFLAGS={flags}", *given])
-        asks = [*C, *flags.split(), f"{ROOT}/checks/foreign.c", f"{out}/libsshkey.a", "-o", f"{out}/foreign"]
+        parts = [f"{ROOT}/checks/foreign.c", f"{out}/verify.o", f"{out}/libsshkey.a", "-lcrypto"]
+        asks = [*C, f"-I{EXAMPLES}/c", *flags.split(), *parts, "-o", f"{out}/foreign"]
         asking = run(asks) if made.returncode == 0 else made
         self.said += made.stderr + asking.stderr
         return made.returncode == 0 and asking.returncode == 0
