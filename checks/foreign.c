@@ -10,7 +10,8 @@
  *     rooms BYTES                            certificate with each room that is too short
  *     layout                                 sizes and offsets of structs
  *
- * and those of asked/key_calls.h, asked/certificate_calls.h and asked/entry_calls.h.
+ * and those of asked/key_calls.h, asked/certificate_calls.h, asked/entry_calls.h and
+ * asked/memory_calls.h.
  *
  * All memory that a call gets is as long as is said, of malloc, and a room is filled beforehand. */
 #include <inttypes.h>
@@ -23,7 +24,7 @@
 
 #define FILLED 0xa5
 /* of words in a line */
-#define MOST 13
+#define MOST 15
 
 typedef struct {
   uint8_t *bytes;
@@ -200,6 +201,7 @@ static void ask_rooms(blob certificate) {
 #include "asked/certificate_calls.h"
 #include "asked/entry_calls.h"
 #include "asked/key_calls.h"
+#include "asked/memory_calls.h"
 
 #define OFFSET(type, field) printf(" " #type "." #field "=%zu", offsetof(type, field))
 #define SIZE(type) printf(" " #type "=%zu", sizeof(type))
@@ -273,6 +275,10 @@ static void ask(char **words) {
   const char *what = words[0];
   if (!strcmp(what, "layout")) {
     ask_layout();
+    return;
+  }
+  if (!strcmp(what, "memory")) {
+    ask_memory(words);
     return;
   }
   if (ask_about_keys(words) || ask_about_certificates(words)) return;

@@ -46,7 +46,8 @@ extern "C" {
 
 enum {
   SSHKEY_DONE = 0,   /* done; of a validation: it is valid */
-  SSHKEY_MEMORY = 1, /* malloc refused; nothing is said of the input */
+  SSHKEY_MEMORY = 1, /* malloc refused; nothing is said of the input, and nothing is kept: the call
+                        may be made again */
   SSHKEY_ROOM = 2,   /* the room is too short; `length` says how many bytes are needed */
   SSHKEY_END = 3,    /* the place is the end of the bytes */
   SSHKEY_TEXT = 4,   /* the principal is not UTF-8, or a line, options, a text of known_hosts or a

@@ -11,6 +11,8 @@ HEADER = os.path.join(ROOT, "include", "sshkey.h")
 SANITIZED = "-O1 -g -fsanitize=address,undefined -fno-sanitize-recover=all -fno-omit-frame-pointer"
 WARNINGS = ["-Wall", "-Wextra", "-pedantic", "-Werror"]
 C = ["cc", "-std=c11", "-D_POSIX_C_SOURCE=200809L", *WARNINGS, f"-I{ROOT}/include"]
+# what checks/asked/memory_calls.h stands before
+WRAPPED = "-Wl,--wrap=malloc,--wrap=realloc,--wrap=free"
 # what the library may take of the C library
 TAKEN = {"malloc", "realloc", "free", "memcpy", "memmove", "memset", "memcmp", "__cxa_finalize"}
 
@@ -30,7 +32,7 @@ class Built:
 
     def make(self, out, given, flags):
         made = run(["make", "-C", EXAMPLES, f"OUT={out}", f"CFLAGS={flags}", *given])
-        parts = [f"{ROOT}/checks/foreign.c", f"{out}/verify.o", f"{out}/libsshkey.a", "-lcrypto"]
+        parts = [f"{ROOT}/checks/foreign.c", f"{out}/verify.o", f"{out}/libsshkey.a", "-lcrypto", WRAPPED]
         asks = [*C, f"-I{EXAMPLES}/c", *flags.split(), *parts, "-o", f"{out}/foreign"]
         asking = run(asks) if made.returncode == 0 else made
         self.said += made.stderr + asking.stderr
