@@ -29,6 +29,21 @@ AuthorizedPrincipalsCommandUser {2}
 """
 
 
+def logs_in(maker, configuration, user, key):
+    """Whether a real sshd lets the user in by the key, and by the certificate of it if there is one."""
+    log, certificate = maker.path(f"{key}.{configuration}.{user}.log"), maker.path(f"{key}-cert.pub")
+    sshd = f"{SSHD} -i -f {shlex.quote(maker.path(configuration))} -E {shlex.quote(log)}"
+    asked = ["ssh", "-F", "none", "-T", "-o", f"ProxyCommand={sshd}", "-i", maker.path(key)]
+    for option in (
+        "StrictHostKeyChecking=no", "UserKnownHostsFile=/dev/null", "BatchMode=yes", "IdentitiesOnly=yes", "IdentityAgent=none",
+        "LogLevel=ERROR", *[f"CertificateFile={certificate}"] * os.path.exists(certificate),
+    ):  # fmt: skip
+        asked += ["-o", option]
+    run([*asked, f"{user}@localhost", "true"], stdin=subprocess.DEVNULL, timeout=60)
+    with open(log, encoding="utf-8", errors="replace") as file:
+        return f"Accepted publickey for {user} " in file.read()
+
+
 class Logins:
     """Logins at a real sshd, over its standard input, with certificates that are made for it."""
 
@@ -47,22 +62,13 @@ class Logins:
         maker.write("asking", CONFIGURATION.format(maker.folder) + COMMAND.format(maker.folder, program, me))
 
     def is_let_in(self, number, user, authority, words, configuration="asking"):
-        key, log = f"login{number}", self.maker.path(f"login{number}.log")
+        key = f"login{number}"
         self.maker.key(key, "ed25519")
         if isinstance(authority, tuple):
             self.certify(*authority, key, words)
         else:
             self.maker.certificate(authority, key, *words)
-        sshd = f"{SSHD} -i -f {shlex.quote(self.maker.path(configuration))} -E {shlex.quote(log)}"
-        asked = ["ssh", "-F", "none", "-T", "-o", f"ProxyCommand={sshd}", "-i", self.maker.path(key)]
-        for option in (
-            "StrictHostKeyChecking=no", "UserKnownHostsFile=/dev/null", "BatchMode=yes", "IdentitiesOnly=yes",
-            "IdentityAgent=none", "LogLevel=ERROR", f"CertificateFile={self.maker.path(f'{key}-cert.pub')}",
-        ):  # fmt: skip
-            asked += ["-o", option]
-        run([*asked, f"{user}@localhost", "true"], stdin=subprocess.DEVNULL, timeout=60)
-        with open(log, encoding="utf-8", errors="replace") as file:
-            return f"Accepted publickey for {user} " in file.read()
+        return logs_in(self.maker, configuration, user, key)
 
     def certify(self, kind, counter, key, words):
         """A certificate of the key by a security key, that says the counter."""
