@@ -9,6 +9,7 @@
  *     strings BYTES                          the strings that the bytes are, from each place
  *     rooms BYTES                            certificate with each room that is too short
  *     layout                                 sizes and offsets of structs
+ *     names                                  the version, and numbers of answers with their names
  *
  * and those of asked/key_calls.h, asked/certificate_calls.h, asked/entry_calls.h and
  * asked/memory_calls.h.
@@ -271,8 +272,20 @@ static void ask_layout(void) {
   OFFSET(sshkey_entry_option_parts, has_value);
 }
 
+/* Of each number that may be an answer, and of some that are none. */
+static void ask_names(void) {
+  printf("%s", SSHKEY_LIBRARY_VERSION);
+  for (uint32_t answer = 0; answer < 200; answer++)
+    printf(",%" PRIu32 " %s", answer, sshkey_answer_name(answer));
+  printf(",%" PRIu32 " %s", UINT32_MAX, sshkey_answer_name(UINT32_MAX));
+}
+
 static void ask(char **words) {
   const char *what = words[0];
+  if (!strcmp(what, "names")) {
+    ask_names();
+    return;
+  }
   if (!strcmp(what, "layout")) {
     ask_layout();
     return;

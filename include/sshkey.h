@@ -38,6 +38,10 @@
 #include <stddef.h>
 #include <stdint.h>
 
+/* The version of this header and of the library; 0 before the first release. SSHKEY_VERSION is an
+ * answer. */
+#define SSHKEY_LIBRARY_VERSION "0"
+
 #ifdef __cplusplus
 extern "C" {
 #endif
@@ -93,6 +97,27 @@ enum {
   SSHKEY_HOST_CHANGED = 52,    /* a line for the host has another key, and none has this one */
   SSHKEY_HOST_UNKNOWN = 53     /* no line without a marker is for the host */
 };
+
+/* The name of an answer as it stands above, without SSHKEY_; for logs. */
+static inline const char *sshkey_answer_name(uint32_t answer) {
+#define SSHKEY_NAMED(name) case SSHKEY_##name: return #name
+  switch (answer) {
+    SSHKEY_NAMED(DONE); SSHKEY_NAMED(MEMORY); SSHKEY_NAMED(ROOM); SSHKEY_NAMED(END);
+    SSHKEY_NAMED(TEXT); SSHKEY_NAMED(BASE64); SSHKEY_NAMED(CHARACTER_ENCODING);
+    SSHKEY_NAMED(LABEL); SSHKEY_NAMED(LENGTH); SSHKEY_NAMED(TRAILING_DATA);
+    SSHKEY_NAMED(FORMAT); SSHKEY_NAMED(ALGORITHM_UNKNOWN); SSHKEY_NAMED(CRYPTO);
+    SSHKEY_NAMED(ECDSA); SSHKEY_NAMED(TIME); SSHKEY_NAMED(NAMESPACE);
+    SSHKEY_NAMED(PUBLIC_KEY); SSHKEY_NAMED(VERSION); SSHKEY_NAMED(OTHER_FAULT);
+    SSHKEY_NAMED(NOT_SIGNED); SSHKEY_NAMED(OTHER_AUTHORITY); SSHKEY_NAMED(NO_TIME);
+    SSHKEY_NAMED(OUT_OF_WINDOW); SSHKEY_NAMED(OTHER_PRINCIPAL);
+    SSHKEY_NAMED(UNSUPPORTED); SSHKEY_NAMED(OTHER_NAMESPACE);
+    SSHKEY_NAMED(PRINCIPALS); SSHKEY_NAMED(EMPTY_WINDOW);
+    SSHKEY_NAMED(HOST_REVOKED); SSHKEY_NAMED(HOST_UNREADABLE);
+    SSHKEY_NAMED(HOST_CHANGED); SSHKEY_NAMED(HOST_UNKNOWN);
+    default: return "no answer";
+  }
+#undef SSHKEY_NAMED
+}
 
 /* ---- what is written ------------------------------------------------------------------------- */
 

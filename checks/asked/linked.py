@@ -88,6 +88,19 @@ def check_symbols(count, built, sshkey):
     count.check("and all numbers of the header", names == wanted, names, wanted)
 
 
+def check_names(count, built):
+    """Answers have the names of the header, no other number has one, and the version is that of pkg-config and of CHANGELOG.md."""
+    version, *said = run([f"{built.plain}/foreign"], input="names\n").stdout.rstrip("\n").split(",")
+    named = {number: name for name, number in numbers("SSHKEY").items() if not name.startswith(("ASK_", "LINE_"))}
+    wanted = [f"{it} {named.get(it, 'no answer')}" for it in (*range(200), 2**32 - 1)]
+    count.check(f"{len(named)} answers have their names", said == wanted, set(said) ^ set(wanted))
+    with open(f"{ROOT}/CHANGELOG.md", encoding="utf-8") as file:
+        newest = re.search(r"^## (\S+)", file.read(), re.M)[1]
+    package = run(["pkg-config", "--modversion", f"{built.plain}/sshkey.pc"]).stdout.strip()
+    told = "0" if newest == "Unreleased" else newest
+    count.check("the version of the header, of the package and of CHANGELOG.md is one", version == package == told, version, package, told)
+
+
 def check_layout(count, built, sshkey):
     wanted = {}
     structs = {"sshkey_part": sshkey.Part, "sshkey_sha256": sshkey.Sha256, "sshkey_question": sshkey.Asked}

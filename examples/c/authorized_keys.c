@@ -110,10 +110,12 @@ int main(int count, char **words) {
     return 1;
   }
   int status = 1;
-  if (!read_file(words[1], &text))
+  uint32_t answer = read_offered(words[3], words[4], &wanted);
+  if (answer != SSHKEY_DONE)
+    fprintf(stderr, "authorized_keys: what %s offers is no key: %s\n", words[2],
+            sshkey_answer_name(answer));
+  else if (!read_file(words[1], &text))
     perror(words[1]);
-  else if (read_offered(words[3], words[4], &wanted) != SSHKEY_DONE)
-    fprintf(stderr, "authorized_keys: what %s offers is no key\n", words[2]);
   else if (!print_lines(text, &wanted))
     fprintf(stderr, "authorized_keys: can't tell what %s may do\n", words[2]);
   else
