@@ -11,8 +11,8 @@
  *     layout                                 sizes and offsets of structs
  *     names                                  the version, and numbers of answers with their names
  *
- * and those of asked/key_calls.h, asked/certificate_calls.h, asked/entry_calls.h and
- * asked/memory_calls.h.
+ * and those of asked/key_calls.h, asked/certificate_calls.h, asked/entry_calls.h,
+ * asked/login_calls.h and asked/memory_calls.h.
  *
  * All memory that a call gets is as long as is said, of malloc, and a room is filled beforehand. */
 #include <inttypes.h>
@@ -20,17 +20,13 @@
 #include <stdlib.h>
 #include <string.h>
 
+#include "judge.h"
 #include "sshkey.h"
 #include "verify.h"
 
 #define FILLED 0xa5
 /* of words in a line */
 #define MOST 15
-
-typedef struct {
-  uint8_t *bytes;
-  size_t length;
-} blob;
 
 static blob made(size_t length) {
   blob it = {malloc(length ? length : 1), length};
@@ -202,6 +198,7 @@ static void ask_rooms(blob certificate) {
 #include "asked/certificate_calls.h"
 #include "asked/entry_calls.h"
 #include "asked/key_calls.h"
+#include "asked/login_calls.h"
 #include "asked/memory_calls.h"
 
 #define OFFSET(type, field) printf(" " #type "." #field "=%zu", offsetof(type, field))
@@ -290,8 +287,8 @@ static void ask(char **words) {
     ask_layout();
     return;
   }
-  if (!strcmp(what, "memory")) {
-    ask_memory(words);
+  if (!strcmp(what, "memory") || !strcmp(what, "user")) {
+    (what[0] == 'm' ? ask_memory : ask_user)(words);
     return;
   }
   if (ask_about_keys(words) || ask_about_certificates(words)) return;

@@ -32,7 +32,7 @@ class Built:
 
     def make(self, out, given, flags):
         made = run(["make", "-C", EXAMPLES, f"OUT={out}", f"CFLAGS={flags}", *given])
-        parts = [f"{ROOT}/checks/foreign.c", f"{out}/verify.o", f"{out}/libsshkey.a", "-lcrypto", WRAPPED]
+        parts = [f"{ROOT}/checks/foreign.c", f"{out}/judge.o", f"{out}/verify.o", f"{out}/libsshkey.a", "-lcrypto", WRAPPED]
         asks = [*C, f"-I{EXAMPLES}/c", *flags.split(), *parts, "-o", f"{out}/foreign"]
         asking = run(asks) if made.returncode == 0 else made
         self.said += made.stderr + asking.stderr
