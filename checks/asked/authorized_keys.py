@@ -26,9 +26,9 @@ AuthorizedKeysCommandUser {2}
 """
 # the lines of the user's file, each with a key of its own
 LINES = {
-    "alone": "{} a comment", "rsa": "no-pty,no-agent-forwarding {} me", "ecdsa": "\t {}", "command": 'command="echo \\"a, b\\"" {} # c',
-    "away": 'from="192.0.2.7" {}', "strange-option": "no-such-option {}", "no-options": "no-pty no-user-rc {}", "commented": "# {}",
-    "authority": "cert-authority {} who signs", "listing": 'CERT-Authority,principals="other" {}', "plain": "{} no authority",
+    "alone": "{} a comment", "rsa": "no-pty,no-agent-forwarding {} me", "ecdsa": "\t {}",
+    "command": 'command="echo \\"a, b\\"" {} # c', "away": 'from="192.0.2.7" {}', "strange-option": "no-such-option {}", "no-options": "no-pty no-user-rc {}",
+    "commented": "# {}", "authority": "cert-authority {} who signs", "listing": 'CERT-Authority,principals="other" {}', "plain": "{} no authority",
     "twice": 'from="192.0.2.7" {0}\nno-pty {0} again', "both": "{0}\ncert-authority {0}",
 }  # fmt: skip
 KINDS = {"rsa": "rsa -b 2048", "ecdsa": "ecdsa -b 256"}
@@ -95,11 +95,13 @@ def check_printed(count, name, files):
         for offered, wanted in ((files.fields(key), alone), (certificate, authorities)):
             wanted = (0, "".join(f"{it}\n" for it in wanted if key not in NEVER))
             found = files.printed(path, offered)
-            count.check(f"authorized_keys {name}, {key}: {wanted[1].count(chr(10))} lines for {offered.split()[0]}", found == wanted, found)
+            lines = len(wanted[1].splitlines())
+            count.check(f"authorized_keys {name}, {key}: {lines} lines for {offered.split()[0]}", found == wanted, found)
+    alone, folder = files.fields("alone"), files.maker.path("keys")
     for case, where, offered, wanted in (
-        ("a line with a zero byte", path, files.fields("zero"), (0, "")), ("no such file", f"{path}.none", files.fields("alone"), (1, "")),
-        ("a folder", files.maker.path("keys"), files.fields("alone"), (1, "")), ("no key", path, "ssh-ed25519 AAAA", (1, "")),
-        ("a key under another name", path, f"ssh-rsa {files.fields('alone').split()[1]}", (1, "")),
+        ("a line with a zero byte", path, files.fields("zero"), (0, "")), ("no such file", f"{path}.none", alone, (1, "")),
+        ("a folder", folder, alone, (1, "")), ("no key", path, "ssh-ed25519 AAAA", (1, "")),
+        ("a key under another name", path, f"ssh-rsa {alone.split()[1]}", (1, "")),
     ):  # fmt: skip
         found = files.printed(where, offered)
         count.check(f"authorized_keys {name}: {case}", found == wanted, found)

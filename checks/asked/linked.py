@@ -98,7 +98,8 @@ def check_names(count, built):
         newest = re.search(r"^## (\S+)", file.read(), re.M)[1]
     package = run(["pkg-config", "--modversion", f"{built.plain}/sshkey.pc"]).stdout.strip()
     told = "0" if newest == "Unreleased" else newest
-    count.check("the version of the header, of the package and of CHANGELOG.md is one", version == package == told, version, package, told)
+    same = version == package == told
+    count.check("the version of the header, of the package and of CHANGELOG.md is one", same, version, package, told)
 
 
 def check_layout(count, built, sshkey):

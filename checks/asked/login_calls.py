@@ -1,5 +1,5 @@
-"""Whether a certificate logs a user in: validate_user of the examples in C and in Python, for checks/foreign. What is wanted follows
-from the words that ssh-keygen was given, which makes the certificates."""
+"""Whether a certificate logs a user in: validate_user of the examples in C and in Python, for checks/foreign. What is wanted
+follows from the words that ssh-keygen was given, which makes the certificates."""
 import base64
 import hashlib
 import re
@@ -30,12 +30,15 @@ def cases(maker, window):
     for name, blob, key, second, user, authorities, wanted in (
         ("its user", good, own, middle, "alice", by, "DONE"), ("the other user", good, own, middle, "bob", by, "DONE"),
         ("one of two authorities", good, own, middle, "alice", strange + by, "DONE"),
-        ("another user", good, own, middle, "eve", by, "OTHER_PRINCIPAL"), ("no user", good, own, middle, "", by, "OTHER_PRINCIPAL"),
+        ("another user", good, own, middle, "eve", by, "OTHER_PRINCIPAL"),
+        ("no user", good, own, middle, "", by, "OTHER_PRINCIPAL"),
         ("another authority", good, own, middle, "alice", strange, "OTHER_AUTHORITY"),
-        ("no authority", good, own, middle, "alice", b"", "OTHER_AUTHORITY"), ("too early", good, own, 1, "alice", by, "OUT_OF_WINDOW"),
-        ("too late", good, own, 2 * middle, "alice", by, "OUT_OF_WINDOW"), ("a turned bit", turned(good), own, middle, "alice", by, "NOT_SIGNED"),
+        ("no authority", good, own, middle, "alice", b"", "OTHER_AUTHORITY"),
+        ("too early", good, own, 1, "alice", by, "OUT_OF_WINDOW"), ("too late", good, own, 2 * middle, "alice", by, "OUT_OF_WINDOW"),
+        ("a turned bit", turned(good), own, middle, "alice", by, "NOT_SIGNED"),
         ("another key", good, other, middle, "alice", by, "OTHER_KEY"), ("no key", good, own[:-1], middle, "alice", by, "LENGTH"),
-        ("no certificate", good[:-1], own, middle, "alice", by, "LENGTH"), ("a key in its place", own, own, middle, "alice", by, "LABEL"),
+        ("no certificate", good[:-1], own, middle, "alice", by, "LENGTH"),
+        ("a key in its place", own, own, middle, "alice", by, "LABEL"),
         ("for hosts", made("-h", "-n", "alice"), own, middle, "alice", by, "NOT_FOR_USERS"),
         ("nobody listed", made(), own, middle, "alice", by, "NOBODY_LISTED"),
         ("nobody listed, for hosts", made("-h"), own, middle, "alice", by, "NOT_FOR_USERS"),
@@ -45,7 +48,8 @@ def cases(maker, window):
     flag = made("-n", "alice", "-O", "verify-required")
     for name, blob, known, wanted in (
         ("an option", one, "", "UNMET_OPTION"), ("one that is met", one, "source-address", "DONE"),
-        ("another is known", one, "force-command", "UNMET_OPTION"), ("a beginning of its name", one, "source-addres", "UNMET_OPTION"),
+        ("another is known", one, "force-command", "UNMET_OPTION"),
+        ("a beginning of its name", one, "source-addres", "UNMET_OPTION"),
         ("the second of two", both, "source-address", "UNMET_OPTION"), ("the first of two", both, "force-command", "UNMET_OPTION"),
         ("one that is not met", flag, "verify-required", "UNMET_OPTION"),
     ):  # fmt: skip
@@ -63,7 +67,8 @@ def check_users(count, built, modules, maker, window):
     asked = list(cases(maker, window))
     lines = ""
     for _, blob, key, second, user, by, known, _ in asked:
-        lines += f"user {blob.hex()} {key.hex()} {second} {user.encode().hex() or '-'} {by.hex() or '-'} {known.encode().hex() or '-'}\n"
+        words = (user.encode(), by, known.encode())
+        lines += " ".join(["user", blob.hex(), key.hex(), str(second), *(it.hex() or "-" for it in words)]) + "\n"
     ran = run([f"{built.sanitized}/foreign"], input=lines)
     said = ran.stdout.splitlines()
     count.check("logins are judged without a fault", ran.returncode == 0 and len(said) == len(asked), ran.stderr[-2000:])
@@ -73,8 +78,9 @@ def check_users(count, built, modules, maker, window):
     for (name, blob, key, second, user, by, known, wanted), answer in zip(asked, said):
         number = REFUSALS[wanted] if wanted in REFUSALS else int(sshkey.Status[wanted])
         authorities = [by[at : at + 32] for at in range(0, len(by), 32)]
-        found = check.validate_user(blob, key, second, user, authorities, lambda option, value, known=known: option == known and value != "")
-        same = int(found) == number and answer == f"{number} {check.MEANING.get(found, 'valid' if not number else 'not in its format')}"
+        found = check.validate_user(blob, key, second, user, authorities, lambda *option, known=known: option[0] == known and option[1])
+        meaning = "valid" if number == 0 else check.MEANING[found]
+        same = int(found) == number and answer == f"{number} {meaning}"
         count.check(f"a login by a certificate: {name}", same, wanted, found, answer)
 
 
@@ -119,8 +125,8 @@ def blocks(language):
 def said_by_page(modules, code, authority, line, key):
     """What the lines in Python say."""
     said = []
-    names = {"sshkey": modules[0], "check": modules[1], "time": time, "authority_line": authority, "line": line, "key": blob_in(key)}
-    exec(code, {**names, "let_in": lambda: said.append("let in"), "print": lambda *words: said.append(" ".join(words))})
+    names = {"sshkey": modules[0], "check": modules[1], "time": time, "authority_line": authority, "line": line}
+    exec(code, {**names, "key": blob_in(key), "let_in": lambda: said.append("let in"), "print": lambda *words: said.append(" ".join(words))})
     return said
 
 
@@ -134,7 +140,8 @@ def check_page(count, built, modules, maker):
     authority, own, other = (maker.read(f"{it}.pub") for it in ("authority0", "user0", "user1"))
     good, strange = (maker.certificate("authority0", "user0", "-V", "-5m:+5m", "-n", it) for it in ("alice", "eve"))
     for name, words, wanted in (
-        ("its user", (authority, good, own), "let in"), ("another user's", (authority, strange, own), "refused: another principal (34)"),
+        ("its user", (authority, good, own), "let in"),
+        ("another user's", (authority, strange, own), "refused: another principal (34)"),
         ("another key", (authority, good, other), "refused: another key (103)"),
     ):  # fmt: skip
         ran = run([path, *words]) if made.returncode == 0 else made

@@ -1,13 +1,13 @@
 /* Refuses memory to each call in turn, for checks/foreign.c, which is linked with --wrap of malloc,
  * realloc and free:
  *
- *     memory ROOM CALL SPAN.. NUMBER..   the answer of a call with a room of that length, how many
- *                                        requests it makes, how many answers are SSHKEY_MEMORY where
- *                                        one of them is refused, and where it and all behind it are
+ *     memory ROOM CALL SPAN.. NUMBER..
  *
- * There are 7 spans and 5 numbers. A call may do without one request, and then answers and writes
- * what it does with all. What is wrong stands in front: another answer, memory that is kept, and a
- * call behind that answers otherwise than the first one. */
+ * has the answer of a call with a room of that length, how many requests it makes, and how many
+ * answers are SSHKEY_MEMORY where one of them is refused, and where it and all behind it are. There
+ * are 7 spans and 5 numbers. A call may do without one request, and then answers and writes what it
+ * does with all. What is wrong stands in front: another answer, memory that is kept, and a call
+ * behind that answers otherwise than the first one. */
 #ifndef MEMORY_CALLS_H
 #define MEMORY_CALLS_H
 

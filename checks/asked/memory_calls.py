@@ -1,5 +1,5 @@
-"""Refused memory, for checks/foreign: each call of the library in C, each of its requests for memory refused in turn, over values of
-each kind and over bytes that are none; and that the calls of which the header says so take none."""
+"""Refused memory, for checks/foreign: of each call of the library in C each request for memory is refused in turn, over values of
+each kind and over bytes that are none; and the calls of which the header says so take none."""
 import base64
 import hashlib
 import re
@@ -135,7 +135,8 @@ def cases(maker, kinds, second):
 
 
 def question_of(call, spans, numbers, room):
-    words = [*(it.hex() or "-" for it in spans), *["-"] * (SPANS - len(spans)), *map(str, numbers), *["0"] * (NUMBERS - len(numbers))]
+    words = [*(it.hex() or "-" for it in spans), *["-"] * (SPANS - len(spans))]
+    words += [*map(str, numbers), *["0"] * (NUMBERS - len(numbers))]
     return " ".join(["memory", str(room), call, *words])
 
 

@@ -68,7 +68,7 @@ def signatures(key, message):
     blob, raw = key.blob(), key.raw(key.device_message(message))
     yield "as a device signs", blob, key.signature(raw), True
     for name, flags, counter in (
-        ("untouched", 0, COUNTER), ("touched, and who touched it verified", TOUCHED | VERIFIED, COUNTER), ("with all flags", 255, 0),
+        ("untouched", 0, COUNTER), ("by who is verified", TOUCHED | VERIFIED, COUNTER), ("with all flags", 255, 0),
         ("with the last counter", TOUCHED, 2**32 - 1),
     ):  # fmt: skip
         yield name, blob, key.signature(key.raw(key.device_message(message, flags, counter)), flags, counter), True
@@ -176,7 +176,8 @@ def check_window(judges, key, certificate, window, is_verified):
     signature = maker.signature("user1", "text")
     signature = signature[:10] + string(certificate) + signature[14 + int.from_bytes(signature[10:14], "big") :]
     for principal, second, wanted in (
-        ("alice", middle, "DONE"), ("eve", middle, "OTHER_PRINCIPAL"), ("alice", 0, "OUT_OF_WINDOW"), ("alice", 2 * middle, "OUT_OF_WINDOW"),
+        ("alice", middle, "DONE"), ("eve", middle, "OTHER_PRINCIPAL"), ("alice", 0, "OUT_OF_WINDOW"),
+        ("alice", 2 * middle, "OUT_OF_WINDOW"),
     ):  # fmt: skip
         found = judges.of_certificates([certificate_line(certificate)], key.line(), principal, second)
         # ssh-keygen takes no time before its first day

@@ -36,7 +36,8 @@ MEANING = {
     Status.NOT_SIGNED: "not signed", Status.OTHER_AUTHORITY: "another authority", Status.NO_TIME: "a time too late to be one",
     Status.OUT_OF_WINDOW: "not valid at that time", Status.OTHER_PRINCIPAL: "another principal",
     Refusal.NOT_FOR_USERS: "not for users", Refusal.NOBODY_LISTED: "no principals", Refusal.OTHER_KEY: "another key",
-    Refusal.UNMET_OPTION: "a critical option that is not known or not met", Status.OTHER_NAMESPACE: "another namespace", Status.UNSUPPORTED: "key and signature do not go together",
+    Refusal.UNMET_OPTION: "a critical option that is not known or not met", Status.OTHER_NAMESPACE: "another namespace",
+    Status.UNSUPPORTED: "key and signature do not go together",
 }  # fmt: skip
 ECDSA = {
     Algorithm.P256: (ec.SECP256R1(), hashes.SHA256()), Algorithm.P384: (ec.SECP384R1(), hashes.SHA384()),
