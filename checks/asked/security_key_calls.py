@@ -167,7 +167,21 @@ def check_authority(judges, key, window, is_verified):
         same = by_c == by_python == [answer] and taken == is_one
         judges.count.check(f"a certificate by a security key of {key.kind}: {name}", same, by_c, by_python, f"ssh-keygen: {taken}")
     check_window(judges, key, good, window, is_verified)
+    check_made(judges, key, middle)
     check_turned_certificate(judges, key, good, middle)
+
+
+def check_made(judges, key, middle):
+    """A certificate of a security key that the library makes, and the same key signs, is one for OpenSSH too."""
+    made = judges.sshkey.make_certificate(
+        key.blob(), key.blob(), lambda message: key.signature(key.raw(key.device_message(message))), principals=["alice"],
+        valid_before=middle + 1, extensions={"no-touch-required": ""},
+    )  # fmt: skip
+    line = certificate_line(made)
+    found = judges.of_certificates([line], key.line(), "alice", middle)
+    taken = judges.is_taken([line])
+    same = found == (["valid"],) * 2 and taken == [True]
+    judges.count.check(f"a certificate that is made for a security key of {key.kind}", same, found, taken)
 
 
 def check_window(judges, key, certificate, window, is_verified):
