@@ -29,14 +29,15 @@ AuthorizedPrincipalsCommandUser {2}
 """
 
 
-def logs_in(maker, configuration, user, key):
-    """Whether a real sshd lets the user in by the key, and by the certificate of it if there is one."""
+def logs_in(maker, configuration, user, key, agent="none"):
+    """Whether a real sshd lets the user in by the key, which the agent may have, and by the certificate of it if there is one."""
     log, certificate = maker.path(f"{key}.{configuration}.{user}.log"), maker.path(f"{key}-cert.pub")
     sshd = f"{SSHD} -i -f {shlex.quote(maker.path(configuration))} -E {shlex.quote(log)}"
-    asked = ["ssh", "-F", "none", "-T", "-o", f"ProxyCommand={sshd}", "-i", maker.path(key)]
+    # as an option, since -i wants a file of the private key
+    asked = ["ssh", "-F", "none", "-T", "-o", f"ProxyCommand={sshd}", "-o", f"IdentityFile={maker.path(key)}"]
     for option in (
-        "StrictHostKeyChecking=no", "UserKnownHostsFile=/dev/null", "BatchMode=yes", "IdentitiesOnly=yes", "IdentityAgent=none",
-        "LogLevel=ERROR", *[f"CertificateFile={certificate}"] * os.path.exists(certificate),
+        "StrictHostKeyChecking=no", "UserKnownHostsFile=/dev/null", "BatchMode=yes", "IdentitiesOnly=yes",
+        f"IdentityAgent={agent}", "LogLevel=ERROR", *[f"CertificateFile={certificate}"] * os.path.exists(certificate),
     ):  # fmt: skip
         asked += ["-o", option]
     run([*asked, f"{user}@localhost", "true"], stdin=subprocess.DEVNULL, timeout=60)
