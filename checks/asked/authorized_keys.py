@@ -30,8 +30,9 @@ AuthorizedKeysCommandUser {2}
 # the lines of the user's file, each with a key of its own
 LINES = {
     "alone": "{} a comment", "rsa": "no-pty,no-agent-forwarding {} me", "ecdsa": "\t {}",
-    "command": 'command="echo \\"a, b\\"" {} # c', "away": 'from="192.0.2.7" {}', "strange-option": "no-such-option {}", "no-options": "no-pty no-user-rc {}",
-    "commented": "# {}", "authority": "cert-authority {} who signs", "listing": 'CERT-Authority,principals="other" {}', "plain": "{} no authority",
+    "command": 'command="echo \\"a, b\\"" {} # c', "away": 'from="192.0.2.7" {}', "strange-option": "no-such-option {}",
+    "no-options": "no-pty no-user-rc {}", "commented": "# {}", "authority": "cert-authority {} who signs",
+    "listing": 'CERT-Authority,principals="other" {}', "plain": "{} no authority",
     "twice": 'from="192.0.2.7" {0}\nno-pty {0} again', "both": "{0}\ncert-authority {0}",
     "device": "{} a security key", "other-device": "no-touch-required {}", "strange-device": "# {}",
 }  # fmt: skip
@@ -40,8 +41,8 @@ KINDS = {"rsa": "rsa -b 2048", "ecdsa": "ecdsa -b 256"}
 # lines with authorities, and lines that are no entries
 AUTHORITIES, NEVER = ("authority", "listing", "both"), ("no-options", "commented", "strange-device")
 LET_IN = {
-    "alone", "rsa", "ecdsa", "command", "plain", "twice", "both", "by-authority", "by-both", "for-a-listed", "device", "other-device",
-    "untouched-other-device", "certified-device",
+    "alone", "rsa", "ecdsa", "command", "plain", "twice", "both", "by-authority", "by-both", "for-a-listed", "device",
+    "other-device", "untouched-other-device", "certified-device",
 }  # fmt: skip
 
 

@@ -141,14 +141,14 @@ def question_of(call, spans, numbers, room):
 
 
 def questions(sshkey, asked):
-    """Calls, questions and what is wanted, those with a room also with none."""
+    """Calls, questions and what is wanted, those with a room also with one of a byte."""
     for call, spans, numbers, wanted in asked:
         if call not in ROOMS:
             yield call, question_of(call, spans, numbers, 0), sshkey.Status[wanted]
             continue
         yield call, question_of(call, spans, numbers, 2 * sum(map(len, spans)) + 512), sshkey.Status[wanted]
         if wanted == "DONE":
-            yield call, question_of(call, spans, numbers, 0), sshkey.Status.ROOM
+            yield call, question_of(call, spans, numbers, 1), sshkey.Status.ROOM
 
 
 def without_memory():

@@ -9,7 +9,7 @@ from concurrent.futures import ThreadPoolExecutor
 
 from cryptography.hazmat.primitives import hashes, serialization
 from cryptography.hazmat.primitives.asymmetric import ec, ed25519, utils
-from lib.harness import ssh_keygen, string
+from lib.harness import ssh_keygen, string, take
 from lib.signatures import mpint, signed_data
 
 from .key_calls import part_of, question_of, said_of_plain, turned
@@ -115,6 +115,11 @@ class Judges:
             return list(pool.map(taken, enumerate(lines)))
 
 
+def with_signer(signature, signer):
+    """The SSH signature with other bytes in the place of the key that signed, which it is not over (PROTOCOL.sshsig)."""
+    return signature[:10] + string(signer) + take(signature[10:])[1]
+
+
 def certificate_line(certificate):
     name = certificate[4:][: int.from_bytes(certificate[:4], "big")].decode("latin-1")
     return f"{name if name.isprintable() and name.split() == [name] else 'x'} {base64.b64encode(certificate).decode()}"
@@ -187,8 +192,7 @@ def check_made(judges, key, middle):
 def check_window(judges, key, certificate, window, is_verified):
     """Where the certificate is valid for another second or principal, as `ssh-keygen -Y verify` says of what its key signs."""
     maker, said, middle = judges.maker, judges.check.said, window[0]
-    signature = maker.signature("user1", "text")
-    signature = signature[:10] + string(certificate) + signature[14 + int.from_bytes(signature[10:14], "big") :]
+    signature = with_signer(maker.signature("user1", "text"), certificate)
     for principal, second, wanted in (
         ("alice", middle, "DONE"), ("eve", middle, "OTHER_PRINCIPAL"), ("alice", 0, "OUT_OF_WINDOW"),
         ("alice", 2 * middle, "OUT_OF_WINDOW"),
@@ -257,6 +261,39 @@ def check_file(judges, key, middle, is_verified):
     check_turned_signature(judges, key, signed)
 
 
+def check_zero(judges, kind, middle, is_verified):
+    """A zero byte in the application, where OpenSSH reads otherwise, as docs/FOREIGN.md says: at the end it is no part of the text,
+    and within the text is none. Here it is a byte like others."""
+    signed, ended, cut = signed_data(b"file", b"", b"sha512", b"text"), SecurityKey(kind, b"ssh:\0"), SecurityKey(kind, b"ssh:")
+    for name, application, is_one in (("with", ended.application, True), ("without", cut.application, False)):
+        cut.application = application
+        file = file_signature(ended.blob(), ended.signature(ended.raw(cut.device_message(signed))))
+        status = judges.check.judge_signature(file, "file", b"text", {hashlib.sha256(ended.blob()).digest()})
+        judged = is_verified(judges.maker.folder, "zero", file, "text", "signer", middle, f"signer {ended.line()}")
+        same = (status == 0) == is_one and judged != is_one
+        judges.count.check(f"a zero byte behind the application of {kind}, signed {name} it", same, status, f"ssh-keygen: {judged}")
+    within = SecurityKey(kind, b"ssh:\0x")
+    taken = ssh_keygen("-l", "-f", judges.maker.write("zero.pub", f"{within.line()}\n"), check=False).returncode == 0
+    digest = judges.sshkey.fingerprint(within.blob())
+    same = not taken and digest == hashlib.sha256(within.blob()).digest()
+    judges.count.check(f"a zero byte within the application of {kind}", same, f"ssh-keygen: {taken}")
+
+
+def check_zero_in_principal(judges, key, middle, is_verified):
+    """The same of a principal: who is listed with a zero byte behind is nobody else here."""
+    certified_key = base64.b64decode(judges.maker.read("user0.pub").split()[1])
+    for principal, is_taken in (("alice\0", True), ("al\0ice", False)):
+        made = judges.sshkey.make_certificate(
+            certified_key, key.blob(), lambda message: key.signature(key.raw(key.device_message(message))), principals=[principal]
+        )  # fmt: skip
+        found = judges.of_certificates([certificate_line(made)], key.line(), "alice", middle)
+        file = with_signer(judges.maker.signature("user0", "text"), made)
+        judged = is_verified(judges.maker.folder, "zero", file, "text", "alice", middle, f"alice cert-authority {key.line()}")
+        refused = judges.check.said(judges.sshkey.Status.OTHER_PRINCIPAL)
+        same = judged == is_taken and found == ([refused],) * 2
+        judges.count.check(f"the principal {principal!r} is not alice", same, found, f"ssh-keygen: {judged}")
+
+
 def check_turned_signature(judges, key, signed):
     """With a bit turned of the key or of the signature, nothing is one; C asks the same questions as Python."""
     blob, signature = key.blob(), key.signature(key.raw(key.device_message(signed)))
@@ -277,3 +314,5 @@ def check_security_keys(count, built, modules, maker, window, is_verified):
         check_authority(judges, key, window, is_verified)
         check_subject(judges, key, window, is_verified)
         check_file(judges, key, window[0], is_verified)
+        check_zero(judges, key.kind, window[0], is_verified)
+    check_zero_in_principal(judges, key, window[0], is_verified)
