@@ -29,13 +29,13 @@ static uint32_t call(const char *what, blob given) {
 
 int main(int count, char **words) {
   char *line = NULL;
-  size_t held = 0, length;
+  size_t held = 0;
+  ssize_t length = count == 3 ? getline(&line, &held, stdin) : -1;
   blob given;
-  if (count != 3 || getline(&line, &held, stdin) < 0) return 2;
-  const char *rest = line;
-  next_word(&rest, &length);
-  const char *word = next_word(&rest, &length);
-  if (!decode(word, length, &given)) return 2;
+  if (length < 0) return 2;
+  if (read_line(line, (size_t)length, SSHKEY_LINE_CERTIFICATE, &given) != SSHKEY_DONE &&
+      read_line(line, (size_t)length, SSHKEY_LINE_KEY, &given) != SSHKEY_DONE)
+    return 2;
   long calls = strtol(words[2], NULL, 10);
   call("question", given);
   volatile uint32_t last = 0;

@@ -9,8 +9,10 @@
  *     strings BYTES                          the strings that the bytes are, from each place
  *     rooms BYTES                            certificate with each room that is too short
  *     layout                                 sizes and offsets of structs
+ *     names                                  the version, and numbers of answers with their names
  *
- * and those of asked/key_calls.h, asked/certificate_calls.h and asked/entry_calls.h.
+ * and those of asked/key_calls.h, asked/certificate_calls.h, asked/entry_calls.h,
+ * asked/login_calls.h and asked/memory_calls.h.
  *
  * All memory that a call gets is as long as is said, of malloc, and a room is filled beforehand. */
 #include <inttypes.h>
@@ -18,16 +20,13 @@
 #include <stdlib.h>
 #include <string.h>
 
+#include "judge.h"
 #include "sshkey.h"
+#include "verify.h"
 
 #define FILLED 0xa5
 /* of words in a line */
-#define MOST 13
-
-typedef struct {
-  uint8_t *bytes;
-  size_t length;
-} blob;
+#define MOST 15
 
 static blob made(size_t length) {
   blob it = {malloc(length ? length : 1), length};
@@ -199,6 +198,8 @@ static void ask_rooms(blob certificate) {
 #include "asked/certificate_calls.h"
 #include "asked/entry_calls.h"
 #include "asked/key_calls.h"
+#include "asked/login_calls.h"
+#include "asked/memory_calls.h"
 
 #define OFFSET(type, field) printf(" " #type "." #field "=%zu", offsetof(type, field))
 #define SIZE(type) printf(" " #type "=%zu", sizeof(type))
@@ -268,10 +269,26 @@ static void ask_layout(void) {
   OFFSET(sshkey_entry_option_parts, has_value);
 }
 
+/* Of each number that may be an answer, and of some that are none. */
+static void ask_names(void) {
+  printf("%s", SSHKEY_LIBRARY_VERSION);
+  for (uint32_t answer = 0; answer < 200; answer++)
+    printf(",%" PRIu32 " %s", answer, sshkey_answer_name(answer));
+  printf(",%" PRIu32 " %s", UINT32_MAX, sshkey_answer_name(UINT32_MAX));
+}
+
 static void ask(char **words) {
   const char *what = words[0];
+  if (!strcmp(what, "names")) {
+    ask_names();
+    return;
+  }
   if (!strcmp(what, "layout")) {
     ask_layout();
+    return;
+  }
+  if (!strcmp(what, "memory") || !strcmp(what, "user")) {
+    (what[0] == 'm' ? ask_memory : ask_user)(words);
     return;
   }
   if (ask_about_keys(words) || ask_about_certificates(words)) return;

@@ -38,6 +38,10 @@
 #include <stddef.h>
 #include <stdint.h>
 
+/* The version of this header and of the library; 0 before the first release. SSHKEY_VERSION is an
+ * answer. */
+#define SSHKEY_LIBRARY_VERSION "0"
+
 #ifdef __cplusplus
 extern "C" {
 #endif
@@ -46,7 +50,8 @@ extern "C" {
 
 enum {
   SSHKEY_DONE = 0,   /* done; of a validation: it is valid */
-  SSHKEY_MEMORY = 1, /* malloc refused; nothing is said of the input */
+  SSHKEY_MEMORY = 1, /* malloc refused; nothing is said of the input, and nothing is kept: the call
+                        may be made again */
   SSHKEY_ROOM = 2,   /* the room is too short; `length` says how many bytes are needed */
   SSHKEY_END = 3,    /* the place is the end of the bytes */
   SSHKEY_TEXT = 4,   /* the principal is not UTF-8, or a line, options, a text of known_hosts or a
@@ -93,6 +98,27 @@ enum {
   SSHKEY_HOST_UNKNOWN = 53     /* no line without a marker is for the host */
 };
 
+/* The name of an answer as it stands above, without SSHKEY_; for logs. */
+static inline const char *sshkey_answer_name(uint32_t answer) {
+#define SSHKEY_NAMED(name) case SSHKEY_##name: return #name
+  switch (answer) {
+    SSHKEY_NAMED(DONE); SSHKEY_NAMED(MEMORY); SSHKEY_NAMED(ROOM); SSHKEY_NAMED(END);
+    SSHKEY_NAMED(TEXT); SSHKEY_NAMED(BASE64); SSHKEY_NAMED(CHARACTER_ENCODING);
+    SSHKEY_NAMED(LABEL); SSHKEY_NAMED(LENGTH); SSHKEY_NAMED(TRAILING_DATA);
+    SSHKEY_NAMED(FORMAT); SSHKEY_NAMED(ALGORITHM_UNKNOWN); SSHKEY_NAMED(CRYPTO);
+    SSHKEY_NAMED(ECDSA); SSHKEY_NAMED(TIME); SSHKEY_NAMED(NAMESPACE);
+    SSHKEY_NAMED(PUBLIC_KEY); SSHKEY_NAMED(VERSION); SSHKEY_NAMED(OTHER_FAULT);
+    SSHKEY_NAMED(NOT_SIGNED); SSHKEY_NAMED(OTHER_AUTHORITY); SSHKEY_NAMED(NO_TIME);
+    SSHKEY_NAMED(OUT_OF_WINDOW); SSHKEY_NAMED(OTHER_PRINCIPAL);
+    SSHKEY_NAMED(UNSUPPORTED); SSHKEY_NAMED(OTHER_NAMESPACE);
+    SSHKEY_NAMED(PRINCIPALS); SSHKEY_NAMED(EMPTY_WINDOW);
+    SSHKEY_NAMED(HOST_REVOKED); SSHKEY_NAMED(HOST_UNREADABLE);
+    SSHKEY_NAMED(HOST_CHANGED); SSHKEY_NAMED(HOST_UNKNOWN);
+    default: return "no answer";
+  }
+#undef SSHKEY_NAMED
+}
+
 /* ---- what is written ------------------------------------------------------------------------- */
 
 /* A part of a room, or of other bytes: where it begins, and how many bytes it has. */
@@ -132,7 +158,8 @@ enum {
 
 /* What has to be verified: that `signature` is one of `message` under `key`, made as `algorithm`
  * says. A security key's question is already the one about the plain key within and about what the
- * device signed (PROTOCOL.u2f). */
+ * device signed (PROTOCOL.u2f): 32 bytes of digest, a byte of flags, four of the counter, and 32 of
+ * digest. Whether somebody touched it (flag 1) or was verified (flag 4) is yours to judge. */
 typedef struct {
   sshkey_part key;
   sshkey_part message;

@@ -4,6 +4,7 @@
  *     line BYTES                       what stands in the line
  *     sha512 BYTES                     the fingerprint of a key, and its text
  *     plain KEY MESSAGE SIGNATURE      what has to be verified
+ *     is-plain KEY MESSAGE SIGNATURE   whether examples/c/verify.c says that it is one
  *     normal key|certificate|signature|plain BYTES
  *
  * Lines and normal forms are asked for with each room that is too short, too. */
@@ -69,6 +70,19 @@ static void ask_plain(blob key, blob message, blob signature) {
   free(room.bytes);
 }
 
+static void ask_is_plain(blob key, blob message, blob signature) {
+  blob room = made(key.length + message.length + signature.length + 256);
+  sshkey_question question;
+  memset(&question, 0, sizeof question);
+  uint32_t answer = sshkey_plain_signature_question(key.bytes, key.length, message.bytes,
+                                                    message.length, signature.bytes,
+                                                    signature.length, room.bytes, room.length,
+                                                    &question);
+  printf("%" PRIu32, answer);
+  if (answer == SSHKEY_DONE) printf(" %d", is_signature(&question, room.bytes));
+  free(room.bytes);
+}
+
 typedef uint32_t normal_call(const uint8_t *bytes, size_t length, uint8_t *room,
                              size_t room_length, size_t *answer);
 
@@ -113,9 +127,9 @@ static int ask_about_keys(char **words) {
     ask_sha512(first);
   } else if (!strcmp(words[0], "normal")) {
     ask_normal(words[1], first);
-  } else if (!strcmp(words[0], "plain")) {
+  } else if (!strcmp(words[0], "plain") || !strcmp(words[0], "is-plain")) {
     blob message = bytes_of(words[2]), signature = bytes_of(words[3]);
-    ask_plain(first, message, signature);
+    (words[0][0] == 'p' ? ask_plain : ask_is_plain)(first, message, signature);
     free(message.bytes);
     free(signature.bytes);
   } else {

@@ -11,6 +11,8 @@ HEADER = os.path.join(ROOT, "include", "sshkey.h")
 SANITIZED = "-O1 -g -fsanitize=address,undefined -fno-sanitize-recover=all -fno-omit-frame-pointer"
 WARNINGS = ["-Wall", "-Wextra", "-pedantic", "-Werror"]
 C = ["cc", "-std=c11", "-D_POSIX_C_SOURCE=200809L", *WARNINGS, f"-I{ROOT}/include"]
+# what checks/asked/memory_calls.h stands before
+WRAPPED = "-Wl,--wrap=malloc,--wrap=realloc,--wrap=free"
 # what the library may take of the C library
 TAKEN = {"malloc", "realloc", "free", "memcpy", "memmove", "memset", "memcmp", "__cxa_finalize"}
 
@@ -30,7 +32,8 @@ class Built:
 
     def make(self, out, given, flags):
         made = run(["make", "-C", EXAMPLES, f"OUT={out}", f"CFLAGS={flags}", *given])
-        asks = [*C, *flags.split(), f"{ROOT}/checks/foreign.c", f"{out}/libsshkey.a", "-o", f"{out}/foreign"]
+        parts = [f"{ROOT}/checks/foreign.c", f"{out}/judge.o", f"{out}/verify.o", f"{out}/libsshkey.a", "-lcrypto", WRAPPED]
+        asks = [*C, f"-I{EXAMPLES}/c", *flags.split(), *parts, "-o", f"{out}/foreign"]
         asking = run(asks) if made.returncode == 0 else made
         self.said += made.stderr + asking.stderr
         return made.returncode == 0 and asking.returncode == 0
@@ -83,6 +86,20 @@ def check_symbols(count, built, sshkey):
     names = {it.name: int(it) for it in sshkey.Status}, {it.name: int(it) for it in sshkey.Algorithm}
     wanted = {name: it for name, it in numbers("SSHKEY").items() if not name.startswith("ASK_")}, numbers("SSHKEY_ASK")
     count.check("and all numbers of the header", names == wanted, names, wanted)
+
+
+def check_names(count, built):
+    """Answers have the names of the header, no other number has one, and the version is that of pkg-config and of CHANGELOG.md."""
+    version, *said = run([f"{built.plain}/foreign"], input="names\n").stdout.rstrip("\n").split(",")
+    named = {number: name for name, number in numbers("SSHKEY").items() if not name.startswith(("ASK_", "LINE_"))}
+    wanted = [f"{it} {named.get(it, 'no answer')}" for it in (*range(200), 2**32 - 1)]
+    count.check(f"{len(named)} answers have their names", said == wanted, set(said) ^ set(wanted))
+    with open(f"{ROOT}/CHANGELOG.md", encoding="utf-8") as file:
+        newest = re.search(r"^## (\S+)", file.read(), re.M)[1]
+    package = run(["pkg-config", "--modversion", f"{built.plain}/sshkey.pc"]).stdout.strip()
+    told = "0" if newest == "Unreleased" else newest
+    same = version == package == told
+    count.check("the version of the header, of the package and of CHANGELOG.md is one", same, version, package, told)
 
 
 def check_layout(count, built, sshkey):

@@ -1,4 +1,5 @@
 """Logins at a real sshd that asks examples/c/principals whom a certificate lets in, for checks/foreign."""
+import base64
 import getpass
 import os
 import shlex
@@ -6,6 +7,7 @@ import subprocess
 from concurrent.futures import ThreadPoolExecutor
 
 from .linked import run
+from .security_key_calls import COUNTER, SecurityKey, certificate_line, certified
 
 SSHD = "/usr/sbin/sshd"
 CONFIGURATION = """\
@@ -27,6 +29,22 @@ AuthorizedPrincipalsCommandUser {2}
 """
 
 
+def logs_in(maker, configuration, user, key, agent="none"):
+    """Whether a real sshd lets the user in by the key, which the agent may have, and by the certificate of it if there is one."""
+    log, certificate = maker.path(f"{key}.{configuration}.{user}.log"), maker.path(f"{key}-cert.pub")
+    sshd = f"{SSHD} -i -f {shlex.quote(maker.path(configuration))} -E {shlex.quote(log)}"
+    # as an option, since -i wants a file of the private key
+    asked = ["ssh", "-F", "none", "-T", "-o", f"ProxyCommand={sshd}", "-o", f"IdentityFile={maker.path(key)}"]
+    for option in (
+        "StrictHostKeyChecking=no", "UserKnownHostsFile=/dev/null", "BatchMode=yes", "IdentitiesOnly=yes",
+        f"IdentityAgent={agent}", "LogLevel=ERROR", *[f"CertificateFile={certificate}"] * os.path.exists(certificate),
+    ):  # fmt: skip
+        asked += ["-o", option]
+    run([*asked, f"{user}@localhost", "true"], stdin=subprocess.DEVNULL, timeout=60)
+    with open(log, encoding="utf-8", errors="replace") as file:
+        return f"Accepted publickey for {user} " in file.read()
+
+
 class Logins:
     """Logins at a real sshd, over its standard input, with certificates that are made for it."""
 
@@ -35,26 +53,29 @@ class Logins:
         for name, kind in (("host", "ed25519"), ("own", "ed25519"), ("second", "ecdsa -b 256"), ("strange", "ed25519")):
             maker.key(name, kind)
         keys = {name: " ".join(maker.read(f"{name}.pub").split()[:2]) for name in ("own", "second", "strange")}
-        maker.write("trusted", "".join(f"{it}\n" for it in keys.values()))
+        self.devices = {kind: SecurityKey(kind, b"ssh:login") for kind in ("Ed25519", "ECDSA P-256")}
+        devices = [it.line() for it in self.devices.values()]
+        maker.write("trusted", "".join(f"{it}\n" for it in (*keys.values(), *devices)))
         lines = [f"{me},nobody {keys['own']}", f"x{me},{me} {keys['second']} a comment", f"x{me} {keys['strange']}"]
+        lines += [f"{me} {it}" for it in devices]
         maker.write("authorities", "# who may sign for whom\n" + "".join(f"{it}\n" for it in lines))
         maker.write("plain", CONFIGURATION.format(maker.folder))
         maker.write("asking", CONFIGURATION.format(maker.folder) + COMMAND.format(maker.folder, program, me))
 
     def is_let_in(self, number, user, authority, words, configuration="asking"):
-        key, log = f"login{number}", self.maker.path(f"login{number}.log")
+        key = f"login{number}"
         self.maker.key(key, "ed25519")
-        self.maker.certificate(authority, key, *words)
-        sshd = f"{SSHD} -i -f {shlex.quote(self.maker.path(configuration))} -E {shlex.quote(log)}"
-        asked = ["ssh", "-F", "none", "-T", "-o", f"ProxyCommand={sshd}", "-i", self.maker.path(key)]
-        for option in (
-            "StrictHostKeyChecking=no", "UserKnownHostsFile=/dev/null", "BatchMode=yes", "IdentitiesOnly=yes",
-            "IdentityAgent=none", "LogLevel=ERROR", f"CertificateFile={self.maker.path(f'{key}-cert.pub')}",
-        ):  # fmt: skip
-            asked += ["-o", option]
-        run([*asked, f"{user}@localhost", "true"], stdin=subprocess.DEVNULL, timeout=60)
-        with open(log, encoding="utf-8", errors="replace") as file:
-            return f"Accepted publickey for {user} " in file.read()
+        if isinstance(authority, tuple):
+            self.certify(*authority, key, words)
+        else:
+            self.maker.certificate(authority, key, *words)
+        return logs_in(self.maker, configuration, user, key)
+
+    def certify(self, kind, counter, key, words):
+        """A certificate of the key by a security key, that says the counter."""
+        line, own = self.maker.certificate("own", key, *words), self.maker.read("own.pub")
+        made = certified(self.devices[kind], *(base64.b64decode(it.split()[1]) for it in (line, own)), counter)
+        self.maker.write(f"{key}-cert.pub", certificate_line(made) + "\n")
 
     def cases(self):
         """Names, users, authorities, words for ssh-keygen, configurations, and whether the user is let in."""
@@ -67,6 +88,11 @@ class Logins:
         yield "too early", me, "own", ["-n", me, "-V", "+5m:+6m"], "asking", False
         yield "too late", me, "own", ["-n", me, "-V", "-6m:-5m"], "asking", False
         yield "nobody is listed", me, "own", now, "asking", False
+        for kind in self.devices:
+            device, turned = (kind, COUNTER), (kind, COUNTER + 1)
+            yield f"its user, by a security key of {kind}", me, device, ["-n", me, *now], "asking", True
+            yield "with another counter than was signed", me, turned, ["-n", me, *now], "asking", False
+            yield "another user's certificate by it", me, device, ["-n", f"x{me}", *now], "asking", False
         yield "for hosts", me, "own", ["-h", "-n", me, *now], "asking", False
         if os.getuid() == 0:
             yield "another user, by its own", "nobody", "own", ["-n", "nobody", *now], "asking", True

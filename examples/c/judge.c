@@ -1,6 +1,6 @@
-/* The two calls about a certificate, with libcrypto between them. */
 #include "judge.h"
 
+#include <stdio.h>
 #include <stdlib.h>
 #include <string.h>
 
@@ -21,6 +21,38 @@ uint32_t read_line(const char *line, size_t length, uint32_t kind, blob *answer)
   memmove(room, room + found.blob.start, found.blob.length);
   *answer = (blob){room, found.blob.length};
   return status;
+}
+
+uint32_t read_words(const char *type, const char *base64, uint32_t kind, blob *answer) {
+  size_t length = strlen(type) + 1 + strlen(base64);
+  char *line = malloc(length + 1);
+  if (!line) return SSHKEY_MEMORY;
+  snprintf(line, length + 1, "%s %s", type, base64);
+  uint32_t status = read_line(line, length, kind, answer);
+  free(line);
+  return status;
+}
+
+int read_file(const char *path, blob *answer) {
+  FILE *file = fopen(path, "rb");
+  blob text = {NULL, 0};
+  int good = file != NULL;
+  for (size_t room = 0, read = 1; good && read;) {
+    if (text.length == room) {
+      uint8_t *more = realloc(text.bytes, room = 2 * room + 4096);
+      good = more != NULL;
+      if (more) text.bytes = more;
+    }
+    read = good ? fread(text.bytes + text.length, 1, room - text.length, file) : 0;
+    text.length += read;
+  }
+  good = good && !ferror(file);
+  if (file) fclose(file);
+  if (good)
+    *answer = text;
+  else
+    free(text.bytes);
+  return good;
 }
 
 int add_authority(authorities *to, const char *line, size_t length) {
@@ -61,6 +93,58 @@ uint32_t judge(blob certificate, uint64_t unix_time, const char *principal, auth
                                          keys, by.count, verified);
 }
 
+/* Whether each critical option is met. */
+static uint32_t are_options_met(blob certificate, const login *asked) {
+  sshkey_parts parts;
+  sshkey_certificate_option_parts option;
+  memset(&parts, 0, sizeof parts);
+  memset(&option, 0, sizeof option);
+  uint32_t answer = sshkey_certificate_parts(certificate.bytes, certificate.length, &parts);
+  if (answer != SSHKEY_DONE) return answer;
+  const uint8_t *options = certificate.bytes + parts.critical_options.start;
+  size_t length = parts.critical_options.length, place = 0;
+  while ((answer = sshkey_certificate_option(options, length, place, &option)) == SSHKEY_DONE) {
+    if (!asked->is_met ||
+        !asked->is_met(options + option.name.start, option.name.length,
+                       options + option.value.start, option.value.length, asked->given))
+      return JUDGE_UNMET_OPTION;
+    place = option.next;
+  }
+  return answer == SSHKEY_END ? SSHKEY_DONE : answer;
+}
+
+/* Whether the key is the certificate's own: the digests of their normal forms are the same. */
+static uint32_t is_own_key(blob certificate, blob key) {
+  sshkey_sha256 own = {{0}}, held = {{0}};
+  size_t length = 0;
+  /* a room as long as the certificate is enough */
+  uint8_t *room = calloc(1, certificate.length);
+  if (!room) return SSHKEY_MEMORY;
+  uint32_t answer = sshkey_certificate_key(certificate.bytes, certificate.length, room,
+                                           certificate.length, &length);
+  if (answer == SSHKEY_DONE) answer = sshkey_fingerprint(room, length, &own);
+  free(room);
+  if (answer == SSHKEY_DONE)
+    answer = sshkey_fingerprint(sshkey_bytes(key.bytes), key.length, &held);
+  if (answer == SSHKEY_DONE && memcmp(&own, &held, sizeof own)) answer = JUDGE_OTHER_KEY;
+  return answer;
+}
+
+uint32_t validate_user(blob certificate, const login *asked) {
+  sshkey_fields fields;
+  memset(&fields, 0, sizeof fields);
+  /* judge takes no principal for any */
+  if (!asked->user) return SSHKEY_OTHER_PRINCIPAL;
+  uint32_t answer = judge(certificate, asked->unix_time, asked->user, asked->by);
+  if (answer == SSHKEY_DONE)
+    answer = sshkey_certificate_fields(certificate.bytes, certificate.length, &fields);
+  if (answer != SSHKEY_DONE) return answer;
+  if (fields.certificate_type != 1) return JUDGE_NOT_FOR_USERS;
+  if (!fields.lists_principals) return JUDGE_NOBODY_LISTED;
+  answer = are_options_met(certificate, asked);
+  return answer == SSHKEY_DONE ? is_own_key(certificate, asked->key) : answer;
+}
+
 const char *meaning(uint32_t answer) {
   switch (answer) {
   case SSHKEY_DONE: return "valid";
@@ -76,6 +160,10 @@ const char *meaning(uint32_t answer) {
   case SSHKEY_NO_TIME: return "a time too late to be one";
   case SSHKEY_OUT_OF_WINDOW: return "not valid at that time";
   case SSHKEY_OTHER_PRINCIPAL: return "another principal";
+  case JUDGE_NOT_FOR_USERS: return "not for users";
+  case JUDGE_NOBODY_LISTED: return "no principals";
+  case JUDGE_UNMET_OPTION: return "a critical option that is not known or not met";
+  case JUDGE_OTHER_KEY: return "another key";
   default: return "not in its format";
   }
 }

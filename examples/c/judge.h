@@ -1,5 +1,5 @@
-/* The two calls of sshkey.h about a certificate, with libcrypto between them, and what both
- * programs here read. */
+/* Whether a certificate is valid, and whether it logs a user in: the calls of sshkey.h, with
+ * libcrypto between them; and what the programs here read. */
 #ifndef JUDGE_H
 #define JUDGE_H
 #include <stddef.h>
@@ -22,12 +22,45 @@ typedef struct {
 /* The key or the certificate of a line, as the kind says: SSHKEY_DONE, or why there is none. */
 uint32_t read_line(const char *line, size_t length, uint32_t kind, blob *answer);
 
+/* The same of two words, as sshd gives them: a type, and Base64. */
+uint32_t read_words(const char *type, const char *base64, uint32_t kind, blob *answer);
+
+/* Reads a file; false where it can't, and errno says why. */
+int read_file(const char *path, blob *answer);
+
 /* Adds the key of the line to the authorities; false where it is the line of none. */
 int add_authority(authorities *to, const char *line, size_t length);
 
 /* Whether the certificate is valid: SSHKEY_DONE, or what is wrong first. The principal may be null,
  * and then any is meant. */
 uint32_t judge(blob certificate, uint64_t unix_time, const char *principal, authorities by);
+
+/* Whether a critical option of that name is known, and met at this login. */
+typedef int is_met_option(const uint8_t *name, size_t name_length, const uint8_t *value,
+                          size_t value_length, void *given);
+
+/* A login by a certificate. */
+typedef struct {
+  const char *user;      /* whom the client wants to be */
+  blob key;              /* the key of which the client has proved that it holds it */
+  uint64_t unix_time;    /* when that is */
+  authorities by;        /* who may certify users */
+  is_met_option *is_met; /* may be null: then each critical option is one that is not known */
+  void *given;           /* what is_met gets */
+} login;
+
+/* What is wrong with a certificate that is valid, and logs nobody in; beside the answers of
+ * sshkey.h. */
+enum {
+  JUDGE_NOT_FOR_USERS = 100,  /* it is one for hosts */
+  JUDGE_NOBODY_LISTED = 101,  /* it lists no principals, and would be for everybody */
+  JUDGE_UNMET_OPTION = 102,   /* a critical option is not known, or not met */
+  JUDGE_OTHER_KEY = 103       /* it is one of another key than the client holds */
+};
+
+/* Whether the certificate logs the user in: SSHKEY_DONE, or what is wrong first, a number of
+ * SSHKEY_* or of JUDGE_*. Whether it is revoked is not looked at. */
+uint32_t validate_user(blob certificate, const login *asked);
 
 /* What an answer means, in words. */
 const char *meaning(uint32_t answer);

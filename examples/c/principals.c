@@ -44,17 +44,6 @@ static int read_authorities(FILE *file, const char *user, authorities *to) {
   return good;
 }
 
-/* Reads the certificate of the words that sshd gives: its type, and its Base64. */
-static uint32_t read_certificate(const char *type, const char *base64, blob *answer) {
-  size_t length = strlen(type) + 1 + strlen(base64);
-  char *line = malloc(length + 1);
-  if (!line) return SSHKEY_MEMORY;
-  snprintf(line, length + 1, "%s %s", type, base64);
-  uint32_t status = read_line(line, length, SSHKEY_LINE_CERTIFICATE, answer);
-  free(line);
-  return status;
-}
-
 /* Whether it is a certificate for users that lists principals: one that lists none allows all. */
 static int is_for_listed_users(blob certificate) {
   sshkey_fields fields;
@@ -78,7 +67,8 @@ int main(int count, char **words) {
     perror(words[1]);
   } else if (!read_authorities(file, user, &by)) {
     fprintf(stderr, "principals: a line of %s has no key\n", user);
-  } else if (read_certificate(words[3], words[4], &certificate) != SSHKEY_DONE) {
+  } else if (read_words(words[3], words[4], SSHKEY_LINE_CERTIFICATE, &certificate) !=
+             SSHKEY_DONE) {
     fprintf(stderr, "principals: the certificate is none\n");
   } else if (!is_for_listed_users(certificate)) {
     fprintf(stderr, "principals: the certificate is not one for users that are listed\n");

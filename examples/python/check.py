@@ -8,6 +8,7 @@ AUTHORITIES and SIGNERS are files of public keys, a line each. The first answers
 does. The status is 0 if all is valid, 1 if not, and 2 where it can't tell.
 """
 import base64
+import enum
 import sys
 import time
 
@@ -18,13 +19,25 @@ from cryptography.hazmat.primitives.asymmetric import ec, ed25519, padding, rsa,
 import sshkey
 from sshkey import Algorithm, Status
 
+
+class Refusal(enum.IntEnum):
+    """What is wrong with a certificate that is valid, and logs nobody in: JUDGE_* of the example in C."""
+
+    NOT_FOR_USERS = 100
+    NOBODY_LISTED = 101
+    UNMET_OPTION = 102
+    OTHER_KEY = 103
+
+
 MEANING = {
     Status.BASE64: "not Base64",
     Status.CHARACTER_ENCODING: "a text that is not UTF-8", Status.LABEL: "a name that may not stand there",
     Status.LENGTH: "a length that passes the bytes", Status.TRAILING_DATA: "bytes behind the end",
     Status.NOT_SIGNED: "not signed", Status.OTHER_AUTHORITY: "another authority", Status.NO_TIME: "a time too late to be one",
     Status.OUT_OF_WINDOW: "not valid at that time", Status.OTHER_PRINCIPAL: "another principal",
-    Status.OTHER_NAMESPACE: "another namespace", Status.UNSUPPORTED: "key and signature do not go together",
+    Refusal.NOT_FOR_USERS: "not for users", Refusal.NOBODY_LISTED: "no principals", Refusal.OTHER_KEY: "another key",
+    Refusal.UNMET_OPTION: "a critical option that is not known or not met", Status.OTHER_NAMESPACE: "another namespace",
+    Status.UNSUPPORTED: "key and signature do not go together",
 }  # fmt: skip
 ECDSA = {
     Algorithm.P256: (ec.SECP256R1(), hashes.SHA256()), Algorithm.P384: (ec.SECP384R1(), hashes.SHA384()),
@@ -72,6 +85,27 @@ def judge(certificate, now, principal, authorities):
     except sshkey.Refused:
         verified = False
     return sshkey.validate_certificate(certificate, now, authorities, verified, principal)
+
+
+def validate_user(certificate, key, now, user, authorities, is_met=lambda name, value: False):
+    """Whether the certificate logs the user in at that second: Status.DONE, or what is wrong first, a Status or a Refusal.
+
+    `key` is the blob of the key of which the client has proved that it holds it. `is_met` says of a critical option, by its name
+    and value, whether it is known and met at this login. Whether the certificate is revoked is not looked at."""
+    status = judge(certificate, now, user or "", authorities)
+    if status != Status.DONE:
+        return status
+    fields, contents = sshkey.certificate_fields(certificate), sshkey.certificate_contents(certificate)
+    if fields.certificate_type != 1:
+        return Refusal.NOT_FOR_USERS
+    if not fields.lists_principals:  # it would be for everybody
+        return Refusal.NOBODY_LISTED
+    if not all(is_met(name, value) for name, value in contents.critical_options.items()):
+        return Refusal.UNMET_OPTION
+    try:
+        return Status.DONE if sshkey.normal_key(key) == contents.key else Refusal.OTHER_KEY
+    except sshkey.Refused as refused:
+        return refused.status
 
 
 def judge_signature(signature, namespace, message, signers):

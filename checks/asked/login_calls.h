@@ -1,0 +1,32 @@
+/* Asks validate_user of examples/c/judge.h, for checks/foreign.c, which has the helpers:
+ *
+ *     user CERTIFICATE KEY SECOND USER AUTHORITIES OPTION
+ *
+ * OPTION is the name of the one critical option that is known, and met where it has a value. */
+#ifndef LOGIN_CALLS_H
+#define LOGIN_CALLS_H
+
+static int is_met(const uint8_t *name, size_t name_length, const uint8_t *value,
+                  size_t value_length, void *given) {
+  const blob *known = given;
+  (void)value;
+  return name_length == known->length && !memcmp(name, known->bytes, name_length) && value_length;
+}
+
+static void ask_user(char **words) {
+  blob certificate = bytes_of(words[1]), key = bytes_of(words[2]);
+  blob user = bytes_of(words[4]), keys = bytes_of(words[5]), known = bytes_of(words[6]);
+  char *name = calloc(1, user.length + 1);
+  if (!name) exit(3);
+  memcpy(name, user.bytes, user.length);
+  login asked = {name, key, strtoull(words[3], NULL, 10),
+                 {(sshkey_sha256 *)keys.bytes, keys.length / sizeof(sshkey_sha256)},
+                 known.length ? is_met : NULL, &known};
+  uint32_t answer = validate_user(certificate, &asked);
+  printf("%" PRIu32 " %s", answer, meaning(answer));
+  blob made[] = {certificate, key, user, keys, known};
+  for (size_t at = 0; at < sizeof made / sizeof *made; at++) free(made[at].bytes);
+  free(name);
+}
+
+#endif

@@ -1,0 +1,155 @@
+"""Whether a certificate logs a user in: validate_user of the examples in C and in Python, for checks/foreign. What is wanted
+follows from the words that ssh-keygen was given, which makes the certificates."""
+import base64
+import hashlib
+import re
+import time
+
+from lib.harness import ROOT, string
+
+from .linked import EXAMPLES, SANITIZED, C, run
+
+REFUSALS = {"NOT_FOR_USERS": 100, "NOBODY_LISTED": 101, "UNMET_OPTION": 102, "OTHER_KEY": 103}
+SOURCE, COMMAND = "source-address=192.0.2.0/24", "force-command=true"
+
+
+def blob_in(line):
+    return base64.b64decode(line.split()[1])
+
+
+def cases(maker, window):
+    """Names, certificates, keys, seconds, users, authorities, the option that is known, and what is wanted."""
+    middle, words = window
+    own, other = (blob_in(maker.read(f"user{it}.pub")) for it in (0, 1))
+    by, strange = (hashlib.sha256(blob_in(maker.read(f"authority{it}.pub"))).digest() for it in (0, 1))
+
+    def made(*more):
+        return blob_in(maker.certificate("authority0", "user0", *words, *more))
+
+    good = made("-n", "alice,bob")
+    for name, blob, key, second, user, authorities, wanted in (
+        ("its user", good, own, middle, "alice", by, "DONE"), ("the other user", good, own, middle, "bob", by, "DONE"),
+        ("one of two authorities", good, own, middle, "alice", strange + by, "DONE"),
+        ("another user", good, own, middle, "eve", by, "OTHER_PRINCIPAL"),
+        ("no user", good, own, middle, "", by, "OTHER_PRINCIPAL"),
+        ("another authority", good, own, middle, "alice", strange, "OTHER_AUTHORITY"),
+        ("no authority", good, own, middle, "alice", b"", "OTHER_AUTHORITY"),
+        ("too early", good, own, 1, "alice", by, "OUT_OF_WINDOW"),
+        ("too late", good, own, 2 * middle, "alice", by, "OUT_OF_WINDOW"),
+        ("a turned bit", turned(good), own, middle, "alice", by, "NOT_SIGNED"),
+        ("another key", good, other, middle, "alice", by, "OTHER_KEY"), ("no key", good, own[:-1], middle, "alice", by, "LENGTH"),
+        ("no certificate", good[:-1], own, middle, "alice", by, "LENGTH"),
+        ("a key in its place", own, own, middle, "alice", by, "LABEL"),
+        ("for hosts", made("-h", "-n", "alice"), own, middle, "alice", by, "NOT_FOR_USERS"),
+        ("nobody listed", made(), own, middle, "alice", by, "NOBODY_LISTED"),
+        ("nobody listed, for hosts", made("-h"), own, middle, "alice", by, "NOT_FOR_USERS"),
+    ):  # fmt: skip
+        yield name, blob, key, second, user, authorities, "", wanted
+    both, one = made("-n", "alice", "-O", SOURCE, "-O", COMMAND), made("-n", "alice", "-O", SOURCE)
+    flag = made("-n", "alice", "-O", "verify-required")
+    for name, blob, known, wanted in (
+        ("an option", one, "", "UNMET_OPTION"), ("one that is met", one, "source-address", "DONE"),
+        ("another is known", one, "force-command", "UNMET_OPTION"),
+        ("a beginning of its name", one, "source-addres", "UNMET_OPTION"),
+        ("the second of two", both, "source-address", "UNMET_OPTION"), ("the first of two", both, "force-command", "UNMET_OPTION"),
+        ("one that is not met", flag, "verify-required", "UNMET_OPTION"),
+    ):  # fmt: skip
+        yield name, blob, own, middle, "alice", by, known, wanted
+
+
+def turned(blob):
+    """With a bit turned in the first principal's last letter, so that it is not signed."""
+    at = blob.index(string(b"alice")) + 8
+    return blob[:at] + bytes([blob[at] ^ 1]) + blob[at + 1 :]
+
+
+def check_users(count, built, modules, maker, window):
+    sshkey, check = modules
+    asked = list(cases(maker, window))
+    lines = ""
+    for _, blob, key, second, user, by, known, _ in asked:
+        words = (user.encode(), by, known.encode())
+        lines += " ".join(["user", blob.hex(), key.hex(), str(second), *(it.hex() or "-" for it in words)]) + "\n"
+    ran = run([f"{built.sanitized}/foreign"], input=lines)
+    said = ran.stdout.splitlines()
+    count.check("logins are judged without a fault", ran.returncode == 0 and len(said) == len(asked), ran.stderr[-2000:])
+    under = run(["valgrind", "-q", "--leak-check=full", "--error-exitcode=9", f"{built.plain}/foreign"], input=lines)
+    count.check("and the same under valgrind", under.returncode == 0 and under.stdout.splitlines() == said, under.stderr[-2000:])
+    check_page(count, built, modules, maker)
+    for (name, blob, key, second, user, by, known, wanted), answer in zip(asked, said):
+        number = REFUSALS[wanted] if wanted in REFUSALS else int(sshkey.Status[wanted])
+        authorities = [by[at : at + 32] for at in range(0, len(by), 32)]
+        found = check.validate_user(
+            blob, key, second, user, authorities, lambda option, value, known=known: option == known and value != ""
+        )  # fmt: skip
+        same = int(found) == number and answer == f"{number} {check.MEANING.get(found, 'valid')}"
+        count.check(f"a login by a certificate: {name}", same, wanted, found, answer)
+
+
+# ---- what docs/FOREIGN.md shows
+
+PAGE = """\
+#include <inttypes.h>
+#include <stdio.h>
+#include <stdlib.h>
+#include <string.h>
+#include <time.h>
+#include "judge.h"
+#include "verify.h"
+int is_in_networks(void *client, const uint8_t *value, size_t length);
+uint32_t two_calls(const uint8_t *certificate, size_t length, const sshkey_sha256 *authorities, size_t authority_count);
+is_met_option *met(void);
+static void let_in(void) {{ puts("let in"); }}
+static void log_in(const char *authority_line, const char *line, blob key) {{
+size_t authority_length = strlen(authority_line), length = strlen(line);
+{0}}}
+{1}
+is_met_option *met(void) {{ return is_met; }}
+int is_in_networks(void *client, const uint8_t *value, size_t length) {{ return client && value && length; }}
+uint32_t two_calls(const uint8_t *certificate, size_t length, const sshkey_sha256 *authorities, size_t authority_count) {{
+{2}return answer; }}
+int main(int count, char **words) {{
+blob key;
+if (count != 4 || read_line(words[3], strlen(words[3]), SSHKEY_LINE_KEY, &key) != SSHKEY_DONE) return 1;
+log_in(words[1], words[2], key);
+free(key.bytes);
+return 0;
+}}
+"""
+
+
+def blocks(language):
+    with open(f"{ROOT}/docs/FOREIGN.md", encoding="utf-8") as file:
+        section = file.read().partition("\n## The lines that matter\n")[2].partition("\n## ")[0]
+    return re.findall(rf"^```{language}\n(.*?)^```", section, re.M | re.S)
+
+
+def said_by_page(modules, code, authority, line, key):
+    """What the lines in Python say."""
+    said = []
+    names = {"sshkey": modules[0], "check": modules[1], "time": time, "authority_line": authority, "line": line}
+    names.update({"key": blob_in(key), "let_in": lambda: said.append("let in")})
+    names["print"] = lambda *words: said.append(" ".join(words))
+    exec(code, names)
+    return said
+
+
+def check_page(count, built, modules, maker):
+    """The lines that docs/FOREIGN.md shows compile, and let the user in, and no other."""
+    path, code = f"{maker.folder}/page", blocks("c")
+    maker.write("page.c", PAGE.format(*code[:3]))
+    parts = [f"{path}.c", f"{built.sanitized}/judge.o", f"{built.sanitized}/verify.o", f"{built.sanitized}/libsshkey.a"]
+    made = run([*C, f"-I{EXAMPLES}/c", *SANITIZED.split(), *parts, "-lcrypto", "-o", path])
+    count.check("the C of docs/FOREIGN.md compiles", len(code) == 3 and made.returncode == 0, made.stderr[-2000:])
+    authority, own, other = (maker.read(f"{it}.pub") for it in ("authority0", "user0", "user1"))
+    good, strange = (maker.certificate("authority0", "user0", "-V", "-5m:+5m", "-n", it) for it in ("alice", "eve"))
+    for name, words, wanted in (
+        ("its user", (authority, good, own), "let in"),
+        ("another user's", (authority, strange, own), "refused: another principal (34)"),
+        ("another key", (authority, good, other), "refused: another key (103)"),
+    ):  # fmt: skip
+        ran = run([path, *words]) if made.returncode == 0 else made
+        by_c = [*ran.stdout.splitlines(), *ran.stderr.splitlines()]
+        by_python = said_by_page(modules, blocks("python")[0], *words)
+        same = by_c == [wanted] and len(by_python) == 1 and (by_python == ["let in"]) == (wanted == "let in")
+        count.check(f"the lines of docs/FOREIGN.md: {name}", same, by_c, by_python)

@@ -1,0 +1,197 @@
+"""Refused memory, for checks/foreign: of each call of the library in C each request for memory is refused in turn, over values of
+each kind and over bytes that are none; and the calls of which the header says so take none."""
+import base64
+import hashlib
+import re
+
+from lib.harness import ssh_keygen, string
+
+from .key_calls import all_of, encoded, keys_of, renamed, signed_by
+from .linked import HEADER, declared, run
+
+SPANS, NUMBERS = 7, 5
+# with a room, and so with one that is too short
+ROOMS = {
+    "certificate_question", "certificate_key", "certificate_to_be_signed", "certificate_signed", "read_line", "fingerprint_text",
+    "fingerprint_sha512_text", "plain_signature_question", "signature_question", "key_normal", "certificate_normal",
+    "signature_normal", "plain_signature_normal", "authorized_entry", "known_host", "entry_option",
+}  # fmt: skip
+# those that take memory only where the bytes are values, and of these those that take it only for a key under another name than
+# its own, as the header says
+OF_VALUES = {"certificate_normal", "plain_signature_question", "key_normal", "fingerprint_sha512"}
+OF_OTHER_NAMES = {"key_normal", "fingerprint_sha512"}
+OTHER_NAME = "rsa-sha2-256"
+# every how many-th is asked under valgrind too
+UNDER_VALGRIND = 5
+
+
+def blob_in(maker, name):
+    return base64.b64decode(maker.read(f"{name}.pub").split()[1])
+
+
+def of_certificate(blob, authority, second):
+    """Calls about a certificate for alice by the authority, with what they are given and what is wanted."""
+    by, alice = hashlib.sha256(authority).digest(), b"alice"
+    signed = blob.rindex(string(authority)) + len(string(authority))
+    for call in ("question", "fields", "parts", "key", "normal"):
+        yield f"certificate_{call}", [blob], [], "DONE"
+        yield f"certificate_{call}", [blob[:-1]], [], "LENGTH"
+        yield f"certificate_{call}", [blob + b"!"], [], "TRAILING_DATA"
+    yield "certificate_signed", [blob[:signed], blob[signed + 4 :]], [], "DONE"
+    yield "certificate_signed", [blob[:signed], blob[signed + 4 : -1]], [], "LENGTH"
+    for verified, wanted in ((1, "DONE"), (0, "NOT_SIGNED")):
+        yield "certificate_validate", [blob, b"", by], [second, verified], wanted
+        yield "certificate_validate_for", [blob, alice, by], [second, verified], wanted
+    yield "certificate_validate", [blob, b"", by], [0, 1], "OUT_OF_WINDOW"
+    yield "certificate_validate", [blob, b"", bytes(32)], [second, 1], "OTHER_AUTHORITY"
+    yield "certificate_validate", [blob[:-1], b"", by], [second, 1], "LENGTH"
+    yield "certificate_validate_for", [blob, b"eve", by], [second, 1], "OTHER_PRINCIPAL"
+    yield "certificate_validate_for", [blob, b"\xff", by], [second, 1], "TEXT"
+
+
+def of_key(blob):
+    for call in ("fingerprint", "fingerprint_sha512", "key_normal"):
+        yield call, [blob], [], "DONE"
+        yield call, [blob[:-1]], [], "LENGTH"
+        yield call, [blob + b"!"], [], "TRAILING_DATA"
+    line = f"{all_of(blob)[0].decode()} {encoded(blob)} a comment".encode()
+    yield "read_line", [line], [], "DONE"
+    yield "read_line", [line[:20]], [], "LENGTH"
+    yield "authorized_entry", [b'no-pty,command="ls -l" ' + line], [], "DONE"
+    yield "authorized_entry", [line], [], "DONE"
+    yield "known_host", [b"@revoked *.example.org,host " + line], [], "DONE"
+    for call in ("authorized_entry", "known_host"):
+        yield call, [b"\xff" + line], [], "TEXT"
+
+
+def of_signature(maker, key):
+    """Calls about what a key signs."""
+    file, (blob, message, signature) = maker.signature(key, "text"), signed_by(maker, key)
+    yield "signature_question", [file, b"file", b"text"], [], "DONE"
+    yield "signature_question", [file, b"git", b"text"], [], "OTHER_NAMESPACE"
+    yield "signature_question", [file[:-1], b"file", b"text"], [], "LENGTH"
+    yield "signature_normal", [file], [], "DONE"
+    yield "signature_normal", [file + b"!"], [], "TRAILING_DATA"
+    yield "plain_signature_question", [blob, message, signature], [], "DONE"
+    yield "plain_signature_question", [blob, message, signature[:-1]], [], "LENGTH"
+    yield "plain_signature_question", [blob + b"!", message, signature], [], "TRAILING_DATA"
+    yield "plain_signature_normal", [signature], [], "DONE"
+    yield "plain_signature_normal", [signature[:-1]], [], "LENGTH"
+
+
+def of_files(maker, key):
+    """Calls about files with the key, names of which are hashed."""
+    word, other = encoded(key).encode(), encoded(key[:-1] + bytes([key[-1] ^ 1])).encode()
+    path = maker.write("hashed", f"host,192.0.2.1 ssh-ed25519 {word.decode()}\n")
+    ssh_keygen("-q", "-H", "-f", path)
+    hashed = maker.read("hashed").encode() + b"\n"
+    yield "known_host", [hashed.split(b"\n")[0]], [], "DONE"
+    texts = {
+        "DONE": b"# a comment\n" + hashed, "HOST_CHANGED": b"host ssh-ed25519 " + other, "HOST_UNKNOWN": b"a ssh-ed25519 " + word,
+        "HOST_REVOKED": hashed + b"@revoked host ssh-ed25519 " + word, "HOST_UNREADABLE": hashed + b"host ssh-ed25519 AAAA",
+    }  # fmt: skip
+    for wanted, text in texts.items():
+        yield "host_verdict", [text, b"host", key], [22], wanted
+    yield "host_verdict", [hashed, b"\xff", key], [22], "TEXT"
+    yield "host_authority", [b"@cert-authority * ssh-ed25519 " + word, b"host", key], [22], "DONE"
+    yield "host_authority", [hashed, b"host", key], [22], "HOST_UNKNOWN"
+    yield "next_line", [hashed], [0], "DONE"
+    yield "next_line", [hashed], [len(hashed)], "END"
+    options = b'no-pty,command="say \\"hi\\""'
+    for number, wanted in ((0, "DONE"), (1, "DONE"), (2, "END")):
+        yield "entry_option", [options], [number], wanted
+    yield "entry_option", [b"command=ls"], [0], "FORMAT"
+    yield "entry_option", [b"\xff"], [0], "TEXT"
+
+
+def of_drafts(key, authority):
+    options = string(b"force-command") + string(string(b"ls"))
+    spans = [key, bytes(32), b"id", string(b"alice"), options, string(b"permit-pty") + string(b""), authority]
+    yield "certificate_to_be_signed", spans, [7, 1, 2, 1, 0], "DONE"
+    yield "certificate_to_be_signed", spans, [7, 1, 2, 3, 0], "FORMAT"
+    yield "certificate_to_be_signed", spans, [7, 2, 2, 1, 0], "EMPTY_WINDOW"
+    yield "certificate_to_be_signed", [key[:-1], *spans[1:]], [7, 1, 2, 1, 0], "LENGTH"
+    yield "certificate_option", [options], [0], "DONE"
+    yield "certificate_option", [options], [1], "LENGTH"
+    yield "string", [options], [0], "DONE"
+    yield "string", [options], [len(options)], "END"
+
+
+def cases(maker, kinds, second):
+    keys = dict(keys_of(maker))
+    for number, kind in enumerate(kinds):
+        yield from of_certificate(kind.blob, blob_in(maker, kind.authority), second)
+        yield "read_line", [kind.line.encode()], [], "DONE"
+        yield from of_signature(maker, f"user{number}")
+    for blob in keys.values():
+        yield from of_key(blob)
+        yield from of_drafts(blob, keys["ed25519"])
+        yield from of_drafts(keys["ed25519"], blob)
+    for call in ("fingerprint", "fingerprint_sha512", "key_normal"):
+        yield call, [renamed(keys["rsa -b 2048"], OTHER_NAME.encode())], [], "DONE"
+    yield "fingerprint_text", [bytes(32)], [], "DONE"
+    yield "fingerprint_sha512_text", [bytes(64)], [], "DONE"
+    yield from of_files(maker, keys["ed25519"])
+
+
+def question_of(call, spans, numbers, room):
+    words = [*(it.hex() or "-" for it in spans), *["-"] * (SPANS - len(spans))]
+    words += [*map(str, numbers), *["0"] * (NUMBERS - len(numbers))]
+    return " ".join(["memory", str(room), call, *words])
+
+
+def questions(sshkey, asked):
+    """Calls, questions and what is wanted, those with a room also with one of a byte."""
+    for call, spans, numbers, wanted in asked:
+        if call not in ROOMS:
+            yield call, question_of(call, spans, numbers, 0), sshkey.Status[wanted]
+            continue
+        yield call, question_of(call, spans, numbers, 2 * sum(map(len, spans)) + 512), sshkey.Status[wanted]
+        if wanted == "DONE":
+            yield call, question_of(call, spans, numbers, 1), sshkey.Status.ROOM
+
+
+def without_memory():
+    """The calls of which the header says that they take none."""
+    with open(HEADER, encoding="ascii") as file:
+        text = file.read()
+    found = re.findall(r"/\*((?:[^*]|\*(?!/))*)\*/\s*(uint32_t sshkey_\w+\([^;]*;(?:\s*uint32_t sshkey_\w+\([^;]*;)*)", text)
+    said = [calls for comment, calls in found if re.search(r"takes no memory", re.sub(r"[\s*]+", " ", comment), re.I)]
+    return {call for calls in said for call in re.findall(r"sshkey_(\w+)\(", calls)}
+
+
+def check_memory(count, built, sshkey, maker, kinds, second):
+    asked = list(questions(sshkey, cases(maker, kinds, second)))
+    lines = "".join(f"{it}\n" for _, it, _ in asked)
+    ran = run([f"{built.sanitized}/foreign"], input=lines)
+    said = ran.stdout.splitlines()
+    whole = ran.returncode == 0 and len(said) == len(asked)
+    count.check(f"{len(asked)} calls, each request of which is refused, have no fault", whole, ran.stderr[-2000:])
+    some = "".join(f"{it}\n" for _, it, _ in asked[::UNDER_VALGRIND])
+    under = run(["valgrind", "-q", "--leak-check=full", "--error-exitcode=9", f"{built.plain}/foreign"], input=some)
+    same = under.stdout.splitlines() == said[::UNDER_VALGRIND]
+    count.check("and none under valgrind, where they answer the same", under.returncode == 0 and same, under.stderr[-2000:])
+    taken = {}
+    for call in sorted({it.removeprefix("sshkey_") for it in declared()}):
+        here = [(wanted, question, answer) for (of, question, wanted), answer in zip(asked, said) if of == call]
+        wrong = [(it[1][:200], int(it[0]), it[2]) for it in here if not is_kept(it[0], it[2])]
+        taken[call] = [int(it[2].split()[1]) for it in here if not wrong]
+        name = f"{call}: {len(here)} calls, each of {sum(taken[call])} requests refused"
+        count.check(name, here and not wrong, *wrong[:3])
+    early = [it[1][:200] for it, answer in zip(asked, said) if takes_early(*it, answer)]
+    count.check("and the others take memory only where the header says", not early, *early[:3])
+    none, told = {call for call, made in taken.items() if not any(made)}, without_memory()
+    count.check("the header says of the calls that take no memory that they take none, and of no others", none == told, none ^ told)
+
+
+def takes_early(call, question, wanted, answer):
+    """Whether a call takes memory of which the header says otherwise."""
+    is_value, other = wanted in (0, 2), string(OTHER_NAME.encode()).hex() in question
+    return answer.split()[1] != "0" and (call in OF_VALUES and not is_value or call in OF_OTHER_NAMES and not other)
+
+
+def is_kept(wanted, answer):
+    """Whether the answer is the wanted one with memory, and SSHKEY_MEMORY where a request is refused with all behind it. Where it
+    alone is refused, a call answers that or, if it can do without, rightly; it may do without the first one."""
+    number, made, once, behind = answer.split() if answer.count(" ") == 3 else ("none", *"000")
+    return number == str(int(wanted)) and made == behind and int(made) - int(once) in (0, 1)
