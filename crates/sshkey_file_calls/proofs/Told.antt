@@ -9,7 +9,7 @@ use Rattle.sshkey_known_hosts.specs.declared.verdict.Verdict.{Verdict}
 use Rattle.sshkey_known_hosts.specs.declared.verdict.Verdict.TheVariants.{Changed, Revoked, Trusted, Unknown, Unreadable}
 use Rattle.sshkey_model.specs.Keys.{Key}
 use Rattle.sshkey_model.proofs.Blobs.{key_blobs}
-use Rattle.sshkey_file_calls.specs.Hmac.{hmac_sha1}
+use Rattle.sshkey_hmac.specs.Hmac.{hmac_sha1}
 use Rattle.sshkey_file_calls.specs.Verdicts.{IsAuthorityVerdict, TellsAuthority, TellsVerdict, is_grave, verdict_number}
 
 module _ (IsOne : (List ℕ → List ℕ → List ℕ) → List ℕ → Key → List (List ℕ) → Verdict → Type 0) (text host : List ℕ) (port : ℕ) (bytes own : List ℕ) (n : ℕ) (same : own ≡ bytes) where

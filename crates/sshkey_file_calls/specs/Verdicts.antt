@@ -8,7 +8,7 @@ use Rattle.sshkey_known_hosts.specs.Verdicts.{IsVerdict}
 use Rattle.sshkey_known_hosts.specs.declared.verdict.Verdict.{Verdict}
 use Rattle.sshkey_known_hosts.specs.declared.verdict.Verdict.TheVariants as verdict
 use Rattle.sshkey_model.specs.Keys.{Key}
-use Rattle.sshkey_file_calls.specs.Hmac.{hmac_sha1}
+use Rattle.sshkey_hmac.specs.Hmac.{hmac_sha1}
 
 abbrev pub verdict_number : Verdict → ℕ
 verdict_number verdict.Trusted = 0

@@ -12,13 +12,13 @@ ghost use Rattle.sshkey_model.specs.Keys.{IsKey, Key};
 ghost use Rattle.sshkey_model.specs.Reading.{Fault, whole};
 ghost use Rattle.sshkey_public.specs.PublicKeys.{public_of};
 ghost use Rattle.sshkey_calls.specs.Numbers.{fault_number};
-ghost use Rattle.sshkey_file_calls.specs.Hmac.{hmac_sha1};
+ghost use Rattle.sshkey_hmac.specs.Hmac.{hmac_sha1};
 ghost use Rattle.sshkey_file_calls.specs.Verdicts.{IsAuthorityVerdict, TellsAuthority, is_grave, verdict_number};
 
-use crate::hmac::Hmac;
 use crate::hosts::verdict_number;
 use sshkey_base::Result;
 use sshkey_calls::number::{MEMORY, TEXT, error_number};
+use sshkey_hmac::Hmac;
 use sshkey_keys::KeyData;
 use sshkey_keys::laws::compared_keys;
 use sshkey_keys_ref::KeyDataRef;

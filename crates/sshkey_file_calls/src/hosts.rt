@@ -11,18 +11,18 @@ ghost use Rattle.sshkey_known_hosts.specs.declared.verdict.Verdict.{Verdict};
 ghost use Rattle.sshkey_model.specs.Keys.{Key};
 ghost use Rattle.sshkey_model.specs.Reading.{Fault, whole};
 ghost use Rattle.sshkey_calls.specs.Numbers.{fault_number};
-ghost use Rattle.sshkey_file_calls.specs.Hmac.{hmac_sha1};
+ghost use Rattle.sshkey_hmac.specs.Hmac.{hmac_sha1};
 ghost use Rattle.sshkey_file_calls.specs.Verdicts.{TellsVerdict, verdict_number};
 
-use crate::hmac::Hmac;
 use sshkey_calls::number::{DONE, MEMORY, TEXT, error_number};
+use sshkey_hmac::Hmac;
 use sshkey_keys_ref::KeyDataRef;
 use sshkey_known_hosts::{Verdict, judge_key};
 use std::alloc::Global;
 use std::str;
 
 /// What a text of known_hosts says of the key that a host shows at a port
-/// (`sshkey_known_hosts::judge_key`). HMAC-SHA1 (RFC 2104), for hashed names, is computed here.
+/// (`sshkey_known_hosts::judge_key`). Hashed names are compared by the HMAC-SHA1 of `sshkey_hmac`.
 ///
 /// Returns 0 where the key is trusted, 50 where it is revoked, 51 where a line that cannot be read
 /// may be about the host, 52 where the host has another key, 53 where no line is for the host, 1 if
