@@ -12,8 +12,7 @@ mod hosts;
 mod lines;
 mod options;
 
-pub use authority::authority_verdict;
 pub use entries::{EntryParts, authorized_entry, known_host};
-pub use hosts::host_verdict;
+pub use hosts::{authority_verdict, host_verdict};
 pub use lines::next_line;
 pub use options::{OptionParts, nth_option};
