@@ -50,8 +50,8 @@ extern "C" {
 
 enum {
   SSHKEY_DONE = 0,   /* done; of a validation: it is valid */
-  SSHKEY_MEMORY = 1, /* malloc refused; nothing is said of the input, and nothing is kept: the call
-                        may be made again */
+  SSHKEY_MEMORY = 1, /* malloc refused; no verdict on the input, and nothing is kept: the call may
+                        be made again */
   SSHKEY_ROOM = 2,   /* the room is too short; `length` says how many bytes are needed */
   SSHKEY_END = 3,    /* the place is the end of the bytes */
   SSHKEY_TEXT = 4,   /* the principal is not UTF-8, or a line, options, a text of known_hosts or a
@@ -319,7 +319,8 @@ uint32_t sshkey_certificate_signed(const uint8_t *to_be_signed, size_t to_be_sig
 /* ---- keys ------------------------------------------------------------------------------------ */
 
 /* The SHA-256 fingerprint of the key of that blob, as sshkey_certificate_validate takes it.
- * SSHKEY_DONE exactly if the bytes are a key, SSHKEY_MEMORY aside; else 10 to 29. */
+ * SSHKEY_DONE exactly if the bytes are a key, SSHKEY_MEMORY aside, which is answered only for one
+ * that is not its normal form; else 10 to 29. */
 uint32_t sshkey_fingerprint(const uint8_t *key, size_t key_length, sshkey_sha256 *answer);
 
 /* How many bytes the text of a SHA-256 fingerprint has, as ssh-keygen shows it: "SHA256:" and 43
@@ -330,7 +331,7 @@ uint32_t sshkey_fingerprint(const uint8_t *key, size_t key_length, sshkey_sha256
  * where the room has fewer bytes, or SSHKEY_MEMORY. */
 uint32_t sshkey_fingerprint_text(const sshkey_sha256 *digest, uint8_t *room, size_t room_length);
 
-/* The same by SHA-512. SSHKEY_MEMORY only for an RSA key that is not in its normal form. */
+/* The same by SHA-512. */
 uint32_t sshkey_fingerprint_sha512(const uint8_t *key, size_t key_length, sshkey_sha512 *answer);
 
 /* "SHA512:" and 86 characters. */

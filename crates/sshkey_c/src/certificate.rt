@@ -1,7 +1,9 @@
 //! What has to be verified of a certificate, and whether it is valid.
 
-ghost use Rattle.std.specs.Prelude.{◌≡◌, Bool, Err};
+ghost use Rattle.std.specs.Prelude.{◌≡◌, ◌≢◌, Bool, Err};
 ghost use Rattle.std.specs.Str.{IsUtf8};
+ghost use Rattle.sshkey_base.specs.Acceptance.{SpellsSome};
+ghost use Rattle.sshkey_cert.specs.CertificateReaders.{SpellsCertificate};
 ghost use Rattle.sshkey_model.specs.Certificates.{certificate_at};
 ghost use Rattle.sshkey_model.specs.Reading.{Fault, whole};
 ghost use Rattle.sshkey_model.specs.Verification.{Question as TheQuestion};
@@ -28,6 +30,7 @@ pub extern "C" fn sshkey_certificate_question(
     ensures unsupported { TellsNone certificate.now result }
     ensures fault { (fault : Fault) → whole certificate_at certificate.now ≡ Err fault
         → result ≡ fault_number fault }
+    ensures memory { result ≡ 1 → SpellsSome SpellsCertificate certificate.now }
 {
     certificate_question(alloc, certificate, room, answer)
 }
@@ -48,6 +51,7 @@ pub extern "C" fn sshkey_certificate_validate(
         → TellsFirst accepts (authorities_of authorities.now) unix_time certificate.now result }
     ensures fault { (fault : Fault) → whole certificate_at certificate.now ≡ Err fault
         → result ≡ fault_number fault }
+    ensures memory { result ≡ 1 → SpellsSome SpellsCertificate certificate.now }
 {
     certificate_validate(alloc, certificate, unix_time, authorities, verified)
 }
@@ -73,6 +77,7 @@ pub extern "C" fn sshkey_certificate_validate_for(
     ensures fault { IsUtf8 principal.now → (fault : Fault)
         → whole certificate_at certificate.now ≡ Err fault → result ≡ fault_number fault }
     ensures text { (IsUtf8 principal.now → ⊥) → result ≡ 4 }
+    ensures memory { result ≡ 1 → SpellsSome SpellsCertificate certificate.now }
 {
     certificate_validate_for(
         alloc,
@@ -93,6 +98,7 @@ pub extern "C" fn sshkey_certificate_fields(
     ensures fields { GivesFields certificate.now result answer.new }
     ensures fault { (fault : Fault) → whole certificate_at certificate.now ≡ Err fault
         → result ≡ fault_number fault }
+    ensures memory { result ≢ 1 }
 {
     certificate_fields(certificate, answer)
 }

@@ -1,9 +1,11 @@
 //! How a certificate is made.
 
 ghost use Rattle.std.specs.Prelude.{◌≡◌, ◌≢◌, ℕ, List, Err};
+ghost use Rattle.sshkey_base.specs.Acceptance.{SpellsSome};
+ghost use Rattle.sshkey_keys.specs.Keys.{SpellsKey};
 ghost use Rattle.sshkey_model.specs.Certificates.{certificate_at};
 ghost use Rattle.sshkey_model.specs.Reading.{Fault, whole};
-ghost use Rattle.sshkey_calls.specs.Drafts.{IsJoined, IsSigned, IsToBeSigned, draft_fault};
+ghost use Rattle.sshkey_calls.specs.Drafts.{FitsString, IsJoined, IsSigned, IsToBeSigned, draft_fault};
 ghost use Rattle.sshkey_calls.specs.Numbers.{fault_number};
 ghost use Rattle.sshkey_calls.specs.Writing.{Writes};
 
@@ -20,6 +22,7 @@ pub extern "C" fn sshkey_certificate_to_be_signed(
 ) -> u32
     ensures written { Writes (IsToBeSigned draft.now) result length.new room.old room.new }
     ensures numbers { draft_fault draft.now ≢ 0 → result ≡ draft_fault draft.now }
+    ensures memory { result ≡ 1 → SpellsSome SpellsKey draft.now.key.now }
 {
     certificate_to_be_signed(alloc, draft, room, length)
 }
@@ -37,6 +40,7 @@ pub extern "C" fn sshkey_certificate_signed(
         result length.new room.old room.new }
     ensures fault { (s : List ℕ) (fault : Fault) → IsJoined to_be_signed.now signature.now s
         → whole certificate_at s ≡ Err fault → result ≢ 1 → result ≡ fault_number fault }
+    ensures memory { result ≡ 1 → FitsString signature.now }
 {
     certificate_signed(alloc, to_be_signed, signature, room, length)
 }

@@ -5,7 +5,7 @@ ghost use Rattle.std.specs.Str.{IsUtf8};
 ghost use Rattle.sshkey_authorized_keys.specs.OpenSshFaults as keys;
 ghost use Rattle.sshkey_entries.specs.OpenSshLines.{IsAuthorizedLine, IsHostLine};
 ghost use Rattle.sshkey_known_hosts.specs.OpenSshHosts as hosts;
-ghost use Rattle.sshkey_file_calls.specs.Entries.{FindsEntry, TellsFault, of_authorized_key, of_known_host};
+ghost use Rattle.sshkey_file_calls.specs.Entries.{FindsEntry, NeedsAuthorizedEntry, TellsFault, of_authorized_key, of_known_host};
 ghost use Rattle.sshkey_file_calls.specs.Lines.{FindsLine};
 ghost use Rattle.sshkey_file_calls.specs.Options.{FindsOption};
 
@@ -35,6 +35,7 @@ pub extern "C" fn sshkey_authorized_entry(
         result answer.new room.old room.new }
     ensures fault { IsUtf8 line.now → TellsFault keys.HasLineFault line.now result }
     ensures text { (IsUtf8 line.now → ⊥) → result ≡ 4 }
+    ensures memory { result ≡ 1 → NeedsAuthorizedEntry line.now }
 {
     authorized_entry(alloc, line, room, answer)
 }

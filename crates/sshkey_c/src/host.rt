@@ -2,7 +2,8 @@
 
 ghost use Rattle.std.specs.Prelude.{◌≡◌, Err};
 ghost use Rattle.std.specs.Str.{IsUtf8};
-ghost use Rattle.sshkey_keys.specs.Keys.{key_data_at};
+ghost use Rattle.sshkey_base.specs.Acceptance.{SpellsSome};
+ghost use Rattle.sshkey_keys.specs.Keys.{SpellsKey, key_data_at};
 ghost use Rattle.sshkey_model.specs.Reading.{Fault, whole};
 ghost use Rattle.sshkey_calls.specs.Numbers.{fault_number};
 ghost use Rattle.sshkey_file_calls.specs.Verdicts.{TellsAuthority, TellsVerdict};
@@ -24,6 +25,7 @@ pub extern "C" fn sshkey_host_verdict(
     ensures fault { IsUtf8 known_hosts.now → IsUtf8 host.now → (fault : Fault)
         → whole key_data_at key.now ≡ Err fault → result ≡ fault_number fault }
     ensures text { (IsUtf8 known_hosts.now → IsUtf8 host.now → ⊥) → result ≡ 4 }
+    ensures memory { result ≡ 1 → SpellsSome SpellsKey key.now }
 {
     host_verdict(alloc, known_hosts, host, port, key)
 }
@@ -43,6 +45,7 @@ pub extern "C" fn sshkey_host_authority(
     ensures fault { IsUtf8 known_hosts.now → IsUtf8 host.now → (fault : Fault)
         → whole key_data_at key.now ≡ Err fault → result ≡ fault_number fault }
     ensures text { (IsUtf8 known_hosts.now → IsUtf8 host.now → ⊥) → result ≡ 4 }
+    ensures memory { result ≡ 1 → SpellsSome SpellsKey key.now }
 {
     authority_verdict(alloc, known_hosts, host, port, key)
 }

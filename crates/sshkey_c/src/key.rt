@@ -14,7 +14,7 @@ use std::alloc::Global;
 /// The SHA-256 fingerprint of a key: `sshkey_calls::fingerprint`.
 #[unsafe(no_mangle)]
 pub extern "C" fn sshkey_fingerprint(alloc: Global, key: &[u8], answer: &mut Sha256Digest) -> u32
-    ensures fingerprint { GivesDigest key.now result answer.new.bytes }
+    ensures fingerprint { GivesDigest Sha256 key.now result answer.new.bytes }
     ensures fault { (fault : Fault) → whole key_data_at key.now ≡ Err fault
         → result ≡ fault_number fault }
 {

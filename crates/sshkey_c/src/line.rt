@@ -1,6 +1,7 @@
 //! Lines of key files and of certificate files.
 
-ghost use Rattle.sshkey_calls.specs.KeyLines.{Holds, Reads};
+ghost use Rattle.std.specs.Prelude.{◌≡◌};
+ghost use Rattle.sshkey_calls.specs.KeyLines.{Holds, NeedsLine, Reads};
 
 use sshkey_calls::{Line, read_line};
 use std::alloc::Global;
@@ -13,7 +14,8 @@ pub extern "C" fn sshkey_read_line(
     room: &mut [u8],
     answer: &mut Line,
 ) -> u32
-    ensures { Reads (Holds line.now) result answer.new room.old room.new }
+    ensures reads { Reads (Holds line.now) result answer.new room.old room.new }
+    ensures memory { result ≡ 1 → NeedsLine line.now }
 {
     read_line(alloc, line, room, answer)
 }

@@ -10,6 +10,7 @@ ghost use Rattle.sshkey_model.specs.Signatures.{signature_at};
 ghost use Rattle.sshkey_sshsig.specs.SshSignatureReaders.{ssh_signature_value_at};
 ghost use Rattle.sshkey_calls.specs.NormalForms.{IsNormalCertificate, IsNormalKey, IsNormalSignature, IsNormalSshSignature, IsRenamedKey};
 ghost use Rattle.sshkey_calls.specs.Numbers.{fault_number};
+ghost use Rattle.sshkey_calls.specs.Signatures.{NeedsSshSignature};
 ghost use Rattle.sshkey_calls.specs.Writing.{Writes};
 
 use sshkey_calls::{certificate_normal, key_normal, plain_signature_normal, signature_normal};
@@ -60,6 +61,7 @@ pub extern "C" fn sshkey_signature_normal(
         result len.new room.old room.new }
     ensures fault { (fault : Fault) → whole ssh_signature_value_at signature.now ≡ Err fault
         → result ≢ 1 → result ≡ fault_number fault }
+    ensures memory { result ≡ 1 → NeedsSshSignature signature.now }
 {
     signature_normal(alloc, signature, room, len)
 }

@@ -1,6 +1,8 @@
 //! What a certificate lists, and where it stands.
 
-ghost use Rattle.std.specs.Prelude.{◌≡◌, Err};
+ghost use Rattle.std.specs.Prelude.{◌≡◌, ◌≢◌, Err};
+ghost use Rattle.sshkey_base.specs.Acceptance.{SpellsSome};
+ghost use Rattle.sshkey_cert.specs.CertificateReaders.{SpellsCertificate};
 ghost use Rattle.sshkey_model.specs.Certificates.{certificate_at};
 ghost use Rattle.sshkey_model.specs.Reading.{Fault, whole};
 ghost use Rattle.sshkey_calls.specs.Drafts.{IsKeyOf};
@@ -20,6 +22,7 @@ pub extern "C" fn sshkey_certificate_parts(certificate: &[u8], answer: &mut Cert
     ensures parts { GivesParts certificate.now result answer.new }
     ensures fault { (fault : Fault) → whole certificate_at certificate.now ≡ Err fault
         → result ≡ fault_number fault }
+    ensures memory { result ≢ 1 }
 {
     certificate_parts(certificate, answer)
 }
@@ -35,6 +38,7 @@ pub extern "C" fn sshkey_certificate_key(
     ensures written { Writes (IsKeyOf certificate.now) result length.new room.old room.new }
     ensures fault { (fault : Fault) → whole certificate_at certificate.now ≡ Err fault
         → result ≡ fault_number fault }
+    ensures memory { result ≡ 1 → SpellsSome SpellsCertificate certificate.now }
 {
     certificate_key(alloc, certificate, room, length)
 }

@@ -5,9 +5,8 @@ ghost use Rattle.sshkey_keys.specs.Keys.{key_data_at};
 ghost use Rattle.sshkey_model.specs.Fingerprints.{digest_text};
 ghost use Rattle.sshkey_model.specs.Names.{Sha512};
 ghost use Rattle.sshkey_model.specs.Reading.{Fault, whole};
-ghost use Rattle.sshkey_calls.specs.Fingerprints.{Prints};
+ghost use Rattle.sshkey_calls.specs.Fingerprints.{GivesDigest, Prints};
 ghost use Rattle.sshkey_calls.specs.Numbers.{fault_number};
-ghost use Rattle.sshkey_calls.specs.Sha512.{GivesSha512};
 
 use sshkey_calls::{Sha512Digest, fingerprint_sha512, fingerprint_sha512_text};
 use std::alloc::Global;
@@ -19,7 +18,7 @@ pub extern "C" fn sshkey_fingerprint_sha512(
     key: &[u8],
     answer: &mut Sha512Digest,
 ) -> u32
-    ensures fingerprint { GivesSha512 key.now result answer.new.bytes }
+    ensures fingerprint { GivesDigest Sha512 key.now result answer.new.bytes }
     ensures fault { (fault : Fault) → whole key_data_at key.now ≡ Err fault
         → result ≡ fault_number fault }
 {

@@ -6,7 +6,7 @@ ghost use Rattle.sshkey_model.specs.SshSignatures.{SshSignature};
 ghost use Rattle.sshkey_sshsig.specs.SshSignatureReaders.{SpellsSshSignature, ssh_signature_value_at};
 ghost use Rattle.sshkey_calls.specs.Numbers.{fault_number};
 ghost use Rattle.sshkey_calls.specs.Questions.{Asks};
-ghost use Rattle.sshkey_calls.specs.Signatures.{IsSignerOf, RaisedBySignature, TellsNoneOfSignature};
+ghost use Rattle.sshkey_calls.specs.Signatures.{IsSignerOf, NeedsSshSignature, RaisedBySignature, TellsNoneOfSignature};
 
 use sshkey_calls::{Question, Sha256Digest, signature_question};
 use std::alloc::Global;
@@ -30,6 +30,7 @@ pub extern "C" fn sshkey_signature_question(
         → f.namespace ≢ namespace.now → result ≢ 1 → result ≡ 41 }
     ensures fault { (fault : Fault) → whole ssh_signature_value_at signature.now ≡ Err fault
         → result ≢ 1 → result ≡ fault_number fault }
+    ensures memory { result ≡ 1 → NeedsSshSignature signature.now }
 {
     signature_question(alloc, signature, namespace, message, room, answer, signer)
 }

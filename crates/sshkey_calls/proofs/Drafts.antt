@@ -46,6 +46,14 @@ unfolding flat BoxesFit
 too_long b e n (inl long) memory other short = long.0 (short, tt)
 too_long b e n (inr out) memory other short = other (memory (ap (λ (x : narrow.Error). cause (widened x)) out.1))
 
+-- it is out of memory only for a string that is short enough
+pub short_or_long : (b : List ℕ) (e : narrow.Error) (n : ℕ) → ((BoxesFit (string b) → ⊥) × (e ≡ encoding.Length)) ⊎ (BoxesFit (string b) × (e ≡ encoding.Memory)) → (cause (widened e) ≢ NoMemory → (9 < n) × (n < 30)) → n ≡ 1 → length b < 2 ^ 32
+unfolding flat BoxesFit
+short_or_long b e n (inl long) range one =
+    let r = range (λ memory. cc (sym (ap (λ (x : narrow.Error). cause (widened x)) long.1) ∙ memory)) in
+    absurd (omega (arith, one, r.0))
+short_or_long b e n (inr out) range one = out.0.0
+
 -- ---- the bytes spell one value only
 
 pub one_key : (k l : Key) (b : List ℕ) → SpellsKey k b → SpellsKey l b → k ≡ l

@@ -8,9 +8,12 @@ use Rattle.sshkey_model.specs.Lines.{IsLine, IsLineOf, IsNoLine, key_name, name_
 use Rattle.sshkey_model.specs.Texts.{IsText}
 use Rattle.sshkey_model.proofs.Blobs.{certificate_blobs, key_blobs}
 use Rattle.sshkey_model.proofs.CombinedReaders.{bytes_fit}
+use Rattle.sshkey_keys.specs.KeyFormats.{key_format}
 use Rattle.sshkey_keys.specs.Keys.{SpellsKey}
+use Rattle.sshkey_public.specs.LineNeeds.{HasComment, NeedsValue}
+use Rattle.sshkey_cert.specs.CertificateFormats.{certificate_format}
 use Rattle.sshkey_cert.specs.CertificateReaders.{SpellsCertificate}
-use Rattle.sshkey_calls.specs.KeyLines.{Content, Holds, IsContent, IsLaidOutLine, Reads, content_of}
+use Rattle.sshkey_calls.specs.KeyLines.{Content, Holds, IsContent, IsLaidOutLine, NeedsLine, Reads, content_of}
 use Rattle.sshkey_calls.specs.Rooms.{Fills}
 use Rattle.sshkey_calls.specs.declared.line.Line.{Line}
 
@@ -133,3 +136,26 @@ fault_told text of_key of_certificate n answer before after no_key range no_cert
       | inl key ↦ omega (arith, key, two, range.0)
       | inr certificate ↦ apart (sym certificate ∙ two)
     ])
+
+-- ---- memory
+
+-- for a line
+pub needs_key_line : (text : List ℕ) (k : Key) (comment : List ℕ) → IsLineOf key_name SpellsKey text k comment → NeedsLine text
+needs_key_line text k comment line = inr (inr (content_of 1 line.blob comment, inl (refl, (k, line.spelled, line.line))))
+
+pub needs_certificate_line : (text : List ℕ) (c : Certificate) (comment : List ℕ) → IsLineOf name_of_certificate SpellsCertificate text c comment → NeedsLine text
+needs_certificate_line text c comment line = inr (inr (content_of 2 line.blob comment, inr (refl, (c, line.spelled, line.line))))
+
+-- or for its bytes
+pub needs_key : (text : List ℕ) → NeedsValue key_format.needs text ⊎ HasComment key_name SpellsKey text → NeedsLine text
+needs_key text (inl value) = inl value
+needs_key text (inr has) = needs_key_line text has.value has.comment has.line
+
+pub needs_certificate : (text : List ℕ) → NeedsValue certificate_format.needs text ⊎ HasComment name_of_certificate SpellsCertificate text → NeedsLine text
+needs_certificate text (inl value) = inr (inl value)
+needs_certificate text (inr has) = needs_certificate_line text has.value has.comment has.line
+
+-- One of the two faults is memory only where that of the certificate is.
+pub memory_of : (of_key of_certificate n : ℕ) → 9 < of_key → (n ≡ of_key) ⊎ (n ≡ of_certificate) → n ≡ 1 → of_certificate ≡ 1
+memory_of of_key of_certificate n big (inl key) one = absurd (omega (arith, big, key, one))
+memory_of of_key of_certificate n big (inr certificate) one = sym certificate ∙ one

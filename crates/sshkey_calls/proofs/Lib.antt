@@ -2,6 +2,7 @@ pub mod Kept
 pub mod Laid
 pub mod Strings
 pub mod Questions
+pub mod Digests
 pub mod Signatures
 pub mod Verdicts
 pub mod KeyLines

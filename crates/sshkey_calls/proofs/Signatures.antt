@@ -1,5 +1,6 @@
 -- The one SSH signature that bytes spell.
 use Rattle.std.proofs.Common.{◌≡◌, ◌≢◌, ℕ, List, [], Some, None, refl, subst, ap, ◌∙◌}
+use Rattle.sshkey_model.specs.Names.{Sha256}
 use Rattle.sshkey_model.specs.SignedMessages.{signed_by}
 use Rattle.sshkey_model.specs.SshSignatures.{SshSignature}
 use Rattle.sshkey_model.specs.Verification as model
@@ -32,8 +33,8 @@ module _ (f : SshSignature) (bytes namespace message : List ℕ) (spelled : Spel
   pub none_of_each : (g : SshSignature) → SpellsSshSignature g bytes → model.question g.key (signed_by g message) g.signature ≡ None → model.question f.key (signed_by f message) f.signature ≡ None
   none_of_each g other none = subst (λ (x : SshSignature). model.question x.key (signed_by x message) x.signature ≡ None) (one_signature g f bytes other spelled) none
 
-  pub digest_of_each : (digest : List ℕ) → GivesDigestOf f.key digest → (g : SshSignature) → SpellsSshSignature g bytes → GivesDigestOf g.key digest
-  digest_of_each digest is g other = subst (λ (x : SshSignature). GivesDigestOf x.key digest) (one_signature f g bytes spelled other) is
+  pub digest_of_each : (digest : List ℕ) → GivesDigestOf Sha256 f.key digest → (g : SshSignature) → SpellsSshSignature g bytes → GivesDigestOf Sha256 g.key digest
+  digest_of_each digest is g other = subst (λ (x : SshSignature). GivesDigestOf Sha256 x.key digest) (one_signature f g bytes spelled other) is
 
 -- what is in that namespace by one reading is so by the other
 pub namespace_of_each : (f : SshSignature) (bytes namespace : List ℕ) (g : SshSignature) → SpellsSshSignature f bytes → SpellsSshSignature g bytes → g.namespace ≡ namespace → f.namespace ≡ namespace

@@ -74,9 +74,13 @@ draft_fault d = first_of (
 
 -- ---- signed
 
+-- a string can hold the bytes
+abbrev pub FitsString : List ℕ → Type 0
+FitsString b = length b < 2 ^ 32
+
 -- the bytes of a certificate: those that were signed, and the signature in a string
 abbrev pub IsJoined : List ℕ → List ℕ → List ℕ → Type 0
-IsJoined to_be_signed signature s = (s ≡ to_be_signed ++ flat (string signature)) × (length signature < 2 ^ 32)
+IsJoined to_be_signed signature s = (s ≡ to_be_signed ++ flat (string signature)) × FitsString signature
 
 abbrev pub IsSigned : List ℕ → List ℕ → List ℕ → Type 0
 IsSigned to_be_signed signature s = IsJoined to_be_signed signature s × (c : Certificate) × SpellsCertificate c s

@@ -2,16 +2,18 @@
 use Rattle.std.specs.Prelude.{◌≡◌, ◌≢◌, ◌<◌, ℕ, List, ◌++◌, length, drop}
 use Rattle.sshkey_model.specs.Fingerprints.{fingerprint}
 use Rattle.sshkey_model.specs.Keys.{Key}
-use Rattle.sshkey_model.specs.Names.{Sha256}
+use Rattle.sshkey_model.specs.Names.{Hash}
 use Rattle.sshkey_keys.specs.Keys.{SpellsKey}
+use Rattle.sshkey_calls.specs.NormalForms.{IsRenamedKey}
 
--- it is the digest of the key's fingerprint
-abbrev pub GivesDigestOf : Key → List ℕ → Type 0
-GivesDigestOf k digest = digest ≡ (fingerprint Sha256 k).digest
+-- it is the digest of the key's fingerprint by that hash
+abbrev pub GivesDigestOf : Hash → Key → List ℕ → Type 0
+GivesDigestOf h k digest = digest ≡ (fingerprint h k).digest
 
--- 0 and the digest of the key that the bytes spell; 1 is memory, and says nothing; every other number says that they spell none.
-pub record GivesDigest (bytes : List ℕ) (n : ℕ) (digest : List ℕ) : Type 0 where
-  pub given : n ≡ 0 → (k : Key) × SpellsKey k bytes × GivesDigestOf k digest
+-- 0 and the digest of the key that the bytes spell; 1 is memory, and only for a key that is not in its normal form; every other number says that they spell none.
+pub record GivesDigest (h : Hash) (bytes : List ℕ) (n : ℕ) (digest : List ℕ) : Type 0 where
+  pub given : n ≡ 0 → (k : Key) × SpellsKey k bytes × GivesDigestOf h k digest
+  pub memory : n ≡ 1 → IsRenamedKey bytes
   pub none : n ≢ 0 → n ≢ 1 → (k : Key) → SpellsKey k bytes → ⊥
 
 -- 0, and the text stands at the front of the room; 2, and nothing was written, for the room is shorter than the text; or 1, for memory.

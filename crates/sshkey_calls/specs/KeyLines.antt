@@ -1,7 +1,10 @@
 -- What is answered of a line of a key file or of a certificate file.
 use Rattle.std.specs.Prelude.{◌≡◌, ◌≢◌, ◌⊎◌, ℕ, ◌<◌, ◌+◌, List, ◌++◌, length}
 use Rattle.sshkey_model.specs.Lines.{IsLine, key_name, name_of_certificate}
+use Rattle.sshkey_keys.specs.KeyFormats.{key_format}
 use Rattle.sshkey_keys.specs.Keys.{SpellsKey}
+use Rattle.sshkey_public.specs.LineNeeds.{NeedsValue}
+use Rattle.sshkey_cert.specs.CertificateFormats.{certificate_format}
 use Rattle.sshkey_cert.specs.CertificateReaders.{SpellsCertificate}
 use Rattle.sshkey_calls.specs.Rooms.{bytes_of, IsWithin}
 use Rattle.sshkey_calls.specs.declared.line.Line.{Line}
@@ -22,6 +25,10 @@ IsLineWith {V} name Spells text x = (v : V) × Spells v x.blob × IsLine text (n
 -- the text is the line of a key or of a certificate, and that is what it holds
 abbrev pub Holds : List ℕ → Content → Type 0
 Holds text x = ((x.kind ≡ 1) × IsLineWith key_name SpellsKey text x) ⊎ ((x.kind ≡ 2) × IsLineWith name_of_certificate SpellsCertificate text x)
+
+-- Memory may be asked for: by the bytes of the second word, as those of a key or of a certificate, or for what the line holds.
+abbrev pub NeedsLine : List ℕ → Type 0
+NeedsLine text = NeedsValue key_format.needs text ⊎ (NeedsValue certificate_format.needs text ⊎ ((x : Content) × Holds text x))
 
 -- The answer is the content: each part of the room that it names has that field of it, and together they take that many bytes.
 pub record IsContent (x : Content) (line : Line) (room : List ℕ) : Type 0 where

@@ -9,7 +9,6 @@ pub mod Verdicts
 pub mod KeyLines
 pub mod NormalForms
 pub mod PlainSignatures
-pub mod Sha512
 pub mod Lists
 pub mod Options
 pub mod Writing

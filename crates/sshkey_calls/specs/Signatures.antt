@@ -1,8 +1,11 @@
 -- What is answered of an SSH signature (PROTOCOL.sshsig).
-use Rattle.std.specs.Prelude.{◌≡◌, ◌≢◌, ℕ, List, Some, None}
+use Rattle.std.specs.Prelude.{◌≡◌, ◌≢◌, ◌⊎◌, ℕ, List, Some, None}
+use Rattle.sshkey_model.specs.Names.{Sha256}
 use Rattle.sshkey_model.specs.SignedMessages.{signed_by}
 use Rattle.sshkey_model.specs.SshSignatures.{SshSignature}
 use Rattle.sshkey_model.specs.Verification as model
+use Rattle.sshkey_base.specs.Acceptance.{SpellsSome}
+use Rattle.sshkey_sshsig.specs.SshSignatureFormats.{ssh_signature_format}
 use Rattle.sshkey_sshsig.specs.SshSignatureReaders.{SpellsSshSignature}
 use Rattle.sshkey_calls.specs.Fingerprints.{GivesDigestOf}
 
@@ -19,4 +22,8 @@ TellsNoneOfSignature bytes namespace message n = (f : SshSignature) → SpellsSs
 
 -- the digest is the fingerprint of the key of the SSH signature that the bytes spell
 abbrev pub IsSignerOf : List ℕ → List ℕ → Type 0
-IsSignerOf bytes digest = (f : SshSignature) → SpellsSshSignature f bytes → GivesDigestOf f.key digest
+IsSignerOf bytes digest = (f : SshSignature) → SpellsSshSignature f bytes → GivesDigestOf Sha256 f.key digest
+
+-- Memory may be asked for: by a part that stands whole before the first fault, or for the SSH signature that the bytes spell.
+abbrev pub NeedsSshSignature : List ℕ → Type 0
+NeedsSshSignature bytes = ssh_signature_format.needs bytes 0 ⊎ SpellsSome SpellsSshSignature bytes

@@ -1,6 +1,8 @@
 //! The key that a certificate certifies.
 
 ghost use Rattle.std.specs.Prelude.{◌≡◌, Err, IfOk};
+ghost use Rattle.sshkey_base.specs.Acceptance.{SpellsSome};
+ghost use Rattle.sshkey_cert.specs.CertificateReaders.{SpellsCertificate};
 ghost use Rattle.sshkey_cert_ref.specs.CertificateRef.{certificate_of};
 ghost use Rattle.sshkey_model.specs.Certificates.{certificate_at};
 ghost use Rattle.sshkey_model.specs.Keys.{normal_key};
@@ -30,6 +32,7 @@ pub fn certificate_key(
     ensures written { Writes (IsKeyOf certificate.now) result length.new room.old room.new }
     ensures fault { (fault : Fault) → whole certificate_at certificate.now ≡ Err fault
         → result ≡ fault_number fault }
+    ensures memory { result ≡ 1 → SpellsSome SpellsCertificate certificate.now }
 {
     match CertificateRef::from_bytes(certificate) {
         Ok(read) => write_key(alloc, &read, room, length),

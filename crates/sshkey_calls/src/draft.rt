@@ -1,6 +1,8 @@
 //! Certificates that are to be signed.
 
 ghost use Rattle.std.specs.Prelude.{◌≡◌, ◌≢◌};
+ghost use Rattle.sshkey_base.specs.Acceptance.{SpellsSome};
+ghost use Rattle.sshkey_keys.specs.Keys.{SpellsKey};
 ghost use Rattle.sshkey_model.specs.Certificates.{normal_to_be_signed};
 ghost use Rattle.sshkey_model.specs.Parts.{Fits, flat};
 ghost use Rattle.sshkey_to_be_signed.specs.ToBeSignedValues.{to_be_signed_of};
@@ -51,7 +53,8 @@ pub struct CertificateDraft<'a> {
 /// first: 15 for a type that is neither 1 nor 2, 19 for a time above 2^63 - 1, 46 for a window that
 /// is empty, 45 where no principals are listed and `all_principals` is not 1, or some are and it
 /// is; then from 10 to 29 the fault of a key, of the key id, of principals or of options, 12 for a
-/// key under a private-use name, and 13 for what does not fit a string.
+/// key under a private-use name, and 13 for what does not fit a string. Memory is taken only where
+/// the numbers are right and a key is spelled that is to be certified.
 pub fn certificate_to_be_signed(
     alloc: Global,
     draft: &CertificateDraft<'_>,
@@ -60,6 +63,7 @@ pub fn certificate_to_be_signed(
 ) -> u32
     ensures written { Writes (IsToBeSigned draft.now) result length.new room.old room.new }
     ensures numbers { draft_fault draft.now ≢ 0 → result ≡ draft_fault draft.now }
+    ensures memory { result ≡ 1 → SpellsSome SpellsKey draft.now.key.now }
 {
     match fields_of(alloc, draft) {
         Ok(fields) => write_fields(alloc, &fields, room, length),

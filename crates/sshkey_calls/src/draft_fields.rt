@@ -1,6 +1,7 @@
 //! The fields that a draft tells. Each is read, or gives the number to answer with.
 
-ghost use Rattle.std.specs.Prelude.{◌≡◌, ◌≢◌, ◌<◌, ◌^◌, ◌↔◌, Err, IfErr, IfOk, IsTrue, length};
+ghost use Rattle.std.specs.Prelude.{◌≡◌, ◌≢◌, ◌<◌, ◌↔◌, Err, IfErr, IfOk, IsTrue};
+ghost use Rattle.sshkey_base.specs.Acceptance.{SpellsSome};
 ghost use Rattle.sshkey_base.specs.TextLists.{SpellsTexts, texts_of};
 ghost use Rattle.sshkey_keys.specs.Keys.{SpellsKey, key_of};
 ghost use Rattle.sshkey_model.specs.Parts.{flat};
@@ -8,7 +9,7 @@ ghost use Rattle.sshkey_model.specs.Texts.{IsText, string};
 ghost use Rattle.sshkey_options.specs.OptionMaps.{options_of};
 ghost use Rattle.sshkey_options.specs.OptionReaders.{SpellsOptions};
 ghost use Rattle.sshkey_to_be_signed.specs.ToBeSignedValues.{to_be_signed_of};
-ghost use Rattle.sshkey_calls.specs.Drafts.{IsCertifiable, Tells, TellsNumbers, draft_fault};
+ghost use Rattle.sshkey_calls.specs.Drafts.{FitsString, IsCertifiable, Tells, TellsNumbers, draft_fault};
 ghost use Rattle.sshkey_calls.specs.Writing.{Finds};
 
 use crate::draft::CertificateDraft;
@@ -28,6 +29,7 @@ use std::str;
 pub(crate) fn fields_of(alloc: Global, draft: &CertificateDraft<'_>) -> Result<ToBeSigned, u32>
     ensures fields { Finds (Tells draft.now) to_be_signed_of result }
     ensures numbers { draft_fault draft.now ≢ 0 → result ≡ Err (draft_fault draft.now) }
+    ensures memory { IfErr result (λ n. n ≡ 1 → SpellsSome SpellsKey draft.now.key.now) }
 {
     match numbers_of(draft) {
         Ok((cert_type, valid_after, valid_before)) => {
@@ -46,7 +48,8 @@ fn fields_with(
     valid_before: EndTime,
 ) -> Result<ToBeSigned, u32>
     requires { TellsNumbers draft.now cert_type valid_after valid_before }
-    ensures { Finds (Tells draft.now) to_be_signed_of result }
+    ensures fields { Finds (Tells draft.now) to_be_signed_of result }
+    ensures memory { IfErr result (λ n. n ≡ 1 → SpellsSome SpellsKey draft.now.key.now) }
 {
     let public_key = certifiable_key(alloc, draft.key)?;
     let signature_key = key_from(alloc, draft.authority)?;
@@ -98,7 +101,8 @@ fn numbers_of(draft: &CertificateDraft<'_>) -> Result<(CertType, UnixTime, EndTi
 
 /// The key that all the bytes spell, which is not one under a private-use name.
 fn certifiable_key(alloc: Global, blob: &[u8]) -> Result<KeyData, u32>
-    ensures { Finds (λ k. SpellsKey k blob.now × IsCertifiable k) key_of result }
+    ensures key { Finds (λ k. SpellsKey k blob.now × IsCertifiable k) key_of result }
+    ensures memory { IfErr result (λ n. n ≡ 1 → SpellsSome SpellsKey blob.now) }
 {
     let key = key_from(alloc, blob)?;
     if is_certifiable(&key) {
@@ -125,7 +129,8 @@ fn is_certifiable(key: &KeyData) -> bool
 
 /// The key that all the bytes spell.
 fn key_from(alloc: Global, blob: &[u8]) -> Result<KeyData, u32>
-    ensures { Finds (λ k. SpellsKey k blob.now) key_of result }
+    ensures key { Finds (λ k. SpellsKey k blob.now) key_of result }
+    ensures memory { IfErr result (λ n. n ≡ 1 → SpellsSome SpellsKey blob.now) }
 {
     match KeyDataRef::from_bytes(blob) {
         Ok(read) => match read.to_key_data(alloc) {
@@ -183,8 +188,9 @@ fn options_from(alloc: Global, options: &[u8]) -> Result<OptionsMap, u32>
 
 /// The bytes as a string, which has four bytes for their number.
 pub(crate) fn string_of(alloc: Global, bytes: &[u8]) -> Result<Vec<u8>, u32>
-    ensures { Finds (λ s. (s ≡ flat (string bytes.now)) × (length bytes.now < 2 ^ 32))
+    ensures string { Finds (λ s. (s ≡ flat (string bytes.now)) × FitsString bytes.now)
         (λ string. string.items) result }
+    ensures memory { IfErr result (λ n. n ≡ 1 → FitsString bytes.now) }
 {
     match encode_vec(alloc, &bytes) {
         Ok(string) => Ok(string),

@@ -1,6 +1,6 @@
 //! Fields of certificates.
 
-ghost use Rattle.std.specs.Prelude.{◌≡◌, ◌↔◌, Err, IsTrue};
+ghost use Rattle.std.specs.Prelude.{◌≡◌, ◌≢◌, ◌↔◌, Err, IsTrue};
 ghost use Rattle.sshkey_cert_ref.specs.CertificateRef.{certificate_of};
 ghost use Rattle.sshkey_model.specs.Certificates.{certificate_at, type_number};
 ghost use Rattle.sshkey_model.specs.Reading.{Fault, whole};
@@ -37,6 +37,7 @@ pub fn certificate_fields(certificate: &[u8], answer: &mut CertificateFields) ->
     ensures fields { GivesFields certificate.now result answer.new }
     ensures fault { (fault : Fault) → whole certificate_at certificate.now ≡ Err fault
         → result ≡ fault_number fault }
+    ensures memory { result ≢ 1 }
 {
     match CertificateRef::from_bytes(certificate) {
         Ok(read) => {

@@ -3,6 +3,7 @@
 ghost use Rattle.std.specs.Prelude.{◌≡◌, ◌≢◌, Err};
 ghost use Rattle.sshkey_keys.specs.Keys.{SpellsKey, key_data_at};
 ghost use Rattle.sshkey_keys_ref.specs.KeyDataRef.{key_bytes};
+ghost use Rattle.sshkey_keys_ref.specs.NormalBytes.{IsRenamed};
 ghost use Rattle.sshkey_model.specs.Fingerprints.{digest_text};
 ghost use Rattle.sshkey_model.specs.Keys.{Key};
 ghost use Rattle.sshkey_model.specs.Names.{Sha256};
@@ -24,7 +25,7 @@ use std::alloc::Global;
 /// Returns 0 if they spell one, 1 if memory ran out, and else from 10 to 29 their fault. Memory is
 /// taken only for an RSA key under another name than `ssh-rsa`.
 pub fn fingerprint(alloc: Global, key: &[u8], answer: &mut Sha256Digest) -> u32
-    ensures fingerprint { GivesDigest key.now result answer.new.bytes }
+    ensures fingerprint { GivesDigest Sha256 key.now result answer.new.bytes }
     ensures fault { (fault : Fault) → whole key_data_at key.now ≡ Err fault
         → result ≡ fault_number fault }
 {
@@ -37,8 +38,8 @@ pub fn fingerprint(alloc: Global, key: &[u8], answer: &mut Sha256Digest) -> u32
 /// The same of a key that was read.
 fn write_digest(alloc: Global, key: &KeyDataRef<'_>, answer: &mut Sha256Digest) -> u32
     ensures digest { result ≡ 0 → (k : Key) × SpellsKey k (key_bytes key.now)
-        × GivesDigestOf k answer.new.bytes }
-    ensures only { result ≢ 0 → result ≡ 1 }
+        × GivesDigestOf Sha256 k answer.new.bytes }
+    ensures memory { result ≢ 0 → (result ≡ 1) × IsRenamed (key_bytes key.now) }
 {
     let Ok(fingerprint) = key.fingerprint(alloc, HashAlg::Sha256) else {
         return MEMORY;
@@ -48,7 +49,7 @@ fn write_digest(alloc: Global, key: &KeyDataRef<'_>, answer: &mut Sha256Digest) 
             answer.bytes = bytes;
             DONE
         }
-        None => MEMORY,
+        None => unreachable!(),
     }
 }
 

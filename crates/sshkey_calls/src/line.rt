@@ -4,7 +4,7 @@ ghost use Rattle.std.specs.Prelude.{◌≡◌, ◌⊎◌, ◌<◌, ◌++◌, IfO
 ghost use Rattle.base64.specs.GeneralPurpose.{IsBytes};
 ghost use Rattle.sshkey_keys.specs.Keys.{SpellsKey};
 ghost use Rattle.sshkey_model.specs.Lines.{IsCut, IsLine, IsNoLine, IsWithout, after_space, key_name, space};
-ghost use Rattle.sshkey_calls.specs.KeyLines.{Holds, IsLaidOutLine, Reads, content_of};
+ghost use Rattle.sshkey_calls.specs.KeyLines.{Holds, IsLaidOutLine, NeedsLine, Reads, content_of};
 
 use crate::number::{DONE, MEMORY, ROOM, error_number};
 use crate::part::{Part, add, write_to};
@@ -46,11 +46,13 @@ const LABEL: u32 = 12;
 /// Returns 0 with blob and comment in the room, 2 where the room is too short for them, 1 if memory
 /// ran out, and else from 10 to 29 the fault of a line of neither: 10 for what is not canonical
 /// Base64, 13 for a word that is missing, 16 for another first word than the name. With 2 the
-/// answer says how much room is needed, and the room is as it was.
+/// answer says how much room is needed, and the room is as it was. Memory is taken only where the
+/// bytes of the second word need some, or for the line of a key or of a certificate.
 ///
 /// A line end within the line is part of the comment.
 pub fn read_line(alloc: Global, line: &[u8], room: &mut [u8], answer: &mut Line) -> u32
-    ensures { Reads (Holds line.now) result answer.new room.old room.new }
+    ensures reads { Reads (Holds line.now) result answer.new room.old room.new }
+    ensures memory { result ≡ 1 → NeedsLine line.now }
 {
     match str::from_utf8(line) {
         Ok(text) => read_text(alloc, text, room, answer),
@@ -60,7 +62,8 @@ pub fn read_line(alloc: Global, line: &[u8], room: &mut [u8], answer: &mut Line)
 
 /// The same of a text.
 fn read_text(alloc: Global, text: &str, room: &mut [u8], answer: &mut Line) -> u32
-    ensures { Reads (Holds text.now) result answer.new room.old room.new }
+    ensures reads { Reads (Holds text.now) result answer.new room.old room.new }
+    ensures memory { result ≡ 1 → NeedsLine text.now }
 {
     match sshkey_public::read_line::<KeyData>(alloc, text) {
         Ok(read) => tell(alloc, text, read.1.as_str(), KEY, room, answer),
@@ -84,7 +87,8 @@ fn read_certificate(
 ) -> u32
     requires none { IsNoLine key_name SpellsKey text.now }
     requires fault { (9 < key_fault) × (key_fault < 30) }
-    ensures { Reads (Holds text.now) result answer.new room.old room.new }
+    ensures reads { Reads (Holds text.now) result answer.new room.old room.new }
+    ensures memory { result ≡ 1 → NeedsLine text.now }
 {
     match sshkey_public::read_line::<Certificate>(alloc, text) {
         Ok(read) => tell(alloc, text, read.1.as_str(), CERTIFICATE, room, answer),
@@ -129,7 +133,8 @@ fn tell(
 /// The blob of a line and the comment behind it, and where they are.
 fn laid_out(alloc: Global, text: &str, comment: &str, kind: u32) -> Result<(Vec<u8>, Line)>
     ensures { (first blob : List ℕ) → IsLine text.now first blob comment.now → IsBytes blob
-        → IfOk result (λ laid. IsLaidOutLine (content_of kind blob comment.now) laid.0.items laid.1) }
+        → IfOk result (λ laid. IsLaidOutLine (content_of kind blob comment.now)
+        laid.0.items laid.1) }
 {
     let mut content = blob_in(alloc, text)?;
     let blob = Part {

@@ -1,6 +1,6 @@
 //! Where the parts of a certificate stand in its bytes.
 
-ghost use Rattle.std.specs.Prelude.{◌≡◌, ◌-◌, Err};
+ghost use Rattle.std.specs.Prelude.{◌≡◌, ◌≢◌, ◌-◌, Err};
 ghost use Rattle.sshkey_cert_ref.specs.CertificateRef.{certificate_bytes, certificate_of};
 ghost use Rattle.sshkey_model.specs.Certificates.{certificate_at};
 ghost use Rattle.sshkey_model.specs.Reading.{Fault, whole};
@@ -36,6 +36,7 @@ pub fn certificate_parts(certificate: &[u8], answer: &mut CertificateParts) -> u
     ensures parts { GivesParts certificate.now result answer.new }
     ensures fault { (fault : Fault) → whole certificate_at certificate.now ≡ Err fault
         → result ≡ fault_number fault }
+    ensures memory { result ≢ 1 }
 {
     match CertificateRef::from_bytes(certificate) {
         Ok(read) => {

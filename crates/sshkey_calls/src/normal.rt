@@ -13,6 +13,7 @@ ghost use Rattle.sshkey_model.specs.Signatures.{signature_at};
 ghost use Rattle.sshkey_sshsig.specs.SshSignatureReaders.{ssh_signature_value_at};
 ghost use Rattle.sshkey_calls.specs.NormalForms.{IsNormalCertificate, IsNormalKey, IsNormalSignature, IsNormalSshSignature, IsRenamedKey};
 ghost use Rattle.sshkey_calls.specs.Numbers.{fault_number};
+ghost use Rattle.sshkey_calls.specs.Signatures.{NeedsSshSignature};
 ghost use Rattle.sshkey_calls.specs.Writing.{Writes};
 
 use crate::number::{MEMORY, error_number};
@@ -100,12 +101,14 @@ fn write_certificate(
 /// length: the key in it stands in its own.
 ///
 /// Returns 0 if they spell one, 2 where the room is too short for it, 1 if memory ran out, and else
-/// from 10 to 29 their fault. With 2 the room is as it was.
+/// from 10 to 29 their fault. With 2 the room is as it was. Memory is taken only for a part that
+/// stands whole.
 pub fn signature_normal(alloc: Global, signature: &[u8], room: &mut [u8], len: &mut usize) -> u32
     ensures normal { Writes (IsNormalSshSignature signature.now)
         result len.new room.old room.new }
     ensures fault { (fault : Fault) → whole ssh_signature_value_at signature.now ≡ Err fault
         → result ≢ 1 → result ≡ fault_number fault }
+    ensures memory { result ≡ 1 → NeedsSshSignature signature.now }
 {
     match SshSig::from_bytes(alloc, signature) {
         Ok(read) => write_encoded(alloc, &read, room, len),

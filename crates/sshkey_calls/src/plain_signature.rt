@@ -1,6 +1,6 @@
 //! What has to be verified of a signature under a key.
 
-ghost use Rattle.std.specs.Prelude.{◌≡◌, Err, None, Some};
+ghost use Rattle.std.specs.Prelude.{◌≡◌, Err};
 ghost use Rattle.sshkey_base.specs.Acceptance.{SpellsSome};
 ghost use Rattle.sshkey_keys.specs.Keys.{SpellsKey, key_data_at};
 ghost use Rattle.sshkey_keys.specs.SignatureReaders.{SpellsSignature};

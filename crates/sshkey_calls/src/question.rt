@@ -1,6 +1,8 @@
 //! What has to be verified.
 
 ghost use Rattle.std.specs.Prelude.{◌≡◌, ◌≢◌, Err, IfOk, None, Some};
+ghost use Rattle.sshkey_base.specs.Acceptance.{SpellsSome};
+ghost use Rattle.sshkey_cert.specs.CertificateReaders.{SpellsCertificate};
 ghost use Rattle.sshkey_cert_ref.specs.CertificateRef.{certificate_of};
 ghost use Rattle.sshkey_cert.specs.Questions.{asks, certificate_question};
 ghost use Rattle.sshkey_keys.specs.Questions.{question_of};
@@ -52,6 +54,7 @@ pub fn certificate_question(
     ensures unsupported { TellsNone certificate.now result }
     ensures fault { (fault : Fault) → whole certificate_at certificate.now ≡ Err fault
         → result ≡ fault_number fault }
+    ensures memory { result ≡ 1 → SpellsSome SpellsCertificate certificate.now }
 {
     match CertificateRef::from_bytes(certificate) {
         Ok(read) => ask(alloc, &read, room, answer),

@@ -4,13 +4,12 @@ ghost use Rattle.std.specs.Prelude.{◌≡◌, ◌≢◌, Err};
 ghost use Rattle.sshkey_keys.specs.Keys.{SpellsKey, key_data_at};
 ghost use Rattle.sshkey_keys_ref.specs.KeyDataRef.{key_bytes};
 ghost use Rattle.sshkey_keys_ref.specs.NormalBytes.{IsRenamed};
-ghost use Rattle.sshkey_model.specs.Fingerprints.{digest_text, fingerprint as fingerprint_of};
+ghost use Rattle.sshkey_model.specs.Fingerprints.{digest_text};
 ghost use Rattle.sshkey_model.specs.Keys.{Key};
 ghost use Rattle.sshkey_model.specs.Names.{Sha512};
 ghost use Rattle.sshkey_model.specs.Reading.{Fault, whole};
-ghost use Rattle.sshkey_calls.specs.Fingerprints.{Prints};
+ghost use Rattle.sshkey_calls.specs.Fingerprints.{GivesDigest, GivesDigestOf, Prints};
 ghost use Rattle.sshkey_calls.specs.Numbers.{fault_number};
-ghost use Rattle.sshkey_calls.specs.Sha512.{GivesSha512};
 
 use crate::number::{DONE, MEMORY, ROOM, error_number};
 use crate::part::write_to;
@@ -33,7 +32,7 @@ pub struct Sha512Digest {
 /// Returns 0 if they spell one, 1 if memory ran out, and else from 10 to 29 their fault. Memory is
 /// taken only for an RSA key under another name than `ssh-rsa`.
 pub fn fingerprint_sha512(alloc: Global, key: &[u8], answer: &mut Sha512Digest) -> u32
-    ensures fingerprint { GivesSha512 key.now result answer.new.bytes }
+    ensures fingerprint { GivesDigest Sha512 key.now result answer.new.bytes }
     ensures fault { (fault : Fault) → whole key_data_at key.now ≡ Err fault
         → result ≡ fault_number fault }
 {
@@ -46,7 +45,7 @@ pub fn fingerprint_sha512(alloc: Global, key: &[u8], answer: &mut Sha512Digest) 
 /// The same of a key that was read.
 fn write_digest(alloc: Global, key: &KeyDataRef<'_>, answer: &mut Sha512Digest) -> u32
     ensures digest { result ≡ 0 → (k : Key) × SpellsKey k (key_bytes key.now)
-        × (answer.new.bytes ≡ (fingerprint_of Sha512 k).digest) }
+        × GivesDigestOf Sha512 k answer.new.bytes }
     ensures memory { result ≢ 0 → (result ≡ 1) × IsRenamed (key_bytes key.now) }
 {
     let Ok(fingerprint) = key.fingerprint(alloc, HashAlg::Sha512) else {

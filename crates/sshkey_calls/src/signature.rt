@@ -2,7 +2,7 @@
 
 ghost use Rattle.std.specs.Prelude.{◌≡◌, ◌≢◌, ◌↔◌, true, Err, IsTrue, None, Some};
 ghost use Rattle.sshkey_keys.specs.Keys.{key_of};
-ghost use Rattle.sshkey_keys.specs.Questions.{question_of};
+ghost use Rattle.sshkey_model.specs.Names.{Sha256};
 ghost use Rattle.sshkey_model.specs.Reading.{Fault, whole};
 ghost use Rattle.sshkey_model.specs.SignedMessages.{signed_by};
 ghost use Rattle.sshkey_model.specs.SshSignatures.{SshSignature};
@@ -12,7 +12,7 @@ ghost use Rattle.sshkey_sshsig.specs.SshSignatures.{ssh_signature_of};
 ghost use Rattle.sshkey_calls.specs.Fingerprints.{GivesDigestOf};
 ghost use Rattle.sshkey_calls.specs.Numbers.{fault_number};
 ghost use Rattle.sshkey_calls.specs.Questions.{Asks};
-ghost use Rattle.sshkey_calls.specs.Signatures.{IsSignerOf, RaisedBySignature, TellsNoneOfSignature};
+ghost use Rattle.sshkey_calls.specs.Signatures.{IsSignerOf, NeedsSshSignature, RaisedBySignature, TellsNoneOfSignature};
 
 use crate::digest::Sha256Digest;
 use crate::number::{MEMORY, OTHER_NAMESPACE, UNSUPPORTED, error_number};
@@ -30,7 +30,7 @@ use std::alloc::Global;
 /// out, from 10 to 29 the fault of bytes that are no SSH signature, 41 for a signature in another
 /// namespace, and 40 where the key and the signature's algorithm do not go together: such a
 /// signature is not valid. Where the question is answered, the signature is valid exactly if the
-/// verification says yes.
+/// verification says yes. Memory is taken only for a part that stands whole.
 pub fn signature_question(
     alloc: Global,
     signature: &[u8],
@@ -48,6 +48,7 @@ pub fn signature_question(
         → f.namespace ≢ namespace.now → result ≢ 1 → result ≡ 41 }
     ensures fault { (fault : Fault) → whole ssh_signature_value_at signature.now ≡ Err fault
         → result ≢ 1 → result ≡ fault_number fault }
+    ensures memory { result ≡ 1 → NeedsSshSignature signature.now }
 {
     match SshSig::from_bytes(alloc, signature) {
         Ok(read) => if is_in(&read, namespace) {
@@ -82,7 +83,8 @@ fn ask(
     ensures unsupported { question (ssh_signature_of read.now).key
         (signed_by (ssh_signature_of read.now) message.now)
         (ssh_signature_of read.now).signature ≡ None → result ≢ 1 → result ≡ 40 }
-    ensures signer { result ≡ 0 → GivesDigestOf (ssh_signature_of read.now).key signer.new.bytes }
+    ensures signer { result ≡ 0
+        → GivesDigestOf Sha256 (ssh_signature_of read.now).key signer.new.bytes }
 {
     let Ok(signed) = read.signed_bytes(alloc, message) else {
         return MEMORY;
@@ -100,7 +102,7 @@ fn ask(
 
 /// Writes the SHA-256 fingerprint of the key; false if memory ran out.
 fn write_digest(alloc: Global, key: &KeyData, digest: &mut Sha256Digest) -> bool
-    ensures { result ≡ true → GivesDigestOf (key_of key.now) digest.new.bytes }
+    ensures { result ≡ true → GivesDigestOf Sha256 (key_of key.now) digest.new.bytes }
 {
     let Ok(fingerprint) = key.fingerprint(alloc, HashAlg::Sha256) else {
         return false;

@@ -1,10 +1,10 @@
 //! Certificates that were signed.
 
-ghost use Rattle.std.specs.Prelude.{◌≡◌, ◌≢◌, ◌++◌, ℕ, List, Err, IfOk};
+ghost use Rattle.std.specs.Prelude.{◌≡◌, ◌≢◌, ◌++◌, ℕ, List, Err, IfErr, IfOk};
 ghost use Rattle.sshkey_cert.specs.CertificateReaders.{SpellsCertificate};
 ghost use Rattle.sshkey_model.specs.Certificates.{Certificate, certificate_at};
 ghost use Rattle.sshkey_model.specs.Reading.{Fault, whole};
-ghost use Rattle.sshkey_calls.specs.Drafts.{IsJoined, IsSigned};
+ghost use Rattle.sshkey_calls.specs.Drafts.{FitsString, IsJoined, IsSigned};
 ghost use Rattle.sshkey_calls.specs.Numbers.{fault_number};
 ghost use Rattle.sshkey_calls.specs.Writing.{Finds, Writes};
 
@@ -18,7 +18,8 @@ use std::alloc::Global;
 /// signature's blob in a string. Whether it is a signature of them `certificate_question` asks.
 ///
 /// Returns 0, 2 where the room is shorter, 1 if memory ran out, and else from 10 to 29 the fault of
-/// bytes that are no certificate then.
+/// bytes that are no certificate then, or 13 for a signature that does not fit a string. Memory is
+/// taken only where it fits one.
 pub fn certificate_signed(
     alloc: Global,
     to_be_signed: &[u8],
@@ -30,6 +31,7 @@ pub fn certificate_signed(
         result length.new room.old room.new }
     ensures fault { (s : List ℕ) (fault : Fault) → IsJoined to_be_signed.now signature.now s
         → whole certificate_at s ≡ Err fault → result ≢ 1 → result ≡ fault_number fault }
+    ensures memory { result ≡ 1 → FitsString signature.now }
 {
     match joined(alloc, to_be_signed, signature) {
         Ok(certificate) => write_certificate(&certificate, room, length),
@@ -39,7 +41,9 @@ pub fn certificate_signed(
 
 /// The bytes, and the signature in a string behind them.
 fn joined(alloc: Global, to_be_signed: &[u8], signature: &[u8]) -> Result<Vec<u8>, u32>
-    ensures { Finds (IsJoined to_be_signed.now signature.now) (λ joined. joined.items) result }
+    ensures joined { Finds (IsJoined to_be_signed.now signature.now)
+        (λ joined. joined.items) result }
+    ensures memory { IfErr result (λ n. n ≡ 1 → FitsString signature.now) }
 {
     let string = string_of(alloc, signature)?;
     match both(alloc, to_be_signed, &string) {
@@ -64,6 +68,7 @@ fn write_certificate(certificate: &[u8], room: &mut [u8], length: &mut usize) ->
         result length.new room.old room.new }
     ensures fault { (fault : Fault) → whole certificate_at certificate.now ≡ Err fault
         → result ≡ fault_number fault }
+    ensures memory { result ≢ 1 }
 {
     match CertificateRef::from_bytes(certificate) {
         Ok(_) => write_bytes(certificate, room, length),

@@ -2,6 +2,8 @@
 
 ghost use Rattle.std.specs.Prelude.{◌≡◌, ◌≢◌, Bool, Err};
 ghost use Rattle.std.specs.Str.{IsUtf8};
+ghost use Rattle.sshkey_base.specs.Acceptance.{SpellsSome};
+ghost use Rattle.sshkey_cert.specs.CertificateReaders.{SpellsCertificate};
 ghost use Rattle.sshkey_cert.specs.Validity.{FindsFirst};
 ghost use Rattle.sshkey_cert_ref.specs.CertificateRef.{certificate_of};
 ghost use Rattle.sshkey_model.specs.Certificates.{certificate_at};
@@ -42,6 +44,7 @@ pub fn certificate_validate(
         → TellsFirst accepts (authorities_of authorities.now) unix_time certificate.now result }
     ensures fault { (fault : Fault) → whole certificate_at certificate.now ≡ Err fault
         → result ≡ fault_number fault }
+    ensures memory { result ≡ 1 → SpellsSome SpellsCertificate certificate.now }
 {
     match CertificateRef::from_bytes(certificate) {
         Ok(read) => judge(alloc, &read, unix_time, authorities, verified),
@@ -74,6 +77,7 @@ pub fn certificate_validate_for(
     ensures fault { IsUtf8 principal.now → (fault : Fault)
         → whole certificate_at certificate.now ≡ Err fault → result ≡ fault_number fault }
     ensures text { (IsUtf8 principal.now → ⊥) → result ≡ 4 }
+    ensures memory { result ≡ 1 → SpellsSome SpellsCertificate certificate.now }
 {
     match str::from_utf8(principal) {
         Ok(wanted) => validate_for(alloc, certificate, unix_time, wanted, authorities, verified),
@@ -98,6 +102,7 @@ fn validate_for(
         certificate.now result }
     ensures fault { (fault : Fault) → whole certificate_at certificate.now ≡ Err fault
         → result ≡ fault_number fault }
+    ensures memory { result ≡ 1 → SpellsSome SpellsCertificate certificate.now }
 {
     match CertificateRef::from_bytes(certificate) {
         Ok(read) => judge_for(alloc, &read, unix_time, wanted, authorities, verified),

@@ -1,7 +1,5 @@
 //! Strings that stand in bytes, one behind the other.
 
-ghost use Rattle.std.specs.Prelude.{◌≡◌, ◌≤◌, ◌+◌, drop, length, IfOk, Err, Ok};
-ghost use Rattle.sshkey_model.specs.Reading.{string_at};
 ghost use Rattle.sshkey_calls.specs.Strings.{FindsString};
 
 use crate::number::{DONE, END, LENGTH};

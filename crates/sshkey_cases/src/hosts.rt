@@ -1,8 +1,8 @@
 //! Questions about the hosts that an entry of known_hosts is for, and what is said of their keys.
 
 use crate::bytes::{NO_LINE, text};
-use crate::hmac::Hmac;
 use sshkey_base::{Result, Text};
+use sshkey_hmac::Hmac;
 use sshkey_known_hosts::{Entry, HostPatterns, Marker, authorities, judge_key};
 use sshkey_public::PublicKey;
 use std::alloc::Global;

@@ -11,7 +11,6 @@ mod drawn;
 mod entries;
 mod faulty;
 mod files;
-mod hmac;
 mod hosts;
 mod issued;
 mod keys;

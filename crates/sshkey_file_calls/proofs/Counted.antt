@@ -46,6 +46,7 @@ pub finds : (text : List ℕ) (number : ℕ) (found : Option KeyOption) (n : ℕ
 finds text number (Some o) n answer before after is tells = record {
   found = λ zero_. (o, is, tells.written zero_);
   short = λ two. (o, is, tells.short two);
+  memory = λ _. (o, is);
   last = λ three. absurd (omega (arith, three, tells.others (λ z. omega (arith, three, z)) (λ z. omega (arith, three, z))));
   none = λ fifteen _. absurd (omega (arith, fifteen, tells.others (λ z. omega (arith, fifteen, z)) (λ z. omega (arith, fifteen, z))));
   others = λ not_zero not_one not_two _. absurd (not_one (tells.others not_zero not_two));
@@ -53,6 +54,7 @@ finds text number (Some o) n answer before after is tells = record {
 finds text number None n answer before after is three = record {
   found = λ zero_. absurd (omega (arith, three, zero_));
   short = λ two. absurd (omega (arith, three, two));
+  memory = λ one. absurd (omega (arith, three, one));
   last = λ _. is;
   none = λ fifteen _. absurd (omega (arith, three, fifteen));
   others = λ _ _ _ other. absurd (other three);
@@ -62,6 +64,7 @@ pub finds_none : (text : List ℕ) (number n : ℕ) (answer : OptionParts) (befo
 finds_none text number n answer before after fifteen none = record {
   found = λ zero_. absurd (omega (arith, fifteen, zero_));
   short = λ two. absurd (omega (arith, fifteen, two));
+  memory = λ one. absurd (omega (arith, fifteen, one));
   last = λ three. absurd (omega (arith, fifteen, three));
   none = λ _. none;
   others = λ _ _ _ _. fifteen;

@@ -9,22 +9,16 @@ use Rattle.sshkey_known_hosts.specs.declared.verdict.Verdict.{Verdict}
 use Rattle.sshkey_known_hosts.specs.declared.verdict.Verdict.TheVariants.{Changed, Revoked, Trusted, Unknown, Unreadable}
 use Rattle.sshkey_model.specs.Keys.{Key}
 use Rattle.sshkey_model.proofs.Blobs.{key_blobs}
-use Rattle.sshkey_file_calls.specs.Hmac.{hmac_sha1}
-use Rattle.sshkey_file_calls.specs.Verdicts.{IsAuthorityVerdict, TellsAuthority, TellsVerdict, is_grave, verdict_number}
+use Rattle.sshkey_hmac.specs.Hmac.{hmac_sha1}
+use Rattle.sshkey_file_calls.specs.Verdicts.{IsAuthorityVerdict, IsVerdictOn, TellsBy, is_grave, verdict_number}
+use Rattle.sshkey_file_calls.specs.declared.hosts.Role.{Role}
 
-module _ (IsOne : (List ℕ → List ℕ → List ℕ) → List ℕ → Key → List (List ℕ) → Verdict → Type 0) (text host : List ℕ) (port : ℕ) (bytes own : List ℕ) (n : ℕ) (same : own ≡ bytes) where
-  -- the verdict on one key is that on the one that the bytes spell
-  of_one : (n ≢ 1 → (k : Key) × SpellsKey k own × (v : Verdict) × IsOne hmac_sha1 (known_name host port) k (filled_lines text) v × (n ≡ verdict_number v)) → (k : Key) → SpellsKey k bytes → n ≢ 1 → (v : Verdict) × IsOne hmac_sha1 (known_name host port) k (filled_lines text) v × (n ≡ verdict_number v)
-  of_one judged k spelled not_memory =
-      let j = judged not_memory in
-      let one : j.0 ≡ k = key_blobs.one j.0 k bytes (subst (SpellsKey j.0) same j.1) spelled in
-      (j.2, subst (λ (x : Key). IsOne hmac_sha1 (known_name host port) x (filled_lines text) j.2) one j.3, j.4)
-
-pub told : (text host : List ℕ) (port : ℕ) (bytes own : List ℕ) (n : ℕ) → own ≡ bytes → (n ≢ 1 → (k : Key) × SpellsKey k own × (v : Verdict) × IsVerdict hmac_sha1 (known_name host port) k (filled_lines text) v × (n ≡ verdict_number v)) → TellsVerdict text host port bytes n
-told = of_one IsVerdict
-
-pub told_authority : (text host : List ℕ) (port : ℕ) (bytes own : List ℕ) (n : ℕ) → own ≡ bytes → (n ≢ 1 → (k : Key) × SpellsKey k own × (v : Verdict) × IsAuthorityVerdict hmac_sha1 (known_name host port) k (filled_lines text) v × (n ≡ verdict_number v)) → TellsAuthority text host port bytes n
-told_authority = of_one IsAuthorityVerdict
+-- the verdict on one key is that on the one that the bytes spell
+pub told : (role : Role) (text host : List ℕ) (port : ℕ) (bytes own : List ℕ) (n : ℕ) → own ≡ bytes → (n ≢ 1 → (k : Key) × SpellsKey k own × (v : Verdict) × IsVerdictOn role hmac_sha1 (known_name host port) k (filled_lines text) v × (n ≡ verdict_number v)) → TellsBy (IsVerdictOn role) text host port bytes n
+told role text host port bytes own n same judged k spelled not_memory =
+    let j = judged not_memory in
+    let one : j.0 ≡ k = key_blobs.one j.0 k bytes (subst (SpellsKey j.0) same j.1) spelled in
+    (j.2, subst (λ (x : Key). IsVerdictOn role hmac_sha1 (known_name host port) x (filled_lines text) j.2) one j.3, j.4)
 
 -- ---- authorities
 

@@ -1,7 +1,9 @@
 -- What is answered of the entry of a line.
-use Rattle.std.specs.Prelude.{◌≡◌, ◌≢◌, ◌<◌, ◌+◌, ℕ, List, ◌++◌, length, drop, Option, Some, None}
+use Rattle.std.specs.Prelude.{◌≡◌, ◌≢◌, ◌⊎◌, ◌<◌, ◌+◌, ℕ, List, ◌++◌, length, drop, Option, Some, None}
+use Rattle.sshkey_authorized_keys.specs.OpenSshNeeds.{NeedsEntry}
 use Rattle.sshkey_base.specs.declared.error.Error.{Error}
 use Rattle.sshkey_entries.specs.AuthorizedKeys.{AuthorizedKey}
+use Rattle.sshkey_entries.specs.OpenSshLines.{IsAuthorizedLine}
 use Rattle.sshkey_entries.specs.KnownHosts.{CertAuthority, KnownHost, Marker, Revoked, hosts_text}
 use Rattle.sshkey_model.specs.Keys.{Key, normal_key}
 use Rattle.sshkey_model.specs.Parts.{flat}
@@ -71,3 +73,7 @@ pub record FindsEntry {A : Type 0} (IsEntry : A → Type 0) (text_of : A → Ent
 -- The number is that of an error that names a fault of the line; 0, 1 and 2 name none.
 abbrev pub TellsFault : (List ℕ → Error → Type 0) → List ℕ → ℕ → Type 0
 TellsFault HasFault line n = n ≢ 0 → n ≢ 1 → n ≢ 2 → (e : Error) × HasFault line e × (n ≡ error_number e)
+
+-- Memory may be asked for: by the fields of the line, or for the entry that it is.
+abbrev pub NeedsAuthorizedEntry : List ℕ → Type 0
+NeedsAuthorizedEntry line = NeedsEntry line ⊎ ((a : AuthorizedKey) × IsAuthorizedLine line a)

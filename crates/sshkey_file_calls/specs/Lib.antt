@@ -1,4 +1,3 @@
-pub mod Hmac
 pub mod Lines
 pub mod Entries
 pub mod Options

@@ -58,10 +58,11 @@ pub record WritesOption (o : KeyOption) (n : ℕ) (answer : OptionParts) (before
   pub short : n ≡ 2 → IsTooShort o answer before after
   pub others : n ≢ 0 → n ≢ 2 → n ≡ 1
 
--- 0 and the option of that number, 2 where there is one, and the room is too short for it, 3 where there are no more, 15 where the text is no list of options; and 1 is memory, and says nothing.
+-- 0 and the option of that number, 2 where there is one, and the room is too short for it, 3 where there are no more, 15 where the text is no list of options; and 1 is memory, and only where there is one.
 pub record FindsOption (text : List ℕ) (number n : ℕ) (answer : OptionParts) (before after : List ℕ) : Type 0 where
   pub found : n ≡ 0 → (o : KeyOption) × IsOptionOf text number (Some o) × IsWritten o answer before after
   pub short : n ≡ 2 → (o : KeyOption) × IsOptionOf text number (Some o) × IsTooShort o answer before after
+  pub memory : n ≡ 1 → (o : KeyOption) × IsOptionOf text number (Some o)
   pub last : n ≡ 3 → IsOptionOf text number None
   pub none : n ≡ 15 → HasKeyOptions text → ⊥
   pub others : n ≢ 0 → n ≢ 1 → n ≢ 2 → n ≢ 3 → n ≡ 15

@@ -8,7 +8,7 @@ ghost use Rattle.sshkey_entries.specs.OpenSshLines.{IsAuthorizedLine, IsHostLine
 ghost use Rattle.sshkey_known_hosts.specs.HostEntries.{known_host_of, marker_of};
 ghost use Rattle.sshkey_known_hosts.specs.OpenSshHosts as hosts;
 ghost use Rattle.sshkey_public.specs.PublicKeys.{comment_of, public_of};
-ghost use Rattle.sshkey_file_calls.specs.Entries.{FindsEntry, IsLaidOut, TellsFault, entry_text, marker_number, of_authorized_key, of_known_host};
+ghost use Rattle.sshkey_file_calls.specs.Entries.{FindsEntry, IsLaidOut, NeedsAuthorizedEntry, TellsFault, entry_text, marker_number, of_authorized_key, of_known_host};
 
 use sshkey_authorized_keys::{Entry as AuthorizedEntry, OpenSshEntry};
 use sshkey_base::{Result, encode_vec};
@@ -41,12 +41,14 @@ pub struct EntryParts {
 ///
 /// Returns 0 with the entry in the room, 2 where the room is too short for it, 1 if memory ran out,
 /// 4 for a line that is not UTF-8, and from 10 to 29 a fault of a line that is no entry. With 2 the
-/// answer says how much room is needed, and the room is as it was.
+/// answer says how much room is needed, and the room is as it was. Memory is taken only where a
+/// field of the line needs some, or for an entry.
 pub fn authorized_entry(alloc: Global, line: &[u8], room: &mut [u8], answer: &mut EntryParts) -> u32
     ensures entry { IsUtf8 line.now → FindsEntry (IsAuthorizedLine line.now) of_authorized_key
         result answer.new room.old room.new }
     ensures fault { IsUtf8 line.now → TellsFault keys.HasLineFault line.now result }
     ensures text { (IsUtf8 line.now → ⊥) → result ≡ 4 }
+    ensures memory { result ≡ 1 → NeedsAuthorizedEntry line.now }
 {
     match str::from_utf8(line) {
         Ok(text) => authorized_entry_of(alloc, text, room, answer),
@@ -59,6 +61,7 @@ fn authorized_entry_of(alloc: Global, line: &str, room: &mut [u8], answer: &mut 
     ensures entry { FindsEntry (IsAuthorizedLine line.now) of_authorized_key
         result answer.new room.old room.new }
     ensures fault { TellsFault keys.HasLineFault line.now result }
+    ensures memory { result ≡ 1 → NeedsAuthorizedEntry line.now }
 {
     match AuthorizedEntry::from_line_openssh(alloc, line) {
         Ok(entry) => tell_authorized_key(alloc, &entry, room, answer),

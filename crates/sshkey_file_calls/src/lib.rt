@@ -3,18 +3,16 @@
 //! host's key.
 //!
 //! As those of `sshkey_calls`, each call answers with a number, and the bytes that it answers with
-//! stand in the caller's room. HMAC-SHA1 is computed here, over the crate sha1.
+//! stand in the caller's room. HMAC-SHA1 is that of `sshkey_hmac`.
 #![tactic(auto)]
 
 mod authority;
 mod entries;
-mod hmac;
 mod hosts;
 mod lines;
 mod options;
 
-pub use authority::authority_verdict;
 pub use entries::{EntryParts, authorized_entry, known_host};
-pub use hosts::host_verdict;
+pub use hosts::{authority_verdict, host_verdict};
 pub use lines::next_line;
 pub use options::{OptionParts, nth_option};

@@ -1,6 +1,6 @@
 //! The lines of a text that may be entries, one after the other.
 
-ghost use Rattle.std.specs.Prelude.{◌≡◌, ◌<◌, ◌==◌, drop, length, not, position};
+ghost use Rattle.std.specs.Prelude.{◌≡◌, ◌<◌, drop, length, not, position};
 ghost use Rattle.std.specs.Str.Lines.{strip_carriage_return};
 ghost use Rattle.sshkey_entries.specs.Fields.{without_blanks, is_filled};
 ghost use Rattle.sshkey_entries.specs.StrictReading.{is_blank};

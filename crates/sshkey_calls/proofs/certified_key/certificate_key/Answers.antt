@@ -5,7 +5,7 @@ use Rattle.sshkey_model.specs.Certificates.{Certificate, certificate_at}
 use Rattle.sshkey_model.specs.Keys.{normal_key}
 use Rattle.sshkey_model.specs.Parts.{flat}
 use Rattle.sshkey_model.specs.Reading.{whole}
-use Rattle.sshkey_calls.proofs.Kept.{no_fault}
+use Rattle.sshkey_calls.proofs.Kept.{never_memory, no_fault}
 use Rattle.sshkey_calls.proofs.Verdicts.{one_spelled}
 use Rattle.sshkey_calls.proofs.Writing.{no_bytes, told_as}
 use Rattle.sshkey_calls.proofs.certified_key.certificate_key.Goals as goal
@@ -26,3 +26,9 @@ returns-in-Err-clause-written c = no_bytes _ _ _ _ c.error_number.ensures.some c
 
 pub returns-in-Err-clause-fault : goal.returns-in-Err-clause-fault
 returns-in-Err-clause-fault c fault is = c.error_number.ensures.fault fault (rw is at c.in-Err.ensures.keeps)
+
+pub returns-in-Ok-clause-memory : goal.returns-in-Ok-clause-memory
+returns-in-Ok-clause-memory c _ = (certificate_of c.in-Ok.read, c.in-Ok.ensures.accepts)
+
+pub returns-in-Err-clause-memory : goal.returns-in-Err-clause-memory
+returns-in-Err-clause-memory c one = absurd (never_memory certificate_bytes cause c.args.certificate.now (whole certificate_at c.args.certificate.now) _ _ c.error_number.ensures.range c.in-Err.ensures.keeps one)

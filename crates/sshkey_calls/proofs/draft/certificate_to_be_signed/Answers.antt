@@ -14,3 +14,9 @@ returns-in-Err-clause-written c = no_bytes _ _ _ _ c.in-Err.ensures.fields.0 c.i
 
 pub returns-in-Err-clause-numbers : goal.returns-in-Err-clause-numbers
 returns-in-Err-clause-numbers c some = let same = c.in-Err.ensures.numbers some in cc same
+
+pub returns-in-Ok-clause-memory : goal.returns-in-Ok-clause-memory
+returns-in-Ok-clause-memory c _ = let f = to_be_signed_of c.in-Ok.fields in (f.key, c.in-Ok.ensures.fields.key.0)
+
+pub returns-in-Err-clause-memory : goal.returns-in-Err-clause-memory
+returns-in-Err-clause-memory c = c.in-Err.ensures.memory

@@ -7,4 +7,4 @@ use Rattle.sshkey_calls.proofs.draft_fields.principals_from.Goals as goal
 pub returns-in_err-string : goal.returns-in_err-string
 returns-in_err-string c =
     let p = err_from_is_err_and c.from_residual.result c.from_residual.ensures.1 in
-    rw (p.1, p.2) (no_string c.args.strings.now _ (λ texts spelled. short_string c.args.strings.now (each string texts) spelled.shape spelled.fits) c.in_err-string.ensures)
+    rw (p.1, p.2) (no_string c.args.strings.now _ (λ texts spelled. short_string c.args.strings.now (each string texts) spelled.shape spelled.fits) c.in_err-string.ensures.string)

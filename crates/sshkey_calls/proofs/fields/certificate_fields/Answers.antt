@@ -3,7 +3,7 @@ use Rattle.sshkey_cert_ref.specs.CertificateRef.{certificate_bytes, certificate_
 use Rattle.sshkey_model.specs.Certificates.{certificate_at}
 use Rattle.sshkey_model.specs.Reading.{whole}
 use Rattle.std.proofs.Common.{refl}
-use Rattle.sshkey_calls.proofs.Kept.{no_fault}
+use Rattle.sshkey_calls.proofs.Kept.{never_memory, no_fault}
 use Rattle.sshkey_calls.proofs.fields.certificate_fields.Goals as goal
 
 pub returns-in-Ok-clause-fields : goal.returns-in-Ok-clause-fields
@@ -20,3 +20,6 @@ returns-in-Err-clause-fields c = record { given = λ zero_. absurd (c.error_numb
 
 pub returns-in-Err-clause-fault : goal.returns-in-Err-clause-fault
 returns-in-Err-clause-fault c fault is = c.error_number.ensures.fault fault (rw is at c.in-Err.ensures.keeps)
+
+pub returns-in-Err-clause-memory : goal.returns-in-Err-clause-memory
+returns-in-Err-clause-memory c = never_memory certificate_bytes cause c.args.certificate.now (whole certificate_at c.args.certificate.now) _ _ c.error_number.ensures.range c.in-Err.ensures.keeps

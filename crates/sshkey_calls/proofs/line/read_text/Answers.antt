@@ -1,11 +1,13 @@
 use Rattle.std.proofs.Common.{refl}
+use Rattle.sshkey_base.specs.Causes.{cause}
 use Rattle.sshkey_model.specs.Lines.{IsLineOf, key_name}
 use Rattle.sshkey_keys.specs.Keys.{SpellsKey, key_of}
-use Rattle.sshkey_calls.proofs.KeyLines.{no_memory, reads_key}
+use Rattle.sshkey_calls.proofs.Kept.{only_memory}
+use Rattle.sshkey_calls.proofs.KeyLines.{needs_key, needs_key_line, no_memory, reads_key}
 use Rattle.sshkey_calls.proofs.line.read_text.Goals as goal
 
-pub returns-in-Ok : goal.returns-in-Ok
-returns-in-Ok c =
+pub returns-in-Ok-clause-reads : goal.returns-in-Ok-clause-reads
+returns-in-Ok-clause-reads c =
     let line : IsLineOf key_name SpellsKey c.args.text.now (key_of c.in-Ok.read.0) c.as_str.result.now = rw c.as_str.ensures.value c.in-Ok.ensures.reads in
     reads_key c.args.text.now (key_of c.in-Ok.read.0) c.as_str.result.now _ _ _ _ line c.tell.ensures
 
@@ -15,5 +17,13 @@ read_certificate-requires-clause-none c = c.in-Err.ensures.reads (λ memory. c.i
 pub read_certificate-requires-clause-fault : goal.read_certificate-requires-clause-fault
 read_certificate-requires-clause-fault c = c.error_number-fault.ensures.range (λ memory. c.if-fault-eq-MEMORY.false (c.error_number-fault.ensures.memory memory))
 
-pub returns-then-fault-eq-MEMORY : goal.returns-then-fault-eq-MEMORY
-returns-then-fault-eq-MEMORY c = no_memory _ _ _ _ refl
+pub returns-in-Ok-clause-memory : goal.returns-in-Ok-clause-memory
+returns-in-Ok-clause-memory c _ =
+    let line : IsLineOf key_name SpellsKey c.args.text.now (key_of c.in-Ok.read.0) c.as_str.result.now = rw c.as_str.ensures.value c.in-Ok.ensures.reads in
+    needs_key_line c.args.text.now (key_of c.in-Ok.read.0) c.as_str.result.now line
+
+pub returns-then-fault-eq-MEMORY-clause-reads : goal.returns-then-fault-eq-MEMORY-clause-reads
+returns-then-fault-eq-MEMORY-clause-reads c = no_memory _ _ _ _ refl
+
+pub returns-then-fault-eq-MEMORY-clause-memory : goal.returns-then-fault-eq-MEMORY-clause-memory
+returns-then-fault-eq-MEMORY-clause-memory c _ = needs_key c.args.text.now (c.in-Err.ensures.asks (only_memory (cause c.in-Err.error) _ c.error_number-fault.ensures.range c.if-fault-eq-MEMORY.true))

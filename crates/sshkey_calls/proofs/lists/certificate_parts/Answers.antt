@@ -4,7 +4,7 @@ use Rattle.sshkey_cert_ref.specs.CertificateRef.{certificate_bytes, certificate_
 use Rattle.sshkey_model.specs.Certificates.{certificate_at}
 use Rattle.sshkey_model.specs.Reading.{whole}
 use Rattle.sshkey_calls.specs.Lists.{ArePartsOf}
-use Rattle.sshkey_calls.proofs.Kept.{kept_bytes, no_fault}
+use Rattle.sshkey_calls.proofs.Kept.{kept_bytes, never_memory, no_fault}
 use Rattle.sshkey_calls.proofs.lists.certificate_parts.Goals as goal
 
 pub returns-in-Ok-clause-parts : goal.returns-in-Ok-clause-parts
@@ -23,3 +23,6 @@ returns-in-Err-clause-parts c = record { given = λ zero_. absurd (c.error_numbe
 
 pub returns-in-Err-clause-fault : goal.returns-in-Err-clause-fault
 returns-in-Err-clause-fault c fault is = c.error_number.ensures.fault fault (rw is at c.in-Err.ensures.keeps)
+
+pub returns-in-Err-clause-memory : goal.returns-in-Err-clause-memory
+returns-in-Err-clause-memory c = never_memory certificate_bytes cause c.args.certificate.now (whole certificate_at c.args.certificate.now) _ _ c.error_number.ensures.range c.in-Err.ensures.keeps

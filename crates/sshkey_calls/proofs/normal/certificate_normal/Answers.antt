@@ -1,10 +1,9 @@
-use Rattle.std.proofs.Common.{arith}
 use Rattle.sshkey_base.specs.Causes.{cause}
 use Rattle.sshkey_cert.specs.CertificateReaders.{SpellsCertificate}
 use Rattle.sshkey_cert_ref.specs.CertificateRef.{certificate_bytes, certificate_of}
 use Rattle.sshkey_model.specs.Certificates.{certificate_at, normal_certificate}
 use Rattle.sshkey_model.specs.Reading.{whole}
-use Rattle.sshkey_calls.proofs.Kept.{no_fault, not_memory}
+use Rattle.sshkey_calls.proofs.Kept.{never_memory, no_fault}
 use Rattle.sshkey_calls.proofs.NormalForms.{none_written, write_normal}
 use Rattle.sshkey_calls.proofs.normal.certificate_normal.Goals as goal
 
@@ -24,6 +23,4 @@ pub returns-in-Err-clause-fault : goal.returns-in-Err-clause-fault
 returns-in-Err-clause-fault c fault is = c.error_number.ensures.fault fault (rw is at c.in-Err.ensures.keeps)
 
 pub returns-in-Err-clause-memory : goal.returns-in-Err-clause-memory
-returns-in-Err-clause-memory c one =
-    let range = c.error_number.ensures.range (not_memory certificate_bytes cause c.args.certificate.now (whole certificate_at c.args.certificate.now) _ c.in-Err.ensures.keeps) in
-    absurd (omega (arith, one, range.0))
+returns-in-Err-clause-memory c one = absurd (never_memory certificate_bytes cause c.args.certificate.now (whole certificate_at c.args.certificate.now) _ _ c.error_number.ensures.range c.in-Err.ensures.keeps one)

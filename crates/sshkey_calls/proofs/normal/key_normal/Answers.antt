@@ -1,4 +1,4 @@
-use Rattle.std.proofs.Common.{ℕ, List, arith, subst, sym}
+use Rattle.std.proofs.Common.{ℕ, List, subst, sym}
 use Rattle.sshkey_base.specs.Acceptance.{SpellsSome}
 use Rattle.sshkey_base.specs.Causes.{cause}
 use Rattle.sshkey_keys.specs.Keys.{SpellsKey, key_data_at}
@@ -7,7 +7,7 @@ use Rattle.sshkey_model.specs.Keys.{normal_key}
 use Rattle.sshkey_model.specs.Reading.{whole}
 use Rattle.sshkey_calls.specs.NormalForms.{IsNormalKey, IsRenamedKey}
 use Rattle.sshkey_calls.specs.Writing.{Writes}
-use Rattle.sshkey_calls.proofs.Kept.{kept_bytes, no_fault, not_memory}
+use Rattle.sshkey_calls.proofs.Kept.{kept_bytes, never_memory, no_fault}
 use Rattle.sshkey_calls.proofs.NormalForms.{none_written}
 use Rattle.sshkey_calls.proofs.normal.key_normal.Goals as goal
 
@@ -36,6 +36,4 @@ pub returns-in-Err-clause-fault : goal.returns-in-Err-clause-fault
 returns-in-Err-clause-fault c fault is = c.error_number.ensures.fault fault (rw is at c.in-Err.ensures.keeps)
 
 pub returns-in-Err-clause-memory : goal.returns-in-Err-clause-memory
-returns-in-Err-clause-memory c one =
-    let range = c.error_number.ensures.range (not_memory key_bytes cause c.args.key.now (whole key_data_at c.args.key.now) _ c.in-Err.ensures.keeps) in
-    absurd (omega (arith, one, range.0))
+returns-in-Err-clause-memory c one = absurd (never_memory key_bytes cause c.args.key.now (whole key_data_at c.args.key.now) _ _ c.error_number.ensures.range c.in-Err.ensures.keeps one)

@@ -1,10 +1,10 @@
-use Rattle.std.proofs.Common.{arith, ◌∙◌}
+use Rattle.std.proofs.Common.{◌∙◌}
 use Rattle.sshkey_base.specs.Causes.{cause}
 use Rattle.sshkey_keys.specs.SignatureReaders.{SpellsSignature}
 use Rattle.sshkey_keys_ref.specs.SignatureRef.{signature_bytes}
 use Rattle.sshkey_model.specs.Reading.{whole}
 use Rattle.sshkey_model.specs.Signatures.{signature, signature_at}
-use Rattle.sshkey_calls.proofs.Kept.{kept_bytes, no_fault, not_memory}
+use Rattle.sshkey_calls.proofs.Kept.{kept_bytes, never_memory, no_fault}
 use Rattle.sshkey_calls.proofs.NormalForms.{none_written}
 use Rattle.sshkey_calls.proofs.Writing.{write_one}
 use Rattle.sshkey_calls.proofs.normal.plain_signature_normal.Goals as goal
@@ -28,6 +28,4 @@ pub returns-in-Err-clause-fault : goal.returns-in-Err-clause-fault
 returns-in-Err-clause-fault c fault is = c.error_number.ensures.fault fault (rw is at c.in-Err.ensures.keeps)
 
 pub returns-in-Err-clause-memory : goal.returns-in-Err-clause-memory
-returns-in-Err-clause-memory c one =
-    let range = c.error_number.ensures.range (not_memory signature_bytes cause c.args.signature.now (whole signature_at c.args.signature.now) _ c.in-Err.ensures.keeps) in
-    absurd (omega (arith, one, range.0))
+returns-in-Err-clause-memory c = never_memory signature_bytes cause c.args.signature.now (whole signature_at c.args.signature.now) _ _ c.error_number.ensures.range c.in-Err.ensures.keeps

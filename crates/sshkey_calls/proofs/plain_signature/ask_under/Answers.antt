@@ -1,4 +1,4 @@
-use Rattle.std.proofs.Common.{ℕ, List, arith, subst}
+use Rattle.std.proofs.Common.{ℕ, List, subst}
 use Rattle.sshkey_base.specs.Causes.{cause}
 use Rattle.sshkey_keys_ref.specs.KeyDataRef.{key_bytes}
 use Rattle.sshkey_keys_ref.specs.SignatureRef.{signature_bytes}
@@ -6,7 +6,7 @@ use Rattle.sshkey_model.specs.Reading.{whole}
 use Rattle.sshkey_model.specs.Signatures.{signature_at}
 use Rattle.sshkey_calls.specs.PlainSignatures.{RaisedUnder, TellsNoneUnder}
 use Rattle.sshkey_calls.specs.Questions.{Asks}
-use Rattle.sshkey_calls.proofs.Kept.{kept_bytes, no_fault, not_memory}
+use Rattle.sshkey_calls.proofs.Kept.{kept_bytes, never_memory, no_fault}
 use Rattle.sshkey_calls.proofs.PlainSignatures.{none_under}
 use Rattle.sshkey_calls.proofs.plain_signature.ask_under.Goals as goal
 
@@ -33,6 +33,4 @@ pub returns-in-Err-clause-signature : goal.returns-in-Err-clause-signature
 returns-in-Err-clause-signature c fault is = c.error_number.ensures.fault fault (rw is at c.in-Err.ensures.keeps)
 
 pub returns-in-Err-clause-memory : goal.returns-in-Err-clause-memory
-returns-in-Err-clause-memory c one =
-    let range = c.error_number.ensures.range (not_memory signature_bytes cause c.args.signature.now (whole signature_at c.args.signature.now) _ c.in-Err.ensures.keeps) in
-    absurd (omega (arith, one, range.0))
+returns-in-Err-clause-memory c one = absurd (never_memory signature_bytes cause c.args.signature.now (whole signature_at c.args.signature.now) _ _ c.error_number.ensures.range c.in-Err.ensures.keeps one)

@@ -1,4 +1,4 @@
-use Rattle.std.proofs.Common.{ℕ, List, arith, subst, sym}
+use Rattle.std.proofs.Common.{ℕ, List, subst, sym}
 use Rattle.sshkey_base.specs.Acceptance.{SpellsSome}
 use Rattle.sshkey_base.specs.Causes.{cause}
 use Rattle.sshkey_keys.specs.Keys.{SpellsKey, key_data_at}
@@ -6,7 +6,7 @@ use Rattle.sshkey_keys_ref.specs.KeyDataRef.{key_bytes}
 use Rattle.sshkey_model.specs.Reading.{whole}
 use Rattle.sshkey_calls.specs.PlainSignatures.{RaisedUnder, TellsNoneUnder}
 use Rattle.sshkey_calls.specs.Questions.{Asks}
-use Rattle.sshkey_calls.proofs.Kept.{kept_bytes, no_fault, not_memory}
+use Rattle.sshkey_calls.proofs.Kept.{kept_bytes, never_memory, no_fault}
 use Rattle.sshkey_calls.proofs.PlainSignatures.{none_under}
 use Rattle.sshkey_calls.proofs.plain_signature.plain_signature_question.Goals as goal
 
@@ -44,6 +44,4 @@ pub returns-in-Err-clause-signature : goal.returns-in-Err-clause-signature
 returns-in-Err-clause-signature c some = absurd (c.in-Err.ensures.accepts some.0 some.1)
 
 pub returns-in-Err-clause-memory : goal.returns-in-Err-clause-memory
-returns-in-Err-clause-memory c one =
-    let range = c.error_number.ensures.range (not_memory key_bytes cause c.args.key.now (whole key_data_at c.args.key.now) _ c.in-Err.ensures.keeps) in
-    absurd (omega (arith, one, range.0))
+returns-in-Err-clause-memory c one = absurd (never_memory key_bytes cause c.args.key.now (whole key_data_at c.args.key.now) _ _ c.error_number.ensures.range c.in-Err.ensures.keeps one)

@@ -4,7 +4,7 @@ use Rattle.sshkey_cert_ref.specs.CertificateRef.{certificate_bytes, certificate_
 use Rattle.sshkey_cert.specs.Questions.{certificate_question}
 use Rattle.sshkey_model.specs.Certificates.{certificate_at}
 use Rattle.sshkey_model.specs.Reading.{whole}
-use Rattle.sshkey_calls.proofs.Kept.{no_fault}
+use Rattle.sshkey_calls.proofs.Kept.{never_memory, no_fault}
 use Rattle.sshkey_calls.proofs.Questions.{none_raised, raised}
 use Rattle.sshkey_calls.proofs.Verdicts.{one_spelled}
 use Rattle.sshkey_calls.proofs.question.certificate_question.Goals as goal
@@ -32,3 +32,9 @@ returns-in-Err-clause-unsupported c d spelled _ _ = absurd (c.in-Err.ensures.acc
 
 pub returns-in-Err-clause-fault : goal.returns-in-Err-clause-fault
 returns-in-Err-clause-fault c fault is = c.error_number.ensures.fault fault (rw is at c.in-Err.ensures.keeps)
+
+pub returns-in-Ok-clause-memory : goal.returns-in-Ok-clause-memory
+returns-in-Ok-clause-memory c _ = (certificate_of c.in-Ok.read, c.in-Ok.ensures.accepts)
+
+pub returns-in-Err-clause-memory : goal.returns-in-Err-clause-memory
+returns-in-Err-clause-memory c one = absurd (never_memory certificate_bytes cause c.args.certificate.now (whole certificate_at c.args.certificate.now) _ _ c.error_number.ensures.range c.in-Err.ensures.keeps one)

@@ -1,5 +1,7 @@
-use Rattle.std.proofs.Common.{refl}
+use Rattle.std.proofs.Common.{inl, inr, refl}
+use Rattle.sshkey_base.specs.Causes.{cause}
 use Rattle.sshkey_sshsig.specs.SshSignatures.{ssh_signature_of}
+use Rattle.sshkey_calls.proofs.Kept.{only_memory}
 use Rattle.sshkey_calls.proofs.Signatures.{asked_by, digest_of_each, in_its_namespace, namespace_of_each, none_asked, none_of_each, other_namespace}
 use Rattle.sshkey_calls.proofs.signature.signature_question.Goals as goal
 
@@ -36,3 +38,9 @@ pub returns-clause-fault : goal.returns-clause-fault
 returns-clause-fault c fault is not_memory =
     let met = c.in-Err.ensures.gives.fault (λ memory. not_memory (c.error_number.ensures.memory memory)) refl in
     c.error_number.ensures.fault fault (rw is at met)
+
+pub returns-then-is_in-clause-memory : goal.returns-then-is_in-clause-memory
+returns-then-is_in-clause-memory c _ = inr (ssh_signature_of c.in-Ok.read, c.in-Ok.ensures.accepts.spelled)
+
+pub returns-clause-memory : goal.returns-clause-memory
+returns-clause-memory c one = inl (c.in-Err.ensures.asks (only_memory (cause c.in-Err.error) _ c.error_number.ensures.range one) refl)

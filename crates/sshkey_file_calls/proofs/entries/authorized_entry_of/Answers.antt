@@ -1,7 +1,10 @@
+use Rattle.std.proofs.Common.{inl, inr}
+use Rattle.sshkey_base.specs.Causes.{cause}
 use Rattle.sshkey_authorized_keys.specs.OpenSshEntries.{openssh_entry_of}
 use Rattle.sshkey_authorized_keys.specs.OpenSshFaults.{HasLineFault}
 use Rattle.sshkey_entries.specs.OpenSshLines.{IsAuthorizedLine}
 use Rattle.sshkey_file_calls.specs.Entries.{of_authorized_key}
+use Rattle.sshkey_calls.proofs.Kept.{only_memory}
 use Rattle.sshkey_file_calls.proofs.Found.{no_fault, none_found, of_line, told}
 use Rattle.sshkey_file_calls.proofs.entries.authorized_entry_of.Goals as goal
 
@@ -16,3 +19,9 @@ returns-in-Err-clause-entry c = none_found (IsAuthorizedLine c.args.line.now) of
 
 pub returns-in-Err-clause-fault : goal.returns-in-Err-clause-fault
 returns-in-Err-clause-fault c = told HasLineFault c.args.line.now c.in-Err.error _ c.error_number.ensures.memory c.error_number.ensures.number c.in-Err.ensures.fault
+
+pub returns-in-Ok-clause-memory : goal.returns-in-Ok-clause-memory
+returns-in-Ok-clause-memory c _ = inr (openssh_entry_of c.in-Ok.entry, c.in-Ok.ensures.reads)
+
+pub returns-in-Err-clause-memory : goal.returns-in-Err-clause-memory
+returns-in-Err-clause-memory c one = inl (c.in-Err.ensures.asks (only_memory (cause c.in-Err.error) _ c.error_number.ensures.range one))

@@ -2,13 +2,14 @@
 
 ghost use Rattle.std.specs.Prelude.{◌≡◌, slice_index};
 ghost use Rattle.sha1.specs.Sha1.{Holds};
-ghost use Rattle.sshkey_cases.specs.Hmac.{hmac_of_block, hmac_sha1, masked};
+ghost use Rattle.sshkey_hmac.specs.Hmac.{hmac_of_block, hmac_sha1, masked};
 
 use sha1::Sha1;
 use sshkey_known_hosts::HmacSha1;
 
-/// HMAC-SHA1 (RFC 2104).
-pub(crate) struct Hmac;
+/// HMAC-SHA1 (RFC 2104), computed over the crate sha1.
+#[derive(Clone, Copy, Debug)]
+pub struct Hmac;
 
 /// The byte at that place, and zero behind the last.
 fn byte_at(key: &[u8], place: usize) -> u8

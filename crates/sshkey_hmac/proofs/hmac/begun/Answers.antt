@@ -1,8 +1,8 @@
-use Rattle.std.proofs.Common.{ℕ, map, slice_index, bit_xor, subst, sym, ap, arith, ◌∙◌, ◌++◌, List, [], ◌∷◌}
+use Rattle.std.proofs.Common.{ℕ, map, slice_index, bit_xor, subst, sym, ap, arith, ◌∙◌, ◌++◌, [], ◌∷◌}
 use Rattle.std.specs.List.{range_with_len}
 use Rattle.std.proofs.lemmas.List.FromFn.{map-range_with_len_more}
 use Rattle.sha1.specs.Sha1.{Holds}
-use Rattle.sshkey_cases.proofs.hmac.begun.Goals as goal
+use Rattle.sshkey_hmac.proofs.hmac.begun.Goals as goal
 
 pub loop-place-preserved : goal.loop-place-preserved
 loop-place-preserved c =

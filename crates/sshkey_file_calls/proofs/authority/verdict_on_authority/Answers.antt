@@ -5,9 +5,9 @@ use Rattle.sshkey_entries.specs.HostNames.{known_name}
 use Rattle.sshkey_keys.specs.Keys.{key_of}
 use Rattle.sshkey_public.specs.PublicKeys.{public_of}
 use Rattle.sshkey_public.specs.declared.public_key.PublicKey.{PublicKey}
-use Rattle.sshkey_file_calls.specs.Hmac.{hmac_sha1}
+use Rattle.sshkey_hmac.specs.Hmac.{hmac_sha1}
 use Rattle.sshkey_file_calls.proofs.Told.{grave, settled}
-use Rattle.sshkey_file_calls.proofs.authority.verdict_on.Goals as goal
+use Rattle.sshkey_file_calls.proofs.authority.verdict_on_authority.Goals as goal
 
 pub returns-then-is_grave : goal.returns-then-is_grave
 returns-then-is_grave c = grave hmac_sha1 (known_name c.args.host.now c.args.port) (key_of c.args.key.now) (filled_lines c.args.text.now) c.in_ok-of_key.of_key (sym c.is_grave.ensures ∙ c.if-is_grave.true) c.in_ok-of_key.ensures.answer
