@@ -2,18 +2,18 @@
 
 ghost use Rattle.std.specs.Prelude.{◌+◌, ◌<◌, ◌≤◌, ◌^◌, IfOk};
 ghost use Rattle.ssh_key.specs.base.Causes.{cause};
-ghost use Rattle.ssh_key.specs.base.Formats.{Stops};
 ghost use Rattle.ssh_key.specs.base.Needs.{Asks};
-ghost use Rattle.ssh_key.specs.base.Nested.{nested_source};
 ghost use Rattle.ssh_key.specs.base.Reading.{Gives};
 ghost use Rattle.ssh_key.specs.base.Sink.{Encodes, Measures, MeasuresBoxed};
 ghost use Rattle.ssh_key.specs.base.Source.{Later};
 ghost use Rattle.ssh_key.specs.counted.Contents.{Contents, StopsIn};
 ghost use Rattle.ssh_key.specs.model.Parts.{Parts, ◌&◌, box};
-ghost use Rattle.agent_codec.specs.Parts.{framed, message as contents};
 
-use crate::kind::{Kind, decode_kind};
-use ssh_key::encoding::{Encode, NestedReader, Reader, Writer, both_len, u32_of};
+mod read;
+
+use crate::kind::Kind;
+pub(crate) use read::decode_frame;
+use ssh_key::encoding::{Encode, Reader, Writer, both_len, u32_of};
 use ssh_key::{Result, encoding};
 use std::alloc::Global;
 
@@ -51,43 +51,6 @@ pub(crate) trait Framed: Sized {
     fn encode_message<W: Writer>(&self, writer: &mut W) -> encoding::Result<()>
         ensures { Encodes W.fault (message self.now)
             (W.sink writer.old) result (W.sink writer.new) };
-}
-
-/// Reads a message in its frame.
-pub(crate) fn decode_frame<M: Framed + Drop, R: Reader>(alloc: Global, reader: &mut R) -> Result<M>
-    ensures gives { Gives M.means cause (framed M.Kind.kind_from M.body).read
-        (R.source reader.old) result (R.source reader.new) }
-    ensures later { Later (R.source reader.old) (R.source reader.new) }
-    ensures asks { Asks cause (framed M.Kind.kind_from M.body).needs
-        (R.source reader.old) result }
-    ensures past { Stops cause (framed M.Kind.kind_from M.body) (R.source reader.old) result }
-{
-    reader.read_prefixed(
-        |part: &mut NestedReader<'_, R>| -> Result<M>
-            ensures gives { Gives M.means cause (contents M.Kind.kind_from M.body).read
-                (nested_source R.source part.old) result (nested_source R.source part.new) }
-            ensures later { Later (nested_source R.source part.old)
-                (nested_source R.source part.new) }
-            ensures asks { Asks cause (contents M.Kind.kind_from M.body).needs
-                (nested_source R.source part.old) result }
-            ensures past { StopsIn cause (contents M.Kind.kind_from M.body)
-                (nested_source R.source part.old) result }
-        { message_from(alloc, part) },
-    )
-}
-
-/// Reads a message without its frame, up to the end of the reader.
-fn message_from<M: Framed, R: Reader>(alloc: Global, reader: &mut R) -> Result<M>
-    ensures gives { Gives M.means cause (contents M.Kind.kind_from M.body).read
-        (R.source reader.old) result (R.source reader.new) }
-    ensures later { Later (R.source reader.old) (R.source reader.new) }
-    ensures asks { Asks cause (contents M.Kind.kind_from M.body).needs
-        (R.source reader.old) result }
-    ensures past { StopsIn cause (contents M.Kind.kind_from M.body)
-        (R.source reader.old) result }
-{
-    let kind = decode_kind::<M::Kind, R>(alloc, reader)?;
-    M::body_from(alloc, reader, kind)
 }
 
 /// How many bytes the message has in its frame. Fails with `Length` exactly if a frame can't hold

@@ -5,7 +5,7 @@ use Rattle.ssh_key.proofs.Chosen.{chosen_asks, chosen_gives, chosen_refused, cho
 use Rattle.ssh_key.proofs.Held.{choice_stops}
 use Rattle.ssh_key.proofs.Places.{later_then}
 use Rattle.agent_codec.specs.Parts.{choice_read, message, numbered}
-use Rattle.agent_codec.proofs.frame.message_from.Goals as goal
+use Rattle.agent_codec.proofs.frame.read.message_from.Goals as goal
 
 pub returns-in_err-kind-clause-gives : goal.returns-in_err-kind-clause-gives
 returns-in_err-kind-clause-gives g c =

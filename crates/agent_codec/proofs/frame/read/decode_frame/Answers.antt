@@ -3,7 +3,7 @@ use Rattle.ssh_key.specs.base.Causes.{cause}
 use Rattle.ssh_key.proofs.Boxes.{prefixed_asks, prefixed_gives}
 use Rattle.ssh_key.proofs.Held.{held_stops}
 use Rattle.agent_codec.specs.Parts.{message}
-use Rattle.agent_codec.proofs.frame.decode_frame.Goals as goal
+use Rattle.agent_codec.proofs.frame.read.decode_frame.Goals as goal
 
 pub returns-clause-gives : goal.returns-clause-gives
 returns-clause-gives g c = prefixed_gives _ _ _ cause _ g.M.Framed.means (message g.M.Kind.Kind.kind_from g.M.Framed.body).read (search rules) (search rules) _ _ _ c.read_prefixed.ensures.calls
