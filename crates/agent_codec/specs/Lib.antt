@@ -3,3 +3,4 @@ pub mod Parts
 pub mod Records
 pub mod Requests
 pub mod Responses
+pub mod Signing

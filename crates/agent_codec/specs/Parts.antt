@@ -1,4 +1,4 @@
--- Formats of messages: nothing at all, and what is written of two values. The lemmas are proved, and need not be believed.
+-- Formats of messages: nothing at all, a number and what it calls for, and what is written of two values. The lemmas are proved, and need not be believed.
 use Rattle.std.proofs.Common.{◌≡◌, ◌<◌, ℕ, List, [], ◌++◌, append-nil, length, Result, Ok, Err, refl, subst, sym, ap, arith}
 use Rattle.std.proofs.lemmas.List.{length-append}
 use Rattle.std.specs.Int.{w8}
@@ -8,6 +8,7 @@ use Rattle.ssh_key.specs.base.Reading.{SpellsBoxed}
 use Rattle.ssh_key.specs.base.Needs.{NoNeed}
 use Rattle.ssh_key.specs.base.Stops.{NoOverrun}
 use Rattle.ssh_key.specs.base.Lengths.{no_lengths}
+use Rattle.ssh_key.specs.counted.Contents.{Contents, choice_to_end, held, tested_to_end}
 use Rattle.ssh_key.specs.format.Behind.{SpellsBoth, SpellsThen, behind_at}
 use Rattle.ssh_key.specs.format.Terms.{IsChosen, IsMapped, tested}
 use Rattle.ssh_key.specs.format.Tested.{SpellsTested}
@@ -56,6 +57,15 @@ both_spelled S T x y p q first second fits = record {
 -- what it stands for
 abbrev pub numbered : {K : Type 0} → (ℕ → Result K Fault) → Format K
 numbered kind_from = tested kind_from byte_format
+
+module _ {K M : Type 0} (kind_from : ℕ → Result K Fault) (body : K → Contents M) where
+  -- the number, and what it calls for, to the end of the frame
+  abbrev pub message : Contents M
+  message = tested_to_end (λ m. Ok m.1) (choice_to_end (numbered kind_from) body)
+
+  -- the same in its frame
+  abbrev pub framed : Format M
+  framed = held message
 
 module _ {K M : Type 0} (kind_from : ℕ → Result K Fault) (Body : K → M → List ℕ → Type 0) where
   abbrev pub SpellsNumbered : M → List ℕ → Type 0
@@ -117,6 +127,6 @@ choice_read {A} {B} first second = record { same = λ b. go (first b) }
 
 -- ---- a frame
 
-pub framed : {A : Type 0} (S : A → List ℕ → Type 0) (x : A) (p : Parts) → (Fits p → S x (flat p)) → Fits (box p) → SpellsBoxed S x (flat (box p))
+pub frame_spelled : {A : Type 0} (S : A → List ℕ → Type 0) (x : A) (p : Parts) → (Fits p → S x (flat p)) → Fits (box p) → SpellsBoxed S x (flat (box p))
 unfolding flat
-framed S x p inside fits = record { inside = flat p; spelled = inside (fits_inside p fits); short = fits_length p fits; whole = refl }
+frame_spelled S x p inside fits = record { inside = flat p; spelled = inside (fits_inside p fits); short = fits_length p fits; whole = refl }

@@ -5,14 +5,14 @@ use Rattle.std.specs.Int.{w8}
 use Rattle.std.specs.List.{AllByRecursion}
 use Rattle.ssh_key.specs.base.Formats.{Format, string_format}
 use Rattle.ssh_key.specs.base.Leaves.{string_normal}
-use Rattle.ssh_key.specs.counted.Contents.{Contents, alone, choice_to_end, held, tested_to_end}
+use Rattle.ssh_key.specs.counted.Contents.{Contents, alone, choice_to_end, tested_to_end}
 use Rattle.ssh_key.specs.format.Behind.{both_at}
-use Rattle.ssh_key.specs.format.Terms.{IsChosen, IsMapped, tested}
+use Rattle.ssh_key.specs.format.Terms.{IsMapped, tested}
 use Rattle.ssh_key.specs.model.Parts.{Parts, box, each, flat, Fits, number, ◌&◌}
 use Rattle.ssh_key.specs.model.Reading.{Fault, FormatEncoding}
 use Rattle.ssh_key.specs.model.Texts.{string}
 use Rattle.agent_codec.specs.Constraints.{Constraint, IsWellFormedConstraint, constraint, constraint_of, constraints, constraints_normal}
-use Rattle.agent_codec.specs.Parts.{after_number, both_spelled, choice_read, framed, nothing_format, number_alone, numbered}
+use Rattle.agent_codec.specs.Parts.{after_number, both_spelled, frame_spelled, framed, message, nothing_format, number_alone}
 use Rattle.agent_codec.specs.Records.{Addition, IsWellFormedAddition, SignRequest, addition, addition_format, addition_normal, addition_of, sign_request, sign_request_format, sign_request_normal, sign_request_of}
 use Rattle.agent_codec.specs.declared.addition.Addition as code_addition
 use Rattle.agent_codec.specs.declared.constraint.Constraint as code_constraint
@@ -42,10 +42,14 @@ request_of (variants.AddIdentityConstrained a cs) = AddConstrained (addition_of 
 abbrev pub constrained : code_addition.Addition → List code_constraint.Constraint → Parts
 constrained a cs = number w8 25 & addition a & each constraint cs
 
+-- the message that asks for a signature
+abbrev pub to_sign : SignRequest → Parts
+to_sign r = number w8 13 & sign_request r
+
 -- the number, and what it holds
 abbrev pub request : code.Request → Parts
 request variants.RequestIdentities = number w8 11
-request (variants.SignRequest r) = number w8 13 & sign_request (sign_request_of r)
+request (variants.SignRequest r) = to_sign (sign_request_of r)
 request (variants.AddIdentity a) = number w8 17 & addition a
 request (variants.RemoveIdentity key) = number w8 18 & string key
 request variants.RemoveAllIdentities = number w8 19
@@ -67,9 +71,6 @@ kind_from n =
     else if n == 25 then Ok kinds.AddIdentityConstrained
     else Err FormatEncoding
 
-abbrev pub kind_format : Format RequestKind
-kind_format = numbered kind_from
-
 -- ---- what stands behind the number
 
 -- constraints stand to the end of the frame
@@ -86,17 +87,11 @@ body kinds.Lock = alone (tested (λ passphrase. Ok (Lock passphrase)) string_for
 body kinds.Unlock = alone (tested (λ passphrase. Ok (Unlock passphrase)) string_format)
 body kinds.AddIdentityConstrained = constrained_body
 
-abbrev pub message : Contents Request
-message = tested_to_end (λ m. Ok m.1) (choice_to_end kind_format body)
-
 -- a request in its frame
 abbrev pub request_format : Format Request
-request_format = held message
+request_format = framed kind_from body
 
 -- ---- what is proved of it
-
-pub message_chosen : IsChosen message.read kind_format.read (λ k. (body k).read)
-message_chosen = choice_read kind_format.read (λ k. (body k).read)
 
 pub constrained_read : IsMapped constrained_body.read (λ a. Ok (AddConstrained a.0 a.1)) (both_at addition_format.read constraints.read)
 constrained_read = record { same = λ b. refl }
@@ -115,7 +110,7 @@ IsWellFormed (variants.AddIdentityConstrained a cs) = IsWellFormedAddition a × 
 abbrev SpellsBody : RequestKind → Request → List ℕ → Type 0
 SpellsBody k = (body k).Spells
 
-message_normal : (r : code.Request) → IsWellFormed r → Fits (request r) → message.Spells (request_of r) (flat (request r))
+message_normal : (r : code.Request) → IsWellFormed r → Fits (request r) → (message kind_from body).Spells (request_of r) (flat (request r))
 message_normal variants.RequestIdentities is fits = number_alone kind_from SpellsBody 11 kinds.RequestIdentities Identities refl (refl, refl) fits
 message_normal (variants.SignRequest r) is fits = after_number kind_from SpellsBody 13 kinds.SignRequest (Sign (sign_request_of r)) (sign_request (sign_request_of r)) refl (λ f. record { inner = sign_request_of r; spelled = sign_request_normal (sign_request_of r) f; makes = refl }) fits
 message_normal (variants.AddIdentity a) is fits = after_number kind_from SpellsBody 17 kinds.AddIdentity (Add (addition_of a)) (addition a) refl (λ f. record { inner = addition_of a; spelled = addition_normal a is f; makes = refl }) fits
@@ -130,4 +125,4 @@ message_normal (variants.AddIdentityConstrained a cs) is fits = after_number kin
 }) fits
 
 pub request_normal : (r : code.Request) → IsWellFormed r → Fits (box (request r)) → request_format.Spells (request_of r) (flat (box (request r)))
-request_normal r is fits = framed message.Spells (request_of r) (request r) (message_normal r is) fits
+request_normal r is fits = frame_spelled (message kind_from body).Spells (request_of r) (request r) (message_normal r is) fits

@@ -4,8 +4,9 @@ use Rattle.std.specs.Prelude.{◌==◌, if◌then◌else◌}
 use Rattle.std.specs.Int.{w8}
 use Rattle.std.specs.List.{AllByRecursion}
 use Rattle.ssh_key.specs.base.Formats.{Format}
+use Rattle.ssh_key.specs.counted.Contents.{Contents, alone}
 use Rattle.ssh_key.specs.counted.Counted.{counted, counted_format, counted_normal}
-use Rattle.ssh_key.specs.format.Terms.{IsChosen, boxed, choice, tested}
+use Rattle.ssh_key.specs.format.Terms.{boxed, tested}
 use Rattle.ssh_key.specs.keys.KeyFormats.{signature_format}
 use Rattle.ssh_key.specs.keys.SignatureReaders.{SpellsSignature, signature_normal}
 use Rattle.ssh_key.specs.keys.Signatures.{signature_of}
@@ -15,12 +16,11 @@ use Rattle.ssh_key.specs.model.Signatures.{Signature, IsSignature, signature}
 use Rattle.ssh_key.specs.model.Texts.{string, IsText}
 use Rattle.ssh_key.specs.types.Signature as code_signature
 use Rattle.ssh_key.proofs.Writing.{length_both, length_box}
-use Rattle.agent_codec.specs.Parts.{after_number, choice_read, framed, nothing_format, number_alone, numbered}
+use Rattle.agent_codec.specs.Parts.{after_number, frame_spelled, framed, message, nothing_format, number_alone}
 use Rattle.agent_codec.specs.Records.{Identity, identity, identity_format, identity_normal, identity_of}
 use Rattle.agent_codec.specs.declared.identity.Identity as code_identity
 use Rattle.agent_codec.specs.declared.response.Response as code
 use Rattle.agent_codec.specs.declared.response.Response.TheVariants as variants
-use Rattle.agent_codec.specs.declared.response.Message as unframed
 use Rattle.agent_codec.specs.declared.response.kind.ResponseKind.{ResponseKind}
 use Rattle.agent_codec.specs.declared.response.kind.ResponseKind.TheVariants as kinds
 
@@ -34,10 +34,6 @@ response_of variants.Failure = Failure
 response_of variants.Success = Success
 response_of (variants.IdentitiesAnswer keys) = Identities (map identity_of keys.items)
 response_of (variants.SignResponse g) = Signed (signature_of g)
-
--- the same without its frame
-abbrev pub message_of : unframed.Message → Response
-message_of m = response_of m.0
 
 -- the signature, of a response that is one
 abbrev pub given_of : code.Response → Option code_signature.Signature
@@ -78,27 +74,18 @@ kind_from n =
     else if n == 14 then Ok kinds.SignResponse
     else Err FormatEncoding
 
-abbrev pub kind_format : Format ResponseKind
-kind_format = numbered kind_from
-
 -- what stands behind the number
-abbrev pub body_format : ResponseKind → Format Response
-body_format kinds.Failure = nothing_format Failure
-body_format kinds.Success = nothing_format Success
-body_format kinds.IdentitiesAnswer = tested (λ keys. Ok (Identities keys)) (counted_format identity_format)
-body_format kinds.SignResponse = tested (λ g. Ok (Signed g)) (boxed signature_format)
-
-abbrev pub message_format : Format Response
-message_format = tested (λ m. Ok m.1) (choice kind_format body_format)
+abbrev pub body : ResponseKind → Contents Response
+body kinds.Failure = alone (nothing_format Failure)
+body kinds.Success = alone (nothing_format Success)
+body kinds.IdentitiesAnswer = alone (tested (λ keys. Ok (Identities keys)) (counted_format identity_format))
+body kinds.SignResponse = alone (tested (λ g. Ok (Signed g)) (boxed signature_format))
 
 -- a response in its frame
 abbrev pub response_format : Format Response
-response_format = boxed message_format
+response_format = framed kind_from body
 
 -- ---- what is proved of it
-
-pub message_chosen : IsChosen message_format.read kind_format.read (λ k. (body_format k).read)
-message_chosen = choice_read kind_format.read (λ k. (body_format k).read)
 
 -- The signature is one of its algorithm, and the comments are texts.
 abbrev pub IsWellFormed : code.Response → Type 0
@@ -118,13 +105,13 @@ answer_normal : (keys : List code_identity.Identity) → AllByRecursion (λ i. I
 answer_normal keys all fits = counted_normal identity_of (λ i. identity (identity_of i)) (λ i. IsText i.comment) identity_format.Spells (λ i is f. identity_normal (identity_of i) is f) shows keys all fits
 
 abbrev SpellsBody : ResponseKind → Response → List ℕ → Type 0
-SpellsBody k = (body_format k).Spells
+SpellsBody k = (body k).Spells
 
-message_normal : (r : code.Response) → IsWellFormed r → Fits (response r) → message_format.Spells (response_of r) (flat (response r))
+message_normal : (r : code.Response) → IsWellFormed r → Fits (response r) → (message kind_from body).Spells (response_of r) (flat (response r))
 message_normal variants.Failure is fits = number_alone kind_from SpellsBody 5 kinds.Failure Failure refl (refl, refl) fits
 message_normal variants.Success is fits = number_alone kind_from SpellsBody 6 kinds.Success Success refl (refl, refl) fits
 message_normal (variants.IdentitiesAnswer keys) is fits = after_number kind_from SpellsBody 12 kinds.IdentitiesAnswer (Identities (map identity_of keys.items)) (answer keys.items) refl (λ f. record { inner = map identity_of keys.items; spelled = answer_normal keys.items is f; makes = refl }) fits
-message_normal (variants.SignResponse g) is fits = after_number kind_from SpellsBody 14 kinds.SignResponse (Signed (signature_of g)) (signed g) refl (λ f. record { inner = signature_of g; spelled = framed SpellsSignature (signature_of g) (signature (signature_of g)) (signature_normal (signature_of g) is) f; makes = refl }) fits
+message_normal (variants.SignResponse g) is fits = after_number kind_from SpellsBody 14 kinds.SignResponse (Signed (signature_of g)) (signed g) refl (λ f. record { inner = signature_of g; spelled = frame_spelled SpellsSignature (signature_of g) (signature (signature_of g)) (signature_normal (signature_of g) is) f; makes = refl }) fits
 
 pub response_normal : (r : code.Response) → IsWellFormed r → Fits (box (response r)) → response_format.Spells (response_of r) (flat (box (response r)))
-response_normal r is fits = framed message_format.Spells (response_of r) (response r) (message_normal r is) fits
+response_normal r is fits = frame_spelled (message kind_from body).Spells (response_of r) (response r) (message_normal r is) fits

@@ -1,7 +1,13 @@
 //! A signing key in an agent.
 
-ghost use Rattle.std.specs.Prelude.{◌≡◌, ◌⊎◌};
-ghost use Rattle.ssh_key.specs.types.Error.TheVariants.{Crypto, Memory};
+ghost use Rattle.std.specs.Prelude.{◌≡◌, ◌≢◌, ℕ, List, Result, IfErr, IfOk};
+ghost use Rattle.ssh_key.specs.keys.Keys.{key_of};
+ghost use Rattle.ssh_key.specs.keys.Signatures.{signature_of};
+ghost use Rattle.ssh_key.specs.model.Parts.{flat, BoxesFit};
+ghost use Rattle.ssh_key.specs.model.Verification.{IsAccepted};
+ghost use Rattle.ssh_key.specs.types.Error.{Error};
+ghost use Rattle.ssh_key.specs.types.Error.TheVariants.{Memory};
+ghost use Rattle.agent_codec.specs.Signing.{GetsSignature, IsAnswered, IsRefusalOf, ReadsSignature, RefusesToSign, handed, signing_request};
 
 use crate::request::Request;
 use crate::response::Response;
@@ -13,8 +19,12 @@ use std::alloc::Global;
 
 /// An agent that can be asked: its socket, or what stands for it.
 pub trait Agent {
+    /// What it may answer to the bytes of a request, or fail with.
+    ghost answers: { Self → List ℕ → Result (List ℕ) Error → Type 0 };
+
     /// Sends the bytes of a request, and returns those of the answer, with its frame.
-    fn ask(&self, alloc: Global, request: &[u8]) -> Result<Vec<u8>>;
+    fn ask(&self, alloc: Global, request: &[u8]) -> Result<Vec<u8>>
+        ensures { answers self.now request.now (handed result) };
 }
 
 /// A key whose private half an agent holds.
@@ -44,15 +54,23 @@ impl<A, V> Drop for AgentKey<'_, A, V> {
 }
 
 impl<A: Agent, V: RawVerifier> AgentKey<'_, A, V> {
-    /// What the agent answers. Fails with `Crypto` where it answers no signature.
-    fn ask(&self, alloc: Global, message: &[u8]) -> Result<Signature> {
+    /// The signature that the agent answers. Fails where it answers none.
+    fn ask(&self, alloc: Global, message: &[u8]) -> Result<Signature>
+        ensures { GetsSignature (A.answers self.now.agent.now)
+            (signing_request (key_of self.now.key) self.now.flags message.now) result }
+    {
         let request = self.request_for(alloc, message)?;
         let answer = self.agent.ask(alloc, &request)?;
         signature_from(alloc, &answer)
     }
 
-    /// The bytes of the request to sign the message.
-    fn request_for(&self, alloc: Global, message: &[u8]) -> Result<Vec<u8>> {
+    /// The bytes of the request to sign the message. Fails where a string in it is too long.
+    fn request_for(&self, alloc: Global, message: &[u8]) -> Result<Vec<u8>>
+        ensures bytes { IfOk result (λ v.
+            v.items ≡ flat (signing_request (key_of self.now.key) self.now.flags message.now)) }
+        ensures refused { IfErr result (λ e. e ≢ Memory →
+            BoxesFit (signing_request (key_of self.now.key) self.now.flags message.now) → ⊥) }
+    {
         let key = Bytes::new(encode_vec(alloc, &self.key)?);
         let message = Bytes::from_slice(alloc, message)?;
         let flags = self.flags;
@@ -65,11 +83,23 @@ impl<A: Agent, V: RawVerifier> AgentKey<'_, A, V> {
     }
 }
 
-/// The signature of an answer. Fails with `Crypto` where it has none.
-fn signature_from(alloc: Global, answer: &[u8]) -> Result<Signature> {
+/// The signature of an answer. Fails with `Crypto` for an answer that is none.
+fn signature_from(alloc: Global, answer: &[u8]) -> Result<Signature>
+    ensures { ReadsSignature answer.now result }
+{
     match decode_whole::<Response, &[u8]>(alloc, answer)?.into_signature() {
         Some(signature) => Ok(signature),
         None => Err(Error::Crypto),
+    }
+}
+
+/// `Memory` as it is, and `Crypto` for any other error.
+fn refusal_of(error: Error) -> Error
+    ensures { IsRefusalOf error result }
+{
+    match error {
+        Error::Memory => Error::Memory,
+        _ => Error::Crypto,
     }
 }
 
@@ -80,7 +110,8 @@ impl<A: Agent, V: RawVerifier> SigningKey for AgentKey<'_, A, V> {
 
     ghost public_of = { λ s. s.key };
 
-    ghost refuses = { λ _ _ e. (e ≡ Memory) ⊎ (e ≡ Crypto) };
+    ghost refuses = { λ s. RefusesToSign (A.answers s.agent.now) (V.accepts s.verifier.now)
+        (key_of s.key) s.flags };
 
     fn raw(&self) -> &V {
         self.verifier
@@ -90,18 +121,25 @@ impl<A: Agent, V: RawVerifier> SigningKey for AgentKey<'_, A, V> {
         &self.key
     }
 
-    /// Fails with `Memory`, or with `Crypto` where the agent answers no signature that the verifier
-    /// accepts.
-    fn try_sign(&self, alloc: Global, message: &[u8]) -> Result<Signature> {
+    /// Asks the agent for a signature of the message, and returns it if the verifier accepts it.
+    ///
+    /// Fails with `Crypto` where the agent answers none that the verifier accepts, or a string of
+    /// the request is too long, and else only when out of memory.
+    fn try_sign(&self, alloc: Global, message: &[u8]) -> Result<Signature>
+        ensures accepted { IfOk result (λ g. IsAccepted (V.accepts self.now.verifier.now)
+            (key_of self.now.key) message.now (signature_of g)) }
+        ensures refused { IfErr result (RefusesToSign (A.answers self.now.agent.now)
+            (V.accepts self.now.verifier.now) (key_of self.now.key) self.now.flags message.now) }
+        ensures answered { IfOk result (λ g. IsAnswered (A.answers self.now.agent.now)
+            (signing_request (key_of self.now.key) self.now.flags message.now) (signature_of g)) }
+    {
         let signature = match self.ask(alloc, message) {
             Ok(signature) => signature,
-            Err(Error::Memory) => return Err(Error::Memory),
-            Err(_) => return Err(Error::Crypto),
+            Err(error) => return Err(refusal_of(error)),
         };
         match self.key.verify(alloc, message, &signature, self.verifier) {
             Ok(()) => Ok(signature),
-            Err(Error::Memory) => Err(Error::Memory),
-            Err(_) => Err(Error::Crypto),
+            Err(error) => Err(refusal_of(error)),
         }
     }
 }

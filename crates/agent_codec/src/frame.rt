@@ -1,23 +1,54 @@
 //! The frame of a message: a length of four bytes before it.
 
 ghost use Rattle.std.specs.Prelude.{◌+◌, ◌<◌, ◌≤◌, ◌^◌, IfOk};
+ghost use Rattle.ssh_key.specs.base.Causes.{cause};
+ghost use Rattle.ssh_key.specs.base.Needs.{Asks};
+ghost use Rattle.ssh_key.specs.base.Reading.{Gives};
 ghost use Rattle.ssh_key.specs.base.Sink.{Encodes, Measures, MeasuresBoxed};
+ghost use Rattle.ssh_key.specs.base.Source.{Later};
+ghost use Rattle.ssh_key.specs.counted.Contents.{Contents, StopsIn};
 ghost use Rattle.ssh_key.specs.model.Parts.{Parts, ◌&◌, box};
 
-use ssh_key::encoding::{Encode, Result, Writer, both_len, u32_of};
+mod read;
 
-/// A message, which stands in a frame.
-pub(crate) trait Framed {
-    /// What stands in the frame.
+use crate::kind::Kind;
+pub(crate) use read::decode_frame;
+use ssh_key::encoding::{Encode, Reader, Writer, both_len, u32_of};
+use ssh_key::{Result, encoding};
+use std::alloc::Global;
+
+/// A message, which stands in a frame: its number, and what that calls for.
+pub(crate) trait Framed: Sized {
+    /// What its number stands for.
+    type Kind: Kind;
+
+    /// What a message means: the model's value.
+    ghost Meaning: { Type 0 };
+
+    /// The meaning of a message.
+    ghost means: { Self → Meaning };
+
+    /// What stands after the number, to the end of the frame.
+    ghost body: { Self.Kind → Contents Meaning };
+
+    /// What stands in the frame, as it is written.
     ghost message: { Self → Parts };
+
+    /// Reads what stands after a number of that kind, up to the end of the reader.
+    fn body_from<R: Reader>(alloc: Global, reader: &mut R, kind: Self::Kind) -> Result<Self>
+        ensures gives { Gives means cause (body kind).read
+            (R.source reader.old) result (R.source reader.new) }
+        ensures later { Later (R.source reader.old) (R.source reader.new) }
+        ensures asks { Asks cause (body kind).needs (R.source reader.old) result }
+        ensures past { StopsIn cause (body kind) (R.source reader.old) result };
 
     /// How many bytes stand in the frame. Fails with `Length` exactly if it can't hold them, or a
     /// string in them is too long.
-    fn message_len(&self) -> Result<u32>
+    fn message_len(&self) -> encoding::Result<u32>
         ensures { MeasuresBoxed (message self.now) result };
 
     /// Writes what stands in the frame.
-    fn encode_message<W: Writer>(&self, writer: &mut W) -> Result<()>
+    fn encode_message<W: Writer>(&self, writer: &mut W) -> encoding::Result<()>
         ensures { Encodes W.fault (message self.now)
             (W.sink writer.old) result (W.sink writer.new) };
 }
@@ -25,7 +56,7 @@ pub(crate) trait Framed {
 /// How many bytes the message has in its frame. Fails with `Length` exactly if a frame can't hold
 /// it, or a string in it is too long.
 #[tactic(auto, using(ssh_key::proofs::Writing::measuring_leaves))]
-pub(crate) fn frame_len<M: Framed>(message: &M) -> Result<usize>
+pub(crate) fn frame_len<M: Framed>(message: &M) -> encoding::Result<usize>
     ensures measures { Measures (box (M.message message.now)) result }
     ensures short { IfOk result (λ n. n ≤ 2 ^ 32 + 3) }
 {
@@ -33,7 +64,10 @@ pub(crate) fn frame_len<M: Framed>(message: &M) -> Result<usize>
 }
 
 /// Writes a length of four bytes, and the message.
-pub(crate) fn encode_frame<M: Framed, W: Writer>(message: &M, writer: &mut W) -> Result<()>
+pub(crate) fn encode_frame<M: Framed, W: Writer>(
+    message: &M,
+    writer: &mut W,
+) -> encoding::Result<()>
     ensures { Encodes W.fault (box (M.message message.now))
         (W.sink writer.old) result (W.sink writer.new) }
 {
@@ -43,7 +77,7 @@ pub(crate) fn encode_frame<M: Framed, W: Writer>(message: &M, writer: &mut W) ->
 
 /// How many bytes a message has that is its number and what stands after it. Fails with `Length`
 /// exactly if a frame can't hold them, or a box in them is too long.
-pub(crate) fn message_len<A: Encode, B: Encode>(number: &A, body: &B) -> Result<u32>
+pub(crate) fn message_len<A: Encode, B: Encode>(number: &A, body: &B) -> encoding::Result<u32>
     requires { A.max_len + B.max_len < 2 ^ 64 }
     ensures { MeasuresBoxed (A.normal number.now & B.normal body.now) result }
 {

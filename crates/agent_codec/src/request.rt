@@ -1,15 +1,9 @@
 //! What a client asks of an agent.
 
 ghost use Rattle.std.specs.Prelude.{◌+◌, ◌^◌};
-ghost use Rattle.ssh_key.specs.base.Causes.{cause};
-ghost use Rattle.ssh_key.specs.base.Needs.{Asks};
-ghost use Rattle.ssh_key.specs.base.Nested.{nested_source};
-ghost use Rattle.ssh_key.specs.base.Reading.{Gives};
-ghost use Rattle.ssh_key.specs.base.Source.{Later};
-ghost use Rattle.ssh_key.specs.counted.Contents.{StopsIn};
 ghost use Rattle.ssh_key.specs.model.Parts.{box};
 ghost use Rattle.agent_codec.specs.Requests as model;
-ghost use Rattle.agent_codec.specs.Requests.{IsWellFormed, message, request, request_format, request_normal, request_of};
+ghost use Rattle.agent_codec.specs.Requests.{IsWellFormed, body, request, request_format, request_normal, request_of};
 
 mod constrained;
 mod kind;
@@ -17,17 +11,16 @@ mod read;
 
 use crate::addition::Addition;
 use crate::constraint::Constraint;
-use crate::frame::{Framed, encode_frame, frame_len, message_len};
+use crate::frame::{Framed, decode_frame, encode_frame, frame_len, message_len};
 use crate::numbers::{
     ADD_IDENTITY, LOCK, REMOVE_ALL_IDENTITIES, REMOVE_IDENTITY, REQUEST_IDENTITIES, SIGN_REQUEST,
     UNLOCK,
 };
 use crate::sign_request::SignRequest;
 use constrained::{constrained_len, encode_constrained};
-use read::request_from;
-use ssh_key::encoding::{
-    Bytes, Decode, Encode, NestedReader, NormalForm, Reader, Writer, encode_both,
-};
+use kind::RequestKind;
+use read::{bytes_from, constrained_from};
+use ssh_key::encoding::{Bytes, Decode, Encode, NormalForm, Reader, Writer, encode_both};
 use ssh_key::{Error, Result, encoding};
 use std::alloc::Global;
 
@@ -91,16 +84,7 @@ impl Decode for Request {
     ghost format = { request_format };
 
     fn decode<R: Reader>(alloc: Global, reader: &mut R) -> Result<Request> {
-        reader.read_prefixed(
-            |part: &mut NestedReader<'_, R>| -> Result<Request>
-                ensures gives { Gives request_of cause message.read
-                    (nested_source R.source part.old) result (nested_source R.source part.new) }
-                ensures later { Later (nested_source R.source part.old)
-                    (nested_source R.source part.new) }
-                ensures asks { Asks cause message.needs (nested_source R.source part.old) result }
-                ensures past { StopsIn cause message (nested_source R.source part.old) result }
-            { request_from(alloc, part) },
-        )
+        decode_frame(alloc, reader)
     }
 }
 
@@ -127,7 +111,31 @@ impl NormalForm for Request {
 }
 
 impl Framed for Request {
+    type Kind = RequestKind;
+
+    ghost Meaning = { model.Request };
+
+    ghost means = { request_of };
+
+    ghost body = { body };
+
     ghost message = { request };
+
+    #[tactic(auto, using(ssh_key::proofs::Places::places, ssh_key::proofs::Mapped::mapped, crate::specs::Parts::checked_read, crate::proofs::Frames::nothing_reads))]
+    fn body_from<R: Reader>(alloc: Global, reader: &mut R, kind: RequestKind) -> Result<Request> {
+        match kind {
+            RequestKind::RequestIdentities => Ok(Request::RequestIdentities),
+            RequestKind::SignRequest => {
+                Ok(Request::SignRequest(SignRequest::decode(alloc, reader)?))
+            }
+            RequestKind::AddIdentity => Ok(Request::AddIdentity(Addition::decode(alloc, reader)?)),
+            RequestKind::RemoveIdentity => Ok(Request::RemoveIdentity(bytes_from(alloc, reader)?)),
+            RequestKind::RemoveAllIdentities => Ok(Request::RemoveAllIdentities),
+            RequestKind::Lock => Ok(Request::Lock(bytes_from(alloc, reader)?)),
+            RequestKind::Unlock => Ok(Request::Unlock(bytes_from(alloc, reader)?)),
+            RequestKind::AddIdentityConstrained => constrained_from(alloc, reader),
+        }
+    }
 
     #[tactic(auto, using(ssh_key::proofs::Writing::measuring_leaves))]
     fn message_len(&self) -> encoding::Result<u32> {

@@ -2,26 +2,25 @@
 
 ghost use Rattle.std.specs.Prelude.{◌≡◌, ◌+◌, ◌^◌};
 ghost use Rattle.ssh_key.specs.base.Causes.{cause};
-ghost use Rattle.ssh_key.specs.base.Formats.{Stops};
 ghost use Rattle.ssh_key.specs.base.Needs.{Asks};
 ghost use Rattle.ssh_key.specs.base.Reading.{Gives};
 ghost use Rattle.ssh_key.specs.base.Sink.{Encodes, MeasuresBoxed};
 ghost use Rattle.ssh_key.specs.base.Source.{Later};
+ghost use Rattle.ssh_key.specs.counted.Contents.{StopsIn};
 ghost use Rattle.ssh_key.specs.model.Parts.{box};
 ghost use Rattle.agent_codec.specs.declared.response.kind.ResponseKind.TheVariants as kinds;
 ghost use Rattle.agent_codec.specs.Responses as model;
-ghost use Rattle.agent_codec.specs.Responses.{IsWellFormed, answered, body_format, given, given_of, message_format, message_of, response, response_format, response_normal, response_of};
+ghost use Rattle.agent_codec.specs.Responses.{IsWellFormed, answered, body, given, given_of, response, response_format, response_normal, response_of};
 
 mod kind;
 
-use crate::frame::{Framed, encode_frame, frame_len};
+use crate::frame::{Framed, decode_frame, encode_frame, frame_len};
 use crate::identity::Identity;
-use crate::kind::decode_kind;
 use crate::numbers::{FAILURE, IDENTITIES_ANSWER, SIGN_RESPONSE, SUCCESS};
 use kind::ResponseKind;
 use ssh_key::encoding::{
-    Boxed, Counted, Decode, Encode, NormalForm, Reader, Wide, Writer, counted_len, decode_boxed,
-    encode_counted, u32_of,
+    Boxed, Counted, Decode, Encode, NormalForm, Reader, Wide, Writer, counted_len, encode_counted,
+    u32_of,
 };
 use ssh_key::{Error, Result, Signature, encoding};
 use std::alloc::Global;
@@ -65,7 +64,7 @@ impl Decode for Response {
     ghost format = { response_format };
 
     fn decode<R: Reader>(alloc: Global, reader: &mut R) -> Result<Response> {
-        Ok(decode_boxed::<Message, R>(alloc, reader)?.0)
+        decode_frame(alloc, reader)
     }
 }
 
@@ -104,7 +103,25 @@ impl Response {
 }
 
 impl Framed for Response {
+    type Kind = ResponseKind;
+
+    ghost Meaning = { model.Response };
+
+    ghost means = { response_of };
+
+    ghost body = { body };
+
     ghost message = { response };
+
+    #[tactic(auto, using(ssh_key::proofs::Places::places, crate::proofs::Frames::nothing_reads))]
+    fn body_from<R: Reader>(alloc: Global, reader: &mut R, kind: ResponseKind) -> Result<Response> {
+        match kind {
+            ResponseKind::Failure => Ok(Response::Failure),
+            ResponseKind::Success => Ok(Response::Success),
+            ResponseKind::IdentitiesAnswer => answer_from(alloc, reader),
+            ResponseKind::SignResponse => signed_from(alloc, reader),
+        }
+    }
 
     #[tactic(auto, using(ssh_key::proofs::Writing::measuring_leaves))]
     fn message_len(&self) -> encoding::Result<u32> {
@@ -159,69 +176,28 @@ fn encode_signed<W: Writer>(signature: &Signature, writer: &mut W) -> encoding::
     signature.encode_prefixed(writer)
 }
 
-/// A response without its frame.
-#[derive(Drop)]
-struct Message(Response);
-
-#[tactic(auto, using(ssh_key::proofs::Chosen::chosen, crate::specs::Responses::message_chosen))]
-impl Decode for Message {
-    type Error = Error;
-
-    ghost Meaning = { model.Response };
-
-    ghost means = { message_of };
-
-    ghost format = { message_format };
-
-    fn decode<R: Reader>(alloc: Global, reader: &mut R) -> Result<Message> {
-        let kind = decode_kind::<ResponseKind, R>(alloc, reader)?;
-        message_from(alloc, reader, kind)
-    }
-}
-
-/// What stands after the number of a response of that kind.
-#[tactic(auto, using(ssh_key::proofs::Places::places, crate::proofs::Frames::nothing_reads))]
-fn message_from<R: Reader>(alloc: Global, reader: &mut R, kind: ResponseKind) -> Result<Message>
-    ensures gives { Gives message_of cause (body_format kind).read
-        (R.source reader.old) result (R.source reader.new) }
-    ensures later { Later (R.source reader.old) (R.source reader.new) }
-    ensures asks { Asks cause (body_format kind).needs (R.source reader.old) result }
-    ensures past { Stops cause (body_format kind) (R.source reader.old) result }
-{
-    match kind {
-        ResponseKind::Failure => Ok(Message(Response::Failure)),
-        ResponseKind::Success => Ok(Message(Response::Success)),
-        ResponseKind::IdentitiesAnswer => answer_from(alloc, reader),
-        ResponseKind::SignResponse => signed_from(alloc, reader),
-    }
-}
-
 /// The keys, after their number.
 #[tactic(auto, using(ssh_key::proofs::Mapped::mapped, crate::specs::Parts::checked_read))]
-fn answer_from<R: Reader>(alloc: Global, reader: &mut R) -> Result<Message>
-    ensures gives { Gives message_of cause (body_format kinds.IdentitiesAnswer).read
+fn answer_from<R: Reader>(alloc: Global, reader: &mut R) -> Result<Response>
+    ensures gives { Gives response_of cause (body kinds.IdentitiesAnswer).read
         (R.source reader.old) result (R.source reader.new) }
     ensures later { Later (R.source reader.old) (R.source reader.new) }
-    ensures asks { Asks cause (body_format kinds.IdentitiesAnswer).needs
-        (R.source reader.old) result }
-    ensures past { Stops cause (body_format kinds.IdentitiesAnswer)
-        (R.source reader.old) result }
+    ensures asks { Asks cause (body kinds.IdentitiesAnswer).needs (R.source reader.old) result }
+    ensures past { StopsIn cause (body kinds.IdentitiesAnswer) (R.source reader.old) result }
 {
     let Wide(Counted(identities)) = Wide::<Counted<Identity>>::decode(alloc, reader)?;
-    Ok(Message(Response::IdentitiesAnswer(identities)))
+    Ok(Response::IdentitiesAnswer(identities))
 }
 
 /// The signature, in a string.
 #[tactic(auto, using(ssh_key::proofs::Mapped::mapped, crate::specs::Parts::checked_read))]
-fn signed_from<R: Reader>(alloc: Global, reader: &mut R) -> Result<Message>
-    ensures gives { Gives message_of cause (body_format kinds.SignResponse).read
+fn signed_from<R: Reader>(alloc: Global, reader: &mut R) -> Result<Response>
+    ensures gives { Gives response_of cause (body kinds.SignResponse).read
         (R.source reader.old) result (R.source reader.new) }
     ensures later { Later (R.source reader.old) (R.source reader.new) }
-    ensures asks { Asks cause (body_format kinds.SignResponse).needs
-        (R.source reader.old) result }
-    ensures past { Stops cause (body_format kinds.SignResponse)
-        (R.source reader.old) result }
+    ensures asks { Asks cause (body kinds.SignResponse).needs (R.source reader.old) result }
+    ensures past { StopsIn cause (body kinds.SignResponse) (R.source reader.old) result }
 {
     let Boxed(signature) = Boxed::<Signature>::decode(alloc, reader)?;
-    Ok(Message(Response::SignResponse(signature)))
+    Ok(Response::SignResponse(signature))
 }

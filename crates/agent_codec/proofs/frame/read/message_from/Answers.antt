@@ -4,13 +4,15 @@ use Rattle.ssh_key.specs.base.Causes.{cause}
 use Rattle.ssh_key.proofs.Chosen.{chosen_asks, chosen_gives, chosen_refused, chosen_stopped}
 use Rattle.ssh_key.proofs.Held.{choice_stops}
 use Rattle.ssh_key.proofs.Places.{later_then}
-use Rattle.agent_codec.specs.Requests.{body, kind_format, message, message_chosen, request_of}
-use Rattle.agent_codec.proofs.request.read.request_from.Goals as goal
+use Rattle.agent_codec.specs.Parts.{choice_read, message, numbered}
+use Rattle.agent_codec.proofs.frame.read.message_from.Goals as goal
 
 pub returns-in_err-kind-clause-gives : goal.returns-in_err-kind-clause-gives
 returns-in_err-kind-clause-gives g c =
     let p = err_from_is_err_and c.from_residual.result c.from_residual.ensures.1 in
-    rw (p.1, p.2) (chosen_refused kind_format.read (λ k. (body k).read) _ _ _ message.read message_chosen c.in_err-kind.ensures.gives)
+    let kind = numbered g.M.Kind.Kind.kind_from in
+    let body = g.M.Framed.body in
+    rw (p.1, p.2) (chosen_refused kind.read (λ k. (body k).read) _ _ _ _ (choice_read kind.read (λ k. (body k).read)) c.in_err-kind.ensures.gives)
 
 pub returns-in_err-kind-clause-later : goal.returns-in_err-kind-clause-later
 returns-in_err-kind-clause-later g c = c.in_err-kind.ensures.later
@@ -23,16 +25,24 @@ returns-in_err-kind-clause-asks g c =
 pub returns-in_err-kind-clause-past : goal.returns-in_err-kind-clause-past
 returns-in_err-kind-clause-past g c =
     let p = err_from_is_err_and c.from_residual.result c.from_residual.ensures.1 in
-    rw (p.1, p.2) (chosen_stopped kind_format.read (λ k. (body k).read) kind_format.needs kind_format.overruns (λ k. (body k).needs) (λ k. (body k).overruns) _ _ message.read message_chosen c.in_err-kind.ensures.past).past
+    let kind = numbered g.M.Kind.Kind.kind_from in
+    let body = g.M.Framed.body in
+    rw (p.1, p.2) (chosen_stopped kind.read (λ k. (body k).read) kind.needs kind.overruns (λ k. (body k).needs) (λ k. (body k).overruns) _ _ _ (choice_read kind.read (λ k. (body k).read)) c.in_err-kind.ensures.past).past
 
 pub returns-clause-gives : goal.returns-clause-gives
-returns-clause-gives g c = chosen_gives _ kind_format.read (λ k. (body k).read) message.read _ _ _ cause _ request_of _ c.in_ok-kind.ensures.gives message_chosen c.body_from.ensures.gives
+returns-clause-gives g c =
+    let kind = numbered g.M.Kind.Kind.kind_from in
+    let body = g.M.Framed.body in
+    chosen_gives _ kind.read (λ k. (body k).read) _ _ _ _ cause _ g.M.Framed.means _ c.in_ok-kind.ensures.gives (choice_read kind.read (λ k. (body k).read)) c.body_from.ensures.gives
 
 pub returns-clause-later : goal.returns-clause-later
 returns-clause-later g c = later_then _ _ _ c.in_ok-kind.ensures.later c.body_from.ensures.later
 
 pub returns-clause-asks : goal.returns-clause-asks
-returns-clause-asks g c = chosen_asks _ kind_format.read (λ k. (body k).read) message.read _ _ _ cause _ kind_format.needs (λ k. (body k).needs) c.in_ok-kind.ensures.gives c.body_from.ensures.asks
+returns-clause-asks g c =
+    let kind = numbered g.M.Kind.Kind.kind_from in
+    let body = g.M.Framed.body in
+    chosen_asks _ kind.read (λ k. (body k).read) (message g.M.Kind.Kind.kind_from body).read _ _ _ cause _ kind.needs (λ k. (body k).needs) c.in_ok-kind.ensures.gives c.body_from.ensures.asks
 
 pub returns-clause-past : goal.returns-clause-past
-returns-clause-past g c = choice_stops _ kind_format body cause _ _ _ _ c.in_ok-kind.ensures.gives c.body_from.ensures.past
+returns-clause-past g c = choice_stops _ (numbered g.M.Kind.Kind.kind_from) g.M.Framed.body cause _ _ _ _ c.in_ok-kind.ensures.gives c.body_from.ensures.past

@@ -1,0 +1,17 @@
+use Rattle.std.proofs.Common.{inl, ◌∙◌}
+use Rattle.std.proofs.lemmas.Result.{err_from_is_err_and}
+use Rattle.agent_codec.proofs.Signing.{agent_failed, answer_read}
+use Rattle.agent_codec.proofs.agent_key.AgentKey.ask.Goals as goal
+
+pub returns-in_err-request : goal.returns-in_err-request
+returns-in_err-request g c =
+    let p = err_from_is_err_and c.from_residual.result c.from_residual.ensures.1 in
+    rw (p.1, p.2) (λ other. inl (c.in_err-request.ensures.refused other))
+
+pub returns-in_err-answer : goal.returns-in_err-answer
+returns-in_err-answer g c =
+    let p = err_from_is_err_and c.from_residual-in_err-answer.result c.from_residual-in_err-answer.ensures.1 in
+    rw (p.1, p.2) (λ other. agent_failed _ _ _ _ (c.deref.ensures.value ∙ c.in_ok-request.ensures.bytes) c.in_err-answer.ensures)
+
+pub returns : goal.returns
+returns g c = answer_read _ _ _ _ _ c.signature_from.result (c.deref.ensures.value ∙ c.in_ok-request.ensures.bytes) c.in_ok-answer.ensures c.deref-2.ensures.value c.signature_from.ensures

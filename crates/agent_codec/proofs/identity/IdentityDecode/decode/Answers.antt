@@ -1,0 +1,19 @@
+use Rattle.std.proofs.Common.{refl}
+use Rattle.std.proofs.lemmas.Result.{err_from_is_err_and}
+use Rattle.ssh_key.proofs.Mapped.{mapped_reads, mapped_refused}
+use Rattle.ssh_key.proofs.Stopping.{mapped_stopped}
+use Rattle.agent_codec.specs.Records.{identity_of, identity_parts_read}
+use Rattle.agent_codec.proofs.identity.IdentityDecode.decode.Goals as goal
+
+pub returns-in_err-key-clause-gives : goal.returns-in_err-key-clause-gives
+returns-in_err-key-clause-gives g c =
+    let p = err_from_is_err_and c.from_residual.result c.from_residual.ensures.1 in
+    rw (p.1, p.2) (mapped_refused _ _ _ _ _ _ identity_parts_read c.in_err-key.ensures.gives)
+
+pub returns-in_err-key-clause-past : goal.returns-in_err-key-clause-past
+returns-in_err-key-clause-past g c =
+    let p = err_from_is_err_and c.from_residual.result c.from_residual.ensures.1 in
+    rw (p.1, p.2) (mapped_stopped _ _ _ _ _ _ _ identity_parts_read c.in_err-key.ensures.past)
+
+pub returns-clause-gives : goal.returns-clause-gives
+returns-clause-gives g c = mapped_reads _ _ _ _ _ _ _ identity_of _ c.in_ok-key.ensures.gives identity_parts_read refl
