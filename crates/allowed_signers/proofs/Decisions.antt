@@ -11,6 +11,7 @@ use Rattle.ssh_key.specs.entries.OpenSshLines.{IsAuthorizedLine}
 use Rattle.ssh_key.specs.entries.Patterns.{MatchesList}
 use Rattle.ssh_key.specs.model.Keys.{Key}
 use Rattle.ssh_key.specs.model.SshSignatures.{SshSignature}
+use Rattle.ssh_key.specs.sshsig.SshSignatureFormats.{ssh_signature_format}
 use Rattle.ssh_key.specs.sshsig.SshSignatureReaders.{SpellsSshSignature}
 use Rattle.ssh_key.specs.types.Error.{Error}
 use Rattle.ssh_key.specs.types.Error.TheVariants.{Memory}
@@ -53,12 +54,12 @@ answered_memory (Err e) r is = only_memory e r is
 
 -- ---- the signature
 
-pub unread : (bytes : List ℕ) (e : Error) (r : Refusal) → (cause e ≢ NoMemory → IsSound (all_of bytes) → NoSpelling SpellsSshSignature bytes) → Names e r → ReadsSignature bytes (Err r)
-unread bytes e r none (inl memory) = inl memory.1
-unread bytes e r none (inr other) = inr (other.1, none (other_cause e other.0) refl)
+pub unread : (bytes : List ℕ) (e : Error) (r : Refusal) → (cause e ≢ NoMemory → IsSound (all_of bytes) → NoSpelling SpellsSshSignature bytes) → (cause e ≡ NoMemory → IsSound (all_of bytes) → ssh_signature_format.needs bytes 0) → Names e r → ReadsSignature bytes (Err r)
+unread bytes e r none asks (inl memory) = inl (memory.1, inl (asks (rw memory.0 refl) refl))
+unread bytes e r none asks (inr other) = inr (other.1, none (other_cause e other.0) refl)
 
 pub nothing_counts : (Holds : SshSignature → Type 0) (bytes : List ℕ) (r : Refusal) → ReadsSignature bytes (Err r) → OkExactly (HasSignature bytes Holds) (Err r)
-nothing_counts Holds bytes r (inl memory) = λ other has. absurd (other memory)
+nothing_counts Holds bytes r (inl memory) = λ other has. absurd (other memory.0)
 nothing_counts Holds bytes r (inr none) = λ other has. none.1 has.0 has.1
 
 -- whether bytes are left, by the test of their number

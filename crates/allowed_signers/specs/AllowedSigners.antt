@@ -1,6 +1,7 @@
 -- When a signature counts as an identity's, by a file of allowed signers (ssh-keygen(1), ALLOWED SIGNERS).
 use Rattle.std.specs.Prelude.{◌≡◌, ◌≢◌, ◌⊎◌, ℕ, List, [], Bool, true, false, Result, Ok, Err}
 use Rattle.std.specs.List.{Any}
+use Rattle.ssh_key.specs.base.Acceptance.{SpellsSome}
 use Rattle.ssh_key.specs.base.Reading.{NoSpelling}
 use Rattle.ssh_key.specs.entries.AuthorizedKeys.{AuthorizedKey}
 use Rattle.ssh_key.specs.entries.Fields.{filled_lines}
@@ -10,6 +11,7 @@ use Rattle.ssh_key.specs.model.Keys.{Key}
 use Rattle.ssh_key.specs.model.SignedMessages.{IsVerified}
 use Rattle.ssh_key.specs.model.SshSignatures.{SshSignature}
 use Rattle.ssh_key.specs.model.Verification.{Question}
+use Rattle.ssh_key.specs.sshsig.SshSignatureFormats.{ssh_signature_format}
 use Rattle.ssh_key.specs.sshsig.SshSignatureReaders.{SpellsSshSignature}
 use Rattle.ssh_key.specs.sshsig.SshSignatures.{ssh_signature_of}
 use Rattle.ssh_key.specs.types.Error.{Error}
@@ -70,12 +72,16 @@ abbrev pub OkExactly : Type 0 → Result (Unit {0}) Refusal → Type 0
 OkExactly Holds (Ok x) = Holds
 OkExactly Holds (Err e) = e ≢ Memory → Holds → ⊥
 
--- What is wrong first, or memory ran out.
+-- What stands in the bytes up to their fault needs memory, or they spell a signature, which is judged then.
+abbrev pub NeedsMemory : List ℕ → Type 0
+NeedsMemory bytes = ssh_signature_format.needs bytes 0 ⊎ SpellsSome SpellsSshSignature bytes
+
+-- What is wrong first, or memory ran out where some is needed.
 abbrev pub IsWhy : (Question → Bool) → List ℕ → List ℕ → List ℕ → List ℕ → ℕ → List ℕ → Refusal → Type 0
 IsWhy accepts signers identity namespace message time bytes NoSignature = NoSpelling SpellsSshSignature bytes
 IsWhy accepts signers identity namespace message time bytes NotAllowed = HasSignature bytes (λ f. ¬ IsAllowed identity namespace time f.key signers)
 IsWhy accepts signers identity namespace message time bytes NotVerified = HasSignature bytes (λ f. IsAllowed identity namespace time f.key signers × ¬ HasSigned accepts namespace message f)
-IsWhy accepts signers identity namespace message time bytes Memory = Unit {0}
+IsWhy accepts signers identity namespace message time bytes Memory = NeedsMemory bytes
 
 -- ---- the steps
 
@@ -95,7 +101,7 @@ Answers (Err e) answer = IsNo e answer
 abbrev pub Names : Error → Refusal → Type 0
 Names e r = ((e ≡ error.Memory) × (r ≡ Memory)) ⊎ ((e ≢ error.Memory) × (r ≡ NoSignature))
 
--- The signature that the bytes spell; or they spell none, or memory ran out.
+-- The signature that the bytes spell; or they spell none, or memory ran out where some is needed.
 abbrev pub ReadsSignature : List ℕ → Result SshSig Refusal → Type 0
 ReadsSignature bytes (Ok f) = SpellsSshSignature (ssh_signature_of f) bytes
-ReadsSignature bytes (Err e) = (e ≡ Memory) ⊎ ((e ≡ NoSignature) × NoSpelling SpellsSshSignature bytes)
+ReadsSignature bytes (Err e) = ((e ≡ Memory) × NeedsMemory bytes) ⊎ ((e ≡ NoSignature) × NoSpelling SpellsSshSignature bytes)

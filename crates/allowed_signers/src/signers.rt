@@ -43,8 +43,10 @@ pub enum Refusal {
 ///
 /// `signature` is what stands in the armour of `ssh-keygen -Y sign`, decoded. Unless memory runs
 /// out, it is refused for the first of these that holds: `NoSignature`, `NotAllowed`,
-/// `NotVerified`. One with reserved bytes is not verified. RSA keys of less than 1,024 bits, which
-/// ssh-keygen does not read, are left to the verifier.
+/// `NotVerified`. Where the bytes are no signature, `Memory` means that an allocation for what
+/// stands in front of their fault failed: a length that they only state allocates nothing. One with
+/// reserved bytes is not verified. RSA keys of less than 1,024 bits, which ssh-keygen does not read,
+/// are left to the verifier.
 pub fn verify<V: RawVerifier>(
     alloc: Global,
     signers: &str,

@@ -1,12 +1,12 @@
 -- What a builder that was told of a request signs.
-use Rattle.std.proofs.Common.{◌≡◌, ◌∙◌, ℕ, List, Bool, Result, Ok, Err, IfOk, IfErr, subst}
+use Rattle.std.proofs.Common.{◌≡◌, ◌∙◌, ℕ, List, [], Bool, Result, Ok, Err, IfOk, IfErr, subst}
 use Rattle.std.specs.Prelude.{Option, None, Some, IsNone, IsSome, option_map, string_bytes}
 use Rattle.ssh_key.specs.builder.Builders.{IsValidExactlyIn, RefusesAlways, field_error, no_principals}
-use Rattle.ssh_key.specs.cert.CertificateValues.{certificate_of}
+use Rattle.ssh_key.specs.cert.CertificateValues.{certificate_of, comment_of}
 use Rattle.ssh_key.specs.cert.Signing.{RefusesToSign}
 use Rattle.ssh_key.specs.keys.Keys.{key_of}
 use Rattle.ssh_key.specs.model.Certificates.{SignedFields}
-use Rattle.ssh_key.specs.model.Drafts.{Draft, DraftField, IsSignedDraft, KeyId, Serial, after_step, begun, drafted}
+use Rattle.ssh_key.specs.model.Drafts.{Draft, DraftField, IsSignedDraft, KeyId, Serial, after_step, begun, drafted, or_default}
 use Rattle.ssh_key.specs.model.Fingerprints.{fingerprint}
 use Rattle.ssh_key.specs.model.Keys.{Key}
 use Rattle.ssh_key.specs.model.Names.{Sha256}
@@ -34,14 +34,15 @@ key_id_is_taken nonce key serial after before key_id d e is refused = rw is at r
 no_error : (c : Certificate) → Ok c ≡ Err no_principals → ⊥
 no_error c same = cc
 
-pub certified : (accepts : Question → Bool) (authority : Key) (refuses : List ℕ → Error → Type 0) (r : Request) (serial : ℕ) (nonce : List ℕ) (d : Draft) → d ≡ draft_for nonce (key_of r.key) serial (string_bytes r.key_id) (names_of r) r.valid_after r.valid_before → (result : Result Certificate Error) → (IsNone d.valid_principals → result ≡ Err no_principals) → IfOk result (λ c. IsSignedDraft accepts authority d (certificate_of c)) → IfOk result (λ c. IsValidExactlyIn accepts (fingerprint Sha256 authority) d.valid_after d.valid_before (certificate_of c)) → (IsSome d.valid_principals → IfErr result (RefusesToSign refuses (drafted d authority))) → CertifiesExactly accepts authority refuses r serial nonce result
-certified accepts authority refuses r serial nonce d is (Ok c) unnamed signed valid refused =
+pub certified : (accepts : Question → Bool) (authority : Key) (refuses : List ℕ → Error → Type 0) (r : Request) (serial : ℕ) (nonce : List ℕ) (d : Draft) → d ≡ draft_for nonce (key_of r.key) serial (string_bytes r.key_id) (names_of r) r.valid_after r.valid_before → (result : Result Certificate Error) → (IsNone d.valid_principals → result ≡ Err no_principals) → IfOk result (λ c. IsSignedDraft accepts authority d (certificate_of c)) → IfOk result (λ c. comment_of c ≡ or_default [] d.comment) → IfOk result (λ c. IsValidExactlyIn accepts (fingerprint Sha256 authority) d.valid_after d.valid_before (certificate_of c)) → (IsSome d.valid_principals → IfErr result (RefusesToSign refuses (drafted d authority))) → CertifiesExactly accepts authority refuses r serial nonce result
+certified accepts authority refuses r serial nonce d is (Ok c) unnamed signed comment valid refused =
     let none = rw is at unnamed in
     let some = not_none (names_of r) (λ nobody. no_error c (none nobody)) in
     record {
       fields = signed.fields ∙ rw is (signed_fields nonce (key_of r.key) serial (string_bytes r.key_id) (names_of r) r.valid_after r.valid_before authority some);
+      no_comment = rw is at comment;
       valid = rw is at valid;
     }
-certified accepts authority refuses r serial nonce d is (Err e) unnamed signed valid refused = λ window some.
+certified accepts authority refuses r serial nonce d is (Err e) unnamed signed comment valid refused = λ window some.
     let why = rw is at refused in
     subst (λ (s : SignedFields). RefusesToSign refuses s e) (signed_fields nonce (key_of r.key) serial (string_bytes r.key_id) (names_of r) r.valid_after r.valid_before authority some) (why (some_names (names_of r) some))

@@ -7,7 +7,7 @@ use Rattle.ssh_key.specs.model.Keys.{Key}
 use Rattle.ssh_key.specs.model.Verification.{Question}
 use Rattle.ssh_key.specs.types.Certificate.{Certificate}
 use Rattle.ssh_key.specs.types.Error.{Error}
-use Rattle.authority.specs.Requests.{CertifiesExactly, IsWithin, IssuesExactly, OtherUsers, OtherWindow, RefusesRequest}
+use Rattle.authority.specs.Requests.{CertifiesExactly, IsLeft, IsWithin, IssuesExactly, OtherUsers, OtherWindow, RefusesRequest}
 use Rattle.authority.specs.Serials.{IsHistory, serial_of}
 use Rattle.authority.specs.declared.limits.Limits.{Limits}
 use Rattle.authority.specs.declared.request.Request.{Request}
@@ -32,6 +32,6 @@ window after before time less =
     rw (first, second, third) refl
 
 -- what is issued of a request within the limits
-pub issued : (accepts : Question → Bool) (authority : Key) (refuses : List ℕ → Error → Type 0) (limits : Limits) (r : Request) (serial : ℕ) (nonce : List ℕ) → IsWithin limits r → (result : Result Certificate Error) → CertifiesExactly accepts authority refuses r serial nonce result → IssuesExactly accepts authority refuses limits r serial nonce result
-issued accepts authority refuses limits r serial nonce within (Ok c) certified = (within, certified)
-issued accepts authority refuses limits r serial nonce within (Err e) refused = inr (inr (within, refused (window r.valid_after r.valid_before within.1.0 within.1.1) within.0.0))
+pub issued : (accepts : Question → Bool) (authority : Key) (refuses : List ℕ → Error → Type 0) (limits : Limits) (r : Request) (serial : ℕ) (nonce : List ℕ) → IsWithin limits r → (result : Result Certificate Error) → CertifiesExactly accepts authority refuses r serial nonce result → IsLeft serial → IssuesExactly accepts authority refuses limits r serial nonce result
+issued accepts authority refuses limits r serial nonce within (Ok c) certified left = (within, certified)
+issued accepts authority refuses limits r serial nonce within (Err e) refused left = inr (inr (within, left, refused (window r.valid_after r.valid_before within.1.0 within.1.1) within.0.0))

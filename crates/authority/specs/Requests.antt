@@ -2,16 +2,16 @@
 use Rattle.std.specs.Prelude.{◌≡◌, ◌≢◌, ◌⊎◌, ℕ, ◌+◌, ◌^◌, ◌<◌, ◌≤◌, List, [], Bool, All, Contains, Result, Ok, Err, None, map, string_bytes, bytes_eq}
 use Rattle.std.specs.List.{list_any}
 use Rattle.ssh_key.specs.builder.Builders.{IsValidExactlyIn, draft_of}
-use Rattle.ssh_key.specs.cert.CertificateValues.{certificate_of}
+use Rattle.ssh_key.specs.cert.CertificateValues.{certificate_of, comment_of}
 use Rattle.ssh_key.specs.cert.Signing.{RefusesToSign}
 use Rattle.ssh_key.specs.keys.Keys.{key_of}
-use Rattle.ssh_key.specs.model.Certificates.{Certificate, SignedFields, User}
+use Rattle.ssh_key.specs.model.Certificates.{SignedFields, User}
 use Rattle.ssh_key.specs.model.Drafts.{Principal, after_steps, bad_window}
 use Rattle.ssh_key.specs.model.Fingerprints.{fingerprint}
 use Rattle.ssh_key.specs.model.Keys.{Key}
 use Rattle.ssh_key.specs.model.Names.{Sha256}
 use Rattle.ssh_key.specs.model.Verification.{Question}
-use Rattle.ssh_key.specs.types.Certificate as code
+use Rattle.ssh_key.specs.types.Certificate.{Certificate}
 use Rattle.ssh_key.specs.types.Error.{Error}
 use Rattle.ssh_key.specs.types.Error.TheVariants.{CertificateFieldInvalid, Memory}
 use Rattle.ssh_key.specs.types.certificate.Builder.{Builder}
@@ -66,20 +66,25 @@ fields_for r serial nonce authority = record {
   signature_key = authority;
 }
 
--- The certificate has these fields, and for whoever trusts the authority it is valid exactly in the window that was asked for.
+-- The certificate has these fields and no comment, and for whoever trusts the authority it is valid exactly in the window that was asked for.
 pub record IsCertified (accepts : Question → Bool) (authority : Key) (r : Request) (serial : ℕ) (nonce : List ℕ) (c : Certificate) : Type 0 where
-  pub fields : c.signed ≡ fields_for r serial nonce authority
-  pub valid : IsValidExactlyIn accepts (fingerprint Sha256 authority) r.valid_after r.valid_before c
+  pub fields : (certificate_of c).signed ≡ fields_for r serial nonce authority
+  pub no_comment : comment_of c ≡ []
+  pub valid : IsValidExactlyIn accepts (fingerprint Sha256 authority) r.valid_after r.valid_before (certificate_of c)
 
 -- That certificate; or, where the window is one and there are users, a refusal to sign it.
-abbrev pub CertifiesExactly : (Question → Bool) → Key → (List ℕ → Error → Type 0) → Request → ℕ → List ℕ → Result code.Certificate Error → Type 0
-CertifiesExactly accepts authority refuses r serial nonce (Ok c) = IsCertified accepts authority r serial nonce (certificate_of c)
+abbrev pub CertifiesExactly : (Question → Bool) → Key → (List ℕ → Error → Type 0) → Request → ℕ → List ℕ → Result Certificate Error → Type 0
+CertifiesExactly accepts authority refuses r serial nonce (Ok c) = IsCertified accepts authority r serial nonce c
 CertifiesExactly accepts authority refuses r serial nonce (Err e) = bad_window r.valid_after r.valid_before ≡ None → names_of r ≢ [] → RefusesToSign refuses (fields_for r serial nonce authority) e
 
--- Ok is that certificate, of a request within the limits. Else the request is outside them, no serial number is left, or it is not signed.
-abbrev pub IssuesExactly : (Question → Bool) → Key → (List ℕ → Error → Type 0) → Limits → Request → ℕ → List ℕ → Result code.Certificate Error → Type 0
-IssuesExactly accepts authority refuses limits r serial nonce (Ok c) = IsWithin limits r × IsCertified accepts authority r serial nonce (certificate_of c)
-IssuesExactly accepts authority refuses limits r serial nonce (Err e) = RefusesRequest limits r e ⊎ (IsWithin limits r × (2 ^ 64 ≤ serial + 1) × (e ≡ CertificateFieldInvalid field.Serial)) ⊎ (IsWithin limits r × RefusesToSign refuses (fields_for r serial nonce authority) e)
+-- A serial number is left: there is one behind it.
+abbrev pub IsLeft : ℕ → Type 0
+IsLeft serial = serial + 1 < 2 ^ 64
+
+-- Ok is that certificate, of a request within the limits. Else the request is outside them; or it is within, and no serial number is left; or one is, and it is not signed.
+abbrev pub IssuesExactly : (Question → Bool) → Key → (List ℕ → Error → Type 0) → Limits → Request → ℕ → List ℕ → Result Certificate Error → Type 0
+IssuesExactly accepts authority refuses limits r serial nonce (Ok c) = IsWithin limits r × IsCertified accepts authority r serial nonce c
+IssuesExactly accepts authority refuses limits r serial nonce (Err e) = RefusesRequest limits r e ⊎ (IsWithin limits r × ¬ IsLeft serial × (e ≡ CertificateFieldInvalid field.Serial)) ⊎ (IsWithin limits r × IsLeft serial × RefusesToSign refuses (fields_for r serial nonce authority) e)
 
 -- ---- naming the principals
 

@@ -3,7 +3,7 @@
 ghost use Rattle.std.specs.Prelude.{◌≡◌, ◌≤◌, ◌<◌, ◌+◌, ◌^◌, ◌⊎◌, ◌↔◌, ◌++◌, ◌∷◌, [], IfErr, OnErr, OnOk, IsTrue, Contains};
 ghost use Rattle.ssh_key.specs.keys.Keys.{key_of};
 ghost use Rattle.ssh_key.specs.types.Error.TheVariants.{Memory};
-ghost use Rattle.authority.specs.Requests.{IssuesExactly, IsWithin};
+ghost use Rattle.authority.specs.Requests.{IsLeft, IssuesExactly, IsWithin};
 ghost use Rattle.authority.specs.Serials.{IsHistory, serial_of};
 
 use crate::certify::certify;
@@ -37,7 +37,7 @@ impl Authority {
         }
     }
 
-    /// The certificate that is asked for, if the request is within the limits.
+    /// The certificate that is asked for, without a comment, if the request is within the limits.
     ///
     /// `CertificateFieldInvalid` where it is not, as `Limits::check` has it, or where no serial
     /// number is left (`Field::Serial`), and then nothing is changed. Else the refusals of
@@ -54,10 +54,9 @@ impl Authority {
             (key_of (S.public_of signer.now)) (S.refuses signer.now) self.old.limits request
             self.old.next_serial nonce.items result }
         ensures history { IsHistory self.old.next_serial (serial_of result) self.new.next_serial }
-        ensures used { IsWithin self.old.limits request → self.old.next_serial + 1 < 2 ^ 64
+        ensures used { IsWithin self.old.limits request → IsLeft self.old.next_serial
             → self.new.next_serial ≡ self.old.next_serial + 1 }
-        ensures unused { ((IsWithin self.old.limits request → ⊥)
-            ⊎ (2 ^ 64 ≤ self.old.next_serial + 1))
+        ensures unused { ((IsWithin self.old.limits request → ⊥) ⊎ ¬ IsLeft self.old.next_serial)
             → self.new.next_serial ≡ self.old.next_serial }
         ensures limits { self.new.limits ≡ self.old.limits }
         ensures revoked { self.new.revoked ≡ self.old.revoked }

@@ -95,15 +95,22 @@ impl Verified {
 fn is_same(key: &KeyData, other: &KeyData) -> bool
     ensures { result ≡ same_key (key_of key.now) (key_of other.now) }
 {
-    match (key, other) {
-        (KeyData::Ed25519(key), KeyData::Ed25519(other)) => key.0 == other.0,
-        (KeyData::Ecdsa(key), KeyData::Ecdsa(other)) => {
-            key.is_on(other.curve()) && key.as_sec1_bytes() == other.as_sec1_bytes()
-        }
-        (KeyData::Rsa(key), KeyData::Rsa(other)) => {
-            key.e.as_bytes() == other.e.as_bytes() && key.n.as_bytes() == other.n.as_bytes()
-        }
-        _ => false,
+    match key {
+        KeyData::Ecdsa(key) => matches!(
+            other,
+            KeyData::Ecdsa(other)
+                if key.is_on(other.curve()) && key.as_sec1_bytes() == other.as_sec1_bytes()
+        ),
+        KeyData::Ed25519(key) => matches!(other, KeyData::Ed25519(other) if key.0 == other.0),
+        KeyData::Rsa(key) => matches!(
+            other,
+            KeyData::Rsa(other)
+                if key.e.as_bytes() == other.e.as_bytes() && key.n.as_bytes() == other.n.as_bytes()
+        ),
+        KeyData::Dsa(_)
+        | KeyData::SkEcdsaSha2NistP256(_)
+        | KeyData::SkEd25519(_)
+        | KeyData::Other(_) => false,
     }
 }
 

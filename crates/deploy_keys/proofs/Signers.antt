@@ -1,7 +1,7 @@
 -- What one line decides, and what all do.
 use Rattle.std.proofs.Common.{◌≡◌, ◌≢◌, ◌↔◌, ℕ, List, [], ◌∷◌, Bool, true, false, Option, Some, None, Result, Ok, Err, IfErr, IfOk, IsTrue, is_some, refl, subst, sym, inl, inr}
 use Rattle.std.specs.Prelude.{String, option_map, string_bytes}
-use Rattle.ssh_key.specs.base.Acceptance.{AcceptsExactly}
+use Rattle.ssh_key.specs.base.Acceptance.{AcceptsExactly, SpellsSome}
 use Rattle.ssh_key.specs.base.Causes.{NoMemory, cause}
 use Rattle.ssh_key.specs.base.Reading.{NoSpelling}
 use Rattle.ssh_key.specs.base.Source.{IsSound, all_of}
@@ -13,11 +13,12 @@ use Rattle.ssh_key.specs.entries.OpenSshLines.{IsAuthorizedLine}
 use Rattle.ssh_key.specs.model.Keys.{IsKey}
 use Rattle.ssh_key.specs.model.SshSignatures.{SshSignature}
 use Rattle.ssh_key.specs.model.Verification.{Question}
+use Rattle.ssh_key.specs.sshsig.SshSignatureFormats.{ssh_signature_format}
 use Rattle.ssh_key.specs.sshsig.SshSignatureReaders.{SpellsSshSignature}
 use Rattle.ssh_key.specs.types.Error.{Error}
 use Rattle.ssh_key.specs.types.Error.TheVariants.{Memory}
 use Rattle.ssh_key.proofs.Acceptance.{other_cause}
-use Rattle.deploy_keys.specs.Signers.{Answers, FindsAmong, HasSignatureFault, HasSigned, Here, IsFirst, IsSigner, JudgesEntry, JudgesLine, Later, NamesSigner, Nobody, PassesOver}
+use Rattle.deploy_keys.specs.Signers.{Answers, FindsAmong, HasSignatureFault, HasSigned, Here, IsFirst, IsSigner, JudgesEntry, JudgesLine, Later, NamesSigner, NeedsMemory, Nobody, PassesOver}
 
 -- ---- from a verdict to an answer
 
@@ -80,3 +81,12 @@ faultless Signs lines bytes (Err e) memory = λ other. absurd (other memory)
 
 pub no_signature : (bytes : List ℕ) (e : Error) → (cause e ≢ NoMemory → IsSound (all_of bytes) → NoSpelling SpellsSshSignature bytes) → e ≢ Memory → (f : SshSignature) → SpellsSshSignature f bytes → ⊥
 no_signature bytes e none other f spelled = none (other_cause e other) refl f spelled
+
+-- ---- where memory is asked for
+
+pub needed : (bytes : List ℕ) (e : Error) → (cause e ≡ NoMemory → IsSound (all_of bytes) → ssh_signature_format.needs bytes 0) → e ≡ Memory → NeedsMemory bytes
+needed bytes e asks memory = inl (asks (rw memory refl) refl)
+
+pub spelled : {X : Type 0} (bytes : List ℕ) (r : Result X Error) → SpellsSome SpellsSshSignature bytes → IfErr r (λ e. e ≡ Memory → NeedsMemory bytes)
+spelled bytes (Ok x) some = tt
+spelled bytes (Err e) some = λ memory. inr some

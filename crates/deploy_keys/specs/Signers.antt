@@ -1,5 +1,6 @@
 -- Which of the keys in a text like authorized_keys has signed.
 use Rattle.std.specs.Prelude.{◌≡◌, ◌≢◌, ◌⊎◌, ℕ, List, [], ◌∷◌, Bool, true, false, Option, Some, None, Result, Ok, Err, String, IsErrAnd, option_map, string_bytes}
+use Rattle.ssh_key.specs.base.Acceptance.{SpellsSome}
 use Rattle.ssh_key.specs.base.Causes.{Faulty, cause}
 use Rattle.ssh_key.specs.entries.AuthorizedKeys.{AuthorizedKey}
 use Rattle.ssh_key.specs.entries.Fields.{filled_lines}
@@ -8,6 +9,7 @@ use Rattle.ssh_key.specs.model.Reading.{whole}
 use Rattle.ssh_key.specs.model.SignedMessages.{IsVerified}
 use Rattle.ssh_key.specs.model.SshSignatures.{SshSignature}
 use Rattle.ssh_key.specs.model.Verification.{Question}
+use Rattle.ssh_key.specs.sshsig.SshSignatureFormats.{ssh_signature_format}
 use Rattle.ssh_key.specs.sshsig.SshSignatureReaders.{SpellsSshSignature, ssh_signature_value_at}
 use Rattle.ssh_key.specs.types.Error.{Error}
 use Rattle.ssh_key.specs.types.Error.TheVariants.{Memory}
@@ -38,6 +40,10 @@ NamesSigner accepts keys namespace content bytes (Err e) = e ≢ Memory → (f :
 -- Out of memory aside, the error is the first fault of the bytes, from the left.
 abbrev pub HasSignatureFault : List ℕ → Error → Type 0
 HasSignatureFault bytes e = e ≢ Memory → IsErrAnd (whole ssh_signature_value_at bytes) (λ fault. cause e ≡ Faulty fault)
+
+-- What stands in the bytes up to their fault needs memory, or they spell a signature, which is looked for then.
+abbrev pub NeedsMemory : List ℕ → Type 0
+NeedsMemory bytes = ssh_signature_format.needs bytes 0 ⊎ SpellsSome SpellsSshSignature bytes
 
 -- ---- the steps
 

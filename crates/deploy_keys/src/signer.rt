@@ -9,7 +9,7 @@ ghost use Rattle.ssh_key.specs.model.Keys.{IsKey};
 ghost use Rattle.ssh_key.specs.model.SignedMessages.{IsVerified};
 ghost use Rattle.ssh_key.specs.sshsig.SshSignatures.{ssh_signature_of};
 ghost use Rattle.ssh_key.specs.types.Error.TheVariants.{Memory};
-ghost use Rattle.deploy_keys.specs.Signers.{Answers, FindsAmong, HasSignatureFault, IsSigner, JudgesEntry, JudgesLine, NamesSigner, PassesOver, SpelledBySome};
+ghost use Rattle.deploy_keys.specs.Signers.{Answers, FindsAmong, HasSignatureFault, IsSigner, JudgesEntry, JudgesLine, NamesSigner, NeedsMemory, PassesOver, SpelledBySome};
 
 use ssh_key::authorized_keys::OpenSshEntry;
 use ssh_key::laws::one_authorized_line;
@@ -22,7 +22,9 @@ use std::alloc::Global;
 /// `keys` is read as sshd(8) reads authorized_keys. A line that is no entry, or one with options, is
 /// passed over: no deploy key stands there. `signature` is what stands in the armour of
 /// `ssh-keygen -Y sign`, decoded. Unless memory runs out, it fails exactly if these bytes spell no
-/// SSH signature, with the refusal of `SshSig::from_bytes`.
+/// SSH signature, with the refusal of `SshSig::from_bytes`. Where they spell none, `Memory` means
+/// that an allocation for what stands in front of their fault failed: a length that they only state
+/// allocates nothing.
 pub fn find_signer<V: RawVerifier>(
     alloc: Global,
     keys: &str,
@@ -34,6 +36,7 @@ pub fn find_signer<V: RawVerifier>(
     ensures names { NamesSigner (V.accepts verifier.now) keys.now namespace.now content.now
         signature.now result }
     ensures fault { IfErr result (HasSignatureFault signature.now) }
+    ensures memory { IfErr result (λ e. e ≡ Memory → NeedsMemory signature.now) }
 {
     let signature = SshSig::from_bytes(alloc, signature)?;
     find_among(alloc, keys, namespace, content, &signature, verifier)

@@ -1,9 +1,10 @@
 -- What the validation of a certificate decides.
-use Rattle.std.proofs.Common.{◌≡◌, ◌≢◌, ℕ, List, [], ◌∷◌, length, Bool, true, false, Result, Ok, Err, IfOk, IfErr, inl, inr, subst, sym, arith}
+use Rattle.std.proofs.Common.{◌≡◌, ◌≢◌, ◌⊎◌, ℕ, List, [], ◌∷◌, length, Bool, true, false, Result, Ok, Err, IfOk, IfErr, inl, inr, refl, subst, sym, arith}
 use Rattle.std.proofs.lemmas.Bool.Decides.{nat_tests}
 use Rattle.std.specs.Prelude.{◌==◌, All, Contains, String, map, string_bytes}
 use Rattle.ssh_key.specs.base.Acceptance.{AcceptsExactly}
 use Rattle.ssh_key.specs.base.Causes.{NoMemory, cause}
+use Rattle.ssh_key.specs.cert.CertificateFormats.{certificate_format}
 use Rattle.ssh_key.specs.cert.CertificateReaders.{SpellsCertificate}
 use Rattle.ssh_key.specs.cert.Validity.{JudgesFor, fingerprints_of}
 use Rattle.ssh_key.specs.model.Certificates.{Certificate, User}
@@ -12,12 +13,13 @@ use Rattle.ssh_key.specs.model.Keys.{Key}
 use Rattle.ssh_key.specs.model.Lines.{name_of_certificate, IsCertificateLine, IsNoLine, LinesDetermineValues}
 use Rattle.ssh_key.specs.model.Principals.{Allows}
 use Rattle.ssh_key.specs.model.Verification.{Question}
+use Rattle.ssh_key.specs.public.LineNeeds.{HasComment, NeedsValue}
 use Rattle.ssh_key.specs.types.Error.{Error}
 use Rattle.ssh_key.specs.types.Error.TheVariants.{Memory}
 use Rattle.ssh_key.specs.types.Fingerprint as code
 use Rattle.ssh_key.proofs.Acceptance.{other_cause}
 use Rattle.login_policy.specs.KnownOptions.{IsKnown}
-use Rattle.login_policy.specs.Logins.{GrantsExactly, IsGrantOf, IsLogin, LetsIn, NotValid, Refuses}
+use Rattle.login_policy.specs.Logins.{GrantsExactly, IsGrantOf, IsLogin, LetsIn, NeedsMemory, NotValid, Refuses}
 use Rattle.login_policy.specs.declared.grant.Grant.{Grant}
 
 -- a certificate that lists somebody allows those alone that it lists
@@ -65,3 +67,12 @@ no_login accepts authorities t user text offered e none other login = none (othe
 pub granted : (accepts : Question → Bool) (authorities : List Fingerprint) (t : ℕ) (user text comment : List ℕ) (offered : Key) (c : Certificate) → IsCertificateLine text c comment → LetsIn accepts authorities t user offered c → (r : Result Grant Error) → IfOk r (λ g. IsGrantOf c g) → IfErr r (λ e. e ≡ Memory) → GrantsExactly accepts authorities t user offered text r
 granted accepts authorities t user text comment offered c line lets (Ok g) value memory = (record { certificate = c; comment = comment; line = line; lets_in = lets }, value)
 granted accepts authorities t user text comment offered c line lets (Err e) value memory = λ other login. other memory
+
+-- ---- where memory is asked for
+
+pub needed : (text : List ℕ) (e : Error) → (cause e ≡ NoMemory → NeedsValue certificate_format.needs text ⊎ HasComment name_of_certificate SpellsCertificate text) → e ≡ Memory → NeedsMemory text
+needed text e asks memory = elim (asks (rw memory refl)) [ inl needs ↦ inl needs | inr line ↦ inr (line.value, line.comment, line.line) ]
+
+pub of_a_line : {T : Type 0} (text comment : List ℕ) (c : Certificate) → IsCertificateLine text c comment → (r : Result T Error) → IfErr r (λ e. e ≡ Memory → NeedsMemory text)
+of_a_line text comment c line (Ok x) = tt
+of_a_line text comment c line (Err e) = λ memory. inr (c, comment, line)

@@ -1,5 +1,6 @@
 -- Who may log in with a certificate, and what the login is bound to (PROTOCOL.certkeys; sshd_config(5), TrustedUserCAKeys).
 use Rattle.std.specs.Prelude.{◌≡◌, ◌≢◌, ◌⊎◌, ℕ, List, [], Bool, All, Contains, Some, Result, Ok, Err, is_some, option_map, string_bytes}
+use Rattle.ssh_key.specs.cert.CertificateFormats.{certificate_format}
 use Rattle.ssh_key.specs.cert.CertificateReaders.{SpellsCertificate}
 use Rattle.ssh_key.specs.cert.Validity.{refusal_error}
 use Rattle.ssh_key.specs.model.Certificates.{Certificate, User}
@@ -11,6 +12,7 @@ use Rattle.ssh_key.specs.model.Refusals.{first_refusal_for}
 use Rattle.ssh_key.specs.model.Validity.{IsValid}
 use Rattle.ssh_key.specs.model.Verification.{Question}
 use Rattle.ssh_key.specs.options.OptionMaps.{options_of}
+use Rattle.ssh_key.specs.public.LineNeeds.{NeedsValue}
 use Rattle.ssh_key.specs.types.Error.{Error}
 use Rattle.ssh_key.specs.types.Error.TheVariants.{CertificateFieldInvalid, Memory}
 use Rattle.ssh_key.specs.types.certificate.Field.{Field}
@@ -45,6 +47,10 @@ pub record IsLogin (accepts : Question → Bool) (authorities : List Fingerprint
 abbrev pub GrantsExactly : (Question → Bool) → List Fingerprint → ℕ → List ℕ → Key → List ℕ → Result Grant Error → Type 0
 GrantsExactly accepts authorities t user offered text (Ok g) = (login : IsLogin accepts authorities t user offered text) × IsGrantOf login.certificate g
 GrantsExactly accepts authorities t user offered text (Err e) = e ≢ Memory → IsLogin accepts authorities t user offered text → ⊥
+
+-- What stands in the text needs memory, or it is the line of a certificate, which is judged then.
+abbrev pub NeedsMemory : List ℕ → Type 0
+NeedsMemory text = NeedsValue certificate_format.needs text ⊎ ((c : Certificate) × (comment : List ℕ) × IsCertificateLine text c comment)
 
 -- ---- why a login is refused
 

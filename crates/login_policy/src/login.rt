@@ -8,7 +8,7 @@ ghost use Rattle.ssh_key.specs.keys.Keys.{key_of};
 ghost use Rattle.ssh_key.specs.model.Certificates.{IsCertificate};
 ghost use Rattle.ssh_key.specs.model.Keys.{IsKey};
 ghost use Rattle.ssh_key.specs.types.Error.TheVariants.{Memory};
-ghost use Rattle.login_policy.specs.Logins.{GrantsExactly, LetsIn, Refuses, RefusesLine};
+ghost use Rattle.login_policy.specs.Logins.{GrantsExactly, LetsIn, NeedsMemory, Refuses, RefusesLine};
 
 use crate::grant::{Grant, grant_of};
 use crate::options::are_known;
@@ -27,7 +27,8 @@ use std::alloc::Global;
 /// `CertificateFieldInvalid` with `CertType` for a certificate for hosts, with `PublicKey` for one of
 /// another key, with `CriticalOptions` where an option is not known, and with `ValidPrincipals`
 /// where nobody is listed, who by sshd_config(5), `TrustedUserCAKeys`, is nobody and not everybody;
-/// and with those of `Certificate::validate_principal_at`, in this order.
+/// and with those of `Certificate::validate_principal_at`, in this order. Where the line is no
+/// certificate's, `Memory` means what it means of `Certificate::from_openssh`.
 ///
 /// Whoever calls it has asked the client for a signature under the offered key, and does what the
 /// grant says.
@@ -45,6 +46,7 @@ pub fn log_in<V: RawVerifier>(
         unix_timestamp user.now (key_of offered.now) line.now result }
     ensures refused { IfErr result (λ e. e ≢ Memory → RefusesLine (V.accepts verifier.now)
         (fingerprints_of authorities.now) unix_timestamp user.now (key_of offered.now) line.now e) }
+    ensures memory { IfErr result (λ e. e ≡ Memory → NeedsMemory line.now) }
 {
     lines();
     let certificate = Certificate::from_openssh(alloc, line)?;

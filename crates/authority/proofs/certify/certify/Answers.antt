@@ -27,4 +27,4 @@ returns-in_err-add_principals g c =
 pub returns : goal.returns
 returns g c =
     let is = told _ _ _ _ _ _ _ _ _ _ _ c.in_ok-builder.ensures.1 c.in_ok-set_serial.ensures c.in_ok-set_key_id.ensures c.in_ok-add_principals.ensures in
-    certified _ _ (g.S.SigningKey.refuses c.args.signer.now) c.args.request _ _ _ is c.sign.result c.sign.ensures.unnamed c.sign.ensures.signed c.sign.ensures.valid c.sign.ensures.refused
+    certified _ _ (g.S.SigningKey.refuses c.args.signer.now) c.args.request _ _ _ is c.sign.result c.sign.ensures.unnamed c.sign.ensures.signed c.sign.ensures.comment c.sign.ensures.valid c.sign.ensures.refused

@@ -12,7 +12,7 @@ pub returns-in_err-check-clause-used : goal.returns-in_err-check-clause-used
 returns-in_err-check-clause-used g c = λ within room. absurd (outside _ _ _ c.in_err-check.ensures.refused within)
 
 pub returns-clause-issued : goal.returns-clause-issued
-returns-clause-issued g c = issued _ _ (g.S.SigningKey.refuses c.args.signer.now) _ c.args.request _ _ c.in_ok-check.ensures.exactly c.certify.result c.certify.ensures
+returns-clause-issued g c = issued _ _ (g.S.SigningKey.refuses c.args.signer.now) _ c.args.request _ _ c.in_ok-check.ensures.exactly c.certify.result c.certify.ensures (search rules)
 
 pub returns-clause-history : goal.returns-clause-history
 returns-clause-history g c = used _ _ (g.S.SigningKey.refuses c.args.signer.now) c.args.request _ _ _ (search rules) c.certify.result c.certify.ensures
