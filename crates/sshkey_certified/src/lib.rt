@@ -1,5 +1,0 @@
-//! The tests of certificates and of their builder that are no lines of the table in `sshkey_cases`.
-#![tactic(auto)]
-
-#[cfg(test)]
-mod tests;

@@ -1,0 +1,22 @@
+use Rattle.std.proofs.Common.{[], refl, subst, sym}
+use Rattle.std.proofs.lemmas.Result.{err_from_is_err_and}
+use Rattle.ssh_key.specs.model.Verification.{IsAccepted}
+use Rattle.ssh_key.specs.keys.Keys.{key_of}
+use Rattle.ssh_key.specs.keys.SignatureReaders.{SpellsSignature}
+use Rattle.ssh_key.proofs.Acceptance.{unspelled}
+use Rattle.sshkey_examples.proofs.Answered.{answered}
+use Rattle.sshkey_examples.proofs.signed.is_signed.Goals as goal
+
+pub returns-in_err-signature-clause-readable : goal.returns-in_err-signature-clause-readable
+returns-in_err-signature-clause-readable g c =
+    let p = err_from_is_err_and c.from_residual.result c.from_residual.ensures.1 in
+    rw (p.1, p.2) (unspelled SpellsSignature _ _ c.in_err-signature.ensures.accepts)
+
+-- the blob spells the signature that was verified, and so no other one
+pub returns-clause-answer : goal.returns-clause-answer
+returns-clause-answer g c =
+    let spelled = c.in_ok-signature.ensures.accepts.spelled in
+    answered _ _ _ _
+    (λ accepted. record { signature = _; spelled = spelled; accepted = accepted })
+    (λ signed. subst (λ s. IsAccepted (g.V.RawVerifier.accepts c.args.verifier.now) (key_of c.args.key.now) c.args.message.now s) (sym (c.one_signature.ensures _ _ _ _ [] [] spelled signed.spelled refl).0) signed.accepted)
+    c.verify.ensures.exactly c.answer_of.ensures

@@ -1,0 +1,64 @@
+//! A question of whoever connects to a host: is the certificate that it shows good for its name?
+
+ghost use Rattle.ssh_key.specs.cert.Validity.{fingerprints_of};
+ghost use Rattle.ssh_key.specs.cert_ref.CertificateRef.{certificate_of};
+ghost use Rattle.ssh_key.specs.base.Acceptance.{AcceptsExactly};
+ghost use Rattle.sshkey_examples.specs.HostCertificates.{CertifiesHost, IsCertifiedHost};
+
+use ssh_key::certificate::{CertificateRef, Field};
+use ssh_key::laws::one_certificate;
+use ssh_key::{Error, Fingerprint, RawVerifier, Result};
+use std::alloc::Global;
+
+/// Accepts the bytes that a host shows where they are a certificate for hosts, valid at that time
+/// for the host's name, by one of the authorities with these fingerprints. Reading copies nothing
+/// of them.
+///
+/// Unless memory runs out, it rejects all others. This caller knows no critical options, so it
+/// rejects a certificate that has one, as `CertificateFieldInvalid`, and likewise one for users.
+/// The other refusals are those of `CertificateRef::from_bytes` and of
+/// `CertificateRef::validate_principal_at`.
+pub fn check_host<V: RawVerifier>(
+    alloc: Global,
+    shown: &[u8],
+    host: &str,
+    unix_timestamp: u64,
+    authorities: &[Fingerprint],
+    verifier: &V,
+) -> Result<()>
+    ensures { AcceptsExactly (IsCertifiedHost (V.accepts verifier.now)
+        (fingerprints_of authorities.now) unix_timestamp shown.now host.now) result }
+{
+    one_certificate();
+    let certificate = CertificateRef::from_bytes(shown)?;
+    check_certificate(
+        alloc,
+        &certificate,
+        host,
+        unix_timestamp,
+        authorities,
+        verifier,
+    )
+}
+
+/// The same of a certificate that was read.
+fn check_certificate<V: RawVerifier>(
+    alloc: Global,
+    certificate: &CertificateRef<'_>,
+    host: &str,
+    unix_timestamp: u64,
+    authorities: &[Fingerprint],
+    verifier: &V,
+) -> Result<()>
+    ensures { AcceptsExactly (CertifiesHost (V.accepts verifier.now)
+        (fingerprints_of authorities.now) unix_timestamp host.now
+        (certificate_of certificate.now)) result }
+{
+    if !certificate.cert_type().is_host() {
+        return Err(Error::CertificateFieldInvalid(Field::CertType));
+    }
+    if !certificate.critical_options().is_empty() {
+        return Err(Error::CertificateFieldInvalid(Field::CriticalOptions));
+    }
+    certificate.validate_principal_at(alloc, unix_timestamp, host, authorities, verifier)
+}

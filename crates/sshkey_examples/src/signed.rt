@@ -1,0 +1,44 @@
+//! A verifier's question: is this blob a signature of the message under the key?
+
+ghost use Rattle.std.specs.Prelude.{◌↔◌, IsTrue, IfOk};
+ghost use Rattle.ssh_key.specs.keys.Keys.{key_of};
+ghost use Rattle.ssh_key.specs.keys.SignatureReaders.{SpellsSignature};
+ghost use Rattle.ssh_key.specs.base.Acceptance.{AcceptsExactly, SpellsSome};
+ghost use Rattle.sshkey_examples.specs.Signed.{Answers, IsSigned};
+
+use ssh_key::laws::one_signature;
+use ssh_key::public::KeyData;
+use ssh_key::{Error, RawVerifier, Result, Signature};
+use std::alloc::Global;
+
+/// Whether the blob spells a signature of the message that the verifier accepts under the key.
+///
+/// Unless memory runs out, it fails exactly if the blob spells no signature. A signature by an
+/// algorithm that does not go with the key is no signature of the message, and the verifier is not
+/// asked.
+pub fn is_signed<V: RawVerifier>(
+    alloc: Global,
+    key: &KeyData,
+    message: &[u8],
+    blob: &[u8],
+    verifier: &V,
+) -> Result<bool>
+    ensures answer { IfOk result (λ yes. IsTrue yes
+        ↔ IsSigned (V.accepts verifier.now) (key_of key.now) message.now blob.now) }
+    ensures readable { AcceptsExactly (SpellsSome SpellsSignature blob.now) result }
+{
+    one_signature();
+    let signature = Signature::from_bytes(alloc, blob)?;
+    answer_of(key.verify(alloc, message, &signature, verifier))
+}
+
+/// Yes or no, unless an allocation failed.
+fn answer_of(verdict: Result<()>) -> Result<bool>
+    ensures { Answers verdict result }
+{
+    match verdict {
+        Ok(()) => Ok(true),
+        Err(error) if error == Error::Memory => Err(error),
+        Err(_) => Ok(false),
+    }
+}

@@ -1,0 +1,117 @@
+//! Ciphers, what stands around what they encrypt, and key derivations.
+
+use super::pairs::{bytes_of, is_written};
+use sshkey_base::{Error, Result, SliceWriter, decode_whole, encoding};
+use sshkey_ciphers::{Cipher, Kdf, KdfAlg, ciphertext_from, encode_padded, end_padding, tag_from};
+use sshkey_testing::Count;
+use std::alloc::Global;
+
+/// The name, and in a string 16 bytes of salt and 16 rounds, as an encrypted key has them.
+const BCRYPT: &str = "000000066263727970740000001800000010000102030405060708090a0b0c0d0e0f00000010";
+
+const NONE: &str = "000000046e6f6e6500000000";
+
+fn read(alloc: Global, digits: &str) -> Result<Kdf> {
+    decode_whole(alloc, bytes_of(alloc, digits).as_slice())
+}
+
+fn is_read(alloc: Global, digits: &str, is_some: bool) -> bool {
+    match read(alloc, digits) {
+        Ok(kdf) => is_written(alloc, &kdf, digits) && kdf.is_some() == is_some,
+        Err(_) => false,
+    }
+}
+
+/// The salt is what the generator gives first.
+fn is_drawn(alloc: Global) -> bool {
+    match Kdf::new(alloc, KdfAlg::Bcrypt, &mut Count::new()) {
+        Ok(kdf) => is_written(alloc, &kdf, BCRYPT) && kdf.is_bcrypt(),
+        Err(_) => false,
+    }
+}
+
+fn none_is_drawn(alloc: Global) -> bool {
+    Kdf::new(alloc, KdfAlg::None, &mut Count::new()).err() == Some(Error::AlgorithmUnknown)
+}
+
+#[test]
+fn derivations(rt: HostRuntime) {
+    let alloc = rt.alloc();
+    assert!(rt; is_read(alloc, BCRYPT, true));
+    assert!(rt; is_read(alloc, NONE, false));
+    assert!(rt; is_drawn(alloc));
+    assert!(rt; none_is_drawn(alloc));
+}
+
+/// A cipher has that name, size of blocks and tag, as in OpenSSH's table of ciphers.
+fn is_cipher(name: &str, block_size: usize, has_tag: bool) -> bool {
+    match Cipher::new(name) {
+        Ok(cipher) => {
+            cipher.as_str() == name
+                && cipher.block_size() == block_size
+                && cipher.has_tag() == has_tag
+                && cipher.padding_len(1) == block_size - 1
+                && cipher.is_some() == (name != "none")
+        }
+        Err(_) => false,
+    }
+}
+
+#[test]
+fn ciphers(rt: HostRuntime) {
+    assert!(rt; is_cipher("none", 8, false));
+    assert!(rt; is_cipher("aes256-cbc", 16, false));
+    assert!(rt; is_cipher("aes256-ctr", 16, false));
+    assert!(rt; is_cipher("aes256-gcm@openssh.com", 16, true));
+    assert!(rt; is_cipher("chacha20-poly1305@openssh.com", 8, true));
+    assert!(rt; is_cipher("3des-cbc", 8, false));
+    assert!(rt; Cipher::new("aes256-xts").is_err());
+    assert!(rt; KdfAlg::new("scrypt").is_err());
+}
+
+/// The string of a ciphertext of 16 bytes, and a tag (OpenSSH, PROTOCOL.key).
+const SEALED: [u8; 36] = *b"\0\0\0\x10ciphertext of 16a tag of sixteen";
+
+/// The ciphertext and the tag are read for that cipher, and these bytes are left.
+fn is_sealed(alloc: Global, cipher: Cipher, tag: Option<[u8; 16]>, rest: &[u8]) -> bool {
+    let mut reader = SEALED.as_slice();
+    match ciphertext_from(alloc, &mut reader, cipher) {
+        Ok(ciphertext) => {
+            ciphertext.as_slice() == b"ciphertext of 16".as_slice()
+                && tag_from(&mut reader, cipher) == Ok(tag)
+                && reader == rest
+        }
+        Err(_) => false,
+    }
+}
+
+/// Eight bytes are no block of AES.
+fn half_a_block_is_refused(alloc: Global) -> bool {
+    let mut reader = b"\0\0\0\x08one half".as_slice();
+    ciphertext_from(alloc, &mut reader, Cipher::Aes256Ctr).err() == Some(Error::Crypto)
+}
+
+#[test]
+fn ciphertexts(rt: HostRuntime) {
+    let alloc = rt.alloc();
+    assert!(rt; is_sealed(alloc, Cipher::Aes256Gcm, Some(*b"a tag of sixteen"), b""));
+    assert!(rt; is_sealed(alloc, Cipher::Aes256Ctr, None, b"a tag of sixteen"));
+    assert!(rt; half_a_block_is_refused(alloc));
+}
+
+fn is_padding(mut bytes: &[u8]) -> Result<()> {
+    end_padding(&mut bytes, 7)
+}
+
+#[test]
+fn paddings(rt: HostRuntime) {
+    let mut room = [0u8; 8];
+    let mut writer = SliceWriter::new(&mut room);
+    assert!(rt; encode_padded(&513u32, &mut writer).is_ok());
+    assert!(rt; writer.written() == [0, 0, 2, 1, 1, 2, 3, 4].as_slice());
+    assert!(rt; is_padding(&[]).is_ok() && is_padding(&[1, 2, 3, 4]).is_ok());
+    assert!(rt; is_padding(&[1, 2, 4]) == Err(Error::FormatEncoding));
+    assert!(rt;
+        is_padding(&[1, 2, 3, 4, 5, 6, 7, 8]) == Err(Error::Encoding(encoding::Error::Length))
+    );
+}

@@ -1,6 +1,0 @@
-//! The tests of the crates below that are no lines of the table in `sshkey_cases`, but for those of
-//! certificates.
-#![tactic(auto)]
-
-#[cfg(test)]
-mod tests;
