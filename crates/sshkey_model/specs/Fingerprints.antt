@@ -23,8 +23,9 @@ fingerprint h k = record { hash = h; digest = digest h (flat (normal_key k)) }
 
 abbrev pub same_hash : Hash → Hash → Bool
 same_hash Sha256 Sha256 = true
+same_hash Sha256 _ = false
 same_hash Sha512 Sha512 = true
-same_hash _ _ = false
+same_hash Sha512 _ = false
 
 abbrev pub same_fingerprint : Fingerprint → Fingerprint → Bool
 same_fingerprint f g = same_hash f.hash g.hash && bytes_eq f.digest g.digest

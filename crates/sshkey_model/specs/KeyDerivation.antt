@@ -31,15 +31,29 @@ ciphers = NoCipher ∷ TDesCbc ∷ Aes128Cbc ∷ Aes192Cbc ∷ Aes256Cbc ∷ Aes
 abbrev pub block_size : Cipher → ℕ
 block_size NoCipher = 8
 block_size TDesCbc = 8
+block_size Aes128Cbc = 16
+block_size Aes192Cbc = 16
+block_size Aes256Cbc = 16
+block_size Aes128Ctr = 16
+block_size Aes192Ctr = 16
+block_size Aes256Ctr = 16
+block_size Aes128Gcm = 16
+block_size Aes256Gcm = 16
 block_size ChaCha20Poly1305 = 8
-block_size _ = 16
 
 -- bytes of the tag that stands behind what is encrypted
 abbrev pub tag_size : Cipher → ℕ
+tag_size NoCipher = 0
+tag_size TDesCbc = 0
+tag_size Aes128Cbc = 0
+tag_size Aes192Cbc = 0
+tag_size Aes256Cbc = 0
+tag_size Aes128Ctr = 0
+tag_size Aes192Ctr = 0
+tag_size Aes256Ctr = 0
 tag_size Aes128Gcm = 16
 tag_size Aes256Gcm = 16
 tag_size ChaCha20Poly1305 = 16
-tag_size _ = 0
 
 -- the least number that, added to n, makes a multiple of the block
 abbrev pub padding_length : ℕ → ℕ → ℕ

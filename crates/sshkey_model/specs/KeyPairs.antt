@@ -106,19 +106,31 @@ IsPrivateHalf (DsaPair k x) = IsMpint x
 IsPrivateHalf (EcdsaPair c point s) = IsScalar (field_size c) s
 IsPrivateHalf (Ed25519Pair public private) = length private ≡ 32
 IsPrivateHalf (RsaPair k r) = IsRsaPrivate r
-IsPrivateHalf _ = Unit {0}
+IsPrivateHalf (SkEcdsaPair k r) = Unit {0}
+IsPrivateHalf (SkEd25519Pair k r) = Unit {0}
+IsPrivateHalf (OpaquePair name public private) = Unit {0}
 
 abbrev pub IsPairBody : KeyPair → Type 0
 IsPairBody k = IsBody (public_half k) × IsPrivateHalf k
 
 abbrev pub HasPairPlaces : KeyPair → LeadingZeros → Type 0
+HasPairPlaces (DsaPair k x) zeros = zeros ≡ Plain
 HasPairPlaces (EcdsaPair c point s) zeros = HasScalarPlaces s zeros
-HasPairPlaces _ zeros = zeros ≡ Plain
+HasPairPlaces (Ed25519Pair public private) zeros = zeros ≡ Plain
+HasPairPlaces (RsaPair k r) zeros = zeros ≡ Plain
+HasPairPlaces (SkEcdsaPair k r) zeros = zeros ≡ Plain
+HasPairPlaces (SkEd25519Pair k r) zeros = zeros ≡ Plain
+HasPairPlaces (OpaquePair name public private) zeros = zeros ≡ Plain
 
 -- a pair of ECDSA, of whichever curve
 abbrev pub IsEcdsaPair : KeyPair → Type 0
+IsEcdsaPair (DsaPair k x) = ⊥
 IsEcdsaPair (EcdsaPair c point s) = IsPairBody (EcdsaPair c point s)
-IsEcdsaPair _ = ⊥
+IsEcdsaPair (Ed25519Pair public private) = ⊥
+IsEcdsaPair (RsaPair k r) = ⊥
+IsEcdsaPair (SkEcdsaPair k r) = ⊥
+IsEcdsaPair (SkEd25519Pair k r) = ⊥
+IsEcdsaPair (OpaquePair name public private) = ⊥
 
 -- a pair read under an algorithm, with or without a hash
 abbrev pub IsPairUnder : Algorithm → KeyPair → Type 0

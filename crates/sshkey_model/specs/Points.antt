@@ -25,9 +25,11 @@ IsPointOf x = IsPoint x.0 x.1
 
 abbrev pub curve_eq : Curve → Curve → Bool
 curve_eq Nistp256 Nistp256 = true
+curve_eq Nistp256 _ = false
 curve_eq Nistp384 Nistp384 = true
+curve_eq Nistp384 _ = false
 curve_eq Nistp521 Nistp521 = true
-curve_eq _ _ = false
+curve_eq Nistp521 _ = false
 
 abbrev pub curve_of_size : ℕ → Result Curve Fault
 curve_of_size n = if n == 32 then Ok Nistp256 else if n == 48 then Ok Nistp384 else if n == 66 then Ok Nistp521 else Err Length
