@@ -11,7 +11,7 @@ ghost use Rattle.sshkey_keys_ref.specs.KeyFingerprints.{GivesFingerprintOf};
 ghost use Rattle.sshkey_keys_ref.specs.NormalBytes.{GivesNormal, HasPlainHead, is_hashed};
 ghost use Rattle.sshkey_keys_ref.specs.NameRef.{named_of};
 ghost use Rattle.sshkey_keys_ref.specs.Taking.{Skips};
-ghost use Rattle.sshkey_slices.specs.Slices.{AcceptsSome, is_taken};
+ghost use Rattle.sshkey_format.specs.Slices.{AcceptsSome, is_taken};
 
 use crate::body::behind_named;
 use crate::name_ref::{NameRef, take_name};
@@ -34,7 +34,7 @@ impl<'a> KeyDataRef<'a> {
     ghost use Rattle.sshkey_base.specs.Answers.{Answers};
     ghost use Rattle.sshkey_keys.specs.Keys.{key_of};
     ghost use Rattle.sshkey_keys_ref.specs.KeyDataRef.{key_bytes};
-    ghost use Rattle.sshkey_slices.specs.Slices.{Keeps};
+    ghost use Rattle.sshkey_format.specs.Slices.{Keeps};
 
     /// The key that all the bytes together spell, read once from left to right. Does not allocate.
     ///
