@@ -210,8 +210,8 @@ impl Builder {
     }
 
     /// Adds one of the critical options. Fails with
-    /// `CertificateFieldInvalid(Field::CriticalOptions)` if there is one of that name, and otherwise
-    /// only when out of memory.
+    /// `CertificateFieldInvalid(Field::CriticalOptions)` if there is one of that name, and
+    /// otherwise only when out of memory.
     pub fn critical_option(&mut self, name: String, value: String) -> Result<&mut Builder>
         ensures* stays { sem 𝓛 (StaysIfRefused self.entry result) }
         ensures same_reference { IsTheBuilder self.entry result }
