@@ -32,8 +32,8 @@ use std::alloc::Global;
 use std::str;
 
 impl Algorithm {
-    /// The algorithm with that name in a certificate (PROTOCOL.certkeys), and `Label` where it is
-    /// no such name. An RSA algorithm has no hash then. Memory is allocated only for a name that is
+    /// The algorithm with that name in a certificate (PROTOCOL.certkeys), an RSA algorithm without
+    /// a hash. Fails with `Label` if the text is no such name. Allocates only for a name that is
     /// none of the fixed ones.
     pub fn new_certificate(alloc: Global, name: &str) -> Result<Algorithm>
         ensures gives { Names algorithm_of cause (certified_from name.now) result }
@@ -71,8 +71,9 @@ impl Algorithm {
         Some(algorithm)
     }
 
-    /// Whether it is the name of an algorithm in a certificate (PROTOCOL.certkeys): `Ok` exactly if
-    /// `new_certificate` with enough memory is, else `Label`. Does not allocate.
+    /// Checks that the text is the name of an algorithm in a certificate (PROTOCOL.certkeys): `Ok`
+    /// exactly if `new_certificate` with enough memory is, and otherwise fails with `Label`. Does
+    /// not allocate.
     pub fn check_certificate(name: &str) -> Result<()>
         ensures { Judges cause (certified_from name.now) result }
     {

@@ -40,7 +40,7 @@ impl CertificateRefusal {
     }
 }
 
-/// `Ok` where nothing is wrong, and else the error of what is. Does not allocate.
+/// Returns `Ok` if nothing is wrong, and else fails with the error of what is. Does not allocate.
 pub fn tell(first: Option<CertificateRefusal>) -> Result<()>
     ensures { Tells (option_map refusal_of first) result }
 {
