@@ -53,7 +53,7 @@ impl<'a> OptionsRef<'a> {
     /// The options in the string at the front, and what stands after it: what `OptionsMap` reads,
     /// without its memory.
     ///
-    /// The faults of a string, and then those of `from_bytes`.
+    /// Fails with the faults of a string, and then with those of `from_bytes`.
     pub fn from_front(bytes: &'a [u8]) -> Result<(OptionsRef<'a>, &'a [u8])>
         ensures gives { Splits spelled_options_of cause options_at bytes.now result }
         ensures accepts { AcceptsSplit spelled_options_of SpellsOptionString bytes.now result }

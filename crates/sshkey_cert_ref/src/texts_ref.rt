@@ -48,7 +48,7 @@ impl<'a> TextsRef<'a> {
     /// The texts in the string at the front, and what stands after it: what `Vec<String>` reads,
     /// without its memory.
     ///
-    /// The faults of a string, and then those of `from_bytes`.
+    /// Fails with the faults of a string, and then with those of `from_bytes`.
     pub fn from_front(bytes: &'a [u8]) -> Result<(TextsRef<'a>, &'a [u8])>
         ensures gives { Splits texts_of encoding_cause texts_at bytes.now result }
         ensures accepts { AcceptsSplit texts_of SpellsTexts bytes.now result }

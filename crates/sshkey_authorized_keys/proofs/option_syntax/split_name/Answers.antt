@@ -1,5 +1,5 @@
 use Rattle.sshkey_authorized_keys.proofs.OptionCuts.{name_place, name_cut, name_all}
-use Rattle.sshkey_authorized_keys.proofs.option_parts.split_name.Goals as goal
+use Rattle.sshkey_authorized_keys.proofs.option_syntax.split_name.Goals as goal
 
 pub split_at-requires : goal.split_at-requires
 split_at-requires c = name_place c.args.text.now c.as_bytes.result.now c.in-Some.end c.as_bytes.ensures.value c.in-Some.ensures

@@ -1,7 +1,7 @@
 use Rattle.std.proofs.Common.{◌∷◌, ◌∙◌, sym}
 use Rattle.sshkey_files.specs.OptionItems.{equals_sign, quote}
 use Rattle.sshkey_authorized_keys.proofs.OptionCuts.{value_cut}
-use Rattle.sshkey_authorized_keys.proofs.option_parts.split_value.Goals as goal
+use Rattle.sshkey_authorized_keys.proofs.option_syntax.split_value.Goals as goal
 
 pub returns-in-Some-split_quoted : goal.returns-in-Some-split_quoted
 returns-in-Some-split_quoted c =

@@ -1,4 +1,4 @@
-//! Where the parts of options are cut.
+//! The syntax of one option of an entry: its name, its quoted value, and the commas between.
 
 ghost use Rattle.std.specs.Prelude.{◌≡◌, ◌<◌, ◌↔◌, IfErr, IfOk, IsTrue, length, not, position, string_bytes};
 ghost use Rattle.sshkey_base.specs.declared.error.Error.TheVariants as wide;

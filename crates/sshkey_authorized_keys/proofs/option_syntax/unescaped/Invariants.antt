@@ -2,7 +2,7 @@ use Rattle.std.proofs.Common.{◌≡◌, ◌++◌, length, string_bytes}
 use denote.Text.{Utf8}
 use denote.Shadow.{shadow}
 use Rattle.sshkey_files.specs.OptionItems.{unescaped}
-use Rattle.sshkey_authorized_keys.proofs.option_parts.unescaped.Given as goal
+use Rattle.sshkey_authorized_keys.proofs.option_syntax.unescaped.Given as goal
 
 -- what was copied, and what is left
 abbrev pub invariant-parts : goal.invariant-parts

@@ -2,7 +2,7 @@ use Rattle.std.proofs.Common.{subst, List, ℕ, Some, None, ◌∙◌}
 use Rattle.sshkey_files.specs.StrictReading.{is_mark}
 use Rattle.sshkey_authorized_keys.specs.OptionCuts.{FindsFirst}
 use Rattle.sshkey_authorized_keys.proofs.OptionCuts.{mark_place, quoted_cut, quoted_none, whole_front}
-use Rattle.sshkey_authorized_keys.proofs.option_parts.split_quoted.Goals as goal
+use Rattle.sshkey_authorized_keys.proofs.option_syntax.split_quoted.Goals as goal
 
 pub range_from-requires : goal.range_from-requires
 range_from-requires c = λ _. mark_place c.args.text.now c.as_bytes.result.now c.in-Some.end c.utf8.text c.as_bytes.ensures.value c.in-Some.ensures

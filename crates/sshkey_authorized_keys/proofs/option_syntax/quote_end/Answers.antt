@@ -1,7 +1,7 @@
 use Rattle.std.proofs.Common.{sym, ◌∙◌, arith}
 use Rattle.sshkey_files.specs.StrictReading.{is_mark}
 use Rattle.sshkey_authorized_keys.proofs.OptionCuts.{none_more}
-use Rattle.sshkey_authorized_keys.proofs.option_parts.quote_end.Goals as goal
+use Rattle.sshkey_authorized_keys.proofs.option_syntax.quote_end.Goals as goal
 
 pub loop-place-init : goal.loop-place-init
 loop-place-init c = λ k l. absurd (omega (arith, l))
