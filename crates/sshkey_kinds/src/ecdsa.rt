@@ -102,11 +102,10 @@ impl EcdsaPublicKey {
     pub fn is_on(&self, curve: EcdsaCurve) -> bool
         ensures { result ≡ curve_eq (ecdsa_of self.now).0 (curve_of curve) }
     {
-        match (self, curve) {
-            (EcdsaPublicKey::NistP256(_), EcdsaCurve::NistP256) => true,
-            (EcdsaPublicKey::NistP384(_), EcdsaCurve::NistP384) => true,
-            (EcdsaPublicKey::NistP521(_), EcdsaCurve::NistP521) => true,
-            _ => false,
+        match self {
+            EcdsaPublicKey::NistP256(_) => matches!(curve, EcdsaCurve::NistP256),
+            EcdsaPublicKey::NistP384(_) => matches!(curve, EcdsaCurve::NistP384),
+            EcdsaPublicKey::NistP521(_) => matches!(curve, EcdsaCurve::NistP521),
         }
     }
 }
@@ -250,11 +249,16 @@ impl PartialEq for EcdsaPublicKey {
         ensures value { result ≡ same_key self.now other.now }
         ensures exact { IsTrue result ↔ (ecdsa_of self.now ≡ ecdsa_of other.now) }
     {
-        match (self, other) {
-            (EcdsaPublicKey::NistP256(point), EcdsaPublicKey::NistP256(other)) => point == other,
-            (EcdsaPublicKey::NistP384(point), EcdsaPublicKey::NistP384(other)) => point == other,
-            (EcdsaPublicKey::NistP521(point), EcdsaPublicKey::NistP521(other)) => point == other,
-            _ => false,
+        match self {
+            EcdsaPublicKey::NistP256(point) => {
+                matches!(other, EcdsaPublicKey::NistP256(other) if point == other)
+            },
+            EcdsaPublicKey::NistP384(point) => {
+                matches!(other, EcdsaPublicKey::NistP384(other) if point == other)
+            },
+            EcdsaPublicKey::NistP521(point) => {
+                matches!(other, EcdsaPublicKey::NistP521(other) if point == other)
+            },
         }
     }
 }
