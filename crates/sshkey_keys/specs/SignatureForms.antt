@@ -9,9 +9,13 @@ use Rattle.sshkey_format.specs.Slices.{is_taken}
 
 -- Flags and a counter stand behind the string.
 abbrev pub has_trailer : Algorithm → Bool
+has_trailer Algorithm.Dsa = false
+has_trailer (Algorithm.Ecdsa c) = false
+has_trailer Algorithm.Ed25519 = false
+has_trailer (Algorithm.Rsa hash) = false
 has_trailer Algorithm.SkEcdsa = true
 has_trailer Algorithm.SkEd25519 = true
-has_trailer _ = false
+has_trailer (Algorithm.Other n) = false
 
 -- what stands in the string, which the five bytes behind it are no part of
 abbrev pub string_from : Algorithm → Whole (List ℕ)
