@@ -1,17 +1,21 @@
 -- What is answered of the fields of a certificate (PROTOCOL.certkeys).
-use Rattle.std.specs.Prelude.{◌≡◌, ◌≢◌, ◌↔◌, ℕ, List, []}
+use Rattle.std.specs.Prelude.{◌≡◌, ◌≢◌, ℕ, List, []}
 use Rattle.sshkey_model.specs.Certificates.{Certificate, type_number}
 use Rattle.sshkey_cert.specs.CertificateReaders.{SpellsCertificate}
 use Rattle.sshkey_calls.specs.declared.fields.CertificateFields.{CertificateFields}
 
--- They are those of the certificate; a number that answers whether is 0 for no.
+-- 0 where this holds, and else 1
+abbrev pub IsNumberUnless : Type 0 → ℕ → Type 0
+IsNumberUnless holds n = (holds → n ≡ 0) × ((holds → ⊥) → n ≡ 1)
+
+-- They are those of the certificate.
 pub record AreFieldsOf (c : Certificate) (f : CertificateFields) : Type 0 where
   pub serial : f.serial ≡ c.signed.serial
   pub valid_after : f.valid_after ≡ c.signed.valid_after
   pub valid_before : f.valid_before ≡ c.signed.valid_before
   pub certificate_type : f.certificate_type ≡ type_number c.signed.certificate_type
-  pub lists_principals : (f.lists_principals ≡ 0) ↔ (c.signed.valid_principals ≡ [])
-  pub has_critical_options : (f.has_critical_options ≡ 0) ↔ (c.signed.critical_options ≡ [])
+  pub lists_principals : IsNumberUnless (c.signed.valid_principals ≡ []) f.lists_principals
+  pub has_critical_options : IsNumberUnless (c.signed.critical_options ≡ []) f.has_critical_options
 
 -- 0 and the fields of the certificate that the bytes spell, and every other number where they spell none.
 pub record GivesFields (bytes : List ℕ) (n : ℕ) (f : CertificateFields) : Type 0 where

@@ -1,11 +1,11 @@
 //! Fields of certificates.
 
-ghost use Rattle.std.specs.Prelude.{◌≡◌, ◌≢◌, ◌↔◌, Err, IsTrue};
+ghost use Rattle.std.specs.Prelude.{◌≡◌, ◌≢◌, Err, IsTrue};
 ghost use Rattle.sshkey_cert_ref.specs.CertificateRef.{certificate_of};
 ghost use Rattle.sshkey_model.specs.Certificates.{certificate_at, type_number};
 ghost use Rattle.sshkey_model.specs.Reading.{Fault, whole};
 ghost use Rattle.sshkey_options.specs.CertTypes.{type_of};
-ghost use Rattle.sshkey_calls.specs.Fields.{AreFieldsOf, GivesFields};
+ghost use Rattle.sshkey_calls.specs.Fields.{AreFieldsOf, GivesFields, IsNumberUnless};
 ghost use Rattle.sshkey_calls.specs.Numbers.{fault_number};
 
 use crate::number::{DONE, error_number};
@@ -74,7 +74,7 @@ fn number_of_type(cert_type: CertType) -> u32
 
 /// 0 where this holds, and else 1.
 fn number_unless(holds: bool) -> u32
-    ensures { (result ≡ 0) ↔ IsTrue holds }
+    ensures { IsNumberUnless (IsTrue holds) result }
 {
     if holds { 0 } else { 1 }
 }

@@ -5,10 +5,11 @@ ghost use Rattle.sshkey_model.specs.Certificates.{Certificate as TheCertificate}
 ghost use Rattle.sshkey_model.specs.Keys.{Key};
 ghost use Rattle.sshkey_keys.specs.Keys.{SpellsKey};
 ghost use Rattle.sshkey_cert.specs.CertificateReaders.{SpellsCertificate};
-ghost use Rattle.sshkey_base.specs.Comparisons.{EqualMeanSame, IsEqualityAmong};
+ghost use Rattle.sshkey_base.specs.Comparisons.{EqualMeanSame, IsEqualityAmong, IsEqualityOf};
 ghost use Rattle.sshkey_cert.specs.Comparisons.{IsOfKeys, IsOrderOfCertificates, content_of};
+ghost use Rattle.sshkey_cert.specs.Validity.{refusal_of};
 
-use crate::certificate::Certificate;
+use crate::certificate::{Certificate, CertificateRefusal};
 use sshkey_keys::laws::compared_signatures;
 pub use sshkey_model::laws::{apart, certificate_fields, prefix_certificate};
 use sshkey_to_be_signed::laws::compared_signed_fields;
@@ -37,3 +38,8 @@ pub fn compared_certificates()
     compared_signed_fields();
     compared_signatures();
 }
+
+/// Two refusals of a certificate are equal exactly if they are the same.
+pub fn equal_certificate_refusals()
+    ensures { IsEqualityOf refusal_of ⟦<CertificateRefusal as PartialEq>⟧.eq }
+{}

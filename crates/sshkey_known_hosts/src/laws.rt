@@ -7,6 +7,7 @@ ghost use Rattle.sshkey_known_hosts.specs.Verdicts.{OneVerdict};
 use crate::entry::Entry;
 use crate::host_patterns::HostPatterns;
 use crate::marker::Marker;
+use crate::verdict::Verdict;
 use sshkey_public::laws::compared_public_keys;
 
 /// Two markers are equal exactly if they mean the same.
@@ -30,6 +31,11 @@ pub fn equal_known_hosts()
     equal_hosts();
     compared_public_keys();
 }
+
+/// Two verdicts are equal exactly if they are the same.
+pub fn equal_verdicts()
+    ensures { IsEqualityOf (λ verdict. verdict) ⟦<Verdict as PartialEq>⟧.eq }
+{}
 
 /// Of the verdicts on a key of a host one at most holds of the lines of a text.
 pub fn one_verdict()

@@ -34,6 +34,8 @@ impl Marker {
 impl FromStr for Marker {
     type Err = Error;
 
+    ghost from_str_gives = { ReadsMarker };
+
     fn from_str(text: &str) -> Result<Marker>
         ensures { ReadsMarker text.now result }
     {

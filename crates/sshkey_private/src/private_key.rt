@@ -59,7 +59,7 @@ impl PrivateKey {
     ghost use Rattle.sshkey_base.specs.Source.{Later, all_of};
     ghost use Rattle.sshkey_base.specs.declared.error.Error.TheVariants as wide;
     ghost use Rattle.sshkey_keys.specs.Blobs.{MakesBlob};
-    ghost use Rattle.sshkey_keys.specs.Fingerprints.{GivesFingerprint};
+    ghost use Rattle.sshkey_keys.specs.Fingerprints.{GivesFingerprint, IsShort};
     ghost use Rattle.sshkey_keys.specs.Keys.{stored_algorithm};
     ghost use Rattle.sshkey_model.specs.KeyPairs.{IsKeyPair};
     ghost use Rattle.sshkey_model.specs.Keys.{IsKey};
@@ -248,9 +248,10 @@ impl PrivateKey {
     /// The fingerprint of the public key by that hash: the digest of its normal form.
     ///
     /// Fails with `Length` exactly if a part of the key is longer than 2^32 - 1 bytes, and
-    /// otherwise only when out of memory.
+    /// otherwise only when out of memory. A key of at most 256 bytes is never rejected.
     pub fn fingerprint(&self, alloc: Global, hash_alg: HashAlg) -> Result<Fingerprint>
         ensures { GivesFingerprint (hash_of hash_alg) (public_key (private_of self.now)) result }
+        ensures short { IsShort (public_key (private_of self.now)) → IsOk result }
     {
         self.public_key.fingerprint(alloc, hash_alg)
     }

@@ -97,6 +97,7 @@ pub mod laws {
     pub use ssh_key::laws::compared_types;
     pub use ssh_key::laws::decode_private_key;
     pub use ssh_key::laws::equal_authorized_keys;
+    pub use ssh_key::laws::equal_certificate_refusals;
     pub use ssh_key::laws::equal_config_opts;
     pub use ssh_key::laws::equal_dsa_pairs;
     pub use ssh_key::laws::equal_dsa_private_keys;
@@ -110,6 +111,7 @@ pub mod laws {
     pub use ssh_key::laws::equal_kdfs;
     pub use ssh_key::laws::equal_known_hosts;
     pub use ssh_key::laws::equal_markers;
+    pub use ssh_key::laws::equal_verdicts;
     pub use ssh_key::laws::equal_opaque_pair_bytes;
     pub use ssh_key::laws::equal_opaque_pairs;
     pub use ssh_key::laws::equal_opaque_private_keys;
