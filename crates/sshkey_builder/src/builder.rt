@@ -2,7 +2,7 @@
 
 ghost use Rattle.rand_core.specs.Stream.{fill_bytes};
 ghost use Rattle.std.specs.Borrow.{sem};
-ghost use Rattle.std.specs.Prelude.{◌≡◌, [], OnOk, string_bytes};
+ghost use Rattle.std.specs.Prelude.{◌≡◌, [], OnErr, OnOk, string_bytes};
 ghost use Rattle.sshkey_keys.specs.Keys.{key_of};
 ghost use Rattle.sshkey_model.specs.Certificates.{forever};
 ghost use Rattle.sshkey_model.specs.Drafts.{Serial, Kind, KeyId, Comment, Principal, AllPrincipals, Critical, Extension, begun, bad_start, bad_window};
@@ -105,8 +105,8 @@ impl Builder {
         Ok(Builder::begun(alloc, nonce, public_key, valid_after, EndTime::forever()))
     }
 
-    /// Does what `new` does, with the next 16 bytes of the generator as the nonce. Allocates the
-    /// nonce first: where that fails with `Memory`, nothing is drawn.
+    /// Does what `new` does, with the next 16 bytes of the generator as the nonce, for which it
+    /// allocates. Draws nothing if it fails.
     pub fn new_with_random_nonce<R: Rng + CryptoRng>(
         alloc: Global,
         rng: &mut R,
@@ -115,13 +115,15 @@ impl Builder {
         valid_before: u64,
     ) -> Result<Builder>
         ensures drawn { OnOk result (R.stream rng.new ≡ (fill_bytes 16 (R.stream rng.old)).1) }
+        ensures kept { OnErr result (rng.new ≡ rng.old) }
         ensures begins { BeginsInMemory (bad_window valid_after valid_before)
             (begun (fill_bytes 16 (R.stream rng.old)).0 (key_of public_key) valid_after
             valid_before) result }
     {
+        let (after, before) = window(valid_after, valid_before)?;
         let mut nonce = vec![in alloc; 0u8; Builder::RECOMMENDED_NONCE_SIZE]?;
         rng.fill_bytes(&mut nonce);
-        Builder::new(alloc, nonce, public_key, valid_after, valid_before)
+        Ok(Builder::begun(alloc, nonce, public_key, after, before))
     }
 
     /// A builder with nothing set.
