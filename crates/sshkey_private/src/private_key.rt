@@ -250,7 +250,8 @@ impl PrivateKey {
     /// Fails with `Length` exactly if a part of the key is longer than 2^32 - 1 bytes, and
     /// otherwise only when out of memory. A key of at most 256 bytes is never rejected.
     pub fn fingerprint(&self, alloc: Global, hash_alg: HashAlg) -> Result<Fingerprint>
-        ensures gives { GivesFingerprint (hash_of hash_alg) (public_key (private_of self.now)) result }
+        ensures gives { GivesFingerprint (hash_of hash_alg) (public_key (private_of self.now))
+            result }
         ensures short { IsShort (public_key (private_of self.now)) → IsOk result }
     {
         self.public_key.fingerprint(alloc, hash_alg)
