@@ -1,2 +1,2 @@
-pub use Rattle.sshkey_counted.specs.Contents
-pub use Rattle.sshkey_counted.specs.Counted
+pub use Rattle.sshkey_format.specs.Contents
+pub use Rattle.sshkey_format.specs.Counted

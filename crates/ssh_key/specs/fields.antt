@@ -1,1 +1,1 @@
-pub use Rattle.sshkey_fields.specs.KeyFields
+pub use Rattle.sshkey_files.specs.KeyFields

@@ -7,7 +7,6 @@ pub use sshkey_base::{
     decode_whole, encode_both, encode_list, encode_string, encode_vec, length_from, list_len,
     string_len, u32_of,
 };
-pub use sshkey_counted::{
-    Counted, counted_len, decode_each, each_len, encode_counted, encode_each,
+pub use sshkey_format::{
+    Boxed, Counted, Then, Wide, counted_len, decode_each, each_len, encode_counted, encode_each,
 };
-pub use sshkey_format::{Boxed, Then, Wide};

@@ -7,12 +7,12 @@ use Rattle.std.proofs.lemmas.List.Sums.{fails_before_first}
 use Rattle.std.proofs.lemmas.Str.{IsCharBoundary-start, IsCharBoundary-before_ascii, IsCharBoundary-after_ascii}
 use Rattle.std.specs.List.{position_or_len}
 use Rattle.std.specs.Str.{IsUtf8, IsCharBoundary}
-use Rattle.sshkey_entries.specs.Items.{is_comma, is_quote}
-use Rattle.sshkey_entries.specs.OptionItems.{KeyOption, quote, equals_sign, backslash, is_name_character, IsQuoted, unescaped, IsValueAt, EndsOption, IsOptionAt, without_commas, AreKeyOptions}
-use Rattle.sshkey_entries.specs.StrictReading.{is_mark}
-use Rattle.sshkey_entries.specs.OptionItems.{HasKeyOptions}
+use Rattle.sshkey_files.specs.Items.{is_comma, is_quote}
+use Rattle.sshkey_files.specs.OptionItems.{KeyOption, quote, equals_sign, backslash, is_name_character, IsQuoted, unescaped, IsValueAt, EndsOption, IsOptionAt, without_commas, AreKeyOptions}
+use Rattle.sshkey_files.specs.StrictReading.{is_mark}
+use Rattle.sshkey_files.specs.OptionItems.{HasKeyOptions}
 use Rattle.sshkey_authorized_keys.specs.OptionCuts.{CutsName, FindsFirst, is_escape}
-use Rattle.sshkey_entries.proofs.OneOption.{commas_skipped, commas_alone, mark_front, comma_skipped, other_stays, nothing_stays, same_quoted, same_name, value_ends, no_value, one_option, some_option}
+use Rattle.sshkey_files.proofs.OneOption.{commas_skipped, commas_alone, mark_front, comma_skipped, other_stays, nothing_stays, same_quoted, same_name, value_ends, no_value, one_option, some_option}
 
 no_place : (p : ℕ → Bool) (xs : List ℕ) → position p xs ≡ None → (k : ℕ) → k < length xs → p (get_or xs k 0) ≡ false
 no_place p xs none k l = elim (cases_lt (position_or_len p xs) (length xs)) [

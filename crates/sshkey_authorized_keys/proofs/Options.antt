@@ -6,13 +6,13 @@ use Rattle.sshkey_base.specs.declared.error.Error.{Error}
 use Rattle.sshkey_model.specs.Lines.{space, IsKeyLine}
 use Rattle.sshkey_files.specs.Answers.{ReadsEntry}
 use Rattle.sshkey_authorized_keys.specs.AuthorizedEntries.{authorized_key_of}
-use Rattle.sshkey_entries.specs.AuthorizedKeys.{AuthorizedKey, IsAuthorizedKey, HasOptions, is_space}
-use Rattle.sshkey_entries.specs.ConfigOptions.{AreOptions}
-use Rattle.sshkey_entries.proofs.OneEntry.{no_space}
+use Rattle.sshkey_files.specs.AuthorizedKeys.{AuthorizedKey, IsAuthorizedKey, HasOptions, is_space}
+use Rattle.sshkey_files.specs.ConfigOptions.{AreOptions}
+use Rattle.sshkey_files.proofs.OneEntry.{no_space}
 use Rattle.sshkey_authorized_keys.specs.OptionAnswers.{IsNotAllowed}
 use Rattle.sshkey_authorized_keys.specs.EntryFaults.{HasFault}
 use Rattle.sshkey_base.specs.declared.error.Error.TheVariants.{FormatEncoding, Memory}
-use Rattle.sshkey_entries.specs.AuthorizedKeys.{IsNoKeyLine}
+use Rattle.sshkey_files.specs.AuthorizedKeys.{IsNoKeyLine}
 use Rattle.sshkey_authorized_keys.specs.declared.entry.Entry.{Entry}
 
 pub uncut : (line : List ℕ) → IsSplitOnceResult space line None → (a : AuthorizedKey) → HasOptions line a → ⊥

@@ -4,9 +4,9 @@ use Rattle.sshkey_base.specs.declared.encoding.Error.TheVariants.{CharacterEncod
 use Rattle.sshkey_base.specs.declared.error.Error.{Error}
 use Rattle.sshkey_base.specs.declared.error.Error.TheVariants.{Encoding, FormatEncoding}
 use Rattle.sshkey_model.specs.Lines.{space, IsWithout}
-use Rattle.sshkey_entries.specs.AuthorizedKeys.{AuthorizedKey, IsAuthorizedKey, is_space}
-use Rattle.sshkey_entries.specs.ConfigOptions.{AreOptions}
-use Rattle.sshkey_entries.specs.Entries.{IsNoEntry, uncommented}
+use Rattle.sshkey_files.specs.AuthorizedKeys.{AuthorizedKey, IsAuthorizedKey, is_space}
+use Rattle.sshkey_files.specs.ConfigOptions.{AreOptions}
+use Rattle.sshkey_files.specs.Entries.{IsNoEntry, uncommented}
 
 -- `FormatEncoding` where there is no space, and `CharacterEncoding` where there are three or more and options do not have what stands before the first. Of others the fault of the key's line is open.
 pub record HasFault (line : List ℕ) (e : Error) : Type 0 where

@@ -3,9 +3,9 @@ use Rattle.std.specs.Prelude.{◌≡◌, ◌⊎◌, ℕ, List, ◌++◌, length,
 use Rattle.sshkey_base.specs.Causes.{cause, NoMemory}
 use Rattle.sshkey_base.specs.declared.error.Error.{Error}
 use Rattle.sshkey_model.specs.Keys.{Key}
-use Rattle.sshkey_entries.specs.Fields.{without_blanks, AreKeyFields}
-use Rattle.sshkey_entries.specs.StrictReading.{EndsOptions}
-use Rattle.sshkey_fields.specs.KeyFields.{NeedsKeyFields}
+use Rattle.sshkey_files.specs.Fields.{without_blanks, AreKeyFields}
+use Rattle.sshkey_files.specs.StrictReading.{EndsOptions}
+use Rattle.sshkey_files.specs.KeyFields.{NeedsKeyFields}
 
 -- The text is options and what follows them; and that needs memory, or is a key's fields, and then the options do.
 pub record NeedsBehind (text : List ℕ) : Type 0 where

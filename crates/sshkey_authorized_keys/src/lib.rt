@@ -8,7 +8,7 @@ pub mod laws;
 mod openssh;
 mod openssh_option;
 mod openssh_options;
-mod option_parts;
+mod option_syntax;
 mod read_back;
 mod strict;
 

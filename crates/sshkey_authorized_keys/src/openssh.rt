@@ -2,8 +2,8 @@
 
 ghost use Rattle.std.specs.Prelude.{◌≡◌, ◌<◌, ◌↔◌, ℕ, List, [], length, slice_index, IsTrue};
 ghost use Rattle.std.specs.Iterator.{item_count};
-ghost use Rattle.sshkey_entries.specs.Fields.{AreNoKeyFields, filled_lines};
-ghost use Rattle.sshkey_entries.specs.OpenSshLines.{IsAuthorizedLine, IsBehindOptions};
+ghost use Rattle.sshkey_files.specs.Fields.{AreNoKeyFields, filled_lines};
+ghost use Rattle.sshkey_files.specs.OpenSshLines.{IsAuthorizedLine, IsBehindOptions};
 ghost use Rattle.sshkey_files.specs.Answers.{AnswersEntry, ReadsEntry, RefusesFor, YieldsAnswers};
 ghost use Rattle.sshkey_authorized_keys.specs.OpenSshEntries.{openssh_entry_of, openssh_key_in, openssh_options_of};
 ghost use Rattle.sshkey_authorized_keys.specs.OpenSshFaults.{CutsOptions, FindsEnd, HasLineFault, HasTextFault, EndsHere};
@@ -13,8 +13,7 @@ use crate::entry::{Entry, is_memory};
 use crate::openssh_options::OpenSshOptions;
 use crate::strict::{is_blank, is_comment, is_mark};
 use sshkey_base::{Error, Result};
-use sshkey_fields::read_key_fields;
-use sshkey_files::{FilledLines, skip_blanks};
+use sshkey_files::{FilledLines, read_key_fields, skip_blanks};
 use sshkey_public::PublicKey;
 use std::alloc::Global;
 use std::marker::Model;
@@ -74,9 +73,9 @@ impl Entry {
     /// Unless memory runs out, it fails exactly if the line is no such entry: `FormatEncoding`
     /// where a `#` begins it, and where neither a key begins it nor options have an end, as in an
     /// empty line and where quotes stay open; `Length` where after options, or alone, no Base64
-    /// stands; and else the errors of `sshkey_fields::read_key_fields`.
+    /// stands; and else the errors of `sshkey_files::read_key_fields`.
     ///
-    /// fails with `Memory` only if `sshkey_fields::read_key_fields` may answer it, of the line or
+    /// fails with `Memory` only if `sshkey_files::read_key_fields` may answer it, of the line or
     /// of what stands after its options, and for the options of an entry.
     ///
     /// The options are kept as they stand, also those that sshd does not know; sshd rejects a line

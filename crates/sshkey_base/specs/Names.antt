@@ -38,10 +38,20 @@ is_rsa _ = false
 
 -- a private-use one
 abbrev pub IsPrivateUse : model.Algorithm → Type 0
-IsPrivateUse (model.Other n) = Unit {0}
-IsPrivateUse _ = ⊥
+IsPrivateUse model.Dsa = ⊥
+IsPrivateUse (model.Ecdsa curve) = ⊥
+IsPrivateUse model.Ed25519 = ⊥
+IsPrivateUse (model.Rsa hash) = ⊥
+IsPrivateUse model.SkEcdsa = ⊥
+IsPrivateUse model.SkEd25519 = ⊥
+IsPrivateUse (model.Other name) = Unit {0}
 
 -- no private-use one
 abbrev pub IsFixed : model.Algorithm → Type 0
-IsFixed (model.Other n) = ⊥
-IsFixed _ = Unit {0}
+IsFixed model.Dsa = Unit {0}
+IsFixed (model.Ecdsa curve) = Unit {0}
+IsFixed model.Ed25519 = Unit {0}
+IsFixed (model.Rsa hash) = Unit {0}
+IsFixed model.SkEcdsa = Unit {0}
+IsFixed model.SkEd25519 = Unit {0}
+IsFixed (model.Other name) = ⊥

@@ -57,8 +57,8 @@ pub enum Algorithm {
 }
 
 impl Algorithm {
-    /// The algorithm of that name: one of the fixed ones, or else a private-use one, and `Label`
-    /// where it is no name. Memory is allocated only for a private-use name.
+    /// The algorithm of that name: one of the fixed ones, or else a private-use one. Fails with
+    /// `Label` if the text is no name. Allocates only for a private-use name.
     pub fn new(alloc: Global, name: &str) -> Result<Algorithm>
         ensures gives { Names algorithm_of cause (algorithm_from name.now) result }
         ensures fixed { (a : model.Algorithm) → named algorithm_name algorithms name.now ≡ Some a →
@@ -94,8 +94,8 @@ impl Algorithm {
         Some(algorithm)
     }
 
-    /// Whether it is the name of an algorithm: `Ok` exactly if `new` with enough memory is, else
-    /// `Label`. Does not allocate.
+    /// Checks that the text is the name of an algorithm: `Ok` exactly if `new` with enough memory
+    /// is, and otherwise fails with `Label`. Does not allocate.
     pub fn check(name: &str) -> Result<()>
         ensures { Judges cause (algorithm_from name.now) result }
     {

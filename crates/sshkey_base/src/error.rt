@@ -17,9 +17,9 @@ use std::str::Utf8Error;
 /// Every error of the crates.
 #[derive(Debug, Drop, PartialEq, Eq, thiserror::Error)]
 pub enum Error {
-    /// The algorithm or the curve is not the one that was stated: the first word of a line is not
-    /// the name in its key, a point is of another curve, or options follow a key derivation that
-    /// has none.
+    /// The algorithm, the curve or the hash is not the one that was stated, or is none: the first
+    /// word of a line is not the name in its key, a point is of another curve, a fingerprint begins
+    /// with the name of no hash, or options follow a key derivation that has none.
     #[error("unknown algorithm")]
     AlgorithmUnknown,
     /// Keys or signatures of the algorithm can't be used for what was asked.
@@ -33,7 +33,8 @@ pub enum Error {
     /// stands where nothing is encrypted.
     #[error("cryptographic error")]
     Crypto,
-    /// The private key is not encrypted. Nothing here answers it.
+    /// The private key is not encrypted. The crate ssh-key has this error; no call of these crates
+    /// fails with it.
     #[error("private key is already decrypted")]
     Decrypted,
     /// A point of an elliptic curve is not encoded as one.
@@ -45,16 +46,20 @@ pub enum Error {
     /// A certificate is not valid.
     #[error("certificate validation failed")]
     CertificateValidation,
-    /// The bytes do not keep the wire encoding.
+    /// The bytes break a rule of the wire encoding, or a text one of its own encoding: which one,
+    /// the inner error says.
     #[error("{0}")]
     Encoding(encoding::Error),
     /// The private key is encrypted.
     #[error("private key is encrypted")]
     Encrypted,
-    /// A value does not keep the form of its kind.
+    /// A value breaks a rule of its format: the magic bytes at the front are others, a number is
+    /// not in its shortest form, is too large or stands for nothing, options of a certificate are
+    /// not in ascending order of their names, padding is not 1, 2, 3 and so on, or a line is no
+    /// entry.
     #[error("format encoding error")]
     FormatEncoding,
-    /// The machine could not read or write.
+    /// An input or a file could not be read, or an output or a file not be written.
     #[error("I/O error")]
     Io(io::ErrorKind),
     /// Memory ran out.
@@ -63,22 +68,23 @@ pub enum Error {
     /// The namespace of an SSH signature is empty, or not the one that was asked for.
     #[error("namespace invalid")]
     Namespace,
-    /// The public key is not the one that was asked for.
+    /// The public key is not the one that was asked for, or that of a private key's pair is not the
+    /// one before the pair.
     #[error("public key is incorrect")]
     PublicKey,
-    /// The version is not one that is read.
+    /// The version of an SSH signature is above 1.
     #[error("version unsupported: {number}")]
     Version {
         /// The version.
         number: u32,
     },
-    /// A time is past 2^63 - 1 seconds.
+    /// A time is above 2^63 - 1 seconds since 1970.
     #[error("invalid time")]
     Time,
     /// Bytes follow an encrypted private key.
     #[error("unexpected trailing data at end of message ({remaining} bytes)")]
     TrailingData {
-        /// How many.
+        /// How many bytes.
         remaining: usize,
     },
 }

@@ -87,8 +87,8 @@ fn texts_from<R: Reader>(alloc: Global, reader: &mut R) -> Result<Vec<String>>
 /// PROTOCOL.certkeys): a length of four bytes, and strings up to the end of that part.
 ///
 /// A length larger than the remaining input fails with `Length`, and nothing is allocated for it;
-/// so does the length of a text that passes the list. A text that is not UTF-8 is
-/// `CharacterEncoding`.
+/// so does the length of a text that passes the list. A text that is not UTF-8
+/// fails with `CharacterEncoding`.
 #[tactic(auto, using(crate::proofs::Boxes::boxes))]
 impl Decode for Vec<String> {
     type Error = Error;

@@ -40,8 +40,9 @@ impl Mpint {
     ghost use Rattle.sshkey_base.specs.Causes.{cause};
     ghost use Rattle.sshkey_base.specs.Mpint.{mpint_of};
 
-    /// Whether the bytes are those of a number, in two's complement: `Ok` exactly if `from_bytes`
-    /// with enough memory is, else `FormatEncoding`. Does not allocate.
+    /// Checks that the bytes are those of a number, in two's complement: `Ok` exactly if
+    /// `from_bytes` with enough memory is, and otherwise fails with `FormatEncoding`. Does not
+    /// allocate.
     pub fn check(bytes: &[u8]) -> Result<()>
         ensures { Judges cause (mpint_from bytes.now) result }
     {
@@ -55,7 +56,7 @@ impl Mpint {
     /// The number that has these bytes, in two's complement.
     ///
     /// Fails with `FormatEncoding` for the byte 00 alone and for 00 before a byte below 80 hex, and
-    /// otherwise only `Memory`.
+    /// otherwise only with `Memory`.
     pub fn from_bytes(alloc: Global, bytes: &[u8]) -> Result<Mpint>
         ensures { Answers mpint_of cause (mpint_from bytes.now) result }
     {

@@ -19,9 +19,10 @@ use crate::text::Text;
 use crate::writer::Writer;
 use std::alloc::Global;
 
-/// A string whose bytes are UTF-8, else `CharacterEncoding` (RFC 4251, section 5).
+/// A string whose bytes are UTF-8 (RFC 4251, section 5).
 ///
-/// A length larger than the remaining input fails with `Length`, and nothing is allocated for it.
+/// Fails with `CharacterEncoding` for bytes that are not. A length larger than the remaining input
+/// fails with `Length`, and nothing is allocated for it.
 #[tactic(auto, using(crate::proofs::Steps::steps, crate::proofs::Stopping::stopping))]
 impl Decode for String {
     type Error = Error;

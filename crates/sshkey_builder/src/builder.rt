@@ -25,9 +25,9 @@ use std::alloc::Global;
 
 /// Collects the fields of a certificate, and signs them.
 ///
-/// Each setter stands here twice: `serial` hands the builder back, so that calls can be chained;
-/// `set_serial` answers nothing. A rejected call of either changes nothing, which a caller's proof
-/// learns by itself of `set_serial` alone.
+/// Each setter stands here twice: `serial` returns the builder, so that calls can be chained;
+/// `set_serial` returns `Ok(())`. A call of either that fails leaves the builder as it was. In a
+/// caller's proof the search finds this of `set_serial`; of `serial` it has to be proved by hand.
 pub struct Builder {
     alloc: Global,
     nonce: Bytes,
@@ -69,8 +69,9 @@ impl Builder {
     /// A builder for a certificate of that key, for times from `valid_after` on and before
     /// `valid_before`, in seconds since 1970. Does not allocate.
     ///
-    /// `CertificateFieldInvalid` of the first time that is above 2^63 - 1, `Field::ValidAfter` or
-    /// `Field::ValidBefore`, or of `Field::ValidBefore` where the end is before the beginning.
+    /// Fails with `CertificateFieldInvalid` of the first time that is above 2^63 - 1,
+    /// `Field::ValidAfter` or `Field::ValidBefore`, and else of `Field::ValidBefore` if the end is
+    /// before the beginning.
     pub fn new(
         alloc: Global,
         nonce: Vec<u8>,
@@ -88,7 +89,7 @@ impl Builder {
     /// A builder for a certificate of that key without an end, for times from `valid_after` on.
     /// Does not allocate.
     ///
-    /// `CertificateFieldInvalid(Field::ValidAfter)` where that is above 2^63 - 1.
+    /// Fails with `CertificateFieldInvalid(Field::ValidAfter)` if that is above 2^63 - 1.
     pub fn new_forever(
         alloc: Global,
         nonce: Vec<u8>,
@@ -104,7 +105,8 @@ impl Builder {
         Ok(Builder::begun(alloc, nonce, public_key, valid_after, EndTime::forever()))
     }
 
-    /// `new` with a nonce of the next 16 bytes of the generator, for which memory is asked first.
+    /// Does what `new` does, with the next 16 bytes of the generator as the nonce. Allocates the
+    /// nonce first: where that fails with `Memory`, nothing is drawn.
     pub fn new_with_random_nonce<R: Rng + CryptoRng>(
         alloc: Global,
         rng: &mut R,
@@ -149,8 +151,8 @@ impl Builder {
         }
     }
 
-    /// Sets the serial number. `CertificateFieldInvalid(Field::Serial)` if it was set. Does not
-    /// allocate.
+    /// Sets the serial number. Fails with `CertificateFieldInvalid(Field::Serial)` if it was set.
+    /// Does not allocate.
     pub fn serial(&mut self, serial: u64) -> Result<&mut Builder>
         ensures* stays { sem 𝓛 (StaysIfRefused self.entry result) }
         ensures same_reference { IsTheBuilder self.entry result }
@@ -159,7 +161,8 @@ impl Builder {
         hand_back(self.chain_serial(serial))
     }
 
-    /// Sets the type. `CertificateFieldInvalid(Field::CertType)` if it was set. Does not allocate.
+    /// Sets the type. Fails with `CertificateFieldInvalid(Field::CertType)` if it was set. Does not
+    /// allocate.
     pub fn cert_type(&mut self, cert_type: CertType) -> Result<&mut Builder>
         ensures* stays { sem 𝓛 (StaysIfRefused self.entry result) }
         ensures same_reference { IsTheBuilder self.entry result }
@@ -168,7 +171,8 @@ impl Builder {
         hand_back(self.chain_cert_type(cert_type))
     }
 
-    /// Sets the key id. `CertificateFieldInvalid(Field::KeyId)` if it was set. Does not allocate.
+    /// Sets the key id. Fails with `CertificateFieldInvalid(Field::KeyId)` if it was set. Does not
+    /// allocate.
     pub fn key_id(&mut self, key_id: String) -> Result<&mut Builder>
         ensures* stays { sem 𝓛 (StaysIfRefused self.entry result) }
         ensures same_reference { IsTheBuilder self.entry result }
@@ -177,8 +181,8 @@ impl Builder {
         hand_back(self.chain_key_id(key_id))
     }
 
-    /// Sets the comment. `CertificateFieldInvalid(Field::Comment)` if it was set. Does not
-    /// allocate.
+    /// Sets the comment. Fails with `CertificateFieldInvalid(Field::Comment)` if it was set. Does
+    /// not allocate.
     pub fn comment(&mut self, comment: String) -> Result<&mut Builder>
         ensures* stays { sem 𝓛 (StaysIfRefused self.entry result) }
         ensures same_reference { IsTheBuilder self.entry result }
@@ -196,7 +200,7 @@ impl Builder {
         hand_back(self.chain_valid_principal(principal))
     }
 
-    /// Makes all principals valid, whichever were named. Never rejected, and does not allocate.
+    /// Makes all principals valid, whichever were named. Never fails, and does not allocate.
     pub fn all_principals_valid(&mut self) -> Result<&mut Builder>
         ensures* stays { sem 𝓛 (StaysIfRefused self.entry result) }
         ensures same_reference { IsTheBuilder self.entry result }
@@ -205,8 +209,9 @@ impl Builder {
         hand_back(self.chain_all_principals_valid())
     }
 
-    /// Adds one of the critical options. `CertificateFieldInvalid(Field::CriticalOptions)` if there
-    /// is one of that name, and else rejected only when out of memory.
+    /// Adds one of the critical options. Fails with
+    /// `CertificateFieldInvalid(Field::CriticalOptions)` if there is one of that name, and
+    /// otherwise only when out of memory.
     pub fn critical_option(&mut self, name: String, value: String) -> Result<&mut Builder>
         ensures* stays { sem 𝓛 (StaysIfRefused self.entry result) }
         ensures same_reference { IsTheBuilder self.entry result }
@@ -215,8 +220,8 @@ impl Builder {
         hand_back(self.chain_critical_option(name, value))
     }
 
-    /// Adds one of the extensions. `CertificateFieldInvalid(Field::Extensions)` if there is one of
-    /// that name, and else rejected only when out of memory.
+    /// Adds one of the extensions. Fails with `CertificateFieldInvalid(Field::Extensions)` if there
+    /// is one of that name, and otherwise only when out of memory.
     pub fn extension(&mut self, name: String, value: String) -> Result<&mut Builder>
         ensures* stays { sem 𝓛 (StaysIfRefused self.entry result) }
         ensures same_reference { IsTheBuilder self.entry result }

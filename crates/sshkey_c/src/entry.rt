@@ -3,7 +3,7 @@
 ghost use Rattle.std.specs.Prelude.{◌≡◌};
 ghost use Rattle.std.specs.Str.{IsUtf8};
 ghost use Rattle.sshkey_authorized_keys.specs.OpenSshFaults as keys;
-ghost use Rattle.sshkey_entries.specs.OpenSshLines.{IsAuthorizedLine, IsHostLine};
+ghost use Rattle.sshkey_files.specs.OpenSshLines.{IsAuthorizedLine, IsHostLine};
 ghost use Rattle.sshkey_known_hosts.specs.OpenSshHosts as hosts;
 ghost use Rattle.sshkey_file_calls.specs.Entries.{FindsEntry, NeedsAuthorizedEntry, TellsFault, of_authorized_key, of_known_host};
 ghost use Rattle.sshkey_file_calls.specs.Lines.{FindsLine};

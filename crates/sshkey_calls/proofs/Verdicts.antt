@@ -3,7 +3,7 @@ use Rattle.std.proofs.Common.{◌≡◌, ◌≢◌, ◌↔◌, ℕ, List, [], Bo
 use Rattle.sshkey_model.specs.Certificates.{Certificate}
 use Rattle.sshkey_model.specs.Fingerprints.{Fingerprint}
 use Rattle.sshkey_model.specs.Principals.{IsValidFor}
-use Rattle.sshkey_model.specs.Refusals.{Refusal, NotSigned, OtherAuthority, NoTime, OutOfWindow, OtherPrincipal, allows, first_refusal, first_refusal_for, is_given, is_signed, is_within, or_else, unless}
+use Rattle.sshkey_model.specs.Refusals.{Refusal, NotSigned, UntrustedAuthority, InvalidTime, OutOfWindow, UnlistedPrincipal, allows, first_refusal, first_refusal_for, has_trusted_authority, is_signed, is_within, or_else, unless}
 use Rattle.sshkey_model.specs.Certificates.{is_time}
 use Rattle.sshkey_model.specs.Validity.{IsValid}
 use Rattle.sshkey_model.specs.Verification.{Question}
@@ -31,10 +31,10 @@ module _ (accepts : Question → Bool) (bytes : List ℕ) (verified : ℕ) (v : 
   same_signed = same_answer (certificate_question c) refl
 
   pub same_first : (authorities : List Fingerprint) (t : ℕ) → first_refusal (λ _. is_yes verified) authorities t c ≡ first_refusal accepts authorities t c
-  same_first authorities t = ap (λ (b : Bool). unless b NotSigned (unless (is_given authorities c) OtherAuthority (unless (is_time t) NoTime (unless (is_within t c) OutOfWindow None)))) same_signed
+  same_first authorities t = ap (λ (b : Bool). unless b NotSigned (unless (has_trusted_authority authorities c) UntrustedAuthority (unless (is_time t) InvalidTime (unless (is_within t c) OutOfWindow None)))) same_signed
 
   pub same_first_for : (authorities : List Fingerprint) (t : ℕ) (wanted : List ℕ) → first_refusal_for (λ _. is_yes verified) authorities t wanted c ≡ first_refusal_for accepts authorities t wanted c
-  same_first_for authorities t wanted = ap (λ (r : Option Refusal). or_else r (unless (allows c.signed.valid_principals wanted) OtherPrincipal None)) (same_first authorities t)
+  same_first_for authorities t wanted = ap (λ (r : Option Refusal). or_else r (unless (allows c.signed.valid_principals wanted) UnlistedPrincipal None)) (same_first authorities t)
 
   -- ---- the verdict
 
@@ -49,10 +49,10 @@ module _ (accepts : Question → Bool) (bytes : List ℕ) (verified : ℕ) (v : 
 nothing_wrong : (first : Option Refusal) → refusal_number first ≡ 0 → first ≡ None
 nothing_wrong None e = refl
 nothing_wrong (Some NotSigned) e = absurd (omega (arith, e))
-nothing_wrong (Some OtherAuthority) e = absurd (omega (arith, e))
-nothing_wrong (Some NoTime) e = absurd (omega (arith, e))
+nothing_wrong (Some UntrustedAuthority) e = absurd (omega (arith, e))
+nothing_wrong (Some InvalidTime) e = absurd (omega (arith, e))
 nothing_wrong (Some OutOfWindow) e = absurd (omega (arith, e))
-nothing_wrong (Some OtherPrincipal) e = absurd (omega (arith, e))
+nothing_wrong (Some UnlistedPrincipal) e = absurd (omega (arith, e))
 
 -- the first refusal of the certificate decides
 says : (Valid : Certificate → Type 0) (Holds : Type 0) (c : Certificate) (first : Option Refusal) (n : ℕ) → (first ≡ None) ↔ Valid c → (Valid c → Holds) → (Holds → Valid c) → (n ≢ 1 → n ≡ refusal_number first) → Says Holds n

@@ -7,7 +7,7 @@ use Rattle.sshkey_base.specs.declared.error.Error.TheVariants.{Encoding}
 use Rattle.sshkey_model.specs.Names.{Algorithm, Sha256, Sha512, Nistp256, Nistp384, Nistp521}
 use Rattle.sshkey_model.specs.Reading.{Fault}
 use Rattle.sshkey_model.specs.Reading as fault
-use Rattle.sshkey_model.specs.Refusals.{Refusal, NotSigned, OtherAuthority, NoTime, OutOfWindow, OtherPrincipal}
+use Rattle.sshkey_model.specs.Refusals.{Refusal, NotSigned, UntrustedAuthority, InvalidTime, OutOfWindow, UnlistedPrincipal}
 
 -- why bytes are none of what they are to be
 abbrev pub fault_number : Fault → ℕ
@@ -39,10 +39,10 @@ error_number e = cause_number (cause e)
 abbrev pub refusal_number : Option Refusal → ℕ
 refusal_number None = 0
 refusal_number (Some NotSigned) = 30
-refusal_number (Some OtherAuthority) = 31
-refusal_number (Some NoTime) = 32
+refusal_number (Some UntrustedAuthority) = 31
+refusal_number (Some InvalidTime) = 32
 refusal_number (Some OutOfWindow) = 33
-refusal_number (Some OtherPrincipal) = 34
+refusal_number (Some UnlistedPrincipal) = 34
 
 -- the algorithm of a question; no question has one of the last
 abbrev pub algorithm_number : Algorithm → ℕ

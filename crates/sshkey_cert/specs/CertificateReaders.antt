@@ -3,9 +3,9 @@ use Rattle.std.specs.Prelude.{ℕ, List, refl}
 use Rattle.sshkey_model.specs.Parts.{Fits, flat}
 use Rattle.sshkey_model.specs.Reading.{Front}
 use Rattle.sshkey_model.specs.Grammar.{IsGrammar, SpellsWith, value_at}
-use Rattle.sshkey_model.specs.Certificates.{Certificate, IsCertificate, HasCertificatePlaces, certificate, plain_certificate, normal_certificate, certificate_at}
+use Rattle.sshkey_model.specs.Certificates.{Certificate, IsCertificate, HasCertificatePlaces, certificate, plain_choices, normal_certificate, certificate_at}
 use Rattle.sshkey_model.proofs.CertificateReaders.{certificate_reads}
-use Rattle.sshkey_model.proofs.NormalForms.{plain_certificate_has}
+use Rattle.sshkey_model.proofs.NormalForms.{plain_choices_have}
 use Rattle.sshkey_model.proofs.Grammars.{grammar_with}
 
 -- the bytes spell the certificate
@@ -21,4 +21,4 @@ certificate_grammar = grammar_with certificate_reads
 
 -- what is written is a spelling
 pub certificate_normal : (c : Certificate) → IsCertificate c → Fits (normal_certificate c) → SpellsCertificate c (flat (normal_certificate c))
-certificate_normal c is fits = record { is = is; choices = plain_certificate c.signed; place = plain_certificate_has c.signed; fits = fits; shape = refl }
+certificate_normal c is fits = record { is = is; choices = plain_choices c.signed; place = plain_choices_have c.signed; fits = fits; shape = refl }

@@ -13,8 +13,8 @@ use Rattle.sshkey_options.specs.OptionLists.{two_lists}
 use Rattle.sshkey_cert_ref.specs.declared.options_ref.OptionsRef.{OptionsRef}
 use Rattle.sshkey_cert_ref.specs.OptionLists.{SpellsEachOption, options_in, nestings_in, are_plain, plainness_from}
 use Rattle.sshkey_cert_ref.specs.Views.{bytes_of_options, spelled_options_of}
-use Rattle.sshkey_slices.specs.Slices.{Keeps, is_taken, found_or}
-use Rattle.sshkey_slices.proofs.Fronts.{answers_err, taken_value}
+use Rattle.sshkey_format.specs.Slices.{Keeps, is_taken, found_or}
+use Rattle.sshkey_format.proofs.SliceFronts.{answers_err, taken_value}
 use Rattle.sshkey_cert_ref.proofs.BoxedBytes.{bytes_box, box_bytes}
 
 abbrev Pair : Type 0

@@ -20,7 +20,7 @@ use Rattle.sshkey_keys_ref.specs.SignatureRef.{signature_bytes}
 use Rattle.sshkey_keys_ref.specs.declared.key_data_ref.KeyDataRef.{KeyDataRef}
 use Rattle.sshkey_keys_ref.specs.declared.signature_ref.SignatureRef.{SignatureRef}
 use Rattle.sshkey_cert_ref.specs.OptionLists.{SpellsOptionString}
-use Rattle.sshkey_slices.specs.Slices.{found_or}
+use Rattle.sshkey_format.specs.Slices.{found_or}
 use Rattle.sshkey_to_be_signed.specs.ToBeSignedFormats.{grant_format, window_format}
 
 -- options in a string, each empty value as its choice says

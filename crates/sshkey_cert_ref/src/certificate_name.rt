@@ -6,7 +6,7 @@ ghost use Rattle.sshkey_base.specs.Causes.{cause};
 ghost use Rattle.sshkey_base.specs.NameFormats.{certified_format};
 ghost use Rattle.sshkey_model.specs.CertificateNames.{certified_from};
 ghost use Rattle.sshkey_model.specs.Names as names;
-ghost use Rattle.sshkey_slices.specs.Slices.{is_taken};
+ghost use Rattle.sshkey_format.specs.Slices.{is_taken};
 ghost use Rattle.sshkey_cert_ref.specs.Spelled.{certified_in};
 
 use sshkey_base::{Algorithm, Error, Result, encoding};

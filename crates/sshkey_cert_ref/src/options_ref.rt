@@ -6,7 +6,7 @@ ghost use Rattle.sshkey_model.specs.Options.{option_at};
 ghost use Rattle.sshkey_model.specs.Reading.{list_whole};
 ghost use Rattle.sshkey_base.specs.Answers.{AnswersAlways};
 ghost use Rattle.sshkey_base.specs.Causes.{cause};
-ghost use Rattle.sshkey_slices.specs.Slices.{is_taken};
+ghost use Rattle.sshkey_format.specs.Slices.{is_taken};
 ghost use Rattle.sshkey_cert_ref.specs.OptionLists.{are_plain, nestings_in, options_in, plainness_from};
 ghost use Rattle.sshkey_cert_ref.specs.SpelledOptions.{pair_of};
 
@@ -32,7 +32,7 @@ pub struct OptionsRef<'a> {
 
 impl<'a> OptionsRef<'a> {
     ghost use Rattle.sshkey_model.specs.Options.{AreOptions, options_at, plain_nestings};
-    ghost use Rattle.sshkey_slices.specs.Slices.{AcceptsAll, AcceptsSplit, Keeps, Splits};
+    ghost use Rattle.sshkey_format.specs.Slices.{AcceptsAll, AcceptsSplit, Keeps, Splits};
     ghost use Rattle.sshkey_cert_ref.specs.OptionLists.{SpellsEachOption, SpellsOptionString, plain_bytes};
     ghost use Rattle.sshkey_cert_ref.specs.Views.{bytes_of_options, options_of, nestings_of, spelled_options_of};
 
@@ -53,7 +53,7 @@ impl<'a> OptionsRef<'a> {
     /// The options in the string at the front, and what stands after it: what `OptionsMap` reads,
     /// without its memory.
     ///
-    /// The faults of a string, and then those of `from_bytes`.
+    /// Fails with the faults of a string, and then with those of `from_bytes`.
     pub fn from_front(bytes: &'a [u8]) -> Result<(OptionsRef<'a>, &'a [u8])>
         ensures gives { Splits spelled_options_of cause options_at bytes.now result }
         ensures accepts { AcceptsSplit spelled_options_of SpellsOptionString bytes.now result }

@@ -4,7 +4,7 @@ ghost use Rattle.std.specs.Prelude.{Ok};
 ghost use Rattle.sshkey_base.specs.Causes.{encoding_cause};
 ghost use Rattle.sshkey_keys_ref.specs.Taking.{Takes};
 ghost use Rattle.sshkey_model.specs.Reading.{box_at};
-ghost use Rattle.sshkey_slices.specs.Slices.{Splits};
+ghost use Rattle.sshkey_format.specs.Slices.{Splits};
 
 use sshkey_base::encoding::Result;
 use sshkey_format::ReadFrom;

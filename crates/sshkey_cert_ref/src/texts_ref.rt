@@ -6,7 +6,7 @@ ghost use Rattle.sshkey_model.specs.Texts.{IsText};
 ghost use Rattle.sshkey_base.specs.Answers.{Judges};
 ghost use Rattle.sshkey_base.specs.Causes.{encoding_cause};
 ghost use Rattle.sshkey_base.specs.TextLists.{text_list_at};
-ghost use Rattle.sshkey_slices.specs.Slices.{is_taken};
+ghost use Rattle.sshkey_format.specs.Slices.{is_taken};
 ghost use Rattle.sshkey_cert_ref.specs.TextLists.{texts_in};
 
 mod iter;
@@ -27,7 +27,7 @@ pub struct TextsRef<'a> {
 impl<'a> TextsRef<'a> {
     ghost use Rattle.sshkey_model.specs.Texts.{texts_at};
     ghost use Rattle.sshkey_base.specs.TextLists.{SpellsTexts};
-    ghost use Rattle.sshkey_slices.specs.Slices.{AcceptsAll, AcceptsSplit, Keeps, Splits};
+    ghost use Rattle.sshkey_format.specs.Slices.{AcceptsAll, AcceptsSplit, Keeps, Splits};
     ghost use Rattle.sshkey_cert_ref.specs.TextLists.{SpellsEachText};
     ghost use Rattle.sshkey_cert_ref.specs.Views.{bytes_of_texts, texts_of};
 
@@ -48,7 +48,7 @@ impl<'a> TextsRef<'a> {
     /// The texts in the string at the front, and what stands after it: what `Vec<String>` reads,
     /// without its memory.
     ///
-    /// The faults of a string, and then those of `from_bytes`.
+    /// Fails with the faults of a string, and then with those of `from_bytes`.
     pub fn from_front(bytes: &'a [u8]) -> Result<(TextsRef<'a>, &'a [u8])>
         ensures gives { Splits texts_of encoding_cause texts_at bytes.now result }
         ensures accepts { AcceptsSplit texts_of SpellsTexts bytes.now result }

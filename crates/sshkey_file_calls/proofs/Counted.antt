@@ -2,7 +2,7 @@
 use Rattle.std.proofs.Common.{◌≡◌, ◌≢◌, ◌<◌, ◌-◌, ℕ, List, [], ◌∷◌, ◌++◌, length, drop, Bool, true, false, None, Option, Some, refl, ap, subst, ◌∙◌, arith, append_assoc, length-append}
 use Rattle.sshkey_authorized_keys.specs.OpenSshItems.{key_option_of}
 use Rattle.sshkey_authorized_keys.specs.declared.openssh_option.OpenSshOption.{OpenSshOption}
-use Rattle.sshkey_entries.specs.OptionItems.{HasKeyOptions, KeyOption}
+use Rattle.sshkey_files.specs.OptionItems.{HasKeyOptions, KeyOption}
 use Rattle.sshkey_calls.specs.Rooms.{Fills}
 use Rattle.sshkey_file_calls.specs.Options.{CountsOn, FindsOption, IsCounted, IsLaidOut, IsNumbered, IsOptionOf, TellsOption, WritesOption, found_option}
 use Rattle.sshkey_file_calls.specs.declared.options.OptionParts.{OptionParts}

@@ -10,9 +10,9 @@ use Rattle.std.proofs.lemmas.List.Splits.{slice_split_none, slice_split_at, leng
 use Rattle.std.proofs.lemmas.List.Sums.{fails_before_first}
 use Rattle.std.specs.List.{All, slice_split, position_or_len}
 use Rattle.std.specs.Str.Lines.{lines, lines_of_parts, strip_carriage_return}
-use Rattle.sshkey_entries.specs.Fields.{without_blanks, is_filled, filled_lines}
-use Rattle.sshkey_entries.specs.StrictReading.{is_blank}
-use Rattle.sshkey_entries.proofs.Fields.{blank_skipped, blanks_skipped, nothing_stays, other_stays}
+use Rattle.sshkey_files.specs.Fields.{without_blanks, is_filled, filled_lines}
+use Rattle.sshkey_files.specs.StrictReading.{is_blank}
+use Rattle.sshkey_files.proofs.Fields.{blank_skipped, blanks_skipped, nothing_stays, other_stays}
 use Rattle.sshkey_files.proofs.BlankPlaces.{skips_all}
 use Rattle.sshkey_file_calls.specs.Lines.{CutsLine, FindsLine, IsLineEnd, is_line_end}
 use Rattle.sshkey_calls.specs.declared.part.Part.{Part}

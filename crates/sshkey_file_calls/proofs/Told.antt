@@ -1,10 +1,10 @@
 -- What is told of the key that bytes spell.
 use Rattle.std.proofs.Common.{◌≡◌, ◌≢◌, ℕ, List, subst, true, false}
-use Rattle.sshkey_entries.specs.Fields.{filled_lines}
-use Rattle.sshkey_entries.specs.HostNames.{known_name}
+use Rattle.sshkey_files.specs.Fields.{filled_lines}
+use Rattle.sshkey_files.specs.HostNames.{known_name}
 use Rattle.sshkey_keys.specs.Keys.{SpellsKey}
 use Rattle.sshkey_known_hosts.specs.Verdicts.{IsVerdict}
-use Rattle.sshkey_entries.specs.HostVerdicts.{HidesSome, IsRevoked}
+use Rattle.sshkey_files.specs.HostVerdicts.{HidesSome, IsRevoked}
 use Rattle.sshkey_known_hosts.specs.declared.verdict.Verdict.{Verdict}
 use Rattle.sshkey_known_hosts.specs.declared.verdict.Verdict.TheVariants.{Changed, Revoked, Trusted, Unknown, Unreadable}
 use Rattle.sshkey_model.specs.Keys.{Key}

@@ -2,9 +2,9 @@
 use Rattle.std.specs.Prelude.{◌≡◌, ◌≢◌, ◌⊎◌, ◌<◌, ◌+◌, ℕ, List, ◌++◌, length, drop, Option, Some, None}
 use Rattle.sshkey_authorized_keys.specs.OpenSshNeeds.{NeedsEntry}
 use Rattle.sshkey_base.specs.declared.error.Error.{Error}
-use Rattle.sshkey_entries.specs.AuthorizedKeys.{AuthorizedKey}
-use Rattle.sshkey_entries.specs.OpenSshLines.{IsAuthorizedLine}
-use Rattle.sshkey_entries.specs.KnownHosts.{CertAuthority, KnownHost, Marker, Revoked, hosts_text}
+use Rattle.sshkey_files.specs.AuthorizedKeys.{AuthorizedKey}
+use Rattle.sshkey_files.specs.OpenSshLines.{IsAuthorizedLine}
+use Rattle.sshkey_files.specs.KnownHosts.{CertAuthority, KnownHost, Marker, Revoked, hosts_text}
 use Rattle.sshkey_model.specs.Keys.{Key, normal_key}
 use Rattle.sshkey_model.specs.Parts.{flat}
 use Rattle.sshkey_calls.specs.Numbers.{error_number}

@@ -1,7 +1,7 @@
 -- What is answered of the lines of a text.
 use Rattle.std.specs.Prelude.{◌≡◌, ◌≢◌, ◌⊎◌, ◌≤◌, ◌+◌, ◌==◌, ℕ, List, [], ◌∷◌, ◌++◌, length, drop, Bool}
 use Rattle.std.specs.Str.Lines.{lines}
-use Rattle.sshkey_entries.specs.Fields.{filled_lines}
+use Rattle.sshkey_files.specs.Fields.{filled_lines}
 use Rattle.sshkey_calls.specs.Rooms.{bytes_of}
 use Rattle.sshkey_calls.specs.declared.part.Part.{Part}
 

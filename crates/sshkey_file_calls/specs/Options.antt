@@ -4,7 +4,7 @@ use Rattle.sshkey_authorized_keys.specs.OpenSshItems.{key_option_of}
 use Rattle.sshkey_authorized_keys.specs.declared.openssh_option.OpenSshOption.{OpenSshOption}
 use Rattle.sshkey_base.specs.declared.error.Error.{Error}
 use Rattle.sshkey_base.specs.declared.error.Error.TheVariants.{FormatEncoding}
-use Rattle.sshkey_entries.specs.OptionItems.{AreKeyOptions, HasKeyOptions, KeyOption}
+use Rattle.sshkey_files.specs.OptionItems.{AreKeyOptions, HasKeyOptions, KeyOption}
 use Rattle.sshkey_file_calls.specs.Entries.{IsPlaced}
 use Rattle.sshkey_file_calls.specs.declared.options.OptionParts.{OptionParts}
 

@@ -1,8 +1,8 @@
 -- What is answered of a host's key.
 use Rattle.std.specs.Prelude.{◌≡◌, ◌≢◌, ℕ, List, Bool, true, false}
-use Rattle.sshkey_entries.specs.Fields.{filled_lines}
-use Rattle.sshkey_entries.specs.HostNames.{known_name}
-use Rattle.sshkey_entries.specs.HostVerdicts.{HidesSome, IsAuthority, IsRevoked}
+use Rattle.sshkey_files.specs.Fields.{filled_lines}
+use Rattle.sshkey_files.specs.HostNames.{known_name}
+use Rattle.sshkey_files.specs.HostVerdicts.{HidesSome, IsAuthority, IsRevoked}
 use Rattle.sshkey_keys.specs.Keys.{SpellsKey}
 use Rattle.sshkey_known_hosts.specs.Verdicts.{IsVerdict}
 use Rattle.sshkey_known_hosts.specs.declared.verdict.Verdict.{Verdict}

@@ -2,8 +2,8 @@
 
 ghost use Rattle.std.specs.Prelude.{◌≡◌, ◌↔◌, IfOk, IsTrue};
 ghost use Rattle.std.specs.List.{Any};
-ghost use Rattle.sshkey_entries.specs.Fields.{filled_lines};
-ghost use Rattle.sshkey_entries.specs.HostNames.{known_name};
+ghost use Rattle.sshkey_files.specs.Fields.{filled_lines};
+ghost use Rattle.sshkey_files.specs.HostNames.{known_name};
 ghost use Rattle.sshkey_hmac.specs.Hmac.{hmac_sha1};
 ghost use Rattle.sshkey_keys.specs.Keys.{key_of};
 ghost use Rattle.sshkey_model.specs.Keys.{IsKey};

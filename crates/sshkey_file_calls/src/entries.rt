@@ -4,7 +4,7 @@ ghost use Rattle.std.specs.Prelude.{◌≡◌, IfOk, option_map};
 ghost use Rattle.std.specs.Str.{IsUtf8};
 ghost use Rattle.sshkey_authorized_keys.specs.OpenSshEntries.{openssh_entry_of};
 ghost use Rattle.sshkey_authorized_keys.specs.OpenSshFaults as keys;
-ghost use Rattle.sshkey_entries.specs.OpenSshLines.{IsAuthorizedLine, IsHostLine};
+ghost use Rattle.sshkey_files.specs.OpenSshLines.{IsAuthorizedLine, IsHostLine};
 ghost use Rattle.sshkey_known_hosts.specs.HostEntries.{known_host_of, marker_of};
 ghost use Rattle.sshkey_known_hosts.specs.OpenSshHosts as hosts;
 ghost use Rattle.sshkey_public.specs.PublicKeys.{comment_of, public_of};

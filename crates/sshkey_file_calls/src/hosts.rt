@@ -3,8 +3,8 @@
 ghost use Rattle.std.specs.Prelude.{◌≡◌, ◌≢◌, Err, IfOk};
 ghost use Rattle.std.specs.Str.{IsUtf8};
 ghost use Rattle.sshkey_base.specs.Acceptance.{SpellsSome};
-ghost use Rattle.sshkey_entries.specs.Fields.{filled_lines};
-ghost use Rattle.sshkey_entries.specs.HostNames.{known_name};
+ghost use Rattle.sshkey_files.specs.Fields.{filled_lines};
+ghost use Rattle.sshkey_files.specs.HostNames.{known_name};
 ghost use Rattle.sshkey_hmac.specs.Hmac.{hmac_sha1};
 ghost use Rattle.sshkey_keys.specs.Keys.{SpellsKey, key_data_at, key_of};
 ghost use Rattle.sshkey_keys_ref.specs.KeyDataRef.{key_bytes};

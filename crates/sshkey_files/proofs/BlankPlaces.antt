@@ -7,9 +7,9 @@ use Rattle.std.proofs.lemmas.List.Sums.{fails_before_first}
 use Rattle.std.proofs.lemmas.Str.{IsCharBoundary-start, IsCharBoundary-before_ascii, IsCharBoundary-after_ascii}
 use Rattle.std.specs.List.{position_or_len}
 use Rattle.std.specs.Str.{IsUtf8, IsCharBoundary}
-use Rattle.sshkey_entries.specs.Fields.{without_blanks, IsField, EndsField}
-use Rattle.sshkey_entries.specs.StrictReading.{is_blank}
-use Rattle.sshkey_entries.proofs.Fields.{blanks_skipped, blanks_alone, blanks_are}
+use Rattle.sshkey_files.specs.Fields.{without_blanks, IsField, EndsField}
+use Rattle.sshkey_files.specs.StrictReading.{is_blank}
+use Rattle.sshkey_files.proofs.Fields.{blanks_skipped, blanks_alone, blanks_are}
 use Rattle.sshkey_files.specs.Cuts.{CutsField}
 
 no_place : (p : ℕ → Bool) (xs : List ℕ) → position p xs ≡ None → (k : ℕ) → k < length xs → p (get_or xs k 0) ≡ false

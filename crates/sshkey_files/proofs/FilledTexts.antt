@@ -1,7 +1,7 @@
 -- The lines of a text that are neither empty nor comments, one by one.
 use Rattle.std.proofs.Common.{◌≡◌, ℕ, ◌<◌, List, ◌∷◌, length, map, filter, Bool, true, false, cond, sym, ap, ◌∙◌}
 use Rattle.std.specs.Str.Lines.{IsFirstLine, lines}
-use Rattle.sshkey_entries.specs.Fields.{without_blanks, is_filled, filled_lines}
+use Rattle.sshkey_files.specs.Fields.{without_blanks, is_filled, filled_lines}
 use Rattle.sshkey_files.proofs.TextLines.{lines_first}
 
 module _ (text line rest filled : List ℕ) (some : 0 < length text) (is_first : IsFirstLine text line rest) (is : filled ≡ without_blanks line) where

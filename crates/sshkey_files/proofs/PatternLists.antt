@@ -4,9 +4,9 @@ use Rattle.std.specs.List.{All, Any, slice_split, before_first, after_first}
 use Rattle.std.proofs.lemmas.List.Elements.{All-nil, All-cons, All-head, All-tail, All-from_get_or}
 use Rattle.std.proofs.lemmas.List.Splits.{slice_split_none, slice_split_first, length-slice_split}
 use Rattle.std.proofs.lemmas.Str.Pattern.{IsSplitOnceResult, split_parts, split_once_first}
-use Rattle.sshkey_entries.specs.Items.{patterns, without_empty_last, is_comma}
-use Rattle.sshkey_entries.proofs.Cuts.{kept_first, kept_last}
-use Rattle.sshkey_entries.specs.Patterns.{IsShort, Names, Refuses}
+use Rattle.sshkey_files.specs.Items.{patterns, without_empty_last, is_comma}
+use Rattle.sshkey_files.proofs.Cuts.{kept_first, kept_last}
+use Rattle.sshkey_files.specs.Patterns.{IsShort, Names, Refuses}
 
 -- ---- the patterns of a list
 

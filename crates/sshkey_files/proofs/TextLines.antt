@@ -12,7 +12,7 @@ use Rattle.std.specs.List.{All, slice_split}
 use Rattle.std.specs.Char.{is_newline, encode_utf8}
 use Rattle.std.specs.Str.{NoCharPasses}
 use Rattle.std.specs.Str.Lines.{IsFirstLine, StripsCarriageReturn, lines, lines_of_parts, strip_carriage_return}
-use Rattle.sshkey_entries.specs.Entries.{entry_lines, uncommented, is_some_text}
+use Rattle.sshkey_files.specs.Entries.{entry_lines, uncommented, is_some_text}
 
 abbrev is_end : ℕ → Bool
 is_end c = eqb c 10

@@ -4,7 +4,7 @@ use Rattle.std.specs.List.{AllZip}
 use Rattle.sshkey_base.specs.Causes.{cause, NoMemory}
 use Rattle.sshkey_base.specs.Faults.{IsMachineFault}
 use Rattle.sshkey_base.specs.declared.error.Error.{Error}
-use Rattle.sshkey_entries.specs.Entries.{entries, uncommented, IsNoEntry}
+use Rattle.sshkey_files.specs.Entries.{entries, uncommented, IsNoEntry}
 use denote.Ref.{Bor}
 
 -- Accepted is the value of the line. Refused for anything but memory, it has none.

@@ -1,6 +1,6 @@
 -- How far a pattern is matched against a text, and what is left of both.
 use Rattle.std.specs.Prelude.{◌≡◌, ◌≢◌, ◌↔◌, ℕ, ◌≤◌, List, [], length, drop, slice_index, Option, Some, None}
-use Rattle.sshkey_entries.specs.Patterns.{Matches, star}
+use Rattle.sshkey_files.specs.Patterns.{Matches, star}
 use denote.Ref.{Bor}
 
 -- What is left matches exactly if all does, and whatever else the pattern matches, what is left of it matches what stands behind as many characters.

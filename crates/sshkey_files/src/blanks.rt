@@ -1,8 +1,8 @@
 //! Spaces and tabs between fields.
 
 ghost use Rattle.std.specs.Prelude.{◌≡◌, position, not};
-ghost use Rattle.sshkey_entries.specs.Fields.{without_blanks};
-ghost use Rattle.sshkey_entries.specs.StrictReading.{is_blank};
+ghost use Rattle.sshkey_files.specs.Fields.{without_blanks};
+ghost use Rattle.sshkey_files.specs.StrictReading.{is_blank};
 ghost use Rattle.sshkey_files.specs.Cuts.{CutsField};
 
 fn is_blank(byte: u8) -> bool

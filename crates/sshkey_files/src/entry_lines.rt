@@ -4,7 +4,7 @@ ghost use Rattle.std.specs.Prelude.{◌≡◌, ◌++◌, List, ℕ, map};
 ghost use Rattle.std.specs.Iterator.{YieldsFirstRef, item_count};
 ghost use Rattle.std.specs.List.{before_first};
 ghost use Rattle.std.specs.Str.Iter.{lines_rest};
-ghost use Rattle.sshkey_entries.specs.Entries.{is_hash, uncommented, entry_lines, entries};
+ghost use Rattle.sshkey_files.specs.Entries.{is_hash, uncommented, entry_lines, entries};
 ghost use Rattle.sshkey_files.specs.Answers.{AreParts, YieldsAnswers};
 
 use std::marker::Model;

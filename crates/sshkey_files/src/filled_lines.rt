@@ -3,7 +3,7 @@
 ghost use Rattle.std.specs.Prelude.{◌≡◌, ℕ, List};
 ghost use Rattle.std.specs.Iterator.{YieldsFirstRef, item_count};
 ghost use Rattle.std.specs.Str.Iter.{lines_rest};
-ghost use Rattle.sshkey_entries.specs.Fields.{filled_lines, is_filled};
+ghost use Rattle.sshkey_files.specs.Fields.{filled_lines, is_filled};
 
 use crate::blanks::skip_blanks;
 use std::marker::Model;

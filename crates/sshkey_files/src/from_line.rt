@@ -2,7 +2,7 @@
 
 ghost use Rattle.std.specs.Prelude.{ℕ, List};
 ghost use Rattle.sshkey_base.specs.declared.error.Error.{Error};
-ghost use Rattle.sshkey_entries.specs.Entries.{entries};
+ghost use Rattle.sshkey_files.specs.Entries.{entries};
 ghost use Rattle.sshkey_files.specs.Answers.{ReadsEntries, ReadsEntry, ReadsFile, RefusesFor};
 
 use crate::entry_lines::EntryTexts;

@@ -1,10 +1,14 @@
-//! Entry files, whatever their entries are: authorized_keys and known_hosts stand on this.
+//! Entry files: what the entries of authorized_keys and known_hosts are, as mathematics, and what
+//! the readers of both stand on, whatever their entries are.
 #![tactic(auto)]
 
 mod blanks;
 mod entry_lines;
+pub mod examples;
 mod filled_lines;
 mod from_line;
+mod key_fields;
+pub mod laws;
 mod pattern;
 mod pattern_list;
 
@@ -12,5 +16,6 @@ pub use blanks::{skip_blanks, split_field};
 pub use entry_lines::{EntryLines, EntryTexts};
 pub use filled_lines::FilledLines;
 pub use from_line::{FromLine, entries_of_file, entries_of_text};
+pub use key_fields::read_key_fields;
 pub use pattern::{LetterCase, matches_pattern};
 pub use pattern_list::{is_named_by, is_refused_by, matches_pattern_list, split_pattern};

@@ -2,7 +2,7 @@
 //! character of the pattern at the most.
 
 ghost use Rattle.std.specs.Prelude.{◌≡◌, ◌≢◌, ◌↔◌, IsTrue, [], ◌∷◌, slice_index};
-ghost use Rattle.sshkey_entries.specs.Patterns.{Matches, StandsFor, star};
+ghost use Rattle.sshkey_files.specs.Patterns.{Matches, StandsFor, star};
 ghost use Rattle.sshkey_files.specs.LetterCases.{fold_of};
 ghost use Rattle.sshkey_files.specs.Matching.{FindsFront, GoesOn, IsStuck};
 

@@ -1,8 +1,8 @@
 //! Lists of patterns.
 
 ghost use Rattle.std.specs.Prelude.{◌≡◌, ◌<◌, ◌∷◌, ◌↔◌, length, slice_index, IsTrue};
-ghost use Rattle.sshkey_entries.specs.Items.{patterns};
-ghost use Rattle.sshkey_entries.specs.Patterns.{IsShort, MatchesList, Names, Refuses, exclamation_mark, unmarked};
+ghost use Rattle.sshkey_files.specs.Items.{patterns};
+ghost use Rattle.sshkey_files.specs.Patterns.{IsShort, MatchesList, Names, Refuses, exclamation_mark, unmarked};
 ghost use Rattle.sshkey_files.specs.LetterCases.{fold_of};
 
 use crate::pattern::{LetterCase, is_match};

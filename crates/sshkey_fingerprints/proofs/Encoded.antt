@@ -12,7 +12,7 @@ use Rattle.sshkey_base.specs.declared.error.Error.{Error}
 use Rattle.sshkey_model.specs.Fingerprints.{fingerprint_prefix}
 use Rattle.sshkey_model.specs.Names.{Hash}
 use Rattle.sshkey_model.specs.Names as names
-use Rattle.sshkey_fingerprints.specs.Fingerprints.{algorithm_of, digest_of, shown}
+use Rattle.sshkey_fingerprints.specs.Fingerprints.{fingerprint_hash, digest_of, shown}
 use Rattle.sshkey_fingerprints.specs.FingerprintTexts.{IsWhole, IsNoText, IsEncoded, IsRefusedDigest, IsRefusedText}
 use Rattle.sshkey_fingerprints.specs.declared.fingerprint.Fingerprint.{Fingerprint}
 use Rattle.sshkey_fingerprints.specs.declared.fingerprint.Fingerprint.TheVariants as kinds
@@ -55,12 +55,12 @@ not_refused size text d e le len is (inr (inr other)) =
     other.1.2 (ap length same ∙ len)
 
 pub no_text : (text : List ℕ) (e : Error) → IsRefusedText text e → IsNoText text
-no_text text e (inl none) f whole is = none.0 (algorithm_of f) _ is
+no_text text e (inl none) f whole is = none.0 (fingerprint_hash f) _ is
 no_text text e (inr (h, rest, front, why)) f whole is =
-    let parts = one_prefix h (algorithm_of f) rest _ (sym front ∙ is) in
+    let parts = one_prefix h (fingerprint_hash f) rest _ (sym front ∙ is) in
     not_refused (digest_len h) rest (digest_of f) e (short_digest h) (whole.size ∙ ap digest_len (sym parts.0)) (record { bytes = whole.bytes; is = parts.1 }) why
 
-same_digest : (f g : Fingerprint) → algorithm_of f ≡ algorithm_of g → digest_of f ≡ digest_of g → f ≡ g
+same_digest : (f g : Fingerprint) → fingerprint_hash f ≡ fingerprint_hash g → digest_of f ≡ digest_of g → f ≡ g
 same_digest (kinds.Sha256 d) (kinds.Sha256 c) by e = ap kinds.Sha256 e
 same_digest (kinds.Sha512 d) (kinds.Sha512 c) by e = ap kinds.Sha512 e
 same_digest (kinds.Sha256 d) (kinds.Sha512 c) by e = cc by
@@ -68,5 +68,5 @@ same_digest (kinds.Sha512 d) (kinds.Sha256 c) by e = cc by
 
 pub one_fingerprint : (f g : Fingerprint) → IsWhole f → IsWhole g → shown f ≡ shown g → f ≡ g
 one_fingerprint f g whole also e =
-    let parts = one_prefix (algorithm_of f) (algorithm_of g) _ _ e in
+    let parts = one_prefix (fingerprint_hash f) (fingerprint_hash g) _ _ e in
     same_digest f g parts.0 (one_encoded _ _ whole.bytes also.bytes parts.1)

@@ -8,12 +8,12 @@ use Rattle.sshkey_base.specs.Digests.{digest_len}
 use Rattle.sshkey_base.specs.declared.encoding.Error.TheVariants.{Base64, Length}
 use Rattle.sshkey_base.specs.declared.error.Error.{Error}
 use Rattle.sshkey_base.specs.declared.error.Error.TheVariants.{AlgorithmUnknown, Encoding}
-use Rattle.sshkey_fingerprints.specs.Fingerprints.{algorithm_of, digest_of, shown}
+use Rattle.sshkey_fingerprints.specs.Fingerprints.{fingerprint_hash, digest_of, shown}
 use Rattle.sshkey_fingerprints.specs.declared.fingerprint.Fingerprint.{Fingerprint}
 
 -- Its digest has bytes, as many as its hash gives: what every fingerprint of a program is.
 pub record IsWhole (f : Fingerprint) : Type 0 where
-  pub size : length (digest_of f) ≡ digest_len (algorithm_of f)
+  pub size : length (digest_of f) ≡ digest_len (fingerprint_hash f)
   pub bytes : IsBytes (digest_of f)
 
 -- It is the text of no fingerprint.

@@ -11,9 +11,9 @@ use Rattle.sshkey_base.specs.declared.error.Error.TheVariants.{Encoding, Memory}
 use Rattle.sshkey_fingerprints.specs.declared.fingerprint.Fingerprint.{Fingerprint}
 use Rattle.sshkey_fingerprints.specs.declared.fingerprint.Fingerprint.TheVariants as kinds
 
-abbrev pub algorithm_of : Fingerprint → Hash
-algorithm_of (kinds.Sha256 d) = names.Sha256
-algorithm_of (kinds.Sha512 d) = names.Sha512
+abbrev pub fingerprint_hash : Fingerprint → Hash
+fingerprint_hash (kinds.Sha256 d) = names.Sha256
+fingerprint_hash (kinds.Sha512 d) = names.Sha512
 
 abbrev pub digest_of : Fingerprint → List ℕ
 digest_of (kinds.Sha256 d) = d
@@ -26,11 +26,11 @@ fingerprint_key (kinds.Sha512 d) = 1 ∷ d
 
 -- what it is shown as
 abbrev pub shown : Fingerprint → List ℕ
-shown f = digest_text (algorithm_of f) (digest_of f)
+shown f = digest_text (fingerprint_hash f) (digest_of f)
 
 -- It is the digest of the parts' bytes, by that hash.
 pub record IsDigestOf (h : Hash) (p : Parts) (f : Fingerprint) : Type 0 where
-  pub by : algorithm_of f ≡ h
+  pub by : fingerprint_hash f ≡ h
   pub digest : digest_of f ≡ model.digest h (flat p)
 
 -- They have at most 256 bytes.

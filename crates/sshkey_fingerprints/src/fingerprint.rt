@@ -4,7 +4,7 @@ ghost use Rattle.std.specs.Prelude.{◌≡◌, ◌↔◌, ◌++◌, IfErr, IfOk,
 ghost use Rattle.sshkey_base.specs.Names.{hash_of};
 ghost use Rattle.sshkey_model.specs.Fingerprints.{digest, fingerprint_prefix};
 ghost use Rattle.sshkey_model.specs.Names as model;
-ghost use Rattle.sshkey_fingerprints.specs.Fingerprints.{algorithm_of, digest_of, shown, AreShort, GivesDigest};
+ghost use Rattle.sshkey_fingerprints.specs.Fingerprints.{fingerprint_hash, digest_of, shown, AreShort, GivesDigest};
 
 mod picture;
 mod text;
@@ -53,7 +53,7 @@ impl Fingerprint {
     /// The digest of the bytes by that hash: where they are a key's normal form, its fingerprint.
     /// Does not allocate.
     pub fn of_bytes(hash_alg: HashAlg, bytes: &[u8]) -> Fingerprint
-        ensures by { algorithm_of result ≡ hash_of hash_alg }
+        ensures by { fingerprint_hash result ≡ hash_of hash_alg }
         ensures digest { digest_of result ≡ digest (hash_of hash_alg) bytes.now }
     {
         match hash_alg {
@@ -64,7 +64,7 @@ impl Fingerprint {
 
     /// The hash.
     pub fn algorithm(self) -> HashAlg
-        ensures { hash_of result ≡ algorithm_of self }
+        ensures { hash_of result ≡ fingerprint_hash self }
     {
         match self {
             Fingerprint::Sha256(_) => HashAlg::Sha256,
@@ -74,7 +74,7 @@ impl Fingerprint {
 
     /// What stands before the colon where the fingerprint is shown: `SHA256` or `SHA512`.
     pub fn prefix(self) -> &'static str
-        ensures { result.now ++ codes ":" ≡ fingerprint_prefix (algorithm_of self) }
+        ensures { result.now ++ codes ":" ≡ fingerprint_prefix (fingerprint_hash self) }
     {
         match self {
             Fingerprint::Sha256(_) => "SHA256",
@@ -94,7 +94,7 @@ impl Fingerprint {
 
     /// The digest by SHA-256; `None` where it is by SHA-512.
     pub fn sha256(self) -> Option<[u8; 32]>
-        ensures { MatchOption result (algorithm_of self ≡ model.Sha512)
+        ensures { MatchOption result (fingerprint_hash self ≡ model.Sha512)
             (λ d. self ≡ Fingerprint.Sha256 d) }
     {
         match self {
@@ -105,7 +105,7 @@ impl Fingerprint {
 
     /// The digest by SHA-512; `None` where it is by SHA-256.
     pub fn sha512(self) -> Option<[u8; 64]>
-        ensures { MatchOption result (algorithm_of self ≡ model.Sha256)
+        ensures { MatchOption result (fingerprint_hash self ≡ model.Sha256)
             (λ d. self ≡ Fingerprint.Sha512 d) }
     {
         match self {
@@ -132,14 +132,14 @@ impl Fingerprint {
 
     /// Whether the hash is SHA-256.
     pub fn is_sha256(self) -> bool
-        ensures { IsTrue result ↔ (algorithm_of self ≡ model.Sha256) }
+        ensures { IsTrue result ↔ (fingerprint_hash self ≡ model.Sha256) }
     {
         matches!(self, Fingerprint::Sha256(_))
     }
 
     /// Whether the hash is SHA-512.
     pub fn is_sha512(self) -> bool
-        ensures { IsTrue result ↔ (algorithm_of self ≡ model.Sha512) }
+        ensures { IsTrue result ↔ (fingerprint_hash self ≡ model.Sha512) }
     {
         matches!(self, Fingerprint::Sha512(_))
     }

@@ -5,3 +5,9 @@ pub mod Chosen
 pub mod Needless
 pub mod Walking
 pub mod Fronts
+pub mod Each
+pub mod Gathering
+pub mod Held
+mod Measured
+mod Filled
+pub mod SliceFronts

@@ -1,5 +1,5 @@
-//! The terms that a format is made of: a value after another, a value in a string, and a value that
-//! fails with the wider error.
+//! The terms that a format is made of: a value after another, a value in a string, a list of values
+//! after their number or up to the end, and a value that fails with the wider error.
 //!
 //! Each term is a [`Decode`](sshkey_base::Decode), proved once, so that a record of several fields
 //! is one term and a pattern:
@@ -8,16 +8,22 @@
 //! let Then(e, n) = Then::<Mpint, Mpint>::decode(alloc, reader)?;
 //! Ok(RsaPublicKey { e, n })
 //! ```
+//!
+//! What is read off a slice without memory ([`split_bytes`] and its like) stands here too.
 #![tactic(auto)]
 
 mod boxed;
+mod counted;
 mod leaves;
 mod read_from;
+mod split;
 mod then;
 mod wide;
 
 pub use boxed::Boxed;
+pub use counted::{Counted, counted_len, decode_each, each_len, encode_counted, encode_each};
 pub use leaves::bytes_from;
 pub use read_from::ReadFrom;
+pub use split::{split_bytes, split_string, split_text, split_u32, split_u64};
 pub use then::Then;
 pub use wide::Wide;

@@ -5,13 +5,17 @@ use Rattle.sshkey_model.specs.Names.{Nistp256, Algorithm}
 use Rattle.sshkey_model.specs.Mpints.{mpint_from, positive_part}
 use Rattle.sshkey_model.specs.Points.{field_size}
 use Rattle.sshkey_model.specs.Signatures.{Signature, without_trailer, ecdsa_blob_from, sized_from, some_from, none_from}
-use Rattle.sshkey_slices.specs.Slices.{is_taken}
+use Rattle.sshkey_format.specs.Slices.{is_taken}
 
 -- Flags and a counter stand behind the string.
 abbrev pub has_trailer : Algorithm → Bool
+has_trailer Algorithm.Dsa = false
+has_trailer (Algorithm.Ecdsa c) = false
+has_trailer Algorithm.Ed25519 = false
+has_trailer (Algorithm.Rsa hash) = false
 has_trailer Algorithm.SkEcdsa = true
 has_trailer Algorithm.SkEd25519 = true
-has_trailer _ = false
+has_trailer (Algorithm.Other n) = false
 
 -- what stands in the string, which the five bytes behind it are no part of
 abbrev pub string_from : Algorithm → Whole (List ℕ)

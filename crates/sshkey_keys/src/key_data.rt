@@ -171,8 +171,9 @@ impl KeyData {
         body_from(alloc, reader, algorithm)
     }
 
-    /// How many bytes stand after the name of the algorithm. Fails with `Length` exactly if a part
-    /// of the key is longer than 2^32 - 1 bytes. Does not allocate.
+    /// How many bytes the key's body has, which is all that follows the name of the algorithm.
+    /// Fails with `Length` exactly if a part of the key is longer than 2^32 - 1 bytes. Does not
+    /// allocate.
     pub fn encoded_key_data_len(&self) -> encoding::Result<usize>
         ensures measures { Measures (body (key_of self.now)) result }
         ensures short { IfOk result (λ n. n ≤ 4 * (2 ^ 32 + 4)) }
@@ -188,7 +189,8 @@ impl KeyData {
         }
     }
 
-    /// Writes what stands after the name of the algorithm.
+    /// Writes the key's body, which is all that follows the name of the algorithm. `encode` writes
+    /// the name too.
     ///
     /// Fails with `Length` if a part of the key is longer than 2^32 - 1 bytes; any other error is
     /// the writer's own. After an error the writer holds what it held before, and a prefix of the

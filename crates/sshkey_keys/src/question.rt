@@ -1,4 +1,5 @@
-//! What a verifier is asked about a signature, as a value.
+//! The dispatch of signatures: which question a verifier is asked, by the kind of the key and the
+//! signature's algorithm, and the question as a value.
 
 ghost use Rattle.std.specs.Prelude.{◌≡◌, ◌≤◌, ℕ, List, length, is_some, option_map, Some};
 ghost use Rattle.sshkey_model.specs.Names.{SkEcdsa, SkEd25519 as AlgorithmSkEd25519};

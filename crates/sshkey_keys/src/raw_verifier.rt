@@ -1,4 +1,4 @@
-//! Who says whether a signature is one: the caller.
+//! What a caller gives, to say whether a signature is valid.
 
 ghost use Rattle.std.specs.Prelude.{◌≡◌, Bool, IfOk};
 ghost use Rattle.sshkey_model.specs.Verification.{Question};
@@ -14,9 +14,9 @@ pub trait RawVerifier {
     /// Which signatures it accepts, a function of its value and the question.
     ghost accepts: { Self → Question → Bool };
 
-    /// Whether these bytes are a signature of the message under the key by the algorithm.
+    /// Returns whether these bytes are a signature of the message under the key by the algorithm.
     ///
-    /// It may run out of memory, and then has no answer.
+    /// Fails with `AllocError` if it runs out of memory; nothing is said of the signature then.
     fn verify(
         &self,
         algorithm: &Algorithm,

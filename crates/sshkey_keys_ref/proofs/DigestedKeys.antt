@@ -10,13 +10,13 @@ use Rattle.sshkey_base.specs.Answers.{Answers}
 use Rattle.sshkey_base.specs.Causes.{cause}
 use Rattle.sshkey_base.specs.declared.error.Error.{Error}
 use Rattle.sshkey_base.proofs.Accepted.{whole_spelled}
-use Rattle.sshkey_fingerprints.specs.Fingerprints.{algorithm_of, digest_of}
+use Rattle.sshkey_fingerprints.specs.Fingerprints.{fingerprint_hash, digest_of}
 use Rattle.sshkey_fingerprints.specs.declared.fingerprint.Fingerprint.{Fingerprint}
 use Rattle.sshkey_keys.specs.declared.key_data.KeyData.{KeyData}
 use Rattle.sshkey_keys.specs.Fingerprints.{GivesFingerprint}
 use Rattle.sshkey_keys.specs.KeyReaders.{key_grammar}
 use Rattle.sshkey_keys.specs.Keys.{SpellsKey, key_of, key_data_at}
-use Rattle.sshkey_slices.specs.Slices.{is_taken}
+use Rattle.sshkey_format.specs.Slices.{is_taken}
 use Rattle.sshkey_keys_ref.specs.KeyFingerprints.{GivesFingerprintOf}
 use Rattle.sshkey_keys_ref.specs.NormalBytes.{IsRenamed}
 
@@ -28,7 +28,7 @@ key_spelled b is = go (whole key_data_at b) refl is
     go (Ok k) e t = (k, e, whole_spelled key_grammar b k e)
     go (Err f) e t = absurd cc
 
-pub normal_digest : (h : Hash) (b n : List ℕ) (f : Fingerprint) → is_taken (whole key_data_at b) ≡ true → n ≡ b → ((k : Key) → SpellsKey k b → b ≡ flat (normal_key k)) → algorithm_of f ≡ h → digest_of f ≡ model.digest h n → GivesFingerprintOf {E = Error} cause h b (Ok f)
+pub normal_digest : (h : Hash) (b n : List ℕ) (f : Fingerprint) → is_taken (whole key_data_at b) ≡ true → n ≡ b → ((k : Key) → SpellsKey k b → b ≡ flat (normal_key k)) → fingerprint_hash f ≡ h → digest_of f ≡ model.digest h n → GivesFingerprintOf {E = Error} cause h b (Ok f)
 normal_digest h b n f is same normal by digest =
     let k = key_spelled b is in
     (k.0, k.2, record { by = by; digest = digest ∙ ap (model.digest h) (same ∙ normal k.0 k.2) })

@@ -110,7 +110,12 @@ impl KeyDataRef<'_> {
     {
         match algorithm {
             Algorithm::Dsa => self.ask_in_memory(alloc, message, algorithm, blob, verifier),
-            _ => Ok(false),
+            Algorithm::Ecdsa { .. }
+            | Algorithm::Ed25519
+            | Algorithm::Rsa { .. }
+            | Algorithm::SkEcdsaSha2NistP256
+            | Algorithm::SkEd25519
+            | Algorithm::Other(_) => Ok(false),
         }
     }
 
@@ -131,7 +136,13 @@ impl KeyDataRef<'_> {
             Algorithm::Rsa { hash: Some(_) } => {
                 self.ask_in_memory(alloc, message, algorithm, blob, verifier)
             }
-            _ => Ok(false),
+            Algorithm::Rsa { hash: None }
+            | Algorithm::Dsa
+            | Algorithm::Ecdsa { .. }
+            | Algorithm::Ed25519
+            | Algorithm::SkEcdsaSha2NistP256
+            | Algorithm::SkEd25519
+            | Algorithm::Other(_) => Ok(false),
         }
     }
 
@@ -175,12 +186,10 @@ fn ask_ecdsa<V: RawVerifier>(
     ensures { Dispatches (V.accepts verifier.now) (ecdsa_key_of key) message.now
         (signature_by (algorithm_of algorithm.now) blob.now) result }
 {
-    match algorithm {
-        Algorithm::Ecdsa { curve } if key.is_on(*curve) => {
-            verifier.verify(algorithm, &KeyData::Ecdsa(key), message, blob)
-        }
-        _ => Ok(false),
+    if !matches!(algorithm, Algorithm::Ecdsa { curve } if key.is_on(*curve)) {
+        return Ok(false);
     }
+    verifier.verify(algorithm, &KeyData::Ecdsa(key), message, blob)
 }
 
 /// The answer of an Ed25519 key.
@@ -194,10 +203,10 @@ fn ask_ed25519<V: RawVerifier>(
     ensures { Dispatches (V.accepts verifier.now) (ed25519_of key) message.now
         (signature_by (algorithm_of algorithm.now) blob.now) result }
 {
-    match algorithm {
-        Algorithm::Ed25519 => verifier.verify(algorithm, &KeyData::Ed25519(key), message, blob),
-        _ => Ok(false),
+    if !matches!(algorithm, Algorithm::Ed25519) {
+        return Ok(false);
     }
+    verifier.verify(algorithm, &KeyData::Ed25519(key), message, blob)
 }
 
 /// The answer of a P-256 key that a security key holds.

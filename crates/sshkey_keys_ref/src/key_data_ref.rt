@@ -11,7 +11,7 @@ ghost use Rattle.sshkey_keys_ref.specs.KeyFingerprints.{GivesFingerprintOf};
 ghost use Rattle.sshkey_keys_ref.specs.NormalBytes.{GivesNormal, HasPlainHead, is_hashed};
 ghost use Rattle.sshkey_keys_ref.specs.NameRef.{named_of};
 ghost use Rattle.sshkey_keys_ref.specs.Taking.{Skips};
-ghost use Rattle.sshkey_slices.specs.Slices.{AcceptsSome, is_taken};
+ghost use Rattle.sshkey_format.specs.Slices.{AcceptsSome, is_taken};
 
 use crate::body::behind_named;
 use crate::name_ref::{NameRef, take_name};
@@ -34,7 +34,7 @@ impl<'a> KeyDataRef<'a> {
     ghost use Rattle.sshkey_base.specs.Answers.{Answers};
     ghost use Rattle.sshkey_keys.specs.Keys.{key_of};
     ghost use Rattle.sshkey_keys_ref.specs.KeyDataRef.{key_bytes};
-    ghost use Rattle.sshkey_slices.specs.Slices.{Keeps};
+    ghost use Rattle.sshkey_format.specs.Slices.{Keeps};
 
     /// The key that all the bytes together spell, read once from left to right. Does not allocate.
     ///
@@ -62,8 +62,8 @@ impl<'a> KeyDataRef<'a> {
     /// The bytes that the key was read from where they are its normal form, which is what
     /// `encode_vec` makes of the `KeyData` and fingerprints digest. Does not allocate.
     ///
-    /// `None` exactly for an RSA key under another name than `ssh-rsa` (RFC 8332, section 3): then
-    /// its bytes are not the normal form.
+    /// `None` exactly for an RSA key under another name than `ssh-rsa`: RFC 8332, section 3, has the
+    /// name stay `ssh-rsa`, so its bytes are read, but are not the normal form.
     pub fn normal_bytes(&self) -> Option<&'a [u8]>
         ensures { GivesNormal (key_bytes self.now) result }
     {

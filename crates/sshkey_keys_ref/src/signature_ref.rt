@@ -10,7 +10,7 @@ ghost use Rattle.sshkey_keys.specs.SignatureForms.{string_from, has_trailer};
 ghost use Rattle.sshkey_keys.specs.SignatureReaders.{SpellsSignature};
 ghost use Rattle.sshkey_keys_ref.specs.NameRef.{named_of};
 ghost use Rattle.sshkey_keys_ref.specs.Taking.{Skips};
-ghost use Rattle.sshkey_slices.specs.Slices.{AcceptsSome, is_taken};
+ghost use Rattle.sshkey_format.specs.Slices.{AcceptsSome, is_taken};
 
 use crate::name_ref::{NameRef, take_name};
 use sshkey_base::{Error, Result, decode_whole, encoding};
@@ -33,7 +33,7 @@ impl<'a> SignatureRef<'a> {
     ghost use Rattle.sshkey_base.specs.Answers.{Answers};
     ghost use Rattle.sshkey_keys.specs.Signatures.{signature_of};
     ghost use Rattle.sshkey_keys_ref.specs.SignatureRef.{signature_bytes};
-    ghost use Rattle.sshkey_slices.specs.Slices.{Keeps};
+    ghost use Rattle.sshkey_format.specs.Slices.{Keeps};
 
     /// The signature that all the bytes together spell, read once from left to right. Does not
     /// allocate.

@@ -29,6 +29,8 @@ IsAnyPoint b = (c : Curve) × IsPoint c b
 -- the same curve and the same bytes
 abbrev pub same_key : EcdsaPublicKey → EcdsaPublicKey → Bool
 same_key (NistP256 p) (NistP256 q) = bytes_eq (point_of p) (point_of q)
+same_key (NistP256 p) _ = false
 same_key (NistP384 p) (NistP384 q) = bytes_eq (point_of p) (point_of q)
+same_key (NistP384 p) _ = false
 same_key (NistP521 p) (NistP521 q) = bytes_eq (point_of p) (point_of q)
-same_key _ _ = false
+same_key (NistP521 p) _ = false

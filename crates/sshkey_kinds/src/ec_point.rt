@@ -5,6 +5,7 @@ ghost use Rattle.sshkey_model.specs.Points.{is_point};
 ghost use Rattle.sshkey_base.specs.Names.{curve_of};
 ghost use Rattle.sshkey_kinds.specs.PointSizes.{curve_of_longest, is_point_within};
 
+use crate::point_string::PointString;
 use sshkey_base::{EcdsaCurve, Encode, Error, Result, Writer, encode_string, encoding, string_len};
 use std::cmp::Ordering;
 use std::convert::AsSlice;
@@ -186,6 +187,22 @@ impl<const LEN: usize> AsSlice<u8> for EcPoint<LEN> {
 
     fn as_slice(&self) -> &[u8] {
         self.as_bytes()
+    }
+}
+
+impl<const LEN: usize> PointString for EcPoint<LEN> {
+    ghost use Rattle.std.specs.Prelude.{List, ℕ};
+    ghost use Rattle.sshkey_kinds.specs.PointSizes.{point_within};
+    ghost use Rattle.sshkey_kinds.specs.EcPoint.{point_of};
+
+    ghost Meaning = { List ℕ };
+
+    ghost means = { point_of };
+
+    ghost judge = { point_within LEN };
+
+    fn from_point_string(bytes: &[u8]) -> Result<EcPoint<LEN>> {
+        EcPoint::from_bytes(bytes)
     }
 }
 

@@ -1,23 +1,21 @@
 //! ECDSA public keys.
 
 ghost use Rattle.std.specs.Fmt.{WritesOnOk};
-ghost use Rattle.std.specs.Prelude.{◌≡◌, ◌<◌, IsErrAnd};
+ghost use Rattle.std.specs.Prelude.{◌≡◌};
 ghost use Rattle.hex.specs.Hex.{encode_lower, encode_upper};
 ghost use Rattle.sshkey_base.specs.Answers.{AnswersAlways};
-ghost use Rattle.sshkey_base.specs.Causes.{Faulty, cause};
+ghost use Rattle.sshkey_base.specs.Causes.{cause};
 ghost use Rattle.sshkey_base.specs.Names.{curve_of};
-ghost use Rattle.sshkey_base.specs.Reading.{GivesAlways};
-ghost use Rattle.sshkey_base.specs.Source.{Later, announced_len};
-ghost use Rattle.sshkey_model.specs.Points.{curve_of_size, point_curve, point_from};
-ghost use Rattle.sshkey_model.specs.Reading.{Length, bytes_at, checked_at};
+ghost use Rattle.sshkey_model.specs.Points.{curve_of_size, point_curve};
 ghost use Rattle.sshkey_kinds.specs.EcdsaPublicKey.{ecdsa_of};
 
 use crate::ec_point::{
     EcPoint, EcdsaNistP256PublicKey, EcdsaNistP384PublicKey, EcdsaNistP521PublicKey, P521_POINT_LEN,
 };
+use crate::point_string::{PointString, point_from};
 use sshkey_base::{
-    Algorithm, Decode, EcdsaCurve, Encode, Error, Reader, Result, ShortBytes, Writer,
-    encode_string, encoding, length_from, string_len, write_lower_hex, write_upper_hex,
+    Algorithm, Decode, EcdsaCurve, Encode, Error, Reader, Result, Writer, encode_string, encoding,
+    length_from, string_len, write_lower_hex, write_upper_hex,
 };
 use sshkey_format::{Then, Wide};
 use std::alloc::Global;
@@ -102,11 +100,10 @@ impl EcdsaPublicKey {
     pub fn is_on(&self, curve: EcdsaCurve) -> bool
         ensures { result ≡ curve_eq (ecdsa_of self.now).0 (curve_of curve) }
     {
-        match (self, curve) {
-            (EcdsaPublicKey::NistP256(_), EcdsaCurve::NistP256) => true,
-            (EcdsaPublicKey::NistP384(_), EcdsaCurve::NistP384) => true,
-            (EcdsaPublicKey::NistP521(_), EcdsaCurve::NistP521) => true,
-            _ => false,
+        match self {
+            EcdsaPublicKey::NistP256(_) => matches!(curve, EcdsaCurve::NistP256),
+            EcdsaPublicKey::NistP384(_) => matches!(curve, EcdsaCurve::NistP384),
+            EcdsaPublicKey::NistP521(_) => matches!(curve, EcdsaCurve::NistP521),
         }
     }
 }
@@ -159,26 +156,25 @@ impl Decode for AnyPoint {
 
     fn decode<R: Reader>(_alloc: Global, reader: &mut R) -> Result<AnyPoint> {
         let len = length_from(reader)?;
-        Ok(AnyPoint(point_from(len, reader)?))
+        let point = point_from::<P521_POINT_LEN, EcdsaPublicKey, R>(len, reader)?;
+        Ok(AnyPoint(point))
     }
 }
 
-/// The point that the next `len` bytes spell.
-#[tactic(auto, using(sshkey_base::proofs::Lending::lending, sshkey_base::proofs::Places::places))]
-fn point_from<R: Reader>(len: usize, reader: &mut R) -> Result<EcdsaPublicKey>
-    ensures gives { GivesAlways ecdsa_of cause (checked_at point_from (bytes_at len))
-        (R.source reader.old) result (R.source reader.new) }
-    ensures later { Later (R.source reader.old) (R.source reader.new) }
-    ensures past { announced_len (R.source reader.old) < len →
-        IsErrAnd result (λ e. cause e ≡ Faulty Length) }
-{
-    if let Some(bytes) = ShortBytes::<P521_POINT_LEN>::ahead(len, reader) {
-        let key = EcdsaPublicKey::from_sec1_bytes(bytes)?;
-        reader.skip(len);
-        return Ok(key);
+impl PointString for EcdsaPublicKey {
+    ghost use Rattle.std.specs.Prelude.{List, ℕ};
+    ghost use Rattle.sshkey_model.specs.Names.{Curve};
+    ghost use Rattle.sshkey_kinds.specs.EcdsaPublicKey.{ecdsa_of, sec1_from};
+
+    ghost Meaning = { Curve × List ℕ };
+
+    ghost means = { ecdsa_of };
+
+    ghost judge = { sec1_from };
+
+    fn from_point_string(bytes: &[u8]) -> Result<EcdsaPublicKey> {
+        EcdsaPublicKey::from_sec1_bytes(bytes)
     }
-    let bytes = ShortBytes::<P521_POINT_LEN>::take_from(len, reader)?;
-    EcdsaPublicKey::from_sec1_bytes(bytes.as_slice())
 }
 
 /// The name of the curve as a string, and the point string.
@@ -250,11 +246,16 @@ impl PartialEq for EcdsaPublicKey {
         ensures value { result ≡ same_key self.now other.now }
         ensures exact { IsTrue result ↔ (ecdsa_of self.now ≡ ecdsa_of other.now) }
     {
-        match (self, other) {
-            (EcdsaPublicKey::NistP256(point), EcdsaPublicKey::NistP256(other)) => point == other,
-            (EcdsaPublicKey::NistP384(point), EcdsaPublicKey::NistP384(other)) => point == other,
-            (EcdsaPublicKey::NistP521(point), EcdsaPublicKey::NistP521(other)) => point == other,
-            _ => false,
+        match self {
+            EcdsaPublicKey::NistP256(point) => {
+                matches!(other, EcdsaPublicKey::NistP256(other) if point == other)
+            },
+            EcdsaPublicKey::NistP384(point) => {
+                matches!(other, EcdsaPublicKey::NistP384(other) if point == other)
+            },
+            EcdsaPublicKey::NistP521(point) => {
+                matches!(other, EcdsaPublicKey::NistP521(other) if point == other)
+            },
         }
     }
 }

@@ -7,6 +7,7 @@ mod ecdsa;
 mod ed25519;
 pub mod laws;
 mod opaque;
+mod point_string;
 mod rsa;
 mod sk;
 

@@ -1,20 +1,16 @@
 //! Public keys that a security key holds.
 
-ghost use Rattle.std.specs.Prelude.{◌≡◌, ℕ, List, ◌+◌, ◌*◌, ◌^◌, ◌<◌, codes, string_bytes, IfOk, IfErr, IsErrAnd};
+ghost use Rattle.std.specs.Prelude.{◌≡◌, ℕ, List, ◌+◌, ◌*◌, ◌^◌, codes, string_bytes, IfOk, IfErr};
 ghost use Rattle.sshkey_model.specs.Keys.{Key, SkEcdsa, SkEd25519 as SkEd25519Key, body};
-ghost use Rattle.sshkey_base.specs.Causes.{Faulty, cause};
-ghost use Rattle.sshkey_base.specs.Reading.{GivesAlways};
-ghost use Rattle.sshkey_base.specs.Source.{Later, announced_len};
-ghost use Rattle.sshkey_model.specs.Points.{p256_point_from};
-ghost use Rattle.sshkey_model.specs.Reading.{Length, bytes_at, checked_at};
 ghost use Rattle.sshkey_kinds.specs.KeyFormats.{sk_ecdsa_format, sk_ed25519_format};
 ghost use Rattle.sshkey_kinds.specs.EcPoint.{point_of};
 
-use crate::ec_point::{EcPoint, EcdsaNistP256PublicKey, P256_POINT_LEN};
+use crate::ec_point::{EcdsaNistP256PublicKey, P256_POINT_LEN};
 use crate::ed25519::Ed25519PublicKey;
+use crate::point_string::point_from;
 use sshkey_base::{
-    Decode, EcdsaCurve, Encode, Error, Reader, Result, ShortBytes, Text, Writer, both_len,
-    encode_both, encoding, length_from,
+    Decode, EcdsaCurve, Encode, Error, Reader, Result, Text, Writer, both_len, encode_both,
+    encoding, length_from,
 };
 use sshkey_format::{Then, Wide};
 use std::alloc::Global;
@@ -164,26 +160,9 @@ impl Decode for P256Point {
 
     fn decode<R: Reader>(_alloc: Global, reader: &mut R) -> Result<P256Point> {
         let len = length_from(reader)?;
-        Ok(P256Point(point_from(len, reader)?))
+        let point = point_from::<P256_POINT_LEN, EcdsaNistP256PublicKey, R>(len, reader)?;
+        Ok(P256Point(point))
     }
-}
-
-/// The point that the next `len` bytes spell.
-#[tactic(auto, using(sshkey_base::proofs::Lending::lending, sshkey_base::proofs::Places::places))]
-fn point_from<R: Reader>(len: usize, reader: &mut R) -> Result<EcdsaNistP256PublicKey>
-    ensures gives { GivesAlways point_of cause (checked_at p256_point_from (bytes_at len))
-        (R.source reader.old) result (R.source reader.new) }
-    ensures later { Later (R.source reader.old) (R.source reader.new) }
-    ensures past { announced_len (R.source reader.old) < len →
-        IsErrAnd result (λ e. cause e ≡ Faulty Length) }
-{
-    if let Some(bytes) = ShortBytes::<P256_POINT_LEN>::ahead(len, reader) {
-        let point = EcPoint::from_bytes(bytes)?;
-        reader.skip(len);
-        return Ok(point);
-    }
-    let bytes = ShortBytes::<P256_POINT_LEN>::take_from(len, reader)?;
-    EcPoint::from_bytes(bytes.as_slice())
 }
 
 /// The string `nistp256`, the point string and the application.

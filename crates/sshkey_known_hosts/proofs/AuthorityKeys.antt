@@ -1,9 +1,9 @@
 -- Which keys are those of authorities, line by line.
 use Rattle.std.proofs.Common.{◌≡◌, ◌⊎◌, ℕ, List, [], ◌∷◌, ◌++◌, Option, None, Some, option_map, true, false, inl, inr, refl, sym, ◌∙◌, arith}
-use Rattle.sshkey_entries.specs.HostNames.{AreFor}
-use Rattle.sshkey_entries.specs.HostVerdicts.{Lists}
-use Rattle.sshkey_entries.specs.KnownHosts.{KnownHost, CertAuthority}
-use Rattle.sshkey_entries.specs.OpenSshLines.{IsHostLine}
+use Rattle.sshkey_files.specs.HostNames.{AreFor}
+use Rattle.sshkey_files.specs.HostVerdicts.{Lists}
+use Rattle.sshkey_files.specs.KnownHosts.{KnownHost, CertAuthority}
+use Rattle.sshkey_files.specs.OpenSshLines.{IsHostLine}
 use Rattle.sshkey_public.specs.PublicKeys.{public_of}
 use Rattle.sshkey_public.specs.declared.public_key.PublicKey.{PublicKey}
 use Rattle.sshkey_known_hosts.specs.Verdicts.{AreAuthorities, IsAuthorityIn, is_authority_of}

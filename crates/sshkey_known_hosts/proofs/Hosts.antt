@@ -16,15 +16,15 @@ use Rattle.sshkey_base.specs.declared.error.Error.TheVariants.{Encoding, FormatE
 use Rattle.sshkey_model.specs.Lines.{IsWithout}
 use Rattle.sshkey_model.proofs.Base64Words.{one_blob}
 use Rattle.sshkey_model.proofs.LineCuts.{one_front}
-use Rattle.sshkey_entries.specs.Entries.{IsNoEntry}
-use Rattle.sshkey_entries.specs.Items.{patterns, without_empty_last, is_comma}
-use Rattle.sshkey_entries.specs.KnownHosts.{HashedName, Patterns, IsHosts, IsHashedName, hashed_mark, hashed_text, bar}
-use Rattle.sshkey_entries.proofs.OneHost.{bar_not}
+use Rattle.sshkey_files.specs.Entries.{IsNoEntry}
+use Rattle.sshkey_files.specs.Items.{patterns, without_empty_last, is_comma}
+use Rattle.sshkey_files.specs.KnownHosts.{HashedName, Patterns, IsHosts, IsHashedName, hashed_mark, hashed_text, bar}
+use Rattle.sshkey_files.proofs.OneHost.{bar_not}
 use Rattle.sshkey_files.specs.Answers.{ReadsEntry}
 use Rattle.sshkey_known_hosts.specs.HostEntries.{hosts_of, ReadsHashed}
 use Rattle.sshkey_known_hosts.specs.declared.host_patterns.HostPatterns.{HostPatterns}
 use Rattle.sshkey_known_hosts.specs.HostFaults.{HasNoBar, HasNoBase64, HasOtherSize, IsNoBase64, RefusesHosts}
-use Rattle.sshkey_entries.proofs.Cuts.{kept_first, kept_last}
+use Rattle.sshkey_files.proofs.Cuts.{kept_first, kept_last}
 
 -- ---- a hashed name
 

@@ -8,9 +8,9 @@ use Rattle.sshkey_base.specs.declared.error.Error.{Error}
 use Rattle.sshkey_base.specs.declared.error.Error.TheVariants.{FormatEncoding}
 use Rattle.sshkey_model.specs.Keys.{Key}
 use Rattle.sshkey_model.specs.Lines.{space, IsKeyLine, IsWithout}
-use Rattle.sshkey_entries.proofs.OneHost.{one_marker}
-use Rattle.sshkey_entries.specs.AuthorizedKeys.{IsNoKeyLine}
-use Rattle.sshkey_entries.specs.KnownHosts.{Marker, Hosts, IsHosts, KnownHost, IsMarked, IsKnownHost}
+use Rattle.sshkey_files.proofs.OneHost.{one_marker}
+use Rattle.sshkey_files.specs.AuthorizedKeys.{IsNoKeyLine}
+use Rattle.sshkey_files.specs.KnownHosts.{Marker, Hosts, IsHosts, KnownHost, IsMarked, IsKnownHost}
 use Rattle.sshkey_known_hosts.specs.HostFaults.{HasFault, RefusesHosts}
 
 module _ (entry : List ℕ) (m : Option Marker) (unmarked : List ℕ) (marked : IsMarked m entry unmarked) where

@@ -6,8 +6,8 @@ use Rattle.sshkey_base.specs.declared.encoding.Error.TheVariants.{Base64, Length
 use Rattle.sshkey_base.specs.declared.error.Error.{Error}
 use Rattle.sshkey_base.specs.declared.error.Error.TheVariants.{Encoding, FormatEncoding, Memory}
 use Rattle.sshkey_model.specs.Lines.{space, IsWithout}
-use Rattle.sshkey_entries.specs.Entries.{IsNoEntry}
-use Rattle.sshkey_entries.specs.KnownHosts.{Marker, IsHosts, IsMarked, bar, hashed_mark, hashed_text}
+use Rattle.sshkey_files.specs.Entries.{IsNoEntry}
+use Rattle.sshkey_files.specs.KnownHosts.{Marker, IsHosts, IsMarked, bar, hashed_mark, hashed_text}
 
 -- The word is that of no bytes.
 abbrev pub IsNoBase64 : List ℕ → Type 0

@@ -2,12 +2,12 @@
 use Rattle.std.specs.Prelude.{◌≡◌, ◌≢◌, ℕ, List, ◌++◌, slice_index, Option, option_map, Result, Ok, Err}
 use Rattle.sshkey_base.specs.declared.error.Error.{Error}
 use Rattle.sshkey_base.specs.declared.error.Error.TheVariants.{FormatEncoding}
-use Rattle.sshkey_entries.specs.Entries.{hash, IsNoEntry}
-use Rattle.sshkey_entries.specs.Fields.{without_blanks, IsField, EndsField}
-use Rattle.sshkey_entries.specs.KnownHosts as known
-use Rattle.sshkey_entries.specs.KnownHosts.{Hosts, IsHosts}
-use Rattle.sshkey_entries.specs.OpenSshLines.{IsMarkedLine}
-use Rattle.sshkey_fields.specs.KeyFields.{HasKeyFault}
+use Rattle.sshkey_files.specs.Entries.{hash, IsNoEntry}
+use Rattle.sshkey_files.specs.Fields.{without_blanks, IsField, EndsField}
+use Rattle.sshkey_files.specs.KnownHosts as known
+use Rattle.sshkey_files.specs.KnownHosts.{Hosts, IsHosts}
+use Rattle.sshkey_files.specs.OpenSshLines.{IsMarkedLine}
+use Rattle.sshkey_files.specs.KeyFields.{HasKeyFault}
 use Rattle.sshkey_known_hosts.specs.HostEntries.{marker_of}
 use Rattle.sshkey_known_hosts.specs.HostFaults.{RefusesHosts}
 use Rattle.sshkey_known_hosts.specs.declared.marker.Marker.{Marker}

@@ -2,7 +2,7 @@
 
 ghost use Rattle.std.specs.Prelude.{◌≡◌, ◌↔◌, IsTrue, IfErr, IfOk, string_bytes};
 ghost use Rattle.sshkey_base.specs.declared.error.Error.TheVariants as wide;
-ghost use Rattle.sshkey_entries.specs.KnownHosts.{KnownHost, IsKnownHost, known_text};
+ghost use Rattle.sshkey_files.specs.KnownHosts.{KnownHost, IsKnownHost, known_text};
 ghost use Rattle.sshkey_files.specs.Answers.{ReadsEntry, RefusesFor};
 ghost use Rattle.sshkey_known_hosts.specs.HostEntries.{key_in, hosts_in, known_host_of, marker_front, marker_in, SplitsMarker};
 ghost use Rattle.sshkey_known_hosts.specs.HostFaults.{HasFault};

@@ -4,8 +4,8 @@ ghost use Rattle.std.specs.Prelude.{◌≡◌, ◌↔◌, IsTrue, IfOk, IfErr, s
 ghost use Rattle.std.specs.Char.{to_ascii_lowercase};
 ghost use Rattle.std.specs.List.{Any};
 ghost use Rattle.sshkey_base.specs.declared.error.Error.TheVariants as wide;
-ghost use Rattle.sshkey_entries.specs.HostNames.{known_name};
-ghost use Rattle.sshkey_entries.specs.Patterns.{IsNamed, Names, Refuses};
+ghost use Rattle.sshkey_files.specs.HostNames.{known_name};
+ghost use Rattle.sshkey_files.specs.Patterns.{IsNamed, Names, Refuses};
 
 use sshkey_base::{Result, Text};
 use sshkey_files::{LetterCase, is_named_by, is_refused_by};

@@ -2,9 +2,9 @@
 
 ghost use Rattle.std.specs.Prelude.{◌≡◌, ℕ, List};
 ghost use Rattle.std.specs.Iterator.{item_count};
-ghost use Rattle.sshkey_entries.specs.Entries.{entries};
-ghost use Rattle.sshkey_entries.specs.Fields.{filled_lines};
-ghost use Rattle.sshkey_entries.specs.KnownHosts.{IsKnownHost};
+ghost use Rattle.sshkey_files.specs.Entries.{entries};
+ghost use Rattle.sshkey_files.specs.Fields.{filled_lines};
+ghost use Rattle.sshkey_files.specs.KnownHosts.{IsKnownHost};
 ghost use Rattle.sshkey_files.specs.Answers.{AnswersEntry, ReadsFile, YieldsAnswers};
 ghost use Rattle.sshkey_known_hosts.specs.HostEntries.{known_host_of};
 ghost use Rattle.sshkey_known_hosts.specs.HostFaults.{HasFault};

@@ -2,10 +2,10 @@
 
 ghost use Rattle.std.specs.Prelude.{◌≡◌, ◌↔◌, ℕ, List, IsTrue, slice_index};
 ghost use Rattle.std.specs.Iterator.{item_count};
-ghost use Rattle.sshkey_entries.specs.Entries.{hash};
-ghost use Rattle.sshkey_entries.specs.Fields.{filled_lines};
-ghost use Rattle.sshkey_entries.specs.KnownHosts.{at_sign};
-ghost use Rattle.sshkey_entries.specs.OpenSshLines.{IsHostLine};
+ghost use Rattle.sshkey_files.specs.Entries.{hash};
+ghost use Rattle.sshkey_files.specs.Fields.{filled_lines};
+ghost use Rattle.sshkey_files.specs.KnownHosts.{at_sign};
+ghost use Rattle.sshkey_files.specs.OpenSshLines.{IsHostLine};
 ghost use Rattle.sshkey_files.specs.Answers.{AnswersEntry, ReadsEntry, RefusesFor, YieldsAnswers};
 ghost use Rattle.sshkey_known_hosts.specs.HostEntries.{known_host_of};
 ghost use Rattle.sshkey_known_hosts.specs.OpenSshHosts.{HasLineFault, SplitsMarkerField};
@@ -14,8 +14,7 @@ use crate::entry::Entry;
 use crate::host_patterns::HostPatterns;
 use crate::marker::Marker;
 use sshkey_base::{Error, Result};
-use sshkey_fields::read_key_fields;
-use sshkey_files::{FilledLines, skip_blanks, split_field};
+use sshkey_files::{FilledLines, read_key_fields, skip_blanks, split_field};
 use std::alloc::Global;
 use std::marker::Model;
 use std::str::FromStr;
@@ -58,7 +57,7 @@ impl Entry {
     /// Unless memory runs out, it fails exactly if the line is no such entry: `FormatEncoding`
     /// where a `#` begins it, for another marker and for a second one; then the errors of
     /// `HostPatterns::from_text`, and then `Length` where no Base64 stands after the hosts, or else
-    /// the errors of `sshkey_fields::read_key_fields`.
+    /// the errors of `sshkey_files::read_key_fields`.
     ///
     /// A line that is rejected says nothing of its hosts: treat an `Err` as no verdict on any host,
     /// and do not pass over it.

@@ -4,7 +4,7 @@ use Rattle.sshkey_model.specs.Parts.{Parts, flat}
 use Rattle.sshkey_model.specs.Reading.{Front}
 use Rattle.sshkey_model.specs.Grammar.{IsSpelled, spelled}
 use Rattle.sshkey_model.specs.Options.{CertificateOption, HasOptionPlaces, plain_nestings}
-use Rattle.sshkey_model.specs.Certificates.{SignedFields, CertificateChoices, HaveSignedPlaces, plain_certificate}
+use Rattle.sshkey_model.specs.Certificates.{SignedFields, CertificateChoices, HaveSignedPlaces, plain_choices}
 use Rattle.sshkey_model.specs.Laws.{DetermineValues, ReadBack, ReadBackPlain, DetermineFields}
 use Rattle.sshkey_model.proofs.CombinedReaders.{ReadsFront, injective}
 use Rattle.sshkey_model.proofs.CertificateReaders.{signed_fields_reads}
@@ -31,8 +31,8 @@ unfolding HasOptionPlaces
 plain_options_have [] = tt
 plain_options_have (o ∷ os) = (tt, plain_options_have os)
 
-pub plain_certificate_has : (c : SignedFields) → HaveSignedPlaces c (plain_certificate c)
-plain_certificate_has c = record { critical_options = plain_options_have c.critical_options; extensions = plain_options_have c.extensions; signature_key = tt }
+pub plain_choices_have : (c : SignedFields) → HaveSignedPlaces c (plain_choices c)
+plain_choices_have c = record { critical_options = plain_options_have c.critical_options; extensions = plain_options_have c.extensions; signature_key = tt }
 
 pub determine_fields : DetermineFields
 determine_fields c d s u c-is s-has c-fits d-is u-has d-fits e =

@@ -9,7 +9,7 @@ use Rattle.sshkey_model.specs.Fingerprints.{Fingerprint, same_hash, same_fingerp
 use Rattle.sshkey_model.specs.Verification.{Question}
 use Rattle.sshkey_model.specs.Validity.{IsValid}
 use Rattle.sshkey_model.specs.Principals.{IsValidFor}
-use Rattle.sshkey_model.specs.Refusals.{Refusal, NotSigned, OtherAuthority, NoTime, OutOfWindow, OtherPrincipal, is_signed, is_given, is_within, allows, unless, first_refusal, first_refusal_for}
+use Rattle.sshkey_model.specs.Refusals.{Refusal, NotSigned, UntrustedAuthority, InvalidTime, OutOfWindow, UnlistedPrincipal, is_signed, has_trusted_authority, is_within, allows, unless, first_refusal, first_refusal_for}
 
 -- ---- a list holds a value
 
@@ -84,8 +84,8 @@ module _ (accepts : Question → Bool) (fingerprints : List Fingerprint) (t : �
   valid_from : first_refusal accepts fingerprints t c ≡ None → IsValid accepts fingerprints t c
   valid_from e =
       let signed = passed (is_signed accepts c) NotSigned _ e in
-      let given = passed (is_given fingerprints c) OtherAuthority _ signed.1 in
-      let time = passed (is_time t) NoTime _ given.1 in
+      let given = passed (has_trusted_authority fingerprints c) UntrustedAuthority _ signed.1 in
+      let time = passed (is_time t) InvalidTime _ given.1 in
       let within = passed (is_within t c) OutOfWindow _ time.1 in
       let both = and_parts (nat_le c.signed.valid_after t) (nat_lt t c.signed.valid_before) within.0 in
       record { signature = signed.0; authority = contained same_fingerprint fingerprints_decided _ _ given.0; time = ltb-true _ _ time.0; after = leb-true _ _ both.0; before = ltb-true _ _ both.1 }
@@ -93,8 +93,8 @@ module _ (accepts : Question → Bool) (fingerprints : List Fingerprint) (t : �
   none_from : IsValid accepts fingerprints t c → first_refusal accepts fingerprints t c ≡ None
   none_from v =
       passes (is_signed accepts c) NotSigned _ v.signature
-      (passes (is_given fingerprints c) OtherAuthority _ (found same_fingerprint fingerprints_decided _ _ v.authority)
-      (passes (is_time t) NoTime _ (lt-ltb _ _ v.time)
+      (passes (has_trusted_authority fingerprints c) UntrustedAuthority _ (found same_fingerprint fingerprints_decided _ _ v.authority)
+      (passes (is_time t) InvalidTime _ (lt-ltb _ _ v.time)
       (passes (is_within t c) OutOfWindow _ (and_from _ _ (le-leb _ _ v.after) (lt-ltb _ _ v.before)) refl)))
 
   pub none_where_valid : (first_refusal accepts fingerprints t c ≡ None) ↔ IsValid accepts fingerprints t c
@@ -116,8 +116,8 @@ module _ (accepts : Question → Bool) (fingerprints : List Fingerprint) (t : �
   wanted_after None e =
       let both = none_where_valid accepts fingerprints t c in
       rw e (
-        λ h. record { valid = both.0 e; allowed = allowed c.signed.valid_principals wanted (passed (allows c.signed.valid_principals wanted) OtherPrincipal None h).0 },
-        λ v. passes (allows c.signed.valid_principals wanted) OtherPrincipal None (allows_it c.signed.valid_principals wanted v.allowed) refl,
+        λ h. record { valid = both.0 e; allowed = allowed c.signed.valid_principals wanted (passed (allows c.signed.valid_principals wanted) UnlistedPrincipal None h).0 },
+        λ v. passes (allows c.signed.valid_principals wanted) UnlistedPrincipal None (allows_it c.signed.valid_principals wanted v.allowed) refl,
       )
   wanted_after (Some r) e =
       let both = none_where_valid accepts fingerprints t c in

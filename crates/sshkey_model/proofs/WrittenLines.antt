@@ -13,9 +13,9 @@ use Rattle.sshkey_model.specs.Parts.{Parts, flat}
 use Rattle.sshkey_model.specs.Lines.{space, after_space, joined, written, IsLine, LinesReadBack, IsBlob}
 use Rattle.sshkey_model.specs.Grammar.{SpellsWith}
 use Rattle.sshkey_model.specs.Keys.{Key, Plain, IsKey, HasKeyPlaces, key, normal_key}
-use Rattle.sshkey_model.specs.Certificates.{Certificate, IsCertificate, HasCertificatePlaces, certificate, plain_certificate, normal_certificate}
+use Rattle.sshkey_model.specs.Certificates.{Certificate, IsCertificate, HasCertificatePlaces, certificate, plain_choices, normal_certificate}
 use Rattle.sshkey_model.proofs.CombinedReaders.{chosen}
-use Rattle.sshkey_model.proofs.NormalForms.{plain_certificate_has}
+use Rattle.sshkey_model.proofs.NormalForms.{plain_choices_have}
 use Rattle.sshkey_model.proofs.NormalFits.{key_fits, certificate_fits}
 use Rattle.sshkey_model.proofs.Base64Words.{IsDark, word_dark, some_word}
 
@@ -177,4 +177,4 @@ pub key_normally : (k : Key) (blob : List ℕ) → SpellsWith IsKey HasKeyPlaces
 key_normally k blob s = record { is = s.is; choices = Plain; place = tt; fits = key_fits k s.choices s.is s.place s.fits; shape = refl }
 
 pub certificate_normally : (c : Certificate) (blob : List ℕ) → SpellsWith IsCertificate HasCertificatePlaces certificate c blob → SpellsWith IsCertificate HasCertificatePlaces certificate c (flat (normal_certificate c))
-certificate_normally c blob s = record { is = s.is; choices = plain_certificate c.signed; place = plain_certificate_has c.signed; fits = certificate_fits c s.choices s.is s.place s.fits; shape = refl }
+certificate_normally c blob s = record { is = s.is; choices = plain_choices c.signed; place = plain_choices_have c.signed; fits = certificate_fits c s.choices s.is s.place s.fits; shape = refl }

@@ -107,14 +107,14 @@ pub record HaveSignedPlaces (c : SignedFields) (s : CertificateChoices) : Type 0
 abbrev pub HasCertificatePlaces : Certificate → CertificateChoices → Type 0
 HasCertificatePlaces c s = HaveSignedPlaces c.signed s
 
-abbrev pub plain_certificate : SignedFields → CertificateChoices
-plain_certificate c = record { critical_options = plain_nestings c.critical_options; extensions = plain_nestings c.extensions; signature_key = Plain }
+abbrev pub plain_choices : SignedFields → CertificateChoices
+plain_choices c = record { critical_options = plain_nestings c.critical_options; extensions = plain_nestings c.extensions; signature_key = Plain }
 
 abbrev pub normal_to_be_signed : SignedFields → Parts
-normal_to_be_signed c = to_be_signed c (plain_certificate c)
+normal_to_be_signed c = to_be_signed c (plain_choices c)
 
 abbrev pub normal_certificate : Certificate → Parts
-normal_certificate c = certificate c (plain_certificate c.signed)
+normal_certificate c = certificate c (plain_choices c.signed)
 
 -- ---- reading
 

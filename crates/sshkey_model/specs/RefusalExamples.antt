@@ -3,7 +3,7 @@ use Rattle.std.specs.Prelude.{◌≡◌, ℕ, ◌-◌, ◌^◌, List, [], ◌∷
 use Rattle.sshkey_model.specs.Names.{Sha256}
 use Rattle.sshkey_model.specs.Certificates.{Certificate}
 use Rattle.sshkey_model.specs.Fingerprints.{Fingerprint}
-use Rattle.sshkey_model.specs.Refusals.{Refusal, NotSigned, OtherAuthority, NoTime, OutOfWindow, OtherPrincipal, first_refusal, first_refusal_for}
+use Rattle.sshkey_model.specs.Refusals.{Refusal, NotSigned, UntrustedAuthority, InvalidTime, OutOfWindow, UnlistedPrincipal, first_refusal, first_refusal_for}
 use Rattle.sshkey_model.specs.ValidityExamples.{zero_signed, right_fingerprint}
 
 abbrev pub other_fingerprint : Fingerprint
@@ -20,9 +20,9 @@ RefusalOrder = (refused_at true (right_fingerprint ∷ []) 9 ≡ Some OutOfWindo
     × (refused_at true (other_fingerprint ∷ right_fingerprint ∷ []) 19 ≡ None)
     × (refused_at true (right_fingerprint ∷ []) 20 ≡ Some OutOfWindow)
     × (refused_at true (right_fingerprint ∷ []) (2 ^ 63 - 1) ≡ Some OutOfWindow)
-    × (refused_at true (right_fingerprint ∷ []) (2 ^ 63) ≡ Some NoTime)
-    × (refused_at true [] 10 ≡ Some OtherAuthority)
-    × (refused_at true (other_fingerprint ∷ []) (2 ^ 63) ≡ Some OtherAuthority)
+    × (refused_at true (right_fingerprint ∷ []) (2 ^ 63) ≡ Some InvalidTime)
+    × (refused_at true [] 10 ≡ Some UntrustedAuthority)
+    × (refused_at true (other_fingerprint ∷ []) (2 ^ 63) ≡ Some UntrustedAuthority)
     × (refused_at false (right_fingerprint ∷ []) 10 ≡ Some NotSigned)
     × (refused_at false [] (2 ^ 63) ≡ Some NotSigned)
 
@@ -37,10 +37,10 @@ wanted_at principals t wanted = first_refusal_for (λ q. true) (right_fingerprin
 abbrev pub WantedPrincipals : Type 0
 WantedPrincipals = (wanted_at (codes "a" ∷ []) 10 (codes "a") ≡ None)
     × (wanted_at (codes "b" ∷ codes "a" ∷ []) 10 (codes "a") ≡ None)
-    × (wanted_at (codes "a" ∷ []) 10 (codes "A") ≡ Some OtherPrincipal)
-    × (wanted_at (codes "a" ∷ []) 10 (codes "a.b") ≡ Some OtherPrincipal)
-    × (wanted_at (codes "a.b" ∷ []) 10 (codes "a") ≡ Some OtherPrincipal)
-    × (wanted_at (codes "a" ∷ []) 10 [] ≡ Some OtherPrincipal)
+    × (wanted_at (codes "a" ∷ []) 10 (codes "A") ≡ Some UnlistedPrincipal)
+    × (wanted_at (codes "a" ∷ []) 10 (codes "a.b") ≡ Some UnlistedPrincipal)
+    × (wanted_at (codes "a.b" ∷ []) 10 (codes "a") ≡ Some UnlistedPrincipal)
+    × (wanted_at (codes "a" ∷ []) 10 [] ≡ Some UnlistedPrincipal)
     × (wanted_at (codes "a" ∷ []) 20 (codes "A") ≡ Some OutOfWindow)
     × (wanted_at [] 10 (codes "a") ≡ None)
     × (wanted_at [] 10 [] ≡ None)

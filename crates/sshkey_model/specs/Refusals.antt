@@ -10,13 +10,13 @@ use Rattle.sshkey_model.specs.Validity.{IsValid}
 use Rattle.sshkey_model.specs.Principals.{IsValidFor}
 
 pub data Refusal : Type 0 where
-  NotSigned OtherAuthority NoTime OutOfWindow OtherPrincipal : Refusal
+  NotSigned UntrustedAuthority InvalidTime OutOfWindow UnlistedPrincipal : Refusal
 
 abbrev pub is_signed : (Question → Bool) → Certificate → Bool
 is_signed accepts c = is_yes accepts (question c.signed.signature_key (flat (normal_to_be_signed c.signed)) c.signature)
 
-abbrev pub is_given : List Fingerprint → Certificate → Bool
-is_given fingerprints c = list_any (same_fingerprint (fingerprint Sha256 c.signed.signature_key)) fingerprints
+abbrev pub has_trusted_authority : List Fingerprint → Certificate → Bool
+has_trusted_authority fingerprints c = list_any (same_fingerprint (fingerprint Sha256 c.signed.signature_key)) fingerprints
 
 abbrev pub is_within : ℕ → Certificate → Bool
 is_within t c = nat_le c.signed.valid_after t && nat_lt t c.signed.valid_before
@@ -33,8 +33,8 @@ unless false refusal next = Some refusal
 abbrev pub first_refusal : (Question → Bool) → List Fingerprint → ℕ → Certificate → Option Refusal
 first_refusal accepts fingerprints t c =
     unless (is_signed accepts c) NotSigned
-    (unless (is_given fingerprints c) OtherAuthority
-    (unless (is_time t) NoTime
+    (unless (has_trusted_authority fingerprints c) UntrustedAuthority
+    (unless (is_time t) InvalidTime
     (unless (is_within t c) OutOfWindow None)))
 
 -- the first refusal, if there is one, else the next
@@ -44,7 +44,7 @@ or_else (Some refusal) next = Some refusal
 
 -- the wanted principal comes last
 abbrev pub first_refusal_for : (Question → Bool) → List Fingerprint → ℕ → List ℕ → Certificate → Option Refusal
-first_refusal_for accepts fingerprints t wanted c = or_else (first_refusal accepts fingerprints t c) (unless (allows c.signed.valid_principals wanted) OtherPrincipal None)
+first_refusal_for accepts fingerprints t wanted c = or_else (first_refusal accepts fingerprints t c) (unless (allows c.signed.valid_principals wanted) UnlistedPrincipal None)
 
 -- Nothing is wrong exactly with the valid ones.
 abbrev pub RefuseTheInvalid : Type 0

@@ -15,7 +15,7 @@ ghost use Rattle.sshkey_model.specs.Points.{IsPoint};
 ghost use Rattle.sshkey_model.specs.Keys.{IsBodyUnder, body, IsKey, HasKeyPlaces, key, normal_key, Plain, key_at};
 ghost use Rattle.sshkey_model.specs.Signatures.{IsSignature, signature, signature_at};
 ghost use Rattle.sshkey_model.specs.Options.{AreOptions, HasOptionPlaces, options, normal_options, plain_nestings, options_at};
-ghost use Rattle.sshkey_model.specs.Certificates.{IsCertificate, HasCertificatePlaces, certificate, normal_certificate, plain_certificate, certificate_at, AreSignedFields, HaveSignedPlaces, to_be_signed, normal_to_be_signed};
+ghost use Rattle.sshkey_model.specs.Certificates.{IsCertificate, HasCertificatePlaces, certificate, normal_certificate, plain_choices, certificate_at, AreSignedFields, HaveSignedPlaces, to_be_signed, normal_to_be_signed};
 ghost use Rattle.sshkey_model.specs.SshSignatures.{IsSshSignature, HasSshSignaturePlaces, ssh_signature, normal_ssh_signature, ssh_signature_at};
 ghost use Rattle.sshkey_model.specs.Laws.{DetermineValues, ReadBackPlain, ReadBack, DetermineFields, AreApart, DetermineSignedData, NormalFits};
 ghost use Rattle.std.specs.List.{AllByRecursion};
@@ -164,7 +164,7 @@ pub fn read_back_options()
 /// The normal form of a certificate is read as that certificate with plain choices.
 pub fn read_back_certificate()
     ensures { ReadBackPlain IsCertificate certificate
-        (λ c. plain_certificate c.signed) certificate_at }
+        (λ c. plain_choices c.signed) certificate_at }
 {}
 
 /// The normal form of an SSH signature is read as that signature with the plain name.

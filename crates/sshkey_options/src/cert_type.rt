@@ -57,7 +57,7 @@ impl From<CertType> for u32 {
     }
 }
 
-/// The type of that number; `FormatEncoding` where it has none. Does not allocate.
+/// The type of that number. Fails with `FormatEncoding` if it has none. Does not allocate.
 impl TryFrom<u32> for CertType {
     type Error = Error;
 
@@ -72,7 +72,7 @@ impl TryFrom<u32> for CertType {
     }
 }
 
-/// Four bytes, 1 or 2; `FormatEncoding` for any other number. Does not allocate.
+/// Four bytes, 1 or 2. Fails with `FormatEncoding` for any other number. Does not allocate.
 #[tactic(auto, using(sshkey_base::proofs::Steps::steps, sshkey_base::proofs::Judging::judged, sshkey_base::proofs::Stopping::stopping), unfolding(sshkey_model::specs::Certificates::type_at))]
 impl Decode for CertType {
     type Error = Error;

@@ -13,7 +13,10 @@ use crate::unix_time::{MAX_SECS, UnixTime};
 use sshkey_base::{Decode, Encode, Error, Reader, Result, Writer, encoding};
 use std::alloc::Global;
 
-/// The end of a certificate that has none: 2^64 - 1 (PROTOCOL.certkeys).
+/// The number in place of an end where a certificate has none: 2^64 - 1.
+///
+/// `ssh-keygen` writes it where no end is given. PROTOCOL.certkeys gives it no meaning of its own:
+/// there it is one more time, and the last.
 pub const FOREVER: u64 = u64::MAX;
 
 /// The end of a certificate's validity: a time, or that there is none (`FOREVER`).
@@ -26,8 +29,9 @@ pub struct EndTime {
 impl EndTime {
     ghost use Rattle.sshkey_options.specs.Times.{end_of};
 
-    /// The end at so many seconds since 1970, or none for `FOREVER`; `Time` for any other number
-    /// above 2^63 - 1. Does not allocate.
+    /// The end at so many seconds since 1970, or none for `FOREVER`. Fails with `Time` for any
+    /// other number above 2^63 - 1, which is this library's own limit (`UnixTime`). Does not
+    /// allocate.
     pub fn new(secs: u64) -> Result<EndTime>
         ensures { AnswersAlways end_of cause (end_from secs) result }
     {
@@ -70,8 +74,8 @@ impl From<UnixTime> for EndTime {
     }
 }
 
-/// Eight bytes, most significant first; `Time` above 2^63 - 1, but for `FOREVER`. Does not
-/// allocate.
+/// Eight bytes, most significant first. Fails with `Time` above 2^63 - 1, but for `FOREVER`. Does
+/// not allocate.
 #[tactic(auto, using(sshkey_base::proofs::Steps::steps, sshkey_base::proofs::Judging::judged, sshkey_base::proofs::Stopping::stopping), unfolding(sshkey_model::specs::Certificates::end_at))]
 impl Decode for EndTime {
     ghost use Rattle.sshkey_options.specs.Times.{end_of};

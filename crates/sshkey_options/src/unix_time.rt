@@ -12,7 +12,10 @@ ghost use Rattle.sshkey_options.specs.Leaves.{time_format};
 use sshkey_base::{Decode, Encode, Error, Reader, Result, Writer, encoding};
 use std::alloc::Global;
 
-/// Seconds since 1970, at most 2^63 - 1 (PROTOCOL.certkeys).
+/// A time in seconds since 1970-01-01 00:00:00 UTC, as certificates hold it (PROTOCOL.certkeys).
+///
+/// It is at most 2^63 - 1. PROTOCOL.certkeys sets no such limit: it is a rule of this library, and
+/// of the crate ssh-key.
 #[derive(Clone, Copy, Debug, PartialEq, Eq, PartialOrd, Ord)]
 pub struct UnixTime {
     secs: u64,
@@ -25,7 +28,7 @@ pub const MAX_SECS: u64 = i64::MAX as u64;
 impl UnixTime {
     ghost use Rattle.sshkey_options.specs.Times.{time_of};
 
-    /// The time of so many seconds; `Time` where they are above 2^63 - 1. Does not allocate.
+    /// The time of so many seconds since 1970. Fails with `Time` above 2^63 - 1. Does not allocate.
     pub fn new(secs: u64) -> Result<UnixTime>
         ensures { AnswersAlways time_of cause (time_from secs) result }
     {
@@ -35,7 +38,7 @@ impl UnixTime {
         Ok(UnixTime { secs })
     }
 
-    /// The seconds.
+    /// The seconds since 1970.
     pub fn secs(self) -> u64
         ensures value { result ≡ time_of self }
         ensures form { is_time result ≡ true }
@@ -54,7 +57,7 @@ impl From<UnixTime> for u64 {
     }
 }
 
-/// Eight bytes, most significant first; `Time` above 2^63 - 1. Does not allocate.
+/// Eight bytes, most significant first. Fails with `Time` above 2^63 - 1. Does not allocate.
 #[tactic(auto, using(sshkey_base::proofs::Steps::steps, sshkey_base::proofs::Judging::judged, sshkey_base::proofs::Stopping::stopping), unfolding(sshkey_model::specs::Certificates::time_at))]
 impl Decode for UnixTime {
     ghost use Rattle.sshkey_options.specs.Times.{time_of};
@@ -73,7 +76,7 @@ impl Decode for UnixTime {
     }
 }
 
-/// Eight bytes.
+/// Eight bytes, most significant first.
 impl Encode for UnixTime {
     ghost use Rattle.sshkey_options.specs.Times.{time_of};
 

@@ -11,6 +11,8 @@ ghost use Rattle.sshkey_keypairs.specs.KeypairFormats.{keypair_format};
 ghost use Rattle.sshkey_keypairs.specs.Keypairs.{pair_of};
 ghost use Rattle.sshkey_keys.specs.Keys.{key_of};
 ghost use Rattle.sshkey_kinds.specs.EcdsaPublicKey.{ecdsa_key_of};
+ghost use Rattle.sshkey_kinds.specs.Kinds.{opaque_of};
+ghost use Rattle.sshkey_keypairs.specs.OpaquePairs.{opaque_pair_of};
 ghost use Rattle.sshkey_model.specs.KeyPairs.{public_half};
 ghost use Rattle.sshkey_model.specs.PrivateKeys.{key_eq};
 ghost use Rattle.sshkey_model.specs.Reading.{box_at};
@@ -23,9 +25,9 @@ use crate::part::Inner;
 use sshkey_base::{Decode, Error, Reader, Result, Text, encoding};
 use sshkey_ciphers::end_padding;
 use sshkey_format::Then;
-use sshkey_keypairs::KeypairData;
+use sshkey_keypairs::{KeypairData, OpaqueKeypair};
 use sshkey_keys::KeyData;
-use sshkey_kinds::EcdsaPublicKey;
+use sshkey_kinds::{EcdsaPublicKey, OpaquePublicKey};
 use sshkey_pairs::EcdsaKeypair;
 use std::alloc::Global;
 
@@ -144,19 +146,25 @@ fn check_half(pair: KeypairData, public: &KeyData) -> Result<KeypairData>
 fn is_half(pair: &KeypairData, public: &KeyData) -> bool
     ensures { result ≡ is_half (pair_of pair.now) (key_of public.now) }
 {
-    match (pair, public) {
-        (KeypairData::Dsa(pair), KeyData::Dsa(key)) => pair.public == *key,
-        (KeypairData::Ecdsa(pair), KeyData::Ecdsa(key)) => is_ecdsa_half(pair, key),
-        (KeypairData::Ed25519(pair), KeyData::Ed25519(key)) => pair.public == *key,
-        (KeypairData::Rsa(pair), KeyData::Rsa(key)) => pair.public == *key,
-        (KeypairData::SkEcdsaSha2NistP256(pair), KeyData::SkEcdsaSha2NistP256(key)) => {
-            *pair.public() == *key
-        }
-        (KeypairData::SkEd25519(pair), KeyData::SkEd25519(key)) => *pair.public() == *key,
-        (KeypairData::Other(pair), KeyData::Other(key)) => {
-            pair.public.algorithm.as_str() == key.algorithm.as_str() && pair.public.key == key.key
-        }
-        _ => false,
+    match pair {
+        KeypairData::Dsa(pair) => matches!(public, KeyData::Dsa(key) if pair.public == *key),
+        KeypairData::Ecdsa(pair) => {
+            matches!(public, KeyData::Ecdsa(key) if is_ecdsa_half(pair, key))
+        },
+        KeypairData::Ed25519(pair) => {
+            matches!(public, KeyData::Ed25519(key) if pair.public == *key)
+        },
+        KeypairData::Encrypted(_) => false,
+        KeypairData::Rsa(pair) => matches!(public, KeyData::Rsa(key) if pair.public == *key),
+        KeypairData::SkEcdsaSha2NistP256(pair) => {
+            matches!(public, KeyData::SkEcdsaSha2NistP256(key) if *pair.public() == *key)
+        },
+        KeypairData::SkEd25519(pair) => {
+            matches!(public, KeyData::SkEd25519(key) if *pair.public() == *key)
+        },
+        KeypairData::Other(pair) => {
+            matches!(public, KeyData::Other(key) if is_opaque_half(pair, key))
+        },
     }
 }
 
@@ -164,10 +172,22 @@ fn is_half(pair: &KeypairData, public: &KeyData) -> bool
 fn is_ecdsa_half(pair: &EcdsaKeypair, public: &EcdsaPublicKey) -> bool
     ensures { result ≡ key_eq (public_half (ecdsa_pair_of pair.now)) (ecdsa_key_of public.now) }
 {
-    match (pair, public) {
-        (EcdsaKeypair::NistP256 { public, .. }, EcdsaPublicKey::NistP256(key)) => public == key,
-        (EcdsaKeypair::NistP384 { public, .. }, EcdsaPublicKey::NistP384(key)) => public == key,
-        (EcdsaKeypair::NistP521 { public, .. }, EcdsaPublicKey::NistP521(key)) => public == key,
-        _ => false,
+    match pair {
+        EcdsaKeypair::NistP256 { public: point, .. } => {
+            matches!(public, EcdsaPublicKey::NistP256(key) if point == key)
+        },
+        EcdsaKeypair::NistP384 { public: point, .. } => {
+            matches!(public, EcdsaPublicKey::NistP384(key) if point == key)
+        },
+        EcdsaKeypair::NistP521 { public: point, .. } => {
+            matches!(public, EcdsaPublicKey::NistP521(key) if point == key)
+        },
     }
+}
+
+/// The same under a private-use name.
+fn is_opaque_half(pair: &OpaqueKeypair, public: &OpaquePublicKey) -> bool
+    ensures { result ≡ key_eq (public_half (opaque_pair_of pair.now)) (opaque_of public.now) }
+{
+    pair.public.algorithm.as_str() == public.algorithm.as_str() && pair.public.key == public.key
 }

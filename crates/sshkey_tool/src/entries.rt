@@ -1,7 +1,7 @@
 //! What is shown of the entries of a file, and written.
 
-ghost use Rattle.sshkey_entries.specs.AuthorizedKeys.{IsAuthorizedKey, authorized_text};
-ghost use Rattle.sshkey_entries.specs.KnownHosts.{IsKnownHost, known_text};
+ghost use Rattle.sshkey_files.specs.AuthorizedKeys.{IsAuthorizedKey, authorized_text};
+ghost use Rattle.sshkey_files.specs.KnownHosts.{IsKnownHost, known_text};
 ghost use Rattle.std.specs.Prelude.{string_bytes};
 ghost use Rattle.sshkey_tool.specs.Outcomes.{PushesEntry, PushesLine, RefusesBehind, RefusesEntry, WritesEntries, WritesEntry, WritesEntryOf};
 

@@ -3,7 +3,7 @@
 ghost use Rattle.std.specs.Prelude.{◌≡◌, ◌≤◌, length, IsOk, IfOk, IfErr, Err, Some, option_map, string_bytes};
 ghost use Rattle.sshkey_model.specs.CertificateNames.{IsCertified, certificate_algorithm, certificate_algorithm_at, certificate_name, certified, certified_from};
 ghost use Rattle.sshkey_model.specs.Grammar.{Spells};
-ghost use Rattle.sshkey_model.specs.Names.{named};
+ghost use Rattle.sshkey_model.specs.Names.{Other, named};
 ghost use Rattle.sshkey_model.specs.Names as model;
 ghost use Rattle.sshkey_model.specs.Parts.{bytes};
 ghost use Rattle.sshkey_model.specs.Reading as fault;
@@ -11,7 +11,7 @@ ghost use Rattle.sshkey_base.specs.Reading.{AcceptsFront, DecodesWide};
 ghost use Rattle.sshkey_base.specs.Formats.{Stops};
 ghost use Rattle.sshkey_base.specs.NameFormats.{certified_format};
 ghost use Rattle.sshkey_base.specs.Causes.{cause};
-ghost use Rattle.sshkey_base.specs.Names.{IsFixed, algorithm_of};
+ghost use Rattle.sshkey_base.specs.Names.{algorithm_of};
 ghost use Rattle.sshkey_base.specs.Answers.{Judges, Names};
 ghost use Rattle.sshkey_base.specs.Labels.{AsksNamed};
 ghost use Rattle.sshkey_base.specs.NameNeeds.{NeedsCertified};
@@ -32,8 +32,8 @@ use std::alloc::Global;
 use std::str;
 
 impl Algorithm {
-    /// The algorithm with that name in a certificate (PROTOCOL.certkeys), and `Label` where it is
-    /// no such name. An RSA algorithm has no hash then. Memory is allocated only for a name that is
+    /// The algorithm with that name in a certificate (PROTOCOL.certkeys), an RSA algorithm without
+    /// a hash. Fails with `Label` if the text is no such name. Allocates only for a name that is
     /// none of the fixed ones.
     pub fn new_certificate(alloc: Global, name: &str) -> Result<Algorithm>
         ensures gives { Names algorithm_of cause (certified_from name.now) result }
@@ -71,8 +71,9 @@ impl Algorithm {
         Some(algorithm)
     }
 
-    /// Whether it is the name of an algorithm in a certificate (PROTOCOL.certkeys): `Ok` exactly if
-    /// `new_certificate` with enough memory is, else `Label`. Does not allocate.
+    /// Checks that the text is the name of an algorithm in a certificate (PROTOCOL.certkeys): `Ok`
+    /// exactly if `new_certificate` with enough memory is, and otherwise fails with `Label`. Does
+    /// not allocate.
     pub fn check_certificate(name: &str) -> Result<()>
         ensures { Judges cause (certified_from name.now) result }
     {
@@ -90,18 +91,20 @@ impl Algorithm {
             (λ text. string_bytes text ≡ certificate_name (algorithm_of self.now)) }
         ensures err { IfErr result (λ e. e ≡ Error.Memory) }
     {
-        match self {
-            Algorithm::Other(name) => name.certificate_type(alloc),
-            _ => Ok(String::from_str(alloc, self.fixed_certificate_type())?),
+        match self.fixed_certificate_type() {
+            Ok(text) => Ok(String::from_str(alloc, text)?),
+            Err(name) => name.certificate_type(alloc),
         }
     }
 
-    /// The name in a certificate of an algorithm that is no private-use one.
-    fn fixed_certificate_type(&self) -> &'static str
-        requires { IsFixed (algorithm_of self.now) }
-        ensures { result.now ≡ certificate_name (algorithm_of self.now) }
+    /// The fixed name in a certificate; where the algorithm has none, its private-use name.
+    fn fixed_certificate_type(&self) -> std::result::Result<&'static str, &AlgorithmName>
+        ensures fixed { IfOk result
+            (λ text. text.now ≡ certificate_name (algorithm_of self.now)) }
+        ensures short { IfOk result (λ text. length text.now ≤ 73) }
+        ensures private { IfErr result (λ name. algorithm_of self.now ≡ Other name.now) }
     {
-        match self {
+        let text = match self {
             Algorithm::Dsa => names::SSH_DSS_CERT,
             Algorithm::Ecdsa { curve } => match curve {
                 EcdsaCurve::NistP256 => names::ECDSA_SHA2_NISTP256_CERT,
@@ -112,8 +115,9 @@ impl Algorithm {
             Algorithm::Rsa { .. } => names::SSH_RSA_CERT,
             Algorithm::SkEcdsaSha2NistP256 => names::SK_ECDSA_SHA2_NISTP256_CERT,
             Algorithm::SkEd25519 => names::SK_SSH_ED25519_CERT,
-            Algorithm::Other(_) => unreachable!(),
-        }
+            Algorithm::Other(name) => return Err(name),
+        };
+        Ok(text)
     }
 
     /// Reads the string of a name in a certificate from the front, and leaves what follows it.
@@ -138,9 +142,9 @@ impl Algorithm {
         ensures value { result ≡ length (certificate_name (algorithm_of self.now)) }
         ensures short { result ≤ 73 }
     {
-        match self {
-            Algorithm::Other(name) => name.certificate_type_len(),
-            _ => self.fixed_certificate_type().len(),
+        match self.fixed_certificate_type() {
+            Ok(text) => text.len(),
+            Err(name) => name.certificate_type_len(),
         }
     }
 
@@ -165,9 +169,9 @@ impl Algorithm {
         ensures { Encodes W.fault (bytes (certificate_name (algorithm_of self.now)))
             (W.sink writer.old) result (W.sink writer.new) }
     {
-        match self {
-            Algorithm::Other(name) => name.write_certificate_type(writer),
-            _ => writer.write(self.fixed_certificate_type().as_bytes()),
+        match self.fixed_certificate_type() {
+            Ok(text) => writer.write(text.as_bytes()),
+            Err(name) => name.write_certificate_type(writer),
         }
     }
 }

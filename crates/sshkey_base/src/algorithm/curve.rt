@@ -33,7 +33,7 @@ pub enum EcdsaCurve {
 }
 
 impl EcdsaCurve {
-    /// The curve of that name, and `Label` where no curve has it. Does not allocate.
+    /// The curve of that name. Fails with `Label` if no curve has it. Does not allocate.
     pub fn new(name: &str) -> Result<EcdsaCurve>
         ensures { NamesAlways curve_of cause (curve_from name.now) result }
     {

@@ -34,7 +34,7 @@ pub enum HashAlg {
 }
 
 impl HashAlg {
-    /// The hash of that name, and `Label` where no hash has it. Does not allocate.
+    /// The hash of that name. Fails with `Label` if no hash has it. Does not allocate.
     pub fn new(name: &str) -> Result<HashAlg>
         ensures { NamesAlways hash_of cause (hash_from name.now) result }
     {

@@ -55,8 +55,8 @@ impl Model for AlgorithmName {
 }
 
 impl AlgorithmName {
-    /// The name with those bytes, and `Label` where they are none. A fixed name with an at sign is
-    /// one too. Memory is allocated only for a name.
+    /// The name with those bytes. Fails with `Label` if they are none. A fixed name with an at sign
+    /// is accepted too. Allocates only for a name.
     pub fn new(alloc: Global, text: &str) -> Result<AlgorithmName>
         ensures gives { Names (λ name. name) cause (own_name_from text.now) result }
         ensures refused { is_own_name text.now ≡ false →
@@ -113,8 +113,8 @@ impl AlgorithmName {
         write_parts(name, domain, writer)
     }
 
-    /// The name whose certificate type is that text, and `Label` where it is that of none. Memory
-    /// is allocated only for a name.
+    /// The name whose certificate type is that text. Fails with `Label` if it is that of none.
+    /// Allocates only for a name.
     pub fn from_certificate_type(alloc: Global, text: &str) -> Result<AlgorithmName>
         ensures gives { NamesCertified cause text.now result }
         ensures refused { IsNoCertificateType text.now →

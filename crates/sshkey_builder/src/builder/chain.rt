@@ -1,8 +1,8 @@
 //! What a builder is told before it is handed back.
 //!
-//! Of a call that answers a bare reference the prover does not find what the builder is left with
-//! where the call is rejected; of one that answers it in a struct it does. So each setter that
-//! hands the builder back is `hand_back` of a call here, and is proved by hand from its clauses.
+//! Of a call that returns a bare reference the prover does not find what the builder is left with
+//! where the call fails; of one that returns it in a struct it does. So each setter that returns
+//! the builder is `hand_back` of a call here, and is proved by hand from its clauses.
 
 ghost use Rattle.std.specs.Borrow.{sem};
 ghost use Rattle.std.specs.Prelude.{◌≡◌, string_bytes};

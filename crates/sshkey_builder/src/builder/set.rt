@@ -1,4 +1,4 @@
-//! What a builder is told, with no reference handed back.
+//! The setters of a builder that return no reference to it.
 
 ghost use Rattle.std.specs.Prelude.{string_bytes};
 ghost use Rattle.sshkey_model.specs.Drafts.{Serial, Kind, KeyId, Comment, Principal, AllPrincipals, Critical, Extension};
@@ -12,7 +12,7 @@ use sshkey_base::{Error, Result, Text};
 use sshkey_options::CertType;
 
 impl Builder {
-    /// `serial`, with no reference handed back.
+    /// Sets the serial number and fails as `serial` does, and returns no reference.
     pub fn set_serial(&mut self, serial: u64) -> Result<()>
         ensures { TakesStepAlways (Serial serial) self.old result self.new }
     {
@@ -23,7 +23,7 @@ impl Builder {
         Ok(())
     }
 
-    /// `cert_type`, with no reference handed back.
+    /// Sets the type and fails as `cert_type` does, and returns no reference.
     pub fn set_cert_type(&mut self, cert_type: CertType) -> Result<()>
         ensures { TakesStepAlways (Kind (type_of cert_type)) self.old result self.new }
     {
@@ -34,7 +34,7 @@ impl Builder {
         Ok(())
     }
 
-    /// `key_id`, with no reference handed back.
+    /// Sets the key id and fails as `key_id` does, and returns no reference.
     pub fn set_key_id(&mut self, key_id: String) -> Result<()>
         ensures { TakesStepAlways (KeyId (string_bytes key_id)) self.old result self.new }
     {
@@ -45,7 +45,7 @@ impl Builder {
         Ok(())
     }
 
-    /// `comment`, with no reference handed back.
+    /// Sets the comment and fails as `comment` does, and returns no reference.
     pub fn set_comment(&mut self, comment: String) -> Result<()>
         ensures { TakesStepAlways (Comment (string_bytes comment)) self.old result self.new }
     {
@@ -56,7 +56,7 @@ impl Builder {
         Ok(())
     }
 
-    /// `valid_principal`, with no reference handed back.
+    /// Names a principal and fails as `valid_principal` does, and returns no reference.
     #[tactic(auto, using(crate::proofs::Principals::map_added))]
     pub fn add_valid_principal(&mut self, principal: String) -> Result<()>
         ensures { TakesStep (Principal (string_bytes principal)) self.old result self.new }
@@ -72,7 +72,7 @@ impl Builder {
         Ok(())
     }
 
-    /// `all_principals_valid`, with no reference handed back.
+    /// Makes all principals valid as `all_principals_valid` does, and returns no reference.
     pub fn set_all_principals_valid(&mut self) -> Result<()>
         ensures { TakesStepAlways AllPrincipals self.old result self.new }
     {
@@ -80,7 +80,7 @@ impl Builder {
         Ok(())
     }
 
-    /// `critical_option`, with no reference handed back.
+    /// Adds an option and fails as `critical_option` does, and returns no reference.
     pub fn add_critical_option(&mut self, name: String, value: String) -> Result<()>
         ensures { TakesStep (Critical (option_of (name, value))) self.old result self.new }
     {
@@ -91,7 +91,7 @@ impl Builder {
         Ok(())
     }
 
-    /// `extension`, with no reference handed back.
+    /// Adds an option and fails as `extension` does, and returns no reference.
     pub fn add_extension(&mut self, name: String, value: String) -> Result<()>
         ensures { TakesStep (Extension (option_of (name, value))) self.old result self.new }
     {

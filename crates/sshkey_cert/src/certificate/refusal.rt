@@ -1,7 +1,7 @@
 //! What is wrong with a certificate.
 
 ghost use Rattle.std.specs.Prelude.{◌≡◌, None, option_map};
-ghost use Rattle.sshkey_model.specs.Refusals.{OtherPrincipal, or_else, unless};
+ghost use Rattle.sshkey_model.specs.Refusals.{UnlistedPrincipal, or_else, unless};
 ghost use Rattle.sshkey_cert.specs.Validity.{Tells, refusal_error, refusal_of};
 
 use sshkey_base::certificate::Field;
@@ -40,7 +40,7 @@ impl CertificateRefusal {
     }
 }
 
-/// `Ok` where nothing is wrong, and else the error of what is. Does not allocate.
+/// Returns `Ok` if nothing is wrong, and else fails with the error of what is. Does not allocate.
 pub fn tell(first: Option<CertificateRefusal>) -> Result<()>
     ensures { Tells (option_map refusal_of first) result }
 {
@@ -57,7 +57,7 @@ pub fn or_principal(
     is_allowed: bool,
 ) -> Option<CertificateRefusal>
     ensures { option_map refusal_of result
-        ≡ or_else (option_map refusal_of first) (unless is_allowed OtherPrincipal None) }
+        ≡ or_else (option_map refusal_of first) (unless is_allowed UnlistedPrincipal None) }
 {
     match first {
         Some(refusal) => Some(refusal),

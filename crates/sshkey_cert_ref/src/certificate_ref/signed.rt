@@ -1,7 +1,7 @@
 //! What the signature of a certificate is over.
 
 ghost use Rattle.std.specs.Prelude.{◌≡◌, ◌↔◌, ◌++◌, IsTrue, IsSome, IfSome};
-ghost use Rattle.sshkey_model.specs.Certificates.{normal_to_be_signed, plain_certificate};
+ghost use Rattle.sshkey_model.specs.Certificates.{normal_to_be_signed, plain_choices};
 ghost use Rattle.sshkey_model.specs.Keys.{Plain};
 ghost use Rattle.sshkey_model.specs.Options.{plain_nestings};
 ghost use Rattle.sshkey_model.specs.Parts.{box, flat};
@@ -19,7 +19,7 @@ impl<'a> CertificateRef<'a> {
     /// string.
     pub fn signed_bytes(&self) -> Option<&'a [u8]>
         ensures plain { IsSome result
-            ↔ (choices_of self.now ≡ plain_certificate (certificate_of self.now).signed) }
+            ↔ (choices_of self.now ≡ plain_choices (certificate_of self.now).signed) }
         ensures front { IfSome result (λ signed. certificate_bytes self.now
             ≡ signed.now ++ flat (box (signature (certificate_of self.now).signature))) }
         ensures normal { IfSome result (λ signed. signed.now
@@ -34,7 +34,7 @@ impl<'a> CertificateRef<'a> {
     /// Whether each part is spelled as in the normal form.
     fn is_plain(&self) -> bool
         ensures { IsTrue result
-            ↔ (choices_of self.now ≡ plain_certificate (certificate_of self.now).signed) }
+            ↔ (choices_of self.now ≡ plain_choices (certificate_of self.now).signed) }
     {
         self.has_plain_critical_options() && self.has_plain_extensions() && self.has_plain_key()
     }

@@ -18,11 +18,11 @@ use std::alloc::Global;
 
 impl CertificateRef<'_> {
     /// Asks the verifier about the signature over all other fields, in their normal form: where
-    /// `signed_bytes` is Some about that very slice, and else about bytes that are made anew.
+    /// `signed_bytes` is `Some`, about that very slice, and else about bytes that are made anew.
     ///
     /// Unless memory runs out, `Ok` exactly if `KeyData::verify` under the signature key accepts
-    /// it, else `CertificateValidation`. Where `signed_bytes` is Some, memory is taken only for a
-    /// DSA or an RSA key and by the verifier.
+    /// it, else `CertificateValidation`. Where `signed_bytes` is `Some`, only a DSA or an RSA
+    /// key, and the verifier, need memory.
     pub fn verify_signature<V: RawVerifier>(&self, alloc: Global, verifier: &V) -> Result<()>
         ensures accepted { OnOk result
             (IsSigned (V.accepts verifier.now) (certificate_of self.now)) }
@@ -41,7 +41,7 @@ impl CertificateRef<'_> {
     /// Unless memory runs out, `Ok` exactly if it is valid; else the first of these:
     /// `CertificateValidation` for the signature, `CertificateValidation` where no fingerprint is
     /// the signature key's, `Time` for a time above 2^63 - 1, `CertificateValidation` for a time
-    /// before `valid_after`, or not before `valid_before`. It takes memory where `verify_signature`
+    /// before `valid_after`, or not before `valid_before`. It allocates where `verify_signature`
     /// does, and for an RSA signature key under another name than `ssh-rsa`.
     pub fn validate_at<V: RawVerifier>(
         &self,

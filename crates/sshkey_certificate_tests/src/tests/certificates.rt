@@ -3,7 +3,7 @@
 use super::certified::{Certified, each, ed25519_user, p256_host, p384_user, rsa_sha256, stored};
 use base64::engine::general_purpose::STANDARD;
 use sshkey_base::{Algorithm, Error, HashAlg};
-use sshkey_cert::{Certificate, is_given};
+use sshkey_cert::{Certificate, contains_digest};
 use sshkey_keys::{Fingerprint, KeyData};
 use sshkey_options::{MAX_SECS, OptionsMap};
 use sshkey_testing::{AcceptAll, Only, OutOfMemory, RefuseAll};
@@ -234,9 +234,9 @@ fn other_authorities_are_refused(rt: HostRuntime) {
 fn one_digest_counts(alloc: Global, certificate: &Certificate) -> bool {
     match authorities(alloc, certificate) {
         Some(given) => {
-            is_given(&given, given[0].as_bytes())
-                && !is_given(&given, given[1].as_bytes())
-                && !is_given(&given[1..], given[0].as_bytes())
+            contains_digest(&given, given[0].as_bytes())
+                && !contains_digest(&given, given[1].as_bytes())
+                && !contains_digest(&given[1..], given[0].as_bytes())
         }
         None => false,
     }

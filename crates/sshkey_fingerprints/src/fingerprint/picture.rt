@@ -3,7 +3,7 @@
 ghost use Rattle.std.specs.Prelude.{◌≡◌, IfErr, IfOk, Some, string_bytes};
 ghost use Rattle.std.specs.Fmt.{WritesOnOk};
 ghost use Rattle.sshkey_fingerprints.specs.RandomArt.{hash_label, title};
-ghost use Rattle.sshkey_fingerprints.specs.Fingerprints.{algorithm_of};
+ghost use Rattle.sshkey_fingerprints.specs.Fingerprints.{fingerprint_hash};
 ghost use Rattle.sshkey_fingerprints.specs.Pictures.{art_of, picture_of};
 
 use crate::fingerprint::Fingerprint;
@@ -68,7 +68,7 @@ impl Fingerprint {
 
     /// The name of the hash as it stands below the picture.
     fn label(&self) -> &'static str
-        ensures { result.now ≡ hash_label (algorithm_of self.now) }
+        ensures { result.now ≡ hash_label (fingerprint_hash self.now) }
     {
         match self {
             Fingerprint::Sha256(_) => "[SHA256]",

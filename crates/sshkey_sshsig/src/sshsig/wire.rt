@@ -30,9 +30,9 @@ pub(super) const MAGIC: [u8; 6] = *b"SSHSIG";
 impl SshSig {
     /// Reads an SSH signature that all the bytes spell.
     ///
-    /// They are rejected only if they spell none, `TrailingData` with the number of bytes after
-    /// one, else the errors of `decode`; or for memory that ran out, never where a stated length
-    /// passes the bytes: that is `Length`.
+    /// Unless memory runs out, fails only if they spell none: with the errors of `decode`, and with
+    /// `TrailingData` and the number of bytes after a signature. A stated length that exceeds the
+    /// bytes fails with `Length`, and nothing is allocated for it.
     pub fn from_bytes(alloc: Global, bytes: &[u8]) -> Result<SshSig>
         ensures gives { GivesWhole ssh_signature_of cause (whole ssh_signature_value_at)
             (all_of bytes.now) result }
@@ -144,7 +144,7 @@ type Statement = Then<Namespace, Then<Wide<Bytes>, Then<Wide<HashAlg>, Boxed<Sig
 /// The bytes `SSHSIG`, the version, the key in a string, the namespace, the reserved bytes, the
 /// hash's name, and the signature in a string.
 ///
-/// Fails with `FormatEncoding` for other bytes than `SSHSIG`, `Version` with its number for a
+/// Fails with `FormatEncoding` for other bytes than `SSHSIG`, with `Version` and its number for a
 /// version above 1, with `Namespace` for an empty namespace, with `Label` for the name of no hash,
 /// and as `KeyData` and `Signature` do.
 #[tactic(auto, using(sshkey_format::proofs::Mapped::mapped, crate::specs::SshSignatureFormats::ssh_signature_parts_read), unfolding(sshkey_model::specs::Names::hash_at, sshkey_base::specs::Labels::label_at))]

@@ -1,4 +1,4 @@
-use Rattle.sshkey_model.specs.Certificates.{certificate, plain_certificate, to_be_signed}
+use Rattle.sshkey_model.specs.Certificates.{certificate, plain_choices, to_be_signed}
 use Rattle.sshkey_model.specs.KeyPairs.{LeadingZeros, keypair, pair, plain_pair, scalar}
 use Rattle.sshkey_model.specs.Keys.{Head, key}
 use Rattle.sshkey_model.specs.Options.{options, plain_nestings}
@@ -11,7 +11,7 @@ use Rattle.sshkey_model.proofs.KeyPairReaders.{keypair_reads, pair_reads, plain_
 use Rattle.sshkey_model.proofs.KeyReaders.{body_reads, key_reads}
 use Rattle.sshkey_model.proofs.MpintReaders.{mpint_reads}
 use Rattle.sshkey_model.proofs.NameReaders.{algorithm_reads, curve_reads, hash_reads}
-use Rattle.sshkey_model.proofs.NormalForms.{plain_certificate_has, plain_options_have}
+use Rattle.sshkey_model.proofs.NormalForms.{plain_choices_have, plain_options_have}
 use Rattle.sshkey_model.proofs.OptionReaders.{options_reads}
 use Rattle.sshkey_model.proofs.PointReaders.{point_reads}
 use Rattle.sshkey_model.proofs.PrivateKeyReaders.{plain_private_key_has, private_key_reads}
@@ -70,10 +70,10 @@ pub returns-clause-ends : goal.returns-clause-ends
 returns-clause-ends c = normal_forms end_reads
 
 pub returns-clause-signed_fields : goal.returns-clause-signed_fields
-returns-clause-signed_fields c = plain_forms to_be_signed signed_fields_reads plain_certificate (λ c _. plain_certificate_has c)
+returns-clause-signed_fields c = plain_forms to_be_signed signed_fields_reads plain_choices (λ c _. plain_choices_have c)
 
 pub returns-clause-certificates : goal.returns-clause-certificates
-returns-clause-certificates c = plain_forms certificate certificate_reads (λ c. plain_certificate c.signed) (λ c _. plain_certificate_has c.signed)
+returns-clause-certificates c = plain_forms certificate certificate_reads (λ c. plain_choices c.signed) (λ c _. plain_choices_have c.signed)
 
 pub returns-clause-ciphers : goal.returns-clause-ciphers
 returns-clause-ciphers c = normal_forms cipher_reads

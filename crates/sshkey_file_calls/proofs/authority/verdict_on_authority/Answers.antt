@@ -1,7 +1,7 @@
 use Rattle.std.proofs.Common.{List, ◌≡◌, subst, sym, ◌∙◌}
 use Rattle.std.specs.List.{Any}
-use Rattle.sshkey_entries.specs.Fields.{filled_lines}
-use Rattle.sshkey_entries.specs.HostNames.{known_name}
+use Rattle.sshkey_files.specs.Fields.{filled_lines}
+use Rattle.sshkey_files.specs.HostNames.{known_name}
 use Rattle.sshkey_keys.specs.Keys.{key_of}
 use Rattle.sshkey_public.specs.PublicKeys.{public_of}
 use Rattle.sshkey_public.specs.declared.public_key.PublicKey.{PublicKey}

@@ -1,6 +1,6 @@
 use Rattle.std.proofs.Common.{◌≡◌, List, rules, subst, ℕ}
 use Rattle.sshkey_authorized_keys.specs.OpenSshFaults.{HasLineFault}
-use Rattle.sshkey_entries.specs.OpenSshLines.{IsAuthorizedLine}
+use Rattle.sshkey_files.specs.OpenSshLines.{IsAuthorizedLine}
 use Rattle.sshkey_file_calls.specs.Entries.{FindsEntry, NeedsAuthorizedEntry, TellsFault, of_authorized_key}
 use Rattle.sshkey_file_calls.proofs.entries.authorized_entry.Goals as goal
 

@@ -2,7 +2,7 @@ use Rattle.std.proofs.Common.{inl, inr}
 use Rattle.sshkey_base.specs.Causes.{cause}
 use Rattle.sshkey_authorized_keys.specs.OpenSshEntries.{openssh_entry_of}
 use Rattle.sshkey_authorized_keys.specs.OpenSshFaults.{HasLineFault}
-use Rattle.sshkey_entries.specs.OpenSshLines.{IsAuthorizedLine}
+use Rattle.sshkey_files.specs.OpenSshLines.{IsAuthorizedLine}
 use Rattle.sshkey_file_calls.specs.Entries.{of_authorized_key}
 use Rattle.sshkey_calls.proofs.Kept.{only_memory}
 use Rattle.sshkey_file_calls.proofs.Found.{no_fault, none_found, of_line, told}

@@ -1,6 +1,6 @@
 use Rattle.std.proofs.Common.{◌≡◌, List, rules, subst, ℕ}
 use Rattle.sshkey_known_hosts.specs.OpenSshHosts.{HasLineFault}
-use Rattle.sshkey_entries.specs.OpenSshLines.{IsHostLine}
+use Rattle.sshkey_files.specs.OpenSshLines.{IsHostLine}
 use Rattle.sshkey_file_calls.specs.Entries.{FindsEntry, TellsFault, of_known_host}
 use Rattle.sshkey_file_calls.proofs.entries.known_host.Goals as goal
 

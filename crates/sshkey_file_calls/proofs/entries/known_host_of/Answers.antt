@@ -1,6 +1,6 @@
 use Rattle.sshkey_known_hosts.specs.HostEntries.{known_host_of}
 use Rattle.sshkey_known_hosts.specs.OpenSshHosts.{HasLineFault}
-use Rattle.sshkey_entries.specs.OpenSshLines.{IsHostLine}
+use Rattle.sshkey_files.specs.OpenSshLines.{IsHostLine}
 use Rattle.sshkey_file_calls.specs.Entries.{of_known_host}
 use Rattle.sshkey_file_calls.proofs.Found.{no_fault, none_found, of_line, told}
 use Rattle.sshkey_file_calls.proofs.entries.known_host_of.Goals as goal

@@ -1,5 +1,5 @@
 use Rattle.std.proofs.Common.{Option, ap, option_map, refl, ◌∙◌}
-use Rattle.sshkey_entries.specs.KnownHosts.{hosts_text}
+use Rattle.sshkey_files.specs.KnownHosts.{hosts_text}
 use Rattle.sshkey_known_hosts.specs.HostEntries.{hosts_of, known_host_of, marker_of}
 use Rattle.sshkey_known_hosts.specs.declared.host_patterns.HostPatterns.{HostPatterns}
 use Rattle.sshkey_known_hosts.specs.declared.marker.Marker.{Marker}

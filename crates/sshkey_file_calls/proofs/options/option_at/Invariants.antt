@@ -1,6 +1,6 @@
 use Rattle.std.proofs.Common.{List}
 use Rattle.sshkey_authorized_keys.proofs.FoundOptions.{Behind}
-use Rattle.sshkey_entries.specs.OptionItems.{HasKeyOptions, KeyOption}
+use Rattle.sshkey_files.specs.OptionItems.{HasKeyOptions, KeyOption}
 use Rattle.sshkey_file_calls.specs.Options.{IsCounted}
 use Rattle.sshkey_file_calls.proofs.options.option_at.Given as goal
 

@@ -2,7 +2,7 @@ use Rattle.std.proofs.Common.{◌++◌, ◌≤◌, ℕ, take, length, ap, sym, s
 use Rattle.std.proofs.lemmas.Str.{IsCharBoundary-from_take}
 use Rattle.std.specs.List.{position_or_len}
 use Rattle.std.specs.Str.{IsUtf8, trim_end}
-use Rattle.sshkey_entries.specs.Entries.{is_hash, uncommented}
+use Rattle.sshkey_files.specs.Entries.{is_hash, uncommented}
 use Rattle.sshkey_files.proofs.TextLines.{front_of_front}
 use Rattle.sshkey_files.proofs.entry_lines.split_entry.Goals as goal
 

@@ -1,6 +1,6 @@
 use Rattle.std.proofs.Common.{◌≡◌, ◌++◌, List, ℕ}
 use Rattle.sshkey_files.specs.Answers.{AreEntries}
-use Rattle.sshkey_entries.specs.Entries.{entries}
+use Rattle.sshkey_files.specs.Entries.{entries}
 use Rattle.sshkey_files.proofs.from_line.entries_of_text.Given as goal
 
 -- the entries that were read, and those that are left

@@ -1,5 +1,5 @@
 use Rattle.std.proofs.Common.{◌≡◌, ℕ, ◌<◌, length, drop}
-use Rattle.sshkey_entries.specs.Patterns.{Matches}
+use Rattle.sshkey_files.specs.Patterns.{Matches}
 use Rattle.sshkey_files.specs.LetterCases.{fold_of}
 use Rattle.sshkey_files.proofs.pattern.behind_first.Given as goal
 

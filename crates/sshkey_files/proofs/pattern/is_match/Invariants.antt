@@ -1,5 +1,5 @@
 use Rattle.std.proofs.Common.{◌↔◌, length}
-use Rattle.sshkey_entries.specs.Patterns.{Matches}
+use Rattle.sshkey_files.specs.Patterns.{Matches}
 use Rattle.sshkey_files.specs.LetterCases.{fold_of}
 use Rattle.sshkey_files.specs.Matching.{IsStuck}
 use Rattle.sshkey_files.proofs.pattern.is_match.Given as goal

@@ -1,6 +1,6 @@
 use Rattle.std.proofs.Common.{sym, ◌∙◌, rules}
-use Rattle.sshkey_entries.specs.Items.{patterns}
-use Rattle.sshkey_entries.specs.Patterns.{IsShort, Refuses}
+use Rattle.sshkey_files.specs.Items.{patterns}
+use Rattle.sshkey_files.specs.Patterns.{IsShort, Refuses}
 use Rattle.sshkey_files.specs.LetterCases.{fold_of}
 use Rattle.sshkey_files.proofs.PatternLists.{at_last, no_patterns_left, one_less, refused, too_long}
 use Rattle.sshkey_files.proofs.pattern_list.matches_pattern_list.Goals as goal

@@ -1,8 +1,8 @@
 use Rattle.std.proofs.Common.{◌↔◌, length}
 use denote.Shadow.{shadow}
 use denote.Text.{Utf8}
-use Rattle.sshkey_entries.specs.Items.{patterns}
-use Rattle.sshkey_entries.specs.Patterns.{MatchesList}
+use Rattle.sshkey_files.specs.Items.{patterns}
+use Rattle.sshkey_files.specs.Patterns.{MatchesList}
 use Rattle.sshkey_files.specs.LetterCases.{fold_of}
 use Rattle.sshkey_files.proofs.PatternLists.{StillListed}
 use Rattle.sshkey_files.proofs.pattern_list.matches_pattern_list.Given as goal

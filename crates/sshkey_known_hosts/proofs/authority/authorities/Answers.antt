@@ -1,5 +1,5 @@
 use Rattle.std.proofs.Common.{List, ℕ, [], ◌∷◌, ◌++◌, ap, sym, subst, ◌∙◌, append_assoc, append-nil}
-use Rattle.sshkey_entries.specs.HostNames.{known_name}
+use Rattle.sshkey_files.specs.HostNames.{known_name}
 use Rattle.sshkey_known_hosts.specs.Verdicts.{AreAuthorities, IsAuthorityIn}
 use Rattle.sshkey_known_hosts.proofs.AuthorityKeys.{no_more, one_more}
 use Rattle.sshkey_known_hosts.proofs.authority.authorities.Goals as goal

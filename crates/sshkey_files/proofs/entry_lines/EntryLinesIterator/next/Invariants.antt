@@ -1,7 +1,7 @@
 use Rattle.std.proofs.Common.{◌≡◌, length}
 use Rattle.std.specs.Str.Iter.{lines_rest}
 use Rattle.std.specs.Str.Lines.{lines}
-use Rattle.sshkey_entries.specs.Entries.{entry_lines}
+use Rattle.sshkey_files.specs.Entries.{entry_lines}
 use Rattle.sshkey_files.proofs.entry_lines.EntryLinesIterator.next.Given as goal
 
 -- no line with an entry was passed over

@@ -1,7 +1,7 @@
 use Rattle.std.proofs.Common.{◌≡◌, length}
 use Rattle.std.specs.Str.Iter.{lines_rest}
 use Rattle.std.specs.Str.Lines.{lines}
-use Rattle.sshkey_entries.specs.Fields.{filled_lines}
+use Rattle.sshkey_files.specs.Fields.{filled_lines}
 use Rattle.sshkey_files.proofs.filled_lines.FilledLinesIterator.next.Given as goal
 
 -- no line that counts was passed over

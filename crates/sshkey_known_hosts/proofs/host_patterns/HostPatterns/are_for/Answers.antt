@@ -1,7 +1,7 @@
 use Rattle.std.proofs.Common.{◌≡◌, List, ℕ, sym, subst}
 use Rattle.std.specs.Char.{to_ascii_lowercase}
-use Rattle.sshkey_entries.specs.HostNames.{AreFor}
-use Rattle.sshkey_entries.specs.Patterns.{IsNamed}
+use Rattle.sshkey_files.specs.HostNames.{AreFor}
+use Rattle.sshkey_files.specs.Patterns.{IsNamed}
 use Rattle.sshkey_known_hosts.specs.HostEntries.{hosts_of}
 use Rattle.sshkey_known_hosts.specs.declared.host_patterns.HostPatterns.{HostPatterns}
 use Rattle.sshkey_known_hosts.proofs.host_patterns.HostPatterns.are_for.Goals as goal

@@ -1,5 +1,0 @@
-pub mod Each
-pub mod Gathering
-pub mod Held
-mod Measured
-mod Filled

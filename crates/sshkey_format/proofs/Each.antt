@@ -1,0 +1,84 @@
+-- A loop that reads values up to the end: it leaves less each time, and asks for memory where its first value does, or stands.
+use Rattle.std.proofs.Common.{◌≡◌, ◌≢◌, ◌⊎◌, inl, inr, ◌<◌, ◌+◌, Bool, true, false, ℕ, zero, suc, Option, Some, List, [], ◌∷◌, length, IsOk, Result, Ok, Err, refl, ap, arith}
+use Rattle.std.specs.Prelude.{IsOkAnd}
+use Rattle.std.proofs.lemmas.List.{length-append}
+use Rattle.sshkey_model.specs.Reading.{Fault, Length}
+use Rattle.sshkey_base.specs.Causes.{Cause, NoMemory, Faulty}
+use Rattle.sshkey_base.specs.Formats.{Format}
+use Rattle.sshkey_base.specs.Reading.{IsRefused, Reads}
+use Rattle.sshkey_base.specs.Source.{Later, Source, IsSound, announced_len}
+use Rattle.sshkey_base.specs.Stops.{OverrunsWithin, RanOut, Stopped}
+use Rattle.sshkey_base.proofs.ReadLists.{StillOverruns}
+use Rattle.sshkey_format.specs.Contents.{HasBytes, NeedsEach, OverrunsEach}
+
+pub some_left : (finished : Bool) (n : ℕ) → (n ≡ 0 → finished ≡ true) → finished ≡ false → n ≢ 0
+some_left true n is left none = absurd cc
+some_left false n is left none = let t = is none in absurd cc
+
+-- memory ran out, which is no fault of the bytes
+pub full_refused : {Y : Type 0} (missing : ℕ) (c : Cause) (found : Result Y Fault) → c ≡ NoMemory → IsRefused missing c found
+full_refused missing c found memory = record { fault = λ other sound. absurd (other memory) }
+
+module _ {A : Type 0} (f : Format A) where
+  -- a value that has bytes leaves less
+  pub leaves_less : HasBytes f → (b : List ℕ) (x : A) (rest : List ℕ) → f.read b ≡ Ok (x, rest) → length rest < length b
+  leaves_less shows b x rest e =
+      let t = f.grammar.takes b x rest e in
+      omega (arith, shows x t.0 t.1, ap length t.2, length-append t.0 rest)
+
+  -- Nothing was read yet, or the first value stands there.
+  abbrev pub Begun : Source → Source → Type 0
+  Begun s t = (t ≡ s) ⊎ IsOk (f.read s.left)
+
+  is_ok : {B : Type 0} (r : Result B Fault) (x : B) → r ≡ Ok x → IsOk r
+  is_ok r x e = rw e refl
+
+  module _ (s t : Source) (begun : Begun s t) where
+    pub still_begun : {X : Type 0} (means : X → A) (x : X) (u : Source) → Reads means f.read t x u → IsOk (f.read s.left)
+    still_begun means x u r = elim begun [
+      | inl same ↦ is_ok (f.read s.left) (means x, u.left) (rw (← same) r.value)
+      | inr ok ↦ ok
+    ]
+
+    module _ (later : Later s t) (some : announced_len t ≢ 0) where
+      some_first : 0 < length s.left + s.missing
+      some_first = omega (arith, some, ap length later.left, length-append later.passed t.left, later.missing)
+
+      needed : f.needs t.left t.missing → NeedsEach f s.left s.missing
+      needed want = (
+        some_first,
+        elim begun [
+          | inl same ↦ inl (rw (← same) want)
+          | inr ok ↦ inr ok
+        ],
+      )
+
+      -- a value is refused
+      pub each_asks : (c : Cause) → (c ≡ NoMemory → IsSound t → f.needs t.left t.missing) → c ≡ NoMemory → IsSound s → NeedsEach f s.left s.missing
+      each_asks c asks memory sound = needed (asks memory (rw later.missing sound))
+
+      pub each_stopped : (c : Cause) (before : Option A) → StillOverruns (λ _. f.read) f.overruns (λ _. f.lengths) s before t → Stopped c f.read f.needs f.overruns t → OverrunsEach f s.left s.missing → (c ≡ Faulty Length) ⊎ RanOut c (NeedsEach f) s
+      each_stopped c before still h o = go (still o).0 before t.left refl (still o).1
+        where
+          more : RanOut c f.needs t → RanOut c (NeedsEach f) s
+          more m = record { memory = m.memory; needed = needed m.needed }
+
+          taken : (n : ℕ) (r : Result (A × List ℕ) Fault) → IsOkAnd r (λ x. OverrunsWithin (λ _. f.read) f.overruns n (Some x.0) x.1 t.missing) → IsOk r
+          taken n (Ok x) w = refl
+          taken n (Err e) w = absurd w
+
+          go : (n : ℕ) (before : Option A) (b : List ℕ) → b ≡ t.left → OverrunsWithin (λ _. f.read) f.overruns n before b t.missing → (c ≡ Faulty Length) ⊎ RanOut c (NeedsEach f) s
+          go n before [] is w = absurd w
+          go zero before (d ∷ b) is w = absurd w
+          go (suc n) before (d ∷ b) is (inl w) = elim (h.past (rw is at w)) [
+            | inl passes ↦ inl passes
+            | inr m ↦ inr (more m)
+          ]
+          go (suc n) before (d ∷ b) is (inr w) = inr (more (h.takes (taken n (f.read t.left) (rw is at w))))
+
+      -- there is no memory for a value that was read
+      pub full_needs : {X : Type 0} (means : X → A) (x : X) (u : Source) → Reads means f.read t x u → NeedsEach f s.left s.missing
+      full_needs means x u r = (some_first, inr (still_begun means x u r))
+
+      pub full_stopped : {X : Type 0} (means : X → A) (x : X) (u : Source) (c : Cause) → Reads means f.read t x u → c ≡ NoMemory → (c ≡ Faulty Length) ⊎ RanOut c (NeedsEach f) s
+      full_stopped means x u c r memory = inr (record { memory = memory; needed = full_needs means x u r })

@@ -1,0 +1,122 @@
+-- A loop that reads so many values, one behind the other.
+use Rattle.std.proofs.Common.{◌≡◌, ◌⊎◌, inl, inr, IsOk, ◌≤◌, ◌<◌, ◌-◌, ℕ, suc, List, [], ◌∷◌, ◌++◌, append-nil, append_assoc, length, Result, Ok, Err, refl, ◌∙◌, arith}
+use Rattle.std.proofs.lemmas.List.{length-append}
+use Rattle.std.proofs.lemmas.Result.{err_from_is_err_and}
+use Rattle.sshkey_model.specs.Reading.{Fault, ◌>>=◌, Front}
+use Rattle.sshkey_base.specs.Causes.{Cause, NoMemory}
+use Rattle.sshkey_base.specs.Formats.{Format}
+use Rattle.sshkey_base.specs.Reading.{Reads, IsRefused}
+use Rattle.sshkey_base.specs.Source.{Source, IsSound}
+use Rattle.sshkey_base.specs.Stops.{NoOverrun, Stopped}
+use Rattle.sshkey_base.proofs.Stopping.{step_ok}
+use Rattle.sshkey_format.specs.Counted.{NeedsValues, times_at}
+
+abbrev onto : {A : Type 0} → List A → List A × List ℕ → Result (List A × List ℕ) Fault
+onto done xs = Ok (done ++ xs.0, xs.1)
+
+module _ {A : Type 0} (f : Format A) where
+  abbrev item : Front A
+  item = f.read
+
+  same_step : (r : Result (List A × List ℕ) Fault) → r ≡ (r >>= onto [])
+  same_step (Ok xs) = refl
+  same_step (Err e) = refl
+
+  one_more : (k : ℕ) (b rest : List ℕ) (x : A) (done : List A) → item b ≡ Ok (x, rest) → (times_at item (suc k) b >>= onto done) ≡ (times_at item k rest >>= onto (done ++ x ∷ []))
+  unfolding times_at
+  one_more k b rest x done e = rw e (go (times_at item k rest))
+    where
+      go : (r : Result (List A × List ℕ) Fault) → ((r >>= λ xs. Ok (x ∷ xs.0, xs.1)) >>= onto done) ≡ (r >>= onto (done ++ x ∷ []))
+      go (Ok xs) = rw append_assoc refl
+      go (Err e) = refl
+
+  refused_step : (k : ℕ) (b : List ℕ) (e : Fault) (done : List A) → item b ≡ Err e → (times_at item (suc k) b >>= onto done) ≡ Err e
+  unfolding times_at
+  refused_step k b e done is = rw is refl
+
+  last_step : (b : List ℕ) (done : List A) → (times_at item 0 b >>= onto done) ≡ Ok (done, b)
+  unfolding times_at
+  last_step b done = rw append-nil refl
+
+  first_ok : (k : ℕ) (b : List ℕ) (done : List A) → IsOk (times_at item (suc k) b >>= onto done) → IsOk (item b)
+  unfolding times_at
+  first_ok k b done ok = step_ok (item b) _ (step_ok (times_at item (suc k) b) (onto done) ok)
+
+  is_ok : {B : Type 0} (r : Result B Fault) (x : B) → r ≡ Ok x → IsOk r
+  is_ok r x e = rw e refl
+
+  -- The values so far stand before what is left, and those behind them decide.
+  pub record Gathers (n : ℕ) (s : Source) (done : List A) (t : Source) : Type 0 where
+    pub missing : t.missing ≡ s.missing
+    pub outer : t.outer ≡ s.outer
+    pub rest : times_at item n s.left ≡ (times_at item (n - length done) t.left >>= onto done)
+    pub begun : (t ≡ s) ⊎ IsOk (item s.left)
+
+  pub gathers_none : (n : ℕ) (s : Source) → Gathers n s [] s
+  gathers_none n s =
+      let all : n - 0 ≡ n = omega arith in
+      record { missing = refl; outer = refl; rest = rw all (same_step (times_at item n s.left)); begun = inl refl }
+
+  module _ (n : ℕ) (s t : Source) (done : List A) (h : Gathers n s done t) where
+    stands : {X : Type 0} (means : X → A) (x : X) (u : Source) → Reads means item t x u → IsOk (item s.left)
+    stands means x u r = elim h.begun [
+      | inl same ↦ is_ok (item s.left) (means x, u.left) (rw (← same) r.value)
+      | inr ok ↦ ok
+    ]
+
+    pub gathers_more : {X : Type 0} (means : X → A) (x : X) (u : Source) → length done < n → Reads means item t x u → Gathers n s (done ++ means x ∷ []) u
+    gathers_more means x u lt r =
+        let k = n - length (done ++ means x ∷ []) in
+        let is : n - length done ≡ suc k = omega (arith, length-append done (means x ∷ [])) in
+        let step : (times_at item (n - length done) t.left >>= onto done) ≡ (times_at item k u.left >>= onto (done ++ means x ∷ [])) = rw is (one_more k t.left u.left (means x) done r.value) in
+        record { missing = r.missing ∙ h.missing; outer = r.outer ∙ h.outer; rest = h.rest ∙ step; begun = inr (stands means x u r) }
+
+    pub gathers_end : {V : Type 0} (means : V → List A) (v : V) → means v ≡ done → n ≤ length done → Reads means (times_at item n) s v t
+    gathers_end means v is all =
+        let none : n - length done ≡ 0 = omega arith in
+        let step : (times_at item (n - length done) t.left >>= onto done) ≡ Ok (done, t.left) = rw none (last_step t.left done) in
+        record { value = rw is (h.rest ∙ step); missing = h.missing; outer = h.outer }
+
+    more : length done < n → n - length done ≡ suc (n - suc (length done))
+    more lt = omega arith
+
+    pub gathers_refused : (c : Cause) → length done < n → IsRefused t.missing c (item t.left) → IsRefused s.missing c (times_at item n s.left)
+    gathers_refused c lt r = record {
+      fault = λ other sound.
+          let m = h.missing in
+          let f = err_from_is_err_and (item t.left) (r.fault other (m ∙ sound)) in
+          let step : (times_at item (n - length done) t.left >>= onto done) ≡ Err f.0 = rw (more lt) (refused_step (n - suc (length done)) t.left f.0 done f.1) in
+          let e : times_at item n s.left ≡ Err f.0 = h.rest ∙ step in
+          rw e f.2;
+    }
+
+    needed : length done < n → f.needs t.left t.missing → NeedsValues f n s.left s.missing
+    needed lt want = (
+      omega arith,
+      elim h.begun [
+        | inl same ↦ inl (rw (← same) want)
+        | inr ok ↦ inr ok
+      ],
+    )
+
+    pub gathers_asks : (c : Cause) → length done < n → (c ≡ NoMemory → IsSound t → f.needs t.left t.missing) → c ≡ NoMemory → IsSound s → NeedsValues f n s.left s.missing
+    gathers_asks c lt asks memory sound = needed lt (asks memory (h.missing ∙ sound))
+
+    pub gathers_stopped : (c : Cause) → length done < n → Stopped c item f.needs f.overruns t → Stopped c (times_at item n) (NeedsValues f n) NoOverrun s
+    gathers_stopped c lt k = record {
+      takes = λ ok.
+          let inner : IsOk (times_at item (suc (n - suc (length done))) t.left >>= onto done) = rw (h.rest, more lt) at ok in
+          let m = k.takes (first_ok (n - suc (length done)) t.left done inner) in
+          record { memory = m.memory; needed = needed lt m.needed };
+      past = λ o. absurd o;
+    }
+
+    -- there is no memory for a value that was read
+    pub gathers_full : {X : Type 0} (means : X → A) (x : X) (u : Source) (c : Cause) → length done < n → Reads means item t x u → c ≡ NoMemory → Stopped c (times_at item n) (NeedsValues f n) NoOverrun s
+    gathers_full means x u c lt r memory = record {
+      takes = λ ok. record { memory = memory; needed = (omega arith, inr (stands means x u r)) };
+      past = λ o. absurd o;
+    }
+
+    pub full_needs : {X : Type 0} (means : X → A) (x : X) (u : Source) → length done < n → Reads means item t x u → NeedsValues f n s.left s.missing
+    full_needs means x u lt r = (omega arith, inr (stands means x u r))

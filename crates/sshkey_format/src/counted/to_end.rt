@@ -1,0 +1,38 @@
+//! How values are read up to the end of a reader.
+
+ghost use Rattle.std.specs.Prelude.{map};
+ghost use Rattle.sshkey_base.specs.Needs.{Asks};
+ghost use Rattle.sshkey_base.specs.Reading.{Gives};
+ghost use Rattle.sshkey_base.specs.Source.{Later};
+ghost use Rattle.sshkey_format.specs.Contents.{HasBytes, NeedsEach, OverrunsEach, StopsInBy, each_at};
+
+use crate::counted::read::add;
+use sshkey_base::{Decode, Reader};
+use std::alloc::Global;
+
+/// Reads values, one after the other, up to the end of the reader: what [`encode_each`] writes,
+/// where nothing follows it.
+///
+/// Fails with the first error of a value. Memory is asked for only once the first value stands
+/// there, or needs some.
+///
+/// [`encode_each`]: crate::encode_each
+#[tactic(auto, using(sshkey_base::proofs::Places::places))]
+pub fn decode_each<T: Decode + Drop, R: Reader>(
+    alloc: Global,
+    reader: &mut R,
+) -> Result<Vec<T>, T::Error>
+    requires { HasBytes T.format }
+    ensures gives { Gives (λ v. map T.means v.items) T.Error.cause (each_at T.format)
+        (R.source reader.old) result (R.source reader.new) }
+    ensures later { Later (R.source reader.old) (R.source reader.new) }
+    ensures asks { Asks T.Error.cause (NeedsEach T.format) (R.source reader.old) result }
+    ensures past { StopsInBy T.Error.cause (NeedsEach T.format) (OverrunsEach T.format)
+        (R.source reader.old) result }
+{
+    let mut values = Vec::new(alloc);
+    'reads: while !reader.is_finished() {
+        add(&mut values, T::decode(alloc, reader)?)?;
+    }
+    Ok(values)
+}
