@@ -3,4 +3,3 @@ pub mod Parts
 pub mod Records
 pub mod Requests
 pub mod Responses
-pub mod Signing

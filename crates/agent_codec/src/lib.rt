@@ -6,7 +6,6 @@
 #![tactic(auto)]
 
 mod addition;
-mod agent_key;
 mod constraint;
 mod frame;
 mod identity;
@@ -18,7 +17,6 @@ mod response;
 mod sign_request;
 
 pub use addition::Addition;
-pub use agent_key::{Agent, AgentKey};
 pub use constraint::Constraint;
 pub use identity::Identity;
 pub use request::Request;

@@ -19,7 +19,9 @@ use crate::numbers::{
 use crate::sign_request::SignRequest;
 use constrained::{constrained_len, encode_constrained};
 use kind::RequestKind;
-use read::{bytes_from, constrained_from};
+use read::{
+    addition_from, constrained_from, lock_from, removal_from, sign_request_from, unlock_from,
+};
 use ssh_key::encoding::{Bytes, Decode, Encode, NormalForm, Reader, Writer, encode_both};
 use ssh_key::{Error, Result, encoding};
 use std::alloc::Global;
@@ -121,18 +123,16 @@ impl Framed for Request {
 
     ghost message = { request };
 
-    #[tactic(auto, using(ssh_key::proofs::Places::places, ssh_key::proofs::Mapped::mapped, crate::specs::Parts::checked_read, crate::proofs::Frames::nothing_reads))]
+    #[tactic(auto, using(ssh_key::proofs::Places::places, crate::proofs::Frames::nothing_reads))]
     fn body_from<R: Reader>(alloc: Global, reader: &mut R, kind: RequestKind) -> Result<Request> {
         match kind {
             RequestKind::RequestIdentities => Ok(Request::RequestIdentities),
-            RequestKind::SignRequest => {
-                Ok(Request::SignRequest(SignRequest::decode(alloc, reader)?))
-            }
-            RequestKind::AddIdentity => Ok(Request::AddIdentity(Addition::decode(alloc, reader)?)),
-            RequestKind::RemoveIdentity => Ok(Request::RemoveIdentity(bytes_from(alloc, reader)?)),
+            RequestKind::SignRequest => sign_request_from(alloc, reader),
+            RequestKind::AddIdentity => addition_from(alloc, reader),
+            RequestKind::RemoveIdentity => removal_from(alloc, reader),
             RequestKind::RemoveAllIdentities => Ok(Request::RemoveAllIdentities),
-            RequestKind::Lock => Ok(Request::Lock(bytes_from(alloc, reader)?)),
-            RequestKind::Unlock => Ok(Request::Unlock(bytes_from(alloc, reader)?)),
+            RequestKind::Lock => lock_from(alloc, reader),
+            RequestKind::Unlock => unlock_from(alloc, reader),
             RequestKind::AddIdentityConstrained => constrained_from(alloc, reader),
         }
     }

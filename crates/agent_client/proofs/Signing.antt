@@ -17,7 +17,7 @@ use Rattle.ssh_key.proofs.Writing.{boxes_short}
 use Rattle.agent_codec.specs.Requests.{to_sign}
 use Rattle.agent_codec.specs.Responses as model
 use Rattle.agent_codec.specs.Responses.{given_of, response_format, response_of}
-use Rattle.agent_codec.specs.Signing.{GetsNone, GetsSignature, IsAnswered, IsRefusalOf, ReadsSignature, RefusesToSign, SpellsAnswer, signing_request}
+use Rattle.agent_client.specs.Signing.{GetsNone, GetsSignature, IsAnswered, IsRefusalOf, ReadsSignature, RefusesToSign, SpellsAnswer, signing_request}
 use Rattle.agent_codec.specs.declared.response.Response as code
 use Rattle.agent_codec.specs.declared.response.Response.TheVariants as variants
 

@@ -2,8 +2,8 @@ use Rattle.std.proofs.lemmas.Result.{err_from_is_err_and}
 use Rattle.std.proofs.Common.{refl, sym, ◌∙◌}
 use Rattle.ssh_key.proofs.Acceptance.{other_cause}
 use Rattle.agent_codec.specs.Responses.{Signed}
-use Rattle.agent_codec.proofs.Signing.{none_given, some_given}
-use Rattle.agent_codec.proofs.agent_key.signature_from.Goals as goal
+use Rattle.agent_client.proofs.Signing.{none_given, some_given}
+use Rattle.agent_client.proofs.agent_key.signature_from.Goals as goal
 
 pub returns-in_err-decode_whole : goal.returns-in_err-decode_whole
 returns-in_err-decode_whole c =

@@ -2,8 +2,8 @@ use Rattle.std.proofs.Common.{◌∙◌, ap}
 use Rattle.std.proofs.lemmas.Result.{err_from_is_err_and}
 use Rattle.ssh_key.specs.keys.Keys.{key_of}
 use Rattle.ssh_key.specs.model.Parts.{flat}
-use Rattle.agent_codec.proofs.Signing.{key_short, not_written, same_request}
-use Rattle.agent_codec.proofs.agent_key.AgentKey.request_for.Goals as goal
+use Rattle.agent_client.proofs.Signing.{key_short, not_written, same_request}
+use Rattle.agent_client.proofs.agent_key.AgentKey.request_for.Goals as goal
 
 pub returns-in_err-encode_vec-clause-refused : goal.returns-in_err-encode_vec-clause-refused
 returns-in_err-encode_vec-clause-refused g c =

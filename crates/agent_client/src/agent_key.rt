@@ -7,11 +7,9 @@ ghost use Rattle.ssh_key.specs.model.Parts.{flat, BoxesFit};
 ghost use Rattle.ssh_key.specs.model.Verification.{IsAccepted};
 ghost use Rattle.ssh_key.specs.types.Error.{Error};
 ghost use Rattle.ssh_key.specs.types.Error.TheVariants.{Memory};
-ghost use Rattle.agent_codec.specs.Signing.{GetsSignature, IsAnswered, IsRefusalOf, ReadsSignature, RefusesToSign, handed, signing_request};
+ghost use Rattle.agent_client.specs.Signing.{GetsSignature, IsAnswered, IsRefusalOf, ReadsSignature, RefusesToSign, handed, signing_request};
 
-use crate::request::Request;
-use crate::response::Response;
-use crate::sign_request::SignRequest;
+use agent_codec::{Request, Response, SignRequest};
 use ssh_key::encoding::{Bytes, decode_whole, encode_vec};
 use ssh_key::public::KeyData;
 use ssh_key::{Error, RawVerifier, Result, Signature, SigningKey};

@@ -1,6 +1,6 @@
 use Rattle.ssh_key.specs.keys.Keys.{key_of}
-use Rattle.agent_codec.proofs.Signing.{refused_none, refused_one}
-use Rattle.agent_codec.proofs.agent_key.AgentKeySigningKey.try_sign.Goals as goal
+use Rattle.agent_client.proofs.Signing.{refused_none, refused_one}
+use Rattle.agent_client.proofs.agent_key.AgentKeySigningKey.try_sign.Goals as goal
 
 pub returns-in-Err-clause-refused : goal.returns-in-Err-clause-refused
 returns-in-Err-clause-refused g c = refused_none _ (g.V.RawVerifier.accepts c.args.self.now.verifier.now) (key_of c.args.self.now.key) c.args.self.now.flags c.args.message.now _ _ c.in-Err.ensures c.refusal_of.ensures

@@ -1,7 +1,7 @@
 use Rattle.std.proofs.Common.{inl, ◌∙◌}
 use Rattle.std.proofs.lemmas.Result.{err_from_is_err_and}
-use Rattle.agent_codec.proofs.Signing.{agent_failed, answer_read}
-use Rattle.agent_codec.proofs.agent_key.AgentKey.ask.Goals as goal
+use Rattle.agent_client.proofs.Signing.{agent_failed, answer_read}
+use Rattle.agent_client.proofs.agent_key.AgentKey.ask.Goals as goal
 
 pub returns-in_err-request : goal.returns-in_err-request
 returns-in_err-request g c =

@@ -1,0 +1,25 @@
+use Rattle.std.proofs.Common.{Ok, refl}
+use Rattle.std.proofs.lemmas.Result.{err_from_is_err_and}
+use Rattle.ssh_key.proofs.Mapped.{mapped_reads, mapped_refused}
+use Rattle.agent_codec.specs.Parts.{checked_read}
+use Rattle.agent_codec.specs.Records.{SignRequest, sign_request_format}
+use Rattle.agent_codec.specs.Requests.{Sign, request_of}
+use Rattle.agent_codec.proofs.request.read.sign_request_from.Goals as goal
+
+pub returns-in_err-request-clause-gives : goal.returns-in_err-request-clause-gives
+returns-in_err-request-clause-gives g c =
+    let p = err_from_is_err_and c.from_residual.result c.from_residual.ensures.1 in
+    rw (p.1, p.2) (mapped_refused _ _ _ _ _ _ (checked_read (λ (r : SignRequest). Ok (Sign r)) sign_request_format.read) c.in_err-request.ensures.gives)
+
+pub returns-in_err-request-clause-asks : goal.returns-in_err-request-clause-asks
+returns-in_err-request-clause-asks g c =
+    let p = err_from_is_err_and c.from_residual.result c.from_residual.ensures.1 in
+    rw (p.1, p.2) c.in_err-request.ensures.asks
+
+pub returns-in_err-request-clause-past : goal.returns-in_err-request-clause-past
+returns-in_err-request-clause-past g c =
+    let p = err_from_is_err_and c.from_residual.result c.from_residual.ensures.1 in
+    rw (p.1, p.2) c.in_err-request.ensures.past.past
+
+pub returns-clause-gives : goal.returns-clause-gives
+returns-clause-gives g c = mapped_reads _ _ _ _ _ _ _ request_of _ c.in_ok-request.ensures.gives (checked_read (λ (r : SignRequest). Ok (Sign r)) sign_request_format.read) refl
