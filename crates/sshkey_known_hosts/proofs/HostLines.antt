@@ -14,8 +14,9 @@ use Rattle.sshkey_files.proofs.Fields.{same_field}
 use Rattle.sshkey_files.proofs.OneOpenSshLine.{one_marked}
 use Rattle.sshkey_files.specs.Cuts.{CutsField}
 use Rattle.sshkey_files.specs.KeyFields.{HasKeyFault}
-use Rattle.sshkey_known_hosts.specs.HostFaults.{RefusesHosts}
-use Rattle.sshkey_known_hosts.specs.OpenSshHosts.{HasHostsField, HasTextFault, HasLineFault}
+use Rattle.sshkey_known_hosts.specs.HostFaults.{HasNoParts, RefusesHosts}
+use Rattle.sshkey_known_hosts.proofs.Hosts.{have_parts}
+use Rattle.sshkey_known_hosts.specs.OpenSshHosts.{HasHostsField, HasTextFault, HasLineFault, NeedsHostLine}
 
 -- ---- markers
 
@@ -103,6 +104,20 @@ module _ (line text : List ℕ) (is : text ≡ without_blanks line) where
       pub bad_host_key : (e : Error) → (cause e ≢ NoMemory → AreNoKeyFields fields) → cause e ≢ NoMemory → IsNoEntry IsHostLine line
       bad_host_key e none other h k = none other h.key h.comment (subst (λ (t : List ℕ). AreKeyFields t h.key h.comment) (ap without_blanks (sym (parts h k).1) ∙ sym skips) k.fields)
 
+      pub line_needs : (HasNoParts hosts → ⊥) → NeedsHostLine line
+      line_needs some = record {
+        hosts = hosts;
+        rest = rest;
+        no_comment = not_comment;
+        field = record {
+          marker = m;
+          marked = subst (IsMarkedLine m (without_blanks line)) cut.is (subst (λ (t : List ℕ). IsMarkedLine m t unmarked) is is_marked);
+          one_word = cut.one_word;
+          ends = cut.ends;
+        };
+        some = some;
+      }
+
       pub line_read : (h : KnownHost) → m ≡ h.marker → IsHosts hosts h.hosts → AreKeyFields fields h.key h.comment → IsHostLine line h
       line_read h same are key = record {
         hosts_part = hosts;
@@ -114,3 +129,13 @@ module _ (line text : List ℕ) (is : text ≡ without_blanks line) where
         hosts = are;
         fields = subst (λ (t : List ℕ). AreKeyFields t h.key h.comment) skips key;
       }
+
+-- An entry needs memory.
+pub entry_needs : (line : List ℕ) (h : KnownHost) → IsHostLine line h → NeedsHostLine line
+entry_needs line h k = record {
+  hosts = k.hosts_part;
+  rest = k.behind_hosts;
+  no_comment = k.no_comment;
+  field = record { marker = h.marker; marked = k.marked; one_word = k.one_word; ends = k.hosts_end };
+  some = have_parts k.hosts_part h.hosts k.hosts;
+}

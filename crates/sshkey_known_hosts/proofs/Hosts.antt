@@ -18,19 +18,30 @@ use Rattle.sshkey_model.proofs.Base64Words.{one_blob}
 use Rattle.sshkey_model.proofs.LineCuts.{one_front}
 use Rattle.sshkey_files.specs.Entries.{IsNoEntry}
 use Rattle.sshkey_files.specs.Items.{patterns, without_empty_last, is_comma}
-use Rattle.sshkey_files.specs.KnownHosts.{HashedName, Patterns, IsHosts, IsHashedName, hashed_mark, hashed_text, bar}
+use Rattle.sshkey_files.specs.KnownHosts.{Hosts, HashedName, Patterns, IsHosts, IsHashedName, hashed_mark, hashed_text, bar}
 use Rattle.sshkey_files.proofs.OneHost.{bar_not}
 use Rattle.sshkey_files.specs.Answers.{ReadsEntry}
 use Rattle.sshkey_known_hosts.specs.HostEntries.{hosts_of, ReadsHashed}
 use Rattle.sshkey_known_hosts.specs.declared.host_patterns.HostPatterns.{HostPatterns}
-use Rattle.sshkey_known_hosts.specs.HostFaults.{HasNoBar, HasNoBase64, HasOtherSize, IsNoBase64, RefusesHosts}
+use Rattle.sshkey_known_hosts.specs.HostFaults.{HasNoBar, HasNoBase64, HasNoParts, HasOtherSize, IsNoBase64, RefusesHosts}
 use Rattle.sshkey_files.proofs.Cuts.{kept_first, kept_last}
 
 -- ---- a hashed name
 
+-- Behind two words the bar between them stands.
+parted : (salt hash rest : List ℕ) → hashed_mark ++ (salt ++ (bar ∷ hash)) ≡ hashed_mark ++ rest → IsWithout bar rest → ⊥
+parted salt hash rest is without =
+    let same : rest ≡ salt ++ (bar ∷ hash) = ap (drop 3) (sym is) in
+    without (length salt) (omega (arith, ap length same, length-append salt (bar ∷ hash)))
+    (ap (λ (l : List ℕ). slice_index l (length salt)) same ∙ get_or-append_seam salt bar hash 0)
+
 module _ (text : List ℕ) (salt_word hash_word : Bor (List ℕ)) (cut : IsSplitOnceResult bar text (Some (salt_word, hash_word))) where
   two_words : (hashed_mark ++ text ≡ hashed_mark ++ (salt_word.now ++ (bar ∷ hash_word.now))) × IsWithout bar salt_word.now
   two_words = let parts = split_parts bar text (Some (salt_word, hash_word)) cut (omega arith) in (ap (λ (t : List ℕ). hashed_mark ++ t) parts.0, parts.1)
+
+  both_stand : HasNoParts (hashed_mark ++ text) → ⊥
+  both_stand (inl empty) = omega (arith, ap length empty, length-append hashed_mark text)
+  both_stand (inr x) = parted salt_word.now hash_word.now x.0 (sym two_words.0 ∙ x.1) x.2
 
   module _ (salt hash : List ℕ) (salt_is : salt_word.now ≡ encode_of standard salt) (salt_bytes : IsBytes salt) (hash_is : hash_word.now ≡ encode_of standard hash) (hash_bytes : IsBytes hash) where
     hashed_is : hashed_mark ++ text ≡ hashed_text salt hash
@@ -44,7 +55,7 @@ module _ (text : List ℕ) (salt_word hash_word : Bor (List ℕ)) (cut : IsSplit
 
   word_fault : (e : Error) (word : List ℕ) → (IsNoBase64 word → IsNoBase64 salt_word.now ⊎ IsNoBase64 hash_word.now) → (e ≡ Memory) ⊎ ((e ≡ Encoding Base64) × IsNoBase64 word) → RefusesHosts (hashed_mark ++ text) e
   word_fault e word which why = elim why [
-    | inl full ↦ subst (RefusesHosts (hashed_mark ++ text)) (sym full) tt
+    | inl full ↦ subst (RefusesHosts (hashed_mark ++ text)) (sym full) both_stand
     | inr bad ↦ subst (RefusesHosts (hashed_mark ++ text)) (sym bad.0) (record { salt = salt_word.now; hash = hash_word.now; is = two_words.0; one_word = two_words.1; none = which bad.1 })
   ]
 
@@ -69,10 +80,7 @@ empty_hosts text empty (Patterns ps) h = omega (arith, ap length empty, h.some)
 empty_hosts text empty (HashedName salt hash) h = omega (arith, ap length empty, ap length h.is, length-append hashed_mark (encode_of standard salt ++ (bar ∷ encode_of standard hash)))
 
 unbarred_hosts : (text : List ℕ) → HasNoBar text → IsNoEntry IsHosts text
-unbarred_hosts text x = only_hashed text x.0 x.1 (λ salt hash h.
-    let rest : x.0 ≡ encode_of standard salt ++ (bar ∷ encode_of standard hash) = ap (drop 3) (sym x.1 ∙ h.is) in
-    x.2 (length (encode_of standard salt)) (omega (arith, ap length rest, length-append (encode_of standard salt) (bar ∷ encode_of standard hash)))
-    (ap (λ (l : List ℕ). slice_index l (length (encode_of standard salt))) rest ∙ get_or-append_seam (encode_of standard salt) bar (encode_of standard hash) 0))
+unbarred_hosts text x = only_hashed text x.0 x.1 (λ salt hash h. parted (encode_of standard salt) (encode_of standard hash) x.0 (sym h.is ∙ x.1) x.2)
 
 -- the words of a hashed name are cut at the one bar
 same_words : (text first second salt hash : List ℕ) → text ≡ hashed_mark ++ (first ++ (bar ∷ second)) → IsWithout bar first → text ≡ hashed_text salt hash → (first ≡ encode_of standard salt) × (second ≡ encode_of standard hash)
@@ -104,3 +112,18 @@ refused_is_none text e x other = absurd x
 pub reads_behind_mark : (text rest : List ℕ) (r : Result HostPatterns Error) → text ≡ hashed_mark ++ rest → ReadsHashed rest r → ReadsEntry hosts_of IsHosts text r
 reads_behind_mark text rest (Ok h) is x = subst (λ (t : List ℕ). IsHosts t (hosts_of h)) (sym is) x
 reads_behind_mark text rest (Err e) is x = λ other. subst (IsNoEntry IsHosts) (sym is) (refused_is_none (hashed_mark ++ rest) e x other)
+
+-- ---- memory
+
+-- Hosts have parts.
+pub have_parts : (text : List ℕ) (h : Hosts) → IsHosts text h → HasNoParts text → ⊥
+have_parts text h is (inl empty) = empty_hosts text empty h is
+have_parts text h is (inr unbarred) = unbarred_hosts text unbarred h is
+
+-- and so has a text that was refused for memory
+pub refused_parts : (text : List ℕ) (e : Error) → RefusesHosts text e → cause e ≡ NoMemory → HasNoParts text → ⊥
+refused_parts text Memory x memory = x
+refused_parts text FormatEncoding x memory = cc memory
+refused_parts text (Encoding Base64) x memory = cc memory
+refused_parts text (Encoding Length) x memory = cc memory
+refused_parts text e x memory = absurd x

@@ -11,7 +11,7 @@ use Rattle.sshkey_model.specs.Lines.{space, IsKeyLine, IsWithout}
 use Rattle.sshkey_files.proofs.OneHost.{one_marker}
 use Rattle.sshkey_files.specs.AuthorizedKeys.{IsNoKeyLine}
 use Rattle.sshkey_files.specs.KnownHosts.{Marker, Hosts, IsHosts, KnownHost, IsMarked, IsKnownHost}
-use Rattle.sshkey_known_hosts.specs.HostFaults.{HasFault, RefusesHosts}
+use Rattle.sshkey_known_hosts.specs.HostFaults.{HasFault, HasNoParts, NeedsLine, RefusesHosts}
 
 module _ (entry : List ℕ) (m : Option Marker) (unmarked : List ℕ) (marked : IsMarked m entry unmarked) where
   behind : (h : KnownHost) (k : IsKnownHost entry h) → unmarked ≡ k.hosts_part ++ (space ∷ k.rest)
@@ -29,6 +29,11 @@ module _ (entry : List ℕ) (m : Option Marker) (unmarked : List ℕ) (marked : 
 
     pub bad_host_key : (e : Error) → (cause e ≢ NoMemory → IsNoKeyLine rest.now) → cause e ≢ NoMemory → (h : KnownHost) → IsKnownHost entry h → ⊥
     bad_host_key e none other h k = none other h.key h.comment (subst (λ (t : List ℕ). IsKeyLine t h.key h.comment) (sym (parts h k).1) k.line)
+
+    pub line_needs : (HasNoParts hosts.now → ⊥) → NeedsLine entry
+    line_needs some =
+        let at = split_parts space unmarked (Some (hosts, rest)) cut (omega arith) in
+        record { marker = m; hosts = hosts.now; rest = rest.now; is = subst (IsMarked m entry) at.0 marked; one_word = at.1; some = some }
 
     pub known : (x : Hosts) (key : Key) (comment : List ℕ) → IsHosts hosts.now x → IsKeyLine rest.now key comment → IsKnownHost entry (record { marker = m; hosts = x; key = key; comment = comment })
     known x key comment is line =

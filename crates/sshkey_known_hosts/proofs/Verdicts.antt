@@ -54,6 +54,10 @@ module _ {X : Type 0} (P : X → Type 0) (line : X) where
 
 -- ---- verdicts
 
+pub no_lines : (lines : List (List ℕ)) → (0 < length lines → ⊥) → lines ≡ []
+no_lines [] none = refl
+no_lines (line ∷ lines) none = absurd (none (omega arith))
+
 module _ (hmac : List ℕ → List ℕ → List ℕ) (name : List ℕ) (key : Key) where
   known_one : (lines : List (List ℕ)) → IsListed hmac name key lines → IsKnown hmac name lines
   known_one lines s = (s.0, s.1, s.2, s.3, (key, s.4))

@@ -17,6 +17,10 @@ IsNoBase64 word = (b : List ℕ) → IsBytes b → word ≡ encode_of standard b
 abbrev pub HasNoBar : List ℕ → Type 0
 HasNoBar text = (rest : List ℕ) × (text ≡ hashed_mark ++ rest) × IsWithout bar rest
 
+-- Neither patterns stand in it, nor two words behind the mark.
+abbrev pub HasNoParts : List ℕ → Type 0
+HasNoParts text = (text ≡ []) ⊎ HasNoBar text
+
 -- the mark and two words, of which one is no Base64
 pub record HasNoBase64 (text : List ℕ) : Type 0 where
   pub salt : List ℕ
@@ -34,12 +38,12 @@ pub record HasOtherSize (text : List ℕ) : Type 0 where
   pub hash_bytes : IsBytes hash
   pub size : length hash ≢ 20
 
--- for each error, where a text is refused with it
+-- For each error, where a text is refused with it: only parts of hosts need memory.
 abbrev pub RefusesHosts : List ℕ → Error → Type 0
-RefusesHosts text FormatEncoding = (text ≡ []) ⊎ HasNoBar text
+RefusesHosts text FormatEncoding = HasNoParts text
 RefusesHosts text (Encoding Base64) = HasNoBase64 text
 RefusesHosts text (Encoding Length) = HasOtherSize text
-RefusesHosts text Memory = Unit {0}
+RefusesHosts text Memory = HasNoParts text → ⊥
 RefusesHosts text _ = ⊥
 
 -- `FormatEncoding` for another marker and for a space that is missing behind the hosts, and then the fault of the hosts. Of others the fault of the key's line is open.
@@ -47,3 +51,14 @@ pub record HasFault (line : List ℕ) (e : Error) : Type 0 where
   pub no_marker : ((m : Option Marker) (rest : List ℕ) → IsMarked m line rest → ⊥) → e ≡ FormatEncoding
   pub no_space : (m : Option Marker) (rest : List ℕ) → IsMarked m line rest → IsWithout space rest → e ≡ FormatEncoding
   pub no_hosts : (m : Option Marker) (hosts rest : List ℕ) → IsMarked m line (hosts ++ (space ∷ rest)) → IsWithout space hosts → IsNoEntry IsHosts hosts → RefusesHosts hosts e
+
+-- ---- memory
+
+-- Reading the line needs memory: behind a marker or none, parts of hosts stand before a space.
+pub record NeedsLine (line : List ℕ) : Type 0 where
+  pub marker : Option Marker
+  pub hosts : List ℕ
+  pub rest : List ℕ
+  pub is : IsMarked marker line (hosts ++ (space ∷ rest))
+  pub one_word : IsWithout space hosts
+  pub some : HasNoParts hosts → ⊥

@@ -9,7 +9,7 @@ use Rattle.sshkey_files.specs.KnownHosts.{Hosts, IsHosts}
 use Rattle.sshkey_files.specs.OpenSshLines.{IsMarkedLine}
 use Rattle.sshkey_files.specs.KeyFields.{HasKeyFault}
 use Rattle.sshkey_known_hosts.specs.HostEntries.{marker_of}
-use Rattle.sshkey_known_hosts.specs.HostFaults.{RefusesHosts}
+use Rattle.sshkey_known_hosts.specs.HostFaults.{HasNoParts, RefusesHosts}
 use Rattle.sshkey_known_hosts.specs.declared.marker.Marker.{Marker}
 use denote.Ref.{Bor}
 
@@ -35,3 +35,13 @@ pub record HasTextFault (text : List ℕ) (e : Error) : Type 0 where
 pub record HasLineFault (line : List ℕ) (e : Error) : Type 0 where
   pub comment : slice_index (without_blanks line) 0 ≡ hash → e ≡ FormatEncoding
   pub text : slice_index (without_blanks line) 0 ≢ hash → HasTextFault (without_blanks line) e
+
+-- ---- memory
+
+-- Reading the line needs memory: it is no comment, and parts of hosts stand in it, behind a marker or none.
+pub record NeedsHostLine (line : List ℕ) : Type 0 where
+  pub hosts : List ℕ
+  pub rest : List ℕ
+  pub no_comment : slice_index (without_blanks line) 0 ≢ hash
+  pub field : HasHostsField (without_blanks line) hosts rest
+  pub some : HasNoParts hosts → ⊥

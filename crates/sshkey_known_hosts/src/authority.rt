@@ -1,6 +1,6 @@
 //! The authorities that sign the keys of a host.
 
-ghost use Rattle.std.specs.Prelude.{◌≡◌, ◌↔◌, ◌∷◌, [], ℕ, List, IfOk, IfErr};
+ghost use Rattle.std.specs.Prelude.{◌≡◌, ◌<◌, ◌↔◌, ◌∷◌, [], ℕ, List, IfOk, IfErr, length};
 ghost use Rattle.sshkey_base.specs.declared.error.Error.TheVariants as wide;
 ghost use Rattle.sshkey_files.specs.Fields.{filled_lines};
 ghost use Rattle.sshkey_files.specs.HostNames.{known_name};
@@ -12,7 +12,7 @@ use crate::entry::Entry;
 use crate::hmac_sha1::HmacSha1;
 use crate::host_name::known_name;
 use crate::marker::Marker;
-use crate::verdict::read_entry;
+use crate::verdict::{has_lines, read_entry};
 use sshkey_base::Result;
 use sshkey_files::FilledLines;
 use sshkey_public::PublicKey;
@@ -59,7 +59,8 @@ fn line_authority<H: HmacSha1>(
 ///
 /// A line that is no entry gives none, and an authority may be revoked by another line: before one
 /// is trusted, ask `judge_key` about its key, and refuse it where that is `Revoked` or
-/// `Unreadable`. Fails only when out of memory.
+/// `Unreadable`. Fails only when out of memory, and never of a text that is empty or has comments
+/// alone.
 pub fn authorities<H: HmacSha1>(
     alloc: Global,
     text: &str,
@@ -70,7 +71,11 @@ pub fn authorities<H: HmacSha1>(
     ensures answer { IfOk result (λ keys. AreAuthorities (H.hmac hmac.now)
         (known_name host.now port) (filled_lines text.now) keys.items) }
     ensures memory { IfErr result (λ e. e ≡ wide.Memory) }
+    ensures asks { IfErr result (λ _. 0 < length (filled_lines text.now)) }
 {
+    if !has_lines(text) {
+        return Ok(Vec::new(alloc));
+    }
     let name = known_name(alloc, host, port)?;
     let mut found = Vec::new(alloc);
     for line in FilledLines::new(text) {

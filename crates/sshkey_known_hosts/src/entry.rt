@@ -1,11 +1,12 @@
 //! Entries of known_hosts.
 
 ghost use Rattle.std.specs.Prelude.{◌≡◌, ◌↔◌, IsTrue, IfErr, IfOk, string_bytes};
+ghost use Rattle.sshkey_base.specs.Causes.{cause, NoMemory};
 ghost use Rattle.sshkey_base.specs.declared.error.Error.TheVariants as wide;
 ghost use Rattle.sshkey_files.specs.KnownHosts.{KnownHost, IsKnownHost, known_text};
 ghost use Rattle.sshkey_files.specs.Answers.{ReadsEntry, RefusesFor};
 ghost use Rattle.sshkey_known_hosts.specs.HostEntries.{key_in, hosts_in, known_host_of, marker_front, marker_in, SplitsMarker};
-ghost use Rattle.sshkey_known_hosts.specs.HostFaults.{HasFault};
+ghost use Rattle.sshkey_known_hosts.specs.HostFaults.{HasFault, NeedsLine};
 ghost use Rattle.sshkey_files.specs.MadeTexts.{MakesEntry};
 ghost use Rattle.sshkey_keys.specs.Keys.{stored_algorithm};
 ghost use Rattle.sshkey_public.specs.OneLine.{IsOneLine};
@@ -76,6 +77,9 @@ impl Entry {
     /// another marker or a space that is missing, and else the errors of `HostPatterns::from_text`
     /// and then of `PublicKey::from_openssh`.
     ///
+    /// Memory is taken for the hosts and what follows them: another marker, a space that is missing,
+    /// and hosts that are empty or have no `|` after their salt never fail with `Memory`.
+    ///
     /// A line that is rejected says nothing of its hosts. OpenSSH also takes tabs and several
     /// spaces between the fields, so the line may be a revocation to it: treat an `Err` as no
     /// verdict on any host, and do not pass over it. A tab in front of the key is part of the hosts
@@ -83,6 +87,7 @@ impl Entry {
     pub fn from_line(alloc: Global, line: &str) -> Result<Entry>
         ensures reads { ReadsEntry known_host_of IsKnownHost line.now result }
         ensures fault { RefusesFor HasFault line.now result }
+        ensures asks { IfErr result (λ e. cause e ≡ NoMemory → NeedsLine line.now) }
     {
         let (marker, unmarked) = split_marker(line)?;
         let Some((hosts, rest)) = unmarked.split_once(' ') else {

@@ -39,7 +39,8 @@ impl HostPatterns {
     ///
     /// Unless memory runs out, it fails exactly if the text is none: `FormatEncoding` where it is
     /// empty, or has no `|` after the salt, `Base64` where a word is no canonical Base64, and
-    /// `Length` for a hash of other than 20 bytes.
+    /// `Length` for a hash of other than 20 bytes. A text that fails with `FormatEncoding` takes no
+    /// memory.
     pub fn from_text(alloc: Global, text: &str) -> Result<HostPatterns>
         ensures reads { ReadsEntry hosts_of IsHosts text.now result }
         ensures fault { IfErr result (RefusesHosts text.now) }

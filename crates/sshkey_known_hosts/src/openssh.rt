@@ -1,14 +1,15 @@
 //! Entries as OpenSSH reads them.
 
-ghost use Rattle.std.specs.Prelude.{◌≡◌, ◌↔◌, ℕ, List, IsTrue, slice_index};
+ghost use Rattle.std.specs.Prelude.{◌≡◌, ◌↔◌, ℕ, List, IfErr, IsTrue, slice_index};
 ghost use Rattle.std.specs.Iterator.{item_count};
+ghost use Rattle.sshkey_base.specs.Causes.{cause, NoMemory};
 ghost use Rattle.sshkey_files.specs.Entries.{hash};
 ghost use Rattle.sshkey_files.specs.Fields.{filled_lines};
 ghost use Rattle.sshkey_files.specs.KnownHosts.{at_sign};
 ghost use Rattle.sshkey_files.specs.OpenSshLines.{IsHostLine};
 ghost use Rattle.sshkey_files.specs.Answers.{AnswersEntry, ReadsEntry, RefusesFor, YieldsAnswers};
 ghost use Rattle.sshkey_known_hosts.specs.HostEntries.{known_host_of};
-ghost use Rattle.sshkey_known_hosts.specs.OpenSshHosts.{HasLineFault, SplitsMarkerField};
+ghost use Rattle.sshkey_known_hosts.specs.OpenSshHosts.{HasLineFault, NeedsHostLine, SplitsMarkerField};
 
 use crate::entry::Entry;
 use crate::host_patterns::HostPatterns;
@@ -59,11 +60,15 @@ impl Entry {
     /// `HostPatterns::from_text`, and then `Length` where no Base64 stands after the hosts, or else
     /// the errors of `sshkey_files::read_key_fields`.
     ///
+    /// Memory is taken for the hosts and what follows them: a comment, another marker and hosts that
+    /// are empty or have no `|` after their salt never fail with `Memory`.
+    ///
     /// A line that is rejected says nothing of its hosts: treat an `Err` as no verdict on any host,
     /// and do not pass over it.
     pub fn from_line_openssh(alloc: Global, line: &str) -> Result<Entry>
         ensures reads { ReadsEntry known_host_of IsHostLine line.now result }
         ensures fault { RefusesFor HasLineFault line.now result }
+        ensures asks { IfErr result (λ e. cause e ≡ NoMemory → NeedsHostLine line.now) }
     {
         let text = skip_blanks(line);
         if is_comment(text) {

@@ -1,6 +1,6 @@
 //! What a text of known_hosts says of a host's key.
 
-ghost use Rattle.std.specs.Prelude.{◌≡◌, ◌↔◌, ◌∷◌, [], ℕ, List, IsTrue, IfOk, IfErr};
+ghost use Rattle.std.specs.Prelude.{◌≡◌, ◌<◌, ◌↔◌, ◌∷◌, [], ℕ, List, IsTrue, IfOk, IfErr, length};
 ghost use Rattle.sshkey_base.specs.Causes.{cause, NoMemory};
 ghost use Rattle.sshkey_base.specs.declared.error.Error.TheVariants as wide;
 ghost use Rattle.sshkey_files.specs.Fields.{filled_lines};
@@ -148,6 +148,13 @@ fn line_verdict<H: HmacSha1>(
     Ok(entry_verdict(&entry, name, key, hmac))
 }
 
+/// Whether the text has a line that is neither empty nor a comment.
+pub(crate) fn has_lines(text: &str) -> bool
+    ensures { IsTrue result ↔ (0 < length (filled_lines text.now)) }
+{
+    FilledLines::new(text).next().is_some()
+}
+
 /// What a text of known_hosts, as OpenSSH reads it, says of a host's key (sshd(8),
 /// "SSH_KNOWN_HOSTS FILE FORMAT").
 ///
@@ -158,7 +165,7 @@ fn line_verdict<H: HmacSha1>(
 /// with another key `Changed`, and else it is `Unknown`. Of authorities nothing is said here.
 ///
 /// `HostPatterns::matches` says which entries are for a host at a port. Fails only when out of
-/// memory.
+/// memory, and never of a text that is empty or has comments alone.
 pub fn judge_key<H: HmacSha1>(
     alloc: Global,
     text: &str,
@@ -170,7 +177,11 @@ pub fn judge_key<H: HmacSha1>(
     ensures answer { IfOk result (IsVerdict (H.hmac hmac.now) (known_name host.now port)
         (key_of key.now) (filled_lines text.now)) }
     ensures memory { IfErr result (λ e. e ≡ wide.Memory) }
+    ensures asks { IfErr result (λ _. 0 < length (filled_lines text.now)) }
 {
+    if !has_lines(text) {
+        return Ok(Verdict::Unknown);
+    }
     let name = known_name(alloc, host, port)?;
     let mut found = Verdict::Unknown;
     for line in FilledLines::new(text) {

@@ -1,7 +1,9 @@
-use Rattle.std.proofs.Common.{List, ℕ, [], ◌∷◌, ◌++◌, ap, sym, subst, ◌∙◌, append_assoc, append-nil}
+use Rattle.std.proofs.Common.{◌≡◌, rules, List, ℕ, [], ◌∷◌, ◌++◌, ap, sym, subst, ◌∙◌, append_assoc, append-nil}
+use Rattle.sshkey_files.specs.Fields.{filled_lines}
 use Rattle.sshkey_files.specs.HostNames.{known_name}
 use Rattle.sshkey_known_hosts.specs.Verdicts.{AreAuthorities, IsAuthorityIn}
-use Rattle.sshkey_known_hosts.proofs.AuthorityKeys.{no_more, one_more}
+use Rattle.sshkey_known_hosts.proofs.AuthorityKeys.{no_authorities, no_more, one_more}
+use Rattle.sshkey_known_hosts.proofs.Verdicts.{no_lines}
 use Rattle.sshkey_known_hosts.proofs.authority.authorities.Goals as goal
 
 pub returns-clause-answer : goal.returns-clause-answer
@@ -42,3 +44,17 @@ loop-line-preserved-in-Continue-branch-4 g c =
         subst (AreAuthorities hmac name (was.0 ++ (line ∷ []))) (sym c.in_ok-push.ensures.items) (one_more hmac name was.0 (line ∷ []) c.loop-line.found.items was.2 _ said),
       ),
     )
+
+pub returns-then-not-has_lines-clause-answer : goal.returns-then-not-has_lines-clause-answer
+returns-then-not-has_lines-clause-answer g c =
+    let hmac = g.H.HmacSha1.hmac c.args.hmac.now in
+    let name = known_name c.args.host.now c.args.port in
+    let none = no_lines (filled_lines c.args.text.now) (λ some. cc (sym c.if-not-has_lines.true ∙ c.has_lines.ensures.1 some)) in
+    subst (λ (l : List (List ℕ)). AreAuthorities hmac name l c.new.result.items) (sym none) (subst (AreAuthorities hmac name []) (sym c.new.ensures.items) (no_authorities hmac name))
+
+pub loop-line-init : goal.loop-line-init
+loop-line-init g c =
+    let hmac = g.H.HmacSha1.hmac c.args.hmac.now in
+    let name = known_name c.args.host.now c.args.port in
+    let all : filled_lines c.args.text.now ≡ c.into_iter-line-iterator.result = search rules in
+    (tt, tt, ([], all, subst (AreAuthorities hmac name []) (sym c.new-found.ensures.items) (no_authorities hmac name)))

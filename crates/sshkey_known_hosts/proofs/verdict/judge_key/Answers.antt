@@ -1,8 +1,10 @@
 use Rattle.std.proofs.Common.{List, ℕ, [], ◌∷◌, ◌++◌, ap, sym, subst, ◌∙◌, append_assoc, append-nil}
+use Rattle.sshkey_files.specs.Fields.{filled_lines}
 use Rattle.sshkey_files.specs.HostNames.{known_name}
 use Rattle.sshkey_keys.specs.Keys.{key_of}
 use Rattle.sshkey_known_hosts.specs.Verdicts.{IsVerdict}
-use Rattle.sshkey_known_hosts.proofs.Verdicts.{both}
+use Rattle.sshkey_known_hosts.specs.declared.verdict.Verdict.TheVariants.{Unknown}
+use Rattle.sshkey_known_hosts.proofs.Verdicts.{both, no_lines, nothing}
 use Rattle.sshkey_known_hosts.proofs.verdict.judge_key.Goals as goal
 
 pub loop-line-preserved : goal.loop-line-preserved
@@ -28,3 +30,11 @@ returns-clause-answer g c =
     let hmac = g.H.HmacSha1.hmac c.args.hmac.now in
     let name = known_name c.args.host.now c.args.port in
     subst (λ (l : List (List ℕ)). IsVerdict hmac name (key_of c.args.key.now) l c.loop-line.found) (sym (was.1 ∙ ap (λ (l : List (List ℕ)). was.0 ++ l) c.in-None.ensures.steps.0 ∙ append-nil was.0)) was.2
+
+pub returns-then-not-has_lines-clause-answer : goal.returns-then-not-has_lines-clause-answer
+returns-then-not-has_lines-clause-answer g c =
+    let hmac = g.H.HmacSha1.hmac c.args.hmac.now in
+    let name = known_name c.args.host.now c.args.port in
+    let key = key_of c.args.key.now in
+    let none = no_lines (filled_lines c.args.text.now) (λ some. cc (sym c.if-not-has_lines.true ∙ c.has_lines.ensures.1 some)) in
+    subst (λ (l : List (List ℕ)). IsVerdict hmac name key l Unknown) (sym none) (nothing hmac name key)

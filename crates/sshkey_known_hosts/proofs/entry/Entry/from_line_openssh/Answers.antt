@@ -1,7 +1,8 @@
 use Rattle.std.proofs.Common.{sym, refl, ◌∙◌, option_map}
 use Rattle.std.proofs.lemmas.Result.{err_from_is_err_and}
 use Rattle.sshkey_known_hosts.specs.HostEntries.{hosts_of, marker_of}
-use Rattle.sshkey_known_hosts.proofs.HostLines.{hosts_fault, key_fault, marker_fault, comment_read, comment_fault, no_marker_read, text_fault, bad_hosts, bad_host_key, line_read}
+use Rattle.sshkey_known_hosts.proofs.Hosts.{have_parts, refused_parts}
+use Rattle.sshkey_known_hosts.proofs.HostLines.{hosts_fault, key_fault, marker_fault, comment_read, comment_fault, no_marker_read, text_fault, bad_hosts, bad_host_key, line_needs, line_read}
 use Rattle.sshkey_known_hosts.proofs.entry.Entry.from_line_openssh.Goals as goal
 
 pub returns-then-is_comment-clause-reads : goal.returns-then-is_comment-clause-reads
@@ -36,3 +37,13 @@ returns-in_err-public_key-clause-fault c = let p = err_from_is_err_and c.from_re
 
 pub returns-clause-reads : goal.returns-clause-reads
 returns-clause-reads c = line_read c.args.line.now c.skip_blanks-text.result.now c.skip_blanks-text.ensures (λ here. cc (sym c.if-is_comment.false ∙ c.is_comment.ensures.1 here)) (option_map marker_of c.in_ok-marker.marker) c.in_ok-marker.unmarked.now c.split_field.result.0.now c.split_field.result.1.now c.skip_blanks.result.now c.in_ok-marker.ensures c.split_field.ensures c.skip_blanks.ensures _ refl c.in_ok-host_patterns.ensures.reads c.in_ok-public_key.ensures.reads
+
+pub returns-in_err-host_patterns-clause-asks : goal.returns-in_err-host_patterns-clause-asks
+returns-in_err-host_patterns-clause-asks c = let p = err_from_is_err_and c.from_residual-in_err-host_patterns.result c.from_residual-in_err-host_patterns.ensures.1 in
+    rw (p.1, p.2) (λ memory. line_needs c.args.line.now c.skip_blanks-text.result.now c.skip_blanks-text.ensures (λ here. cc (sym c.if-is_comment.false ∙ c.is_comment.ensures.1 here)) (option_map marker_of c.in_ok-marker.marker) c.in_ok-marker.unmarked.now c.split_field.result.0.now c.split_field.result.1.now _ c.in_ok-marker.ensures c.split_field.ensures refl
+    (refused_parts c.split_field.result.0.now _ c.in_err-host_patterns.ensures.fault memory))
+
+pub returns-in_err-public_key-clause-asks : goal.returns-in_err-public_key-clause-asks
+returns-in_err-public_key-clause-asks c = let p = err_from_is_err_and c.from_residual-in_err-public_key.result c.from_residual-in_err-public_key.ensures.1 in
+    rw (p.1, p.2) (λ memory. line_needs c.args.line.now c.skip_blanks-text.result.now c.skip_blanks-text.ensures (λ here. cc (sym c.if-is_comment.false ∙ c.is_comment.ensures.1 here)) (option_map marker_of c.in_ok-marker.marker) c.in_ok-marker.unmarked.now c.split_field.result.0.now c.split_field.result.1.now c.skip_blanks.result.now c.in_ok-marker.ensures c.split_field.ensures c.skip_blanks.ensures
+    (have_parts c.split_field.result.0.now (hosts_of c.in_ok-host_patterns.host_patterns) c.in_ok-host_patterns.ensures.reads))
