@@ -13,7 +13,8 @@ use std::alloc::Global;
 
 /// A key pair and what the user calls it (draft-miller-ssh-agent, section 4.2).
 pub struct Addition {
-    /// The pair.
+    /// The pair. Of an encrypted one the ciphertext alone is written, where an agent reads a name
+    /// and a pair, so ask `is_encrypted` of a key that was read before it is added.
     pub keypair: KeypairData,
     /// What the user calls it.
     pub comment: Text,
