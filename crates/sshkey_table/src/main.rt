@@ -4,6 +4,7 @@
 #![tactic(auto)]
 
 mod again;
+mod answer;
 mod bytes;
 mod certificates;
 mod copies;
@@ -21,7 +22,9 @@ mod narrow;
 mod openssh_lines;
 mod option_items;
 mod pairs;
+mod points;
 mod privates;
+mod program;
 mod questions;
 mod signatures;
 mod slices;
