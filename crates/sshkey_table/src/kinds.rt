@@ -223,95 +223,32 @@ impl Kind for KeypairData {
 }
 
 /// The kinds of value that stand at the front of bytes.
-pub(crate) type Fronts = (
-    u8,
-    (
-        u32,
-        (
-            u64,
-            (
-                usize,
-                (
-                    String,
-                    (
-                        Mpint,
-                        (
-                            Algorithm,
-                            (
-                                EcdsaCurve,
-                                (HashAlg, (Vec<u8>, ([u8; 7], (Vec<String>, NoKind)))),
-                            ),
-                        ),
-                    ),
-                ),
-            ),
-        ),
-    ),
-);
+pub(crate) type Fronts = (u8, (u32, (u64, (usize, (Mpint, (String, NamesInFront))))));
+
+type NamesInFront = (Algorithm, (EcdsaCurve, (HashAlg, StringsInFront)));
+
+type StringsInFront = (Vec<u8>, ([u8; 7], (Vec<String>, NoKind)));
 
 /// The kinds of value that are the body of a key.
 pub(crate) type Bodies = (
     DsaPublicKey,
-    (
-        EcdsaPublicKey,
-        (
-            Ed25519PublicKey,
-            (
-                RsaPublicKey,
-                (
-                    SkEcdsaSha2NistP256,
-                    (SkEd25519, (OpaquePublicKeyBytes, NoKind)),
-                ),
-            ),
-        ),
-    ),
+    (EcdsaPublicKey, (Ed25519PublicKey, OtherBodies)),
 );
+
+type OtherBodies = (RsaPublicKey, (SkEcdsaSha2NistP256, (SkEd25519, LastBody)));
+
+type LastBody = (OpaquePublicKeyBytes, NoKind);
 
 /// The kinds of value that are all of the bytes.
-pub(crate) type Wholes = (
-    KeyData,
-    (
-        SshSig,
-        (
-            OptionsMap,
-            (
-                CertType,
-                (
-                    UnixTime,
-                    (
-                        EndTime,
-                        (
-                            Certificate,
-                            (EcdsaPrivateKey<32>, (Kdf, (KeypairData, NoKind))),
-                        ),
-                    ),
-                ),
-            ),
-        ),
-    ),
-);
+pub(crate) type Wholes = (CertType, (UnixTime, (EndTime, (KeyData, SignedFormats))));
 
-/// The kinds of value that are read from sources that break off, and written into rooms that are too
-/// short.
+/// The kinds of value that are read from sources that break off, and written into rooms that are
+/// too short.
 pub(crate) type Formats = (
     Algorithm,
-    (
-        Mpint,
-        (
-            Vec<String>,
-            (
-                KeyData,
-                (
-                    Signature,
-                    (
-                        OptionsMap,
-                        (
-                            Certificate,
-                            (SshSig, (EcdsaPrivateKey<32>, (Kdf, (KeypairData, NoKind)))),
-                        ),
-                    ),
-                ),
-            ),
-        ),
-    ),
+    (Mpint, (Vec<String>, (Signature, (KeyData, SignedFormats)))),
 );
+
+type SignedFormats = (OptionsMap, (Certificate, (SshSig, PrivateFormats)));
+
+type PrivateFormats = (EcdsaPrivateKey<32>, (Kdf, (KeypairData, NoKind)));

@@ -5,6 +5,7 @@
 
 mod again;
 mod answer;
+mod asked;
 mod bytes;
 mod certificates;
 mod copies;
@@ -16,6 +17,7 @@ mod hosts;
 mod issued;
 mod keys;
 mod kinds;
+mod lists;
 mod messages;
 mod names;
 mod narrow;
@@ -43,7 +45,7 @@ fn main(rt: HostRuntime) -> io::Result<()> {
             writeln!(output, "{line}")?;
             continue;
         }
-        match questions::answer_line(&rt, alloc, &line) {
+        match asked::answer_line(&rt, alloc, &line) {
             Ok(answer) => writeln!(output, "{line} = {answer}")?,
             Err(error) => writeln!(output, "{line} = {error}")?,
         }
