@@ -243,8 +243,16 @@ type LastBody = (OpaquePublicKeyBytes, NoKind);
 pub(crate) type Wholes = (CertType, (UnixTime, (EndTime, (KeyData, SignedFormats))));
 
 /// The kinds of value that are read from sources that break off, and written into rooms that are
-/// too short.
-pub(crate) type Formats = (
+/// too short. It is a type of its own, since what is proved of a list is said wherever it is named.
+pub(crate) struct Formats;
+
+impl Kinds for Formats {
+    fn ask<O: Operation>(name: &str, parts: &[Vec<u8>], answer: &mut Answer) -> bool {
+        <FormatList as Kinds>::ask::<O>(name, parts, answer)
+    }
+}
+
+type FormatList = (
     Algorithm,
     (Mpint, (Vec<String>, (Signature, (KeyData, SignedFormats)))),
 );
