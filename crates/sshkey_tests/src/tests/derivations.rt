@@ -1,6 +1,7 @@
 //! Ciphers, what stands around what they encrypt, and key derivations.
 
 use super::pairs::{bytes_of, is_written};
+use super::support::is_wanted;
 use sshkey_base::{Error, Result, SliceWriter, decode_whole, encoding};
 use sshkey_ciphers::{Cipher, Kdf, KdfAlg, ciphertext_from, encode_padded, end_padding, tag_from};
 use sshkey_testing::Count;
@@ -110,7 +111,7 @@ fn paddings(rt: HostRuntime) {
     assert!(rt; encode_padded(&513u32, &mut writer).is_ok());
     assert!(rt; writer.written() == [0, 0, 2, 1, 1, 2, 3, 4].as_slice());
     assert!(rt; is_padding(&[]).is_ok() && is_padding(&[1, 2, 3, 4]).is_ok());
-    assert!(rt; is_padding(&[1, 2, 4]) == Err(Error::FormatEncoding));
+    assert!(rt; is_wanted(is_padding(&[1, 2, 4]), Err(Error::FormatEncoding)));
     assert!(rt;
         is_padding(&[1, 2, 3, 4, 5, 6, 7, 8]) == Err(Error::Encoding(encoding::Error::Length))
     );
