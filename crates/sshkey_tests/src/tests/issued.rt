@@ -272,7 +272,10 @@ fn unnamed(alloc: Global) -> Result<Certificate, Error> {
 }
 
 fn is_unnamed(alloc: Global) -> bool {
-    unnamed(alloc).err() == Some(Error::CertificateFieldInvalid(Field::ValidPrincipals))
+    is_wanted(
+        unnamed(alloc).err(),
+        Some(Error::CertificateFieldInvalid(Field::ValidPrincipals)),
+    )
 }
 
 #[test]

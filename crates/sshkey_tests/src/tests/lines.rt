@@ -36,7 +36,7 @@ const WRITTEN: [(&str, &str); 5] = [
 fn is_in_vector(alloc: Global, key: &PublicKey, wanted: &str) -> bool {
     let mut bytes = Vec::new(alloc);
     let answer = write_line(key.key_data(), key.comment(), &mut bytes);
-    answer == Ok(()) && bytes.as_slice() == wanted.as_bytes()
+    is_wanted(answer, Ok(())) && bytes.as_slice() == wanted.as_bytes()
 }
 
 /// Whether that is written of the line: as a text, to a vector, and into a slice with just room for
@@ -106,7 +106,7 @@ fn leaves_the_slice(key: &PublicKey) -> bool {
 /// The line is the front of a slice that is longer.
 fn begins_the_slice(key: &PublicKey) -> bool {
     let mut out = [b'*'; 128];
-    key.write_openssh(&mut out) == Ok(97) && &out[..97] == LINE.as_bytes()
+    is_wanted(key.write_openssh(&mut out), Ok(97)) && &out[..97] == LINE.as_bytes()
 }
 
 fn fills_slices(alloc: Global) -> bool {
@@ -160,7 +160,7 @@ fn in_pieces() -> encoding::Result<bool> {
         (all, some) == (11, 6)
             && (one, four, six) == ([1], [2, 3, 4, 5], [6, 7, 8, 9, 10, 11])
             && reader.is_finished()
-            && reader.read(&mut one) == Err(encoding::Error::Length),
+            && is_wanted(reader.read(&mut one), Err(encoding::Error::Length)),
     )
 }
 
@@ -210,7 +210,7 @@ fn is_begun(key: &KeyData, comment: &str) -> bool {
     let mut out = [0u8; 96];
     let mut writer = SliceWriter::new(&mut out);
     let answer = write_line(key, comment, &mut writer);
-    answer == Err(encoding::Error::Length) && LINE.as_bytes().starts_with(writer.written())
+    is_wanted(answer, Err(encoding::Error::Length)) && LINE.as_bytes().starts_with(writer.written())
 }
 
 fn does_not_fit(alloc: Global) -> bool {

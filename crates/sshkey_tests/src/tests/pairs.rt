@@ -86,8 +86,8 @@ fn is_opaque(alloc: Global) -> bool {
 
 /// A pair that was not decrypted has neither an algorithm nor a public half.
 fn has_no_half(alloc: Global, pair: &KeypairData) -> bool {
-    pair.to_public(alloc).err() == Some(Error::Encrypted)
-        && pair.algorithm(alloc).err() == Some(Error::Encrypted)
+    is_wanted(pair.to_public(alloc).err(), Some(Error::Encrypted))
+        && is_wanted(pair.algorithm(alloc).err(), Some(Error::Encrypted))
 }
 
 /// It is its ciphertext.

@@ -41,7 +41,10 @@ fn empty(alloc: Global) -> Result<Certificate, Error> {
 }
 
 fn is_outside(alloc: Global, secs: u64) -> bool {
-    judged_once(alloc, empty(alloc), HashAlg::Sha256, secs) == Err(Error::CertificateValidation)
+    is_wanted(
+        judged_once(alloc, empty(alloc), HashAlg::Sha256, secs),
+        Err(Error::CertificateValidation),
+    )
 }
 
 #[test]

@@ -40,7 +40,7 @@ fn strings(alloc: Global) -> bool {
     is_testing(alloc, &"testing")
         && is_testing(alloc, b"testing")
         && is_testing(alloc, &b"testing".as_slice())
-        && string_len(b"testing") == Ok(11)
+        && is_wanted(string_len(b"testing"), Ok(11))
         && is_longer(alloc)
 }
 
@@ -84,7 +84,7 @@ fn is_filled(len: usize) -> bool
         && if len == 31 {
             answer.is_ok() && written.len() == 31
         } else {
-            answer == Err(Error::Length)
+            is_wanted(answer, Err(Error::Length))
         }
 }
 
