@@ -1,5 +1,4 @@
-//! The tests of the crates below that are no lines of the table in `sshkey_table`, but for those of
-//! certificates.
+//! The tests of the crates below that are no lines of the table in `sshkey_table`.
 #![tactic(auto)]
 
 #[cfg(test)]

@@ -1,6 +1,7 @@
 //! Ciphers, what stands around what they encrypt, and key derivations.
 
 use super::pairs::{bytes_of, is_written};
+use super::support::is_wanted;
 use sshkey_base::{Error, Result, SliceWriter, decode_whole, encoding};
 use sshkey_ciphers::{Cipher, Kdf, KdfAlg, ciphertext_from, encode_padded, end_padding, tag_from};
 use sshkey_testing::Count;
@@ -31,7 +32,10 @@ fn is_drawn(alloc: Global) -> bool {
 }
 
 fn none_is_drawn(alloc: Global) -> bool {
-    Kdf::new(alloc, KdfAlg::None, &mut Count::new()).err() == Some(Error::AlgorithmUnknown)
+    is_wanted(
+        Kdf::new(alloc, KdfAlg::None, &mut Count::new()).err(),
+        Some(Error::AlgorithmUnknown),
+    )
 }
 
 #[test]
@@ -78,7 +82,7 @@ fn is_sealed(alloc: Global, cipher: Cipher, tag: Option<[u8; 16]>, rest: &[u8]) 
     match ciphertext_from(alloc, &mut reader, cipher) {
         Ok(ciphertext) => {
             ciphertext.as_slice() == b"ciphertext of 16".as_slice()
-                && tag_from(&mut reader, cipher) == Ok(tag)
+                && is_wanted(tag_from(&mut reader, cipher), Ok(tag))
                 && reader == rest
         }
         Err(_) => false,
@@ -88,7 +92,10 @@ fn is_sealed(alloc: Global, cipher: Cipher, tag: Option<[u8; 16]>, rest: &[u8]) 
 /// Eight bytes are no block of AES.
 fn half_a_block_is_refused(alloc: Global) -> bool {
     let mut reader = b"\0\0\0\x08one half".as_slice();
-    ciphertext_from(alloc, &mut reader, Cipher::Aes256Ctr).err() == Some(Error::Crypto)
+    is_wanted(
+        ciphertext_from(alloc, &mut reader, Cipher::Aes256Ctr).err(),
+        Some(Error::Crypto),
+    )
 }
 
 #[test]
@@ -110,8 +117,11 @@ fn paddings(rt: HostRuntime) {
     assert!(rt; encode_padded(&513u32, &mut writer).is_ok());
     assert!(rt; writer.written() == [0, 0, 2, 1, 1, 2, 3, 4].as_slice());
     assert!(rt; is_padding(&[]).is_ok() && is_padding(&[1, 2, 3, 4]).is_ok());
-    assert!(rt; is_padding(&[1, 2, 4]) == Err(Error::FormatEncoding));
+    assert!(rt; is_wanted(is_padding(&[1, 2, 4]), Err(Error::FormatEncoding)));
     assert!(rt;
-        is_padding(&[1, 2, 3, 4, 5, 6, 7, 8]) == Err(Error::Encoding(encoding::Error::Length))
+        is_wanted(
+            is_padding(&[1, 2, 3, 4, 5, 6, 7, 8]),
+            Err(Error::Encoding(encoding::Error::Length))
+        )
     );
 }

@@ -1,6 +1,6 @@
 //! Keys and their parts.
 
-use super::support::{are_alike, shows};
+use super::support::{are_alike, is_wanted, shows};
 use super::values::Forms;
 use sshkey_base::{Algorithm, EcdsaCurve, Result};
 use sshkey_kinds::{
@@ -65,7 +65,7 @@ fn is_for_an_application(alloc: Global) -> bool {
 
 #[test]
 fn points(rt: HostRuntime) {
-    assert!(rt; is_a_key(rt.alloc()) == Ok(true));
+    assert!(rt; is_wanted(is_a_key(rt.alloc()), Ok(true)));
     assert!(rt; is_for_an_application(rt.alloc()));
 }
 

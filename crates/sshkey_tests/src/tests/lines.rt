@@ -1,6 +1,6 @@
 //! Key lines, read and written.
 
-use super::support::{is_debugged, is_text, shows};
+use super::support::{is_debugged, is_text, is_wanted, shows};
 use ssh_key::encoding::{Reader, SliceWriter};
 use ssh_key::public::KeyData;
 use ssh_key::{Base64Reader, Error, HashAlg, PublicKey, encoding, read_line, write_line};
@@ -36,7 +36,7 @@ const WRITTEN: [(&str, &str); 5] = [
 fn is_in_vector(alloc: Global, key: &PublicKey, wanted: &str) -> bool {
     let mut bytes = Vec::new(alloc);
     let answer = write_line(key.key_data(), key.comment(), &mut bytes);
-    answer == Ok(()) && bytes.as_slice() == wanted.as_bytes()
+    is_wanted(answer, Ok(())) && bytes.as_slice() == wanted.as_bytes()
 }
 
 /// Whether that is written of the line: as a text, to a vector, and into a slice with just room for
@@ -106,7 +106,7 @@ fn leaves_the_slice(key: &PublicKey) -> bool {
 /// The line is the front of a slice that is longer.
 fn begins_the_slice(key: &PublicKey) -> bool {
     let mut out = [b'*'; 128];
-    key.write_openssh(&mut out) == Ok(97) && &out[..97] == LINE.as_bytes()
+    is_wanted(key.write_openssh(&mut out), Ok(97)) && &out[..97] == LINE.as_bytes()
 }
 
 fn fills_slices(alloc: Global) -> bool {
@@ -144,7 +144,7 @@ fn a_key_with_a_line_end_is_more_than_one_line(rt: HostRuntime) {
     for end in [" two\nlines", " two\rlines", " \n.", " \r\n."] {
         assert!(rt; is_one_line(rt.alloc(), end) == Some(false), "{end}");
     }
-    assert!(rt; is_named_in_one_line(rt.alloc()) == Some(false));
+    assert!(rt; is_wanted(is_named_in_one_line(rt.alloc()), Some(false)));
 }
 
 /// A word of eleven bytes, read in pieces of one, four and six.
@@ -160,13 +160,13 @@ fn in_pieces() -> encoding::Result<bool> {
         (all, some) == (11, 6)
             && (one, four, six) == ([1], [2, 3, 4, 5], [6, 7, 8, 9, 10, 11])
             && reader.is_finished()
-            && reader.read(&mut one) == Err(encoding::Error::Length),
+            && is_wanted(reader.read(&mut one), Err(encoding::Error::Length)),
     )
 }
 
 #[test]
 fn a_word_is_read_in_pieces(rt: HostRuntime) {
-    assert!(rt; in_pieces() == Ok(true));
+    assert!(rt; is_wanted(in_pieces(), Ok(true)));
 }
 
 /// What a word of three bytes shows before one of them is read, and after it: how many are left.
@@ -180,7 +180,7 @@ fn shows_lengths(alloc: Global) -> encoding::Result<bool> {
 
 #[test]
 fn a_word_shows_no_bytes(rt: HostRuntime) {
-    assert!(rt; shows_lengths(rt.alloc()) == Ok(true));
+    assert!(rt; is_wanted(shows_lengths(rt.alloc()), Ok(true)));
 }
 
 /// The padding stands in the second of three groups.
@@ -200,8 +200,8 @@ fn len_of_padding() -> encoding::Result<usize> {
 
 #[test]
 fn a_fault_is_met_in_its_group(rt: HostRuntime) {
-    assert!(rt; fault_of_group() == Ok(true));
-    assert!(rt; len_of_padding() == Ok(1));
+    assert!(rt; is_wanted(fault_of_group(), Ok(true)));
+    assert!(rt; is_wanted(len_of_padding(), Ok(1)));
     assert!(rt; Base64Reader::new("AAA").is_err());
 }
 
@@ -210,7 +210,7 @@ fn is_begun(key: &KeyData, comment: &str) -> bool {
     let mut out = [0u8; 96];
     let mut writer = SliceWriter::new(&mut out);
     let answer = write_line(key, comment, &mut writer);
-    answer == Err(encoding::Error::Length) && LINE.as_bytes().starts_with(writer.written())
+    is_wanted(answer, Err(encoding::Error::Length)) && LINE.as_bytes().starts_with(writer.written())
 }
 
 fn does_not_fit(alloc: Global) -> bool {

@@ -1,6 +1,6 @@
 //! Readers: slices, parts of them, and a source that has a fault of its own behind its bytes.
 
-use super::support::is_debugged;
+use super::support::{is_debugged, is_wanted};
 use sshkey_base::encoding::{Error, Result};
 use sshkey_base::{Algorithm, Bytes, Decode, NestedReader, Reader, ShortBytes, decode_whole};
 use sshkey_testing::Faulty;
@@ -18,10 +18,10 @@ fn pair(alloc: Global, bytes: &[u8]) -> Result<(u8, u8)> {
 #[test]
 fn a_closure_over_a_part(rt: HostRuntime) {
     let alloc = rt.alloc();
-    assert!(rt; pair(alloc, &[0, 0, 0, 2, 5, 6, 7]) == Ok((5, 6)));
-    assert!(rt; pair(alloc, &[0, 0, 0, 1, 5, 6, 7]) == Err(Error::Length));
+    assert!(rt; is_wanted(pair(alloc, &[0, 0, 0, 2, 5, 6, 7]), Ok((5, 6))));
+    assert!(rt; is_wanted(pair(alloc, &[0, 0, 0, 1, 5, 6, 7]), Err(Error::Length)));
     let longer = pair(alloc, &[0, 0, 0, 3, 5, 6, 7]);
-    assert!(rt; longer == Err(Error::TrailingData { remaining: 1 }));
+    assert!(rt; is_wanted(longer, Err(Error::TrailingData { remaining: 1 })));
 }
 
 /// What a part of three bytes lends before one of them is passed, and after it.
@@ -39,13 +39,13 @@ fn lends(bytes: &[u8]) -> Result<bool> {
 
 #[test]
 fn bytes_that_are_lent(rt: HostRuntime) {
-    assert!(rt; lends(&[0, 0, 0, 3, 5, 6, 7, 8]) == Ok(true));
-    assert!(rt; lends(&[0, 0, 0, 2, 5, 6, 7, 8]) == Err(Error::Length));
+    assert!(rt; is_wanted(lends(&[0, 0, 0, 3, 5, 6, 7, 8]), Ok(true)));
+    assert!(rt; is_wanted(lends(&[0, 0, 0, 2, 5, 6, 7, 8]), Err(Error::Length)));
     let mut left = NAME.as_slice();
     assert!(rt; left.ahead(16).is_none() && left.ahead(15) == Some(NAME.as_slice()));
     left.skip(4);
     assert!(rt; left == b"ssh-ed25519".as_slice() && !left.is_finished());
-    assert!(rt; left.finish(4) == Err(Error::TrailingData { remaining: 11 }));
+    assert!(rt; is_wanted(left.finish(4), Err(Error::TrailingData { remaining: 11 })));
     left.skip(11);
     assert!(rt; left.is_finished() && left.finish(4) == Ok(4));
 }
@@ -65,7 +65,12 @@ fn shows_lengths(alloc: Global, bytes: &[u8]) -> Result<bool> {
 
 #[test]
 fn a_part_shows_no_bytes(rt: HostRuntime) {
-    assert!(rt; shows_lengths(rt.alloc(), &[0, 0, 0, 3, 42, 42, 42]) == Ok(true));
+    assert!(rt;
+        is_wanted(
+            shows_lengths(rt.alloc(), &[0, 0, 0, 3, 42, 42, 42]),
+            Ok(true)
+        )
+    );
 }
 
 /// The first `len` bytes of the name, and behind them a fault in place of the next `missing`.
@@ -89,9 +94,9 @@ fn a_fault_is_never_accepted_whole(rt: HostRuntime) {
     }
     // all of the name is there, and more is announced
     let more = decode_whole::<Algorithm, _>(rt.alloc(), cut_short(15, 2));
-    assert!(rt; more == Err(Error::TrailingData { remaining: 2 }));
+    assert!(rt; is_wanted(more, Err(Error::TrailingData { remaining: 2 })));
     let whole = decode_whole::<Algorithm, _>(rt.alloc(), cut_short(15, 0));
-    assert!(rt; whole == Ok(Algorithm::Ed25519));
+    assert!(rt; is_wanted(whole, Ok(Algorithm::Ed25519)));
 }
 
 /// The fault of a string that is cut short.
@@ -102,11 +107,11 @@ fn fault_of_string(alloc: Global, len: u8, missing: u8) -> Option<Error> {
 #[test]
 fn a_front_before_a_fault(rt: HostRuntime) {
     for len in 0..15u8 {
-        assert!(rt; fault_of_string(rt.alloc(), len, 20) == Some(Error::Base64));
+        assert!(rt; is_wanted(fault_of_string(rt.alloc(), len, 20), Some(Error::Base64)));
     }
     // a length past what was announced is `Length`, whatever is missing
-    assert!(rt; fault_of_string(rt.alloc(), 14, 0) == Some(Error::Length));
-    assert!(rt; fault_of_string(rt.alloc(), 10, 4) == Some(Error::Length));
+    assert!(rt; is_wanted(fault_of_string(rt.alloc(), 14, 0), Some(Error::Length)));
+    assert!(rt; is_wanted(fault_of_string(rt.alloc(), 10, 4), Some(Error::Length)));
     // behind the front the fault is left
     let mut source = cut_short(15, 20);
     let name = Bytes::decode(rt.alloc(), &mut source);

@@ -1,7 +1,7 @@
 //! SSH signatures of messages.
 
 use super::signed_files::{MESSAGE, SIGNED, SIGNED_FILES, SignedFile};
-use super::support::is_text;
+use super::support::{is_text, is_wanted};
 use ssh_key::public::{Ed25519PublicKey, KeyData, SkEd25519};
 use ssh_key::{Algorithm, Error, HashAlg, PublicKey, Result, Signature, SshSig};
 use sshkey_testing::{Absent, AcceptAll, Fixed, Only, OutOfMemory, RefuseAll};
@@ -44,7 +44,10 @@ fn answers(alloc: Global, key: &PublicKey, namespace: &str, wanted: Result<()>) 
 fn is_refused(alloc: Global, key: &PublicKey) -> bool {
     match made(alloc, "file") {
         Ok(signature) => {
-            key.verify(alloc, "file", b"", &signature, &RefuseAll) == Err(Error::Crypto)
+            is_wanted(
+                key.verify(alloc, "file", b"", &signature, &RefuseAll),
+                Err(Error::Crypto),
+            )
         }
         Err(_) => false,
     }
@@ -106,7 +109,7 @@ fn error_of_parts(alloc: Global) -> Option<Error> {
 
 #[test]
 fn no_namespace_is_empty(rt: HostRuntime) {
-    assert!(rt; error_of_parts(rt.alloc()) == Some(Error::Namespace));
+    assert!(rt; is_wanted(error_of_parts(rt.alloc()), Some(Error::Namespace)));
 }
 
 /// The one verifier that knows the file's signature.
@@ -163,14 +166,20 @@ fn files_that_openssh_signed_are_verified(rt: HostRuntime) {
 /// A signer that refuses makes no signature, and its error is handed on.
 fn is_handed_on(alloc: Global) -> bool {
     let signer = Absent::new(KeyData::from(Ed25519PublicKey(K)));
-    SshSig::sign(alloc, &signer, "file", HashAlg::Sha256, b"").err() == Some(Error::Crypto)
+    is_wanted(
+        SshSig::sign(alloc, &signer, "file", HashAlg::Sha256, b"").err(),
+        Some(Error::Crypto),
+    )
 }
 
 /// A verifier that is out of memory has no answer.
 fn is_unanswered(alloc: Global, key: &PublicKey) -> bool {
     match made(alloc, "file") {
         Ok(signature) => {
-            key.verify(alloc, "file", b"", &signature, &OutOfMemory) == Err(Error::Memory)
+            is_wanted(
+                key.verify(alloc, "file", b"", &signature, &OutOfMemory),
+                Err(Error::Memory),
+            )
         }
         Err(_) => false,
     }

@@ -7,6 +7,12 @@ use std::alloc::Global;
 use std::fmt::{Debug, Display};
 use std::hash::{DefaultHasher, Hash, Hasher};
 
+/// The value is the one that is wanted. Both are let go of here, as values of a type parameter, and
+/// not in the test.
+pub(crate) fn is_wanted<T: PartialEq + Drop>(value: T, wanted: T) -> bool {
+    value == wanted
+}
+
 /// The answer is this text.
 pub(crate) fn is_text(answer: Result<String>, wanted: &str) -> bool {
     match answer {

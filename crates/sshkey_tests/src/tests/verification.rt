@@ -1,6 +1,7 @@
 //! What a verifier is asked, and what is never asked.
 
 use super::openssh::{EACH, Made};
+use super::support::is_wanted;
 use sshkey_base::{Algorithm, Error, decode_whole};
 use sshkey_keys::{KeyData, Signature, SigningKey};
 use sshkey_keys_ref::{KeyDataRef, SignatureRef};
@@ -63,8 +64,11 @@ fn knower(alloc: Global, made: &Made) -> Result<Only, Error> {
 fn is_accepted(alloc: Global, key: &KeyData, signature: &Signature, made: &Made) -> bool {
     match knower(alloc, made) {
         Ok(only) => {
-            key.verify(alloc, made.signed, signature, &only) == Ok(())
-                && key.verify(alloc, b"message", signature, &only) == Err(Error::Crypto)
+            is_wanted(key.verify(alloc, made.signed, signature, &only), Ok(()))
+                && is_wanted(
+                    key.verify(alloc, b"message", signature, &only),
+                    Err(Error::Crypto),
+                )
         }
         Err(_) => false,
     }
@@ -130,8 +134,8 @@ fn a_verifier_is_asked_what_was_signed(rt: HostRuntime) {
 fn is_unsupported(alloc: Global, key: &KeyData, algorithm: Algorithm) -> bool {
     match Signature::from_bytes(alloc, SK_ED25519) {
         Ok(signature) => {
-            key.verify(alloc, b"", &signature, &AcceptAll)
-                == Err(Error::AlgorithmUnsupported { algorithm })
+            let answer = key.verify(alloc, b"", &signature, &AcceptAll);
+            is_wanted(answer, Err(Error::AlgorithmUnsupported { algorithm }))
         }
         Err(_) => false,
     }
@@ -152,7 +156,7 @@ fn an_opaque_key_is_unsupported(alloc: Global, name: &str) -> Result<bool, Error
 #[test]
 fn a_private_use_key_is_unsupported(rt: HostRuntime) {
     let answer = an_opaque_key_is_unsupported(rt.alloc(), "name@example.com");
-    assert!(rt; answer == Ok(true));
+    assert!(rt; is_wanted(answer, Ok(true)));
 }
 
 /// The signature is 64 bytes 00 by Ed25519, which the signer's own verifier alone accepts. One that
@@ -162,9 +166,15 @@ fn is_of_signer(alloc: Global, signer: &Fixed, message: &[u8], signature: &Signa
     *key == KeyData::Ed25519(KEY)
         && *signature.algorithm() == Algorithm::Ed25519
         && signature.as_bytes() == [0; 64].as_slice()
-        && key.verify(alloc, message, signature, signer.raw()) == Ok(())
-        && key.verify(alloc, message, signature, &RefuseAll) == Err(Error::Crypto)
-        && key.verify(alloc, message, signature, &OutOfMemory) == Err(Error::Memory)
+        && is_wanted(key.verify(alloc, message, signature, signer.raw()), Ok(()))
+        && is_wanted(
+            key.verify(alloc, message, signature, &RefuseAll),
+            Err(Error::Crypto),
+        )
+        && is_wanted(
+            key.verify(alloc, message, signature, &OutOfMemory),
+            Err(Error::Memory),
+        )
 }
 
 /// What `Fixed` signs is such a signature.

@@ -2,6 +2,7 @@
 
 use super::certificates::knower;
 use super::certified::{Certified, rsa_sha256, rsa_sha512};
+use super::support::is_wanted;
 use base64::engine::general_purpose::STANDARD;
 use sshkey_cert::Certificate;
 use sshkey_cert_ref::CertificateRef;
@@ -27,7 +28,7 @@ fn renamed(alloc: Global, base64: &str) -> Option<Certificate> {
 /// The verifier that knows the signature of the other's first bytes accepts the certificate.
 fn is_verified_as(alloc: Global, certificate: &Certificate, other: &Certified) -> bool {
     match knower(alloc, certificate, other) {
-        Some(only) => certificate.verify_signature(alloc, &only) == Ok(()),
+        Some(only) => is_wanted(certificate.verify_signature(alloc, &only), Ok(())),
         None => false,
     }
 }
@@ -52,7 +53,7 @@ fn is_slice_verified_as(
     other: &Certified,
 ) -> bool {
     match knower(alloc, owned, other) {
-        Some(only) => slice.verify_signature(alloc, &only) == Ok(()),
+        Some(only) => is_wanted(slice.verify_signature(alloc, &only), Ok(())),
         None => false,
     }
 }

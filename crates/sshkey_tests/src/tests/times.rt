@@ -1,6 +1,7 @@
 //! The seconds of a certificate's times, and whom a certificate is for.
 
 use super::issued::{builder, for_all, judged_once, signed};
+use super::support::is_wanted;
 use sshkey_base::{Error, HashAlg};
 use sshkey_cert::Certificate;
 use sshkey_options::{CertType, EndTime, FOREVER, MAX_SECS, UnixTime};
@@ -12,9 +13,9 @@ use std::alloc::Global;
 fn times_have_their_seconds(rt: HostRuntime) {
     assert!(rt; MAX_SECS == 9_223_372_036_854_775_807);
     assert!(rt; FOREVER == 18_446_744_073_709_551_615);
-    assert!(rt; begins_at(10) == Some(10));
-    assert!(rt; begins_at(MAX_SECS) == Some(9_223_372_036_854_775_807));
-    assert!(rt; ends_at(20) == Some(20));
+    assert!(rt; is_wanted(begins_at(10), Some(10)));
+    assert!(rt; is_wanted(begins_at(MAX_SECS), Some(9_223_372_036_854_775_807)));
+    assert!(rt; is_wanted(ends_at(20), Some(20)));
     assert!(rt; EndTime::forever().secs() == 18_446_744_073_709_551_615);
     assert!(rt; EndTime::forever().is_forever());
 }
@@ -40,7 +41,10 @@ fn empty(alloc: Global) -> Result<Certificate, Error> {
 }
 
 fn is_outside(alloc: Global, secs: u64) -> bool {
-    judged_once(alloc, empty(alloc), HashAlg::Sha256, secs) == Err(Error::CertificateValidation)
+    is_wanted(
+        judged_once(alloc, empty(alloc), HashAlg::Sha256, secs),
+        Err(Error::CertificateValidation),
+    )
 }
 
 #[test]

@@ -2,6 +2,7 @@
 
 use super::certificates::{authorities, blob_of, is_as_made, is_shown, knower, read};
 use super::certified::{Certified, certificate_name, each, stored};
+use super::support::is_wanted;
 use base64::engine::general_purpose::STANDARD;
 use sshkey_base::{Error, encoding};
 use sshkey_cert::Certificate;
@@ -156,7 +157,10 @@ fn is_valid_by(
             let at = slice.valid_after();
             slice.validate_at(alloc, at, &given, knower).is_ok()
                 && slice.validate_at(alloc, at, &given, &RefuseAll).is_err()
-                && slice.validate_at(alloc, at, &given, &OutOfMemory) == Err(Error::Memory)
+                && is_wanted(
+                    slice.validate_at(alloc, at, &given, &OutOfMemory),
+                    Err(Error::Memory),
+                )
                 && slice.validate_at(alloc, at, &given[1..], knower).is_err()
                 && slice
                     .validate_at(alloc, slice.valid_before(), &given, knower)

@@ -1,6 +1,7 @@
 //! What a builder keeps of what it is told: each of its calls, made a first and a second time.
 
 use super::issued::{builder, signed};
+use super::support::is_wanted;
 use sshkey_base::Error;
 use sshkey_base::certificate::Field;
 use sshkey_builder::Builder;
@@ -67,7 +68,7 @@ fn is_as_told(certificate: &Certificate) -> bool {
 
 /// The call was refused, and the error names the field.
 fn names(answer: Result<&mut Builder, Error>, field: Field) -> bool {
-    answer.err() == Some(Error::CertificateFieldInvalid(field))
+    is_wanted(answer.err(), Some(Error::CertificateFieldInvalid(field)))
 }
 
 fn second_texts(alloc: Global, builder: &mut Builder) -> Result<bool, Error> {
@@ -102,7 +103,7 @@ fn is_told_once(alloc: Global, builder: &mut Builder) -> Result<bool, Error> {
 
 /// The same of a call that answers nothing.
 fn names_too(answer: Result<(), Error>, field: Field) -> bool {
-    answer.err() == Some(Error::CertificateFieldInvalid(field))
+    is_wanted(answer.err(), Some(Error::CertificateFieldInvalid(field)))
 }
 
 fn second_set_texts(alloc: Global, builder: &mut Builder) -> Result<bool, Error> {

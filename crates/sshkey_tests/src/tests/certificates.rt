@@ -1,6 +1,7 @@
 //! Certificates that OpenSSH made: read, written back and validated.
 
 use super::certified::{Certified, each, ed25519_user, p256_host, p384_user, rsa_sha256, stored};
+use super::support::is_wanted;
 use base64::engine::general_purpose::STANDARD;
 use sshkey_base::{Algorithm, Error, HashAlg};
 use sshkey_cert::{Certificate, contains_digest};
@@ -135,7 +136,7 @@ fn is_known(alloc: Global, made: &Certified) -> bool {
 fn is_valid(alloc: Global, certificate: &Certificate, made: &Certified) -> bool {
     match knower(alloc, certificate, made) {
         Some(only) => {
-            certificate.verify_signature(alloc, &only) == Ok(())
+            is_wanted(certificate.verify_signature(alloc, &only), Ok(()))
                 && is_valid_to(alloc, certificate, made.valid_after, &only)
         }
         None => false,
@@ -144,7 +145,7 @@ fn is_valid(alloc: Global, certificate: &Certificate, made: &Certified) -> bool 
 
 fn is_valid_to(alloc: Global, certificate: &Certificate, secs: u64, only: &Only) -> bool {
     match authorities(alloc, certificate) {
-        Some(given) => certificate.validate_at(alloc, secs, &given, only) == Ok(()),
+        Some(given) => is_wanted(certificate.validate_at(alloc, secs, &given, only), Ok(())),
         None => false,
     }
 }
@@ -222,7 +223,7 @@ fn is_invalid(alloc: Global, certificate: &Certificate, at: u64) -> bool {
 }
 
 fn is_no(answer: Result<(), Error>) -> bool {
-    answer == Err(Error::CertificateValidation)
+    is_wanted(answer, Err(Error::CertificateValidation))
 }
 
 #[test]
@@ -259,7 +260,10 @@ fn is_unanswered(alloc: Global, certificate: &Certificate) -> bool {
     match authorities(alloc, certificate) {
         Some(given) => {
             let at = certificate.valid_after();
-            certificate.validate_at(alloc, at, &given, &OutOfMemory) == Err(Error::Memory)
+            is_wanted(
+                certificate.validate_at(alloc, at, &given, &OutOfMemory),
+                Err(Error::Memory),
+            )
         }
         None => false,
     }
@@ -279,7 +283,10 @@ fn a_verifier_out_of_memory(rt: HostRuntime) {
 
 /// No file of that name is found.
 fn is_missing<R: Files>(rt: &R, alloc: Global, path: &str) -> bool {
-    Certificate::read_file(rt, alloc, path).err() == Some(Error::Io(ErrorKind::NotFound))
+    is_wanted(
+        Certificate::read_file(rt, alloc, path).err(),
+        Some(Error::Io(ErrorKind::NotFound)),
+    )
 }
 
 #[test]
@@ -298,7 +305,7 @@ fn fault_of_writing<R: Files>(rt: &R, alloc: Global, path: &str) -> Option<Error
 #[test]
 fn a_full_device_is_not_written(rt: HostRuntime) {
     let met = fault_of_writing(&rt, rt.alloc(), "/dev/full");
-    assert!(rt; met == Some(Error::Io(ErrorKind::StorageFull)));
+    assert!(rt; is_wanted(met, Some(Error::Io(ErrorKind::StorageFull))));
 }
 
 /// Writes the certificate of the line into the file.
