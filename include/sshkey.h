@@ -320,15 +320,16 @@ uint32_t sshkey_certificate_signed(const uint8_t *to_be_signed, size_t to_be_sig
 
 /* The SHA-256 fingerprint of the key of that blob, as sshkey_certificate_validate takes it.
  * SSHKEY_DONE exactly if the bytes are a key, SSHKEY_MEMORY aside, which is answered only for one
- * that is not its normal form; else 10 to 29. */
+ * that is not its normal form; else 10 to 29. With any answer but SSHKEY_DONE the digest stays as
+ * it was. */
 uint32_t sshkey_fingerprint(const uint8_t *key, size_t key_length, sshkey_sha256 *answer);
 
 /* How many bytes the text of a SHA-256 fingerprint has, as ssh-keygen shows it: "SHA256:" and 43
  * characters. */
 #define SSHKEY_FINGERPRINT_TEXT 50
 
-/* Writes that text to the front of the room, without a zero behind it. SSHKEY_DONE, SSHKEY_ROOM
- * where the room has fewer bytes, or SSHKEY_MEMORY. */
+/* Writes that text to the front of the room, without a zero behind it. SSHKEY_DONE, or SSHKEY_ROOM
+ * where the room has fewer bytes. Takes no memory. */
 uint32_t sshkey_fingerprint_text(const sshkey_sha256 *digest, uint8_t *room, size_t room_length);
 
 /* The same by SHA-512. */

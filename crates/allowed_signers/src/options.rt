@@ -53,7 +53,6 @@ fn time_of(value: Option<String>) -> Option<u64>
 }
 
 /// What the options of a line say (ssh-keygen(1), ALLOWED SIGNERS).
-#[derive(Drop)]
 pub(crate) struct SignerOptions {
     /// The patterns of the namespaces that the key signs in; in all of them without.
     namespaces: Option<String>,
@@ -63,6 +62,18 @@ pub(crate) struct SignerOptions {
     valid_before: Option<u64>,
     /// Whether the key signs certificates alone.
     is_authority: bool,
+}
+
+/// By hand, so that who holds them lets them go by one call.
+impl Drop for SignerOptions {
+    fn drop(self) {
+        let SignerOptions {
+            namespaces: _,
+            valid_after: _,
+            valid_before: _,
+            is_authority: _,
+        } = self;
+    }
 }
 
 impl SignerOptions {

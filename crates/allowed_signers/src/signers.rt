@@ -18,7 +18,7 @@ use ssh_key::{Error, PublicKey, RawVerifier, Result, SshSig};
 use std::alloc::Global;
 
 /// Why a signature does not count.
-#[derive(Debug, Drop, PartialEq, Eq)]
+#[derive(Debug, Drop)]
 pub enum Refusal {
     /// The bytes are no SSH signature.
     NoSignature,

@@ -68,6 +68,7 @@ pub extern "C" fn sshkey_known_host(
         result answer.new room.old room.new }
     ensures fault { IsUtf8 line.now → TellsFault hosts.HasLineFault line.now result }
     ensures text { (IsUtf8 line.now → ⊥) → result ≡ 4 }
+    ensures memory { result ≡ 1 → hosts.NeedsHostLine line.now }
 {
     known_host(alloc, line, room, answer)
 }

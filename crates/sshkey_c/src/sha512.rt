@@ -18,7 +18,7 @@ pub extern "C" fn sshkey_fingerprint_sha512(
     key: &[u8],
     answer: &mut Sha512Digest,
 ) -> u32
-    ensures fingerprint { GivesDigest Sha512 key.now result answer.new.bytes }
+    ensures fingerprint { GivesDigest Sha512 key.now result answer.old.bytes answer.new.bytes }
     ensures fault { (fault : Fault) → whole key_data_at key.now ≡ Err fault
         → result ≡ fault_number fault }
 {
@@ -27,12 +27,8 @@ pub extern "C" fn sshkey_fingerprint_sha512(
 
 /// The text of a SHA-512 fingerprint: `sshkey_calls::fingerprint_sha512_text`.
 #[unsafe(no_mangle)]
-pub extern "C" fn sshkey_fingerprint_sha512_text(
-    alloc: Global,
-    digest: &Sha512Digest,
-    room: &mut [u8],
-) -> u32
+pub extern "C" fn sshkey_fingerprint_sha512_text(digest: &Sha512Digest, room: &mut [u8]) -> u32
     ensures { Prints (digest_text Sha512 digest.now.bytes) result room.old room.new }
 {
-    fingerprint_sha512_text(alloc, digest, room)
+    fingerprint_sha512_text(digest, room)
 }

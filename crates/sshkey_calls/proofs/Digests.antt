@@ -1,27 +1,38 @@
 -- The digest of the key that bytes spell.
-use Rattle.std.proofs.Common.{◌≡◌, ◌≢◌, ℕ, List, arith, subst}
+use Rattle.std.proofs.Common.{◌≡◌, ◌≢◌, ℕ, List, Ok, Err, refl, arith, ap, subst, sym, ◌∙◌}
 use Rattle.sshkey_base.specs.Acceptance.{SpellsSome}
+use Rattle.sshkey_fingerprints.specs.Fingerprints.{digest_of}
+use Rattle.sshkey_fingerprints.specs.declared.fingerprint.Fingerprint.{Fingerprint}
+use Rattle.sshkey_keys.specs.Fingerprints.{IsFingerprint}
 use Rattle.sshkey_keys.specs.Keys.{SpellsKey}
 use Rattle.sshkey_keys_ref.specs.NormalBytes.{IsRenamed}
 use Rattle.sshkey_model.specs.Keys.{Key}
 use Rattle.sshkey_model.specs.Names.{Hash}
-use Rattle.sshkey_calls.specs.Fingerprints.{GivesDigest, GivesDigestOf}
+use Rattle.sshkey_calls.specs.Fingerprints.{FindsFingerprint, GivesDigest}
 
-module _ (h : Hash) (bytes : List ℕ) (n : ℕ) (digest : List ℕ) where
+module _ (h : Hash) (bytes : List ℕ) where
   -- what is said of a key's own bytes is said of those that it was read from
-  pub digest_given : (own : List ℕ) → own ≡ bytes → SpellsSome SpellsKey bytes → (n ≡ 0 → (k : Key) × SpellsKey k own × GivesDigestOf h k digest) → (n ≢ 0 → (n ≡ 1) × IsRenamed own) → GivesDigest h bytes n digest
-  digest_given own same some given refused = record {
-    given = λ zero_. subst (λ (b : List ℕ). (k : Key) × SpellsKey k b × GivesDigestOf h k digest) same (given zero_);
-    memory = λ one.
-        let out = refused (λ zero_. omega (arith, one, zero_)) in
-        (some.0, some.1, (subst IsRenamed same out.1 some.0 some.1).1);
-    none = λ not_zero not_one _ _. not_one (refused not_zero).0;
+  module _ (own : List ℕ) (same : own ≡ bytes) where
+    pub fingerprint_found : (f : Fingerprint) → (k : Key) × SpellsKey k own × IsFingerprint h k f → FindsFingerprint h bytes (Ok f)
+    fingerprint_found f = subst (λ (b : List ℕ). (k : Key) × SpellsKey k b × IsFingerprint h k f) same
+
+    pub memory_out : SpellsSome SpellsKey bytes → IsRenamed own → FindsFingerprint h bytes (Err 1)
+    memory_out some renamed = (λ e. omega (arith, e), λ _. (some.0, some.1, (subst IsRenamed same renamed some.0 some.1).1), λ other _ _. other refl)
+
+  -- the digest of the fingerprint is given
+  pub digest_given : (f : Fingerprint) (before after : List ℕ) → FindsFingerprint h bytes (Ok f) → digest_of f ≡ after → GivesDigest h bytes 0 before after
+  digest_given f before after found is = record {
+    given = λ _. (found.0, found.1, sym is ∙ found.2.digest);
+    memory = λ one. absurd (omega (arith, one));
+    none = λ not_zero _ _ _. not_zero refl;
+    stays = λ not_zero. absurd (not_zero refl);
   }
 
-  -- bytes that spell none
-  pub no_digest : n ≢ 0 → n ≢ 1 → ((k : Key) → SpellsKey k bytes → ⊥) → GivesDigest h bytes n digest
-  no_digest some not_memory none = record {
-    given = λ zero_. absurd (some zero_);
-    memory = λ one. absurd (not_memory one);
-    none = λ _ _. none;
+  -- or the number, and nothing is written
+  pub no_digest : (n : ℕ) (before : List ℕ) → FindsFingerprint h bytes (Err n) → GivesDigest h bytes n before before
+  no_digest n before none = record {
+    given = λ zero_. absurd (none.0 zero_);
+    memory = none.1;
+    none = λ _. none.2;
+    stays = λ _. refl;
   }

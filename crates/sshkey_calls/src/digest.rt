@@ -1,4 +1,4 @@
-//! SHA-256 digests.
+//! Digests.
 
 ghost use Rattle.std.specs.Prelude.{◌≡◌, IfErr, IfOk, map};
 ghost use Rattle.sshkey_base.specs.declared.error.Error.TheVariants as wide;
@@ -16,6 +16,14 @@ use std::alloc::Global;
 pub struct Sha256Digest {
     /// Its bytes.
     pub bytes: [u8; 32],
+}
+
+/// A SHA-512 digest, 64 bytes.
+#[repr(C)]
+#[derive(Clone, Copy, Debug)]
+pub struct Sha512Digest {
+    /// Its bytes.
+    pub bytes: [u8; 64],
 }
 
 /// The fingerprints with these digests. Fails only when out of memory.

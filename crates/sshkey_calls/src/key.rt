@@ -1,19 +1,19 @@
-//! Fingerprints.
+//! Fingerprints of keys.
 
-ghost use Rattle.std.specs.Prelude.{◌≡◌, ◌≢◌, Err};
-ghost use Rattle.sshkey_keys.specs.Keys.{SpellsKey, key_data_at};
-ghost use Rattle.sshkey_keys_ref.specs.KeyDataRef.{key_bytes};
-ghost use Rattle.sshkey_keys_ref.specs.NormalBytes.{IsRenamed};
+ghost use Rattle.std.specs.Prelude.{◌≡◌, ◌++◌, Err};
+ghost use Rattle.base64.specs.Engines.{standard_no_pad};
+ghost use Rattle.base64.specs.GeneralPurpose.{encode_of};
+ghost use Rattle.sshkey_base.specs.Names.{hash_of};
+ghost use Rattle.sshkey_keys.specs.Keys.{key_data_at};
 ghost use Rattle.sshkey_model.specs.Fingerprints.{digest_text};
-ghost use Rattle.sshkey_model.specs.Keys.{Key};
-ghost use Rattle.sshkey_model.specs.Names.{Sha256};
+ghost use Rattle.sshkey_model.specs.Names.{Sha256, Sha512};
 ghost use Rattle.sshkey_model.specs.Reading.{Fault, whole};
-ghost use Rattle.sshkey_calls.specs.Fingerprints.{GivesDigest, GivesDigestOf, Prints};
+ghost use Rattle.sshkey_calls.specs.Fingerprints.{FindsFingerprint, GivesDigest, Prints};
 ghost use Rattle.sshkey_calls.specs.Numbers.{fault_number};
 
-use crate::digest::Sha256Digest;
+use crate::digest::{Sha256Digest, Sha512Digest};
 use crate::number::{DONE, MEMORY, ROOM, error_number};
-use crate::part::write_to;
+use base64::engine::general_purpose::STANDARD_NO_PAD;
 use sshkey_base::HashAlg;
 use sshkey_fingerprints::Fingerprint;
 use sshkey_keys_ref::KeyDataRef;
@@ -23,26 +23,17 @@ use std::alloc::Global;
 /// the digest of the key's normal form.
 ///
 /// Returns 0 if they spell one, 1 if memory ran out, and else from 10 to 29 their fault. Memory is
-/// taken only for an RSA key under another name than `ssh-rsa`.
+/// taken only for an RSA key under another name than `ssh-rsa`. With any number but 0 the answer
+/// stays as it was.
 pub fn fingerprint(alloc: Global, key: &[u8], answer: &mut Sha256Digest) -> u32
-    ensures fingerprint { GivesDigest Sha256 key.now result answer.new.bytes }
+    ensures fingerprint { GivesDigest Sha256 key.now result
+        answer.old.bytes answer.new.bytes }
     ensures fault { (fault : Fault) → whole key_data_at key.now ≡ Err fault
         → result ≡ fault_number fault }
 {
-    match KeyDataRef::from_bytes(key) {
-        Ok(key) => write_digest(alloc, &key, answer),
-        Err(error) => error_number(error),
-    }
-}
-
-/// The same of a key that was read.
-fn write_digest(alloc: Global, key: &KeyDataRef<'_>, answer: &mut Sha256Digest) -> u32
-    ensures digest { result ≡ 0 → (k : Key) × SpellsKey k (key_bytes key.now)
-        × GivesDigestOf Sha256 k answer.new.bytes }
-    ensures memory { result ≢ 0 → (result ≡ 1) × IsRenamed (key_bytes key.now) }
-{
-    let Ok(fingerprint) = key.fingerprint(alloc, HashAlg::Sha256) else {
-        return MEMORY;
+    let fingerprint = match find_fingerprint(alloc, HashAlg::Sha256, key) {
+        Ok(fingerprint) => fingerprint,
+        Err(number) => return number,
     };
     match fingerprint.sha256() {
         Some(bytes) => {
@@ -53,19 +44,77 @@ fn write_digest(alloc: Global, key: &KeyDataRef<'_>, answer: &mut Sha256Digest) 
     }
 }
 
+/// The SHA-512 fingerprint of the key that all the bytes spell: the digest of the key's normal
+/// form.
+///
+/// Returns what `fingerprint` does.
+pub fn fingerprint_sha512(alloc: Global, key: &[u8], answer: &mut Sha512Digest) -> u32
+    ensures fingerprint { GivesDigest Sha512 key.now result
+        answer.old.bytes answer.new.bytes }
+    ensures fault { (fault : Fault) → whole key_data_at key.now ≡ Err fault
+        → result ≡ fault_number fault }
+{
+    let fingerprint = match find_fingerprint(alloc, HashAlg::Sha512, key) {
+        Ok(fingerprint) => fingerprint,
+        Err(number) => return number,
+    };
+    match fingerprint.sha512() {
+        Some(bytes) => {
+            answer.bytes = bytes;
+            DONE
+        }
+        None => unreachable!(),
+    }
+}
+
+/// The fingerprint by that hash of the key that all the bytes spell, or the number to answer with.
+fn find_fingerprint(alloc: Global, hash_alg: HashAlg, key: &[u8]) -> Result<Fingerprint, u32>
+    ensures found { FindsFingerprint (hash_of hash_alg) key.now result }
+    ensures fault { (fault : Fault) → whole key_data_at key.now ≡ Err fault
+        → result ≡ Err (fault_number fault) }
+{
+    let read = match KeyDataRef::from_bytes(key) {
+        Ok(read) => read,
+        Err(error) => return Err(error_number(error)),
+    };
+    let Ok(fingerprint) = read.fingerprint(alloc, hash_alg) else {
+        return Err(MEMORY);
+    };
+    Ok(fingerprint)
+}
+
 /// Writes the text of the SHA-256 fingerprint with that digest to the front of the room, as
 /// ssh-keygen(1) shows it: `SHA256:` and 43 characters, 50 bytes.
 ///
-/// Returns 0, 2 where the room is shorter, or 1 if memory ran out.
-pub fn fingerprint_text(alloc: Global, digest: &Sha256Digest, room: &mut [u8]) -> u32
+/// Returns 0, or 2 where the room is shorter and stays as it was.
+pub fn fingerprint_text(digest: &Sha256Digest, room: &mut [u8]) -> u32
     ensures { Prints (digest_text Sha256 digest.now.bytes) result room.old room.new }
 {
-    match Fingerprint::Sha256(digest.bytes).to_string(alloc) {
-        Ok(text) => if write_to(room, text.as_bytes()) {
-            DONE
-        } else {
-            ROOM
-        },
-        Err(_) => MEMORY,
-    }
+    print("SHA256:", &digest.bytes, room)
+}
+
+/// Writes the text of the SHA-512 fingerprint with that digest to the front of the room, as
+/// ssh-keygen(1) shows it: `SHA512:` and 86 characters, 93 bytes.
+///
+/// Returns what `fingerprint_text` does.
+pub fn fingerprint_sha512_text(digest: &Sha512Digest, room: &mut [u8]) -> u32
+    ensures { Prints (digest_text Sha512 digest.now.bytes) result room.old room.new }
+{
+    print("SHA512:", &digest.bytes, room)
+}
+
+/// Writes the prefix and the digest, in Base64 without padding, to the front of the room, if there
+/// is room for them, and else nothing.
+fn print(prefix: &str, digest: &[u8], room: &mut [u8]) -> u32
+    ensures { Prints (prefix.now ++ encode_of standard_no_pad digest.now)
+        result room.old room.new }
+{
+    let Some((front, rest)) = room.split_at_mut_checked(prefix.len()) else {
+        return ROOM;
+    };
+    let Ok(_) = STANDARD_NO_PAD.encode_slice(digest, rest) else {
+        return ROOM;
+    };
+    front.copy_from_slice(prefix.as_bytes());
+    DONE
 }

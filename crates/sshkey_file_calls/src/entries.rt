@@ -86,12 +86,13 @@ fn tell_authorized_key(
 /// The entry of a line of known_hosts as OpenSSH reads it (sshd(8), "SSH_KNOWN_HOSTS FILE FORMAT"):
 /// its marker, its hosts, its key and its comment. Patterns of hosts are joined by commas.
 ///
-/// Returns what `authorized_entry` does.
+/// Returns what `authorized_entry` does. Memory is taken only where hosts stand in the line.
 pub fn known_host(alloc: Global, line: &[u8], room: &mut [u8], answer: &mut EntryParts) -> u32
     ensures entry { IsUtf8 line.now → FindsEntry (IsHostLine line.now) of_known_host
         result answer.new room.old room.new }
     ensures fault { IsUtf8 line.now → TellsFault hosts.HasLineFault line.now result }
     ensures text { (IsUtf8 line.now → ⊥) → result ≡ 4 }
+    ensures memory { result ≡ 1 → hosts.NeedsHostLine line.now }
 {
     match str::from_utf8(line) {
         Ok(text) => known_host_of(alloc, text, room, answer),
@@ -104,6 +105,7 @@ fn known_host_of(alloc: Global, line: &str, room: &mut [u8], answer: &mut EntryP
     ensures entry { FindsEntry (IsHostLine line.now) of_known_host
         result answer.new room.old room.new }
     ensures fault { TellsFault hosts.HasLineFault line.now result }
+    ensures memory { result ≡ 1 → hosts.NeedsHostLine line.now }
 {
     match KnownHost::from_line_openssh(alloc, line) {
         Ok(entry) => tell_known_host(alloc, &entry, room, answer),

@@ -1,5 +1,5 @@
 use Rattle.std.proofs.Common.{◌≡◌, List, rules, subst, ℕ}
-use Rattle.sshkey_known_hosts.specs.OpenSshHosts.{HasLineFault}
+use Rattle.sshkey_known_hosts.specs.OpenSshHosts.{HasLineFault, NeedsHostLine}
 use Rattle.sshkey_files.specs.OpenSshLines.{IsHostLine}
 use Rattle.sshkey_file_calls.specs.Entries.{FindsEntry, TellsFault, of_known_host}
 use Rattle.sshkey_file_calls.proofs.entries.known_host.Goals as goal
@@ -13,3 +13,8 @@ pub returns-in-Ok-clause-fault : goal.returns-in-Ok-clause-fault
 returns-in-Ok-clause-fault c utf8 =
     let same : c.in-Ok.text.now ≡ c.args.line.now = search rules in
     subst (λ (l : List ℕ). TellsFault HasLineFault l c.known_host_of.result) same c.known_host_of.ensures.fault
+
+pub returns-in-Ok-clause-memory : goal.returns-in-Ok-clause-memory
+returns-in-Ok-clause-memory c one =
+    let same : c.in-Ok.text.now ≡ c.args.line.now = search rules in
+    subst NeedsHostLine same (c.known_host_of.ensures.memory one)

@@ -1,7 +1,10 @@
+use Rattle.sshkey_base.specs.Causes.{cause}
 use Rattle.sshkey_known_hosts.specs.HostEntries.{known_host_of}
 use Rattle.sshkey_known_hosts.specs.OpenSshHosts.{HasLineFault}
 use Rattle.sshkey_files.specs.OpenSshLines.{IsHostLine}
 use Rattle.sshkey_file_calls.specs.Entries.{of_known_host}
+use Rattle.sshkey_calls.proofs.Kept.{only_memory}
+use Rattle.sshkey_known_hosts.proofs.HostLines.{entry_needs}
 use Rattle.sshkey_file_calls.proofs.Found.{no_fault, none_found, of_line, told}
 use Rattle.sshkey_file_calls.proofs.entries.known_host_of.Goals as goal
 
@@ -16,3 +19,9 @@ returns-in-Err-clause-entry c = none_found (IsHostLine c.args.line.now) of_known
 
 pub returns-in-Err-clause-fault : goal.returns-in-Err-clause-fault
 returns-in-Err-clause-fault c = told HasLineFault c.args.line.now c.in-Err.error _ c.error_number.ensures.memory c.error_number.ensures.number c.in-Err.ensures.fault
+
+pub returns-in-Ok-clause-memory : goal.returns-in-Ok-clause-memory
+returns-in-Ok-clause-memory c _ = entry_needs c.args.line.now (known_host_of c.in-Ok.entry) c.in-Ok.ensures.reads
+
+pub returns-in-Err-clause-memory : goal.returns-in-Err-clause-memory
+returns-in-Err-clause-memory c one = c.in-Err.ensures.asks (only_memory (cause c.in-Err.error) _ c.error_number.ensures.range one)
