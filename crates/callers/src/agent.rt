@@ -66,7 +66,7 @@ fn shown_identities(alloc: Global, identities: &[Identity]) -> Result<String> {
 }
 
 /// The algorithm of the signature, and its bytes.
-fn shown_signature(alloc: Global, signature: &Signature) -> Result<String> {
+pub(crate) fn shown_signature(alloc: Global, signature: &Signature) -> Result<String> {
     let mut text = String::from_str(alloc, "signature ")?;
     text.push_str(signature.algorithm().as_str())?;
     push_bytes(alloc, &mut text, signature.as_bytes())?;

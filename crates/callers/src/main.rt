@@ -8,6 +8,7 @@
 
 mod agent;
 mod allowed;
+mod client;
 mod deploy;
 mod hashes;
 mod host;
@@ -58,6 +59,7 @@ fn answer(alloc: Global, line: &str, told: &mut Told, hashes: &mut Hashes) -> Re
             }
             "agent-request" => agent::request(alloc, words),
             "agent-response" => agent::response(alloc, words),
+            "agent-signature" => client::answer(alloc, words, told),
             "allowed-signer" => allowed::answer(alloc, words, told),
             "deploy" => deploy::answer(alloc, words, told),
             "host-key" => host::key(alloc, words, hashes),
