@@ -1,9 +1,7 @@
 //! Parts of certificates that take memory of their own.
 
-use crate::answer::Answer;
-use crate::bytes::{part, text};
-use crate::questions::{OfBytes, OfText, Question};
-use sshkey_base::{Error, HashAlg, Result};
+use crate::bytes::text;
+use sshkey_base::{Encode, HashAlg, Result, encode_vec};
 use sshkey_cert::{Certificate, KeyOrCertificate};
 use sshkey_cert_ref::CertificateRef;
 use sshkey_options::OptionsMap;
@@ -13,115 +11,74 @@ use std::alloc::Global;
 
 /// The algorithm of the key in the certificate of a line, which a verifier that accepts all accepts,
 /// and the line that is written of it.
-pub(crate) struct CertificateLine;
+pub(crate) fn line(alloc: Global, line: &str) -> Result<String> {
+    let certificate = Certificate::from_openssh(alloc, line)?;
+    algorithm_and_line(alloc, &certificate)
+}
 
-impl OfText for CertificateLine {
-    const NAME: &'static str = "certificate-line";
-
-    type Value = Certificate;
-
-    fn read(alloc: Global, line: &str) -> Result<Certificate> {
-        Certificate::from_openssh(alloc, line)
-    }
-
-    fn say(certificate: &Certificate, _rest: &[Vec<u8>], answer: &mut Answer) {
-        let alloc = answer.alloc();
-        answer.add_if(certificate.verify_signature(alloc, &AcceptAll), "");
-        answer.show_or_refuse(certificate.algorithm(alloc));
-        answer.add(", signed: ");
-        answer.show_or_refuse(certificate.to_openssh(alloc));
-    }
+fn algorithm_and_line(alloc: Global, certificate: &Certificate) -> Result<String> {
+    certificate.verify_signature(alloc, &AcceptAll)?;
+    let algorithm = certificate.algorithm(alloc)?;
+    let line = certificate.to_openssh(alloc)?;
+    Ok(format!(in alloc; "{algorithm}, signed: {line}")?)
 }
 
 /// Whether all the bytes are a key or a certificate, and what is written of it.
-pub(crate) struct AnyOfBoth;
-
-impl OfBytes for AnyOfBoth {
-    const NAME: &'static str = "key-or-certificate";
-
-    type Value = KeyOrCertificate;
-
-    fn read(alloc: Global, bytes: &[u8]) -> Result<KeyOrCertificate> {
-        KeyOrCertificate::from_bytes(alloc, bytes)
-    }
-
-    fn say(read: &KeyOrCertificate, _bytes: &[u8], _rest: &[Vec<u8>], answer: &mut Answer) {
-        match read {
-            KeyOrCertificate::Key(key) => {
-                answer.add("key ");
-                answer.add_written(key);
-            }
-            KeyOrCertificate::Certificate(certificate) => {
-                answer.add("certificate ");
-                answer.add_written(certificate);
-            }
-        }
-    }
+pub(crate) fn key_or_certificate(alloc: Global, bytes: &[u8]) -> Result<String> {
+    let (kind, written) = match &KeyOrCertificate::from_bytes(alloc, bytes)? {
+        KeyOrCertificate::Key(key) => ("key", digits(alloc, key)?),
+        KeyOrCertificate::Certificate(certificate) => ("certificate", digits(alloc, certificate)?),
+    };
+    Ok(format!(in alloc; "{kind} {written}")?)
 }
 
 /// The key, the key of the authority and the signature of the certificate that all the bytes spell,
 /// which a verifier that accepts all accepts.
-pub(crate) struct CertificateParts;
-
-impl Question for CertificateParts {
-    const NAME: &'static str = "certificate-parts";
-
-    fn answer(parts: &[Vec<u8>], answer: &mut Answer) {
-        match CertificateRef::from_bytes(part(parts, 0)) {
-            Ok(certificate) => say_parts(&certificate, answer),
-            Err(error) => answer.refuse(error),
-        }
-    }
+pub(crate) fn parts(alloc: Global, bytes: &[u8]) -> Result<String> {
+    let certificate = CertificateRef::from_bytes(bytes)?;
+    certificate.verify_signature(alloc, &AcceptAll)?;
+    let key = key(alloc, &certificate)?;
+    let authority = authority(alloc, &certificate)?;
+    let signature = signature(alloc, &certificate)?;
+    Ok(format!(in alloc; "{key} signed by {authority} with {signature}")?)
 }
 
-fn say_parts(certificate: &CertificateRef<'_>, answer: &mut Answer) {
-    let alloc = answer.alloc();
-    answer.add_if(certificate.verify_signature(alloc, &AcceptAll), "");
-    answer.add_written_or_refuse(certificate.public_key(alloc));
-    answer.add(" signed by ");
-    answer.add_written_or_refuse(certificate.signature_key(alloc));
-    answer.add(" with ");
-    answer.add_written_or_refuse(certificate.signature(alloc));
+fn key(alloc: Global, certificate: &CertificateRef<'_>) -> Result<String> {
+    digits(alloc, &certificate.public_key(alloc)?)
+}
+
+fn authority(alloc: Global, certificate: &CertificateRef<'_>) -> Result<String> {
+    digits(alloc, &certificate.signature_key(alloc)?)
+}
+
+fn signature(alloc: Global, certificate: &CertificateRef<'_>) -> Result<String> {
+    digits(alloc, &certificate.signature(alloc)?)
+}
+
+fn digits<T: Encode>(alloc: Global, value: &T) -> Result<String> {
+    let written = encode_vec(alloc, value)?;
+    Ok(hex::encode(alloc, &written)?)
 }
 
 /// The algorithm, the fingerprint and the bytes of the public key that all the bytes spell.
-pub(crate) struct PublicKeyOfBytes;
+pub(crate) fn public_key(alloc: Global, bytes: &[u8]) -> Result<String> {
+    let key = PublicKey::from_bytes(alloc, bytes)?;
+    algorithm_and_bytes(alloc, &key)
+}
 
-impl OfBytes for PublicKeyOfBytes {
-    const NAME: &'static str = "public-key";
-
-    type Value = PublicKey;
-
-    fn read(alloc: Global, bytes: &[u8]) -> Result<PublicKey> {
-        PublicKey::from_bytes(alloc, bytes)
-    }
-
-    fn say(key: &PublicKey, _bytes: &[u8], _rest: &[Vec<u8>], answer: &mut Answer) {
-        let alloc = answer.alloc();
-        answer.show_or_refuse(key.algorithm(alloc));
-        answer.add(", ");
-        answer.show_or_refuse(key.fingerprint(alloc, HashAlg::Sha256));
-        answer.add(", ");
-        answer.add_digits_or_refuse(key.to_bytes(alloc));
-    }
+fn algorithm_and_bytes(alloc: Global, key: &PublicKey) -> Result<String> {
+    let algorithm = key.algorithm(alloc)?;
+    let fingerprint = key.fingerprint(alloc, HashAlg::Sha256)?;
+    let digits = hex::encode(alloc, &key.to_bytes(alloc)?)?;
+    Ok(format!(in alloc; "{algorithm}, {fingerprint}, {digits}")?)
 }
 
 /// What is written of the options of these names, each with the value behind it.
-pub(crate) struct OptionsOfPairs;
-
-impl Question for OptionsOfPairs {
-    const NAME: &'static str = "options-of-pairs";
-
-    fn answer(parts: &[Vec<u8>], answer: &mut Answer) {
-        answer.add_written_or_refuse(options(answer.alloc(), parts));
-    }
-}
-
-fn options(alloc: Global, parts: &[Vec<u8>]) -> Result<OptionsMap> {
+pub(crate) fn options(alloc: Global, parts: &[Vec<u8>]) -> Result<String> {
     let mut pairs = Vec::new(alloc);
     for at in 0..parts.len() / 2 {
         let name = String::from_str(alloc, text(parts, 2 * at)?)?;
         pairs.push((name, String::from_str(alloc, text(parts, 2 * at + 1)?)?))?;
     }
-    OptionsMap::from_pairs(alloc, pairs)
+    digits(alloc, &OptionsMap::from_pairs(alloc, pairs)?)
 }

@@ -1,9 +1,8 @@
 //! Copies. Each is written where the value is let go of, and not in the function that copies it.
 
-use crate::answer::Answer;
 use crate::bytes::{NO_LINE, part, text};
 use sshkey_authorized_keys::{ConfigOpts, Entry as AuthorizedKey};
-use sshkey_base::{Algorithm, Result, decode_whole};
+use sshkey_base::{Algorithm, Encode, Result, decode_whole, encode_vec};
 use sshkey_cert::Certificate;
 use sshkey_keypairs::KeypairData;
 use sshkey_keys::{KeyData, Signature};
@@ -14,25 +13,23 @@ use sshkey_sshsig::SshSig;
 use std::alloc::Global;
 
 /// What is written of a copy of the value of that kind which all the bytes spell.
-pub(crate) fn say_copy(kind: &str, parts: &[Vec<u8>], answer: &mut Answer) {
-    let alloc = answer.alloc();
+pub(crate) fn value(alloc: Global, kind: &str, parts: &[Vec<u8>]) -> Result<String> {
     let bytes = part(parts, 0);
     match kind {
-        "key" => answer.add_written_or_refuse(key(alloc, bytes)),
-        "signature" => answer.add_written_or_refuse(signature(alloc, bytes)),
-        "ssh-signature" => answer.add_written_or_refuse(ssh_signature(alloc, bytes)),
-        "certificate" => answer.add_written_or_refuse(certificate(alloc, bytes)),
-        "pair" => answer.add_written_or_refuse(pair(alloc, bytes)),
-        "private-key" => answer.add_written_or_refuse(private_key(alloc, bytes)),
-        _ => say_copy_of_text(kind, text(parts, 0), answer),
+        "algorithm" => digits(alloc, algorithm(alloc, text(parts, 0)?)),
+        "key" => digits(alloc, key(alloc, bytes)),
+        "signature" => digits(alloc, signature(alloc, bytes)),
+        "ssh-signature" => digits(alloc, ssh_signature(alloc, bytes)),
+        "certificate" => digits(alloc, certificate(alloc, bytes)),
+        "pair" => digits(alloc, pair(alloc, bytes)),
+        "private-key" => digits(alloc, private_key(alloc, bytes)),
+        _ => text_of_copy(alloc, kind, text(parts, 0)?),
     }
 }
 
-fn say_copy_of_text(kind: &str, text: Result<&str>, answer: &mut Answer) {
-    match text {
-        Ok(text) => say_text_of_copy(kind, text, answer),
-        Err(error) => answer.refuse(error),
-    }
+fn digits<T: Encode + Drop>(alloc: Global, copy: Result<T>) -> Result<String> {
+    let written = encode_vec(alloc, &copy?)?;
+    Ok(hex::encode(alloc, &written)?)
 }
 
 fn algorithm(alloc: Global, name: &str) -> Result<Algorithm> {
@@ -65,16 +62,14 @@ fn private_key(alloc: Global, bytes: &[u8]) -> Result<PrivateKey> {
     PrivateKey::from_bytes(alloc, bytes)?.try_clone(alloc)
 }
 
-fn say_text_of_copy(kind: &str, text: &str, answer: &mut Answer) {
-    let alloc = answer.alloc();
+fn text_of_copy(alloc: Global, kind: &str, text: &str) -> Result<String> {
     match kind {
-        "algorithm" => answer.add_written_or_refuse(algorithm(alloc, text)),
-        "public-key" => answer.show_or_refuse(line_of_key(alloc, text)),
-        "authorized-key" => answer.show_or_refuse(line_of_authorized_key(alloc, text)),
-        "known-host" => answer.show_or_refuse(line_of_known_host(alloc, text)),
-        "host-patterns" => answer.show_or_refuse(text_of_patterns(alloc, text)),
-        "config-options" => answer.show_or_refuse(config_options(alloc, text)),
-        _ => answer.refuse(NO_LINE),
+        "public-key" => line_of_key(alloc, text),
+        "authorized-key" => line_of_authorized_key(alloc, text),
+        "known-host" => line_of_known_host(alloc, text),
+        "host-patterns" => text_of_patterns(alloc, text),
+        "config-options" => text_of_options(alloc, text),
+        _ => Err(NO_LINE),
     }
 }
 
@@ -108,6 +103,10 @@ fn text_of_patterns(alloc: Global, text: &str) -> Result<String> {
 
 fn host_patterns(alloc: Global, text: &str) -> Result<HostPatterns> {
     HostPatterns::from_text(alloc, text)?.try_clone(alloc)
+}
+
+fn text_of_options(alloc: Global, text: &str) -> Result<String> {
+    Ok(config_options(alloc, text)?.as_str().to_string(alloc)?)
 }
 
 fn config_options(alloc: Global, text: &str) -> Result<ConfigOpts> {

@@ -1,44 +1,63 @@
 //! Values from sources that break off.
 
-use crate::answer::Answer;
 use crate::bytes::{NO_LINE, part};
-use crate::kinds::{Kind, Operation};
-use sshkey_base::{Decode, Error, Reader, Result, encoding};
+use sshkey_base::{Algorithm, Decode, Error, Mpint, Reader, Result, encoding};
+use sshkey_cert::Certificate;
+use sshkey_ciphers::Kdf;
+use sshkey_keypairs::KeypairData;
+use sshkey_keys::{KeyData, Signature};
+use sshkey_options::OptionsMap;
+use sshkey_pairs::EcdsaPrivateKey;
 use sshkey_private::PrivateKey;
+use sshkey_sshsig::SshSig;
 use sshkey_testing::Faulty;
 use std::alloc::Global;
 
 /// How many bytes are missing behind all the bytes of a value.
 const BEHIND: u32 = 16;
 
-/// At how many of the places the length that is `ffffffff` there is refused as such, where the
-/// source breaks off behind it and what is left of the value is missing, or at which it is not. A
-/// place is two bytes.
-pub(crate) struct Overlong;
-
-impl Operation for Overlong {
-    fn answer<T: Kind>(parts: &[Vec<u8>], answer: &mut Answer)
-    where
-        Error: From<T::Error>,
-    {
-        let places = part(parts, 1);
-        match another_refusal::<T>(answer.alloc(), part(parts, 0), places) {
-            Ok(None) => {
-                answer.add("invalid at each of ");
-                answer.show(&(places.len() / 2));
-            }
-            Ok(Some((at, refusal))) => say_refusal_at(at, refusal, answer),
-            Err(error) => answer.refuse::<Error>(error),
-        }
+/// At how many of the bytes a value of that kind is refused where its source breaks off in front of
+/// them, or at which it is not.
+pub(crate) fn value(alloc: Global, kind: &str, bytes: &[u8]) -> Result<String> {
+    match kind {
+        "algorithm" => each::<Algorithm>(alloc, bytes),
+        "mpint" => each::<Mpint>(alloc, bytes),
+        "list" => each::<Vec<String>>(alloc, bytes),
+        "key" => each::<KeyData>(alloc, bytes),
+        "signature" => each::<Signature>(alloc, bytes),
+        "options" => each::<OptionsMap>(alloc, bytes),
+        "certificate" => each::<Certificate>(alloc, bytes),
+        "ssh-signature" => each::<SshSig>(alloc, bytes),
+        "scalar" => each::<EcdsaPrivateKey<32>>(alloc, bytes),
+        "derivation" => each::<Kdf>(alloc, bytes),
+        "pair" => each::<KeypairData>(alloc, bytes),
+        "private-key" => each_of_private(alloc, bytes),
+        _ => Err(NO_LINE),
     }
 }
 
-/// The first place at which the value is not refused as invalid, and how it is refused there.
-fn another_refusal<T>(
-    alloc: Global,
-    bytes: &[u8],
-    places: &[u8],
-) -> Result<Option<(usize, Option<Error>)>>
+/// At how many of the places the length that is `ffffffff` there is refused as such, where the
+/// source breaks off behind it and what is left of the value is missing, or at which it is not. A
+/// place is two bytes.
+pub(crate) fn overlong(alloc: Global, kind: &str, parts: &[Vec<u8>]) -> Result<String> {
+    let (bytes, places) = (part(parts, 0), part(parts, 1));
+    match kind {
+        "algorithm" => each_place::<Algorithm>(alloc, bytes, places),
+        "mpint" => each_place::<Mpint>(alloc, bytes, places),
+        "list" => each_place::<Vec<String>>(alloc, bytes, places),
+        "key" => each_place::<KeyData>(alloc, bytes, places),
+        "signature" => each_place::<Signature>(alloc, bytes, places),
+        "options" => each_place::<OptionsMap>(alloc, bytes, places),
+        "certificate" => each_place::<Certificate>(alloc, bytes, places),
+        "ssh-signature" => each_place::<SshSig>(alloc, bytes, places),
+        "scalar" => each_place::<EcdsaPrivateKey<32>>(alloc, bytes, places),
+        "derivation" => each_place::<Kdf>(alloc, bytes, places),
+        "pair" => each_place::<KeypairData>(alloc, bytes, places),
+        _ => Err(NO_LINE),
+    }
+}
+
+fn each_place<T>(alloc: Global, bytes: &[u8], places: &[u8]) -> Result<String>
 where
     T: Decode + Drop,
     Error: From<T::Error>,
@@ -47,10 +66,10 @@ where
         let at = number_of(place)?;
         let refusal = refusal_at::<T>(alloc, bytes, at)?;
         if !is_invalid(&refusal)? {
-            return Ok(Some((at, refusal)));
+            return otherwise_at(alloc, at, refusal);
         }
     }
-    Ok(None)
+    Ok(format!(in alloc; "invalid at each of {}", places.len() / 2)?)
 }
 
 fn number_of(place: &[u8]) -> Result<usize> {
@@ -81,13 +100,10 @@ fn is_invalid(refusal: &Option<Error>) -> Result<bool> {
     }
 }
 
-fn say_refusal_at(at: usize, refusal: Option<Error>, answer: &mut Answer) {
-    answer.add("at ");
-    answer.show(&at);
-    answer.add(": ");
+fn otherwise_at(alloc: Global, at: usize, refusal: Option<Error>) -> Result<String> {
     match refusal {
-        Some(error) => answer.show(&error),
-        None => answer.add("read"),
+        Some(error) => Ok(format!(in alloc; "at {at}: {error}")?),
+        None => Ok(format!(in alloc; "at {at}: read")?),
     }
 }
 
@@ -97,30 +113,7 @@ fn cut(bytes: &[u8], len: usize) -> Faulty<'_> {
     Faulty::new(bytes.get(..len).unwrap_or(bytes), missing)
 }
 
-/// At how many of the bytes a value is refused where its source breaks off in front of them, or at
-/// which it is not.
-pub(crate) struct BrokenOff;
-
-impl Operation for BrokenOff {
-    fn answer<T: Kind>(parts: &[Vec<u8>], answer: &mut Answer)
-    where
-        Error: From<T::Error>,
-    {
-        let bytes = part(parts, 0);
-        match unrefused::<T>(answer.alloc(), bytes) {
-            Ok(None) => {
-                let mut source = Faulty::new(bytes, BEHIND);
-                let refusal = refusal::<T>(answer.alloc(), &mut source);
-                say_all(refusal, source.remaining_len(), bytes.len(), answer);
-            }
-            Ok(Some(len)) => say_unrefused(len, answer),
-            Err(error) => answer.refuse::<Error>(error),
-        }
-    }
-}
-
-/// The number of bytes in front of a fault that does not refuse the value.
-fn unrefused<T>(alloc: Global, bytes: &[u8]) -> Result<Option<usize>>
+fn each<T>(alloc: Global, bytes: &[u8]) -> Result<String>
 where
     T: Decode + Drop,
     Error: From<T::Error>,
@@ -129,10 +122,12 @@ where
         let mut source = cut(bytes, len);
         let refusal = refusal::<T>(alloc, &mut source);
         if !is_by_source(refusal, &source, bytes)? {
-            return Ok(Some(len));
+            return otherwise(alloc, len);
         }
     }
-    Ok(None)
+    let mut source = Faulty::new(bytes, BEHIND);
+    let refusal = refusal::<T>(alloc, &mut source);
+    all(alloc, refusal, &source, bytes)
 }
 
 /// The refusal of the value in front of a source.
@@ -147,28 +142,18 @@ where
     }
 }
 
-/// As `BrokenOff`, for private keys.
-pub(crate) fn say_private(bytes: &[u8], answer: &mut Answer) {
-    match unrefused_private(answer.alloc(), bytes) {
-        Ok(None) => {
-            let mut source = Faulty::new(bytes, BEHIND);
-            let refusal = PrivateKey::decode(answer.alloc(), &mut source).err();
-            say_all(refusal, source.remaining_len(), bytes.len(), answer);
-        }
-        Ok(Some(len)) => say_unrefused(len, answer),
-        Err(error) => answer.refuse(error),
-    }
-}
-
-fn unrefused_private(alloc: Global, bytes: &[u8]) -> Result<Option<usize>> {
+/// As `each`, for private keys.
+fn each_of_private(alloc: Global, bytes: &[u8]) -> Result<String> {
     for len in 0..bytes.len() {
         let mut source = cut(bytes, len);
         let refusal = PrivateKey::decode(alloc, &mut source).err();
         if !is_by_source(refusal, &source, bytes)? {
-            return Ok(Some(len));
+            return otherwise(alloc, len);
         }
     }
-    Ok(None)
+    let mut source = Faulty::new(bytes, BEHIND);
+    let refusal = PrivateKey::decode(alloc, &mut source).err();
+    all(alloc, refusal, &source, bytes)
 }
 
 /// Whether the refusal is the fault of the source, which is no longer than the bytes. Refused when
@@ -181,28 +166,19 @@ fn is_by_source(refusal: Option<Error>, source: &Faulty<'_>, bytes: &[u8]) -> Re
     }
 }
 
-fn say_unrefused(len: usize, answer: &mut Answer) {
-    answer.add("not refused by the source at ");
-    answer.show(&len);
+fn otherwise(alloc: Global, len: usize) -> Result<String> {
+    Ok(format!(in alloc; "not refused by the source at {len}")?)
 }
 
 /// The answer where each beginning was refused. Behind it stands what becomes of all the bytes,
 /// where these are refused, or where not all that is missing is left.
-fn say_all(refusal: Option<Error>, left: usize, count: usize, answer: &mut Answer) {
-    answer.add("refused at each of ");
-    answer.show(&count);
+fn all(alloc: Global, refusal: Option<Error>, source: &Faulty<'_>, bytes: &[u8]) -> Result<String> {
+    let count = bytes.len();
+    let left = source.remaining_len();
     match refusal {
-        Some(Error::Memory) => answer.refuse(Error::Memory),
-        Some(error) => {
-            answer.add(", then: ");
-            answer.show(&error);
-        }
-        None => {
-            if left != BEHIND as usize {
-                answer.add(", then ");
-                answer.show(&left);
-                answer.add(" left");
-            }
-        }
+        Some(Error::Memory) => Err(Error::Memory),
+        Some(error) => Ok(format!(in alloc; "refused at each of {count}, then: {error}")?),
+        None if left == BEHIND as usize => Ok(format!(in alloc; "refused at each of {count}")?),
+        None => Ok(format!(in alloc; "refused at each of {count}, then {left} left")?),
     }
 }

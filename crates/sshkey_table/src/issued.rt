@@ -1,10 +1,8 @@
 //! Certificates that a builder makes, where each of its calls that takes memory is made again if
 //! that was refused: the builder has to be as before.
 
-use crate::answer::Answer;
-use crate::bytes::text;
-use crate::questions::OfBytes;
-use sshkey_base::{Error, Result};
+use crate::bytes::{part, text};
+use sshkey_base::{Error, Result, encode_vec};
 use sshkey_builder::Builder;
 use sshkey_cert::Certificate;
 use sshkey_keys::KeyData;
@@ -14,28 +12,23 @@ use std::alloc::Global;
 
 /// The certificate of the nonce 01 for the key that the first byte string is, from second 10 to 20,
 /// for one principal, with a critical option and an extension, signed by that key.
-pub(crate) struct Issued;
-
-impl OfBytes for Issued {
-    const NAME: &'static str = "issued";
-
-    type Value = Ed25519PublicKey;
-
-    fn read(_alloc: Global, bytes: &[u8]) -> Result<Ed25519PublicKey> {
-        Ed25519PublicKey::try_from(bytes)
-    }
-
-    fn say(key: &Ed25519PublicKey, _bytes: &[u8], rest: &[Vec<u8>], answer: &mut Answer) {
-        match told(begun(answer.alloc(), *key), rest, answer) {
-            Ok(builder) => say_signed(builder, *key, answer),
-            Err(error) => answer.refuse(error),
-        }
-    }
+pub(crate) fn certificate(alloc: Global, parts: &[Vec<u8>]) -> Result<String> {
+    let key = Ed25519PublicKey::try_from(part(parts, 0))?;
+    let mut builder = begun(alloc, key)?;
+    let refused = tell(alloc, &mut builder, parts)?;
+    signed(alloc, builder, key, refused)
 }
 
-/// Says what is written of the builder's certificate, signed by that key.
-pub(crate) fn say_signed(builder: Builder, key: Ed25519PublicKey, answer: &mut Answer) {
-    answer.add_written_or_refuse(signed_by(answer.alloc(), builder, key));
+/// What is written of the builder's certificate, signed by that key, behind whether memory was
+/// refused.
+pub(crate) fn signed(
+    alloc: Global,
+    builder: Builder,
+    key: Ed25519PublicKey,
+    refused: bool,
+) -> Result<String> {
+    let certificate = signed_by(alloc, builder, key)?;
+    written(alloc, &certificate, refused)
 }
 
 fn signed_by(alloc: Global, builder: Builder, key: Ed25519PublicKey) -> Result<Certificate> {
@@ -48,28 +41,19 @@ fn begun(alloc: Global, key: Ed25519PublicKey) -> Result<Builder> {
     Builder::new(alloc, nonce, KeyData::Ed25519(key), 10, 20)
 }
 
-/// The builder that was told of the parts. Says whether memory was refused to one of the calls,
-/// which was made again then.
-fn told(begun: Result<Builder>, rest: &[Vec<u8>], answer: &mut Answer) -> Result<Builder> {
-    let mut builder = begun?;
-    if tell(answer.alloc(), &mut builder, rest)? {
-        answer.add("out of memory, then ");
-    }
-    Ok(builder)
-}
-
-fn tell(alloc: Global, builder: &mut Builder, rest: &[Vec<u8>]) -> Result<bool> {
-    let first = lacks_memory(principal(alloc, builder, rest))?;
+/// Whether memory was refused to one of the calls, which was made again then.
+fn tell(alloc: Global, builder: &mut Builder, parts: &[Vec<u8>]) -> Result<bool> {
+    let first = lacks_memory(principal(alloc, builder, parts))?;
     if first {
-        principal(alloc, builder, rest)?;
+        principal(alloc, builder, parts)?;
     }
-    let second = lacks_memory(option(alloc, builder, rest))?;
+    let second = lacks_memory(option(alloc, builder, parts))?;
     if second {
-        option(alloc, builder, rest)?;
+        option(alloc, builder, parts)?;
     }
-    let third = lacks_memory(extension(alloc, builder, rest))?;
+    let third = lacks_memory(extension(alloc, builder, parts))?;
     if third {
-        extension(alloc, builder, rest)?;
+        extension(alloc, builder, parts)?;
     }
     Ok(first || second || third)
 }
@@ -82,19 +66,26 @@ fn lacks_memory(answer: Result<()>) -> Result<bool> {
     }
 }
 
-fn principal(alloc: Global, builder: &mut Builder, rest: &[Vec<u8>]) -> Result<()> {
-    builder.valid_principal(String::from_str(alloc, text(rest, 0)?)?)?;
+fn principal(alloc: Global, builder: &mut Builder, parts: &[Vec<u8>]) -> Result<()> {
+    builder.valid_principal(String::from_str(alloc, text(parts, 1)?)?)?;
     Ok(())
 }
 
-fn option(alloc: Global, builder: &mut Builder, rest: &[Vec<u8>]) -> Result<()> {
-    let name = String::from_str(alloc, text(rest, 1)?)?;
-    builder.critical_option(name, String::from_str(alloc, text(rest, 2)?)?)?;
+fn option(alloc: Global, builder: &mut Builder, parts: &[Vec<u8>]) -> Result<()> {
+    let name = String::from_str(alloc, text(parts, 2)?)?;
+    builder.critical_option(name, String::from_str(alloc, text(parts, 3)?)?)?;
     Ok(())
 }
 
-fn extension(alloc: Global, builder: &mut Builder, rest: &[Vec<u8>]) -> Result<()> {
-    let name = String::from_str(alloc, text(rest, 3)?)?;
-    builder.extension(name, String::from_str(alloc, text(rest, 4)?)?)?;
+fn extension(alloc: Global, builder: &mut Builder, parts: &[Vec<u8>]) -> Result<()> {
+    let name = String::from_str(alloc, text(parts, 4)?)?;
+    builder.extension(name, String::from_str(alloc, text(parts, 5)?)?)?;
     Ok(())
+}
+
+fn written(alloc: Global, certificate: &Certificate, refused: bool) -> Result<String> {
+    let bytes = encode_vec(alloc, certificate)?;
+    let digits = hex::encode(alloc, &bytes)?;
+    let before = if refused { "out of memory, then " } else { "" };
+    Ok(format!(in alloc; "{before}{digits}")?)
 }

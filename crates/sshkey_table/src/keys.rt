@@ -1,9 +1,7 @@
 //! Whole public keys, and their fingerprints.
 
-use crate::answer::Answer;
 use crate::bytes::{NO_LINE, part, text};
-use crate::questions::{OfBytes, OfText, Question};
-use sshkey_base::{Algorithm, Error, HashAlg, Mpint, Result, decode_whole};
+use sshkey_base::{Algorithm, HashAlg, Mpint, Result, decode_whole};
 use sshkey_keys::{Fingerprint, KeyData};
 use sshkey_kinds::{
     DsaPublicKey, EcPoint, EcdsaPublicKey, Ed25519PublicKey, OpaquePublicKey, RsaPublicKey,
@@ -13,26 +11,21 @@ use std::alloc::Global;
 
 /// The name and the kind of the key that all the bytes spell, and how many bytes stand behind the
 /// name where it is written, of a copy of the key.
-pub(crate) struct NameAndKind;
+pub(crate) fn name_and_kind(alloc: Global, bytes: &[u8]) -> Result<String> {
+    said(alloc, &copied(alloc, bytes)?)
+}
 
-impl OfBytes for NameAndKind {
-    const NAME: &'static str = "kind";
+/// A copy of the key that all the bytes spell. It has a function of its own, since the ways out of
+/// one that lets go of two keys are as many as the pairs of their kinds.
+fn copied(alloc: Global, bytes: &[u8]) -> Result<KeyData> {
+    let read: KeyData = decode_whole(alloc, bytes)?;
+    Ok(read.try_clone(alloc)?)
+}
 
-    type Value = KeyData;
-
-    fn read(alloc: Global, bytes: &[u8]) -> Result<KeyData> {
-        let read: KeyData = decode_whole(alloc, bytes)?;
-        Ok(read.try_clone(alloc)?)
-    }
-
-    fn say(key: &KeyData, _bytes: &[u8], _rest: &[Vec<u8>], answer: &mut Answer) {
-        answer.add(key.algorithm_name());
-        answer.add(", ");
-        answer.add(kind_of(key));
-        answer.add(", ");
-        answer.show_or_refuse(key.encoded_key_data_len());
-        answer.add(" bytes");
-    }
+fn said(alloc: Global, key: &KeyData) -> Result<String> {
+    let name = key.algorithm_name();
+    let len = key.encoded_key_data_len()?;
+    Ok(format!(in alloc; "{name}, {}, {len} bytes", kind_of(key))?)
 }
 
 /// The kind of which the key is said to be, and as which it is seen.
@@ -57,102 +50,40 @@ fn kind_of(key: &KeyData) -> &'static str {
 }
 
 /// The fingerprints of the key that all the bytes spell.
-pub(crate) struct Fingerprints;
-
-impl OfBytes for Fingerprints {
-    const NAME: &'static str = "fingerprints";
-
-    type Value = KeyData;
-
-    fn read(alloc: Global, bytes: &[u8]) -> Result<KeyData> {
-        decode_whole(alloc, bytes)
-    }
-
-    fn say(key: &KeyData, _bytes: &[u8], _rest: &[Vec<u8>], answer: &mut Answer) {
-        answer.show_or_refuse(Fingerprint::new(answer.alloc(), HashAlg::Sha256, key));
-        answer.add(" ");
-        answer.show_or_refuse(key.fingerprint(answer.alloc(), HashAlg::Sha512));
-    }
+pub(crate) fn fingerprints(alloc: Global, bytes: &[u8]) -> Result<String> {
+    let key: KeyData = decode_whole(alloc, bytes)?;
+    both_fingerprints(alloc, &key)
 }
 
-/// The fingerprint of a text.
-pub(crate) struct TextOfFingerprint;
-
-impl OfText for TextOfFingerprint {
-    const NAME: &'static str = "fingerprint-text";
-
-    type Value = Fingerprint;
-
-    fn read(_alloc: Global, text: &str) -> Result<Fingerprint> {
-        text.parse()
-    }
-
-    fn say(fingerprint: &Fingerprint, _rest: &[Vec<u8>], answer: &mut Answer) {
-        answer.show(fingerprint);
-    }
+fn both_fingerprints(alloc: Global, key: &KeyData) -> Result<String> {
+    let short = Fingerprint::new(alloc, HashAlg::Sha256, key)?;
+    let long = key.fingerprint(alloc, HashAlg::Sha512)?;
+    Ok(format!(in alloc; "{short} {long}")?)
 }
 
 /// The random art of the fingerprint with that text under a header, with `; ` between the lines.
-pub(crate) struct Art;
-
-impl OfText for Art {
-    const NAME: &'static str = "art";
-
-    type Value = Fingerprint;
-
-    fn read(_alloc: Global, text: &str) -> Result<Fingerprint> {
-        text.parse()
-    }
-
-    fn say(fingerprint: &Fingerprint, rest: &[Vec<u8>], answer: &mut Answer) {
-        match text(rest, 0) {
-            Ok(header) => answer.add_lines_or_refuse(fingerprint.to_randomart(
-                answer.alloc(),
-                header,
-            )),
-            Err(error) => answer.refuse(error),
-        }
-    }
+pub(crate) fn art(alloc: Global, parts: &[Vec<u8>]) -> Result<String> {
+    let fingerprint: Fingerprint = text(parts, 0)?.parse()?;
+    let art = fingerprint.to_randomart(alloc, text(parts, 1)?)?;
+    Ok(art.replace(alloc, '\n', "; ")?)
 }
 
 /// The fingerprint of the key whose algorithm the first byte string names, and whose body the second
 /// one begins with.
-pub(crate) struct BodyUnder;
-
-impl Question for BodyUnder {
-    const NAME: &'static str = "body-under";
-
-    fn answer(parts: &[Vec<u8>], answer: &mut Answer) {
-        say_fingerprint(named(answer.alloc(), parts), answer);
-    }
-}
-
-fn named(alloc: Global, parts: &[Vec<u8>]) -> Result<KeyData> {
+pub(crate) fn named(alloc: Global, parts: &[Vec<u8>]) -> Result<String> {
     let algorithm = Algorithm::new(alloc, text(parts, 0)?)?;
-    KeyData::decode_as(alloc, &mut part(parts, 1), algorithm)
+    let key = KeyData::decode_as(alloc, &mut part(parts, 1), algorithm)?;
+    fingerprint(alloc, &key)
 }
 
-fn say_fingerprint(key: Result<KeyData>, answer: &mut Answer) {
-    match key {
-        Ok(key) => answer.show_or_refuse(key.fingerprint(answer.alloc(), HashAlg::Sha256)),
-        Err(error) => answer.refuse(error),
-    }
+fn fingerprint(alloc: Global, key: &KeyData) -> Result<String> {
+    Ok(key.fingerprint(alloc, HashAlg::Sha256)?.to_string(alloc)?)
 }
 
 /// The fingerprint of the key that is made of its parts: the first byte string says of which kind.
-pub(crate) struct KeyOfParts;
-
-impl Question for KeyOfParts {
-    const NAME: &'static str = "key-of-parts";
-
-    fn answer(parts: &[Vec<u8>], answer: &mut Answer) {
-        say_fingerprint(made(answer.alloc(), parts), answer);
-    }
-}
-
-fn made(alloc: Global, parts: &[Vec<u8>]) -> Result<KeyData> {
+pub(crate) fn made(alloc: Global, parts: &[Vec<u8>]) -> Result<String> {
     let number = |place: usize| Mpint::from_positive_bytes(alloc, part(parts, place));
-    Ok(match text(parts, 0)? {
+    let key = match text(parts, 0)? {
         "dsa" => KeyData::from(DsaPublicKey {
             p: number(1)?,
             q: number(2)?,
@@ -164,7 +95,8 @@ fn made(alloc: Global, parts: &[Vec<u8>]) -> Result<KeyData> {
             n: number(2)?,
         }),
         _ => made_of_bytes(alloc, parts)?,
-    })
+    };
+    fingerprint(alloc, &key)
 }
 
 /// The key that is made of a point or of bytes.

@@ -4,8 +4,6 @@
 #![tactic(auto)]
 
 mod again;
-mod answer;
-mod asked;
 mod bytes;
 mod certificates;
 mod copies;
@@ -17,16 +15,13 @@ mod hosts;
 mod issued;
 mod keys;
 mod kinds;
-mod lists;
 mod messages;
 mod names;
 mod narrow;
 mod openssh_lines;
 mod option_items;
 mod pairs;
-mod points;
 mod privates;
-mod program;
 mod questions;
 mod signatures;
 mod slices;
@@ -45,7 +40,7 @@ fn main(rt: HostRuntime) -> io::Result<()> {
             writeln!(output, "{line}")?;
             continue;
         }
-        match asked::answer_line(&rt, alloc, &line) {
+        match questions::answer_line(&rt, alloc, &line) {
             Ok(answer) => writeln!(output, "{line} = {answer}")?,
             Err(error) => writeln!(output, "{line} = {error}")?,
         }

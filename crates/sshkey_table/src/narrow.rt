@@ -1,66 +1,62 @@
 //! Values written into rooms that are too short for them.
 
-use crate::answer::Answer;
-use crate::bytes::part;
-use crate::kinds::{Kind, Operation};
-use sshkey_base::{Encode, Error, Result, SliceWriter, decode_whole, encode_vec, encoding};
+use crate::bytes::NO_LINE;
+use sshkey_base::{
+    Algorithm, Decode, Encode, Error, Mpint, Result, SliceWriter, decode_whole, encode_vec,
+    encoding,
+};
+use sshkey_cert::Certificate;
+use sshkey_ciphers::Kdf;
+use sshkey_keypairs::KeypairData;
+use sshkey_keys::{KeyData, Signature};
+use sshkey_options::OptionsMap;
+use sshkey_pairs::EcdsaPrivateKey;
 use sshkey_private::PrivateKey;
+use sshkey_sshsig::SshSig;
 use std::alloc::Global;
 
-/// For how many shorter rooms the value that all the bytes spell is too long, or for which it is
-/// not.
-pub(crate) struct Narrow;
-
-impl Operation for Narrow {
-    fn answer<T: Kind>(parts: &[Vec<u8>], answer: &mut Answer)
-    where
-        Error: From<T::Error>,
-    {
-        match decode_whole::<T, &[u8]>(answer.alloc(), part(parts, 0)) {
-            Ok(value) => say_rooms(&value, answer),
-            Err(error) => answer.refuse(error),
-        }
+/// For how many shorter rooms the value of that kind, which all the bytes spell, is too long, or
+/// for which it is not.
+pub(crate) fn value(alloc: Global, kind: &str, bytes: &[u8]) -> Result<String> {
+    match kind {
+        "algorithm" => read::<Algorithm>(alloc, bytes),
+        "mpint" => read::<Mpint>(alloc, bytes),
+        "list" => read::<Vec<String>>(alloc, bytes),
+        "key" => read::<KeyData>(alloc, bytes),
+        "signature" => read::<Signature>(alloc, bytes),
+        "options" => read::<OptionsMap>(alloc, bytes),
+        "certificate" => read::<Certificate>(alloc, bytes),
+        "ssh-signature" => read::<SshSig>(alloc, bytes),
+        "scalar" => read::<EcdsaPrivateKey<32>>(alloc, bytes),
+        "derivation" => read::<Kdf>(alloc, bytes),
+        "pair" => read::<KeypairData>(alloc, bytes),
+        "private-key" => private_key(alloc, bytes),
+        _ => Err(NO_LINE),
     }
 }
 
-/// The same of a private key.
-pub(crate) fn say_private(bytes: &[u8], answer: &mut Answer) {
-    match PrivateKey::from_bytes(answer.alloc(), bytes) {
-        Ok(key) => say_rooms(&key, answer),
-        Err(error) => answer.refuse(error),
-    }
+fn read<T>(alloc: Global, bytes: &[u8]) -> Result<String>
+where
+    T: Decode + Encode + Drop,
+    Error: From<T::Error>,
+{
+    let value: T = decode_whole(alloc, bytes)?;
+    each_room(alloc, &value)
 }
 
-fn say_rooms<T: Encode>(value: &T, answer: &mut Answer) {
-    match encode_vec(answer.alloc(), value) {
-        Ok(written) => say_each_room(value, &written, answer),
-        Err(error) => answer.refuse(error),
-    }
+fn private_key(alloc: Global, bytes: &[u8]) -> Result<String> {
+    each_room(alloc, &PrivateKey::from_bytes(alloc, bytes)?)
 }
 
-fn say_each_room<T: Encode>(value: &T, written: &[u8], answer: &mut Answer) {
-    match wide_enough(answer.alloc(), value, written) {
-        Ok(Some(len)) => {
-            answer.add("not too long for ");
-            answer.show(&len);
-        }
-        Ok(None) => {
-            answer.add("too long for each of ");
-            answer.show(&written.len());
-        }
-        Err(error) => answer.refuse(error),
-    }
-}
-
-/// The first shorter room for which it is not too long.
-fn wide_enough<T: Encode>(alloc: Global, value: &T, written: &[u8]) -> Result<Option<usize>> {
+fn each_room<T: Encode>(alloc: Global, value: &T) -> Result<String> {
+    let written = encode_vec(alloc, value)?;
     for len in 0..written.len() {
         let mut room = vec![in alloc; 0; len]?;
-        if !is_begun(value, &mut room, written) {
-            return Ok(Some(len));
+        if !is_begun(value, &mut room, &written) {
+            return Ok(format!(in alloc; "not too long for {len}")?);
         }
     }
-    Ok(None)
+    Ok(format!(in alloc; "too long for each of {}", written.len())?)
 }
 
 /// Whether the value is refused as too long for the room, in which the beginning of what is written

@@ -1,82 +1,65 @@
 //! Questions about entry files as OpenSSH reads them.
 
-use crate::answer::Answer;
-use crate::entries::{say_host, say_key, say_refusal};
-use crate::questions::{OfText, OnText};
-use sshkey_authorized_keys::{AuthorizedKeys, Entry as AuthorizedKey, OpenSshEntry};
-use sshkey_base::{Error, Result};
-use sshkey_known_hosts::{Entry as KnownHost, KnownHosts};
+use crate::entries::{host_parts, key_parts};
+use sshkey_authorized_keys::{AuthorizedKeys, Entry, OpenSshEntry};
+use sshkey_base::Result;
+use sshkey_known_hosts::KnownHosts;
 use std::alloc::Global;
 
-/// The parts of an entry of authorized_keys, with ` | ` between.
-pub(crate) struct OpenSshKey;
-
-impl OfText for OpenSshKey {
-    const NAME: &'static str = "openssh-key";
-
-    type Value = OpenSshEntry;
-
-    fn read(alloc: Global, line: &str) -> Result<OpenSshEntry> {
-        AuthorizedKey::from_line_openssh(alloc, line)
-    }
-
-    fn say(entry: &OpenSshEntry, _rest: &[Vec<u8>], answer: &mut Answer) {
-        say_entry(entry, answer);
-    }
+fn parts(alloc: Global, entry: &OpenSshEntry) -> Result<String> {
+    let key = key_parts(alloc, entry.public_key())?;
+    let options = entry.options().as_str();
+    Ok(format!(in alloc; "{options} | {key}")?)
 }
 
-fn say_entry(entry: &OpenSshEntry, answer: &mut Answer) {
-    answer.add(entry.options().as_str());
-    say_key(entry.public_key(), answer);
+/// The parts of an entry of authorized_keys, with ` | ` between.
+pub(crate) fn key(alloc: Global, line: &str) -> Result<String> {
+    parts(alloc, &Entry::from_line_openssh(alloc, line)?)
 }
 
 /// The parts of an entry of known_hosts, with ` | ` between.
-pub(crate) struct OpenSshHost;
-
-impl OfText for OpenSshHost {
-    const NAME: &'static str = "openssh-host";
-
-    type Value = KnownHost;
-
-    fn read(alloc: Global, line: &str) -> Result<KnownHost> {
-        KnownHost::from_line_openssh(alloc, line)
-    }
-
-    fn say(entry: &KnownHost, _rest: &[Vec<u8>], answer: &mut Answer) {
-        say_host(entry, answer);
-    }
+pub(crate) fn host(alloc: Global, line: &str) -> Result<String> {
+    let entry = sshkey_known_hosts::Entry::from_line_openssh(alloc, line)?;
+    host_parts(alloc, &entry)
 }
 
-/// The entries of a text of authorized_keys, or why they are refused, with `; ` between.
-pub(crate) struct OpenSshKeys;
-
-impl OnText for OpenSshKeys {
-    const NAME: &'static str = "openssh-keys";
-
-    fn answer(text: &str, answer: &mut Answer) {
-        for entry in AuthorizedKeys::openssh(answer.alloc(), text) {
-            answer.begin_entry();
-            match entry {
-                Ok(entry) => say_entry(&entry, answer),
-                Err(error) => say_refusal(&error, answer),
-            }
+/// Adds what is shown of an entry, or why it is refused, behind `; ` where something stands.
+fn add_entry(alloc: Global, shown: &mut String, entry: Result<String>) -> Result<()> {
+    if !shown.is_empty() {
+        shown.push_str("; ")?;
+    }
+    match entry {
+        Ok(text) => shown.push_str(&text)?,
+        Err(error) => {
+            let why = format!(in alloc; "refused: {error}")?;
+            shown.push_str(&why)?;
         }
     }
+    Ok(())
 }
 
-/// The entries of a text of known_hosts, or why they are refused, with `; ` between.
-pub(crate) struct OpenSshHosts;
+fn parts_of(alloc: Global, entry: Result<OpenSshEntry>) -> Result<String> {
+    parts(alloc, &entry?)
+}
 
-impl OnText for OpenSshHosts {
-    const NAME: &'static str = "openssh-hosts";
+fn host_parts_of(alloc: Global, entry: Result<sshkey_known_hosts::Entry>) -> Result<String> {
+    host_parts(alloc, &entry?)
+}
 
-    fn answer(text: &str, answer: &mut Answer) {
-        for entry in KnownHosts::openssh(answer.alloc(), text) {
-            answer.begin_entry();
-            match entry {
-                Ok(entry) => say_host(&entry, answer),
-                Err(error) => say_refusal(&error, answer),
-            }
-        }
+/// The entries of a text of authorized_keys, with `; ` between.
+pub(crate) fn keys(alloc: Global, text: &str) -> Result<String> {
+    let mut shown = String::new(alloc);
+    for entry in AuthorizedKeys::openssh(alloc, text) {
+        add_entry(alloc, &mut shown, parts_of(alloc, entry))?;
     }
+    Ok(shown)
+}
+
+/// The entries of a text of known_hosts, with `; ` between.
+pub(crate) fn hosts(alloc: Global, text: &str) -> Result<String> {
+    let mut shown = String::new(alloc);
+    for entry in KnownHosts::openssh(alloc, text) {
+        add_entry(alloc, &mut shown, host_parts_of(alloc, entry))?;
+    }
+    Ok(shown)
 }

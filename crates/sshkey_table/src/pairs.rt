@@ -1,9 +1,8 @@
 //! Key pairs.
 
-use crate::answer::Answer;
 use crate::bytes::{part, text};
-use crate::questions::{OfBytes, Question};
-use sshkey_base::{Algorithm, Error, Result, decode_whole};
+use crate::wire::debugged;
+use sshkey_base::{Algorithm, Result, decode_whole, encode_vec};
 use sshkey_keypairs::KeypairData;
 use sshkey_kinds::EcdsaPublicKey;
 use sshkey_pairs::{EcdsaKeypair, EcdsaPrivateKey};
@@ -11,77 +10,34 @@ use std::alloc::Global;
 
 /// The algorithm and the bytes of the pair whose algorithm the first byte string names, and whose
 /// parts the second one begins with.
-pub(crate) struct PairUnder;
-
-impl Question for PairUnder {
-    const NAME: &'static str = "pair-under";
-
-    fn answer(parts: &[Vec<u8>], answer: &mut Answer) {
-        match named(answer.alloc(), parts) {
-            Ok(pair) => say_pair(&pair, answer),
-            Err(error) => answer.refuse(error),
-        }
-    }
-}
-
-fn named(alloc: Global, parts: &[Vec<u8>]) -> Result<KeypairData> {
+pub(crate) fn named(alloc: Global, parts: &[Vec<u8>]) -> Result<String> {
     let algorithm = Algorithm::new(alloc, text(parts, 0)?)?;
-    KeypairData::decode_as(alloc, &mut part(parts, 1), algorithm)
+    let pair = KeypairData::decode_as(alloc, &mut part(parts, 1), algorithm)?;
+    algorithm_and_bytes(alloc, &pair)
 }
 
-fn say_pair(pair: &KeypairData, answer: &mut Answer) {
-    answer.show_or_refuse(pair.algorithm(answer.alloc()));
-    answer.add(", ");
-    answer.add_written(pair);
+fn algorithm_and_bytes(alloc: Global, pair: &KeypairData) -> Result<String> {
+    let algorithm = pair.algorithm(alloc)?;
+    let digits = hex::encode(alloc, &encode_vec(alloc, pair)?)?;
+    Ok(format!(in alloc; "{algorithm}, {digits}")?)
 }
 
 /// The algorithm and the bytes of the pair of ECDSA that a point and a scalar make.
-pub(crate) struct MadePair;
-
-impl OfBytes for MadePair {
-    const NAME: &'static str = "made-pair";
-
-    type Value = EcdsaPublicKey;
-
-    fn read(_alloc: Global, bytes: &[u8]) -> Result<EcdsaPublicKey> {
-        EcdsaPublicKey::from_sec1_bytes(bytes)
-    }
-
-    fn say(public: &EcdsaPublicKey, _bytes: &[u8], rest: &[Vec<u8>], answer: &mut Answer) {
-        match EcdsaKeypair::new(*public, part(rest, 0)) {
-            Ok(pair) => say_pair(&KeypairData::from(pair), answer),
-            Err(error) => answer.refuse(error),
-        }
-    }
+pub(crate) fn made(alloc: Global, parts: &[Vec<u8>]) -> Result<String> {
+    let public = EcdsaPublicKey::from_sec1_bytes(part(parts, 0))?;
+    let pair = EcdsaKeypair::new(public, part(parts, 1))?;
+    algorithm_and_bytes(alloc, &KeypairData::from(pair))
 }
 
 /// The bytes of a scalar of 32 bytes.
-pub(crate) struct MadeScalar;
-
-impl Question for MadeScalar {
-    const NAME: &'static str = "made-scalar";
-
-    fn answer(parts: &[Vec<u8>], answer: &mut Answer) {
-        match <[u8; 32]>::try_from(part(parts, 0)) {
-            Ok(bytes) => answer.add_written(&EcdsaPrivateKey::from_bytes(&bytes)),
-            Err(error) => answer.refuse(error),
-        }
-    }
+pub(crate) fn made_scalar(alloc: Global, bytes: &[u8]) -> Result<String> {
+    let bytes: [u8; 32] = bytes.try_into()?;
+    let scalar = EcdsaPrivateKey::from_bytes(&bytes);
+    Ok(hex::encode(alloc, &encode_vec(alloc, &scalar)?)?)
 }
 
 /// What `{:?}` shows of the pair that all the bytes spell.
-pub(crate) struct ShownPair;
-
-impl OfBytes for ShownPair {
-    const NAME: &'static str = "shown-pair";
-
-    type Value = KeypairData;
-
-    fn read(alloc: Global, bytes: &[u8]) -> Result<KeypairData> {
-        decode_whole(alloc, bytes)
-    }
-
-    fn say(pair: &KeypairData, _bytes: &[u8], _rest: &[Vec<u8>], answer: &mut Answer) {
-        answer.debug(pair);
-    }
+pub(crate) fn shown(alloc: Global, bytes: &[u8]) -> Result<String> {
+    let pair: KeypairData = decode_whole(alloc, bytes)?;
+    debugged(alloc, &pair)
 }

@@ -1,74 +1,36 @@
 //! Private keys. Each function lets go of one key at the most.
 
-use crate::answer::Answer;
 use crate::bytes::{part, text};
-use crate::questions::{OfBytes, Question};
-use crate::wire::{say_left, say_rest};
-use sshkey_base::{Error, HashAlg, Result, decode_whole};
+use crate::wire::{debugged, rest};
+use sshkey_base::{HashAlg, Result, decode_whole};
 use sshkey_private::PrivateKey;
 use sshkey_public::PublicKey;
 use std::alloc::Global;
 
 /// The line of the public key, and the cipher, of the private key that all the bytes spell.
-pub(crate) struct WholePrivateKey;
-
-impl OfBytes for WholePrivateKey {
-    const NAME: &'static str = "private-key";
-
-    type Value = PrivateKey;
-
-    fn read(alloc: Global, bytes: &[u8]) -> Result<PrivateKey> {
-        PrivateKey::from_bytes(alloc, bytes)
-    }
-
-    fn say(key: &PrivateKey, bytes: &[u8], _rest: &[Vec<u8>], answer: &mut Answer) {
-        say_line(key, bytes, answer);
-    }
+pub(crate) fn whole(alloc: Global, bytes: &[u8]) -> Result<String> {
+    let key = PrivateKey::from_bytes(alloc, bytes)?;
+    shown(alloc, &key, bytes)
 }
 
 /// The same of the private key that they spell with more padding, perhaps, than is written.
-pub(crate) struct PaddedPrivateKey;
-
-impl OfBytes for PaddedPrivateKey {
-    const NAME: &'static str = "padded-private-key";
-
-    type Value = PrivateKey;
-
-    fn read(alloc: Global, bytes: &[u8]) -> Result<PrivateKey> {
-        PrivateKey::from_padded_bytes(alloc, bytes)
-    }
-
-    fn say(key: &PrivateKey, bytes: &[u8], _rest: &[Vec<u8>], answer: &mut Answer) {
-        say_line(key, bytes, answer);
-    }
+pub(crate) fn padded(alloc: Global, bytes: &[u8]) -> Result<String> {
+    let key = PrivateKey::from_padded_bytes(alloc, bytes)?;
+    shown(alloc, &key, bytes)
 }
 
-fn say_line(key: &PrivateKey, bytes: &[u8], answer: &mut Answer) {
-    answer.show_or_refuse(key.public_key().to_openssh(answer.alloc()));
-    answer.add(", cipher ");
-    answer.show(&key.cipher());
-    say_rest(key, bytes, 0, answer);
+fn shown(alloc: Global, key: &PrivateKey, bytes: &[u8]) -> Result<String> {
+    let line = key.public_key().to_openssh(alloc)?;
+    let cipher = key.cipher();
+    let rest = rest(alloc, key, bytes, 0)?;
+    Ok(format!(in alloc; "{line}, cipher {cipher}{rest}")?)
 }
 
 /// Whether the byte strings spell equal private keys.
-pub(crate) struct ComparedPrivateKeys;
-
-impl OfBytes for ComparedPrivateKeys {
-    const NAME: &'static str = "compared-private-keys";
-
-    type Value = PrivateKey;
-
-    fn read(alloc: Global, bytes: &[u8]) -> Result<PrivateKey> {
-        PrivateKey::from_bytes(alloc, bytes)
-    }
-
-    fn say(key: &PrivateKey, _bytes: &[u8], rest: &[Vec<u8>], answer: &mut Answer) {
-        answer.choose(
-            is_equal(answer.alloc(), key, part(rest, 0)),
-            "equal",
-            "different",
-        );
-    }
+pub(crate) fn compared(alloc: Global, parts: &[Vec<u8>]) -> Result<String> {
+    let key = PrivateKey::from_bytes(alloc, part(parts, 0))?;
+    let equal = is_equal(alloc, &key, part(parts, 1))?;
+    Ok(String::from_str(alloc, if equal { "equal" } else { "different" })?)
 }
 
 fn is_equal(alloc: Global, key: &PrivateKey, bytes: &[u8]) -> Result<bool> {
@@ -76,48 +38,24 @@ fn is_equal(alloc: Global, key: &PrivateKey, bytes: &[u8]) -> Result<bool> {
 }
 
 /// What `{:?}` shows of the private key that all the bytes spell.
-pub(crate) struct ShownPrivateKey;
-
-impl OfBytes for ShownPrivateKey {
-    const NAME: &'static str = "shown-private-key";
-
-    type Value = PrivateKey;
-
-    fn read(alloc: Global, bytes: &[u8]) -> Result<PrivateKey> {
-        PrivateKey::from_bytes(alloc, bytes)
-    }
-
-    fn say(key: &PrivateKey, _bytes: &[u8], _rest: &[Vec<u8>], answer: &mut Answer) {
-        answer.debug(key);
-    }
+pub(crate) fn debug(alloc: Global, bytes: &[u8]) -> Result<String> {
+    debugged(alloc, &PrivateKey::from_bytes(alloc, bytes)?)
 }
 
 /// What the private key in front of the bytes holds, its key derivation, algorithm and fingerprint,
 /// and how many bytes are left.
-pub(crate) struct PrivateKeyInFront;
-
-impl Question for PrivateKeyInFront {
-    const NAME: &'static str = "private-key-in-front";
-
-    fn answer(parts: &[Vec<u8>], answer: &mut Answer) {
-        let mut left = part(parts, 0);
-        match PrivateKey::decode(answer.alloc(), &mut left) {
-            Ok(key) => say_parts(&key, left.len(), answer),
-            Err(error) => answer.refuse(error),
-        }
-    }
+pub(crate) fn front(alloc: Global, bytes: &[u8]) -> Result<String> {
+    let mut left = bytes;
+    let key = PrivateKey::decode(alloc, &mut left)?;
+    told(alloc, &key, left.len())
 }
 
-fn say_parts(key: &PrivateKey, left: usize, answer: &mut Answer) {
-    let alloc = answer.alloc();
-    answer.add(held_by(key));
-    answer.add(", ");
-    answer.show(&key.kdf().algorithm());
-    answer.add(", ");
-    answer.show_or_refuse(key.algorithm(alloc));
-    answer.add(", ");
-    answer.show_or_refuse(key.fingerprint(alloc, HashAlg::Sha256));
-    say_left(left, answer);
+fn told(alloc: Global, key: &PrivateKey, left: usize) -> Result<String> {
+    let held = held_by(key);
+    let derivation = key.kdf().algorithm();
+    let fingerprint = key.fingerprint(alloc, HashAlg::Sha256)?;
+    let algorithm = key.algorithm(alloc)?;
+    Ok(format!(in alloc; "{held}, {derivation}, {algorithm}, {fingerprint}, {left} left")?)
 }
 
 /// What it is said to hold.
@@ -131,57 +69,40 @@ fn held_by(key: &PrivateKey) -> &'static str {
 
 /// The comment of the private key that the first byte string spells, whether a copy with the comment
 /// that the second one is equals it, and the public line of that copy.
-pub(crate) struct PrivateKeyWithComment;
+pub(crate) fn commented(alloc: Global, parts: &[Vec<u8>]) -> Result<String> {
+    let comment = text(parts, 1)?;
+    let key = PrivateKey::from_bytes(alloc, part(parts, 0))?;
+    copied(alloc, &key, comment)
+}
 
-impl OfBytes for PrivateKeyWithComment {
-    const NAME: &'static str = "private-key-with-comment";
-
-    type Value = PrivateKey;
-
-    fn read(alloc: Global, bytes: &[u8]) -> Result<PrivateKey> {
-        PrivateKey::from_bytes(alloc, bytes)
-    }
-
-    fn say(key: &PrivateKey, _bytes: &[u8], rest: &[Vec<u8>], answer: &mut Answer) {
-        answer.add("'");
-        answer.add(key.comment());
-        match with_comment(answer.alloc(), key, rest) {
-            Ok(copy) => say_copy(key, copy, answer),
-            Err(error) => answer.refuse(error),
-        }
-    }
+fn copied(alloc: Global, key: &PrivateKey, comment: &str) -> Result<String> {
+    let copy = with_comment(alloc, key, comment)?;
+    let word = if copy == *key {
+        "equals"
+    } else {
+        "differs from"
+    };
+    let line = line_of(alloc, copy)?;
+    Ok(format!(in alloc; "'{}' {word} {line}", key.comment())?)
 }
 
 /// A copy with that comment.
-fn with_comment(alloc: Global, key: &PrivateKey, rest: &[Vec<u8>]) -> Result<PrivateKey> {
-    let comment = String::from_str(alloc, text(rest, 0)?)?;
+fn with_comment(alloc: Global, key: &PrivateKey, comment: &str) -> Result<PrivateKey> {
+    let comment = String::from_str(alloc, comment)?;
     let mut copy = key.try_clone(alloc)?;
     copy.set_comment(comment);
     Ok(copy)
 }
 
-fn say_copy(key: &PrivateKey, copy: PrivateKey, answer: &mut Answer) {
-    answer.add(if copy == *key {
-        "' equals "
-    } else {
-        "' differs from "
-    });
-    answer.show_or_refuse(PublicKey::from(copy).to_openssh(answer.alloc()));
+fn line_of(alloc: Global, key: PrivateKey) -> Result<String> {
+    PublicKey::from(key).to_openssh(alloc)
 }
 
 /// The bytes of the private key that is made of a pair, which the first byte string spells, and of a
 /// comment, where there is one.
-pub(crate) struct PrivateKeyOfPair;
-
-impl Question for PrivateKeyOfPair {
-    const NAME: &'static str = "private-key-of-pair";
-
-    fn answer(parts: &[Vec<u8>], answer: &mut Answer) {
-        match key_of_pair(answer.alloc(), parts) {
-            Ok(key) => answer.add_digits_or_refuse(key.to_bytes(answer.alloc())),
-            Err(error) => answer.refuse(error),
-        }
-    }
+pub(crate) fn of_pair(alloc: Global, parts: &[Vec<u8>]) -> Result<String> {
+    let key = key_of_pair(alloc, parts)?;
+    written(alloc, &key)
 }
 
 fn key_of_pair(alloc: Global, parts: &[Vec<u8>]) -> Result<PrivateKey> {
@@ -198,4 +119,8 @@ fn made(alloc: Global, pair: &[u8]) -> Result<PrivateKey> {
 fn made_with(alloc: Global, pair: &[u8], comment: &str) -> Result<PrivateKey> {
     let comment = String::from_str(alloc, comment)?;
     PrivateKey::new(alloc, decode_whole(alloc, pair)?, comment)
+}
+
+fn written(alloc: Global, key: &PrivateKey) -> Result<String> {
+    Ok(hex::encode(alloc, &key.to_bytes(alloc)?)?)
 }

@@ -1,179 +1,93 @@
 //! Keys, signatures, certificates and lists that are slices of their input. A key, a signature and a
 //! certificate are answered as their owned values are.
 
-use crate::answer::Answer;
 use crate::bytes::{part, text};
-use crate::questions::Question;
-use crate::signatures::say_signature;
-use crate::wire::say_left;
-use sshkey_base::{HashAlg, Result};
+use crate::signatures;
+use sshkey_base::{HashAlg, Result, encode_vec};
 use sshkey_cert_ref::{CertificateRef, OptionsRef, TextsRef};
 use sshkey_keys_ref::{KeyDataRef, SignatureRef, take_body};
+use std::alloc::Global;
 
 /// Whether all the bytes are a key, and what is written of it, where these are other bytes.
-pub(crate) struct KeySlice;
-
-impl Question for KeySlice {
-    const NAME: &'static str = "key-slice";
-
-    fn answer(parts: &[Vec<u8>], answer: &mut Answer) {
-        match KeyDataRef::from_bytes(part(parts, 0)) {
-            Ok(key) => say_key(&key, answer),
-            Err(error) => answer.refuse(error),
-        }
+pub(crate) fn key(alloc: Global, bytes: &[u8]) -> Result<String> {
+    let key = KeyDataRef::from_bytes(bytes)?;
+    match key.normal_bytes() {
+        Some(_) => Ok(String::from_str(alloc, "read")?),
+        None => renamed(alloc, &key),
     }
 }
 
-fn say_key(key: &KeyDataRef<'_>, answer: &mut Answer) {
-    answer.add("read");
-    if key.normal_bytes().is_none() {
-        answer.add(", written as ");
-        answer.add_written_or_refuse(key.to_key_data(answer.alloc()));
-    }
+fn renamed(alloc: Global, key: &KeyDataRef<'_>) -> Result<String> {
+    let written = encode_vec(alloc, &key.to_key_data(alloc)?)?;
+    let digits = hex::encode(alloc, &written)?;
+    Ok(format!(in alloc; "read, written as {digits}")?)
 }
 
 /// The fingerprints of the key that all the bytes spell.
-pub(crate) struct FingerprintsOfSlice;
-
-impl Question for FingerprintsOfSlice {
-    const NAME: &'static str = "fingerprints-slice";
-
-    fn answer(parts: &[Vec<u8>], answer: &mut Answer) {
-        match KeyDataRef::from_bytes(part(parts, 0)) {
-            Ok(key) => say_fingerprints(&key, answer),
-            Err(error) => answer.refuse(error),
-        }
-    }
-}
-
-fn say_fingerprints(key: &KeyDataRef<'_>, answer: &mut Answer) {
-    let alloc = answer.alloc();
-    answer.show_or_refuse(key.fingerprint(alloc, HashAlg::Sha256));
-    answer.add(" ");
-    answer.show_or_refuse(key.fingerprint(alloc, HashAlg::Sha512));
+pub(crate) fn fingerprints(alloc: Global, bytes: &[u8]) -> Result<String> {
+    let key = KeyDataRef::from_bytes(bytes)?;
+    let short = key.fingerprint(alloc, HashAlg::Sha256)?;
+    let long = key.fingerprint(alloc, HashAlg::Sha512)?;
+    Ok(format!(in alloc; "{short} {long}")?)
 }
 
 /// The signature that all the bytes spell.
-pub(crate) struct SignatureSlice;
-
-impl Question for SignatureSlice {
-    const NAME: &'static str = "signature-slice";
-
-    fn answer(parts: &[Vec<u8>], answer: &mut Answer) {
-        match SignatureRef::from_bytes(part(parts, 0)) {
-            Ok(signature) => say_owned(&signature, answer),
-            Err(error) => answer.refuse(error),
-        }
-    }
-}
-
-fn say_owned(signature: &SignatureRef<'_>, answer: &mut Answer) {
-    match signature.to_signature(answer.alloc()) {
-        Ok(owned) => say_signature(&owned, signature.as_bytes(), answer),
-        Err(error) => answer.refuse(error),
-    }
+pub(crate) fn signature(alloc: Global, bytes: &[u8]) -> Result<String> {
+    let signature = SignatureRef::from_bytes(bytes)?;
+    signatures::shown(alloc, &signature.to_signature(alloc)?, signature.as_bytes())
 }
 
 /// Whether all the bytes are a certificate, and what is written of it, where these are other bytes.
-pub(crate) struct CertificateSlice;
-
-impl Question for CertificateSlice {
-    const NAME: &'static str = "certificate-slice";
-
-    fn answer(parts: &[Vec<u8>], answer: &mut Answer) {
-        match CertificateRef::from_bytes(part(parts, 0)) {
-            Ok(certificate) => say_certificate(&certificate, answer),
-            Err(error) => answer.refuse(error),
-        }
+pub(crate) fn certificate(alloc: Global, bytes: &[u8]) -> Result<String> {
+    let certificate = CertificateRef::from_bytes(bytes)?;
+    match certificate.signed_bytes() {
+        Some(_) => Ok(String::from_str(alloc, "read")?),
+        None => spelled_anew(alloc, &certificate),
     }
 }
 
-fn say_certificate(certificate: &CertificateRef<'_>, answer: &mut Answer) {
-    answer.add("read");
-    if certificate.signed_bytes().is_none() {
-        answer.add(", written as ");
-        answer.add_written_or_refuse(certificate.to_certificate(answer.alloc()));
-    }
+fn spelled_anew(alloc: Global, certificate: &CertificateRef<'_>) -> Result<String> {
+    let written = encoded(alloc, certificate)?;
+    let digits = hex::encode(alloc, &written)?;
+    Ok(format!(in alloc; "read, written as {digits}")?)
+}
+
+fn encoded(alloc: Global, certificate: &CertificateRef<'_>) -> Result<Vec<u8>> {
+    let certificate = certificate.to_certificate(alloc)?;
+    certificate.to_bytes(alloc)
 }
 
 /// How many bytes are the body of a key under the name that the first byte string is, at the front
 /// of the second, and how many are left.
-pub(crate) struct BodySlice;
-
-impl Question for BodySlice {
-    const NAME: &'static str = "body-slice";
-
-    fn answer(parts: &[Vec<u8>], answer: &mut Answer) {
-        let mut left = part(parts, 1);
-        match body_len(parts, &mut left) {
-            Ok(len) => {
-                answer.show(&len);
-                answer.add(" taken");
-                say_left(left.len(), answer);
-            }
-            Err(error) => answer.refuse(error),
-        }
-    }
-}
-
-fn body_len(parts: &[Vec<u8>], left: &mut &[u8]) -> Result<usize> {
-    Ok(take_body(text(parts, 0)?, left)?.len())
+pub(crate) fn body(alloc: Global, parts: &[Vec<u8>]) -> Result<String> {
+    let mut left = part(parts, 1);
+    let body = take_body(text(parts, 0)?, &mut left)?;
+    Ok(format!(in alloc; "{} taken, {} left", body.len(), left.len())?)
 }
 
 /// The texts of the list at the front, each behind a space, and how many bytes are left.
-pub(crate) struct TextsSlice;
-
-impl Question for TextsSlice {
-    const NAME: &'static str = "texts-slice";
-
-    fn answer(parts: &[Vec<u8>], answer: &mut Answer) {
-        match TextsRef::from_front(part(parts, 0)) {
-            Ok((texts, left)) => say_texts(&texts, left.len(), answer),
-            Err(error) => answer.refuse(error),
-        }
-    }
-}
-
-fn say_texts(texts: &TextsRef<'_>, left: usize, answer: &mut Answer) {
-    answer.show(&left);
-    answer.add(" left:");
+pub(crate) fn texts(alloc: Global, bytes: &[u8]) -> Result<String> {
+    let (texts, left) = TextsRef::from_front(bytes)?;
+    let mut answer = format!(in alloc; "{} left:", left.len())?;
     for text in texts.iter() {
-        answer.add(" ");
-        answer.add(text);
+        answer.push_str(" ")?;
+        answer.push_str(text)?;
     }
+    Ok(answer)
 }
 
 /// Whether the options at the front are written as they stand, each behind a space, and how many
 /// bytes are left.
-pub(crate) struct OptionsSlice;
-
-impl Question for OptionsSlice {
-    const NAME: &'static str = "options-slice";
-
-    fn answer(parts: &[Vec<u8>], answer: &mut Answer) {
-        match OptionsRef::from_front(part(parts, 0)) {
-            Ok((options, left)) => say_options(&options, left.len(), answer),
-            Err(error) => answer.refuse(error),
-        }
-    }
-}
-
-fn say_options(options: &OptionsRef<'_>, left: usize, answer: &mut Answer) {
-    answer.add(form_of(options));
-    say_left(left, answer);
-    answer.add(":");
-    for (name, value) in options.iter() {
-        answer.add(" ");
-        answer.add(name);
-        answer.add("=");
-        answer.add(value);
-    }
-}
-
-fn form_of(options: &OptionsRef<'_>) -> &'static str {
-    if options.is_plain() {
+pub(crate) fn options(alloc: Global, bytes: &[u8]) -> Result<String> {
+    let (options, left) = OptionsRef::from_front(bytes)?;
+    let form = if options.is_plain() {
         "plain"
     } else {
         "nested"
+    };
+    let mut answer = format!(in alloc; "{form}, {} left:", left.len())?;
+    for (name, value) in options.iter() {
+        answer.push_str(&format!(in alloc; " {name}={value}")?)?;
     }
+    Ok(answer)
 }

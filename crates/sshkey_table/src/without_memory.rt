@@ -1,7 +1,6 @@
 //! Calls that promise to take no memory. Of each question `checks/refused-memory` counts the
 //! requests for memory: one is expected, for the text of the answer.
 
-use crate::answer::Answer;
 use crate::bytes::{NO_LINE, part, text};
 use crate::{signatures, validity};
 use sshkey_authorized_keys::OpenSshOptionsIter;
@@ -23,43 +22,27 @@ use std::io::Write;
 const ROOM: usize = 512;
 
 /// Whether the bytes are a value of that kind, which is the same where it is written.
-pub(crate) fn say_whether(kind: &str, parts: &[Vec<u8>], answer: &mut Answer) {
-    answer.choose(holds(answer.alloc(), kind, parts), "yes", "no");
-}
-
-fn holds(alloc: Global, kind: &str, parts: &[Vec<u8>]) -> Result<bool> {
+pub(crate) fn value(alloc: Global, kind: &str, parts: &[Vec<u8>]) -> Result<String> {
     let bytes = part(parts, 0);
-    match kind {
-        "key" => is_kept::<KeyData>(alloc, bytes),
-        "scalar" => is_kept::<EcdsaPrivateKey<32>>(alloc, bytes),
-        "key-slice" => Ok(KeyDataRef::from_bytes(bytes)?.as_bytes() == bytes),
-        "signature-slice" => Ok(SignatureRef::from_bytes(bytes)?.as_bytes() == bytes),
-        "validity-slice" => validity::is_valid_slice(alloc, parts),
-        "accepted-slice" => signatures::accepts_slice(alloc, parts),
-        "fingerprint-of" | "texts-slice" | "options-slice" => {
-            holds_of_second(alloc, kind, bytes, text(parts, 1)?)
-        }
-        "base64" => is_word(text(parts, 0)?, part(parts, 1)),
-        _ => holds_of_text(alloc, kind, text(parts, 0)?),
-    }
-}
-
-/// Whether it holds of the bytes and of the text behind them.
-fn holds_of_second(alloc: Global, kind: &str, bytes: &[u8], text: &str) -> Result<bool> {
-    match kind {
-        "fingerprint-of" => has_fingerprint(alloc, bytes, text),
-        "texts-slice" => Ok(TextsRef::from_bytes(bytes)?.contains(text)),
-        _ => Ok(OptionsRef::from_bytes(bytes)?.get(text).is_some()),
-    }
-}
-
-fn holds_of_text(alloc: Global, kind: &str, text: &str) -> Result<bool> {
-    match kind {
-        "line" => is_line(alloc, text),
-        "fingerprint" => is_fingerprint(text),
-        "openssh-options" => are_options(alloc, text),
-        _ => is_name(alloc, kind, text),
-    }
+    let holds = match kind {
+        "key" => is_kept::<KeyData>(alloc, bytes)?,
+        "scalar" => is_kept::<EcdsaPrivateKey<32>>(alloc, bytes)?,
+        "line" => is_line(alloc, text(parts, 0)?)?,
+        "base64" => is_word(text(parts, 0)?, part(parts, 1))?,
+        "fingerprint" => is_fingerprint(text(parts, 0)?)?,
+        "fingerprint-of" => has_fingerprint(alloc, bytes, text(parts, 1)?)?,
+        "key-slice" => KeyDataRef::from_bytes(bytes)?.as_bytes() == bytes,
+        "signature-slice" => SignatureRef::from_bytes(bytes)?.as_bytes() == bytes,
+        "texts-slice" => TextsRef::from_bytes(bytes)?.contains(text(parts, 1)?),
+        "options-slice" => OptionsRef::from_bytes(bytes)?
+            .get(text(parts, 1)?)
+            .is_some(),
+        "openssh-options" => are_options(alloc, text(parts, 0)?)?,
+        "validity-slice" => validity::is_valid_slice(alloc, parts)?,
+        "accepted-slice" => signatures::accepts_slice(alloc, parts)?,
+        _ => is_name(alloc, kind, text(parts, 0)?)?,
+    };
+    Ok(String::from_str(alloc, if holds { "yes" } else { "no" })?)
 }
 
 fn is_kept<T>(alloc: Global, bytes: &[u8]) -> Result<bool>
