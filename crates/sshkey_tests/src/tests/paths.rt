@@ -111,7 +111,6 @@ pub mod laws {
     pub use ssh_key::laws::equal_kdfs;
     pub use ssh_key::laws::equal_known_hosts;
     pub use ssh_key::laws::equal_markers;
-    pub use ssh_key::laws::equal_verdicts;
     pub use ssh_key::laws::equal_opaque_pair_bytes;
     pub use ssh_key::laws::equal_opaque_pairs;
     pub use ssh_key::laws::equal_opaque_private_keys;
@@ -120,6 +119,7 @@ pub mod laws {
     pub use ssh_key::laws::equal_rsa_private_keys;
     pub use ssh_key::laws::equal_sk_ecdsa_pairs;
     pub use ssh_key::laws::equal_sk_ed25519_pairs;
+    pub use ssh_key::laws::equal_verdicts;
     pub use ssh_key::laws::fingerprint_texts;
     pub use ssh_key::laws::key_fits;
     pub use ssh_key::laws::lines;
