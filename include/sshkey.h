@@ -338,6 +338,7 @@ uint32_t sshkey_fingerprint_sha512(const uint8_t *key, size_t key_length, sshkey
 /* "SHA512:" and 86 characters. */
 #define SSHKEY_FINGERPRINT_SHA512_TEXT 93
 
+/* Writes that text, as sshkey_fingerprint_text does. Takes no memory. */
 uint32_t sshkey_fingerprint_sha512_text(const sshkey_sha512 *digest, uint8_t *room,
                                         size_t room_length);
 
