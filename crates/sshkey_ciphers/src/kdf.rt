@@ -1,7 +1,7 @@
 //! How the key of a cipher is derived from a password.
 
 ghost use Rattle.rand_core.specs.Stream.{fill_bytes};
-ghost use Rattle.std.specs.Prelude.{◌≡◌, ◌≢◌, ◌↔◌, ◌+◌, ◌*◌, ◌^◌, IsTrue, OnOk, OnErr, IfOk, IfErr};
+ghost use Rattle.std.specs.Prelude.{◌≡◌, ◌≢◌, ◌↔◌, ◌+◌, ◌*◌, ◌^◌, IsTrue, OnOk, OnErr, IfOk, IfErr, IsOk};
 ghost use Rattle.sshkey_base.specs.Answers.{Answers, AnswersAlways};
 ghost use Rattle.sshkey_base.specs.Causes.{cause};
 ghost use Rattle.sshkey_base.specs.Formats.{Stops};
@@ -92,10 +92,12 @@ impl Kdf {
         matches!(self, Kdf::Bcrypt { .. })
     }
 
-    /// The same in memory of its own. Fails only when out of memory.
+    /// The same in memory of its own. Fails only when out of memory, and where no key is derived
+    /// never.
     pub fn try_clone(&self, alloc: Global) -> Result<Kdf>
         ensures value { IfOk result (λ k. kdf_of k ≡ kdf_of self.now) }
         ensures memory { IfErr result (λ e. e ≡ wide.Memory) }
+        ensures in_place { kdf_of self.now ≡ NoKdf → IsOk result }
     {
         match self {
             Kdf::None => Ok(Kdf::None),

@@ -1,10 +1,11 @@
 //! Key pairs of any kind.
 
-ghost use Rattle.std.specs.Prelude.{◌≡◌, ◌≤◌, ◌+◌, ◌*◌, ◌^◌, true, false, Option, Some, None, Err, IfOk, IfErr, IfSome, IsOk};
+ghost use Rattle.std.specs.Prelude.{◌≡◌, ◌≤◌, ◌+◌, ◌*◌, ◌^◌, true, false, Option, Some, None, Err, IfOk, IfErr, IfSome, IsOk, IsTrue, ◌||◌};
 ghost use Rattle.sshkey_base.specs.Causes.{cause};
 ghost use Rattle.sshkey_base.specs.Names.{algorithm_of, curve_of};
 ghost use Rattle.sshkey_base.specs.Needs.{Asks};
 ghost use Rattle.sshkey_base.specs.Source.{Later};
+ghost use Rattle.sshkey_keys.specs.KeyKinds.{is_ecdsa, is_ed25519};
 ghost use Rattle.sshkey_keys.specs.Keys.{key_of, stored_algorithm as key_algorithm_beside};
 ghost use Rattle.sshkey_model.specs.KeyPairs.{IsKeyPair, xor_all, words};
 ghost use Rattle.sshkey_model.specs.Keys.{IsKey, unhashed};
@@ -156,7 +157,7 @@ impl KeypairData {
 
     /// The public half, under the same algorithm; a well-formed key of a well-formed pair, as each
     /// is that was read. Fails with `Encrypted` for an encrypted pair; else rejected only when out
-    /// of memory.
+    /// of memory, and of an ECDSA or an Ed25519 pair never.
     pub fn to_public(&self, alloc: Global) -> Result<KeyData>
         ensures value { IfOk result (λ k. public_of self.now ≡ Some (key_of k)) }
         ensures algorithm { IfOk result
@@ -164,6 +165,8 @@ impl KeypairData {
         ensures form { IfSome (pair_of self.now) IsKeyPair → IfOk result (λ k. IsKey (key_of k)) }
         ensures encrypted { is_encrypted self.now ≡ true → result ≡ Err Error.Encrypted }
         ensures refused { is_encrypted self.now ≡ false → IfErr result (λ e. e ≡ Error.Memory) }
+        ensures in_place { IfSome (public_of self.now)
+            (λ k. IsTrue (is_ecdsa k || is_ed25519 k) → IsOk result) }
     {
         Ok(match self {
             KeypairData::Dsa(pair) => KeyData::Dsa(pair.public.try_clone(alloc)?),

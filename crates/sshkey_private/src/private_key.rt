@@ -50,8 +50,9 @@ impl Drop for PrivateKey {
 }
 
 impl PrivateKey {
-    ghost use Rattle.sshkey_keypairs.specs.Keypairs.{pair_of, stored_algorithm as pair_algorithm_beside};
-    ghost use Rattle.std.specs.Prelude.{IfOk, IfErr, IfSome, IsOk, Some, [], string_bytes};
+    ghost use Rattle.sshkey_keypairs.specs.Keypairs.{pair_of, public_of as public_half_of, stored_algorithm as pair_algorithm_beside};
+    ghost use Rattle.sshkey_keys.specs.KeyKinds.{is_ecdsa, is_ed25519};
+    ghost use Rattle.std.specs.Prelude.{IfOk, IfErr, IfSome, IsOk, IsTrue, ◌||◌, Some, [], string_bytes};
     ghost use Rattle.sshkey_base.specs.Causes.{cause};
     ghost use Rattle.sshkey_base.specs.Names.{IsFixed, algorithm_of, hash_of};
     ghost use Rattle.sshkey_base.specs.Needs.{Asks};
@@ -76,12 +77,15 @@ impl PrivateKey {
     /// The private key of that pair, not encrypted, with that comment. Its public key has the
     /// algorithm of the pair, and its checkint is the one that is derived from the pair.
     ///
-    /// `Encrypted` exactly for an encrypted pair; otherwise it fails only when out of memory.
+    /// `Encrypted` exactly for an encrypted pair; otherwise it fails only when out of memory, and
+    /// for an ECDSA or an Ed25519 pair never.
     pub fn new(alloc: Global, key_data: KeypairData, comment: String) -> Result<PrivateKey>
         ensures value { GivesNew (pair_of key_data) (string_bytes comment) result }
         ensures data { IfOk result (λ k. data_of k ≡ key_data) }
         ensures algorithm { IfOk result (λ k. pair_algorithm_beside key_data
             ≡ Some (stored_algorithm (key_data_of (outer_of k)))) }
+        ensures in_place { IfSome (public_half_of key_data)
+            (λ k. IsTrue (is_ecdsa k || is_ed25519 k) → IsOk result) }
     {
         let public = key_data.to_public(alloc)?;
         let checkint = key_data.checkint();
@@ -98,12 +102,15 @@ impl PrivateKey {
     /// The private key of that pair, not encrypted, under the same algorithm and with an empty
     /// comment.
     ///
-    /// `Encrypted` exactly for an encrypted pair; otherwise it fails only when out of memory.
+    /// `Encrypted` exactly for an encrypted pair; otherwise it fails only when out of memory, and
+    /// for an ECDSA or an Ed25519 pair never.
     pub fn from_keypair(alloc: Global, key_data: KeypairData) -> Result<PrivateKey>
         ensures value { GivesNew (pair_of key_data) [] result }
         ensures data { IfOk result (λ k. data_of k ≡ key_data) }
         ensures algorithm { IfOk result (λ k. pair_algorithm_beside key_data
             ≡ Some (stored_algorithm (key_data_of (outer_of k)))) }
+        ensures in_place { IfSome (public_half_of key_data)
+            (λ k. IsTrue (is_ecdsa k || is_ed25519 k) → IsOk result) }
     {
         PrivateKey::new(alloc, key_data, String::new(alloc))
     }
