@@ -108,15 +108,10 @@ impl KeyDataRef<'_> {
             (key_bytes self.now) message.now
             (signature_by (algorithm_of algorithm.now) blob.now) result }
     {
-        match algorithm {
-            Algorithm::Dsa => self.ask_in_memory(alloc, message, algorithm, blob, verifier),
-            Algorithm::Ecdsa { .. }
-            | Algorithm::Ed25519
-            | Algorithm::Rsa { .. }
-            | Algorithm::SkEcdsaSha2NistP256
-            | Algorithm::SkEd25519
-            | Algorithm::Other(_) => Ok(false),
+        if let Algorithm::Dsa = algorithm {
+            return self.ask_in_memory(alloc, message, algorithm, blob, verifier);
         }
+        Ok(false)
     }
 
     /// The answer of an RSA key.
@@ -132,18 +127,10 @@ impl KeyDataRef<'_> {
             (key_bytes self.now) message.now
             (signature_by (algorithm_of algorithm.now) blob.now) result }
     {
-        match algorithm {
-            Algorithm::Rsa { hash: Some(_) } => {
-                self.ask_in_memory(alloc, message, algorithm, blob, verifier)
-            }
-            Algorithm::Rsa { hash: None }
-            | Algorithm::Dsa
-            | Algorithm::Ecdsa { .. }
-            | Algorithm::Ed25519
-            | Algorithm::SkEcdsaSha2NistP256
-            | Algorithm::SkEd25519
-            | Algorithm::Other(_) => Ok(false),
+        if let Algorithm::Rsa { hash: Some(_) } = algorithm {
+            return self.ask_in_memory(alloc, message, algorithm, blob, verifier);
         }
+        Ok(false)
     }
 
     /// The verifier's answer, for which the key is made in memory of its own.
