@@ -237,6 +237,8 @@ impl AsStr for Algorithm {
 impl fmt::Display for Algorithm {
     ghost output = { λ algorithm. Some (algorithm_name (algorithm_of algorithm)) };
 
+    ghost styled_output = { λ algorithm _. Some (algorithm_name (algorithm_of algorithm)) };
+
     fn fmt<W: fmt::Write>(&self, f: &mut fmt::Formatter<W>) -> fmt::Result {
         f.write_str(self.as_str())
     }

@@ -1,7 +1,7 @@
 //! Whole numbers of any size.
 
 ghost use Rattle.std.specs.Prelude.{◌≡◌, ◌<◌, IfOk, IfErr, length, option_map, replicate, slice_index};
-ghost use Rattle.std.specs.Fmt.{WritesOnOk};
+ghost use Rattle.std.specs.Fmt.{WritesOnOk, WritesStyledOnOk};
 ghost use Rattle.hex.specs.Hex.{encode_lower, encode_upper};
 ghost use Rattle.sshkey_model.specs.Mpints.{IsMpint, is_mpint, of_positive};
 
@@ -179,7 +179,9 @@ impl fmt::LowerHex for Mpint {
     ghost use Rattle.sshkey_base.specs.Mpint.{mpint_of};
 
     fn fmt<W: fmt::Write>(&self, f: &mut fmt::Formatter<W>) -> fmt::Result
-        ensures { WritesOnOk W.write_str_gives f.old result
+        ensures writes { WritesOnOk W.write_str_gives f.old result
+            (encode_lower (mpint_of self.now)) f.new }
+        ensures styled { WritesStyledOnOk W.write_str_gives f.old result
             (encode_lower (mpint_of self.now)) f.new }
     {
         write_lower_hex(self.as_bytes(), f)
@@ -191,7 +193,9 @@ impl fmt::UpperHex for Mpint {
     ghost use Rattle.sshkey_base.specs.Mpint.{mpint_of};
 
     fn fmt<W: fmt::Write>(&self, f: &mut fmt::Formatter<W>) -> fmt::Result
-        ensures { WritesOnOk W.write_str_gives f.old result
+        ensures writes { WritesOnOk W.write_str_gives f.old result
+            (encode_upper (mpint_of self.now)) f.new }
+        ensures styled { WritesStyledOnOk W.write_str_gives f.old result
             (encode_upper (mpint_of self.now)) f.new }
     {
         write_upper_hex(self.as_bytes(), f)
@@ -205,6 +209,8 @@ impl fmt::Display for Mpint {
     ghost use Rattle.sshkey_base.specs.Mpint.{mpint_of};
 
     ghost output = { λ m. Some (encode_upper (mpint_of m)) };
+
+    ghost styled_output = { λ m _. Some (encode_upper (mpint_of m)) };
 
     fn fmt<W: fmt::Write>(&self, f: &mut fmt::Formatter<W>) -> fmt::Result {
         fmt::UpperHex::fmt(self, f)

@@ -124,6 +124,8 @@ impl AsStr for EcdsaCurve {
 impl fmt::Display for EcdsaCurve {
     ghost output = { λ curve. Some (curve_name (curve_of curve)) };
 
+    ghost styled_output = { λ curve _. Some (curve_name (curve_of curve)) };
+
     fn fmt<W: fmt::Write>(&self, f: &mut fmt::Formatter<W>) -> fmt::Result {
         f.write_str(self.as_str())
     }

@@ -136,6 +136,8 @@ impl AsStr for HashAlg {
 impl fmt::Display for HashAlg {
     ghost output = { λ hash. Some (hash_name (hash_of hash)) };
 
+    ghost styled_output = { λ hash _. Some (hash_name (hash_of hash)) };
+
     fn fmt<W: fmt::Write>(&self, f: &mut fmt::Formatter<W>) -> fmt::Result {
         f.write_str(self.as_str())
     }

@@ -244,6 +244,8 @@ impl AsStr for AlgorithmName {
 impl fmt::Display for AlgorithmName {
     ghost output = { λ name. Some name };
 
+    ghost styled_output = { λ name _. Some name };
+
     fn fmt<W: fmt::Write>(&self, f: &mut fmt::Formatter<W>) -> fmt::Result {
         f.write_str(self.as_str())
     }

@@ -80,6 +80,8 @@ impl AsStr for Field {
 impl fmt::Display for Field {
     ghost output = { λ field. Some (field_text field) };
 
+    ghost styled_output = { λ field _. Some (field_text field) };
+
     fn fmt<W: fmt::Write>(&self, f: &mut fmt::Formatter<W>) -> fmt::Result {
         f.write_str(self.as_str())
     }
