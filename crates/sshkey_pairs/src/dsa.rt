@@ -1,7 +1,7 @@
 //! DSA key pairs.
 
-ghost use Rattle.std.specs.Fmt.{WritesOnOk};
-ghost use Rattle.std.specs.Prelude.{◌≡◌, ◌+◌, ◌*◌, ◌^◌, List, ℕ, IfOk, IfErr, codes};
+ghost use Rattle.std.specs.Fmt.{WritesStyledOnOk};
+ghost use Rattle.std.specs.Prelude.{◌≡◌, ◌+◌, ◌*◌, ◌^◌, List, ℕ, IfOk, IfErr, Some, codes};
 ghost use Rattle.sshkey_model.specs.KeyPairs.{KeyPair, pair, Plain};
 ghost use Rattle.sshkey_model.specs.Mpints.{mpint_at};
 ghost use Rattle.sshkey_model.specs.Texts.{string};
@@ -66,10 +66,13 @@ impl AsSlice<u8> for DsaPrivateKey {
     }
 }
 
-/// Shows no bytes.
+/// Shows no bytes, whatever options the formatter has.
 impl fmt::Debug for DsaPrivateKey {
+    ghost debug_output = { λ _. Some (codes "DsaPrivateKey { .. }") };
+
     fn fmt<W: fmt::Write>(&self, f: &mut fmt::Formatter<W>) -> fmt::Result
-        ensures { WritesOnOk W.write_str_gives f.old result (codes "DsaPrivateKey { .. }") f.new }
+        ensures styled { WritesStyledOnOk W.write_str_gives f.old result
+            (codes "DsaPrivateKey { .. }") f.new }
     {
         f.write_str("DsaPrivateKey { .. }")
     }

@@ -1,7 +1,7 @@
 //! ECDSA key pairs.
 
-ghost use Rattle.std.specs.Fmt.{WritesOnOk};
-ghost use Rattle.std.specs.Prelude.{◌≡◌, ◌↔◌, ◌+◌, ◌*◌, ◌^◌, List, ℕ, length, codes, IsOk, IfOk, IfErr};
+ghost use Rattle.std.specs.Fmt.{WritesOnOk, WritesStyledOnOk};
+ghost use Rattle.std.specs.Prelude.{◌≡◌, ◌↔◌, ◌+◌, ◌*◌, ◌^◌, List, ℕ, length, codes, Some, IsOk, IfOk, IfErr};
 ghost use Rattle.hex.specs.Hex.{encode_lower, encode_upper};
 ghost use Rattle.sshkey_model.specs.KeyPairs.{KeyPair, is_high, zero_if, scalar, pair, Plain};
 ghost use Rattle.sshkey_model.specs.Parts.{bytes};
@@ -110,10 +110,13 @@ impl<const SIZE: usize> fmt::UpperHex for EcdsaPrivateKey<SIZE> {
     }
 }
 
-/// Shows no bytes.
+/// Shows no bytes, whatever options the formatter has.
 impl<const SIZE: usize> fmt::Debug for EcdsaPrivateKey<SIZE> {
+    ghost debug_output = { λ _. Some (codes "EcdsaPrivateKey { .. }") };
+
     fn fmt<W: fmt::Write>(&self, f: &mut fmt::Formatter<W>) -> fmt::Result
-        ensures { WritesOnOk W.write_str_gives f.old result (codes "EcdsaPrivateKey { .. }") f.new }
+        ensures styled { WritesStyledOnOk W.write_str_gives f.old result
+            (codes "EcdsaPrivateKey { .. }") f.new }
     {
         f.write_str("EcdsaPrivateKey { .. }")
     }

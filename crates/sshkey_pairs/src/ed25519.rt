@@ -1,7 +1,7 @@
 //! Ed25519 key pairs.
 
-ghost use Rattle.std.specs.Fmt.{WritesOnOk};
-ghost use Rattle.std.specs.Prelude.{◌≡◌, ◌+◌, ◌*◌, ◌^◌, ◌++◌, take, drop, codes};
+ghost use Rattle.std.specs.Fmt.{WritesOnOk, WritesStyledOnOk};
+ghost use Rattle.std.specs.Prelude.{◌≡◌, ◌+◌, ◌*◌, ◌^◌, ◌++◌, take, drop, codes, Some};
 ghost use Rattle.hex.specs.Hex.{encode_lower, encode_upper};
 ghost use Rattle.rand_core.specs.Stream.{fill_bytes};
 ghost use Rattle.sshkey_base.specs.Answers.{AnswersAlways};
@@ -109,10 +109,12 @@ impl fmt::UpperHex for Ed25519PrivateKey {
     }
 }
 
-/// Shows no bytes.
+/// Shows no bytes, whatever options the formatter has.
 impl fmt::Debug for Ed25519PrivateKey {
+    ghost debug_output = { λ _. Some (codes "Ed25519PrivateKey { .. }") };
+
     fn fmt<W: fmt::Write>(&self, f: &mut fmt::Formatter<W>) -> fmt::Result
-        ensures { WritesOnOk W.write_str_gives f.old result
+        ensures styled { WritesStyledOnOk W.write_str_gives f.old result
             (codes "Ed25519PrivateKey { .. }") f.new }
     {
         f.write_str("Ed25519PrivateKey { .. }")
