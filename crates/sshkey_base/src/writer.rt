@@ -1,6 +1,6 @@
 //! Writers of the wire encoding.
 
-ghost use Rattle.std.specs.Prelude.{◌≡◌, ◌≤◌, [], None, Some, IfErr, length};
+ghost use Rattle.std.specs.Prelude.{◌≡◌, ◌≤◌, [], None, Some, IfErr, OnErr, length};
 ghost use Rattle.sshkey_base.specs.declared.encoding.Error as narrow;
 ghost use Rattle.sshkey_base.specs.declared.encoding.Error.TheVariants.{Memory, Length};
 ghost use Rattle.sshkey_base.specs.Sink.{Sink, Writes};
@@ -37,7 +37,7 @@ impl Writer for Vec<u8> {
     }
 }
 
-/// A slice that is filled from its front.
+/// A slice that is filled from its front; what stands behind what is written stays as it was.
 #[derive(Drop)]
 pub struct SliceWriter<'s> {
     slice: &'s mut [u8],
@@ -48,9 +48,13 @@ pub struct SliceWriter<'s> {
 impl<'s> SliceWriter<'s> {
     ghost use Rattle.sshkey_base.specs.SliceWriter.{slice_sink};
 
-    /// A writer into the slice. Nothing is written yet, and all of the slice is room.
+    /// A writer into the slice, which stays as it is. Nothing is written yet, and all of the slice
+    /// is room.
     pub fn new(slice: &'s mut [u8]) -> SliceWriter<'s>
-        ensures { slice_sink result ≡ record { written = []; limit = Some (length slice.old) } }
+        ensures empty { slice_sink result
+            ≡ record { written = []; limit = Some (length slice.old) } }
+        ensures same_reference { result.slice.ghost_name ≡ slice.entry.ghost_name }
+        ensures value { result.slice.now ≡ slice.old }
     {
         SliceWriter { slice, len: 0 }
     }
@@ -74,10 +78,11 @@ impl fmt::Debug for SliceWriter<'_> {
     }
 }
 
-/// Fails with `Length` if the bytes pass the rest of the slice; then none of them is written.
+/// Fails with `Length` if the bytes pass the rest of the slice; then the slice is as it was. What
+/// stands behind what is written is as it was in any case.
 #[tactic(auto, using(crate::proofs::Writing::wrote_none))]
 impl Writer for SliceWriter<'_> {
-    ghost use Rattle.sshkey_base.specs.SliceWriter.{slice_sink};
+    ghost use Rattle.sshkey_base.specs.SliceWriter.{slice_sink, KeepsBehind};
 
     ghost sink = { slice_sink };
 
@@ -87,6 +92,9 @@ impl Writer for SliceWriter<'_> {
         ensures writes { Writes (λ e. e ≡ Length) (slice_sink self.old)
             bytes.now result (slice_sink self.new) }
         ensures unwritten { IfErr result (λ _. slice_sink self.new ≡ slice_sink self.old) }
+        ensures same_reference { self.new.slice.ghost_name ≡ self.old.slice.ghost_name }
+        ensures unchanged { OnErr result (self.new.slice.now ≡ self.old.slice.now) }
+        ensures behind { KeepsBehind self.old self.new }
     {
         let slice = &mut *self.slice;
         let len = self.len;
