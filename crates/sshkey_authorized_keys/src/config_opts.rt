@@ -191,6 +191,8 @@ impl AsStr for ConfigOpts {
 impl fmt::Display for ConfigOpts {
     ghost output = { λ o. Some o };
 
+    ghost styled_output = { λ o _. Some o };
+
     fn fmt<W: fmt::Write>(&self, f: &mut fmt::Formatter<W>) -> fmt::Result {
         f.write_str(self.as_str())
     }

@@ -195,6 +195,8 @@ impl AsStr for Cipher {
 impl fmt::Display for Cipher {
     ghost output = { λ cipher. Some (cipher_name (cipher_of cipher)) };
 
+    ghost styled_output = { λ cipher _. Some (cipher_name (cipher_of cipher)) };
+
     fn fmt<W: fmt::Write>(&self, f: &mut fmt::Formatter<W>) -> fmt::Result {
         f.write_str(self.as_str())
     }

@@ -126,6 +126,8 @@ impl AsStr for KdfAlg {
 impl fmt::Display for KdfAlg {
     ghost output = { λ algorithm. Some (kdf_name (kdf_algorithm_of algorithm)) };
 
+    ghost styled_output = { λ algorithm _. Some (kdf_name (kdf_algorithm_of algorithm)) };
+
     fn fmt<W: fmt::Write>(&self, f: &mut fmt::Formatter<W>) -> fmt::Result {
         f.write_str(self.as_str())
     }

@@ -1,7 +1,7 @@
 //! Random art: a picture of a digest, for people to compare.
 
 ghost use Rattle.std.specs.Prelude.{◌≡◌, ◌++◌, ◌∷◌, [], ◌<◌, ◌≤◌, ◌^◌, ◌+◌, ℕ, List, Some};
-ghost use Rattle.std.specs.Fmt.{WritesOnOk};
+ghost use Rattle.std.specs.Fmt.{WritesStyledOnOk};
 ghost use Rattle.sshkey_fingerprints.specs.RandomArt.{IsInField, along, bar, bit_of, next, start, steps, symbol};
 
 use std::fmt;
@@ -160,7 +160,7 @@ fn symbol(shade: u8) -> char
 
 /// Writes a row between two bars, with a line end.
 fn write_row<W: fmt::Write>(shades: &[u8], f: &mut fmt::Formatter<W>) -> fmt::Result
-    ensures { WritesOnOk W.write_str_gives f.old result (bar shades.now) f.new }
+    ensures { WritesStyledOnOk W.write_str_gives f.old result (bar shades.now) f.new }
 {
     f.write_char('|')?;
     for shade in shades {
@@ -174,6 +174,8 @@ impl fmt::Display for RandomArt {
     ghost use Rattle.sshkey_fingerprints.specs.Walks.{rows_of};
 
     ghost output = { λ art. Some (rows_of art) };
+
+    ghost styled_output = { λ art _. Some (rows_of art) };
 
     fn fmt<W: fmt::Write>(&self, f: &mut fmt::Formatter<W>) -> fmt::Result {
         for row in 0..HEIGHT {

@@ -1,6 +1,6 @@
 //! ECDSA public keys.
 
-ghost use Rattle.std.specs.Fmt.{WritesOnOk};
+ghost use Rattle.std.specs.Fmt.{WritesOnOk, WritesStyledOnOk};
 ghost use Rattle.std.specs.Prelude.{◌≡◌};
 ghost use Rattle.hex.specs.Hex.{encode_lower, encode_upper};
 ghost use Rattle.sshkey_base.specs.Answers.{AnswersAlways};
@@ -281,7 +281,9 @@ impl fmt::LowerHex for EcdsaPublicKey {
     ghost use Rattle.sshkey_kinds.specs.EcdsaPublicKey.{ecdsa_of};
 
     fn fmt<W: fmt::Write>(&self, f: &mut fmt::Formatter<W>) -> fmt::Result
-        ensures { WritesOnOk W.write_str_gives f.old result
+        ensures writes { WritesOnOk W.write_str_gives f.old result
+            (encode_lower (ecdsa_of self.now).1) f.new }
+        ensures styled { WritesStyledOnOk W.write_str_gives f.old result
             (encode_lower (ecdsa_of self.now).1) f.new }
     {
         write_lower_hex(self.as_sec1_bytes(), f)
@@ -293,7 +295,9 @@ impl fmt::UpperHex for EcdsaPublicKey {
     ghost use Rattle.sshkey_kinds.specs.EcdsaPublicKey.{ecdsa_of};
 
     fn fmt<W: fmt::Write>(&self, f: &mut fmt::Formatter<W>) -> fmt::Result
-        ensures { WritesOnOk W.write_str_gives f.old result
+        ensures writes { WritesOnOk W.write_str_gives f.old result
+            (encode_upper (ecdsa_of self.now).1) f.new }
+        ensures styled { WritesStyledOnOk W.write_str_gives f.old result
             (encode_upper (ecdsa_of self.now).1) f.new }
     {
         write_upper_hex(self.as_sec1_bytes(), f)
@@ -307,6 +311,8 @@ impl fmt::Display for EcdsaPublicKey {
     ghost use Rattle.sshkey_kinds.specs.EcdsaPublicKey.{ecdsa_of};
 
     ghost output = { λ k. Some (encode_upper (ecdsa_of k).1) };
+
+    ghost styled_output = { λ k _. Some (encode_upper (ecdsa_of k).1) };
 
     fn fmt<W: fmt::Write>(&self, f: &mut fmt::Formatter<W>) -> fmt::Result {
         fmt::UpperHex::fmt(self, f)

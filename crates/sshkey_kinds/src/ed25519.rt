@@ -1,6 +1,6 @@
 //! Ed25519 public keys.
 
-ghost use Rattle.std.specs.Fmt.{WritesOnOk};
+ghost use Rattle.std.specs.Fmt.{WritesOnOk, WritesStyledOnOk};
 ghost use Rattle.std.specs.Prelude.{◌≡◌, ℕ, Some, ◌+◌, ◌^◌};
 ghost use Rattle.hex.specs.Hex.{encode_lower, encode_upper};
 ghost use Rattle.sshkey_base.specs.Answers.{AnswersAlways};
@@ -96,7 +96,10 @@ impl AsSlice<u8> for Ed25519PublicKey {
 /// Two digits a byte, with small letters.
 impl fmt::LowerHex for Ed25519PublicKey {
     fn fmt<W: fmt::Write>(&self, f: &mut fmt::Formatter<W>) -> fmt::Result
-        ensures { WritesOnOk W.write_str_gives f.old result (encode_lower self.now.0) f.new }
+        ensures writes { WritesOnOk W.write_str_gives f.old result
+            (encode_lower self.now.0) f.new }
+        ensures styled { WritesStyledOnOk W.write_str_gives f.old result
+            (encode_lower self.now.0) f.new }
     {
         write_lower_hex(&self.0, f)
     }
@@ -105,7 +108,10 @@ impl fmt::LowerHex for Ed25519PublicKey {
 /// Two digits a byte, with capital letters.
 impl fmt::UpperHex for Ed25519PublicKey {
     fn fmt<W: fmt::Write>(&self, f: &mut fmt::Formatter<W>) -> fmt::Result
-        ensures { WritesOnOk W.write_str_gives f.old result (encode_upper self.now.0) f.new }
+        ensures writes { WritesOnOk W.write_str_gives f.old result
+            (encode_upper self.now.0) f.new }
+        ensures styled { WritesStyledOnOk W.write_str_gives f.old result
+            (encode_upper self.now.0) f.new }
     {
         write_upper_hex(&self.0, f)
     }
@@ -114,6 +120,8 @@ impl fmt::UpperHex for Ed25519PublicKey {
 /// Two digits a byte, with capital letters.
 impl fmt::Display for Ed25519PublicKey {
     ghost output = { λ k. Some (encode_upper k.0) };
+
+    ghost styled_output = { λ k _. Some (encode_upper k.0) };
 
     fn fmt<W: fmt::Write>(&self, f: &mut fmt::Formatter<W>) -> fmt::Result {
         fmt::UpperHex::fmt(self, f)

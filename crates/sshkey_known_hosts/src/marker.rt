@@ -58,6 +58,8 @@ impl AsStr for Marker {
 impl fmt::Display for Marker {
     ghost output = { λ marker. Some (marker_text (marker_of marker)) };
 
+    ghost styled_output = { λ marker _. Some (marker_text (marker_of marker)) };
+
     fn fmt<W: fmt::Write>(&self, f: &mut fmt::Formatter<W>) -> fmt::Result {
         f.write_str(self.as_str())
     }

@@ -93,7 +93,9 @@ impl<const SIZE: usize> AsSlice<u8> for EcdsaPrivateKey<SIZE> {
 /// Two digits a byte, with small letters.
 impl<const SIZE: usize> fmt::LowerHex for EcdsaPrivateKey<SIZE> {
     fn fmt<W: fmt::Write>(&self, f: &mut fmt::Formatter<W>) -> fmt::Result
-        ensures { WritesOnOk W.write_str_gives f.old result
+        ensures writes { WritesOnOk W.write_str_gives f.old result
+            (encode_lower (ecdsa_private_of self.now)) f.new }
+        ensures styled { WritesStyledOnOk W.write_str_gives f.old result
             (encode_lower (ecdsa_private_of self.now)) f.new }
     {
         write_lower_hex(&self.bytes, f)
@@ -103,7 +105,9 @@ impl<const SIZE: usize> fmt::LowerHex for EcdsaPrivateKey<SIZE> {
 /// Two digits a byte, with capital letters.
 impl<const SIZE: usize> fmt::UpperHex for EcdsaPrivateKey<SIZE> {
     fn fmt<W: fmt::Write>(&self, f: &mut fmt::Formatter<W>) -> fmt::Result
-        ensures { WritesOnOk W.write_str_gives f.old result
+        ensures writes { WritesOnOk W.write_str_gives f.old result
+            (encode_upper (ecdsa_private_of self.now)) f.new }
+        ensures styled { WritesStyledOnOk W.write_str_gives f.old result
             (encode_upper (ecdsa_private_of self.now)) f.new }
     {
         write_upper_hex(&self.bytes, f)

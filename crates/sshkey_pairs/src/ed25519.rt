@@ -92,7 +92,9 @@ impl AsSlice<u8> for Ed25519PrivateKey {
 /// Two digits a byte, with small letters.
 impl fmt::LowerHex for Ed25519PrivateKey {
     fn fmt<W: fmt::Write>(&self, f: &mut fmt::Formatter<W>) -> fmt::Result
-        ensures { WritesOnOk W.write_str_gives f.old result
+        ensures writes { WritesOnOk W.write_str_gives f.old result
+            (encode_lower (ed25519_private_of self.now)) f.new }
+        ensures styled { WritesStyledOnOk W.write_str_gives f.old result
             (encode_lower (ed25519_private_of self.now)) f.new }
     {
         write_lower_hex(&self.bytes, f)
@@ -102,7 +104,9 @@ impl fmt::LowerHex for Ed25519PrivateKey {
 /// Two digits a byte, with capital letters.
 impl fmt::UpperHex for Ed25519PrivateKey {
     fn fmt<W: fmt::Write>(&self, f: &mut fmt::Formatter<W>) -> fmt::Result
-        ensures { WritesOnOk W.write_str_gives f.old result
+        ensures writes { WritesOnOk W.write_str_gives f.old result
+            (encode_upper (ed25519_private_of self.now)) f.new }
+        ensures styled { WritesStyledOnOk W.write_str_gives f.old result
             (encode_upper (ed25519_private_of self.now)) f.new }
     {
         write_upper_hex(&self.bytes, f)

@@ -1,6 +1,6 @@
 //! A signature's bytes in hexadecimal.
 
-ghost use Rattle.std.specs.Fmt.{WritesOnOk};
+ghost use Rattle.std.specs.Fmt.{WritesOnOk, WritesStyledOnOk};
 ghost use Rattle.hex.specs.Hex.{encode_lower, encode_upper};
 ghost use Rattle.sshkey_keys.specs.Signatures.{signature_of};
 
@@ -11,7 +11,9 @@ use std::fmt;
 /// Two digits for each of its bytes, with small letters.
 impl fmt::LowerHex for Signature {
     fn fmt<W: fmt::Write>(&self, f: &mut fmt::Formatter<W>) -> fmt::Result
-        ensures { WritesOnOk W.write_str_gives f.old result
+        ensures writes { WritesOnOk W.write_str_gives f.old result
+            (encode_lower (signature_of self.now).blob) f.new }
+        ensures styled { WritesStyledOnOk W.write_str_gives f.old result
             (encode_lower (signature_of self.now).blob) f.new }
     {
         write_lower_hex(self.as_bytes(), f)
@@ -21,7 +23,9 @@ impl fmt::LowerHex for Signature {
 /// Two digits for each of its bytes, with capital letters.
 impl fmt::UpperHex for Signature {
     fn fmt<W: fmt::Write>(&self, f: &mut fmt::Formatter<W>) -> fmt::Result
-        ensures { WritesOnOk W.write_str_gives f.old result
+        ensures writes { WritesOnOk W.write_str_gives f.old result
+            (encode_upper (signature_of self.now).blob) f.new }
+        ensures styled { WritesStyledOnOk W.write_str_gives f.old result
             (encode_upper (signature_of self.now).blob) f.new }
     {
         write_upper_hex(self.as_bytes(), f)

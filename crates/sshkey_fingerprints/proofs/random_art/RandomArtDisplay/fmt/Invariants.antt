@@ -1,6 +1,6 @@
-use Rattle.std.specs.Fmt.{HasWritten, IsPlainFormatter}
+use Rattle.std.specs.Fmt.{HasWrittenStyled, IsFlush}
 use Rattle.sshkey_fingerprints.specs.Walks.{first_rows}
 use Rattle.sshkey_fingerprints.proofs.random_art.RandomArtDisplay.fmt.Given as goal
 
 abbrev pub invariant-loop-row : goal.invariant-loop-row
-invariant-loop-row g l = IsPlainFormatter l.fn.f → HasWritten g.W.Write.write_str_gives l.fn.f (first_rows l.row l.self.shades) l.f
+invariant-loop-row g l = IsFlush l.fn.f → HasWrittenStyled g.W.Write.write_str_gives l.fn.f (first_rows l.row l.self.shades) l.f
