@@ -1,5 +1,7 @@
 pub mod Cuts
+pub mod CanonicalWords
 pub mod LineNeeds
+pub mod LineFaults
 pub mod ReadLines
 pub mod Filling
 pub mod LentSlices

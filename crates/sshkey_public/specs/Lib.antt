@@ -3,6 +3,7 @@ pub mod Blobs
 pub mod KeyBlobs
 pub mod Lines
 pub mod LineNeeds
+pub mod LineFaults
 pub mod OneLine
 pub mod Filling
 pub mod WritingLines

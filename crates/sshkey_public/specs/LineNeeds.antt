@@ -6,9 +6,12 @@ use Rattle.sshkey_base.specs.Causes.{cause, NoMemory}
 use Rattle.sshkey_base.specs.declared.error.Error.{Error}
 use Rattle.sshkey_model.specs.Lines.{IsCut, IsLineOf}
 
--- The bytes need memory whose word in Base64 it is. Nothing is said of a word of no bytes.
-abbrev pub NeedsWord : (List ℕ → ℕ → Type 0) → List ℕ → Type 0
-NeedsWord needs word = (blob : List ℕ) → IsBytes blob → word ≡ encode_of standard blob → needs blob 0
+-- The word is that of bytes which need memory: one that is no canonical Base64 needs none.
+pub record NeedsWord (needs : List ℕ → ℕ → Type 0) (word : List ℕ) : Type 0 where
+  pub blob : List ℕ
+  pub bytes : IsBytes blob
+  pub is : word ≡ encode_of standard blob
+  pub needed : needs blob 0
 
 -- Memory was refused only where the bytes of the word need it.
 abbrev pub AsksWord : {X : Type 0} → (List ℕ → ℕ → Type 0) → List ℕ → Result X Error → Type 0
