@@ -3,6 +3,7 @@ pub use Rattle.sshkey_public.specs.Blobs
 pub use Rattle.sshkey_public.specs.KeyBlobs
 pub use Rattle.sshkey_public.specs.Lines
 pub use Rattle.sshkey_public.specs.LineNeeds
+pub use Rattle.sshkey_public.specs.LineFaults
 pub use Rattle.sshkey_public.specs.OneLine
 pub use Rattle.sshkey_public.specs.Filling
 pub use Rattle.sshkey_public.specs.WritingLines

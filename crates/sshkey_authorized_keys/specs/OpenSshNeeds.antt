@@ -3,9 +3,14 @@ use Rattle.std.specs.Prelude.{◌≡◌, ◌⊎◌, ℕ, List, ◌++◌, length,
 use Rattle.sshkey_base.specs.Causes.{cause, NoMemory}
 use Rattle.sshkey_base.specs.declared.error.Error.{Error}
 use Rattle.sshkey_model.specs.Keys.{Key}
+use Rattle.sshkey_files.specs.Answers.{ReadsEntry, RefusesFor}
 use Rattle.sshkey_files.specs.Fields.{without_blanks, AreKeyFields}
+use Rattle.sshkey_files.specs.OpenSshLines.{IsAuthorizedLine}
 use Rattle.sshkey_files.specs.StrictReading.{EndsOptions}
 use Rattle.sshkey_files.specs.KeyFields.{NeedsKeyFields}
+use Rattle.sshkey_authorized_keys.specs.OpenSshEntries.{openssh_entry_of}
+use Rattle.sshkey_authorized_keys.specs.OpenSshFaults.{HasLineFault}
+use Rattle.sshkey_authorized_keys.specs.declared.openssh.OpenSshEntry.{OpenSshEntry}
 
 -- The text is options and what follows them; and that needs memory, or is a key's fields, and then the options do.
 pub record NeedsBehind (text : List ℕ) : Type 0 where
@@ -23,3 +28,7 @@ AsksFor Needed (Err e) = cause e ≡ NoMemory → Needed
 -- A key at the front needs it, or options before a key.
 abbrev pub NeedsEntry : List ℕ → Type 0
 NeedsEntry line = NeedsKeyFields (without_blanks line) ⊎ NeedsBehind (without_blanks line)
+
+-- One answer of a reader of lines: the entry of the line, or why it is none; and memory was refused only where it was needed.
+abbrev pub AnswersLine : List ℕ → Result OpenSshEntry Error → Type 0
+AnswersLine line r = ReadsEntry openssh_entry_of IsAuthorizedLine line r × RefusesFor HasLineFault line r × AsksFor (NeedsEntry line) r

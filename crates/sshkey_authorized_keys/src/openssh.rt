@@ -4,10 +4,10 @@ ghost use Rattle.std.specs.Prelude.{◌≡◌, ◌<◌, ◌↔◌, ℕ, List, []
 ghost use Rattle.std.specs.Iterator.{item_count};
 ghost use Rattle.sshkey_files.specs.Fields.{AreNoKeyFields, filled_lines};
 ghost use Rattle.sshkey_files.specs.OpenSshLines.{IsAuthorizedLine, IsBehindOptions};
-ghost use Rattle.sshkey_files.specs.Answers.{AnswersEntry, ReadsEntry, RefusesFor, YieldsAnswers};
+ghost use Rattle.sshkey_files.specs.Answers.{ReadsEntry, RefusesFor, YieldsAnswers};
 ghost use Rattle.sshkey_authorized_keys.specs.OpenSshEntries.{openssh_entry_of, openssh_key_in, openssh_options_of};
 ghost use Rattle.sshkey_authorized_keys.specs.OpenSshFaults.{CutsOptions, FindsEnd, HasLineFault, HasTextFault, EndsHere};
-ghost use Rattle.sshkey_authorized_keys.specs.OpenSshNeeds.{AsksFor, NeedsBehind, NeedsEntry};
+ghost use Rattle.sshkey_authorized_keys.specs.OpenSshNeeds.{AnswersLine, AsksFor, NeedsBehind, NeedsEntry};
 
 use crate::entry::{Entry, is_memory};
 use crate::openssh_options::OpenSshOptions;
@@ -75,7 +75,7 @@ impl Entry {
     /// empty line and where quotes stay open; `Length` where after options, or alone, no Base64
     /// stands; and else the errors of `sshkey_files::read_key_fields`.
     ///
-    /// fails with `Memory` only if `sshkey_files::read_key_fields` may answer it, of the line or
+    /// Fails with `Memory` only if `sshkey_files::read_key_fields` may answer it, of the line or
     /// of what stands after its options, and for the options of an entry.
     ///
     /// The options are kept as they stand, also those that sshd does not know; sshd rejects a line
@@ -180,8 +180,7 @@ impl<'a> OpenSshAuthorizedKeys<'a> {
 impl<'a> Iterator for OpenSshAuthorizedKeys<'a> {
     type Item = Result<OpenSshEntry>;
 
-    ghost next_gives = { YieldsAnswers
-        (AnswersEntry openssh_entry_of IsAuthorizedLine HasLineFault) };
+    ghost next_gives = { YieldsAnswers AnswersLine };
 
     ghost remaining = { item_count (λ left. left) };
 

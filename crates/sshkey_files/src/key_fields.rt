@@ -3,28 +3,15 @@
 ghost use Rattle.std.specs.Prelude.{◌≡◌, ◌↔◌, ◌<◌, length, IfErr, IfOk, IsTrue, string_bytes};
 ghost use Rattle.sshkey_base.specs.declared.error.Error.TheVariants as wide;
 ghost use Rattle.sshkey_files.specs.Answers.{RefusesFor};
-ghost use Rattle.sshkey_keys.specs.Keys.{key_of, SpellsKey};
-ghost use Rattle.sshkey_keys.specs.KeyFormats.{key_format};
+ghost use Rattle.sshkey_keys.specs.Keys.{key_of};
 ghost use Rattle.sshkey_model.specs.Lines.{key_name};
-ghost use Rattle.sshkey_public.specs.LineNeeds.{AsksWord};
-ghost use Rattle.sshkey_public.specs.Lines.{ReadsWord};
 ghost use Rattle.sshkey_files.specs.KeyFields.{AsksKeyFields, HasKeyFault, ReadsKeyFields};
 
 use crate::blanks::{skip_blanks, split_field};
-use sshkey_base::{Error, Result, decode_whole, encoding};
-use sshkey_base64::Base64Reader;
+use sshkey_base::{Error, Result, encoding};
 use sshkey_keys::KeyData;
-use sshkey_public::PublicKey;
+use sshkey_public::{PublicKey, read_word};
 use std::alloc::Global;
-
-/// The key that the bytes spell, all of them, whose word in Base64 it is.
-fn read_word(alloc: Global, word: &str) -> Result<KeyData>
-    ensures reads { ReadsWord key_of SpellsKey word.now result }
-    ensures asks { AsksWord key_format.needs word.now result }
-{
-    let reader = Base64Reader::new(word)?;
-    decode_whole(alloc, reader)
-}
 
 fn is_named(key: &KeyData, name: &str) -> bool
     ensures { IsTrue result ↔ (name.now ≡ key_name (key_of key.now)) }
@@ -47,13 +34,12 @@ fn copied(alloc: Global, text: &str) -> Result<String>
 /// a comment, which is all that follows. Spaces or tabs stand between.
 ///
 /// Unless memory runs out, it fails exactly if the text is the fields of no key: `Length` where the
-/// Base64 is missing, `Base64` where it is no canonical Base64, the errors of `KeyData::decode`,
-/// `TrailingData` with the number of bytes after the key, and `AlgorithmUnknown` where the first
-/// field is not the name of the key that the Base64 spells.
+/// Base64 is missing, the errors of `sshkey_public::read_word`, and `AlgorithmUnknown` where the
+/// first field is not the name of the key that the Base64 spells.
 ///
-/// Where the second field is canonical Base64, it fails with `Memory` only if the key in it needs
-/// some, or for a comment that is not empty, of a text that is a key's fields: never for a length
-/// that the key's bytes only state.
+/// It fails with `Memory` only if the second field is canonical Base64 and the key in it needs some,
+/// or for a comment that is not empty, of a text that is a key's fields: never for a length that the
+/// key's bytes only state.
 pub fn read_key_fields(alloc: Global, text: &str) -> Result<PublicKey>
     ensures reads { ReadsKeyFields text.now result }
     ensures fault { RefusesFor HasKeyFault text.now result }
@@ -64,7 +50,7 @@ pub fn read_key_fields(alloc: Global, text: &str) -> Result<PublicKey>
     if word.is_empty() {
         return Err(Error::Encoding(encoding::Error::Length));
     }
-    let key_data = read_word(alloc, word)?;
+    let key_data: KeyData = read_word(alloc, word)?;
     if !is_named(&key_data, name) {
         return Err(Error::AlgorithmUnknown);
     }

@@ -8,6 +8,7 @@ ghost use Rattle.sshkey_model.specs.Certificates.{Certificate as TheCertificate,
 ghost use Rattle.sshkey_model.specs.Keys.{key_algorithm};
 ghost use Rattle.sshkey_model.specs.Lines.{certificate_line, name_of_certificate};
 ghost use Rattle.sshkey_keys.specs.Keys.{key_of};
+ghost use Rattle.sshkey_public.specs.LineFaults.{RefusesLine};
 ghost use Rattle.sshkey_public.specs.LineNeeds.{AsksLine};
 ghost use Rattle.sshkey_public.specs.OneLine.{IsOneLine};
 ghost use Rattle.sshkey_public.specs.PublicKeys.{MakesLine};
@@ -45,12 +46,13 @@ impl Certificate {
     ///
     /// White space at the end is cut off. Unless memory runs out, it fails exactly if the text is
     /// not the line of a certificate: with `Length` if a word is missing or empty, with
-    /// `CharacterEncoding` for a character in the first word that no name has, with `Base64` if the
-    /// second is not canonical Base64, with the errors of `from_bytes`, also `Length` for a
-    /// certificate that is signed by RSA with SHA-1, and with `AlgorithmUnknown` if the first word
-    /// is not the certificate's name.
+    /// `CharacterEncoding` for a character in the first word that no name has, with the errors of
+    /// `from_bytes`, also `Length` for a certificate that is signed by RSA with SHA-1, and with
+    /// `AlgorithmUnknown` if the first word is not the certificate's name. A second word that is not
+    /// canonical Base64 fails with `Base64`, or with a fault of the bytes before its first wrong
+    /// character.
     ///
-    /// If the second word is canonical Base64, `Memory` means that an allocation for the
+    /// `Memory` means that the second word is canonical Base64 and an allocation for the
     /// certificate in it failed, or for the comment of a line that is a certificate's. A length
     /// that its bytes only state allocates nothing.
     ///
@@ -59,6 +61,8 @@ impl Certificate {
     pub fn from_openssh(alloc: Global, text: &str) -> Result<Certificate>
         ensures reads { ReadsCertificate text.now result }
         ensures asks { AsksLine name_of_certificate SpellsCertificate certificate_format.needs
+            text.now result }
+        ensures fault { RefusesLine certificate_format name_of_certificate SpellsCertificate
             text.now result }
     {
         let (certificate, comment) = read_line::<Certificate>(alloc, text)?;
