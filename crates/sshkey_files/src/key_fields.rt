@@ -37,9 +37,9 @@ fn copied(alloc: Global, text: &str) -> Result<String>
 /// Base64 is missing, the errors of `sshkey_public::read_word`, and `AlgorithmUnknown` where the
 /// first field is not the name of the key that the Base64 spells.
 ///
-/// It fails with `Memory` only if the second field is canonical Base64 and the key in it needs some,
-/// or for a comment that is not empty, of a text that is a key's fields: never for a length that the
-/// key's bytes only state.
+/// It fails with `Memory` only if the second field is canonical Base64 and the key in it needs
+/// some, or for a comment that is not empty, of a text that is a key's fields: never for a length
+/// that the key's bytes only state.
 pub fn read_key_fields(alloc: Global, text: &str) -> Result<PublicKey>
     ensures reads { ReadsKeyFields text.now result }
     ensures fault { RefusesFor HasKeyFault text.now result }

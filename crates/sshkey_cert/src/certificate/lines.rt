@@ -48,9 +48,9 @@ impl Certificate {
     /// not the line of a certificate: with `Length` if a word is missing or empty, with
     /// `CharacterEncoding` for a character in the first word that no name has, with the errors of
     /// `from_bytes`, also `Length` for a certificate that is signed by RSA with SHA-1, and with
-    /// `AlgorithmUnknown` if the first word is not the certificate's name. A second word that is not
-    /// canonical Base64 fails with `Base64`, or with a fault of the bytes before its first wrong
-    /// character.
+    /// `AlgorithmUnknown` if the first word is not the certificate's name. A second word that is
+    /// not canonical Base64 fails with `Base64`, or with a fault of the bytes before its first
+    /// wrong character.
     ///
     /// `Memory` means that the second word is canonical Base64 and an allocation for the
     /// certificate in it failed, or for the comment of a line that is a certificate's. A length
