@@ -9,6 +9,7 @@ use Rattle.sshkey_base.specs.declared.error.Error.{Error}
 use Rattle.sshkey_base.specs.declared.error.Error.TheVariants.{AlgorithmUnknown, Encoding}
 use Rattle.sshkey_model.specs.Keys.{Key}
 use Rattle.sshkey_model.specs.Lines.{key_name}
+use Rattle.sshkey_model.specs.Reading.{whole}
 use Rattle.sshkey_model.proofs.Base64Words.{one_blob, some_word}
 use Rattle.sshkey_model.proofs.Blobs.{key_blobs}
 use Rattle.sshkey_model.proofs.CombinedReaders.{bytes_fit}
@@ -17,6 +18,7 @@ use Rattle.sshkey_files.proofs.Fields.{same_field, base64_field}
 use Rattle.sshkey_files.specs.Cuts.{CutsField}
 use Rattle.sshkey_keys.specs.Keys.{SpellsKey}
 use Rattle.sshkey_keys.specs.KeyFormats.{key_format}
+use Rattle.sshkey_public.specs.LineFaults.{HasFaultOfWord}
 use Rattle.sshkey_public.specs.LineNeeds.{NeedsWord}
 use Rattle.sshkey_public.specs.Lines.{IsWordOf, IsNoWord}
 use Rattle.sshkey_files.specs.KeyFields.{AreFields, HasKeyFault, NeedsKeyFields}
@@ -81,18 +83,21 @@ module _ (text name behind skipped word rest : List ℕ) (first : CutsField text
   pub missing : length word ≡ 0 → HasKeyFault text (Encoding Length)
   missing none = record {
     no_word = λ n r cut nothing. refl;
+    bad_word = λ n w r f some no. absurd (omega (arith, none, ap length (same_word n w r f).1, some));
     other_name = λ n w r k f is other. absurd (omega (arith, none, ap length ((same_word n w r f).1 ∙ is.is), some_word is.blob (key_blobs.some k is.blob is.spelled)));
   }
 
-  pub odd_key : (e : Error) → 0 < length word → IsNoWord SpellsKey word → HasKeyFault text e
-  odd_key e some none = record {
+  pub odd_key : (e : Error) → 0 < length word → IsNoWord SpellsKey word → HasFaultOfWord (whole key_format.read) word e → HasKeyFault text e
+  odd_key e some none fault = record {
     no_word = λ n r cut nothing. absurd (some_there some n r cut nothing);
+    bad_word = λ n w r f also no. subst (λ (t : List ℕ). HasFaultOfWord (whole key_format.read) t e) (same_word n w r f).1 fault;
     other_name = λ n w r k f is other. absurd (none k (subst (λ (t : List ℕ). IsWordOf SpellsKey t k) (sym (same_word n w r f).1) is));
   }
 
-  pub named_otherwise : 0 < length word → HasKeyFault text AlgorithmUnknown
-  named_otherwise some = record {
+  pub named_otherwise : 0 < length word → (k : Key) → IsWordOf SpellsKey word k → HasKeyFault text AlgorithmUnknown
+  named_otherwise some k is = record {
     no_word = λ n r cut nothing. absurd (some_there some n r cut nothing);
+    bad_word = λ n w r f also none. absurd (none k (subst (λ (t : List ℕ). IsWordOf SpellsKey t k) (same_word n w r f).1 is));
     other_name = λ n w r k f is other. refl;
   }
 

@@ -9,8 +9,10 @@ use Rattle.sshkey_keys.specs.Keys.{SpellsKey}
 use Rattle.sshkey_keys.specs.KeyFormats.{key_format}
 use Rattle.sshkey_model.specs.Keys.{Key}
 use Rattle.sshkey_model.specs.Lines.{key_name}
+use Rattle.sshkey_model.specs.Reading.{whole}
+use Rattle.sshkey_public.specs.LineFaults.{HasFaultOfWord}
 use Rattle.sshkey_public.specs.LineNeeds.{NeedsWord}
-use Rattle.sshkey_public.specs.Lines.{IsWordOf}
+use Rattle.sshkey_public.specs.Lines.{IsNoWord, IsWordOf}
 use Rattle.sshkey_public.specs.PublicKeys.{public_of, comment_of}
 use Rattle.sshkey_public.specs.declared.public_key.PublicKey.{PublicKey}
 use Rattle.sshkey_files.specs.Cuts.{CutsField}
@@ -26,9 +28,10 @@ pub record AreFields (text name word rest : List ℕ) : Type 0 where
   pub first : CutsField text name behind
   pub second : CutsField (without_blanks behind) word rest
 
--- `Length` where the Base64 is missing, and `AlgorithmUnknown` where it spells a key of another name. Of others the fault is open.
+-- `Length` where the Base64 is missing, the fault of a word that spells no key, and `AlgorithmUnknown` where it spells a key of another name.
 pub record HasKeyFault (text : List ℕ) (e : Error) : Type 0 where
   pub no_word : (name rest : List ℕ) → CutsField text name rest → without_blanks rest ≡ [] → e ≡ Encoding Length
+  pub bad_word : (name word rest : List ℕ) → AreFields text name word rest → 0 < length word → IsNoWord SpellsKey word → HasFaultOfWord (whole key_format.read) word e
   pub other_name : (name word rest : List ℕ) (k : Key) → AreFields text name word rest → IsWordOf SpellsKey word k → name ≢ key_name k → e ≡ AlgorithmUnknown
 
 -- ---- memory

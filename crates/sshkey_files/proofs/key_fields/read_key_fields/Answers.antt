@@ -20,7 +20,7 @@ returns-in_err-key_data-clause-reads c = let p = err_from_is_err_and c.from_resi
 
 pub returns-in_err-key_data-clause-fault : goal.returns-in_err-key_data-clause-fault
 returns-in_err-key_data-clause-fault c = let p = err_from_is_err_and c.from_residual.result c.from_residual.ensures.1 in
-    rw (p.1, p.2) (λ other. odd_key _ _ _ _ _ _ c.split_field.ensures c.skip_blanks.ensures c.split_field-2.ensures _ (some_length _ c.is_empty.result c.is_empty.ensures c.if-is_empty.false) (c.in_err-key_data.ensures.reads other))
+    rw (p.1, p.2) (λ other. odd_key _ _ _ _ _ _ c.split_field.ensures c.skip_blanks.ensures c.split_field-2.ensures _ (some_length _ c.is_empty.result c.is_empty.ensures c.if-is_empty.false) (c.in_err-key_data.ensures.reads other) (c.in_err-key_data.ensures.fault other))
 
 pub returns-in_err-key_data-clause-asks : goal.returns-in_err-key_data-clause-asks
 returns-in_err-key_data-clause-asks c = let p = err_from_is_err_and c.from_residual.result c.from_residual.ensures.1 in
@@ -31,7 +31,7 @@ returns-then-not-is_named-clause-reads c = λ _. other_name _ _ _ _ _ _ c.split_
     (λ same. cc (sym c.if-not-is_named.true ∙ c.is_named.ensures.1 same))
 
 pub returns-then-not-is_named-clause-fault : goal.returns-then-not-is_named-clause-fault
-returns-then-not-is_named-clause-fault c = λ _. named_otherwise _ _ _ _ _ _ c.split_field.ensures c.skip_blanks.ensures c.split_field-2.ensures (some_length _ c.is_empty.result c.is_empty.ensures c.if-is_empty.false)
+returns-then-not-is_named-clause-fault c = λ _. named_otherwise _ _ _ _ _ _ c.split_field.ensures c.skip_blanks.ensures c.split_field-2.ensures (some_length _ c.is_empty.result c.is_empty.ensures c.if-is_empty.false) _ c.in_ok-key_data.ensures.reads
 
 pub returns-in_err-comment-clause-asks : goal.returns-in_err-comment-clause-asks
 returns-in_err-comment-clause-asks c = let p = err_from_is_err_and c.from_residual-in_err-comment.result c.from_residual-in_err-comment.ensures.1 in
