@@ -1,7 +1,7 @@
 use Rattle.std.proofs.Common.{arith}
 use Rattle.sshkey_model.specs.Parts.{flat}
 use Rattle.sshkey_base64.proofs.GoodBytes.{length_word}
-use Rattle.sshkey_public.proofs.Filling.{part_length, put_added}
+use Rattle.sshkey_public.proofs.Filling.{put_added}
 use Rattle.sshkey_public.proofs.line_writer.LineWriter.push_word.Goals as goal
 
 pub returns-clause-added : goal.returns-clause-added
