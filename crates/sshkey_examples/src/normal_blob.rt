@@ -9,8 +9,8 @@ ghost use Rattle.ssh_key.specs.keys.Keys.{key_of};
 use ssh_key::encoding::{Encode, Result, SliceWriter};
 use ssh_key::public::KeyData;
 
-/// Whether the blob is the normal form of the key, which is written into the room. Does not
-/// allocate.
+/// Whether the blob is the normal form of the key, which is written into the room. What the room
+/// holds afterwards is unspecified. Does not allocate.
 ///
 /// Rejected exactly where the room is too small, or a part of the key is longer than 2^32 - 1
 /// bytes, and always as `Length`.
