@@ -119,6 +119,8 @@ impl<const SIZE: usize> fmt::Debug for EcdsaPrivateKey<SIZE> {
     ghost debug_output = { λ _. Some (codes "EcdsaPrivateKey { .. }") };
 
     fn fmt<W: fmt::Write>(&self, f: &mut fmt::Formatter<W>) -> fmt::Result
+        ensures writes { WritesOnOk W.write_str_gives f.old result
+            (codes "EcdsaPrivateKey { .. }") f.new }
         ensures styled { WritesStyledOnOk W.write_str_gives f.old result
             (codes "EcdsaPrivateKey { .. }") f.new }
     {
