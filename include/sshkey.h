@@ -30,7 +30,8 @@
  * once. No call writes more than `room_length` bytes to a room. All that a call tells lies in the
  * room, and a part of it is a place and a number of bytes. Where the room is too short, the call
  * answers SSHKEY_ROOM and leaves the room as it was, and `length` says how many bytes are needed: a
- * room of 0 bytes asks for that. Every other answer leaves nothing in room and answer to rely on.
+ * room of 0 bytes asks for that. Every other answer but SSHKEY_DONE leaves room and answer as they
+ * were.
  */
 #ifndef SSHKEY_H
 #define SSHKEY_H

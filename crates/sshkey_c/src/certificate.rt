@@ -26,7 +26,8 @@ pub extern "C" fn sshkey_certificate_question(
     room: &mut [u8],
     answer: &mut Question,
 ) -> u32
-    ensures raised { Asks (RaisedBy certificate.now) result answer.new room.old room.new }
+    ensures raised { Asks (RaisedBy certificate.now)
+        result answer.old answer.new room.old room.new }
     ensures unsupported { TellsNone certificate.now result }
     ensures fault { (fault : Fault) → whole certificate_at certificate.now ≡ Err fault
         → result ≡ fault_number fault }
@@ -96,6 +97,7 @@ pub extern "C" fn sshkey_certificate_fields(
     answer: &mut CertificateFields,
 ) -> u32
     ensures fields { GivesFields certificate.now result answer.new }
+    ensures stays { result ≢ 0 → answer.new ≡ answer.old }
     ensures fault { (fault : Fault) → whole certificate_at certificate.now ≡ Err fault
         → result ≡ fault_number fault }
     ensures memory { result ≢ 1 }

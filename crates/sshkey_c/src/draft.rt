@@ -5,7 +5,7 @@ ghost use Rattle.sshkey_base.specs.Acceptance.{SpellsSome};
 ghost use Rattle.sshkey_keys.specs.Keys.{SpellsKey};
 ghost use Rattle.sshkey_model.specs.Certificates.{certificate_at};
 ghost use Rattle.sshkey_model.specs.Reading.{Fault, whole};
-ghost use Rattle.sshkey_calls.specs.Drafts.{FitsString, IsJoined, IsSigned, IsToBeSigned, draft_fault};
+ghost use Rattle.sshkey_calls.specs.Drafts.{FitsString, IsJoined, IsSigned, IsToBeSigned, TellsWrong, draft_fault};
 ghost use Rattle.sshkey_calls.specs.Numbers.{fault_number};
 ghost use Rattle.sshkey_calls.specs.Writing.{Writes};
 
@@ -20,8 +20,10 @@ pub extern "C" fn sshkey_certificate_to_be_signed(
     room: &mut [u8],
     length: &mut usize,
 ) -> u32
-    ensures written { Writes (IsToBeSigned draft.now) result length.new room.old room.new }
+    ensures written { Writes (IsToBeSigned draft.now)
+        result length.old length.new room.old room.new }
     ensures numbers { draft_fault draft.now ≢ 0 → result ≡ draft_fault draft.now }
+    ensures fault { TellsWrong draft.now result }
     ensures memory { result ≡ 1 → SpellsSome SpellsKey draft.now.key.now }
 {
     certificate_to_be_signed(alloc, draft, room, length)
@@ -37,9 +39,10 @@ pub extern "C" fn sshkey_certificate_signed(
     length: &mut usize,
 ) -> u32
     ensures written { Writes (IsSigned to_be_signed.now signature.now)
-        result length.new room.old room.new }
+        result length.old length.new room.old room.new }
     ensures fault { (s : List ℕ) (fault : Fault) → IsJoined to_be_signed.now signature.now s
         → whole certificate_at s ≡ Err fault → result ≢ 1 → result ≡ fault_number fault }
+    ensures long { (FitsString signature.now → ⊥) → result ≡ 13 }
     ensures memory { result ≡ 1 → FitsString signature.now }
 {
     certificate_signed(alloc, to_be_signed, signature, room, length)

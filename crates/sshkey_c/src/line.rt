@@ -14,7 +14,7 @@ pub extern "C" fn sshkey_read_line(
     room: &mut [u8],
     answer: &mut Line,
 ) -> u32
-    ensures reads { Reads (Holds line.now) result answer.new room.old room.new }
+    ensures reads { Reads (Holds line.now) result answer.old answer.new room.old room.new }
     ensures memory { result ≡ 1 → NeedsLine line.now }
 {
     read_line(alloc, line, room, answer)

@@ -24,7 +24,7 @@ pub extern "C" fn sshkey_key_normal(
     room: &mut [u8],
     len: &mut usize,
 ) -> u32
-    ensures normal { Writes (IsNormalKey key.now) result len.new room.old room.new }
+    ensures normal { Writes (IsNormalKey key.now) result len.old len.new room.old room.new }
     ensures fault { (fault : Fault) → whole key_data_at key.now ≡ Err fault
         → result ≡ fault_number fault }
     ensures memory { result ≡ 1 → IsRenamedKey key.now }
@@ -41,7 +41,7 @@ pub extern "C" fn sshkey_certificate_normal(
     len: &mut usize,
 ) -> u32
     ensures normal { Writes (IsNormalCertificate certificate.now)
-        result len.new room.old room.new }
+        result len.old len.new room.old room.new }
     ensures fault { (fault : Fault) → whole certificate_at certificate.now ≡ Err fault
         → result ≡ fault_number fault }
     ensures memory { result ≡ 1 → SpellsSome SpellsCertificate certificate.now }
@@ -58,7 +58,7 @@ pub extern "C" fn sshkey_signature_normal(
     len: &mut usize,
 ) -> u32
     ensures normal { Writes (IsNormalSshSignature signature.now)
-        result len.new room.old room.new }
+        result len.old len.new room.old room.new }
     ensures fault { (fault : Fault) → whole ssh_signature_value_at signature.now ≡ Err fault
         → result ≢ 1 → result ≡ fault_number fault }
     ensures memory { result ≡ 1 → NeedsSshSignature signature.now }
@@ -73,7 +73,8 @@ pub extern "C" fn sshkey_plain_signature_normal(
     room: &mut [u8],
     len: &mut usize,
 ) -> u32
-    ensures normal { Writes (IsNormalSignature signature.now) result len.new room.old room.new }
+    ensures normal { Writes (IsNormalSignature signature.now)
+        result len.old len.new room.old room.new }
     ensures fault { (fault : Fault) → whole signature_at signature.now ≡ Err fault
         → result ≡ fault_number fault }
     ensures memory { result ≢ 1 }

@@ -20,6 +20,7 @@ use std::alloc::Global;
 #[unsafe(no_mangle)]
 pub extern "C" fn sshkey_certificate_parts(certificate: &[u8], answer: &mut CertificateParts) -> u32
     ensures parts { GivesParts certificate.now result answer.new }
+    ensures stays { result ≢ 0 → answer.new ≡ answer.old }
     ensures fault { (fault : Fault) → whole certificate_at certificate.now ≡ Err fault
         → result ≡ fault_number fault }
     ensures memory { result ≢ 1 }
@@ -35,7 +36,8 @@ pub extern "C" fn sshkey_certificate_key(
     room: &mut [u8],
     length: &mut usize,
 ) -> u32
-    ensures written { Writes (IsKeyOf certificate.now) result length.new room.old room.new }
+    ensures written { Writes (IsKeyOf certificate.now)
+        result length.old length.new room.old room.new }
     ensures fault { (fault : Fault) → whole certificate_at certificate.now ≡ Err fault
         → result ≡ fault_number fault }
     ensures memory { result ≡ 1 → SpellsSome SpellsCertificate certificate.now }
@@ -50,7 +52,7 @@ pub extern "C" fn sshkey_certificate_option(
     place: usize,
     answer: &mut OptionParts,
 ) -> u32
-    ensures { FindsOption bytes.now place result answer.new }
+    ensures { FindsOption bytes.now place result answer.old answer.new }
 {
     next_option(bytes, place, answer)
 }

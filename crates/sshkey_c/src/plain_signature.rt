@@ -23,7 +23,7 @@ pub extern "C" fn sshkey_plain_signature_question(
     answer: &mut Question,
 ) -> u32
     ensures raised { Asks (RaisedUnder key.now message.now signature.now)
-        result answer.new room.old room.new }
+        result answer.old answer.new room.old room.new }
     ensures unsupported { TellsNoneUnder key.now message.now signature.now result }
     ensures key { (fault : Fault) → whole key_data_at key.now ≡ Err fault
         → result ≡ fault_number fault }

@@ -23,9 +23,10 @@ pub extern "C" fn sshkey_signature_question(
     signer: &mut Sha256Digest,
 ) -> u32
     ensures raised { Asks (RaisedBySignature signature.now namespace.now message.now)
-        result answer.new room.old room.new }
+        result answer.old answer.new room.old room.new }
     ensures unsupported { TellsNoneOfSignature signature.now namespace.now message.now result }
     ensures signer { result ≡ 0 → IsSignerOf signature.now signer.new.bytes }
+    ensures stays { result ≢ 0 → signer.new ≡ signer.old }
     ensures namespace { (f : SshSignature) → SpellsSshSignature f signature.now
         → f.namespace ≢ namespace.now → result ≢ 1 → result ≡ 41 }
     ensures fault { (fault : Fault) → whole ssh_signature_value_at signature.now ≡ Err fault

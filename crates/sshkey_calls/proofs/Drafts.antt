@@ -1,7 +1,7 @@
 -- The one certificate that a draft tells.
-use Rattle.std.proofs.Common.{◌≡◌, ◌≢◌, ◌<◌, ◌^◌, ℕ, List, [], length, ◌⊎◌, inl, inr, refl, sym, ap, subst, ◌∙◌, arith, length-append}
+use Rattle.std.proofs.Common.{◌≡◌, ◌≢◌, ◌<◌, ◌^◌, ℕ, List, [], length, Bool, true, false, cond, nat_lt, ◌⊎◌, inl, inr, refl, sym, ap, subst, ◌∙◌, arith, length-append, lt-ltb, ltb-true}
 use Rattle.std.specs.Int.{w32, to_be_bytes}
-use Rattle.sshkey_base.specs.Causes.{NoMemory, cause, widened}
+use Rattle.sshkey_base.specs.Causes.{Faulty, NoMemory, cause, widened}
 use Rattle.sshkey_base.specs.declared.encoding.Error as narrow
 use Rattle.sshkey_base.specs.declared.encoding.Error.TheVariants as encoding
 use Rattle.sshkey_base.specs.declared.error.Error.{Error}
@@ -13,46 +13,49 @@ use Rattle.sshkey_model.specs.Certificates.{CertificateType, SignedFields, User,
 use Rattle.sshkey_model.specs.Keys.{Key}
 use Rattle.sshkey_model.specs.Options.{CertificateOption}
 use Rattle.sshkey_model.specs.Parts.{BoxesFit, Fits, Parts, box, flat}
+use Rattle.sshkey_model.specs.Reading.{Fault, Length}
 use Rattle.sshkey_model.specs.Texts.{string}
 use Rattle.sshkey_model.proofs.CombinedReaders.{fits_length, wide32}
 use Rattle.sshkey_model.proofs.Grammars.{one_front}
 use Rattle.sshkey_options.specs.OptionReaders.{SpellsOptions, options_grammar}
-use Rattle.sshkey_calls.specs.Drafts.{IsToBeSigned, Tells}
+use Rattle.sshkey_calls.specs.Drafts.{FitsString, IsToBeSigned, IsWrong, Tells, string_number}
+use Rattle.sshkey_calls.specs.Numbers.{fault_number}
 use Rattle.sshkey_calls.specs.Writing.{Writes}
 use Rattle.sshkey_calls.specs.declared.draft.CertificateDraft.{CertificateDraft}
 use Rattle.sshkey_calls.proofs.Writing.{told_as}
 
 -- ---- what was not found
 
--- where one of the parts is none, there is no whole
-pub no_whole : {Y W : Type 0} {Is : Y → Type 0} {Whole : W → Type 0} (part : W → Y) (n : ℕ) → ((w : W) → Whole w → Is (part w)) → (n ≢ 0) × (n ≢ 2) × (n ≢ 1 → (y : Y) → Is y → ⊥) → (n ≢ 0) × (n ≢ 2) × (n ≢ 1 → (w : W) → Whole w → ⊥)
-no_whole part n has found = (found.0, found.1, λ not_memory w is. found.2 not_memory (part w) (has w is))
-
 -- what is in a string is shorter than 2^32 bytes
 pub short_string : (b : List ℕ) (p : Parts) → flat (string b) ≡ flat (box p) → Fits (box p) → length b < 2 ^ 32
 unfolding flat
 short_string b p same fits = omega (arith, ap length same, length-append (to_be_bytes w32 (length b)) b, length-append (to_be_bytes w32 (length (flat p))) (flat p), wide32.len (length b), wide32.len (length (flat p)), fits_length p fits)
 
--- where the bytes are no string, there is none that holds a value
-pub no_string : {W : Type 0} {Whole : W → Type 0} (b : List ℕ) (n : ℕ) → ((w : W) → Whole w → length b < 2 ^ 32) → (n ≢ 0) × (n ≢ 2) × (n ≢ 1 → (s : List ℕ) → (s ≡ flat (string b)) × (length b < 2 ^ 32) → ⊥) → (n ≢ 0) × (n ≢ 2) × (n ≢ 1 → (w : W) → Whole w → ⊥)
-no_string b n short found = no_whole (λ w. flat (string b)) n (λ w is. (refl, short w is)) found
-
 pub is_string : (b v : List ℕ) → Fits (string b) × (v ≡ flat (string b)) → (v ≡ flat (string b)) × (length b < 2 ^ 32)
 unfolding flat BoxesFit
 is_string b v made = (made.1, made.0.boxes.0)
 
-pub too_long : (b : List ℕ) (e : narrow.Error) (n : ℕ) → ((BoxesFit (string b) → ⊥) × (e ≡ encoding.Length)) ⊎ (BoxesFit (string b) × (e ≡ encoding.Memory)) → (cause (widened e) ≡ NoMemory → n ≡ 1) → n ≢ 1 → length b < 2 ^ 32 → ⊥
-unfolding flat BoxesFit
-too_long b e n (inl long) memory other short = long.0 (short, tt)
-too_long b e n (inr out) memory other short = other (memory (ap (λ (x : narrow.Error). cause (widened x)) out.1))
+pub fits_number : (b : List ℕ) → FitsString b → string_number b ≡ 0
+fits_number b fits = go (nat_lt (length b) (2 ^ 32)) (lt-ltb (length b) (2 ^ 32) fits)
+  where
+    go : (x : Bool) → x ≡ true → ◌≡◌ {A = ℕ} (cond x 0 13) 0
+    go true e = refl
+    go false e = absurd (cc e)
 
--- it is out of memory only for a string that is short enough
-pub short_or_long : (b : List ℕ) (e : narrow.Error) (n : ℕ) → ((BoxesFit (string b) → ⊥) × (e ≡ encoding.Length)) ⊎ (BoxesFit (string b) × (e ≡ encoding.Memory)) → (cause (widened e) ≢ NoMemory → (9 < n) × (n < 30)) → n ≡ 1 → length b < 2 ^ 32
+pub long_number : (b : List ℕ) → (FitsString b → ⊥) → string_number b ≡ 13
+long_number b long = go (nat_lt (length b) (2 ^ 32)) (λ e. long (ltb-true (length b) (2 ^ 32) e))
+  where
+    go : (x : Bool) → (x ≡ true → ⊥) → ◌≡◌ {A = ℕ} (cond x 0 13) 13
+    go true never = absurd (never refl)
+    go false never = refl
+
+-- It is out of memory only for a string that is short enough, and else the string is too long.
+pub short_or_long : (b : List ℕ) (e : narrow.Error) (n : ℕ) → ((BoxesFit (string b) → ⊥) × (e ≡ encoding.Length)) ⊎ (BoxesFit (string b) × (e ≡ encoding.Memory)) → (cause (widened e) ≡ NoMemory → n ≡ 1) → ((f : Fault) → cause (widened e) ≡ Faulty f → n ≡ fault_number f) → IsWrong n (string_number b) (FitsString b)
 unfolding flat BoxesFit
-short_or_long b e n (inl long) range one =
-    let r = range (λ memory. cc (sym (ap (λ (x : narrow.Error). cause (widened x)) long.1) ∙ memory)) in
-    absurd (omega (arith, one, r.0))
-short_or_long b e n (inr out) range one = out.0.0
+short_or_long b e n (inl long) memory told =
+    let is : n ≡ 13 = told Length (ap (λ (x : narrow.Error). cause (widened x)) long.1) in
+    inr (omega (arith, is), is ∙ sym (long_number b (λ short. long.0 (short, tt))))
+short_or_long b e n (inr out) memory told = inl (memory (ap (λ (x : narrow.Error). cause (widened x)) out.1), out.0.0)
 
 -- ---- the bytes spell one value only
 
@@ -98,8 +101,8 @@ one_told d f g told other =
 
 -- ---- what is to be signed
 
-pub to_be_signed_told : (d : CertificateDraft) (f : SignedFields) → Tells d f → (n needed : ℕ) (before after : List ℕ) → Writes (λ s. Fits (normal_to_be_signed f) × (s ≡ flat (normal_to_be_signed f))) n needed before after → Writes (IsToBeSigned d) n needed before after
-to_be_signed_told d f told n needed before after = told_as n needed before after
+pub to_be_signed_told : (d : CertificateDraft) (f : SignedFields) → Tells d f → (n was needed : ℕ) (before after : List ℕ) → Writes (λ s. Fits (normal_to_be_signed f) × (s ≡ flat (normal_to_be_signed f))) n was needed before after → Writes (IsToBeSigned d) n was needed before after
+to_be_signed_told d f told n was needed before after = told_as n was needed before after
     (λ s is. (f, told, is.0, is.1))
     (λ s is. subst (λ (g : SignedFields). Fits (normal_to_be_signed g) × (s ≡ flat (normal_to_be_signed g))) (one_told d is.0 f is.1 told) (is.2, is.3))
 
@@ -107,3 +110,7 @@ to_be_signed_told d f told n needed before after = told_as n needed before after
 pub unfit : (p : Parts) (e : Error) (n : ℕ) → ((BoxesFit p → ⊥) × (e ≡ wide.Encoding encoding.Length)) ⊎ (BoxesFit p × (e ≡ wide.Memory)) → (cause e ≡ NoMemory → n ≡ 1) → n ≢ 1 → Fits p → ⊥
 unfit p e n (inl long) memory other fits = long.0 fits.boxes
 unfit p e n (inr out) memory other fits = other (memory (ap cause out.1))
+
+pub long_or_out : (p : Parts) (e : Error) (n : ℕ) → ((BoxesFit p → ⊥) × (e ≡ wide.Encoding encoding.Length)) ⊎ (BoxesFit p × (e ≡ wide.Memory)) → (cause e ≡ NoMemory → n ≡ 1) → ((f : Fault) → cause e ≡ Faulty f → n ≡ fault_number f) → n ≢ 1 → n ≡ 13
+long_or_out p e n (inl long) memory told other = told Length (ap cause long.1)
+long_or_out p e n (inr out) memory told other = absurd (other (memory (ap cause out.1)))

@@ -26,15 +26,19 @@ module _ (a b behind : List ℕ) where
   back_part : take (length b) (drop (length a) ((a ++ b) ++ behind)) ≡ b
   back_part = simp (append_assoc, drop-append_seam, take-append_seam)
 
-is_content : (x : Content) (content behind after : List ℕ) (line : Line) → IsLaidOutLine x content line → after ≡ content ++ behind → IsContent x line after
-is_content x content behind after line laid is = record {
+is_content : (x : Content) (content behind before after : List ℕ) (line : Line) → IsLaidOutLine x content line → after ≡ content ++ behind → drop (length content) before ≡ behind → IsContent x line before after
+is_content x content behind before after line laid is rest = record {
   kind = laid.kind;
   blob = rw (is, laid.content, laid.blob.0, laid.blob.1) (front_part x.blob x.comment behind);
   comment = rw (is, laid.content, laid.comment.0, laid.comment.1) (back_part x.blob x.comment behind);
   within = (omega (arith, whole, laid.blob), omega (arith, whole, laid.comment));
   length = laid.length;
+  behind = rw (all, is) (drop-append_seam content behind ∙ sym rest);
 }
   where
+    all : line.length ≡ length content
+    all = omega (arith, laid.length, ap length laid.content, length-append x.blob x.comment)
+
     whole : length after ≡ length x.blob + length x.comment + length behind
     whole = omega (arith, ap length is, length-append content behind, ap length laid.content, length-append x.blob x.comment)
 
@@ -49,61 +53,66 @@ laid kind blob comment before content line is added same at_front blob_length be
 }
 
 -- The room was filled, or is too short.
-pub told : (x : Content) (content before after : List ℕ) (filled : Bool) (line : Line) (n : ℕ) → IsLaidOutLine x content line → Fills content before filled after → (filled ≡ true → n ≡ 0) → (filled ≡ false → n ≡ 2) → Reads (λ y. y ≡ x) n line before after
-told x content before after true line n laid filled done short = record {
-  read = λ _. (x, refl, is_content x content (drop (length content) before) after line laid filled);
+pub told : (x : Content) (content before after : List ℕ) (filled : Bool) (was line : Line) (n : ℕ) → IsLaidOutLine x content line → Fills content before filled after → (filled ≡ true → n ≡ 0) → (filled ≡ false → n ≡ 2) → Reads (λ y. y ≡ x) n was line before after
+told x content before after true was line n laid filled done short = record {
+  read = λ _. (x, refl, is_content x content (drop (length content) before) before after line laid filled refl);
   short = λ two. absurd (omega (arith, done refl, two));
   none = λ not_zero _ _ _ _. not_zero (done refl);
   fault = λ not_zero _ _. absurd (not_zero (done refl));
+  stays = λ not_zero _. absurd (not_zero (done refl));
 }
-told x content before after false line n laid filled done short = record {
+told x content before after false was line n laid filled done short = record {
   read = λ zero_. absurd (omega (arith, short refl, zero_));
   short = λ _. (x, refl, record { needed = laid.length; short = omega (arith, ap length laid.content, length-append x.blob x.comment, laid.length, filled.1); stays = filled.0 });
   none = λ _ _ not_two _ _. not_two (short refl);
   fault = λ _ _ not_two. absurd (not_two (short refl));
+  stays = λ _ not_two. absurd (not_two (short refl));
 }
 
 -- What is read is what is wanted.
-read_one : {Wanted : Content → Type 0} (x : Content) (n : ℕ) (line : Line) (before after : List ℕ) → Wanted x → Reads (λ y. y ≡ x) n line before after → Reads Wanted n line before after
-read_one {Wanted} x n line before after wanted reads = record {
+read_one : {Wanted : Content → Type 0} (x : Content) (n : ℕ) (was line : Line) (before after : List ℕ) → Wanted x → Reads (λ y. y ≡ x) n was line before after → Reads Wanted n was line before after
+read_one {Wanted} x n was line before after wanted reads = record {
   read = λ zero_. let r = reads.read zero_ in (r.0, subst Wanted (sym r.1) wanted, r.2);
   short = λ two. let r = reads.short two in (r.0, subst Wanted (sym r.1) wanted, r.2);
   none = λ some not_memory fits _ _. reads.none some not_memory fits x refl;
   fault = reads.fault;
+  stays = reads.stays;
 }
 
 -- Nothing is said.
-pub no_memory : {Wanted : Content → Type 0} (n : ℕ) (line : Line) (before after : List ℕ) → n ≡ 1 → Reads Wanted n line before after
-no_memory n line before after one = record {
+pub no_memory : {Wanted : Content → Type 0} (n : ℕ) (was line : Line) (before after : List ℕ) → (line ≡ was) × (after ≡ before) → n ≡ 1 → Reads Wanted n was line before after
+no_memory n was line before after same one = record {
   read = λ zero_. absurd (omega (arith, one, zero_));
   short = λ two. absurd (omega (arith, one, two));
   none = λ _ not_one _ _ _. absurd (not_one one);
   fault = λ _ not_one _. absurd (not_one one);
+  stays = λ _ _. same;
 }
 
 -- There is none.
-pub none_read : {Wanted : Content → Type 0} (n : ℕ) (line : Line) (before after : List ℕ) → (n ≢ 1 → (9 < n) × (n < 30)) → (n ≢ 1 → (x : Content) → Wanted x → ⊥) → n ≢ 0 → n ≢ 2 → Reads Wanted n line before after
-none_read n line before after range none some apart = record {
+pub none_read : {Wanted : Content → Type 0} (n : ℕ) (was line : Line) (before after : List ℕ) → (line ≡ was) × (after ≡ before) → (n ≢ 1 → (9 < n) × (n < 30)) → (n ≢ 1 → (x : Content) → Wanted x → ⊥) → n ≢ 0 → n ≢ 2 → Reads Wanted n was line before after
+none_read n was line before after same range none some apart = record {
   read = λ zero_. absurd (some zero_);
   short = λ two. absurd (apart two);
   none = λ _ not_one _. none not_one;
   fault = λ _ not_one _. range not_one;
+  stays = λ _ _. same;
 }
 
 -- ---- in the line
 
 -- What is told of the blob and the comment of a line that was read.
-abbrev Tells : List ℕ → ℕ → List ℕ → ℕ → Line → List ℕ → List ℕ → Type 0
-Tells text kind comment n line before after = (first blob : List ℕ) → IsLine text first blob comment → IsBytes blob → Reads (λ x. x ≡ content_of kind blob comment) n line before after
+abbrev Tells : List ℕ → ℕ → List ℕ → ℕ → Line → Line → List ℕ → List ℕ → Type 0
+Tells text kind comment n was line before after = (first blob : List ℕ) → IsLine text first blob comment → IsBytes blob → Reads (λ x. x ≡ content_of kind blob comment) n was line before after
 
-pub reads_key : (text : List ℕ) (k : Key) (comment : List ℕ) (n : ℕ) (answer : Line) (before after : List ℕ) → IsLineOf key_name SpellsKey text k comment → Tells text 1 comment n answer before after → Reads (Holds text) n answer before after
-reads_key text k comment n answer before after line tells =
-    read_one (content_of 1 line.blob comment) n answer before after (inl (refl, (k, line.spelled, line.line)))
+pub reads_key : (text : List ℕ) (k : Key) (comment : List ℕ) (n : ℕ) (was answer : Line) (before after : List ℕ) → IsLineOf key_name SpellsKey text k comment → Tells text 1 comment n was answer before after → Reads (Holds text) n was answer before after
+reads_key text k comment n was answer before after line tells =
+    read_one (content_of 1 line.blob comment) n was answer before after (inl (refl, (k, line.spelled, line.line)))
     (tells (key_name k) line.blob line.line (bytes_fit line.blob (key_blobs.bytes k line.blob line.spelled)))
 
-pub reads_certificate : (text : List ℕ) (c : Certificate) (comment : List ℕ) (n : ℕ) (answer : Line) (before after : List ℕ) → IsLineOf name_of_certificate SpellsCertificate text c comment → Tells text 2 comment n answer before after → Reads (Holds text) n answer before after
-reads_certificate text c comment n answer before after line tells =
-    read_one (content_of 2 line.blob comment) n answer before after (inr (refl, (c, line.spelled, line.line)))
+pub reads_certificate : (text : List ℕ) (c : Certificate) (comment : List ℕ) (n : ℕ) (was answer : Line) (before after : List ℕ) → IsLineOf name_of_certificate SpellsCertificate text c comment → Tells text 2 comment n was answer before after → Reads (Holds text) n was answer before after
+reads_certificate text c comment n was answer before after line tells =
+    read_one (content_of 2 line.blob comment) n was answer before after (inr (refl, (c, line.spelled, line.line)))
     (tells (name_of_certificate c) line.blob line.line (bytes_fit line.blob (certificate_blobs.bytes c line.blob line.spelled)))
 
 -- A line of neither holds nothing.
@@ -121,8 +130,8 @@ held_text text x holds = elim holds [
 ]
 
 -- Of a line of neither one of the two faults is told.
-pub fault_told : (text : List ℕ) (of_key of_certificate n : ℕ) (answer : Line) (before after : List ℕ) → IsNoLine key_name SpellsKey text → (9 < of_key) × (of_key < 30) → (of_certificate ≢ 1 → IsNoLine name_of_certificate SpellsCertificate text) → (of_certificate ≢ 1 → (9 < of_certificate) × (of_certificate < 30)) → of_certificate ≢ 0 → of_certificate ≢ 2 → (n ≡ of_key) ⊎ (n ≡ of_certificate) → (of_certificate ≡ 1 → n ≡ 1) → Reads (Holds text) n answer before after
-fault_told text of_key of_certificate n answer before after no_key range no_certificate ranges some apart either memory = none_read n answer before after
+pub fault_told : (text : List ℕ) (of_key of_certificate n : ℕ) (was answer : Line) (before after : List ℕ) → (answer ≡ was) × (after ≡ before) → IsNoLine key_name SpellsKey text → (9 < of_key) × (of_key < 30) → (of_certificate ≢ 1 → IsNoLine name_of_certificate SpellsCertificate text) → (of_certificate ≢ 1 → (9 < of_certificate) × (of_certificate < 30)) → of_certificate ≢ 0 → of_certificate ≢ 2 → (n ≡ of_key) ⊎ (n ≡ of_certificate) → (of_certificate ≡ 1 → n ≡ 1) → Reads (Holds text) n was answer before after
+fault_told text of_key of_certificate n was answer before after same no_key range no_certificate ranges some apart either memory = none_read n was answer before after same
     (λ not_one. elim either [
       | inl key ↦ subst (λ (x : ℕ). (9 < x) × (x < 30)) (sym key) range
       | inr certificate ↦ subst (λ (x : ℕ). (9 < x) × (x < 30)) (sym certificate) (ranges (λ one. not_one (memory one)))

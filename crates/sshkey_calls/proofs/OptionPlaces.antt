@@ -35,31 +35,34 @@ nothing_behind : (b : List ℕ) (place : ℕ) → length b ≤ place → (name v
 nothing_behind b place h name value rest o = no_more rest name value (subst (λ (x : List ℕ). BeginsWithOption name value x rest) (drop_of_length-le b h) o)
 
 module _ (b : List ℕ) (place : ℕ) (answer : OptionParts) where
-  pub ends : place ≡ length b → FindsOption b place 3 answer
+  pub ends : place ≡ length b → FindsOption b place 3 answer answer
   ends e = record {
     found = λ z. absurd (cc z);
     within = λ z. absurd (cc z);
     end_ = (λ _. e, λ _. refl);
     none = λ _. nothing_behind b place (omega (arith, e));
     others = λ _ other. absurd (other refl);
+    stays = λ _. refl;
   }
 
-  pub is_past : length b < place → FindsOption b place 13 answer
+  pub is_past : length b < place → FindsOption b place 13 answer answer
   is_past h = record {
     found = λ z. absurd (cc z);
     within = λ z. absurd (cc z);
     end_ = (λ e. absurd (cc e), λ e. absurd (omega (arith, e, h)));
     none = λ _. nothing_behind b place (omega (arith, h));
     others = λ _ _. refl;
+    stays = λ _. refl;
   }
 
-  pub none_there : place ≢ length b → ((name value rest : List ℕ) → BeginsWithOption name value (drop place b) rest → ⊥) → FindsOption b place 13 answer
+  pub none_there : place ≢ length b → ((name value rest : List ℕ) → BeginsWithOption name value (drop place b) rest → ⊥) → FindsOption b place 13 answer answer
   none_there apart none = record {
     found = λ z. absurd (cc z);
     within = λ z. absurd (cc z);
     end_ = (λ e. absurd (cc e), λ e. absurd (apart e));
     none = λ _. none;
     others = λ _ _. refl;
+    stays = λ _. refl;
   }
 
 -- ---- where it is
@@ -117,11 +120,12 @@ module _ (b : List ℕ) (place : ℕ) (name value behind : List ℕ) (h : Begins
     abbrev answer : OptionParts
     answer = record { name = record { start = place + 4; length = length name }; value = record { start = (length b - length behind) - length value; length = length value }; next = length b - length behind }
 
-    pub finds : place ≢ length b → FindsOption b place 0 answer
-    finds apart = record {
+    pub finds : (was : OptionParts) → place ≢ length b → FindsOption b place 0 was answer
+    finds was apart = record {
       found = λ _. rw (name_is, value_is, next_is) h;
       within = λ _. (name_within, omega (arith, short_enough, ap length value_cut, length-append before_value (value ++ behind), length-append value behind), omega (arith));
       end_ = (λ e. absurd (cc e), λ e. absurd (apart e));
       none = λ some. absurd (some refl);
       others = λ some. absurd (some refl);
+      stays = λ some. absurd (some refl);
     }

@@ -23,11 +23,11 @@ module _ (k : Key) (g : Signature) (key message signature : List ℕ) (by : Spel
   pub same_question : (j : Key) (h : Signature) → SpellsKey j key → SpellsSignature h signature → model.question j message h ≡ model.question k message g
   same_question j h other made_other = ap (λ (x : Key). model.question x message h) (one_key j other) ∙ ap (λ (x : Signature). model.question k message x) (one_signature h made_other)
 
-  pub asked_under : (n : ℕ) (answer : Question) (before after : List ℕ) → Asks (λ q. model.question k message g ≡ Some q) n answer before after → Asks (RaisedUnder key message signature) n answer before after
-  asked_under n answer before after = raised n answer before after
+  pub asked_under : (n : ℕ) (was answer : Question) (before after : List ℕ) → Asks (λ q. model.question k message g ≡ Some q) n was answer before after → Asks (RaisedUnder key message signature) n was answer before after
+  asked_under n was answer before after = raised n was answer before after
       (λ q is. record { signer = k; by = by; made = g; spelled = made; raised = is })
       (λ q is. sym (same_question is.signer is.made is.by is.spelled) ∙ is.raised)
 
 -- The bytes spell no key, or no signature.
-pub none_under : (key message signature : List ℕ) (n : ℕ) (answer : Question) (before after : List ℕ) → n ≢ 0 → n ≢ 2 → ((k : Key) (g : Signature) → SpellsKey k key → SpellsSignature g signature → ⊥) → Asks (RaisedUnder key message signature) n answer before after
-none_under key message signature n answer before after some apart none = none_raised n answer before after some apart (λ _ q is. none is.signer is.made is.by is.spelled)
+pub none_under : (key message signature : List ℕ) (n : ℕ) (was answer : Question) (before after : List ℕ) → (answer ≡ was) × (after ≡ before) → n ≢ 0 → n ≢ 2 → ((k : Key) (g : Signature) → SpellsKey k key → SpellsSignature g signature → ⊥) → Asks (RaisedUnder key message signature) n was answer before after
+none_under key message signature n was answer before after same some apart none = none_raised n was answer before after same some apart (λ _ q is. none is.signer is.made is.by is.spelled)

@@ -15,17 +15,17 @@ use Rattle.sshkey_calls.proofs.Questions.{none_raised, raised}
 pub one_signature : (f g : SshSignature) (bytes : List ℕ) → SpellsSshSignature f bytes → SpellsSshSignature g bytes → f ≡ g
 one_signature f g bytes spelled other = (one_front ssh_signature_grammar f g bytes bytes [] [] spelled other refl).0
 
-module _ (f : SshSignature) (bytes namespace message : List ℕ) (spelled : SpellsSshSignature f bytes) (n : ℕ) (answer : Question) (before after : List ℕ) where
+module _ (f : SshSignature) (bytes namespace message : List ℕ) (spelled : SpellsSshSignature f bytes) (n : ℕ) (was answer : Question) (before after : List ℕ) where
   abbrev Raises : SshSignature → model.Question → Type 0
   Raises g q = model.question g.key (signed_by g message) g.signature ≡ Some q
 
-  pub asked_by : f.namespace ≡ namespace → Asks (Raises f) n answer before after → Asks (RaisedBySignature bytes namespace message) n answer before after
-  asked_by same = raised n answer before after
+  pub asked_by : f.namespace ≡ namespace → Asks (Raises f) n was answer before after → Asks (RaisedBySignature bytes namespace message) n was answer before after
+  asked_by same = raised n was answer before after
       (λ q is. record { signature = f; spelled = spelled; in_namespace = same; raised = is })
       (λ q is. subst (λ (g : SshSignature). Raises g q) (one_signature is.signature f bytes is.spelled spelled) is.raised)
 
-  pub other_namespace : n ≢ 0 → n ≢ 2 → f.namespace ≢ namespace → Asks (RaisedBySignature bytes namespace message) n answer before after
-  other_namespace some apart other = none_raised n answer before after some apart (λ _ q is. other (ap (λ (g : SshSignature). g.namespace) (one_signature f is.signature bytes spelled is.spelled) ∙ is.in_namespace))
+  pub other_namespace : (answer ≡ was) × (after ≡ before) → n ≢ 0 → n ≢ 2 → f.namespace ≢ namespace → Asks (RaisedBySignature bytes namespace message) n was answer before after
+  other_namespace stays some apart other = none_raised n was answer before after stays some apart (λ _ q is. other (ap (λ (g : SshSignature). g.namespace) (one_signature f is.signature bytes spelled is.spelled) ∙ is.in_namespace))
 
   pub in_its_namespace : f.namespace ≡ namespace → (g : SshSignature) → SpellsSshSignature g bytes → g.namespace ≢ namespace → ⊥
   in_its_namespace same g is other = other (ap (λ (x : SshSignature). x.namespace) (one_signature g f bytes is spelled) ∙ same)
@@ -41,5 +41,5 @@ pub namespace_of_each : (f : SshSignature) (bytes namespace : List ℕ) (g : Ssh
 namespace_of_each f bytes namespace g spelled other same = ap (λ (x : SshSignature). x.namespace) (one_signature f g bytes spelled other) ∙ same
 
 -- no bytes spell one
-pub none_asked : (bytes namespace message : List ℕ) (n : ℕ) (answer : Question) (before after : List ℕ) → n ≢ 0 → n ≢ 2 → (n ≢ 1 → (g : SshSignature) → SpellsSshSignature g bytes → ⊥) → Asks (RaisedBySignature bytes namespace message) n answer before after
-none_asked bytes namespace message n answer before after some apart none = none_raised n answer before after some apart (λ not_memory q is. none not_memory is.signature is.spelled)
+pub none_asked : (bytes namespace message : List ℕ) (n : ℕ) (was answer : Question) (before after : List ℕ) → (answer ≡ was) × (after ≡ before) → n ≢ 0 → n ≢ 2 → (n ≢ 1 → (g : SshSignature) → SpellsSshSignature g bytes → ⊥) → Asks (RaisedBySignature bytes namespace message) n was answer before after
+none_asked bytes namespace message n was answer before after stays some apart none = none_raised n was answer before after stays some apart (λ not_memory q is. none not_memory is.signature is.spelled)

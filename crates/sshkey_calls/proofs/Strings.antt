@@ -73,21 +73,22 @@ module _ (b : List ℕ) (place : ℕ) (s rest : List ℕ) (within : place ≤ le
   pub short_enough : length s ≤ length b - length rest
   short_enough = omega (arith, fits_before)
 
-  pub finds : string_at (drop place b) ≡ Ok (s, rest) → FindsString b place 0 (record { start = (length b - length rest) - length s; length = length s })
-  finds is = record {
+  pub finds : (was : Part) → string_at (drop place b) ≡ Ok (s, rest) → FindsString b place 0 was (record { start = (length b - length rest) - length s; length = length s })
+  finds was is = record {
     found = λ _. is ∙ both s rest _ _ (sym content_is) (sym behind_is);
     within = λ _. omega (arith, fits_before);
     last = λ e. absurd (cc e);
     at_end = λ e. absurd (nothing_at b place e (s, rest) is);
     none = λ some _ _. some refl;
     others = λ some _. absurd (some refl);
+    stays = λ some. absurd (some refl);
   }
 
 -- ---- where there is none
 
 module _ (b : List ℕ) (place : ℕ) (answer : Part) where
-  pub ends : place ≡ length b → FindsString b place 3 answer
-  ends e = record { found = λ z. absurd (cc z); within = λ z. absurd (cc z); last = λ _. e; at_end = λ _. refl; none = λ _ x is. nothing_at b place e x is; others = λ _ other. absurd (other refl) }
+  pub ends : place ≡ length b → FindsString b place 3 answer answer
+  ends e = record { found = λ z. absurd (cc z); within = λ z. absurd (cc z); last = λ _. e; at_end = λ _. refl; none = λ _ x is. nothing_at b place e x is; others = λ _ other. absurd (other refl); stays = λ _. refl }
 
-  pub is_past : length b < place → FindsString b place 13 answer
-  is_past h = record { found = λ z. absurd (cc z); within = λ z. absurd (cc z); last = λ z. absurd (cc z); at_end = λ e. absurd (omega (arith, h, e)); none = λ _ x is. nothing_behind b place (omega (arith, h)) x is; others = λ _ _. refl }
+  pub is_past : length b < place → FindsString b place 13 answer answer
+  is_past h = record { found = λ z. absurd (cc z); within = λ z. absurd (cc z); last = λ z. absurd (cc z); at_end = λ e. absurd (omega (arith, h, e)); none = λ _ x is. nothing_behind b place (omega (arith, h)) x is; others = λ _ _. refl; stays = λ _. refl }

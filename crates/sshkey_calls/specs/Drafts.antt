@@ -1,15 +1,16 @@
 -- Which certificate a draft tells (PROTOCOL.certkeys).
-use Rattle.std.specs.Prelude.{◌≡◌, ◌↔◌, ◌<◌, ◌^◌, ℕ, List, [], ◌∷◌, ◌++◌, length, nat_lt, ◌==◌, if◌then◌else◌, Result, Ok, Err}
+use Rattle.std.specs.Prelude.{◌≡◌, ◌≢◌, ◌⊎◌, ◌↔◌, ◌<◌, ◌^◌, ℕ, List, [], ◌∷◌, ◌++◌, length, nat_lt, ◌==◌, if◌then◌else◌, Result, Ok, Err}
+use Rattle.std.specs.Str.{is_utf8}
 use Rattle.sshkey_base.specs.TextLists.{SpellsTexts}
 use Rattle.sshkey_cert.specs.CertificateReaders.{SpellsCertificate}
-use Rattle.sshkey_keys.specs.Keys.{SpellsKey}
+use Rattle.sshkey_keys.specs.Keys.{SpellsKey, key_data_at}
 use Rattle.sshkey_model.specs.Certificates.{Certificate, SignedFields, IsTime, IsEnd, end_from, normal_to_be_signed, time_from, type_from, type_number}
 use Rattle.sshkey_model.specs.Keys.{Key, Opaque, normal_key}
 use Rattle.sshkey_model.specs.Parts.{Fits, flat}
-use Rattle.sshkey_model.specs.Reading.{Fault}
-use Rattle.sshkey_model.specs.Texts.{string, IsText}
+use Rattle.sshkey_model.specs.Reading.{Fault, Front, whole}
+use Rattle.sshkey_model.specs.Texts.{string, texts_at, IsText}
 use Rattle.sshkey_options.specs.CertTypes.{type_of}
-use Rattle.sshkey_options.specs.OptionReaders.{SpellsOptions}
+use Rattle.sshkey_options.specs.OptionReaders.{SpellsOptions, options_value_at}
 use Rattle.sshkey_options.specs.Times.{end_of, time_of}
 use Rattle.sshkey_options.specs.declared.cert_type.CertType.{CertType}
 use Rattle.sshkey_options.specs.declared.end_time.EndTime.{EndTime}
@@ -71,6 +72,57 @@ draft_fault d = first_of (
     ∷ (if nat_lt d.valid_after d.valid_before then 0 else 46)
     ∷ (if length d.principals.now == 0 then (if d.all_principals == 1 then 0 else 45) else (if d.all_principals == 1 then 45 else 0))
     ∷ [])
+
+-- ---- its parts
+
+-- 12 for a key under a private-use name
+abbrev pub key_number : Key → ℕ
+key_number (Opaque name k) = 12
+key_number k = 0
+
+abbrev pub certifiable_number : Result Key Fault → ℕ
+certifiable_number (Ok k) = key_number k
+certifiable_number (Err fault) = fault_number fault
+
+-- 11 for bytes that are no text
+abbrev pub text_number : List ℕ → ℕ
+text_number b = if is_utf8 b then 0 else 11
+
+-- 13 for bytes that no string can hold
+abbrev pub string_number : List ℕ → ℕ
+string_number b = if nat_lt (length b) (2 ^ 32) then 0 else 13
+
+-- the first fault of what stands in a string
+abbrev pub list_number : {A : Type 0} → Front A → List ℕ → ℕ
+list_number read b = first_of (string_number b ∷ number_of (whole read (flat (string b))) ∷ [])
+
+-- what is wrong with the keys, the key id, the principals and the options first, and 0 where nothing is
+abbrev pub parts_fault : CertificateDraft → ℕ
+parts_fault d = first_of (
+    certifiable_number (whole key_data_at d.key.now)
+    ∷ number_of (whole key_data_at d.authority.now)
+    ∷ text_number d.key_id.now
+    ∷ list_number texts_at d.principals.now
+    ∷ list_number options_value_at d.critical_options.now
+    ∷ list_number options_value_at d.extensions.now
+    ∷ [])
+
+-- Every number but 0, 1 and 2 is that of what is wrong first: with the numbers, then with the parts; where nothing is, the nonce or the key id is too long for a string.
+abbrev pub TellsWrong : CertificateDraft → ℕ → Type 0
+TellsWrong d n = n ≢ 0 → n ≢ 1 → n ≢ 2 → n ≡ first_of (draft_fault d ∷ parts_fault d ∷ 13 ∷ [])
+
+-- 1 for memory, which may be asked for; or the number of what is wrong
+abbrev pub IsWrong : ℕ → ℕ → Type 0 → Type 0
+IsWrong n wrong asks = ((n ≡ 1) × asks) ⊎ ((2 < n) × (n ≡ wrong))
+
+-- What a call gives that looks for the value that `Is` tells: the value, and nothing is wrong; or the number of what is wrong first.
+abbrev pub FindsOr : {X Y : Type 0} → (Y → Type 0) → (X → Y) → ℕ → Type 0 → Result X ℕ → Type 0
+FindsOr Is means wrong asks (Ok x) = Is (means x) × (wrong ≡ 0)
+FindsOr Is means wrong asks (Err n) = IsWrong n wrong asks
+
+-- The same where memory may be asked for whatever the bytes are.
+abbrev pub FindsPart : {X Y : Type 0} → (Y → Type 0) → (X → Y) → ℕ → Result X ℕ → Type 0
+FindsPart Is means wrong = FindsOr Is means wrong (Unit {0})
 
 -- ---- signed
 

@@ -1,5 +1,5 @@
 -- What is answered of a line of a key file or of a certificate file.
-use Rattle.std.specs.Prelude.{◌≡◌, ◌≢◌, ◌⊎◌, ℕ, ◌<◌, ◌+◌, List, ◌++◌, length}
+use Rattle.std.specs.Prelude.{◌≡◌, ◌≢◌, ◌⊎◌, ℕ, ◌<◌, ◌+◌, List, ◌++◌, length, drop}
 use Rattle.sshkey_model.specs.Lines.{IsLine, key_name, name_of_certificate}
 use Rattle.sshkey_keys.specs.KeyFormats.{key_format}
 use Rattle.sshkey_keys.specs.Keys.{SpellsKey}
@@ -30,13 +30,14 @@ Holds text x = ((x.kind ≡ 1) × IsLineWith key_name SpellsKey text x) ⊎ ((x.
 abbrev pub NeedsLine : List ℕ → Type 0
 NeedsLine text = NeedsValue key_format.needs text ⊎ (NeedsValue certificate_format.needs text ⊎ ((x : Content) × Holds text x))
 
--- The answer is the content: each part of the room that it names has that field of it, and together they take that many bytes.
-pub record IsContent (x : Content) (line : Line) (room : List ℕ) : Type 0 where
+-- The answer is the content: each part of the room that it names has that field of it, together they take that many bytes, and what stands behind these is as it was.
+pub record IsContent (x : Content) (line : Line) (before room : List ℕ) : Type 0 where
   pub kind : line.kind ≡ x.kind
   pub blob : bytes_of line.blob room ≡ x.blob
   pub comment : bytes_of line.comment room ≡ x.comment
   pub within : IsWithin line.blob room × IsWithin line.comment room
   pub length : line.length ≡ length x.blob + length x.comment
+  pub behind : drop line.length room ≡ drop line.length before
 
 -- The room is too short for blob and comment, and stays as it was; the answer says how much is needed.
 pub record IsTooLong (x : Content) (line : Line) (before after : List ℕ) : Type 0 where
@@ -52,9 +53,10 @@ pub record IsLaidOutLine (x : Content) (room : List ℕ) (line : Line) : Type 0 
   pub comment : (line.comment.start ≡ length x.blob) × (line.comment.length ≡ length x.comment)
   pub length : line.length ≡ length x.blob + length x.comment
 
--- What a call answers that looks for the one content that `Wanted` tells: 0 with it, 1 for memory, which says nothing, 2 where there is one, and the room is too short for it; and from 10 to 29 where there is none.
-pub record Reads (Wanted : Content → Type 0) (n : ℕ) (line : Line) (before after : List ℕ) : Type 0 where
-  pub read : n ≡ 0 → (x : Content) × Wanted x × IsContent x line after
+-- What a call answers that looks for the one content that `Wanted` tells: 0 with it, 1 for memory, which says nothing, 2 where there is one, and the room is too short for it; and from 10 to 29 where there is none. But for 0 and 2, answer and room stay as they were.
+pub record Reads (Wanted : Content → Type 0) (n : ℕ) (was line : Line) (before after : List ℕ) : Type 0 where
+  pub read : n ≡ 0 → (x : Content) × Wanted x × IsContent x line before after
   pub short : n ≡ 2 → (x : Content) × Wanted x × IsTooLong x line before after
   pub none : n ≢ 0 → n ≢ 1 → n ≢ 2 → (x : Content) → Wanted x → ⊥
   pub fault : n ≢ 0 → n ≢ 1 → n ≢ 2 → (9 < n) × (n < 30)
+  pub stays : n ≢ 0 → n ≢ 2 → (line ≡ was) × (after ≡ before)

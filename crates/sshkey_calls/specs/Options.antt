@@ -12,10 +12,11 @@ pub record BeginsWithOption (name value : List ℕ) (bytes rest : List ℕ) : Ty
   pub fits : Fits (option (record { name = name; value = value }) nesting)
   pub all : bytes ≡ flat (option (record { name = name; value = value }) nesting) ++ rest
 
--- 0 and the name and the value of the option that begins there, 3 exactly at the end of the bytes, and 13 where none begins.
-pub record FindsOption (bytes : List ℕ) (place n : ℕ) (o : OptionParts) : Type 0 where
+-- 0 and the name and the value of the option that begins there, 3 exactly at the end of the bytes, and 13 where none begins. But for 0, the answer stays as it was.
+pub record FindsOption (bytes : List ℕ) (place n : ℕ) (was o : OptionParts) : Type 0 where
   pub found : n ≡ 0 → BeginsWithOption (bytes_of o.name bytes) (bytes_of o.value bytes) (drop place bytes) (drop o.next bytes)
   pub within : n ≡ 0 → IsWithin o.name bytes × IsWithin o.value bytes × (o.next ≤ length bytes)
   pub end_ : (n ≡ 3) ↔ (place ≡ length bytes)
   pub none : n ≢ 0 → (name value rest : List ℕ) → BeginsWithOption name value (drop place bytes) rest → ⊥
   pub others : n ≢ 0 → n ≢ 3 → n ≡ 13
+  pub stays : n ≢ 0 → o ≡ was

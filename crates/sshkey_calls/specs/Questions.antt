@@ -1,5 +1,5 @@
 -- What is answered of a question.
-use Rattle.std.specs.Prelude.{◌≡◌, ◌≢◌, ℕ, ◌<◌, ◌+◌, List, ◌++◌, length, Some, None}
+use Rattle.std.specs.Prelude.{◌≡◌, ◌≢◌, ℕ, ◌<◌, ◌+◌, List, ◌++◌, length, drop, Some, None}
 use Rattle.sshkey_model.specs.Certificates.{Certificate}
 use Rattle.sshkey_model.specs.Keys.{normal_key}
 use Rattle.sshkey_model.specs.Parts.{flat}
@@ -22,14 +22,15 @@ TellsNone bytes n = (c : Certificate) → SpellsCertificate c bytes → certific
 abbrev pub room_for : model.Question → ℕ
 room_for q = length (flat (normal_key q.key)) + length q.message + length q.blob
 
--- The answer is the question: each part of the room that it names has that field of it, and together they take that many bytes.
-pub record IsAnswer (q : model.Question) (answer : Question) (room : List ℕ) : Type 0 where
+-- The answer is the question: each part of the room that it names has that field of it, together they take that many bytes, and what stands behind these is as it was.
+pub record IsAnswer (q : model.Question) (answer : Question) (before room : List ℕ) : Type 0 where
   pub algorithm : answer.algorithm ≡ algorithm_number q.algorithm
   pub key : bytes_of answer.key room ≡ flat (normal_key q.key)
   pub message : bytes_of answer.message room ≡ q.message
   pub signature : bytes_of answer.signature room ≡ q.blob
   pub within : IsWithin answer.key room × IsWithin answer.message room × IsWithin answer.signature room
   pub length : answer.length ≡ room_for q
+  pub behind : drop answer.length room ≡ drop answer.length before
 
 -- The room is too short for the question, and stays as it was; the answer says how much is needed.
 pub record IsTooShort (q : model.Question) (answer : Question) (before after : List ℕ) : Type 0 where
@@ -46,8 +47,9 @@ pub record IsLaidOut (q : model.Question) (room : List ℕ) (answer : Question) 
   pub signature : (answer.signature.start ≡ length (flat (normal_key q.key)) + length q.message) × (answer.signature.length ≡ length q.blob)
   pub length : answer.length ≡ room_for q
 
--- What a call answers that looks for the one question that `Raised` tells: 0 with the question, 1 for memory, which says nothing, 2 where there is a question, and the room is too short for it; and every other number where there is none.
-pub record Asks (Raised : model.Question → Type 0) (n : ℕ) (answer : Question) (before after : List ℕ) : Type 0 where
-  pub asked : n ≡ 0 → (q : model.Question) × Raised q × IsAnswer q answer after
+-- What a call answers that looks for the one question that `Raised` tells: 0 with the question, 1 for memory, which says nothing, 2 where there is a question, and the room is too short for it; and every other number where there is none. But for 0 and 2, answer and room stay as they were.
+pub record Asks (Raised : model.Question → Type 0) (n : ℕ) (was answer : Question) (before after : List ℕ) : Type 0 where
+  pub asked : n ≡ 0 → (q : model.Question) × Raised q × IsAnswer q answer before after
   pub short : n ≡ 2 → (q : model.Question) × Raised q × IsTooShort q answer before after
   pub none : n ≢ 0 → n ≢ 1 → n ≢ 2 → (q : model.Question) → Raised q → ⊥
+  pub stays : n ≢ 0 → n ≢ 2 → (answer ≡ was) × (after ≡ before)

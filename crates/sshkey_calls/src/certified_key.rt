@@ -29,7 +29,8 @@ pub fn certificate_key(
     room: &mut [u8],
     length: &mut usize,
 ) -> u32
-    ensures written { Writes (IsKeyOf certificate.now) result length.new room.old room.new }
+    ensures written { Writes (IsKeyOf certificate.now)
+        result length.old length.new room.old room.new }
     ensures fault { (fault : Fault) → whole certificate_at certificate.now ≡ Err fault
         → result ≡ fault_number fault }
     ensures memory { result ≡ 1 → SpellsSome SpellsCertificate certificate.now }
@@ -48,7 +49,7 @@ fn write_key(
     length: &mut usize,
 ) -> u32
     ensures { Writes (λ s. s ≡ flat (normal_key (certificate_of certificate.now).signed.key))
-        result length.new room.old room.new }
+        result length.old length.new room.old room.new }
 {
     match key_of(alloc, certificate) {
         Ok(blob) => write_bytes(&blob, room, length),

@@ -6,7 +6,7 @@ ghost use Rattle.sshkey_keys.specs.Keys.{SpellsKey};
 ghost use Rattle.sshkey_model.specs.Certificates.{normal_to_be_signed};
 ghost use Rattle.sshkey_model.specs.Parts.{Fits, flat};
 ghost use Rattle.sshkey_to_be_signed.specs.ToBeSignedValues.{to_be_signed_of};
-ghost use Rattle.sshkey_calls.specs.Drafts.{IsToBeSigned, draft_fault};
+ghost use Rattle.sshkey_calls.specs.Drafts.{IsToBeSigned, TellsWrong, draft_fault};
 ghost use Rattle.sshkey_calls.specs.Writing.{Writes};
 
 use crate::draft_fields::fields_of;
@@ -52,17 +52,22 @@ pub struct CertificateDraft<'a> {
 /// Returns 0, 2 where the room is shorter, 1 if memory ran out, and else what is wrong, numbers
 /// first: 15 for a type that is neither 1 nor 2, 19 for a time above 2^63 - 1, 46 for a window that
 /// is empty, 45 where no principals are listed and `all_principals` is not 1, or some are and it
-/// is; then from 10 to 29 the fault of a key, of the key id, of principals or of options, 12 for a
-/// key under a private-use name, and 13 for what does not fit a string. Memory is taken only where
-/// the numbers are right and a key is spelled that is to be certified.
+/// is. Then, in this order: from 10 to 29 the fault of the key, 12 for one under a private-use
+/// name, the fault of the authority's, 11 for a key id that is not UTF-8, and the fault of the
+/// principals, of the critical options and of the extensions, or 13 where they do not fit a string;
+/// last 13 for a nonce or a key id that does not. Memory is taken only where the numbers are right
+/// and a key is spelled that is to be certified. With any number but 0 the room stays as it was,
+/// and so does the length, but with 2.
 pub fn certificate_to_be_signed(
     alloc: Global,
     draft: &CertificateDraft<'_>,
     room: &mut [u8],
     length: &mut usize,
 ) -> u32
-    ensures written { Writes (IsToBeSigned draft.now) result length.new room.old room.new }
+    ensures written { Writes (IsToBeSigned draft.now)
+        result length.old length.new room.old room.new }
     ensures numbers { draft_fault draft.now ≢ 0 → result ≡ draft_fault draft.now }
+    ensures fault { TellsWrong draft.now result }
     ensures memory { result ≡ 1 → SpellsSome SpellsKey draft.now.key.now }
 {
     match fields_of(alloc, draft) {
@@ -73,9 +78,10 @@ pub fn certificate_to_be_signed(
 
 /// Writes the bytes that are to be signed of these fields.
 fn write_fields(alloc: Global, fields: &ToBeSigned, room: &mut [u8], length: &mut usize) -> u32
-    ensures { Writes (λ s. Fits (normal_to_be_signed (to_be_signed_of fields.now))
+    ensures written { Writes (λ s. Fits (normal_to_be_signed (to_be_signed_of fields.now))
         × (s ≡ flat (normal_to_be_signed (to_be_signed_of fields.now))))
-        result length.new room.old room.new }
+        result length.old length.new room.old room.new }
+    ensures long { result ≢ 0 → result ≢ 1 → result ≢ 2 → result ≡ 13 }
 {
     match fields.signed_bytes(alloc) {
         Ok(bytes) => write_bytes(&bytes, room, length),

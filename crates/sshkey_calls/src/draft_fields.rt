@@ -1,16 +1,16 @@
 //! The fields that a draft tells. Each is read, or gives the number to answer with.
 
-ghost use Rattle.std.specs.Prelude.{◌≡◌, ◌≢◌, ◌<◌, ◌↔◌, Err, IfErr, IfOk, IsTrue};
+ghost use Rattle.std.specs.Prelude.{◌≡◌, ◌≢◌, ◌<◌, ◌↔◌, ◌∷◌, [], Err, IfErr, IfOk, IsTrue};
 ghost use Rattle.sshkey_base.specs.Acceptance.{SpellsSome};
 ghost use Rattle.sshkey_base.specs.TextLists.{SpellsTexts, texts_of};
-ghost use Rattle.sshkey_keys.specs.Keys.{SpellsKey, key_of};
+ghost use Rattle.sshkey_keys.specs.Keys.{SpellsKey, key_data_at, key_of};
 ghost use Rattle.sshkey_model.specs.Parts.{flat};
-ghost use Rattle.sshkey_model.specs.Texts.{IsText, string};
+ghost use Rattle.sshkey_model.specs.Reading.{whole};
+ghost use Rattle.sshkey_model.specs.Texts.{IsText, string, texts_at};
 ghost use Rattle.sshkey_options.specs.OptionMaps.{options_of};
-ghost use Rattle.sshkey_options.specs.OptionReaders.{SpellsOptions};
+ghost use Rattle.sshkey_options.specs.OptionReaders.{SpellsOptions, options_value_at};
 ghost use Rattle.sshkey_to_be_signed.specs.ToBeSignedValues.{to_be_signed_of};
-ghost use Rattle.sshkey_calls.specs.Drafts.{FitsString, IsCertifiable, Tells, TellsNumbers, draft_fault};
-ghost use Rattle.sshkey_calls.specs.Writing.{Finds};
+ghost use Rattle.sshkey_calls.specs.Drafts.{FindsOr, FindsPart, FitsString, IsCertifiable, Tells, TellsNumbers, certifiable_number, draft_fault, first_of, list_number, number_of, parts_fault, string_number, text_number};
 
 use crate::draft::CertificateDraft;
 use crate::number::{
@@ -27,9 +27,10 @@ use std::str;
 
 /// The fields that the draft tells.
 pub(crate) fn fields_of(alloc: Global, draft: &CertificateDraft<'_>) -> Result<ToBeSigned, u32>
-    ensures fields { Finds (Tells draft.now) to_be_signed_of result }
+    ensures fields { FindsOr (Tells draft.now) to_be_signed_of
+        (first_of (draft_fault draft.now ∷ parts_fault draft.now ∷ []))
+        (SpellsSome SpellsKey draft.now.key.now) result }
     ensures numbers { draft_fault draft.now ≢ 0 → result ≡ Err (draft_fault draft.now) }
-    ensures memory { IfErr result (λ n. n ≡ 1 → SpellsSome SpellsKey draft.now.key.now) }
 {
     match numbers_of(draft) {
         Ok((cert_type, valid_after, valid_before)) => {
@@ -48,8 +49,8 @@ fn fields_with(
     valid_before: EndTime,
 ) -> Result<ToBeSigned, u32>
     requires { TellsNumbers draft.now cert_type valid_after valid_before }
-    ensures fields { Finds (Tells draft.now) to_be_signed_of result }
-    ensures memory { IfErr result (λ n. n ≡ 1 → SpellsSome SpellsKey draft.now.key.now) }
+    ensures { FindsOr (Tells draft.now) to_be_signed_of (parts_fault draft.now)
+        (SpellsSome SpellsKey draft.now.key.now) result }
 {
     let public_key = certifiable_key(alloc, draft.key)?;
     let signature_key = key_from(alloc, draft.authority)?;
@@ -101,8 +102,8 @@ fn numbers_of(draft: &CertificateDraft<'_>) -> Result<(CertType, UnixTime, EndTi
 
 /// The key that all the bytes spell, which is not one under a private-use name.
 fn certifiable_key(alloc: Global, blob: &[u8]) -> Result<KeyData, u32>
-    ensures key { Finds (λ k. SpellsKey k blob.now × IsCertifiable k) key_of result }
-    ensures memory { IfErr result (λ n. n ≡ 1 → SpellsSome SpellsKey blob.now) }
+    ensures { FindsOr (λ k. SpellsKey k blob.now × IsCertifiable k) key_of
+        (certifiable_number (whole key_data_at blob.now)) (SpellsSome SpellsKey blob.now) result }
 {
     let key = key_from(alloc, blob)?;
     if is_certifiable(&key) {
@@ -129,8 +130,8 @@ fn is_certifiable(key: &KeyData) -> bool
 
 /// The key that all the bytes spell.
 fn key_from(alloc: Global, blob: &[u8]) -> Result<KeyData, u32>
-    ensures key { Finds (λ k. SpellsKey k blob.now) key_of result }
-    ensures memory { IfErr result (λ n. n ≡ 1 → SpellsSome SpellsKey blob.now) }
+    ensures { FindsOr (λ k. SpellsKey k blob.now) key_of (number_of (whole key_data_at blob.now))
+        (SpellsSome SpellsKey blob.now) result }
 {
     match KeyDataRef::from_bytes(blob) {
         Ok(read) => match read.to_key_data(alloc) {
@@ -143,7 +144,8 @@ fn key_from(alloc: Global, blob: &[u8]) -> Result<KeyData, u32>
 
 /// The text that the bytes are.
 fn text_from(alloc: Global, bytes: &[u8]) -> Result<Text, u32>
-    ensures { Finds (λ text. (text ≡ bytes.now) × IsText text) (λ text. text) result }
+    ensures { FindsPart (λ text. (text ≡ bytes.now) × IsText text) (λ text. text)
+        (text_number bytes.now) result }
 {
     match str::from_utf8(bytes) {
         Ok(text) => match String::from_str(alloc, text) {
@@ -156,7 +158,7 @@ fn text_from(alloc: Global, bytes: &[u8]) -> Result<Text, u32>
 
 /// A copy of the bytes.
 fn bytes_from(alloc: Global, bytes: &[u8]) -> Result<Bytes, u32>
-    ensures { Finds (λ copy. copy ≡ bytes.now) (λ copy. copy) result }
+    ensures { FindsPart (λ copy. copy ≡ bytes.now) (λ copy. copy) 0 result }
 {
     match Bytes::from_slice(alloc, bytes) {
         Ok(copy) => Ok(copy),
@@ -166,7 +168,8 @@ fn bytes_from(alloc: Global, bytes: &[u8]) -> Result<Bytes, u32>
 
 /// The principals that the strings are.
 fn principals_from(alloc: Global, strings: &[u8]) -> Result<Vec<String>, u32>
-    ensures { Finds (λ texts. SpellsTexts texts (flat (string strings.now))) texts_of result }
+    ensures { FindsPart (λ texts. SpellsTexts texts (flat (string strings.now))) texts_of
+        (list_number texts_at strings.now) result }
 {
     let string = string_of(alloc, strings)?;
     match decode_whole::<Vec<String>, &[u8]>(alloc, string.as_slice()) {
@@ -177,7 +180,8 @@ fn principals_from(alloc: Global, strings: &[u8]) -> Result<Vec<String>, u32>
 
 /// The options that the bytes are.
 fn options_from(alloc: Global, options: &[u8]) -> Result<OptionsMap, u32>
-    ensures { Finds (λ os. SpellsOptions os (flat (string options.now))) options_of result }
+    ensures { FindsPart (λ os. SpellsOptions os (flat (string options.now))) options_of
+        (list_number options_value_at options.now) result }
 {
     let string = string_of(alloc, options)?;
     match decode_whole::<OptionsMap, &[u8]>(alloc, string.as_slice()) {
@@ -188,9 +192,8 @@ fn options_from(alloc: Global, options: &[u8]) -> Result<OptionsMap, u32>
 
 /// The bytes as a string, which has four bytes for their number.
 pub(crate) fn string_of(alloc: Global, bytes: &[u8]) -> Result<Vec<u8>, u32>
-    ensures string { Finds (λ s. (s ≡ flat (string bytes.now)) × FitsString bytes.now)
-        (λ string. string.items) result }
-    ensures memory { IfErr result (λ n. n ≡ 1 → FitsString bytes.now) }
+    ensures { FindsOr (λ s. (s ≡ flat (string bytes.now)) × FitsString bytes.now)
+        (λ string. string.items) (string_number bytes.now) (FitsString bytes.now) result }
 {
     match encode_vec(alloc, &bytes) {
         Ok(string) => Ok(string),

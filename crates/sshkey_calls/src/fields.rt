@@ -35,6 +35,7 @@ pub struct CertificateFields {
 /// Returns 0 if they spell one, and else from 10 to 29 their fault. Does not allocate.
 pub fn certificate_fields(certificate: &[u8], answer: &mut CertificateFields) -> u32
     ensures fields { GivesFields certificate.now result answer.new }
+    ensures stays { result ≢ 0 → answer.new ≡ answer.old }
     ensures fault { (fault : Fault) → whole certificate_at certificate.now ≡ Err fault
         → result ≡ fault_number fault }
     ensures memory { result ≢ 1 }

@@ -51,7 +51,7 @@ const LABEL: u32 = 12;
 ///
 /// A line end within the line is part of the comment.
 pub fn read_line(alloc: Global, line: &[u8], room: &mut [u8], answer: &mut Line) -> u32
-    ensures reads { Reads (Holds line.now) result answer.new room.old room.new }
+    ensures reads { Reads (Holds line.now) result answer.old answer.new room.old room.new }
     ensures memory { result ≡ 1 → NeedsLine line.now }
 {
     match str::from_utf8(line) {
@@ -62,7 +62,7 @@ pub fn read_line(alloc: Global, line: &[u8], room: &mut [u8], answer: &mut Line)
 
 /// The same of a text.
 fn read_text(alloc: Global, text: &str, room: &mut [u8], answer: &mut Line) -> u32
-    ensures reads { Reads (Holds text.now) result answer.new room.old room.new }
+    ensures reads { Reads (Holds text.now) result answer.old answer.new room.old room.new }
     ensures memory { result ≡ 1 → NeedsLine text.now }
 {
     match sshkey_public::read_line::<KeyData>(alloc, text) {
@@ -87,7 +87,7 @@ fn read_certificate(
 ) -> u32
     requires none { IsNoLine key_name SpellsKey text.now }
     requires fault { (9 < key_fault) × (key_fault < 30) }
-    ensures reads { Reads (Holds text.now) result answer.new room.old room.new }
+    ensures reads { Reads (Holds text.now) result answer.old answer.new room.old room.new }
     ensures memory { result ≡ 1 → NeedsLine text.now }
 {
     match sshkey_public::read_line::<Certificate>(alloc, text) {
@@ -119,7 +119,8 @@ fn tell(
     answer: &mut Line,
 ) -> u32
     ensures { (first blob : List ℕ) → IsLine text.now first blob comment.now → IsBytes blob
-        → Reads (λ x. x ≡ content_of kind blob comment.now) result answer.new room.old room.new }
+        → Reads (λ x. x ≡ content_of kind blob comment.now)
+        result answer.old answer.new room.old room.new }
 {
     match laid_out(alloc, text, comment, kind) {
         Ok((content, line)) => {

@@ -34,6 +34,7 @@ pub struct CertificateParts {
 /// allocate, and copies nothing.
 pub fn certificate_parts(certificate: &[u8], answer: &mut CertificateParts) -> u32
     ensures parts { GivesParts certificate.now result answer.new }
+    ensures stays { result ≢ 0 → answer.new ≡ answer.old }
     ensures fault { (fault : Fault) → whole certificate_at certificate.now ≡ Err fault
         → result ≡ fault_number fault }
     ensures memory { result ≢ 1 }

@@ -31,7 +31,7 @@ use std::alloc::Global;
 /// from 10 to 29 their fault. With 2 the room is as it was. Memory is taken only for a key that is
 /// not in its normal form.
 pub fn key_normal(alloc: Global, key: &[u8], room: &mut [u8], len: &mut usize) -> u32
-    ensures normal { Writes (IsNormalKey key.now) result len.new room.old room.new }
+    ensures normal { Writes (IsNormalKey key.now) result len.old len.new room.old room.new }
     ensures fault { (fault : Fault) → whole key_data_at key.now ≡ Err fault
         → result ≡ fault_number fault }
     ensures memory { result ≡ 1 → IsRenamedKey key.now }
@@ -45,7 +45,8 @@ pub fn key_normal(alloc: Global, key: &[u8], room: &mut [u8], len: &mut usize) -
 /// The same of a key that was read.
 fn write_key(alloc: Global, read: &KeyDataRef<'_>, room: &mut [u8], len: &mut usize) -> u32
     requires { SpellsSome SpellsKey (key_bytes read.now) }
-    ensures normal { Writes (IsNormalKey (key_bytes read.now)) result len.new room.old room.new }
+    ensures normal { Writes (IsNormalKey (key_bytes read.now))
+        result len.old len.new room.old room.new }
     ensures memory { result ≡ 1 → IsRenamedKey (key_bytes read.now) }
 {
     match read.normal_bytes() {
@@ -70,7 +71,7 @@ pub fn certificate_normal(
     len: &mut usize,
 ) -> u32
     ensures normal { Writes (IsNormalCertificate certificate.now)
-        result len.new room.old room.new }
+        result len.old len.new room.old room.new }
     ensures fault { (fault : Fault) → whole certificate_at certificate.now ≡ Err fault
         → result ≡ fault_number fault }
     ensures memory { result ≡ 1 → SpellsSome SpellsCertificate certificate.now }
@@ -89,7 +90,8 @@ fn write_certificate(
     len: &mut usize,
 ) -> u32
     ensures { Writes (λ content. content
-        ≡ flat (normal_certificate (certificate_of read.now))) result len.new room.old room.new }
+        ≡ flat (normal_certificate (certificate_of read.now)))
+        result len.old len.new room.old room.new }
 {
     match read.to_certificate(alloc) {
         Ok(certificate) => write_encoded(alloc, &certificate, room, len),
@@ -105,7 +107,7 @@ fn write_certificate(
 /// stands whole.
 pub fn signature_normal(alloc: Global, signature: &[u8], room: &mut [u8], len: &mut usize) -> u32
     ensures normal { Writes (IsNormalSshSignature signature.now)
-        result len.new room.old room.new }
+        result len.old len.new room.old room.new }
     ensures fault { (fault : Fault) → whole ssh_signature_value_at signature.now ≡ Err fault
         → result ≢ 1 → result ≡ fault_number fault }
     ensures memory { result ≡ 1 → NeedsSshSignature signature.now }
@@ -122,7 +124,8 @@ pub fn signature_normal(alloc: Global, signature: &[u8], room: &mut [u8], len: &
 /// Returns 0 if they spell one, 2 where the room is too short for it, and else from 10 to 29 their
 /// fault. With 2 the room is as it was. Does not allocate.
 pub fn plain_signature_normal(signature: &[u8], room: &mut [u8], len: &mut usize) -> u32
-    ensures normal { Writes (IsNormalSignature signature.now) result len.new room.old room.new }
+    ensures normal { Writes (IsNormalSignature signature.now)
+        result len.old len.new room.old room.new }
     ensures fault { (fault : Fault) → whole signature_at signature.now ≡ Err fault
         → result ≡ fault_number fault }
     ensures memory { result ≢ 1 }
@@ -136,7 +139,7 @@ pub fn plain_signature_normal(signature: &[u8], room: &mut [u8], len: &mut usize
 /// Writes the normal form of the value to the front of the room, if there is room for it.
 fn write_encoded<T: Encode>(alloc: Global, value: &T, room: &mut [u8], len: &mut usize) -> u32
     ensures { Writes (λ content. content ≡ flat (T.normal value.now))
-        result len.new room.old room.new }
+        result len.old len.new room.old room.new }
 {
     match encode_vec(alloc, value) {
         Ok(bytes) => write_bytes(&bytes, room, len),

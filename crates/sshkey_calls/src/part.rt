@@ -1,6 +1,6 @@
 //! Parts of the caller's room.
 
-ghost use Rattle.std.specs.Prelude.{◌≡◌, ◌++◌, length, IfErr, IfOk};
+ghost use Rattle.std.specs.Prelude.{◌≡◌, ◌++◌, length, IfErr, IfOk, OnErr};
 ghost use Rattle.sshkey_base.specs.declared.error.Error.TheVariants as wide;
 ghost use Rattle.sshkey_calls.specs.Rooms.{Fills};
 
@@ -16,11 +16,13 @@ pub struct Part {
     pub length: usize,
 }
 
-/// Adds the bytes to those that the room is to hold. Fails only when out of memory.
+/// Adds the bytes to those that the room is to hold. Fails only when out of memory, and then leaves
+/// these as they were.
 pub fn add(bytes: &[u8], content: &mut Vec<u8>) -> Result<Part>
     ensures added { IfOk result (λ _. content.new.items ≡ content.old.items ++ bytes.now) }
     ensures start { IfOk result (λ part. part.start ≡ length content.old.items) }
     ensures length { IfOk result (λ part. part.length ≡ length bytes.now) }
+    ensures stays { OnErr result (content.new.items ≡ content.old.items) }
     ensures memory { IfErr result (λ e. e ≡ wide.Memory) }
 {
     let start = content.len();

@@ -35,7 +35,7 @@ pub fn plain_signature_question(
     answer: &mut Question,
 ) -> u32
     ensures raised { Asks (RaisedUnder key.now message.now signature.now)
-        result answer.new room.old room.new }
+        result answer.old answer.new room.old room.new }
     ensures unsupported { TellsNoneUnder key.now message.now signature.now result }
     ensures key { (fault : Fault) → whole key_data_at key.now ≡ Err fault
         → result ≡ fault_number fault }
@@ -60,7 +60,7 @@ fn ask_under(
 ) -> u32
     requires { SpellsSome SpellsKey (key_bytes signer.now) }
     ensures raised { Asks (RaisedUnder (key_bytes signer.now) message.now signature.now)
-        result answer.new room.old room.new }
+        result answer.old answer.new room.old room.new }
     ensures unsupported { TellsNoneUnder (key_bytes signer.now) message.now signature.now result }
     ensures signature { (fault : Fault) → whole signature_at signature.now ≡ Err fault
         → result ≡ fault_number fault }
@@ -82,7 +82,7 @@ fn ask(
     answer: &mut Question,
 ) -> u32
     ensures raised { Asks (RaisedUnder (key_bytes signer.now) message.now
-        (signature_bytes made.now)) result answer.new room.old room.new }
+        (signature_bytes made.now)) result answer.old answer.new room.old room.new }
     ensures unsupported { TellsNoneUnder (key_bytes signer.now) message.now
         (signature_bytes made.now) result }
 {

@@ -50,7 +50,8 @@ pub fn certificate_question(
     room: &mut [u8],
     answer: &mut Question,
 ) -> u32
-    ensures raised { Asks (RaisedBy certificate.now) result answer.new room.old room.new }
+    ensures raised { Asks (RaisedBy certificate.now)
+        result answer.old answer.new room.old room.new }
     ensures unsupported { TellsNone certificate.now result }
     ensures fault { (fault : Fault) → whole certificate_at certificate.now ≡ Err fault
         → result ≡ fault_number fault }
@@ -70,7 +71,7 @@ fn ask(
     answer: &mut Question,
 ) -> u32
     ensures raised { Asks (λ q. certificate_question (certificate_of certificate.now) ≡ Some q)
-        result answer.new room.old room.new }
+        result answer.old answer.new room.old room.new }
     ensures unsupported { certificate_question (certificate_of certificate.now) ≡ None
         → result ≢ 1 → result ≡ 40 }
 {
@@ -87,7 +88,8 @@ fn tell(
     room: &mut [u8],
     answer: &mut Question,
 ) -> u32
-    ensures raised { Asks (λ q. asks asked.now ≡ Some q) result answer.new room.old room.new }
+    ensures raised { Asks (λ q. asks asked.now ≡ Some q)
+        result answer.old answer.new room.old room.new }
     ensures unsupported { asks asked.now ≡ None → result ≡ 40 }
 {
     match asked.question() {
@@ -103,7 +105,8 @@ pub(crate) fn answer_with(
     room: &mut [u8],
     answer: &mut Question,
 ) -> u32
-    ensures { Asks (λ q. q ≡ question_of question.now) result answer.new room.old room.new }
+    ensures { Asks (λ q. q ≡ question_of question.now)
+        result answer.old answer.new room.old room.new }
 {
     match laid_out(alloc, question) {
         Ok((content, parts)) => {

@@ -1,7 +1,8 @@
 //! What has to be verified of an SSH signature.
 
-ghost use Rattle.std.specs.Prelude.{◌≡◌, ◌≢◌, ◌↔◌, true, Err, IsTrue, None, Some};
+ghost use Rattle.std.specs.Prelude.{◌≡◌, ◌≢◌, ◌↔◌, Err, IfSome, IsTrue, None, Some};
 ghost use Rattle.sshkey_keys.specs.Keys.{key_of};
+ghost use Rattle.sshkey_keys.specs.Questions.{question_of};
 ghost use Rattle.sshkey_model.specs.Names.{Sha256};
 ghost use Rattle.sshkey_model.specs.Reading.{Fault, whole};
 ghost use Rattle.sshkey_model.specs.SignedMessages.{signed_by};
@@ -15,10 +16,10 @@ ghost use Rattle.sshkey_calls.specs.Questions.{Asks};
 ghost use Rattle.sshkey_calls.specs.Signatures.{IsSignerOf, NeedsSshSignature, RaisedBySignature, TellsNoneOfSignature};
 
 use crate::digest::Sha256Digest;
-use crate::number::{MEMORY, OTHER_NAMESPACE, UNSUPPORTED, error_number};
+use crate::number::{DONE, MEMORY, OTHER_NAMESPACE, UNSUPPORTED, error_number};
 use crate::question::{Question, answer_with};
 use sshkey_base::HashAlg;
-use sshkey_keys::KeyData;
+use sshkey_keys::{KeyData, Question as Asked};
 use sshkey_sshsig::SshSig;
 use std::alloc::Global;
 
@@ -41,9 +42,10 @@ pub fn signature_question(
     signer: &mut Sha256Digest,
 ) -> u32
     ensures raised { Asks (RaisedBySignature signature.now namespace.now message.now)
-        result answer.new room.old room.new }
+        result answer.old answer.new room.old room.new }
     ensures unsupported { TellsNoneOfSignature signature.now namespace.now message.now result }
     ensures signer { result ≡ 0 → IsSignerOf signature.now signer.new.bytes }
+    ensures stays { result ≢ 0 → signer.new ≡ signer.old }
     ensures namespace { (f : SshSignature) → SpellsSshSignature f signature.now
         → f.namespace ≢ namespace.now → result ≢ 1 → result ≡ 41 }
     ensures fault { (fault : Fault) → whole ssh_signature_value_at signature.now ≡ Err fault
@@ -79,39 +81,57 @@ fn ask(
 ) -> u32
     ensures raised { Asks (λ q. question (ssh_signature_of read.now).key
         (signed_by (ssh_signature_of read.now) message.now)
-        (ssh_signature_of read.now).signature ≡ Some q) result answer.new room.old room.new }
+        (ssh_signature_of read.now).signature ≡ Some q)
+        result answer.old answer.new room.old room.new }
     ensures unsupported { question (ssh_signature_of read.now).key
         (signed_by (ssh_signature_of read.now) message.now)
         (ssh_signature_of read.now).signature ≡ None → result ≢ 1 → result ≡ 40 }
     ensures signer { result ≡ 0
         → GivesDigestOf Sha256 (ssh_signature_of read.now).key signer.new.bytes }
+    ensures stays { result ≢ 0 → signer.new ≡ signer.old }
 {
     let Ok(signed) = read.signed_bytes(alloc, message) else {
         return MEMORY;
     };
     match read.public_key().question(&signed, read.signature()) {
         Some(question) => {
-            if !write_digest(alloc, read.public_key(), signer) {
+            let Some(digest) = digest_of(alloc, read.public_key()) else {
                 return MEMORY;
-            }
-            answer_with(alloc, &question, room, answer)
+            };
+            answer_by(alloc, &question, &digest, room, answer, signer)
         }
         None => UNSUPPORTED,
     }
 }
 
-/// Writes the SHA-256 fingerprint of the key; false if memory ran out.
-fn write_digest(alloc: Global, key: &KeyData, digest: &mut Sha256Digest) -> bool
-    ensures { result ≡ true → GivesDigestOf Sha256 (key_of key.now) digest.new.bytes }
+/// The SHA-256 fingerprint of the key; `None` if memory ran out.
+fn digest_of(alloc: Global, key: &KeyData) -> Option<[u8; 32]>
+    ensures { IfSome result (GivesDigestOf Sha256 (key_of key.now)) }
 {
     let Ok(fingerprint) = key.fingerprint(alloc, HashAlg::Sha256) else {
-        return false;
+        return None;
     };
-    match fingerprint.sha256() {
-        Some(bytes) => {
-            digest.bytes = bytes;
-            true
-        }
-        None => false,
+    fingerprint.sha256()
+}
+
+/// Answers with the question, and where it is done with the digest of who signed.
+fn answer_by(
+    alloc: Global,
+    question: &Asked<'_>,
+    digest: &[u8; 32],
+    room: &mut [u8],
+    answer: &mut Question,
+    signer: &mut Sha256Digest,
+) -> u32
+    ensures raised { Asks (λ q. q ≡ question_of question.now)
+        result answer.old answer.new room.old room.new }
+    ensures signer { result ≡ 0 → signer.new.bytes ≡ digest.now }
+    ensures stays { result ≢ 0 → signer.new ≡ signer.old }
+{
+    let number = answer_with(alloc, question, room, answer);
+    if number == DONE {
+        signer.bytes = *digest;
+        return DONE;
     }
+    number
 }

@@ -1,12 +1,12 @@
 //! Certificates that were signed.
 
-ghost use Rattle.std.specs.Prelude.{◌≡◌, ◌≢◌, ◌++◌, ℕ, List, Err, IfErr, IfOk};
+ghost use Rattle.std.specs.Prelude.{◌≡◌, ◌≢◌, ◌++◌, ℕ, List, Err, IfOk};
 ghost use Rattle.sshkey_cert.specs.CertificateReaders.{SpellsCertificate};
 ghost use Rattle.sshkey_model.specs.Certificates.{Certificate, certificate_at};
 ghost use Rattle.sshkey_model.specs.Reading.{Fault, whole};
-ghost use Rattle.sshkey_calls.specs.Drafts.{FitsString, IsJoined, IsSigned};
+ghost use Rattle.sshkey_calls.specs.Drafts.{FindsOr, FitsString, IsJoined, IsSigned, string_number};
 ghost use Rattle.sshkey_calls.specs.Numbers.{fault_number};
-ghost use Rattle.sshkey_calls.specs.Writing.{Finds, Writes};
+ghost use Rattle.sshkey_calls.specs.Writing.{Writes};
 
 use crate::draft_fields::string_of;
 use crate::number::{MEMORY, error_number};
@@ -28,9 +28,10 @@ pub fn certificate_signed(
     length: &mut usize,
 ) -> u32
     ensures written { Writes (IsSigned to_be_signed.now signature.now)
-        result length.new room.old room.new }
+        result length.old length.new room.old room.new }
     ensures fault { (s : List ℕ) (fault : Fault) → IsJoined to_be_signed.now signature.now s
         → whole certificate_at s ≡ Err fault → result ≢ 1 → result ≡ fault_number fault }
+    ensures long { (FitsString signature.now → ⊥) → result ≡ 13 }
     ensures memory { result ≡ 1 → FitsString signature.now }
 {
     match joined(alloc, to_be_signed, signature) {
@@ -41,9 +42,8 @@ pub fn certificate_signed(
 
 /// The bytes, and the signature in a string behind them.
 fn joined(alloc: Global, to_be_signed: &[u8], signature: &[u8]) -> Result<Vec<u8>, u32>
-    ensures joined { Finds (IsJoined to_be_signed.now signature.now)
-        (λ joined. joined.items) result }
-    ensures memory { IfErr result (λ n. n ≡ 1 → FitsString signature.now) }
+    ensures { FindsOr (IsJoined to_be_signed.now signature.now) (λ joined. joined.items)
+        (string_number signature.now) (FitsString signature.now) result }
 {
     let string = string_of(alloc, signature)?;
     match both(alloc, to_be_signed, &string) {
@@ -65,7 +65,7 @@ fn both(alloc: Global, first: &[u8], second: &[u8]) -> sshkey_base::Result<Vec<u
 fn write_certificate(certificate: &[u8], room: &mut [u8], length: &mut usize) -> u32
     ensures written { Writes (λ s. (s ≡ certificate.now)
         × (c : Certificate) × SpellsCertificate c certificate.now)
-        result length.new room.old room.new }
+        result length.old length.new room.old room.new }
     ensures fault { (fault : Fault) → whole certificate_at certificate.now ≡ Err fault
         → result ≡ fault_number fault }
     ensures memory { result ≢ 1 }

@@ -12,7 +12,7 @@ use sshkey_format::split_string;
 /// Returns 0, 3 exactly where the place is the end of the bytes, and 13 where the length or its
 /// bytes are not all there, or the place is behind the end. Does not allocate.
 pub fn next_string(bytes: &[u8], place: usize, answer: &mut Part) -> u32
-    ensures { FindsString bytes.now place result answer.new }
+    ensures { FindsString bytes.now place result answer.old answer.new }
 {
     if place == bytes.len() {
         return END;

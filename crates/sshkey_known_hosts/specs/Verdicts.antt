@@ -1,10 +1,11 @@
 -- What a verdict on a host's key means, and which keys are those of its authorities.
-use Rattle.std.specs.Prelude.{◌≡◌, ◌↔◌, ℕ, List, Option, Some, None, Bool, true, false}
+use Rattle.std.specs.Prelude.{◌≡◌, ◌↔◌, ℕ, List, [], ◌∷◌, Option, Some, None, Bool, true, false}
 use Rattle.std.specs.List.{Any}
 use Rattle.sshkey_model.specs.Keys.{Key}
 use Rattle.sshkey_files.specs.Entries.{IsNoEntry}
-use Rattle.sshkey_files.specs.HostVerdicts.{IsRevoked, HidesSome, IsListed, IsKnown, IsAuthority}
-use Rattle.sshkey_public.specs.PublicKeys.{public_of}
+use Rattle.sshkey_files.specs.HostVerdicts.{IsRevoked, HidesSome, IsListed, IsKnown, IsAuthority, Lists}
+use Rattle.sshkey_files.specs.KnownHosts.{CertAuthority}
+use Rattle.sshkey_public.specs.PublicKeys.{comment_of, public_of}
 use Rattle.sshkey_public.specs.declared.public_key.PublicKey.{PublicKey}
 use Rattle.sshkey_known_hosts.specs.declared.marker.Marker.{Marker}
 use Rattle.sshkey_known_hosts.specs.declared.marker.Marker.TheVariants as marker
@@ -58,7 +59,16 @@ is_authority_of (Some marker.CertAuthority) = true
 is_authority_of (Some marker.Revoked) = false
 is_authority_of None = false
 
--- The same of one key at most.
-abbrev pub IsAuthorityIn : (List ℕ → List ℕ → List ℕ) → List ℕ → List (List ℕ) → Option PublicKey → Type 0
-IsAuthorityIn hmac name lines None = (key : Key) → IsAuthority hmac name key lines → ⊥
-IsAuthorityIn hmac name lines (Some k) = (key : Key) → (public_of k ≡ key) ↔ IsAuthority hmac name key lines
+-- The key and the comment of the line, which is an entry of an authority for the name; or it is none.
+abbrev pub IsAuthorityLine : (List ℕ → List ℕ → List ℕ) → List ℕ → List ℕ → Option PublicKey → Type 0
+IsAuthorityLine hmac name line None = (key : Key) → Lists hmac name (Some CertAuthority) key line → ⊥
+IsAuthorityLine hmac name line (Some k) = (l : Lists hmac name (Some CertAuthority) (public_of k) line) × (comment_of k ≡ l.entry.comment)
+
+abbrev pub in_front : Option PublicKey → List PublicKey → List PublicKey
+in_front None keys = keys
+in_front (Some k) keys = k ∷ keys
+
+-- They are the keys and the comments of these lines, in the order of the lines, one for each that is such an entry.
+abbrev pub AreInOrder : (List ℕ → List ℕ → List ℕ) → List ℕ → List (List ℕ) → List PublicKey → Type 0
+AreInOrder hmac name [] keys = keys ≡ []
+AreInOrder hmac name (line ∷ lines) keys = (found : Option PublicKey) × (rest : List PublicKey) × IsAuthorityLine hmac name line found × AreInOrder hmac name lines rest × (keys ≡ in_front found rest)

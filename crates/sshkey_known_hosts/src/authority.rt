@@ -1,12 +1,12 @@
 //! The authorities that sign the keys of a host.
 
-ghost use Rattle.std.specs.Prelude.{◌≡◌, ◌<◌, ◌↔◌, ◌∷◌, [], ℕ, List, IfOk, IfErr, length};
+ghost use Rattle.std.specs.Prelude.{◌≡◌, ◌<◌, ℕ, List, IfOk, IfErr, length};
 ghost use Rattle.sshkey_base.specs.declared.error.Error.TheVariants as wide;
 ghost use Rattle.sshkey_files.specs.Fields.{filled_lines};
 ghost use Rattle.sshkey_files.specs.HostNames.{known_name};
 ghost use Rattle.sshkey_files.specs.OpenSshLines.{IsHostLine};
 ghost use Rattle.sshkey_known_hosts.specs.HostEntries.{known_host_of};
-ghost use Rattle.sshkey_known_hosts.specs.Verdicts.{AreAuthorities, IsAuthorityIn, is_authority_of};
+ghost use Rattle.sshkey_known_hosts.specs.Verdicts.{AreAuthorities, AreInOrder, IsAuthorityLine, is_authority_of};
 
 use crate::entry::Entry;
 use crate::hmac_sha1::HmacSha1;
@@ -27,7 +27,7 @@ fn is_authority(marker: Option<Marker>) -> bool
 /// The key of an entry of an authority for that name.
 fn entry_authority<H: HmacSha1>(entry: Entry, name: &str, hmac: &H) -> Option<PublicKey>
     ensures { (line : List ℕ) → IsHostLine line (known_host_of entry) →
-        IsAuthorityIn (H.hmac hmac.now) name.now (line ∷ []) result }
+        IsAuthorityLine (H.hmac hmac.now) name.now line result }
 {
     if !is_authority(entry.marker()) {
         return None;
@@ -44,7 +44,7 @@ fn line_authority<H: HmacSha1>(
     name: &str,
     hmac: &H,
 ) -> Result<Option<PublicKey>>
-    ensures answer { IfOk result (IsAuthorityIn (H.hmac hmac.now) name.now (line.now ∷ [])) }
+    ensures answer { IfOk result (IsAuthorityLine (H.hmac hmac.now) name.now line.now) }
     ensures memory { IfErr result (λ e. e ≡ wide.Memory) }
 {
     let Some(entry) = read_entry(alloc, line)? else {
@@ -54,8 +54,8 @@ fn line_authority<H: HmacSha1>(
 }
 
 /// The keys of the authorities that sign the keys of a host: those of the entries
-/// `@cert-authority` for it in a text of known_hosts, as OpenSSH reads it, in order (sshd(8),
-/// "SSH_KNOWN_HOSTS FILE FORMAT").
+/// `@cert-authority` for it in a text of known_hosts, as OpenSSH reads it, each with its comment,
+/// in the order of the lines (sshd(8), "SSH_KNOWN_HOSTS FILE FORMAT").
 ///
 /// A line that is no entry gives none, and an authority may be revoked by another line: before one
 /// is trusted, ask `judge_key` about its key, and refuse it where that is `Revoked` or
@@ -69,6 +69,8 @@ pub fn authorities<H: HmacSha1>(
     hmac: &H,
 ) -> Result<Vec<PublicKey>>
     ensures answer { IfOk result (λ keys. AreAuthorities (H.hmac hmac.now)
+        (known_name host.now port) (filled_lines text.now) keys.items) }
+    ensures in_order { IfOk result (λ keys. AreInOrder (H.hmac hmac.now)
         (known_name host.now port) (filled_lines text.now) keys.items) }
     ensures memory { IfErr result (λ e. e ≡ wide.Memory) }
     ensures asks { IfErr result (λ _. 0 < length (filled_lines text.now)) }

@@ -1,4 +1,4 @@
-use Rattle.std.proofs.Common.{◌∙◌, ap}
+use Rattle.std.proofs.Common.{◌∙◌, ap, refl}
 use Rattle.sshkey_base.specs.Causes.{cause}
 use Rattle.sshkey_cert_ref.specs.CertificateRef.{certificate_bytes, certificate_of}
 use Rattle.sshkey_model.specs.Certificates.{Certificate, certificate_at}
@@ -13,7 +13,7 @@ use Rattle.sshkey_calls.proofs.certified_key.certificate_key.Goals as goal
 pub returns-in-Ok-clause-written : goal.returns-in-Ok-clause-written
 returns-in-Ok-clause-written c =
     let read = c.in-Ok.ensures.accepts in
-    told_as _ _ _ _
+    told_as _ _ _ _ _
     (λ s is. (certificate_of c.in-Ok.read, read, is))
     (λ s is. is.2 ∙ ap (λ (x : Certificate). flat (normal_key x.signed.key)) (one_spelled is.0 (certificate_of c.in-Ok.read) c.args.certificate.now is.1 read))
     c.write_key.ensures
@@ -22,7 +22,7 @@ pub returns-in-Ok-clause-fault : goal.returns-in-Ok-clause-fault
 returns-in-Ok-clause-fault c fault is = absurd (no_fault certificate_bytes cause c.args.certificate.now c.in-Ok.read (whole certificate_at c.args.certificate.now) fault is c.in-Ok.ensures.keeps)
 
 pub returns-in-Err-clause-written : goal.returns-in-Err-clause-written
-returns-in-Err-clause-written c = no_bytes _ _ _ _ c.error_number.ensures.some c.error_number.ensures.apart (λ _ s is. c.in-Err.ensures.accepts is.0 is.1)
+returns-in-Err-clause-written c = no_bytes _ _ _ _ _ (refl, refl) c.error_number.ensures.some c.error_number.ensures.apart (λ _ s is. c.in-Err.ensures.accepts is.0 is.1)
 
 pub returns-in-Err-clause-fault : goal.returns-in-Err-clause-fault
 returns-in-Err-clause-fault c fault is = c.error_number.ensures.fault fault (rw is at c.in-Err.ensures.keeps)

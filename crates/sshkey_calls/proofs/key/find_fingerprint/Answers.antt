@@ -5,7 +5,7 @@ use Rattle.sshkey_keys.specs.Keys.{key_data_at}
 use Rattle.sshkey_keys_ref.specs.KeyDataRef.{key_bytes}
 use Rattle.sshkey_model.specs.Reading.{whole}
 use Rattle.sshkey_calls.proofs.Digests.{fingerprint_found, memory_out}
-use Rattle.sshkey_calls.proofs.Kept.{kept_bytes, never_memory, no_fault}
+use Rattle.sshkey_calls.proofs.Kept.{kept_bytes, never_memory}
 use Rattle.sshkey_calls.proofs.key.find_fingerprint.Goals as goal
 
 pub returns-in-Err-clause-found : goal.returns-in-Err-clause-found

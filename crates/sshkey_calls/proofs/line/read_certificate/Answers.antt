@@ -1,3 +1,4 @@
+use Rattle.std.proofs.Common.{refl}
 use Rattle.sshkey_base.specs.Causes.{cause}
 use Rattle.sshkey_model.specs.Lines.{IsLineOf, name_of_certificate}
 use Rattle.sshkey_cert.specs.CertificateReaders.{SpellsCertificate}
@@ -9,10 +10,10 @@ use Rattle.sshkey_calls.proofs.line.read_certificate.Goals as goal
 pub returns-in-Ok-clause-reads : goal.returns-in-Ok-clause-reads
 returns-in-Ok-clause-reads c =
     let line : IsLineOf name_of_certificate SpellsCertificate c.args.text.now (certificate_of c.in-Ok.read.0) c.as_str.result.now = rw c.as_str.ensures.value c.in-Ok.ensures.reads in
-    reads_certificate c.args.text.now (certificate_of c.in-Ok.read.0) c.as_str.result.now _ _ _ _ line c.tell.ensures
+    reads_certificate c.args.text.now (certificate_of c.in-Ok.read.0) c.as_str.result.now _ _ _ _ _ line c.tell.ensures
 
 pub returns-in-Err-clause-reads : goal.returns-in-Err-clause-reads
-returns-in-Err-clause-reads c = fault_told c.args.text.now c.args.key_fault c.error_number.result c.fault_of.result _ _ _ c.requires.none c.requires.fault
+returns-in-Err-clause-reads c = fault_told c.args.text.now c.args.key_fault c.error_number.result c.fault_of.result _ _ _ _ (refl, refl) c.requires.none c.requires.fault
     (λ other. c.in-Err.ensures.reads (λ memory. other (c.error_number.ensures.memory memory)))
     (λ other. c.error_number.ensures.range (λ memory. other (c.error_number.ensures.memory memory)))
     c.error_number.ensures.some c.error_number.ensures.apart c.fault_of.ensures.either c.fault_of.ensures.memory

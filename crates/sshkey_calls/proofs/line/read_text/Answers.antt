@@ -9,7 +9,7 @@ use Rattle.sshkey_calls.proofs.line.read_text.Goals as goal
 pub returns-in-Ok-clause-reads : goal.returns-in-Ok-clause-reads
 returns-in-Ok-clause-reads c =
     let line : IsLineOf key_name SpellsKey c.args.text.now (key_of c.in-Ok.read.0) c.as_str.result.now = rw c.as_str.ensures.value c.in-Ok.ensures.reads in
-    reads_key c.args.text.now (key_of c.in-Ok.read.0) c.as_str.result.now _ _ _ _ line c.tell.ensures
+    reads_key c.args.text.now (key_of c.in-Ok.read.0) c.as_str.result.now _ _ _ _ _ line c.tell.ensures
 
 pub read_certificate-requires-clause-none : goal.read_certificate-requires-clause-none
 read_certificate-requires-clause-none c = c.in-Err.ensures.reads (λ memory. c.if-fault-eq-MEMORY.false (c.error_number-fault.ensures.memory memory))
@@ -23,7 +23,7 @@ returns-in-Ok-clause-memory c _ =
     needs_key_line c.args.text.now (key_of c.in-Ok.read.0) c.as_str.result.now line
 
 pub returns-then-fault-eq-MEMORY-clause-reads : goal.returns-then-fault-eq-MEMORY-clause-reads
-returns-then-fault-eq-MEMORY-clause-reads c = no_memory _ _ _ _ refl
+returns-then-fault-eq-MEMORY-clause-reads c = no_memory _ _ _ _ _ (refl, refl) refl
 
 pub returns-then-fault-eq-MEMORY-clause-memory : goal.returns-then-fault-eq-MEMORY-clause-memory
 returns-then-fault-eq-MEMORY-clause-memory c _ = needs_key c.args.text.now (c.in-Err.ensures.asks (only_memory (cause c.in-Err.error) _ c.error_number-fault.ensures.range c.if-fault-eq-MEMORY.true))

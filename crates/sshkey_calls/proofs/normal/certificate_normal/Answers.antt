@@ -1,3 +1,4 @@
+use Rattle.std.proofs.Common.{refl}
 use Rattle.sshkey_base.specs.Causes.{cause}
 use Rattle.sshkey_cert.specs.CertificateReaders.{SpellsCertificate}
 use Rattle.sshkey_cert_ref.specs.CertificateRef.{certificate_bytes, certificate_of}
@@ -8,7 +9,7 @@ use Rattle.sshkey_calls.proofs.NormalForms.{none_written, write_normal}
 use Rattle.sshkey_calls.proofs.normal.certificate_normal.Goals as goal
 
 pub returns-in-Ok-clause-normal : goal.returns-in-Ok-clause-normal
-returns-in-Ok-clause-normal c = write_normal SpellsCertificate normal_certificate (certificate_of c.in-Ok.read) _ _ _ _ _ c.in-Ok.ensures.accepts c.write_certificate.ensures
+returns-in-Ok-clause-normal c = write_normal SpellsCertificate normal_certificate (certificate_of c.in-Ok.read) _ _ _ _ _ _ c.in-Ok.ensures.accepts c.write_certificate.ensures
 
 pub returns-in-Ok-clause-fault : goal.returns-in-Ok-clause-fault
 returns-in-Ok-clause-fault c fault is = absurd (no_fault certificate_bytes cause c.args.certificate.now c.in-Ok.read (whole certificate_at c.args.certificate.now) fault is c.in-Ok.ensures.keeps)
@@ -17,7 +18,7 @@ pub returns-in-Ok-clause-memory : goal.returns-in-Ok-clause-memory
 returns-in-Ok-clause-memory c _ = (certificate_of c.in-Ok.read, c.in-Ok.ensures.accepts)
 
 pub returns-in-Err-clause-normal : goal.returns-in-Err-clause-normal
-returns-in-Err-clause-normal c = none_written SpellsCertificate normal_certificate _ _ _ _ _ c.error_number.ensures.some c.error_number.ensures.apart (λ _. c.in-Err.ensures.accepts)
+returns-in-Err-clause-normal c = none_written SpellsCertificate normal_certificate _ _ _ _ _ _ (refl, refl) c.error_number.ensures.some c.error_number.ensures.apart (λ _. c.in-Err.ensures.accepts)
 
 pub returns-in-Err-clause-fault : goal.returns-in-Err-clause-fault
 returns-in-Err-clause-fault c fault is = c.error_number.ensures.fault fault (rw is at c.in-Err.ensures.keeps)

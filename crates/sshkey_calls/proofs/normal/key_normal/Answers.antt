@@ -1,4 +1,4 @@
-use Rattle.std.proofs.Common.{ℕ, List, subst, sym}
+use Rattle.std.proofs.Common.{ℕ, List, refl, subst, sym}
 use Rattle.sshkey_base.specs.Acceptance.{SpellsSome}
 use Rattle.sshkey_base.specs.Causes.{cause}
 use Rattle.sshkey_keys.specs.Keys.{SpellsKey, key_data_at}
@@ -19,7 +19,7 @@ write_key-requires c =
 pub returns-in-Ok-clause-normal : goal.returns-in-Ok-clause-normal
 returns-in-Ok-clause-normal c =
     let same = kept_bytes key_bytes cause c.args.key.now c.in-Ok.read (whole key_data_at c.args.key.now) c.in-Ok.ensures.keeps in
-    subst (λ (b : List ℕ). Writes (IsNormalKey b) c.write_key.result c.write_key.new.len c.args.room.now c.write_key.new.room) same c.write_key.ensures.normal
+    subst (λ (b : List ℕ). Writes (IsNormalKey b) c.write_key.result c.args.len.now c.write_key.new.len c.args.room.now c.write_key.new.room) same c.write_key.ensures.normal
 
 pub returns-in-Ok-clause-fault : goal.returns-in-Ok-clause-fault
 returns-in-Ok-clause-fault c fault is = absurd (no_fault key_bytes cause c.args.key.now c.in-Ok.read (whole key_data_at c.args.key.now) fault is c.in-Ok.ensures.keeps)
@@ -30,7 +30,7 @@ returns-in-Ok-clause-memory c one =
     subst IsRenamedKey same (c.write_key.ensures.memory one)
 
 pub returns-in-Err-clause-normal : goal.returns-in-Err-clause-normal
-returns-in-Err-clause-normal c = none_written SpellsKey normal_key _ _ _ _ _ c.error_number.ensures.some c.error_number.ensures.apart (λ _. c.in-Err.ensures.accepts)
+returns-in-Err-clause-normal c = none_written SpellsKey normal_key _ _ _ _ _ _ (refl, refl) c.error_number.ensures.some c.error_number.ensures.apart (λ _. c.in-Err.ensures.accepts)
 
 pub returns-in-Err-clause-fault : goal.returns-in-Err-clause-fault
 returns-in-Err-clause-fault c fault is = c.error_number.ensures.fault fault (rw is at c.in-Err.ensures.keeps)

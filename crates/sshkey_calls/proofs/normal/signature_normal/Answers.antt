@@ -8,10 +8,10 @@ use Rattle.sshkey_calls.proofs.NormalForms.{none_written, write_normal}
 use Rattle.sshkey_calls.proofs.normal.signature_normal.Goals as goal
 
 pub returns-in-Ok-clause-normal : goal.returns-in-Ok-clause-normal
-returns-in-Ok-clause-normal c = write_normal SpellsSshSignature normal_ssh_signature (ssh_signature_of c.in-Ok.read) _ _ _ _ _ c.in-Ok.ensures.accepts.spelled c.write_encoded.ensures
+returns-in-Ok-clause-normal c = write_normal SpellsSshSignature normal_ssh_signature (ssh_signature_of c.in-Ok.read) _ _ _ _ _ _ c.in-Ok.ensures.accepts.spelled c.write_encoded.ensures
 
 pub returns-in-Err-clause-normal : goal.returns-in-Err-clause-normal
-returns-in-Err-clause-normal c = none_written SpellsSshSignature normal_ssh_signature _ _ _ _ _ c.error_number.ensures.some c.error_number.ensures.apart (λ not_memory. c.in-Err.ensures.accepts (λ memory. not_memory (c.error_number.ensures.memory memory)) refl)
+returns-in-Err-clause-normal c = none_written SpellsSshSignature normal_ssh_signature _ _ _ _ _ _ (refl, refl) c.error_number.ensures.some c.error_number.ensures.apart (λ not_memory. c.in-Err.ensures.accepts (λ memory. not_memory (c.error_number.ensures.memory memory)) refl)
 
 pub returns-in-Err-clause-fault : goal.returns-in-Err-clause-fault
 returns-in-Err-clause-fault c fault is not_memory =

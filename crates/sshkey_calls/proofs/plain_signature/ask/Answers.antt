@@ -1,4 +1,4 @@
-use Rattle.std.proofs.Common.{◌≡◌, Some, ap, sym, ◌∙◌}
+use Rattle.std.proofs.Common.{◌≡◌, Some, ap, sym, ◌∙◌, refl}
 use Rattle.sshkey_model.specs.Verification as model
 use Rattle.sshkey_keys.specs.Keys.{key_of}
 use Rattle.sshkey_keys.specs.Questions.{question_of}
@@ -14,8 +14,8 @@ returns-in-Some-clause-raised c =
     let k = key_of c.in-Ok.key in
     let g = signature_of c.in-Ok-to_signature.signature in
     let asked : model.question k c.args.message.now g ≡ Some (question_of c.in-Some.question) = question_is question_of (model.question k c.args.message.now g) c.question.result c.question.ensures c.in-Some.question c.in-Some.is in
-    asked_under k g (key_bytes c.args.signer.now) c.args.message.now (signature_bytes c.args.made.now) c.in-Ok.ensures.spelled c.in-Ok-to_signature.ensures.spelled _ _ _ _
-    (raised _ _ _ _
+    asked_under k g (key_bytes c.args.signer.now) c.args.message.now (signature_bytes c.args.made.now) c.in-Ok.ensures.spelled c.in-Ok-to_signature.ensures.spelled _ _ _ _ _
+    (raised _ _ _ _ _
     (λ q is. asked ∙ ap (λ (x : model.Question). Some x) (sym is))
     (λ q is. one_question q (question_of c.in-Some.question) (sym is ∙ asked))
     c.answer_with.ensures)
@@ -32,6 +32,6 @@ pub returns-clause-raised : goal.returns-clause-raised
 returns-clause-raised c =
     let k = key_of c.in-Ok.key in
     let g = signature_of c.in-Ok-to_signature.signature in
-    none_raised _ _ _ _ (λ e. cc e) (λ e. cc e) (λ _ q is.
+    none_raised _ _ _ _ _ (refl, refl) (λ e. cc e) (λ e. cc e) (λ _ q is.
     let same = same_question k g (key_bytes c.args.signer.now) c.args.message.now (signature_bytes c.args.made.now) c.in-Ok.ensures.spelled c.in-Ok-to_signature.ensures.spelled is.signer is.made is.by is.spelled in
     no_question question_of (model.question k c.args.message.now g) c.question.result c.question.ensures c.in-None.is q (sym same ∙ is.raised))

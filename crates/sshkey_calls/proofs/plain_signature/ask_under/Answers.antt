@@ -1,4 +1,4 @@
-use Rattle.std.proofs.Common.{ℕ, List, subst}
+use Rattle.std.proofs.Common.{ℕ, List, refl, subst}
 use Rattle.sshkey_base.specs.Causes.{cause}
 use Rattle.sshkey_keys_ref.specs.KeyDataRef.{key_bytes}
 use Rattle.sshkey_keys_ref.specs.SignatureRef.{signature_bytes}
@@ -13,7 +13,7 @@ use Rattle.sshkey_calls.proofs.plain_signature.ask_under.Goals as goal
 pub returns-in-Ok-clause-raised : goal.returns-in-Ok-clause-raised
 returns-in-Ok-clause-raised c =
     let same = kept_bytes signature_bytes cause c.args.signature.now c.in-Ok.made (whole signature_at c.args.signature.now) c.in-Ok.ensures.keeps in
-    subst (λ (b : List ℕ). Asks (RaisedUnder (key_bytes c.args.signer.now) c.args.message.now b) c.ask.result c.ask.new.answer c.args.room.now c.ask.new.room) same c.ask.ensures.raised
+    subst (λ (b : List ℕ). Asks (RaisedUnder (key_bytes c.args.signer.now) c.args.message.now b) c.ask.result c.args.answer.now c.ask.new.answer c.args.room.now c.ask.new.room) same c.ask.ensures.raised
 
 pub returns-in-Ok-clause-unsupported : goal.returns-in-Ok-clause-unsupported
 returns-in-Ok-clause-unsupported c =
@@ -24,7 +24,7 @@ pub returns-in-Ok-clause-signature : goal.returns-in-Ok-clause-signature
 returns-in-Ok-clause-signature c fault is = absurd (no_fault signature_bytes cause c.args.signature.now c.in-Ok.made (whole signature_at c.args.signature.now) fault is c.in-Ok.ensures.keeps)
 
 pub returns-in-Err-clause-raised : goal.returns-in-Err-clause-raised
-returns-in-Err-clause-raised c = none_under _ _ _ _ _ _ _ c.error_number.ensures.some c.error_number.ensures.apart (λ _ g _ made. c.in-Err.ensures.accepts g made)
+returns-in-Err-clause-raised c = none_under _ _ _ _ _ _ _ _ (refl, refl) c.error_number.ensures.some c.error_number.ensures.apart (λ _ g _ made. c.in-Err.ensures.accepts g made)
 
 pub returns-in-Err-clause-unsupported : goal.returns-in-Err-clause-unsupported
 returns-in-Err-clause-unsupported c _ g _ made _ _ = absurd (c.in-Err.ensures.accepts g made)

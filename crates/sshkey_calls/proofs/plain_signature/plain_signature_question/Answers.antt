@@ -1,4 +1,4 @@
-use Rattle.std.proofs.Common.{ℕ, List, subst, sym}
+use Rattle.std.proofs.Common.{ℕ, List, refl, subst, sym}
 use Rattle.sshkey_base.specs.Acceptance.{SpellsSome}
 use Rattle.sshkey_base.specs.Causes.{cause}
 use Rattle.sshkey_keys.specs.Keys.{SpellsKey, key_data_at}
@@ -18,7 +18,7 @@ ask_under-requires c =
 pub returns-in-Ok-clause-raised : goal.returns-in-Ok-clause-raised
 returns-in-Ok-clause-raised c =
     let same = kept_bytes key_bytes cause c.args.key.now c.in-Ok.signer (whole key_data_at c.args.key.now) c.in-Ok.ensures.keeps in
-    subst (λ (b : List ℕ). Asks (RaisedUnder b c.args.message.now c.args.signature.now) c.ask_under.result c.ask_under.new.answer c.args.room.now c.ask_under.new.room) same c.ask_under.ensures.raised
+    subst (λ (b : List ℕ). Asks (RaisedUnder b c.args.message.now c.args.signature.now) c.ask_under.result c.args.answer.now c.ask_under.new.answer c.args.room.now c.ask_under.new.room) same c.ask_under.ensures.raised
 
 pub returns-in-Ok-clause-unsupported : goal.returns-in-Ok-clause-unsupported
 returns-in-Ok-clause-unsupported c =
@@ -32,7 +32,7 @@ pub returns-in-Ok-clause-memory : goal.returns-in-Ok-clause-memory
 returns-in-Ok-clause-memory c one = (c.in-Ok.ensures.accepts, c.ask_under.ensures.memory one)
 
 pub returns-in-Err-clause-raised : goal.returns-in-Err-clause-raised
-returns-in-Err-clause-raised c = none_under _ _ _ _ _ _ _ c.error_number.ensures.some c.error_number.ensures.apart (λ k _ by _. c.in-Err.ensures.accepts k by)
+returns-in-Err-clause-raised c = none_under _ _ _ _ _ _ _ _ (refl, refl) c.error_number.ensures.some c.error_number.ensures.apart (λ k _ by _. c.in-Err.ensures.accepts k by)
 
 pub returns-in-Err-clause-unsupported : goal.returns-in-Err-clause-unsupported
 returns-in-Err-clause-unsupported c k _ by _ _ _ = absurd (c.in-Err.ensures.accepts k by)

@@ -23,4 +23,4 @@ pub returns-in-Ok : goal.returns-in-Ok
 returns-in-Ok c =
     let split = c.in-Ok.ensures.accepts in
     let shape : drop c.args.place c.args.bytes.now ≡ flat (string c.in-Ok.string.now) ++ c.in-Ok.behind.now = sym (whole_slice c.args.bytes.now c.args.place) ∙ split.all ∙ ap (λ (x : List ℕ). x ++ c.in-Ok.behind.now) split.spelled.shape in
-    finds c.args.bytes.now c.args.place c.in-Ok.string.now c.in-Ok.behind.now c.if-bytes-place.false shape (subst (λ (l : List ℕ). string_at l ≡ Ok (c.in-Ok.string.now, c.in-Ok.behind.now)) (whole_slice c.args.bytes.now c.args.place) (given_is (λ (p : Bor (List ℕ) × Bor (List ℕ)). (p.0.now, p.1.now)) encoding_cause _ (c.in-Ok.string, c.in-Ok.behind) c.in-Ok.ensures.gives))
+    finds c.args.bytes.now c.args.place c.in-Ok.string.now c.in-Ok.behind.now c.if-bytes-place.false shape _ (subst (λ (l : List ℕ). string_at l ≡ Ok (c.in-Ok.string.now, c.in-Ok.behind.now)) (whole_slice c.args.bytes.now c.args.place) (given_is (λ (p : Bor (List ℕ) × Bor (List ℕ)). (p.0.now, p.1.now)) encoding_cause _ (c.in-Ok.string, c.in-Ok.behind) c.in-Ok.ensures.gives))

@@ -1,6 +1,6 @@
 use Rattle.std.proofs.Common.{inl, inr, ap, sym, subst, ◌∙◌}
 use Rattle.sshkey_files.specs.HostNames.{AreFor}
-use Rattle.sshkey_public.specs.PublicKeys.{public_of}
+use Rattle.sshkey_public.specs.PublicKeys.{comment_of, public_of}
 use Rattle.sshkey_known_hosts.specs.HostEntries.{hosts_of, known_host_of}
 use Rattle.sshkey_known_hosts.specs.Verdicts.{is_authority_of}
 use Rattle.sshkey_known_hosts.specs.declared.host_patterns.HostPatterns.{HostPatterns}
@@ -21,6 +21,6 @@ returns-then-not-are_for g c line is =
 pub returns : goal.returns
 returns g c line is =
     let hmac = g.H.HmacSha1.hmac c.args.hmac.now in
-    an_authority hmac c.args.name.now line (known_host_of c.args.entry) is c.from.result (ap public_of (sym c.from.ensures))
+    an_authority hmac c.args.name.now line (known_host_of c.args.entry) is c.from.result (ap public_of (sym c.from.ensures)) (ap comment_of (sym c.from.ensures))
     (authority_mark c.args.entry.marker (ap is_authority_of (sym c.marker.ensures) ∙ sym c.is_authority.ensures ∙ c.if-not-is_authority.false))
     (subst (λ (x : HostPatterns). AreFor hmac c.args.name.now (hosts_of x)) c.host_patterns.ensures (c.are_for.ensures.0 c.if-not-are_for.false))
