@@ -13,6 +13,14 @@ returns-in_err-name-clause-gives g c =
     let p = err_from_is_err_and c.from_residual.result c.from_residual.ensures.1 in
     rw (p.1, p.2) (mapped_refused _ _ _ _ _ _ (checked_read (λ (e : List ℕ × List ℕ). Ok (Extension e.0 e.1)) (text_format then string_format).read) c.in_err-name.ensures.gives)
 
+pub returns-in_err-name-clause-later : goal.returns-in_err-name-clause-later
+returns-in_err-name-clause-later g c = c.in_err-name.ensures.later
+
+pub returns-in_err-name-clause-asks : goal.returns-in_err-name-clause-asks
+returns-in_err-name-clause-asks g c =
+    let p = err_from_is_err_and c.from_residual.result c.from_residual.ensures.1 in
+    rw (p.1, p.2) c.in_err-name.ensures.asks
+
 pub returns-in_err-name-clause-past : goal.returns-in_err-name-clause-past
 returns-in_err-name-clause-past g c =
     let p = err_from_is_err_and c.from_residual.result c.from_residual.ensures.1 in
@@ -20,3 +28,6 @@ returns-in_err-name-clause-past g c =
 
 pub returns-clause-gives : goal.returns-clause-gives
 returns-clause-gives g c = mapped_reads _ _ _ _ _ _ _ constraint_of _ c.in_ok-name.ensures.gives (checked_read (λ (e : List ℕ × List ℕ). Ok (Extension e.0 e.1)) (text_format then string_format).read) refl
+
+pub returns-clause-later : goal.returns-clause-later
+returns-clause-later g c = c.in_ok-name.ensures.later

@@ -12,6 +12,14 @@ returns-in_err-identities-clause-gives g c =
     let p = err_from_is_err_and c.from_residual.result c.from_residual.ensures.1 in
     rw (p.1, p.2) (mapped_refused _ _ _ _ _ _ (checked_read (λ (keys : List Identity). Ok (Identities keys)) (counted_format identity_format).read) c.in_err-identities.ensures.gives)
 
+pub returns-in_err-identities-clause-later : goal.returns-in_err-identities-clause-later
+returns-in_err-identities-clause-later g c = c.in_err-identities.ensures.later
+
+pub returns-in_err-identities-clause-asks : goal.returns-in_err-identities-clause-asks
+returns-in_err-identities-clause-asks g c =
+    let p = err_from_is_err_and c.from_residual.result c.from_residual.ensures.1 in
+    rw (p.1, p.2) c.in_err-identities.ensures.asks
+
 pub returns-in_err-identities-clause-past : goal.returns-in_err-identities-clause-past
 returns-in_err-identities-clause-past g c =
     let p = err_from_is_err_and c.from_residual.result c.from_residual.ensures.1 in
@@ -19,3 +27,6 @@ returns-in_err-identities-clause-past g c =
 
 pub returns-clause-gives : goal.returns-clause-gives
 returns-clause-gives g c = mapped_reads _ _ _ _ _ _ _ response_of _ c.in_ok-identities.ensures.gives (checked_read (λ (keys : List Identity). Ok (Identities keys)) (counted_format identity_format).read) refl
+
+pub returns-clause-later : goal.returns-clause-later
+returns-clause-later g c = c.in_ok-identities.ensures.later

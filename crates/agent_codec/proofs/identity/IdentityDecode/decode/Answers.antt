@@ -10,6 +10,14 @@ returns-in_err-key-clause-gives g c =
     let p = err_from_is_err_and c.from_residual.result c.from_residual.ensures.1 in
     rw (p.1, p.2) (mapped_refused _ _ _ _ _ _ identity_parts_read c.in_err-key.ensures.gives)
 
+pub returns-in_err-key-clause-later : goal.returns-in_err-key-clause-later
+returns-in_err-key-clause-later g c = c.in_err-key.ensures.later
+
+pub returns-in_err-key-clause-asks : goal.returns-in_err-key-clause-asks
+returns-in_err-key-clause-asks g c =
+    let p = err_from_is_err_and c.from_residual.result c.from_residual.ensures.1 in
+    rw (p.1, p.2) c.in_err-key.ensures.asks
+
 pub returns-in_err-key-clause-past : goal.returns-in_err-key-clause-past
 returns-in_err-key-clause-past g c =
     let p = err_from_is_err_and c.from_residual.result c.from_residual.ensures.1 in
@@ -17,3 +25,6 @@ returns-in_err-key-clause-past g c =
 
 pub returns-clause-gives : goal.returns-clause-gives
 returns-clause-gives g c = mapped_reads _ _ _ _ _ _ _ identity_of _ c.in_ok-key.ensures.gives identity_parts_read refl
+
+pub returns-clause-later : goal.returns-clause-later
+returns-clause-later g c = c.in_ok-key.ensures.later

@@ -11,6 +11,9 @@ returns-in_err-addition-clause-gives g c =
     let p = err_from_is_err_and c.from_residual.result c.from_residual.ensures.1 in
     rw (p.1, p.2) (mapped_refused _ _ _ _ _ _ (checked_read (λ (a : Addition). Ok (Add a)) addition_format.read) c.in_err-addition.ensures.gives)
 
+pub returns-in_err-addition-clause-later : goal.returns-in_err-addition-clause-later
+returns-in_err-addition-clause-later g c = c.in_err-addition.ensures.later
+
 pub returns-in_err-addition-clause-asks : goal.returns-in_err-addition-clause-asks
 returns-in_err-addition-clause-asks g c =
     let p = err_from_is_err_and c.from_residual.result c.from_residual.ensures.1 in
@@ -23,3 +26,6 @@ returns-in_err-addition-clause-past g c =
 
 pub returns-clause-gives : goal.returns-clause-gives
 returns-clause-gives g c = mapped_reads _ _ _ _ _ _ _ request_of _ c.in_ok-addition.ensures.gives (checked_read (λ (a : Addition). Ok (Add a)) addition_format.read) refl
+
+pub returns-clause-later : goal.returns-clause-later
+returns-clause-later g c = c.in_ok-addition.ensures.later
