@@ -1,5 +1,5 @@
 -- What the messages of an SSH agent hold (draft-miller-ssh-agent, section 4): values, how they are written, and their formats.
-use Rattle.std.proofs.Common.{ℕ, List, Option, Result, Ok, refl}
+use Rattle.std.proofs.Common.{◌≡◌, ℕ, List, Option, Result, Ok, Err, true, false, refl}
 use Rattle.std.specs.Int.{w32}
 use Rattle.ssh_key.specs.base.Formats.{Format, number32_format, string_format, text_format}
 use Rattle.ssh_key.specs.base.Leaves.{SpellsNumber32, SpellsString, number32_normal, string_normal}
@@ -10,10 +10,14 @@ use Rattle.ssh_key.specs.keypairs.KeypairFormats.{keypair_format}
 use Rattle.ssh_key.specs.keypairs.KeypairReaders.{SpellsKeypair}
 use Rattle.ssh_key.specs.keypairs.Keypairs.{keypair_parts, pair_of}
 use Rattle.ssh_key.specs.keypairs.NormalPairs.{IsWellFormedPair, keypair_normal}
+use Rattle.ssh_key.specs.keypairs.PairKinds.{is_encrypted}
 use Rattle.ssh_key.specs.model.KeyPairs.{KeyPair}
 use Rattle.ssh_key.specs.model.Parts.{Parts, number, ◌&◌, flat, Fits}
 use Rattle.ssh_key.specs.model.Reading.{Fault}
 use Rattle.ssh_key.specs.model.Texts.{string, IsText}
+use Rattle.ssh_key.specs.types.Error.{Error}
+use Rattle.ssh_key.specs.types.Error.TheVariants.{Encrypted}
+use Rattle.ssh_key.specs.types.private.KeypairData.{KeypairData}
 use Rattle.agent_codec.specs.Parts.{both_spelled}
 use Rattle.agent_codec.specs.declared.addition.Addition as code_addition
 use Rattle.agent_codec.specs.declared.identity.Identity as code_identity
@@ -65,6 +69,15 @@ pub record Addition : Type 0 where
 abbrev pub addition_of : code_addition.Addition → Addition
 addition_of a = record { pair = pair_of a.keypair; comment = a.comment }
 
+-- the pair in it
+abbrev pub pair_in : code_addition.Addition → KeypairData
+pair_in a = a.keypair
+
+-- The pair and the comment, or `Encrypted` for an encrypted pair.
+abbrev pub MakesAddition : KeypairData → List ℕ → Result code_addition.Addition Error → Type 0
+MakesAddition pair comment (Ok a) = (is_encrypted pair ≡ false) × (pair_in a ≡ pair) × (a.comment ≡ comment)
+MakesAddition pair comment (Err e) = (is_encrypted pair ≡ true) × (e ≡ Encrypted)
+
 abbrev pub addition : code_addition.Addition → Parts
 addition a = keypair_parts a.keypair & string a.comment
 
@@ -74,7 +87,7 @@ addition_of_parts a = Ok (record { pair = a.0; comment = a.1 })
 abbrev pub addition_format : Format Addition
 addition_format = tested addition_of_parts (keypair_format then text_format)
 
--- The pair is no encrypted one, and the comment is a text.
+-- The pair is one that its format has, and the comment is a text.
 abbrev pub IsWellFormedAddition : code_addition.Addition → Type 0
 IsWellFormedAddition a = IsWellFormedPair (pair_of a.keypair) × IsText a.comment
 

@@ -1,8 +1,7 @@
 //! A key pair that an agent is given.
 
-ghost use Rattle.std.specs.Prelude.{◌+◌, ◌^◌};
-ghost use Rattle.agent_codec.specs.Records as model;
-ghost use Rattle.agent_codec.specs.Records.{IsWellFormedAddition, addition, addition_format, addition_normal, addition_of};
+ghost use Rattle.std.specs.Prelude.{◌≡◌, ◌+◌, ◌^◌, false};
+ghost use Rattle.ssh_key.specs.keypairs.PairKinds.{is_encrypted};
 
 use ssh_key::encoding::{
     Decode, Encode, NormalForm, Reader, Text, Then, Wide, Writer, both_len, encode_both,
@@ -11,13 +10,13 @@ use ssh_key::private::KeypairData;
 use ssh_key::{Error, Result, encoding};
 use std::alloc::Global;
 
-/// A key pair and what the user calls it (draft-miller-ssh-agent, section 4.2).
+/// A key pair and what the user calls it (draft-miller-ssh-agent, section 4.2). The pair is never
+/// an encrypted one.
 pub struct Addition {
-    /// The pair. Of an encrypted one the ciphertext alone is written, where an agent reads a name
-    /// and a pair, so ask `is_encrypted` of a key that was read before it is added.
-    pub keypair: KeypairData,
+    keypair: KeypairData,
     /// What the user calls it.
     pub comment: Text,
+    pub ghost form: { is_encrypted keypair ≡ false },
 }
 
 impl Drop for Addition {
@@ -29,10 +28,36 @@ impl Drop for Addition {
     }
 }
 
+impl Addition {
+    ghost use Rattle.agent_codec.specs.Records.{MakesAddition, pair_in};
+
+    /// The pair and what the user calls it. Fails with `Encrypted` exactly for an encrypted pair:
+    /// an agent is given a pair, and no ciphertext.
+    pub fn new(keypair: KeypairData, comment: Text) -> Result<Addition>
+        ensures { MakesAddition keypair comment result }
+    {
+        if keypair.is_encrypted() {
+            return Err(Error::Encrypted);
+        }
+        Ok(Addition { keypair, comment })
+    }
+
+    /// The pair.
+    pub fn keypair(&self) -> &KeypairData
+        ensures value { result.now ≡ pair_in self.now }
+        ensures form { is_encrypted result.now ≡ false }
+    {
+        &self.keypair
+    }
+}
+
 /// The pair after its name, and a string. An encrypted pair is never read, and a pair with a
 /// certificate is none: its name fails with `Label`.
 #[tactic(auto, using(ssh_key::proofs::Mapped::mapped, crate::specs::Records::addition_parts_read))]
 impl Decode for Addition {
+    ghost use Rattle.agent_codec.specs.Records as model;
+    ghost use Rattle.agent_codec.specs.Records.{addition_format, addition_of};
+
     type Error = Error;
 
     ghost Meaning = { model.Addition };
@@ -48,6 +73,8 @@ impl Decode for Addition {
 }
 
 impl Encode for Addition {
+    ghost use Rattle.agent_codec.specs.Records.{addition};
+
     ghost normal = { addition };
 
     ghost max_len = { 2 ^ 63 + 2 ^ 32 + 3 };
@@ -61,8 +88,10 @@ impl Encode for Addition {
     }
 }
 
-/// An encrypted pair is not well-formed: it is not spelled by itself.
+/// The pair is one that its format has, and the comment is UTF-8.
 impl NormalForm for Addition {
+    ghost use Rattle.agent_codec.specs.Records.{IsWellFormedAddition, addition_normal};
+
     ghost IsWellFormed = { IsWellFormedAddition };
 
     ghost normal_spells = { addition_normal };
