@@ -1,6 +1,6 @@
 //! Lines of authorized_keys and known_hosts, and the options of an entry.
 
-ghost use Rattle.std.specs.Prelude.{◌≡◌};
+ghost use Rattle.std.specs.Prelude.{◌≡◌, ◌≢◌};
 ghost use Rattle.std.specs.Str.{IsUtf8};
 ghost use Rattle.sshkey_authorized_keys.specs.OpenSshFaults as keys;
 ghost use Rattle.sshkey_files.specs.OpenSshLines.{IsAuthorizedLine, IsHostLine};
@@ -32,9 +32,11 @@ pub extern "C" fn sshkey_authorized_entry(
     answer: &mut EntryParts,
 ) -> u32
     ensures entry { IsUtf8 line.now → FindsEntry (IsAuthorizedLine line.now) of_authorized_key
-        result answer.new room.old room.new }
+        result answer.old answer.new room.old room.new }
     ensures fault { IsUtf8 line.now → TellsFault keys.HasLineFault line.now result }
     ensures text { (IsUtf8 line.now → ⊥) → result ≡ 4 }
+    ensures stays { result ≢ 0 → result ≢ 2
+        → (answer.new ≡ answer.old) × (room.new ≡ room.old) }
     ensures memory { result ≡ 1 → NeedsAuthorizedEntry line.now }
 {
     authorized_entry(alloc, line, room, answer)
@@ -50,8 +52,10 @@ pub extern "C" fn sshkey_entry_option(
     answer: &mut OptionParts,
 ) -> u32
     ensures option { IsUtf8 options.now → FindsOption options.now number
-        result answer.new room.old room.new }
+        result answer.old answer.new room.old room.new }
     ensures text { (IsUtf8 options.now → ⊥) → result ≡ 4 }
+    ensures stays { result ≢ 0 → result ≢ 2
+        → (answer.new ≡ answer.old) × (room.new ≡ room.old) }
 {
     nth_option(alloc, options, number, room, answer)
 }
@@ -65,9 +69,11 @@ pub extern "C" fn sshkey_known_host(
     answer: &mut EntryParts,
 ) -> u32
     ensures entry { IsUtf8 line.now → FindsEntry (IsHostLine line.now) of_known_host
-        result answer.new room.old room.new }
+        result answer.old answer.new room.old room.new }
     ensures fault { IsUtf8 line.now → TellsFault hosts.HasLineFault line.now result }
     ensures text { (IsUtf8 line.now → ⊥) → result ≡ 4 }
+    ensures stays { result ≢ 0 → result ≢ 2
+        → (answer.new ≡ answer.old) × (room.new ≡ room.old) }
     ensures memory { result ≡ 1 → hosts.NeedsHostLine line.now }
 {
     known_host(alloc, line, room, answer)

@@ -28,44 +28,49 @@ numbered number options (Some o) passing is = is
 
 -- ---- in the room
 
-pub writes : (o : KeyOption) (content before after : List ℕ) (filled : Bool) (answer : OptionParts) (n : ℕ) → IsLaidOut o content answer → Fills content before filled after → (filled ≡ true → n ≡ 0) → (filled ≡ false → n ≡ 2) → WritesOption o n answer before after
-writes o content before after true answer n laid filled done short = record {
+pub writes : (o : KeyOption) (content before after : List ℕ) (filled : Bool) (was answer : OptionParts) (n : ℕ) → IsLaidOut o content answer → Fills content before filled after → (filled ≡ true → n ≡ 0) → (filled ≡ false → n ≡ 2) → WritesOption o n was answer before after
+writes o content before after true was answer n laid filled done short = record {
   written = λ _. record { content = subst (λ (c : List ℕ). after ≡ c ++ drop (length c) before) laid.0 filled; placed = laid.1 };
   short = λ two. absurd (omega (arith, done refl, two));
   others = λ not_zero _. absurd (not_zero (done refl));
+  stays = λ not_zero _. absurd (not_zero (done refl));
 }
-writes o content before after false answer n laid filled done short = record {
+writes o content before after false was answer n laid filled done short = record {
   written = λ zero_. absurd (omega (arith, short refl, zero_));
   short = λ _. record { needed = laid.1.length; short = subst (λ (c : List ℕ). length before < length c) laid.0 filled.1; stays = filled.0 };
   others = λ _ not_two. absurd (not_two (short refl));
+  stays = λ _ not_two. absurd (not_two (short refl));
 }
 
 -- ---- the option of a number
 
-pub finds : (text : List ℕ) (number : ℕ) (found : Option KeyOption) (n : ℕ) (answer : OptionParts) (before after : List ℕ) → IsOptionOf text number found → TellsOption found n answer before after → FindsOption text number n answer before after
-finds text number (Some o) n answer before after is tells = record {
+pub finds : (text : List ℕ) (number : ℕ) (found : Option KeyOption) (n : ℕ) (was answer : OptionParts) (before after : List ℕ) → IsOptionOf text number found → TellsOption found n was answer before after → FindsOption text number n was answer before after
+finds text number (Some o) n was answer before after is tells = record {
   found = λ zero_. (o, is, tells.written zero_);
   short = λ two. (o, is, tells.short two);
   memory = λ _. (o, is);
   last = λ three. absurd (omega (arith, three, tells.others (λ z. omega (arith, three, z)) (λ z. omega (arith, three, z))));
   none = λ fifteen _. absurd (omega (arith, fifteen, tells.others (λ z. omega (arith, fifteen, z)) (λ z. omega (arith, fifteen, z))));
   others = λ not_zero not_one not_two _. absurd (not_one (tells.others not_zero not_two));
+  stays = tells.stays;
 }
-finds text number None n answer before after is three = record {
-  found = λ zero_. absurd (omega (arith, three, zero_));
-  short = λ two. absurd (omega (arith, three, two));
-  memory = λ one. absurd (omega (arith, three, one));
+finds text number None n was answer before after is tells = record {
+  found = λ zero_. absurd (omega (arith, tells.0, zero_));
+  short = λ two. absurd (omega (arith, tells.0, two));
+  memory = λ one. absurd (omega (arith, tells.0, one));
   last = λ _. is;
-  none = λ fifteen _. absurd (omega (arith, three, fifteen));
-  others = λ _ _ _ other. absurd (other three);
+  none = λ fifteen _. absurd (omega (arith, tells.0, fifteen));
+  others = λ _ _ _ other. absurd (other tells.0);
+  stays = λ _ _. tells.1;
 }
 
-pub finds_none : (text : List ℕ) (number n : ℕ) (answer : OptionParts) (before after : List ℕ) → n ≡ 15 → (HasKeyOptions text → ⊥) → FindsOption text number n answer before after
-finds_none text number n answer before after fifteen none = record {
+pub finds_none : (text : List ℕ) (number n : ℕ) (was answer : OptionParts) (before after : List ℕ) → (answer ≡ was) × (after ≡ before) → n ≡ 15 → (HasKeyOptions text → ⊥) → FindsOption text number n was answer before after
+finds_none text number n was answer before after same fifteen none = record {
   found = λ zero_. absurd (omega (arith, fifteen, zero_));
   short = λ two. absurd (omega (arith, fifteen, two));
   memory = λ one. absurd (omega (arith, fifteen, one));
   last = λ three. absurd (omega (arith, fifteen, three));
   none = λ _. none;
   others = λ _ _ _ _. fifteen;
+  stays = λ _ _. same;
 }

@@ -64,11 +64,12 @@ pub record IsTooShort (x : EntryText) (answer : EntryParts) (before after : List
   pub short : length before < length (content_of x)
   pub stays : after ≡ before
 
--- What a call answers that looks for an entry: 0 with the parts of one, 1 for memory, which says nothing, 2 where there is one, and the room is too short for it; and every other number where there is none.
-pub record FindsEntry {A : Type 0} (IsEntry : A → Type 0) (text_of : A → EntryText) (n : ℕ) (answer : EntryParts) (before after : List ℕ) : Type 0 where
+-- What a call answers that looks for an entry: 0 with the parts of one, 1 for memory, which says nothing, 2 where there is one, and the room is too short for it; and every other number where there is none. But for 0 and 2, answer and room stay as they were.
+pub record FindsEntry {A : Type 0} (IsEntry : A → Type 0) (text_of : A → EntryText) (n : ℕ) (was answer : EntryParts) (before after : List ℕ) : Type 0 where
   pub found : n ≡ 0 → (a : A) × IsEntry a × IsWritten (text_of a) answer before after
   pub short : n ≡ 2 → (a : A) × IsEntry a × IsTooShort (text_of a) answer before after
   pub none : n ≢ 0 → n ≢ 1 → n ≢ 2 → (a : A) → IsEntry a → ⊥
+  pub stays : n ≢ 0 → n ≢ 2 → (answer ≡ was) × (after ≡ before)
 
 -- The number is that of an error that names a fault of the line; 0, 1 and 2 name none.
 abbrev pub TellsFault : (List ℕ → Error → Type 0) → List ℕ → ℕ → Type 0

@@ -52,25 +52,27 @@ pub record IsTooShort (o : KeyOption) (answer : OptionParts) (before after : Lis
   pub short : length before < length (option_bytes o)
   pub stays : after ≡ before
 
--- 0, and it was written; 2, and the room is too short; or 1, for memory.
-pub record WritesOption (o : KeyOption) (n : ℕ) (answer : OptionParts) (before after : List ℕ) : Type 0 where
+-- 0, and it was written; 2, and the room is too short; or 1, for memory, and nothing changed.
+pub record WritesOption (o : KeyOption) (n : ℕ) (was answer : OptionParts) (before after : List ℕ) : Type 0 where
   pub written : n ≡ 0 → IsWritten o answer before after
   pub short : n ≡ 2 → IsTooShort o answer before after
   pub others : n ≢ 0 → n ≢ 2 → n ≡ 1
+  pub stays : n ≢ 0 → n ≢ 2 → (answer ≡ was) × (after ≡ before)
 
--- 0 and the option of that number, 2 where there is one, and the room is too short for it, 3 where there are no more, 15 where the text is no list of options; and 1 is memory, and only where there is one.
-pub record FindsOption (text : List ℕ) (number n : ℕ) (answer : OptionParts) (before after : List ℕ) : Type 0 where
+-- 0 and the option of that number, 2 where there is one, and the room is too short for it, 3 where there are no more, 15 where the text is no list of options; and 1 is memory, and only where there is one. But for 0 and 2, answer and room stay as they were.
+pub record FindsOption (text : List ℕ) (number n : ℕ) (was answer : OptionParts) (before after : List ℕ) : Type 0 where
   pub found : n ≡ 0 → (o : KeyOption) × IsOptionOf text number (Some o) × IsWritten o answer before after
   pub short : n ≡ 2 → (o : KeyOption) × IsOptionOf text number (Some o) × IsTooShort o answer before after
   pub memory : n ≡ 1 → (o : KeyOption) × IsOptionOf text number (Some o)
   pub last : n ≡ 3 → IsOptionOf text number None
   pub none : n ≡ 15 → HasKeyOptions text → ⊥
   pub others : n ≢ 0 → n ≢ 1 → n ≢ 2 → n ≢ 3 → n ≡ 15
+  pub stays : n ≢ 0 → n ≢ 2 → (answer ≡ was) × (after ≡ before)
 
--- The option that was found; or 3, for there is none.
-abbrev pub TellsOption : Option KeyOption → ℕ → OptionParts → List ℕ → List ℕ → Type 0
-TellsOption (Some o) n answer before after = WritesOption o n answer before after
-TellsOption None n answer before after = n ≡ 3
+-- The option that was found; or 3, for there is none, and nothing changed.
+abbrev pub TellsOption : Option KeyOption → ℕ → OptionParts → OptionParts → List ℕ → List ℕ → Type 0
+TellsOption (Some o) n was answer before after = WritesOption o n was answer before after
+TellsOption None n was answer before after = (n ≡ 3) × (answer ≡ was) × (after ≡ before)
 
 -- ---- one by one
 

@@ -1,6 +1,6 @@
 //! Entries of lines, as OpenSSH reads them.
 
-ghost use Rattle.std.specs.Prelude.{◌≡◌, IfOk, option_map};
+ghost use Rattle.std.specs.Prelude.{◌≡◌, ◌≢◌, IfOk, option_map};
 ghost use Rattle.std.specs.Str.{IsUtf8};
 ghost use Rattle.sshkey_authorized_keys.specs.OpenSshEntries.{openssh_entry_of};
 ghost use Rattle.sshkey_authorized_keys.specs.OpenSshFaults as keys;
@@ -41,13 +41,15 @@ pub struct EntryParts {
 ///
 /// Returns 0 with the entry in the room, 2 where the room is too short for it, 1 if memory ran out,
 /// 4 for a line that is not UTF-8, and from 10 to 29 a fault of a line that is no entry. With 2 the
-/// answer says how much room is needed, and the room is as it was. Memory is taken only where a
-/// field of the line needs some, or for an entry.
+/// answer says how much room is needed, and the room is as it was; with every other number but 0
+/// answer and room are. Memory is taken only where a field of the line needs some, or for an entry.
 pub fn authorized_entry(alloc: Global, line: &[u8], room: &mut [u8], answer: &mut EntryParts) -> u32
     ensures entry { IsUtf8 line.now → FindsEntry (IsAuthorizedLine line.now) of_authorized_key
-        result answer.new room.old room.new }
+        result answer.old answer.new room.old room.new }
     ensures fault { IsUtf8 line.now → TellsFault keys.HasLineFault line.now result }
     ensures text { (IsUtf8 line.now → ⊥) → result ≡ 4 }
+    ensures stays { result ≢ 0 → result ≢ 2
+        → (answer.new ≡ answer.old) × (room.new ≡ room.old) }
     ensures memory { result ≡ 1 → NeedsAuthorizedEntry line.now }
 {
     match str::from_utf8(line) {
@@ -59,7 +61,7 @@ pub fn authorized_entry(alloc: Global, line: &[u8], room: &mut [u8], answer: &mu
 /// The same of a line that is a text.
 fn authorized_entry_of(alloc: Global, line: &str, room: &mut [u8], answer: &mut EntryParts) -> u32
     ensures entry { FindsEntry (IsAuthorizedLine line.now) of_authorized_key
-        result answer.new room.old room.new }
+        result answer.old answer.new room.old room.new }
     ensures fault { TellsFault keys.HasLineFault line.now result }
     ensures memory { result ≡ 1 → NeedsAuthorizedEntry line.now }
 {
@@ -77,7 +79,7 @@ fn tell_authorized_key(
     answer: &mut EntryParts,
 ) -> u32
     ensures { FindsEntry (λ a. a ≡ openssh_entry_of entry.now) of_authorized_key
-        result answer.new room.old room.new }
+        result answer.old answer.new room.old room.new }
 {
     let options = entry.options().as_str();
     answer_with(alloc, options, entry.public_key(), 0, room, answer)
@@ -89,9 +91,11 @@ fn tell_authorized_key(
 /// Returns what `authorized_entry` does. Memory is taken only where hosts stand in the line.
 pub fn known_host(alloc: Global, line: &[u8], room: &mut [u8], answer: &mut EntryParts) -> u32
     ensures entry { IsUtf8 line.now → FindsEntry (IsHostLine line.now) of_known_host
-        result answer.new room.old room.new }
+        result answer.old answer.new room.old room.new }
     ensures fault { IsUtf8 line.now → TellsFault hosts.HasLineFault line.now result }
     ensures text { (IsUtf8 line.now → ⊥) → result ≡ 4 }
+    ensures stays { result ≢ 0 → result ≢ 2
+        → (answer.new ≡ answer.old) × (room.new ≡ room.old) }
     ensures memory { result ≡ 1 → hosts.NeedsHostLine line.now }
 {
     match str::from_utf8(line) {
@@ -103,7 +107,7 @@ pub fn known_host(alloc: Global, line: &[u8], room: &mut [u8], answer: &mut Entr
 /// The same of a line that is a text.
 fn known_host_of(alloc: Global, line: &str, room: &mut [u8], answer: &mut EntryParts) -> u32
     ensures entry { FindsEntry (IsHostLine line.now) of_known_host
-        result answer.new room.old room.new }
+        result answer.old answer.new room.old room.new }
     ensures fault { TellsFault hosts.HasLineFault line.now result }
     ensures memory { result ≡ 1 → hosts.NeedsHostLine line.now }
 {
@@ -121,7 +125,7 @@ fn tell_known_host(
     answer: &mut EntryParts,
 ) -> u32
     ensures { FindsEntry (λ h. h ≡ known_host_of entry.now) of_known_host
-        result answer.new room.old room.new }
+        result answer.old answer.new room.old room.new }
 {
     match entry.host_patterns().to_string(alloc) {
         Ok(hosts) => {
@@ -160,7 +164,7 @@ fn answer_with(
     answer: &mut EntryParts,
 ) -> u32
     ensures { FindsEntry (λ x. x ≡ entry_text front.now (public_of key.now) (comment_of key.now)
-        marker) (λ x. x) result answer.new room.old room.new }
+        marker) (λ x. x) result answer.old answer.new room.old room.new }
 {
     match laid_out(alloc, front, key, marker) {
         Ok((content, parts)) => {

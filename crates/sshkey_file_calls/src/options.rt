@@ -1,6 +1,6 @@
 //! The options of an entry of authorized_keys, one at a time.
 
-ghost use Rattle.std.specs.Prelude.{◌≡◌, IfOk};
+ghost use Rattle.std.specs.Prelude.{◌≡◌, ◌≢◌, IfOk};
 ghost use Rattle.std.specs.Str.{IsUtf8};
 ghost use Rattle.sshkey_authorized_keys.specs.OpenSshItems.{key_option_of};
 ghost use Rattle.sshkey_file_calls.specs.Options.{CountsOn, FindsAt, FindsOption, IsLaidOut, TellsOption, WritesOption, found_option};
@@ -33,7 +33,8 @@ pub struct OptionParts {
 /// Returns 0 with the option in the room, 2 where the room is too short for it, 3 where there are
 /// no more than that number, 1 if memory ran out, 4 for bytes that are not UTF-8, and 15 where the
 /// text is no list of options, wherever the fault in it is. With 2 the answer says how much room is
-/// needed, and the room is as it was. All options are read at each call.
+/// needed, and the room is as it was; with every other number but 0 answer and room are. All
+/// options are read at each call.
 pub fn nth_option(
     alloc: Global,
     options: &[u8],
@@ -42,8 +43,10 @@ pub fn nth_option(
     answer: &mut OptionParts,
 ) -> u32
     ensures option { IsUtf8 options.now → FindsOption options.now number
-        result answer.new room.old room.new }
+        result answer.old answer.new room.old room.new }
     ensures text { (IsUtf8 options.now → ⊥) → result ≡ 4 }
+    ensures stays { result ≢ 0 → result ≢ 2
+        → (answer.new ≡ answer.old) × (room.new ≡ room.old) }
 {
     match str::from_utf8(options) {
         Ok(text) => nth_option_of(alloc, text, number, room, answer),
@@ -59,7 +62,7 @@ fn nth_option_of(
     room: &mut [u8],
     answer: &mut OptionParts,
 ) -> u32
-    ensures { FindsOption text.now number result answer.new room.old room.new }
+    ensures { FindsOption text.now number result answer.old answer.new room.old room.new }
 {
     match option_at(text, number) {
         Ok(found) => tell(alloc, found, room, answer),
@@ -74,7 +77,8 @@ fn tell(
     room: &mut [u8],
     answer: &mut OptionParts,
 ) -> u32
-    ensures { TellsOption (found_option found.entry) result answer.new room.old room.new }
+    ensures { TellsOption (found_option found.entry)
+        result answer.old answer.new room.old room.new }
 {
     match found {
         Some(option) => answer_with(alloc, &option, room, answer),
@@ -126,7 +130,8 @@ fn answer_with(
     room: &mut [u8],
     answer: &mut OptionParts,
 ) -> u32
-    ensures { WritesOption (key_option_of option.now) result answer.new room.old room.new }
+    ensures { WritesOption (key_option_of option.now)
+        result answer.old answer.new room.old room.new }
 {
     match laid_out(alloc, option) {
         Ok((content, parts)) => {

@@ -9,8 +9,8 @@ use Rattle.sshkey_file_calls.proofs.entries.tell_known_host.Goals as goal
 
 pub returns-in-Ok : goal.returns-in-Ok
 returns-in-Ok c =
-    found_entry _ of_known_host (known_host_of c.args.entry.now) _ _ _ _ refl
-    (same_text _ _ _ _ _ _ _ _ _ _
+    found_entry _ of_known_host (known_host_of c.args.entry.now) _ _ _ _ _ refl
+    (same_text _ _ _ _ _ _ _ _ _ _ _
     (c.as_str.ensures.value ∙ c.in-Ok.ensures.text ∙ ap (λ (h : HostPatterns). hosts_text (hosts_of h)) c.host_patterns.ensures)
     c.public_key.ensures
     (c.marker_number-marker.ensures ∙ ap (λ (m : Option Marker). marker_number (option_map marker_of m)) c.marker.ensures)
