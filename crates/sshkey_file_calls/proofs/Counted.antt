@@ -61,7 +61,7 @@ finds text number None n was answer before after is tells = record {
   last = λ _. is;
   none = λ fifteen _. absurd (omega (arith, tells.0, fifteen));
   others = λ _ _ _ other. absurd (other tells.0);
-  stays = λ _ _. tells.1;
+  stays = λ _ _. (tells.1, tells.2);
 }
 
 pub finds_none : (text : List ℕ) (number n : ℕ) (was answer : OptionParts) (before after : List ℕ) → (answer ≡ was) × (after ≡ before) → n ≡ 15 → (HasKeyOptions text → ⊥) → FindsOption text number n was answer before after
