@@ -3,6 +3,7 @@
 ghost use Rattle.std.specs.Prelude.{◌≡◌, ◌≢◌, ℕ, List, Result, IfErr, IfOk};
 ghost use Rattle.ssh_key.specs.keys.Keys.{key_of};
 ghost use Rattle.ssh_key.specs.keys.Signatures.{signature_of};
+ghost use Rattle.ssh_key.specs.model.Keys.{Key};
 ghost use Rattle.ssh_key.specs.model.Parts.{flat, BoxesFit};
 ghost use Rattle.ssh_key.specs.model.Verification.{IsAccepted};
 ghost use Rattle.ssh_key.specs.types.Error.{Error};
@@ -20,8 +21,16 @@ pub trait Agent {
     /// What it may answer to the bytes of a request, or fail with.
     ghost answers: { Self → List ℕ → Result (List ℕ) Error → Type 0 };
 
+    /// Which bytes it may be sent. Code over any agent knows of no others than `signs` says.
+    ghost permits: { Self → List ℕ → Type 0 };
+
+    /// Each request for a signature.
+    ghost signs: { (agent : Self) (key : Key) (flags : ℕ) (message : List ℕ)
+        → permits agent (flat (signing_request key flags message)) };
+
     /// Sends the bytes of a request, and returns those of the answer, with its frame.
     fn ask(&self, alloc: Global, request: &[u8]) -> Result<Vec<u8>>
+        requires { permits self.now request.now }
         ensures { answers self.now request.now (handed result) };
 }
 
