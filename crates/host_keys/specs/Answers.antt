@@ -1,5 +1,5 @@
 -- What is answered about a host, and why it is refused.
-use Rattle.std.specs.Prelude.{◌≡◌, ◌≢◌, ◌⊎◌, ℕ, List, Bool, Result, Ok, Err}
+use Rattle.std.specs.Prelude.{◌≡◌, ◌≢◌, ◌⊎◌, ◌<◌, ℕ, List, length, Bool, Result, Ok, Err}
 use Rattle.ssh_key.specs.model.Certificates.{Certificate}
 use Rattle.ssh_key.specs.model.Keys.{Key}
 use Rattle.ssh_key.specs.model.Verification.{Question}
@@ -15,6 +15,11 @@ use Rattle.host_keys.specs.declared.refusal.Refusal.TheVariants as refusal
 abbrev pub OkExactly : Type 0 → Result Unit Refusal → Type 0
 OkExactly Holds (Ok x) = Holds
 OkExactly Holds (Err e) = e ≢ refusal.Memory → Holds → ⊥
+
+-- Memory was refused only where a line may be an entry.
+abbrev pub AsksOfLines : List (List ℕ) → Result Unit Refusal → Type 0
+AsksOfLines lines (Ok x) = Unit {0}
+AsksOfLines lines (Err e) = e ≡ refusal.Memory → 0 < length lines
 
 -- The refusal is that of a certificate for the error, or memory ran out.
 abbrev pub Names : Error → Refusal → Type 0

@@ -8,7 +8,7 @@ ghost use Rattle.ssh_key.specs.model.Certificates.{IsCertificate};
 ghost use Rattle.ssh_key.specs.model.Keys.{normal_key};
 ghost use Rattle.ssh_key.specs.model.Parts.{BoxesFit};
 ghost use Rattle.ssh_key.specs.types.Error.TheVariants.{Memory};
-ghost use Rattle.host_keys.specs.Answers.{IsWhyNoCertificate, OkExactly};
+ghost use Rattle.host_keys.specs.Answers.{AsksOfLines, IsWhyNoCertificate, OkExactly};
 ghost use Rattle.host_keys.specs.Hosts.{IsBadFor, IsGoodFor, IsTrustedCertificate};
 
 use crate::refusal::{Refusal, answer};
@@ -24,7 +24,8 @@ use std::alloc::Global;
 /// that key or the certified one, and the certificate is one for hosts, without critical options,
 /// valid at that time for the host's name, which is given as the certificate lists it.
 ///
-/// Out of memory aside, it refuses all others: with `Revoked` where a line revokes one of the keys,
+/// Memory may run out only where a line may be an entry, so never of a text that is empty or has
+/// comments alone. Else it refuses all others: with `Revoked` where a line revokes one of the keys,
 /// else with `Unreadable` where a line that can't be read could be one for the host, else with
 /// `Unknown` where the key that signed is no authority of the host, and else with `Certificate` and
 /// what is wrong first: `CertificateFieldInvalid` with `CertType` or `CriticalOptions`, or a refusal
@@ -51,6 +52,7 @@ pub fn check_certificate<H: HmacSha1, V: RawVerifier>(
     ensures refused { IfErr result (IsWhyNoCertificate (H.hmac hmac.now) (V.accepts verifier.now)
         unix_timestamp host.now port (certificate_of certificate.now)
         (filled_lines known_hosts.now)) }
+    ensures asks { AsksOfLines (filled_lines known_hosts.now) result }
 {
     key_fits();
     let (key, signer) = (certificate.public_key(), certificate.signature_key());

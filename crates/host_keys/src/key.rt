@@ -3,7 +3,7 @@
 ghost use Rattle.std.specs.Prelude.{IfErr};
 ghost use Rattle.ssh_key.specs.entries.Fields.{filled_lines};
 ghost use Rattle.ssh_key.specs.keys.Keys.{key_of};
-ghost use Rattle.host_keys.specs.Answers.{IsWhyNoKey, OkExactly};
+ghost use Rattle.host_keys.specs.Answers.{AsksOfLines, IsWhyNoKey, OkExactly};
 ghost use Rattle.host_keys.specs.Hosts.{IsTrustedKey};
 
 use crate::refusal::{Refusal, answer};
@@ -16,7 +16,8 @@ use std::alloc::Global;
 /// Accepts the key that a host shows if the text of known_hosts, as OpenSSH reads it, lists the key
 /// for the host at that port, and revokes it in no line for it (`ssh_key::known_hosts::judge_key`).
 ///
-/// Out of memory aside, it refuses all others: with `Revoked` where a line revokes the key, else
+/// Memory may run out only where a line may be an entry, so never of a text that is empty or has
+/// comments alone. Else it refuses all others: with `Revoked` where a line revokes the key, else
 /// with `Unreadable` where a line that can't be read could be one for the host, else with `Changed`
 /// where other keys are listed for it, and else with `Unknown`.
 ///
@@ -34,6 +35,7 @@ pub fn check_key<H: HmacSha1>(
         (filled_lines known_hosts.now)) result }
     ensures refused { IfErr result (IsWhyNoKey (H.hmac hmac.now) host.now port (key_of key.now)
         (filled_lines known_hosts.now)) }
+    ensures asks { AsksOfLines (filled_lines known_hosts.now) result }
 {
     one_verdict();
     let Ok(verdict) = key_verdict(alloc, known_hosts, host, port, key, hmac) else {

@@ -1,7 +1,7 @@
 //! What known_hosts says of what a host shows.
 
 ghost use Rattle.std.specs.List.{Any};
-ghost use Rattle.std.specs.Prelude.{◌≡◌, ◌↔◌, IfErr, IfOk, IsTrue};
+ghost use Rattle.std.specs.Prelude.{◌≡◌, ◌↔◌, ◌<◌, IfErr, IfOk, IsTrue, length};
 ghost use Rattle.ssh_key.specs.entries.Fields.{filled_lines};
 ghost use Rattle.ssh_key.specs.entries.HostNames.{known_name};
 ghost use Rattle.ssh_key.specs.keys.Keys.{key_of};
@@ -20,7 +20,8 @@ use std::alloc::Global;
 /// The port at which a host is known by its plain name.
 const STANDARD_PORT: u16 = 22;
 
-/// What the text says of the host's key. Fails only when out of memory.
+/// What the text says of the host's key. Fails only when out of memory, and never of a text that is
+/// empty or has comments alone.
 pub(crate) fn key_verdict<H: HmacSha1>(
     alloc: Global,
     known_hosts: &str,
@@ -32,6 +33,7 @@ pub(crate) fn key_verdict<H: HmacSha1>(
     ensures answer { IfOk result (IsSaidOfKey (H.hmac hmac.now) host.now port (key_of key.now)
         (filled_lines known_hosts.now)) }
     ensures memory { IfErr result (λ e. e ≡ Memory) }
+    ensures asks { IfErr result (λ _. 0 < length (filled_lines known_hosts.now)) }
 {
     let verdict = judge_key(alloc, known_hosts, host, port, key, hmac)?;
     if is_settled(verdict, port) {
@@ -55,6 +57,7 @@ pub(crate) fn signed_verdict<H: HmacSha1>(
     ensures answer { IfOk result (IsSaidOfSigned (H.hmac hmac.now) host.now port
         (key_of key.now) (key_of signer.now) (filled_lines known_hosts.now)) }
     ensures memory { IfErr result (λ e. e ≡ Memory) }
+    ensures asks { IfErr result (λ _. 0 < length (filled_lines known_hosts.now)) }
 {
     let verdict = judge_signed(alloc, known_hosts, host, port, key, signer, hmac)?;
     if is_settled(verdict, port) {
@@ -84,6 +87,7 @@ fn judge_signed<H: HmacSha1>(
     ensures answer { IfOk result (IsVerdictOfSigned (H.hmac hmac.now) (known_name host.now port)
         (key_of key.now) (key_of signer.now) (filled_lines known_hosts.now)) }
     ensures memory { IfErr result (λ e. e ≡ Memory) }
+    ensures asks { IfErr result (λ _. 0 < length (filled_lines known_hosts.now)) }
 {
     let of_key = judge_key(alloc, known_hosts, host, port, key, hmac)?;
     let of_signer = judge_key(alloc, known_hosts, host, port, signer, hmac)?;
