@@ -1,15 +1,18 @@
 -- How a line of known_hosts is read as OpenSSH reads it, and why one is no entry.
-use Rattle.std.specs.Prelude.{◌≡◌, ◌≢◌, ℕ, List, ◌++◌, slice_index, Option, option_map, Result, Ok, Err}
+use Rattle.std.specs.Prelude.{◌≡◌, ◌≢◌, ℕ, List, ◌++◌, slice_index, Option, option_map, Result, Ok, Err, IfErr}
+use Rattle.sshkey_base.specs.Causes.{cause, NoMemory}
 use Rattle.sshkey_base.specs.declared.error.Error.{Error}
 use Rattle.sshkey_base.specs.declared.error.Error.TheVariants.{FormatEncoding}
+use Rattle.sshkey_files.specs.Answers.{ReadsEntry, RefusesFor}
 use Rattle.sshkey_files.specs.Entries.{hash, IsNoEntry}
 use Rattle.sshkey_files.specs.Fields.{without_blanks, IsField, EndsField}
 use Rattle.sshkey_files.specs.KnownHosts as known
 use Rattle.sshkey_files.specs.KnownHosts.{Hosts, IsHosts}
-use Rattle.sshkey_files.specs.OpenSshLines.{IsMarkedLine}
+use Rattle.sshkey_files.specs.OpenSshLines.{IsHostLine, IsMarkedLine}
 use Rattle.sshkey_files.specs.KeyFields.{HasKeyFault}
-use Rattle.sshkey_known_hosts.specs.HostEntries.{marker_of}
+use Rattle.sshkey_known_hosts.specs.HostEntries.{known_host_of, marker_of}
 use Rattle.sshkey_known_hosts.specs.HostFaults.{HasNoParts, RefusesHosts}
+use Rattle.sshkey_known_hosts.specs.declared.entry.Entry.{Entry}
 use Rattle.sshkey_known_hosts.specs.declared.marker.Marker.{Marker}
 use denote.Ref.{Bor}
 
@@ -45,3 +48,7 @@ pub record NeedsHostLine (line : List ℕ) : Type 0 where
   pub no_comment : slice_index (without_blanks line) 0 ≢ hash
   pub field : HasHostsField (without_blanks line) hosts rest
   pub some : HasNoParts hosts → ⊥
+
+-- One answer of a reader of lines: the entry of the line, or why it is none; and memory was refused only where it was needed.
+abbrev pub AnswersHostLine : List ℕ → Result Entry Error → Type 0
+AnswersHostLine line r = ReadsEntry known_host_of IsHostLine line r × RefusesFor HasLineFault line r × IfErr r (λ e. cause e ≡ NoMemory → NeedsHostLine line)

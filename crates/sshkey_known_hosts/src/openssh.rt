@@ -7,9 +7,9 @@ ghost use Rattle.sshkey_files.specs.Entries.{hash};
 ghost use Rattle.sshkey_files.specs.Fields.{filled_lines};
 ghost use Rattle.sshkey_files.specs.KnownHosts.{at_sign};
 ghost use Rattle.sshkey_files.specs.OpenSshLines.{IsHostLine};
-ghost use Rattle.sshkey_files.specs.Answers.{AnswersEntry, ReadsEntry, RefusesFor, YieldsAnswers};
+ghost use Rattle.sshkey_files.specs.Answers.{ReadsEntry, RefusesFor, YieldsAnswers};
 ghost use Rattle.sshkey_known_hosts.specs.HostEntries.{known_host_of};
-ghost use Rattle.sshkey_known_hosts.specs.OpenSshHosts.{HasLineFault, NeedsHostLine, SplitsMarkerField};
+ghost use Rattle.sshkey_known_hosts.specs.OpenSshHosts.{AnswersHostLine, HasLineFault, NeedsHostLine, SplitsMarkerField};
 
 use crate::entry::Entry;
 use crate::host_patterns::HostPatterns;
@@ -120,7 +120,7 @@ impl<'a> OpenSshKnownHosts<'a> {
 impl<'a> Iterator for OpenSshKnownHosts<'a> {
     type Item = Result<Entry>;
 
-    ghost next_gives = { YieldsAnswers (AnswersEntry known_host_of IsHostLine HasLineFault) };
+    ghost next_gives = { YieldsAnswers AnswersHostLine };
 
     ghost remaining = { item_count (λ left. left) };
 
