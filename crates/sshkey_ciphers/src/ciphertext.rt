@@ -20,9 +20,9 @@ use std::alloc::Global;
 /// Reads the string of a ciphertext, which has to be whole blocks of the cipher (OpenSSH,
 /// PROTOCOL.key).
 ///
-/// A sound source fails with `Vec<u8>` rejects it, or with `Crypto` where the ciphertext is no
-/// multiple of a block. Takes memory for the ciphertext alone, and none for a length that passes
-/// what is left, which is `Length`.
+/// Fails as `Vec<u8>::decode` does, and with `Crypto` if the bytes are not whole blocks of the
+/// cipher. Allocates only the ciphertext, and nothing for a length that exceeds the remaining
+/// input, which fails with `Length`.
 #[tactic(auto, using(sshkey_base::proofs::Steps::steps, sshkey_base::proofs::Stopping::stopping), unfolding(crate::specs::Ciphertexts::blocks_at))]
 pub fn ciphertext_from<R: Reader>(alloc: Global, reader: &mut R, cipher: Cipher) -> Result<Vec<u8>>
     ensures gives { Gives (λ v. v.items) cause (blocks_at (cipher_of cipher))

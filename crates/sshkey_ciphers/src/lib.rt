@@ -13,4 +13,4 @@ pub use cipher::Cipher;
 pub use ciphertext::{ciphertext_from, tag_from};
 pub use kdf::Kdf;
 pub use kdf_alg::KdfAlg;
-pub use padding::{encode_padded, end_padding};
+pub use padding::{encode_padded, padding_from};

@@ -20,7 +20,7 @@ use sshkey_base::{Encode, Error, Reader, Result, Writer, encoding};
 /// A sound source is rejected only with `Length` for more bytes, or with `FormatEncoding` for
 /// others. Does not allocate.
 #[tactic(auto, using(sshkey_base::proofs::Steps::steps))]
-pub fn end_padding<R: Reader>(reader: &mut R, most: u8) -> Result<()>
+pub fn padding_from<R: Reader>(reader: &mut R, most: u8) -> Result<()>
     ensures gives { Gives (λ u. u) cause (to_end (padding_end (suc most)))
         (R.source reader.old) result (R.source reader.new) }
     ensures later { Later (R.source reader.old) (R.source reader.new) }
@@ -55,8 +55,8 @@ fn is_rising(bytes: &[u8]) -> bool
 /// Writes the value, and after it 01, 02, 03 and so on up to a multiple of eight bytes (OpenSSH,
 /// PROTOCOL.key). Does not allocate.
 ///
-/// Fails with `Length` exactly if a box in the value would exceed 2^32 - 1 bytes; any other error
-/// is the writer's own. Then it holds what it held, and a beginning of these bytes.
+/// Fails with `Length` exactly if a string in the value would exceed 2^32 - 1 bytes; any other
+/// error is the writer's own. Then it holds what it held, and a beginning of these bytes.
 #[tactic(auto, using(sshkey_base::proofs::Writing::writing))]
 pub fn encode_padded<T: Encode, W: Writer>(value: &T, writer: &mut W) -> encoding::Result<()>
     ensures { Encodes W.fault (padded (T.normal value.now))

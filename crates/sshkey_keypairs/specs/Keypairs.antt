@@ -43,14 +43,25 @@ keypair_parts (kinds.Other k) = normal_keypair (opaque_pair_of k)
 
 -- the algorithm, under a private-use name the one that stands beside the public key
 abbrev pub stored_algorithm : KeypairData → Option Algorithm
+stored_algorithm (kinds.Dsa k) = Some (pair_algorithm (dsa_pair_of k))
+stored_algorithm (kinds.Ecdsa k) = Some (pair_algorithm (ecdsa_pair_of k))
+stored_algorithm (kinds.Ed25519 k) = Some (pair_algorithm (ed25519_pair_of k))
 stored_algorithm (kinds.Encrypted c) = None
+stored_algorithm (kinds.Rsa k) = Some (pair_algorithm (rsa_pair_of k))
+stored_algorithm (kinds.SkEcdsaSha2NistP256 k) = Some (pair_algorithm (sk_ecdsa_pair_of k))
+stored_algorithm (kinds.SkEd25519 k) = Some (pair_algorithm (sk_ed25519_pair_of k))
 stored_algorithm (kinds.Other k) = Some (algorithm_of k.public.algorithm)
-stored_algorithm k = option_map pair_algorithm (pair_of k)
 
 -- the ciphertext; a pair has none
 abbrev pub ciphertext_of : KeypairData → List ℕ
+ciphertext_of (kinds.Dsa k) = []
+ciphertext_of (kinds.Ecdsa k) = []
+ciphertext_of (kinds.Ed25519 k) = []
 ciphertext_of (kinds.Encrypted c) = c.items
-ciphertext_of k = []
+ciphertext_of (kinds.Rsa k) = []
+ciphertext_of (kinds.SkEcdsaSha2NistP256 k) = []
+ciphertext_of (kinds.SkEd25519 k) = []
+ciphertext_of (kinds.Other k) = []
 
 -- the pair and its algorithm, or the ciphertext
 abbrev pub pair_fields : KeypairData → Option KeyPair × (Option Algorithm × List ℕ)

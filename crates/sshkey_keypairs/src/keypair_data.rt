@@ -1,6 +1,6 @@
 //! Key pairs of any kind.
 
-ghost use Rattle.std.specs.Prelude.{◌≡◌, ◌≤◌, ◌+◌, ◌*◌, ◌^◌, true, false, Option, Some, None, Err, IfOk, IfErr, IfSome, IsOk, IsTrue, ◌||◌};
+ghost use Rattle.std.specs.Prelude.{◌≡◌, ◌^◌, true, false, Option, Some, None, Err, IfOk, IfErr, IfSome, IsOk, IsTrue, ◌||◌};
 ghost use Rattle.sshkey_base.specs.Causes.{cause};
 ghost use Rattle.sshkey_base.specs.Names.{algorithm_of, curve_of};
 ghost use Rattle.sshkey_base.specs.Needs.{Asks};
@@ -25,7 +25,7 @@ use sshkey_base::{
 };
 use sshkey_format::{Then, Wide};
 use sshkey_keys::KeyData;
-use sshkey_kinds::{EcdsaPublicKey, OpaquePublicKey, OpaquePublicKeyBytes};
+use sshkey_kinds::{OpaquePublicKey, OpaquePublicKeyBytes};
 use sshkey_pairs::{DsaKeypair, EcdsaKeypair, Ed25519Keypair, RsaKeypair};
 use std::alloc::Global;
 
@@ -110,13 +110,15 @@ impl KeypairData {
         }
     }
 
-    /// A copy of the pair under the same algorithm, or the same ciphertext,. Fails only when out of
-    /// memory.
+    /// A copy of the pair under the same algorithm, or of the ciphertext. Fails only when out of
+    /// memory, and of an ECDSA or an Ed25519 pair never.
     pub fn try_clone(&self, alloc: Global) -> Result<KeypairData>
         ensures value { IfOk result (λ k. pair_of k ≡ pair_of self.now) }
         ensures fields { IfOk result (λ k. pair_fields k ≡ pair_fields self.now) }
         ensures written { IfOk result (λ k. keypair_parts k ≡ keypair_parts self.now) }
         ensures refused { IfErr result (λ e. e ≡ Error.Memory) }
+        ensures in_place { IfSome (public_of self.now)
+            (λ k. IsTrue (is_ecdsa k || is_ed25519 k) → IsOk result) }
     {
         Ok(match self {
             KeypairData::Dsa(pair) => KeypairData::Dsa(pair.try_clone(alloc)?),

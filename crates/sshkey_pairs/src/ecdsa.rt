@@ -327,8 +327,8 @@ impl From<EcdsaKeypair> for EcdsaPublicKey {
 
 /// The public key, and the scalar.
 ///
-/// the errors of `EcdsaPublicKey`, and then those of `EcdsaPrivateKey`, as wide as the field of
-/// that key's curve.
+/// Fails with the errors of `EcdsaPublicKey`, and then with those of `EcdsaPrivateKey` for a scalar
+/// as wide as the field of that key's curve.
 #[tactic(auto, using(sshkey_format::proofs::Chosen::chosen, sshkey_format::proofs::Needless::needless_parts, crate::specs::PairFormats::ecdsa_pair_chosen))]
 impl Decode for EcdsaKeypair {
     type Error = Error;

@@ -1,6 +1,7 @@
 //! RSA key pairs.
 
-ghost use Rattle.std.specs.Prelude.{◌≡◌, ◌+◌, ◌*◌, ◌^◌, IfOk, IfErr};
+ghost use Rattle.std.specs.Fmt.{WritesStyledOnOk};
+ghost use Rattle.std.specs.Prelude.{◌≡◌, ◌+◌, ◌*◌, ◌^◌, IfOk, IfErr, Some, codes};
 ghost use Rattle.sshkey_model.specs.KeyPairs.{KeyPair, RsaPrivate, rsa_private, pair, Plain};
 
 use sshkey_base::{Decode, Encode, Error, Mpint, Reader, Result, Writer, encoding};
@@ -124,12 +125,15 @@ impl RsaKeypair {
     }
 }
 
-/// Shows the public key, and no private number.
+/// Shows `RsaKeypair { .. }`, whatever options the formatter has: no number of either half.
 impl fmt::Debug for RsaKeypair {
-    fn fmt<W: fmt::Write>(&self, f: &mut fmt::Formatter<W>) -> fmt::Result {
-        f.debug_struct("RsaKeypair")
-            .field("public", &self.public)
-            .finish_non_exhaustive()
+    ghost debug_output = { λ _. Some (codes "RsaKeypair { .. }") };
+
+    fn fmt<W: fmt::Write>(&self, f: &mut fmt::Formatter<W>) -> fmt::Result
+        ensures styled { WritesStyledOnOk W.write_str_gives f.old result
+            (codes "RsaKeypair { .. }") f.new }
+    {
+        f.write_str("RsaKeypair { .. }")
     }
 }
 
