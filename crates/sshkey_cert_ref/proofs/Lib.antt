@@ -11,3 +11,4 @@ pub mod Fields
 pub mod Certificates
 pub mod Spellings
 pub mod Answered
+pub mod KeysInPlace

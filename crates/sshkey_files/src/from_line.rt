@@ -32,7 +32,7 @@ pub trait FromLine: Drop + Sized {
         ensures fault { RefusesFor HasFault line.now result };
 }
 
-/// All entries of a text, in order, or the refusal of the first line that is none.
+/// All entries of a text, in order, or the error of the first line that is no entry.
 pub fn entries_of_text<E: FromLine>(alloc: Global, text: &str) -> Result<Vec<E>>
     ensures { ReadsEntries E.means E.IsEntry E.HasFault (entries text.now) result }
 {
@@ -45,7 +45,8 @@ pub fn entries_of_text<E: FromLine>(alloc: Global, text: &str) -> Result<Vec<E>>
 
 /// All entries of the text that a file holds, in order.
 ///
-/// the errors of `sshkey_input::text_of_file`, and then those of `entries_of_text`.
+/// Fails with the errors of `sshkey_input::text_of_file`, and then with those of
+/// `entries_of_text`.
 pub fn entries_of_file<R: Files, E: FromLine>(rt: &R, alloc: Global, path: &str) -> Result<Vec<E>>
     ensures { ReadsFile E.means E.IsEntry E.HasFault result }
 {

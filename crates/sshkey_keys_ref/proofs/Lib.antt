@@ -6,3 +6,4 @@ pub mod PlainHeads
 pub mod DigestedKeys
 pub mod KeysByKind
 pub mod Dispatching
+pub mod KeysOfOneSize

@@ -20,9 +20,9 @@ use sshkey_format::ReadFrom;
 /// (PROTOCOL.certkeys), and leaves what follows it. Does not allocate.
 ///
 /// The bytes taken are these very bytes, and spell the body of a key under the algorithm of that
-/// name. Fails with `Label` if it is no such name, and otherwise the fault that
-/// `KeyData::decode_as` answers under the algorithm: only where no front is such a body. After an
-/// error the slice is as it was.
+/// name. Fails with `Label` if it is no such name, and otherwise with the error of
+/// `KeyData::decode_as` under the algorithm, exactly if no front is such a body. After an error the
+/// slice is as it was.
 pub fn take_body<'a>(certificate_name: &str, bytes: &mut &'a [u8]) -> Result<&'a [u8]>
     ensures front { TakesBody cause certificate_name.now bytes.old.now result bytes.new.now }
     ensures spelled { CutsFront (SpellsCertifiedBody certificate_name.now)
@@ -39,8 +39,8 @@ pub fn take_body<'a>(certificate_name: &str, bytes: &mut &'a [u8]) -> Result<&'a
 /// Does not allocate.
 ///
 /// A front of the bytes spells the body of a key under the algorithm of that name, and this is the
-/// rest. Fails with `Label` if it is no such name, and otherwise the fault that
-/// `KeyData::decode_as` answers under the algorithm: only where no front is such a body.
+/// rest. Fails with `Label` if it is no such name, and otherwise with the error of
+/// `KeyData::decode_as` under the algorithm, exactly if no front is such a body.
 pub fn skip_body<'a>(certificate_name: &str, bytes: &'a [u8]) -> Result<&'a [u8]>
     ensures rest { Skips cause (certified_body_at certificate_name.now) bytes.now result }
     ensures spelled { PassesFront (SpellsCertifiedBody certificate_name.now) bytes.now result }

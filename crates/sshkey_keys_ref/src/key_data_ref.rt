@@ -32,6 +32,9 @@ pub struct KeyDataRef<'a> {
 
 impl<'a> KeyDataRef<'a> {
     ghost use Rattle.sshkey_base.specs.Answers.{Answers};
+    ghost use Rattle.std.specs.Prelude.{◌||◌, IsOk, IsTrue};
+    ghost use Rattle.sshkey_model.specs.Keys.{Key};
+    ghost use Rattle.sshkey_keys.specs.KeyKinds.{is_ecdsa, is_ed25519};
     ghost use Rattle.sshkey_keys.specs.Keys.{key_of};
     ghost use Rattle.sshkey_keys_ref.specs.KeyDataRef.{key_bytes};
     ghost use Rattle.sshkey_format.specs.Slices.{Keeps};
@@ -74,11 +77,13 @@ impl<'a> KeyDataRef<'a> {
     }
 
     /// The key in memory of its own, which is the one that the bytes spell, and so well-formed.
-    /// Fails only when out of memory.
+    /// Fails only when out of memory, and of an ECDSA or an Ed25519 key never.
     pub fn to_key_data(&self, alloc: Global) -> Result<KeyData>
         ensures value { Answers key_of cause (whole key_data_at (key_bytes self.now)) result }
         ensures spelled { IfOk result (λ k. SpellsKey (key_of k) (key_bytes self.now)) }
         ensures memory { IfErr result (λ e. cause e ≡ NoMemory) }
+        ensures in_place { (k : Key) → SpellsKey k (key_bytes self.now) →
+            IsTrue (is_ecdsa k || is_ed25519 k) → IsOk result }
     {
         decode_whole(alloc, self.bytes)
     }

@@ -23,7 +23,8 @@ IsVerdict hmac name key lines Unknown = ¬ IsRevoked hmac name key lines × ¬ H
 -- of an entry for the name with that marker, whose key is the one that is asked about or not
 abbrev pub marked_verdict_of : Option Marker → Bool → Verdict
 marked_verdict_of (Some marker.Revoked) true = Revoked
-marked_verdict_of (Some m) same = Unknown
+marked_verdict_of (Some marker.Revoked) false = Unknown
+marked_verdict_of (Some marker.CertAuthority) same = Unknown
 marked_verdict_of None true = Trusted
 marked_verdict_of None false = Changed
 

@@ -59,8 +59,8 @@ impl KnownHosts<'_> {
     /// All entries of the text that a file holds, in order.
     ///
     /// Fails with `Io` and the machine's fault if the file could not be read, with
-    /// `Io(InvalidData)` if it is not UTF-8, and else the refusal of the first line that is no
-    /// entry.
+    /// `Io(InvalidData)` if it is not UTF-8, with `Io(Other)` if its end is not met in 2^32 reads,
+    /// with `Memory`, and else with the error of the first line that is no entry.
     pub fn read_file<R: Files>(rt: &R, alloc: Global, path: &str) -> Result<Vec<Entry>>
         ensures { ReadsFile known_host_of IsKnownHost HasFault result }
     {

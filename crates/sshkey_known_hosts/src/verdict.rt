@@ -90,7 +90,7 @@ fn marked_verdict(marker: Option<Marker>, same: bool) -> Verdict
         (Some(Marker::Revoked), true) => Verdict::Revoked,
         (None, true) => Verdict::Trusted,
         (None, false) => Verdict::Changed,
-        _ => Verdict::Unknown,
+        (Some(Marker::Revoked), false) | (Some(Marker::CertAuthority), _) => Verdict::Unknown,
     }
 }
 

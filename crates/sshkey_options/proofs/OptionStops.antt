@@ -1,11 +1,10 @@
 -- How the reading of an option stops on any source.
 use Rattle.std.proofs.Common.{◌≡◌, ◌⊎◌, inl, inr, ℕ, Bool, true, false, cond, Option, List, Result, Ok, Err, refl}
-use Rattle.std.specs.Prelude.{IsOkAnd}
 use Rattle.sshkey_model.specs.Options.{CertificateOption}
 use Rattle.sshkey_model.specs.Reading.{Fault, Length, FormatEncoding, ◌>>=◌, Front}
 use Rattle.sshkey_model.specs.Texts.{text_at}
 use Rattle.sshkey_model.proofs.CombinedReaders.{bind_assoc}
-use Rattle.sshkey_base.specs.Causes.{Cause, NoMemory, Faulty}
+use Rattle.sshkey_base.specs.Causes.{Cause, Faulty}
 use Rattle.sshkey_base.specs.Lengths.{text_lengths, boxed_lengths}
 use Rattle.sshkey_base.specs.Needs.{NeedsString}
 use Rattle.sshkey_base.specs.Reading.{Reads}
@@ -15,7 +14,7 @@ use Rattle.sshkey_base.proofs.Stopping.{not_taken, read_past}
 use Rattle.sshkey_format.specs.Behind.{both_at, behind_at}
 use Rattle.sshkey_format.specs.Terms.{IsMapped}
 use Rattle.sshkey_format.proofs.Stopping.{stopped_first, stopped_later, mapped_stopped}
-use Rattle.sshkey_options.specs.OptionReaders.{value_front, option_box_at, may_follow, option_behind, NeedsOption, OverrunsValue, OverrunsOption}
+use Rattle.sshkey_options.specs.OptionReaders.{option_box_at, may_follow, option_behind, NeedsOption, OverrunsValue, OverrunsOption}
 use Rattle.sshkey_options.specs.OptionLists.{checked, value_lengths}
 
 -- a value that is read to the end of its string

@@ -1,10 +1,9 @@
 -- Types and times of certificates: what spells them, and their formats.
-use Rattle.std.specs.Prelude.{ℕ, List, Result, Ok, Err, if◌then◌else◌}
+use Rattle.std.specs.Prelude.{ℕ, List}
 use Rattle.std.specs.Int.{w64}
 use Rattle.sshkey_model.specs.Parts.{Any, number}
-use Rattle.sshkey_model.specs.Reading.{Fault, Time}
 use Rattle.sshkey_model.specs.Grammar.{IsGrammar, Spells}
-use Rattle.sshkey_model.specs.Certificates.{CertificateType, certificate_type, is_time, is_end, IsTime, IsEnd, type_at, time_at, end_at}
+use Rattle.sshkey_model.specs.Certificates.{CertificateType, certificate_type, IsTime, IsEnd, type_at, time_at, end_at}
 use Rattle.sshkey_model.proofs.CertificateReaders.{type_reads, time_reads, end_reads}
 use Rattle.sshkey_model.proofs.Grammars.{grammar}
 use Rattle.sshkey_base.specs.Formats.{Format}

@@ -1,6 +1,6 @@
 //! Critical options and extensions.
 
-ghost use Rattle.std.specs.Prelude.{◌≡◌, ◌+◌, ◌*◌, ◌^◌, ◌<◌, ◌≤◌, ℕ, List, [], length, IfOk, IfErr, OnErr, OnOk, map, option_map, is_some, IsTrue, ◌↔◌, All, String, string_bytes};
+ghost use Rattle.std.specs.Prelude.{◌≡◌, ◌+◌, ◌*◌, ◌^◌, ◌<◌, ◌≤◌, ℕ, List, [], length, IfOk, IfErr, IsOk, OnErr, OnOk, map, option_map, is_some, IsTrue, ◌↔◌, All, String, string_bytes};
 ghost use Rattle.std.specs.Global.{Global};
 ghost use Rattle.std.specs.Map.Iter.{ShowsInOrder, deref_pair};
 ghost use Rattle.std.specs.BTreeMap.{get_by_text, IsUnchanged};
@@ -9,10 +9,11 @@ ghost use Rattle.sshkey_model.specs.Options.{CertificateOption, AreOptions, norm
 ghost use Rattle.sshkey_base.specs.Causes.{cause};
 ghost use Rattle.sshkey_base.specs.Formats.{Stops};
 ghost use Rattle.sshkey_base.specs.Nested.{nested_source};
-ghost use Rattle.sshkey_base.specs.Needs.{Asks, NeedsString};
+ghost use Rattle.sshkey_base.specs.Needs.{Asks, NeedsBoxed, NeedsString};
 ghost use Rattle.sshkey_base.specs.Reading.{DecodesWide, Gives, to_end};
 ghost use Rattle.sshkey_base.specs.Source.{Later};
-ghost use Rattle.sshkey_base.specs.Stops.{OverrunsList, StopsToEnd};
+ghost use Rattle.sshkey_base.specs.Stops.{OverrunsList};
+ghost use Rattle.sshkey_format.specs.Contents.{StopsInBy};
 ghost use Rattle.sshkey_options.specs.OptionReaders.{item, option_list_at, options_value_at, options_normal, OverrunsOption};
 ghost use Rattle.sshkey_options.specs.OptionLists.{options_format};
 ghost use Rattle.sshkey_options.specs.OptionMaps.{IsNamedAmong, is_among, option_of, options_of};
@@ -43,11 +44,12 @@ impl OptionsMap {
     }
 
     /// The options of these pairs of a name and a value; of two of one name the later one counts.
-    /// Fails only when out of memory.
+    /// Fails only when out of memory, and never where there are no pairs.
     pub fn from_pairs(alloc: Global, pairs: Vec<(String, String)>) -> Result<OptionsMap>
         ensures value { IfOk result
             (λ m. options_of m ≡ with_options (map option_of pairs.items) []) }
         ensures memory { IfErr result (λ e. e ≡ Error.Memory) }
+        ensures in_place { pairs.items ≡ [] → IsOk result }
     {
         let mut options = OptionsMap::new(alloc);
         for (name, value) in pairs {
@@ -56,14 +58,17 @@ impl OptionsMap {
         Ok(options)
     }
 
-    /// A copy of the options. Fails only when out of memory.
+    /// A copy of the options. Fails only when out of memory, and never where there are none.
     ///
-    /// A map copies itself through the allocator that it holds: the one that is passed stands here
-    /// so that all copies are asked for alike.
-    pub fn try_clone(&self, _alloc: Global) -> Result<OptionsMap>
+    /// A map copies itself through the allocator that it holds.
+    pub fn try_clone(&self, alloc: Global) -> Result<OptionsMap>
         ensures value { IfOk result (λ m. options_of m ≡ options_of self.now) }
         ensures memory { IfErr result (λ e. e ≡ Error.Memory) }
+        ensures in_place { options_of self.now ≡ [] → IsOk result }
     {
+        if self.0.is_empty() {
+            return Ok(OptionsMap::new(alloc));
+        }
         Ok(OptionsMap(self.0.clone()?))
     }
 
@@ -163,7 +168,8 @@ impl From<OptionsMap> for BTreeMap<String, String> {
 /// A string of options: the string of a name, and a string that is empty or holds one text
 /// (PROTOCOL.certkeys). The names rise, by bytes.
 ///
-/// Fails with `FormatEncoding` if a name does not rise, and with the faults of strings and texts.
+/// Fails with `FormatEncoding` if a name does not rise, and with the faults of strings and texts. It
+/// fails with `Memory` only where the string of a first name stands in it.
 #[tactic(auto, using(sshkey_base::proofs::Boxes::boxes))]
 impl Decode for OptionsMap {
     type Error = Error;
@@ -178,7 +184,7 @@ impl Decode for OptionsMap {
         ensures gives { DecodesWide options_of options_value_at
             R.source reader.old result reader.new }
         ensures later { Later (R.source reader.old) (R.source reader.new) }
-        ensures asks { Asks cause NeedsString (R.source reader.old) result }
+        ensures asks { Asks cause (NeedsBoxed NeedsString) (R.source reader.old) result }
         ensures past { Stops cause options_format (R.source reader.old) result }
     {
         reader.read_prefixed(
@@ -187,7 +193,8 @@ impl Decode for OptionsMap {
                     (nested_source R.source part.old) result (nested_source R.source part.new) }
                 ensures later { Later (nested_source R.source part.old)
                     (nested_source R.source part.new) }
-                ensures past { StopsToEnd cause (OverrunsList item OverrunsOption)
+                ensures asks { Asks cause NeedsString (nested_source R.source part.old) result }
+                ensures past { StopsInBy cause NeedsString (OverrunsList item OverrunsOption)
                     (nested_source R.source part.old) result }
             { options_from(alloc, part) },
         )

@@ -1,8 +1,9 @@
 //! Parts of a certificate in memory of their own.
 
-ghost use Rattle.std.specs.Prelude.{◌≡◌, [], IfOk, IfErr};
+ghost use Rattle.std.specs.Prelude.{◌≡◌, ◌||◌, [], IfOk, IfErr, IsOk, IsTrue};
 ghost use Rattle.sshkey_base.specs.Causes.{NoMemory, cause};
 ghost use Rattle.sshkey_cert.specs.CertificateValues.{certificate_of as owned_certificate_of, comment_of};
+ghost use Rattle.sshkey_keys.specs.KeyKinds.{is_ecdsa, is_ed25519};
 ghost use Rattle.sshkey_keys.specs.Keys.{key_of};
 ghost use Rattle.sshkey_keys.specs.Signatures.{signature_of};
 ghost use Rattle.sshkey_model.specs.Keys.{IsKey};
@@ -15,23 +16,29 @@ use sshkey_keys::{KeyData, Signature};
 use std::alloc::Global;
 
 impl CertificateRef<'_> {
-    /// The key that is certified, which is well-formed. Fails only when out of memory.
+    /// The key that is certified, which is well-formed. Fails only when out of memory, and of an
+    /// ECDSA or an Ed25519 key never.
     pub fn public_key(&self, alloc: Global) -> Result<KeyData>
         ensures value { IfOk result (λ key. key_of key ≡ (certificate_of self.now).signed.key) }
         ensures well_formed { IfOk result (λ key. IsKey (key_of key)) }
         ensures memory { IfErr result (λ e. cause e ≡ NoMemory) }
+        ensures in_place { let key = (certificate_of self.now).signed.key in
+            IsTrue (is_ecdsa key || is_ed25519 key) → IsOk result }
     {
         let algorithm = Algorithm::new_certificate(alloc, self.parts.name)?;
         let mut body = self.parts.key;
         KeyData::decode_as(alloc, &mut body, algorithm)
     }
 
-    /// The key that signed, which is well-formed. Fails only when out of memory.
+    /// The key that signed, which is well-formed. Fails only when out of memory, and of an ECDSA or
+    /// an Ed25519 key never.
     pub fn signature_key(&self, alloc: Global) -> Result<KeyData>
         ensures value { IfOk result
             (λ key. key_of key ≡ (certificate_of self.now).signed.signature_key) }
         ensures well_formed { IfOk result (λ key. IsKey (key_of key)) }
         ensures memory { IfErr result (λ e. cause e ≡ NoMemory) }
+        ensures in_place { let key = (certificate_of self.now).signed.signature_key in
+            IsTrue (is_ecdsa key || is_ed25519 key) → IsOk result }
     {
         self.parts.signature_key.to_key_data(alloc)
     }

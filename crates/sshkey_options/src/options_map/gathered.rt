@@ -1,6 +1,6 @@
 //! Options that are gathered as they are read.
 
-ghost use Rattle.std.specs.Prelude.{◌≡◌, ◌∷◌, ◌++◌, [], true, map, option_map, string_bytes, IfOk, OnOk, IfErr};
+ghost use Rattle.std.specs.Prelude.{◌≡◌, ◌∷◌, ◌++◌, [], true, map, option_map, string_bytes, IfOk, OnOk, IfErr, IsOk};
 ghost use Rattle.sshkey_options.specs.OptionReaders.{may_follow};
 ghost use Rattle.sshkey_options.specs.OptionMaps.{option_of, options_of, name_at_end, NamesRise};
 ghost use Rattle.sshkey_options.specs.GatheredPairs.{gathered_pairs};
@@ -68,15 +68,19 @@ impl Gathered {
         }
     }
 
-    /// The map of the options. Fails only when out of memory.
+    /// The map of the options. Fails only when out of memory, and never where there are none.
     pub(super) fn into_map(self, alloc: Global) -> Result<OptionsMap>
         requires { NamesRise (gathered_pairs self) }
         ensures value { IfOk result (λ m. options_of m ≡ map option_of (gathered_pairs self)) }
         ensures memory { IfErr result (λ e. e ≡ Error.Memory) }
+        ensures in_place { gathered_pairs self ≡ [] → IsOk result }
     {
         match self {
             Gathered::Few(options) => Ok(OptionsMap(options)),
             Gathered::Many(pairs) => {
+                if pairs.is_empty() {
+                    return Ok(OptionsMap::new(alloc));
+                }
                 let options: BTreeMap<String, String> = pairs.into_iter().collect(alloc)?;
                 Ok(OptionsMap(options))
             }

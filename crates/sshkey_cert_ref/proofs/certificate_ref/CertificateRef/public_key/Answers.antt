@@ -11,6 +11,7 @@ use Rattle.sshkey_base.proofs.Judging.{only_memory}
 use Rattle.sshkey_cert.proofs.KeysOfCertificates.{certified_key_is}
 use Rattle.sshkey_cert_ref.proofs.Answered.{given_front, well_formed}
 use Rattle.sshkey_cert_ref.proofs.Certificates.{spelled_by, spells}
+use Rattle.sshkey_cert_ref.proofs.KeysInPlace.{body_in_place, name_listed}
 use Rattle.sshkey_cert_ref.proofs.Spellings.{name_is, body_is}
 use Rattle.sshkey_cert_ref.proofs.certificate_ref.CertificateRef.public_key.Goals as goal
 
@@ -41,3 +42,17 @@ pub returns-clause-well_formed : goal.returns-clause-well_formed
 returns-clause-well_formed c =
     let r = c.args.self.now in
     well_formed _ (certified_key_is _ (spells r.bytes.now r.form).is) c.decode_as.result (returns-clause-value c)
+
+pub returns-in_err-algorithm-clause-in_place : goal.returns-in_err-algorithm-clause-in_place
+returns-in_err-algorithm-clause-in_place c = λ is.
+    let r = c.args.self.now in
+    let listed = name_listed (spelled_in r.bytes.now).0.signed.key r.parts.name.now r.fields.name is in
+    let t = c.in_err-algorithm.ensures.fixed _ listed in absurd cc
+
+pub returns-clause-in_place : goal.returns-clause-in_place
+returns-clause-in_place c =
+    let r = c.args.self.now in
+    let s = spelled_by r.bytes.now r.form in
+    let is = name_is r.bytes.now (spelled_in r.bytes.now) s _ r.fields.name in
+    let same = ok_is (algorithm_of c.in_ok-algorithm.algorithm) _ (sym c.in_ok-algorithm.ensures.gives ∙ is) in
+    body_in_place cause (spelled_in r.bytes.now).0.signed.key _ r.parts.key.now c.decode_as.result same (returns-clause-memory c) c.decode_as.ensures.asks

@@ -3,6 +3,7 @@ use Rattle.sshkey_model.specs.Reading.{whole}
 use Rattle.sshkey_keys.specs.Keys.{key_of, key_data_at}
 use Rattle.sshkey_keys_ref.proofs.WalkedBodies.{taken_again}
 use Rattle.sshkey_keys.specs.Keys.{SpellsKey}
+use Rattle.sshkey_keys_ref.proofs.KeysOfOneSize.{never_refused}
 use Rattle.sshkey_keys_ref.proofs.Spelled.{spelled_of}
 use Rattle.sshkey_keys_ref.proofs.key_data_ref.KeyDataRef.to_key_data.Goals as goal
 
@@ -14,3 +15,6 @@ returns-clause-memory c = (taken_again key_of cause (whole key_data_at) c.args.s
 
 pub returns-clause-spelled : goal.returns-clause-spelled
 returns-clause-spelled c = spelled_of key_of SpellsKey cause c.args.self.now.bytes.now c.decode_whole.result c.decode_whole.ensures.accepts
+
+pub returns-clause-in_place : goal.returns-clause-in_place
+returns-clause-in_place c = λ k spelled is. never_refused k c.args.self.now.bytes.now c.decode_whole.result c.decode_whole.ensures.accepts c.decode_whole.ensures.asks spelled is

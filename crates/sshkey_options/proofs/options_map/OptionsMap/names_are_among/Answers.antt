@@ -1,6 +1,6 @@
 use Rattle.std.proofs.Common.{◌≡◌, ◌∙◌, true, false, refl, rules}
 use Rattle.std.specs.List.{list_all}
-use Rattle.sshkey_options.specs.OptionMaps.{IsNamedAmong, is_among, options_of}
+use Rattle.sshkey_options.specs.OptionMaps.{is_among, options_of}
 use Rattle.sshkey_options.proofs.OptionsAmong.{all_among}
 use Rattle.sshkey_options.proofs.options_map.OptionsMap.names_are_among.Goals as goal
 

@@ -4,6 +4,7 @@ use Rattle.sshkey_base.specs.Causes.{same_cause}
 use Rattle.sshkey_base.proofs.Steps.{refused_first, refused_later}
 use Rattle.std.specs.Prelude.{string_bytes}
 use Rattle.sshkey_options.specs.OptionReaders.{option_behind}
+use Rattle.sshkey_options.proofs.OptionNeeds.{text_read}
 use Rattle.sshkey_options.proofs.OptionStops.{name_stopped, value_stopped, order_stopped}
 use Rattle.sshkey_options.proofs.options_map.read.option_from.Goals as goal
 
@@ -12,6 +13,11 @@ unfolding option_behind
 returns-in_err-value-clause-gives g c =
     let p = err_from_is_err_and c.from_residual-in_err-value.result c.from_residual-in_err-value.ensures.1 in
     rw (p.1, p.2, same_cause c.in_err-value.field-0.0) (refused_later _ _ _ _ _ _ _ c.in_ok-name.ensures.gives (refused_first _ _ _ _ c.in_err-value.ensures.gives))
+
+pub returns-in_err-value-clause-asks : goal.returns-in_err-value-clause-asks
+returns-in_err-value-clause-asks g c =
+    let p = err_from_is_err_and c.from_residual-in_err-value.result c.from_residual-in_err-value.ensures.1 in
+    rw p.1 (λ memory sound. text_read string_bytes _ _ _ c.in_ok-name.ensures.gives)
 
 pub returns-in_err-name-clause-past : goal.returns-in_err-name-clause-past
 returns-in_err-name-clause-past g c =
