@@ -18,7 +18,7 @@ use std::alloc::Global;
 /// The next line that may be an entry: `sshkey_file_calls::next_line`.
 #[unsafe(no_mangle)]
 pub extern "C" fn sshkey_next_line(text: &[u8], place: usize, answer: &mut Part) -> u32
-    ensures { FindsLine text.now place result answer.new }
+    ensures { FindsLine text.now place result answer.old answer.new }
 {
     next_line(text, place, answer)
 }
