@@ -100,7 +100,7 @@ static void ask_signature(blob signature, blob space, blob message) {
   sshkey_sha256 signer;
   memset(&question, FILLED, sizeof question);
   memset(&signer, FILLED, sizeof signer);
-  uint32_t answer = sshkey_signature_question(
+  uint32_t answer = sshkey_sshsig_question(
       signature.bytes, signature.length, space.bytes, space.length, message.bytes, message.length,
       room.bytes, room.length, &question, &signer);
   say_question(answer, &question, room);
@@ -164,7 +164,7 @@ static void ask_strings(blob bytes) {
   for (size_t at = 0; at <= bytes.length + 4; at++) {
     size_t place = at <= bytes.length ? at : places[at - bytes.length - 1];
     sshkey_part part = {7, 7};
-    uint32_t answer = sshkey_string(bytes.bytes, bytes.length, place, &part);
+    uint32_t answer = sshkey_next_string(bytes.bytes, bytes.length, place, &part);
     printf("%s%" PRIu32, at ? " " : "", answer);
     if (answer == SSHKEY_DONE) printf(":%zu:%zu", part.start, part.length);
   }

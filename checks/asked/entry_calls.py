@@ -278,7 +278,7 @@ def check_verdicts(count, built, sshkey, draw, folder, hosts):
     said = asked(count, built, "hosts", questions)
     wrong = []
     for (shown, *given, verdict, authority), answer in zip(cases, said):
-        found = judged_by_python(sshkey.judge_host, *given), judged_by_python(sshkey.judge_authority, *given)
+        found = judged_by_python(sshkey.host_verdict, *given), judged_by_python(sshkey.authority_verdict, *given)
         if (verdict, authority) != found or answer != " ".join(str(int(sshkey.Status[it])) for it in found):
             wrong.append((shown, answer, found, verdict, authority))
     name = f"{len(cases)} verdicts on the keys of hosts and authorities are what ssh-keygen -F finds"

@@ -62,7 +62,7 @@ static void ask_plain(blob key, blob message, blob signature) {
   blob room = made(key.length + message.length + signature.length + 256);
   sshkey_question question;
   memset(&question, FILLED, sizeof question);
-  uint32_t answer = sshkey_plain_signature_question(key.bytes, key.length, message.bytes,
+  uint32_t answer = sshkey_signature_question(key.bytes, key.length, message.bytes,
                                                     message.length, signature.bytes,
                                                     signature.length, room.bytes, room.length,
                                                     &question);
@@ -74,7 +74,7 @@ static void ask_is_plain(blob key, blob message, blob signature) {
   blob room = made(key.length + message.length + signature.length + 256);
   sshkey_question question;
   memset(&question, 0, sizeof question);
-  uint32_t answer = sshkey_plain_signature_question(key.bytes, key.length, message.bytes,
+  uint32_t answer = sshkey_signature_question(key.bytes, key.length, message.bytes,
                                                     message.length, signature.bytes,
                                                     signature.length, room.bytes, room.length,
                                                     &question);
@@ -89,8 +89,8 @@ typedef uint32_t normal_call(const uint8_t *bytes, size_t length, uint8_t *room,
 static normal_call *normal_of(const char *kind) {
   if (!strcmp(kind, "key")) return sshkey_key_normal;
   if (!strcmp(kind, "certificate")) return sshkey_certificate_normal;
-  if (!strcmp(kind, "signature")) return sshkey_signature_normal;
-  return sshkey_plain_signature_normal;
+  if (!strcmp(kind, "signature")) return sshkey_sshsig_normal;
+  return sshkey_signature_normal;
 }
 
 static int is_normal_kept(normal_call *call, blob bytes, size_t length, size_t needed) {

@@ -183,7 +183,7 @@ def signed_by(maker, key):
 
 def said_of_plain(sshkey, *given):
     try:
-        asked = sshkey.plain_signature_question(*given)
+        asked = sshkey.signature_question(*given)
     except sshkey.Refused as refused:
         return f"{int(refused.status)}"
     return f"0 {int(asked.algorithm)} " + " ".join(map(part_of, (asked.key, asked.message, asked.signature)))
@@ -192,7 +192,7 @@ def said_of_plain(sshkey, *given):
 def check_plain(asked, sshkey, check, maker, kinds):
     signed = [signed_by(maker, f"user{number}") for number in range(len(kinds))]
     for number, (kind, (key, message, signature)) in enumerate(zip(kinds, signed)):
-        question = sshkey.plain_signature_question(key, message, signature)
+        question = sshkey.signature_question(key, message, signature)
         blob = all_of(signature)[1]
         parts = (question.key, question.message, question.signature) == (key, message, blob)
         others = [(key, message + b"!", signature), *((key, message, it) for it in turned(signature))]
@@ -214,7 +214,7 @@ def question_of(key, message, signature):
 
 def is_valid(sshkey, check, *given):
     try:
-        return check.is_signature(sshkey.plain_signature_question(*given))
+        return check.is_signature(sshkey.signature_question(*given))
     except sshkey.Refused:
         return False
 
@@ -224,7 +224,7 @@ def check_plain_parts(asked, sshkey, keys):
     flags, message = b"\1\0\0\0\5", b"what was signed"
     device = hashlib.sha256(b"ssh:").digest() + flags + hashlib.sha256(message).digest()
     signature = string(b"sk-ssh-ed25519@openssh.com") + string(bytes(range(64))) + flags
-    question = sshkey.plain_signature_question(keys["sk-ed25519"], message, signature)
+    question = sshkey.signature_question(keys["sk-ed25519"], message, signature)
     same = (question.key, question.message, question.signature) == (keys["ed25519"], device, bytes(range(64)))
     asked.count.check("a security key's question is about the plain key and what the device signed", same, question)
     plain = string(b"ssh-ed25519") + string(bytes(64))
@@ -300,8 +300,8 @@ def check_normal(asked, sshkey, maker, keys):
 
 def normal_by_python(sshkey, kind):
     return {
-        "key": sshkey.normal_key, "certificate": sshkey.normal_certificate, "signature": sshkey.normal_signature,
-        "plain": sshkey.normal_plain_signature,
+        "key": sshkey.normal_key, "certificate": sshkey.normal_certificate, "signature": sshkey.normal_sshsig,
+        "plain": sshkey.normal_signature,
     }[kind]  # fmt: skip
 
 

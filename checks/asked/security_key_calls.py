@@ -194,7 +194,7 @@ def check_window(judges, key, certificate, window, is_verified):
     maker, said, middle = judges.maker, judges.check.said, window[0]
     signature = with_signer(maker.signature("user1", "text"), certificate)
     for principal, second, wanted in (
-        ("alice", middle, "DONE"), ("eve", middle, "OTHER_PRINCIPAL"), ("alice", 0, "OUT_OF_WINDOW"),
+        ("alice", middle, "DONE"), ("eve", middle, "UNLISTED_PRINCIPAL"), ("alice", 0, "OUT_OF_WINDOW"),
         ("alice", 2 * middle, "OUT_OF_WINDOW"),
     ):  # fmt: skip
         found = judges.of_certificates([certificate_line(certificate)], key.line(), principal, second)
@@ -289,7 +289,7 @@ def check_zero_in_principal(judges, key, middle, is_verified):
         found = judges.of_certificates([certificate_line(made)], key.line(), "alice", middle)
         file = with_signer(judges.maker.signature("user0", "text"), made)
         judged = is_verified(judges.maker.folder, "zero", file, "text", "alice", middle, f"alice cert-authority {key.line()}")
-        refused = judges.check.said(judges.sshkey.Status.OTHER_PRINCIPAL)
+        refused = judges.check.said(judges.sshkey.Status.UNLISTED_PRINCIPAL)
         same = judged == is_taken and found == ([refused],) * 2
         judges.count.check(f"the principal {principal!r} is not alice", same, found, f"ssh-keygen: {judged}")
 

@@ -103,7 +103,7 @@ static uint32_t are_options_met(blob certificate, const login *asked) {
   if (answer != SSHKEY_DONE) return answer;
   const uint8_t *options = certificate.bytes + parts.critical_options.start;
   size_t length = parts.critical_options.length, place = 0;
-  while ((answer = sshkey_certificate_option(options, length, place, &option)) == SSHKEY_DONE) {
+  while ((answer = sshkey_next_option(options, length, place, &option)) == SSHKEY_DONE) {
     if (!asked->is_met ||
         !asked->is_met(options + option.name.start, option.name.length,
                        options + option.value.start, option.value.length, asked->given))
@@ -134,7 +134,7 @@ uint32_t validate_user(blob certificate, const login *asked) {
   sshkey_fields fields;
   memset(&fields, 0, sizeof fields);
   /* judge takes no principal for any */
-  if (!asked->user) return SSHKEY_OTHER_PRINCIPAL;
+  if (!asked->user) return SSHKEY_UNLISTED_PRINCIPAL;
   uint32_t answer = judge(certificate, asked->unix_time, asked->user, asked->by);
   if (answer == SSHKEY_DONE)
     answer = sshkey_certificate_fields(certificate.bytes, certificate.length, &fields);
@@ -156,10 +156,10 @@ const char *meaning(uint32_t answer) {
   case SSHKEY_LENGTH: return "a length that passes the bytes";
   case SSHKEY_TRAILING_DATA: return "bytes behind the end";
   case SSHKEY_NOT_SIGNED: return "not signed";
-  case SSHKEY_OTHER_AUTHORITY: return "another authority";
-  case SSHKEY_NO_TIME: return "a time too late to be one";
+  case SSHKEY_UNTRUSTED_AUTHORITY: return "another authority";
+  case SSHKEY_INVALID_TIME: return "a time too late to be one";
   case SSHKEY_OUT_OF_WINDOW: return "not valid at that time";
-  case SSHKEY_OTHER_PRINCIPAL: return "another principal";
+  case SSHKEY_UNLISTED_PRINCIPAL: return "another principal";
   case JUDGE_NOT_FOR_USERS: return "not for users";
   case JUDGE_NOBODY_LISTED: return "no principals";
   case JUDGE_UNMET_OPTION: return "a critical option that is not known or not met";

@@ -22,7 +22,7 @@ WORDS = {
 
 def judge(texts, host, port, key):
     """The first verdict of those that the texts give, in the order of WORDS; HOST_UNKNOWN where there are no texts."""
-    said = {sshkey.judge_host(text, host, port, key) for text in texts}
+    said = {sshkey.host_verdict(text, host, port, key) for text in texts}
     return next((it for it in WORDS if it in said), Status.HOST_UNKNOWN)
 
 

@@ -44,7 +44,7 @@ pub extern "C" fn sshkey_authorized_entry(
 
 /// The option of that number: `sshkey_file_calls::nth_option`.
 #[unsafe(no_mangle)]
-pub extern "C" fn sshkey_entry_option(
+pub extern "C" fn sshkey_nth_option(
     alloc: Global,
     options: &[u8],
     number: usize,

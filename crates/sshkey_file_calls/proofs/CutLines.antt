@@ -208,7 +208,3 @@ module _ (text left line behind filled : List ℕ) (place : ℕ) (some : 0 < len
     none = λ other. absurd (other refl);
     stays = λ other. absurd (other refl);
   }
-
-pub finds_none : (text left : List ℕ) (place : ℕ) (answer : Part) → IsLeft text place left → length left ≡ 0 → FindsLine text place 3 answer answer
-finds_none text [] place answer was none = record { found = λ z. absurd (cc z); within = λ z. absurd (cc z); none = λ _. (was.same, refl); stays = λ _. refl }
-finds_none text (c ∷ left) place answer was none = absurd (omega (arith, none))
