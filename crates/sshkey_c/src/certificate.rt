@@ -10,7 +10,7 @@ ghost use Rattle.sshkey_model.specs.Verification.{Question as TheQuestion};
 ghost use Rattle.sshkey_calls.specs.Fields.{GivesFields};
 ghost use Rattle.sshkey_calls.specs.Numbers.{fault_number};
 ghost use Rattle.sshkey_calls.specs.Questions.{GivesQuestion, RaisedBy, TellsNone};
-ghost use Rattle.sshkey_calls.specs.Validity.{IsGood, IsGoodFor, Says, TellsFirst, TellsFirstFor, Verified, authorities_of};
+ghost use Rattle.sshkey_calls.specs.Validations.{IsGood, IsGoodFor, Says, TellsFirst, TellsFirstFor, Verified, authorities_of};
 
 use sshkey_calls::{
     CertificateFields, Question, Sha256Digest, certificate_fields, certificate_question,

@@ -4,7 +4,7 @@ pub mod Strings
 pub mod Questions
 pub mod Digests
 pub mod SshSignatures
-pub mod Validity
+pub mod Validations
 pub mod KeyLines
 pub mod NormalForms
 pub mod Signatures

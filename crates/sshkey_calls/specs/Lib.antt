@@ -5,7 +5,7 @@ pub mod Fields
 pub mod Fingerprints
 pub mod Questions
 pub mod SshSignatures
-pub mod Validity
+pub mod Validations
 pub mod KeyLines
 pub mod NormalForms
 pub mod Signatures

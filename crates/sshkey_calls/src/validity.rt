@@ -11,7 +11,7 @@ ghost use Rattle.sshkey_model.specs.Reading.{Fault, whole};
 ghost use Rattle.sshkey_model.specs.Refusals.{first_refusal, first_refusal_for};
 ghost use Rattle.sshkey_model.specs.Verification.{Question};
 ghost use Rattle.sshkey_calls.specs.Numbers.{fault_number, refusal_number};
-ghost use Rattle.sshkey_calls.specs.Validity.{IsGood, IsGoodFor, Says, TellsFirst, TellsFirstFor, Verified, authorities_of, is_yes};
+ghost use Rattle.sshkey_calls.specs.Validations.{IsGood, IsGoodFor, Says, TellsFirst, TellsFirstFor, Verified, authorities_of, is_yes};
 
 use crate::digest::{Sha256Digest, fingerprints};
 use crate::number::{MEMORY, TEXT, error_number, refusal_number};

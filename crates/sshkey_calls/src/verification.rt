@@ -1,7 +1,7 @@
 //! What the caller's verification said.
 
 ghost use Rattle.std.specs.Prelude.{◌≡◌};
-ghost use Rattle.sshkey_calls.specs.Validity.{is_yes};
+ghost use Rattle.sshkey_calls.specs.Validations.{is_yes};
 
 use sshkey_base::Algorithm;
 use sshkey_keys::{KeyData, RawVerifier};

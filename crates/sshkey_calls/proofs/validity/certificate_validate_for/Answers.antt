@@ -1,5 +1,5 @@
 use Rattle.std.proofs.Common.{◌≡◌, ℕ, List, rules, subst}
-use Rattle.sshkey_calls.specs.Validity.{TellsFirstFor, authorities_of}
+use Rattle.sshkey_calls.specs.Validations.{TellsFirstFor, authorities_of}
 use Rattle.sshkey_calls.proofs.validity.certificate_validate_for.Goals as goal
 
 pub returns-in-Ok-clause-first : goal.returns-in-Ok-clause-first

@@ -2,9 +2,9 @@ use Rattle.sshkey_base.specs.Causes.{cause}
 use Rattle.sshkey_cert_ref.specs.CertificateRef.{certificate_bytes, certificate_of}
 use Rattle.sshkey_model.specs.Certificates.{certificate_at}
 use Rattle.sshkey_model.specs.Reading.{whole}
-use Rattle.sshkey_calls.specs.Validity.{authorities_of}
+use Rattle.sshkey_calls.specs.Validations.{authorities_of}
 use Rattle.sshkey_calls.proofs.Kept.{never_memory, no_fault}
-use Rattle.sshkey_calls.proofs.Validity.{first_told_for, none_first_for, none_good_for, says_good_for}
+use Rattle.sshkey_calls.proofs.Validations.{first_told_for, none_first_for, none_good_for, says_good_for}
 use Rattle.sshkey_calls.proofs.validity.validate_for.Goals as goal
 
 pub returns-in-Ok-clause-exactly : goal.returns-in-Ok-clause-exactly

@@ -14,7 +14,7 @@ use Rattle.sshkey_base.specs.Reading.{NoSpelling}
 use Rattle.sshkey_cert.specs.CertificateReaders.{SpellsCertificate, certificate_grammar}
 use Rattle.sshkey_cert.specs.Questions.{certificate_question}
 use Rattle.sshkey_calls.specs.Numbers.{refusal_number}
-use Rattle.sshkey_calls.specs.Validity.{IsGood, IsGoodFor, Says, TellsFirst, TellsFirstFor, Verified, is_yes}
+use Rattle.sshkey_calls.specs.Validations.{IsGood, IsGoodFor, Says, TellsFirst, TellsFirstFor, Verified, is_yes}
 
 -- the bytes spell one certificate only
 pub one_spelled : (c d : Certificate) (bytes : List ℕ) → SpellsCertificate c bytes → SpellsCertificate d bytes → c ≡ d
