@@ -98,8 +98,8 @@ static void ask_verdict(blob text, blob host, const char *port, blob key) {
   printf("%" PRIu32 " %" PRIu32,
          sshkey_host_verdict(text.bytes, text.length, host.bytes, host.length, number, key.bytes,
                              key.length),
-         sshkey_authority_verdict(text.bytes, text.length, host.bytes, host.length, number, key.bytes,
-                               key.length));
+         sshkey_authority_verdict(text.bytes, text.length, host.bytes, host.length, number,
+                                  key.bytes, key.length));
 }
 
 static void ask_of_files(char **words, blob first) {

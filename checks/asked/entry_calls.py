@@ -301,6 +301,8 @@ def check_example(count, folder, hosts):
     for host, port, wanted, status in (
         ("H.example", 22, ["trusted", "changed", "revoked"], 1), ("h.example", 2222, ["trusted", "changed", "changed"], 1),
         ("other.example", 22, ["changed", "trusted", "changed"], 1), ("x.example", 22, ["unknown"] * 3, 1),
+        ("other.example", 2222, ["changed", "trusted", "changed"], 1), ("h.example", 2200, ["trusted", "changed", "revoked"], 1),
+        ("x.example", 2222, ["unknown"] * 3, 1),
     ):  # fmt: skip
         ran = run([sys.executable, script, host, str(port), path], input=given)
         same = ran.stdout.split() == wanted and ran.returncode == status

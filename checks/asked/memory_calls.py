@@ -13,8 +13,8 @@ SPANS, NUMBERS = 7, 5
 # with a room, and so with one that is too short
 ROOMS = {
     "certificate_question", "certificate_key", "certificate_to_be_signed", "certificate_make", "read_line", "fingerprint_text",
-    "fingerprint_sha512_text", "signature_question", "sshsig_question", "key_normal", "certificate_normal",
-    "sshsig_normal", "signature_normal", "authorized_entry", "known_host", "nth_option",
+    "fingerprint_sha512_text", "signature_question", "sshsig_question", "key_normal", "certificate_normal", "sshsig_normal",
+    "signature_normal", "authorized_entry", "known_host", "nth_option",
 }  # fmt: skip
 # those that take memory only where the bytes are values, and of these those that take it only for a key under another name than
 # its own, as the header says
@@ -39,9 +39,9 @@ def of_certificate(blob, authority, second):
         yield f"certificate_{call}", [blob + b"!"], [], "TRAILING_DATA"
     yield "certificate_make", [blob[:signed], blob[signed + 4 :]], [], "DONE"
     yield "certificate_make", [blob[:signed], blob[signed + 4 : -1]], [], "LENGTH"
-    for verified, wanted in ((1, "DONE"), (0, "NOT_SIGNED")):
-        yield "certificate_validate", [blob, b"", by], [second, verified], wanted
-        yield "certificate_validate_for", [blob, alice, by], [second, verified], wanted
+    for is_verified, wanted in ((1, "DONE"), (0, "NOT_SIGNED")):
+        yield "certificate_validate", [blob, b"", by], [second, is_verified], wanted
+        yield "certificate_validate_for", [blob, alice, by], [second, is_verified], wanted
     yield "certificate_validate", [blob, b"", by], [0, 1], "OUT_OF_WINDOW"
     yield "certificate_validate", [blob, b"", bytes(32)], [second, 1], "UNTRUSTED_AUTHORITY"
     yield "certificate_validate", [blob[:-1], b"", by], [second, 1], "LENGTH"
@@ -113,8 +113,8 @@ def of_drafts(key, authority):
     yield "certificate_to_be_signed", [key[:-1], *spans[1:]], [7, 1, 2, 1, 0], "LENGTH"
     yield "next_option", [options], [0], "DONE"
     yield "next_option", [options], [1], "LENGTH"
-    yield "string", [options], [0], "DONE"
-    yield "string", [options], [len(options)], "END"
+    yield "next_string", [options], [0], "DONE"
+    yield "next_string", [options], [len(options)], "END"
 
 
 def cases(maker, kinds, second):

@@ -12,7 +12,7 @@ from cryptography.hazmat.primitives.asymmetric import ec, ed25519, utils
 from lib.harness import ssh_keygen, string, take
 from lib.signatures import mpint, signed_data
 
-from .key_calls import part_of, question_of, said_of_plain, turned
+from .key_calls import part_of, question_of, said_of_signature, turned
 from .linked import run
 
 TOUCHED, VERIFIED = 1, 4
@@ -302,7 +302,7 @@ def check_turned_signature(judges, key, signed):
     valid = [at for at, it in enumerate(by_c[: len(others)]) if it == "0 1"]
     name = f"of {len(others)} keys and signatures of {key.kind} with a bit turned"
     judges.count.check(f"{name} libcrypto verifies none", len(by_c) == 2 * len(others) and not valid, valid)
-    same = by_c[len(others) :] == [said_of_plain(judges.sshkey, *it) for it in others]
+    same = by_c[len(others) :] == [said_of_signature(judges.sshkey, *it) for it in others]
     judges.count.check(f"{name} C and Python ask the same", same)
 
 

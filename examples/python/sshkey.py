@@ -3,8 +3,8 @@
 Cryptography is yours. A certificate takes two calls, with your verification between them:
 
     question = sshkey.certificate_question(certificate)
-    verified = is_signature(question)  # yours: True or False
-    status = sshkey.validate_certificate(certificate, now, authorities, verified, principal="alice")
+    is_verified = is_signature(question)  # yours: True or False
+    status = sshkey.validate_certificate(certificate, now, authorities, is_verified, principal="alice")
 
 It is valid exactly if the status is Status.DONE; any other says what is wrong first. An SSH signature takes one call: it is
 valid exactly if sshsig_question gives a question, your verification of it says yes, and the signer is one of yours.
@@ -20,27 +20,27 @@ from dataclasses import dataclass
 
 
 class Status(enum.IntEnum):
-    """What a call returns."""
+    """What a call returns; sshkey.h says of each what it means."""
 
     DONE = 0
     MEMORY = 1
     ROOM = 2
     END = 3
-    TEXT = 4
+    TEXT = 4  # read_line is refused with CHARACTER_ENCODING for a line that is not UTF-8
     BASE64 = 10
     CHARACTER_ENCODING = 11
     LABEL = 12
     LENGTH = 13
     TRAILING_DATA = 14
     FORMAT = 15
-    ALGORITHM_UNKNOWN = 16
-    CRYPTO = 17
+    ALGORITHM_UNKNOWN = 16  # two names differ that have to be one, or a point begins with 00 or 05
+    CRYPTO = 17  # a number in a signature is not positive, or the curve of a security key is not P-256
     ECDSA = 18
     TIME = 19
     NAMESPACE = 20
-    PUBLIC_KEY = 21
+    PUBLIC_KEY = 21  # never returned: a fault of private keys
     VERSION = 22
-    OTHER_FAULT = 23
+    OTHER_FAULT = 23  # never returned
     NOT_SIGNED = 30
     UNTRUSTED_AUTHORITY = 31
     INVALID_TIME = 32
@@ -320,15 +320,16 @@ def certificate_question(certificate):
     return _asked(lambda *room: _LIBRARY.sshkey_certificate_question(certificate, length, *room), 2 * length + 256)
 
 
-def validate_certificate(certificate, now, authorities, verified, principal=None):
-    """Status.DONE exactly if the certificate is valid at that second for one of the authorities, which are fingerprints of 32
-    bytes, and for the principal if one is given; else what is wrong first. `verified` is what your verification said of the
-    question of this very certificate, True or False, and False where it raised none; anything but True is a no."""
+def validate_certificate(certificate, now, authorities, is_verified, principal=None):
+    """Status.DONE exactly if the certificate is valid at that second, which has to be at most 2^63 - 1, for one of the
+    authorities, which are fingerprints of 32 bytes, and for the principal if one is given; else what is wrong first.
+    `is_verified` is what your verification said of the question of this very certificate, True or False, and False where it
+    raised none; anything but True is a no."""
     if not 0 <= now < 1 << 64:
         raise ValueError("a time is a number of seconds from 0 to 2^64 - 1")
     whom = () if principal is None else _bytes(principal.encode() if isinstance(principal, str) else principal)
     validate = _LIBRARY.sshkey_certificate_validate if principal is None else _LIBRARY.sshkey_certificate_validate_for
-    status = Status(validate(*_bytes(certificate), now, *whom, *_digests(authorities), 1 if verified is True else 0))
+    status = Status(validate(*_bytes(certificate), now, *whom, *_digests(authorities), 1 if is_verified is True else 0))
     if status == Status.MEMORY:
         raise MemoryError
     return status
@@ -519,8 +520,8 @@ def make_certificate(
     an empty list is Refused. The type is 1 for users and 2 for hosts, and the window the seconds from `valid_after` on and
     before `valid_before`. Options are dicts of names and values. The nonce is random unless it is given.
 
-    Refused where these tell no certificate. Whether the signature is one of the authority is not asked here:
-    certificate_question asks it."""
+    Refused where these tell no certificate; a key that has a private-use name is rejected: LABEL. Whether the signature is one
+    of the authority is not asked here: certificate_question asks it."""
     texts = {
         "key": key, "nonce": os.urandom(32) if nonce is None else nonce, "key_id": key_id.encode(), "authority": authority,
         "principals": b"".join(map(string, principals or ())), "critical_options": _listed(critical_options or {}),
@@ -618,8 +619,9 @@ def _judged(call, known_hosts, host, port, key):
 
 def host_verdict(known_hosts, host, port, key):
     """Status.DONE exactly if a text of known_hosts trusts the key, given as its blob, for a host (a name or an address, bytes or
-    a text) at a port; HOST_REVOKED, HOST_UNREADABLE, HOST_CHANGED or HOST_UNKNOWN for what it says else. Refused where the bytes
-    are no key, or the text or the host is not UTF-8."""
+    a text) at a port; HOST_REVOKED, HOST_UNREADABLE, HOST_CHANGED or HOST_UNKNOWN for what it says else. For a port other than
+    22, where the answer is HOST_UNKNOWN, ssh(1) asks about port 22 too. Refused where the bytes are no key, or the text or the
+    host is not UTF-8."""
     return _judged(_LIBRARY.sshkey_host_verdict, known_hosts, host, port, key)
 
 
