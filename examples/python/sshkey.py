@@ -26,7 +26,7 @@ class Status(enum.IntEnum):
     MEMORY = 1
     ROOM = 2
     END = 3
-    TEXT = 4  # read_line is refused with CHARACTER_ENCODING for a line that is not UTF-8
+    TEXT = 4  # for a line that is not UTF-8 read_line gives CHARACTER_ENCODING
     BASE64 = 10
     CHARACTER_ENCODING = 11
     LABEL = 12
