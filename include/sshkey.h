@@ -55,7 +55,7 @@ enum {
   SSHKEY_MEMORY = 1, /* malloc refused; nothing is said of the input, and nothing is kept: the call
                         may be made again */
   SSHKEY_ROOM = 2,   /* the room is too short; `length` says how many bytes are needed */
-  SSHKEY_END = 3,    /* the place is the end of the bytes */
+  SSHKEY_END = 3,    /* nothing is left: the place is the end, or there is no such line or option */
   SSHKEY_TEXT = 4,   /* the principal is not UTF-8, or a line of authorized_keys or known_hosts,
                         options, a text of known_hosts or a host's name; nothing is said of the
                         rest. sshkey_read_line returns 11 for such a line */
