@@ -2,8 +2,8 @@
  * question, words of which are bytes in hexadecimal (- for none), and has a line of the answer:
  *
  *     certificate BYTES                      what has to be verified
- *     signature BYTES NAMESPACE MESSAGE      the same, and the signer
- *     validate BYTES SECOND PRINCIPAL|* AUTHORITY VERIFIED
+ *     sshsig BYTES NAMESPACE MESSAGE         the same, and the signer
+ *     validate BYTES SECOND PRINCIPAL|* AUTHORITY IS-VERIFIED
  *     fields BYTES                           numbers of a certificate
  *     key BYTES                              the fingerprint, and its text
  *     strings BYTES                          the strings that the bytes are, from each place
@@ -94,13 +94,13 @@ static void ask_certificate(blob certificate) {
   free(room.bytes);
 }
 
-static void ask_signature(blob signature, blob space, blob message) {
+static void ask_sshsig(blob signature, blob space, blob message) {
   blob room = made(2 * signature.length + space.length + 256);
   sshkey_question question;
   sshkey_sha256 signer;
   memset(&question, FILLED, sizeof question);
   memset(&signer, FILLED, sizeof signer);
-  uint32_t answer = sshkey_signature_question(
+  uint32_t answer = sshkey_sshsig_question(
       signature.bytes, signature.length, space.bytes, space.length, message.bytes, message.length,
       room.bytes, room.length, &question, &signer);
   say_question(answer, &question, room);
@@ -109,9 +109,9 @@ static void ask_signature(blob signature, blob space, blob message) {
 }
 
 static void ask_validate(blob certificate, const char *second, const char *principal,
-                         blob authority, const char *verified) {
+                         blob authority, const char *is_verified) {
   uint64_t now = strtoull(second, NULL, 10);
-  uint32_t yes = (uint32_t)strtoul(verified, NULL, 10);
+  uint32_t yes = (uint32_t)strtoul(is_verified, NULL, 10);
   size_t count = authority.length / sizeof(sshkey_sha256);
   sshkey_sha256 *keys = (sshkey_sha256 *)authority.bytes;
   blob name = bytes_of(principal[0] == '*' ? "-" : principal);
@@ -164,7 +164,7 @@ static void ask_strings(blob bytes) {
   for (size_t at = 0; at <= bytes.length + 4; at++) {
     size_t place = at <= bytes.length ? at : places[at - bytes.length - 1];
     sshkey_part part = {7, 7};
-    uint32_t answer = sshkey_string(bytes.bytes, bytes.length, place, &part);
+    uint32_t answer = sshkey_next_string(bytes.bytes, bytes.length, place, &part);
     printf("%s%" PRIu32, at ? " " : "", answer);
     if (answer == SSHKEY_DONE) printf(":%zu:%zu", part.start, part.length);
   }
@@ -303,9 +303,9 @@ static void ask(char **words) {
     ask_strings(first);
   } else if (!strcmp(what, "key")) {
     ask_key(first);
-  } else if (!strcmp(what, "signature")) {
+  } else if (!strcmp(what, "sshsig")) {
     blob space = bytes_of(words[2]), message = bytes_of(words[3]);
-    ask_signature(first, space, message);
+    ask_sshsig(first, space, message);
     free(space.bytes);
     free(message.bytes);
   } else if (!strcmp(what, "validate")) {

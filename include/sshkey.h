@@ -10,11 +10,11 @@
  *      what you found, or what is wrong with it first.
  *
  * An SSH signature (`ssh-keygen -Y sign`) needs no third step: it is valid exactly if
- * sshkey_signature_question answers SSHKEY_DONE and your verification says yes.
+ * sshkey_sshsig_question answers SSHKEY_DONE and your verification says yes.
  *
  * What you owe, which nothing checks:
  *
- *  - Both calls get the SAME certificate, of which no byte changed in between, and `verified` is
+ *  - Both calls get the SAME certificate, of which no byte changed in between, and `is_verified` is
  *    what your verification said of the question of that certificate.
  *  - No pointer is null, also where the length beside it is 0: sshkey_bytes(p) below gives one that
  *    may be passed.
@@ -29,9 +29,10 @@
  * In return no call keeps a pointer or hands one out, and there is no state: threads may call at
  * once. No call writes more than `room_length` bytes to a room. All that a call tells lies in the
  * room, and a part of it is a place and a number of bytes. Where the room is too short, the call
- * answers SSHKEY_ROOM and leaves the room as it was, and `length` says how many bytes are needed: a
- * room of 0 bytes asks for that. Every other answer but SSHKEY_DONE leaves room and answer as they
- * were.
+ * returns SSHKEY_ROOM and leaves the room as it was, and `length` alone is told, how many bytes are
+ * needed (the text of a fingerprint has a fixed length, so its calls tell none): a room of 0 bytes
+ * asks for that. Every other return value but SSHKEY_DONE leaves the room and `*answer` as they
+ * were, and `*length` too; and `*signer` is written with SSHKEY_DONE alone.
  */
 #ifndef SSHKEY_H
 #define SSHKEY_H
@@ -51,12 +52,13 @@ extern "C" {
 
 enum {
   SSHKEY_DONE = 0,   /* done; of a validation: it is valid */
-  SSHKEY_MEMORY = 1, /* malloc refused; no verdict on the input, and nothing is kept: the call may
-                        be made again */
+  SSHKEY_MEMORY = 1, /* malloc refused; nothing is said of the input, and nothing is kept: the call
+                        may be made again */
   SSHKEY_ROOM = 2,   /* the room is too short; `length` says how many bytes are needed */
-  SSHKEY_END = 3,    /* the place is the end of the bytes */
-  SSHKEY_TEXT = 4,   /* the principal is not UTF-8, or a line, options, a text of known_hosts or a
-                        host's name; nothing is said of the rest */
+  SSHKEY_END = 3,    /* nothing is left: the place is the end, or there is no such line or option */
+  SSHKEY_TEXT = 4,   /* the principal is not UTF-8, or a line of authorized_keys or known_hosts,
+                        options, a text of known_hosts or a host's name; nothing is said of the
+                        rest. sshkey_read_line returns 11 for such a line */
 
   /* 10 to 29: the bytes are no certificate, key or signature, or the line is none; the first fault
    * from the left. For logs: what a call promises is which answers are not SSHKEY_DONE, and lines
@@ -68,21 +70,23 @@ enum {
                                      word of a line is missing */
   SSHKEY_TRAILING_DATA = 14,      /* bytes stand behind the end */
   SSHKEY_FORMAT = 15,             /* a value does not keep the form of its kind */
-  SSHKEY_ALGORITHM_UNKNOWN = 16,  /* two names differ that have to be one */
-  SSHKEY_CRYPTO = 17,             /* a number in a signature is not positive */
+  SSHKEY_ALGORITHM_UNKNOWN = 16,  /* two names differ that have to be one, or a point begins with 00
+                                     or 05 */
+  SSHKEY_CRYPTO = 17,             /* a number in a signature is not positive, or the curve of a
+                                     security key is not P-256 */
   SSHKEY_ECDSA = 18,              /* no encoding of a point */
   SSHKEY_TIME = 19,               /* a time above 2^63 - 1 in the certificate */
   SSHKEY_NAMESPACE = 20,          /* an empty namespace in the SSH signature */
-  SSHKEY_PUBLIC_KEY = 21,         /* the key in the SSH signature is none */
+  SSHKEY_PUBLIC_KEY = 21,         /* never returned: a fault of private keys */
   SSHKEY_VERSION = 22,            /* an SSH signature of a version above 1 */
-  SSHKEY_OTHER_FAULT = 23, /* none of the above */
+  SSHKEY_OTHER_FAULT = 23,        /* never returned */
 
   /* 30 to 34: what is wrong with a certificate that is not valid; the first of these */
-  SSHKEY_NOT_SIGNED = 30,      /* it raises no question, or `verified` is not 1 */
-  SSHKEY_OTHER_AUTHORITY = 31, /* the key that signed it is none of the authorities' */
-  SSHKEY_NO_TIME = 32,         /* the time is above 2^63 - 1 */
-  SSHKEY_OUT_OF_WINDOW = 33,   /* it is not yet valid, or no longer */
-  SSHKEY_OTHER_PRINCIPAL = 34, /* it lists principals, and not this one */
+  SSHKEY_NOT_SIGNED = 30,          /* it raises no question, or `is_verified` is not 1 */
+  SSHKEY_UNTRUSTED_AUTHORITY = 31, /* the key that signed it is none of the authorities' */
+  SSHKEY_INVALID_TIME = 32,        /* the time is above 2^63 - 1 */
+  SSHKEY_OUT_OF_WINDOW = 33,       /* it is not yet valid, or no longer */
+  SSHKEY_UNLISTED_PRINCIPAL = 34,  /* it lists principals, and not this one */
 
   /* there is nothing to verify */
   SSHKEY_UNSUPPORTED = 40,    /* key and signature do not go together: it is not signed */
@@ -109,8 +113,8 @@ static inline const char *sshkey_answer_name(uint32_t answer) {
     SSHKEY_NAMED(FORMAT); SSHKEY_NAMED(ALGORITHM_UNKNOWN); SSHKEY_NAMED(CRYPTO);
     SSHKEY_NAMED(ECDSA); SSHKEY_NAMED(TIME); SSHKEY_NAMED(NAMESPACE);
     SSHKEY_NAMED(PUBLIC_KEY); SSHKEY_NAMED(VERSION); SSHKEY_NAMED(OTHER_FAULT);
-    SSHKEY_NAMED(NOT_SIGNED); SSHKEY_NAMED(OTHER_AUTHORITY); SSHKEY_NAMED(NO_TIME);
-    SSHKEY_NAMED(OUT_OF_WINDOW); SSHKEY_NAMED(OTHER_PRINCIPAL);
+    SSHKEY_NAMED(NOT_SIGNED); SSHKEY_NAMED(UNTRUSTED_AUTHORITY); SSHKEY_NAMED(INVALID_TIME);
+    SSHKEY_NAMED(OUT_OF_WINDOW); SSHKEY_NAMED(UNLISTED_PRINCIPAL);
     SSHKEY_NAMED(UNSUPPORTED); SSHKEY_NAMED(OTHER_NAMESPACE);
     SSHKEY_NAMED(PRINCIPALS); SSHKEY_NAMED(EMPTY_WINDOW);
     SSHKEY_NAMED(HOST_REVOKED); SSHKEY_NAMED(HOST_UNREADABLE);
@@ -140,8 +144,8 @@ typedef struct {
 
 /* How a signature is made. A key's blob (RFC 4253, section 6.6) is strings, one behind the other:
  * four bytes of length, big-endian, and so many bytes. The first is the name of the key's type. So
- * are the signatures of ECDSA. sshkey_string goes over them. Numbers are big-endian, and may have a
- * 0 in front. */
+ * are the signatures of ECDSA. sshkey_next_string goes over them. Numbers are big-endian, and may
+ * have a 0 in front. */
 enum {
   /* with SHA-1; behind the name p, q, g, y; signature: r and s, 20 bytes each */
   SSHKEY_ASK_DSA = 1,
@@ -189,7 +193,7 @@ enum { SSHKEY_LINE_KEY = 1, SSHKEY_LINE_CERTIFICATE = 2 };
  * in a file of authorities: sshkey_authorized_entry reads those, with an empty `front`.
  *
  * SSHKEY_DONE exactly if the line is that of a key or of a certificate (memory and room aside);
- * else 10 to 29. A room of the line's length is enough. */
+ * else 10 to 29, and 11 for a line that is not UTF-8. A room of the line's length is enough. */
 uint32_t sshkey_read_line(const uint8_t *line, size_t line_length, uint8_t *room,
                           size_t room_length, sshkey_line *answer);
 
@@ -204,25 +208,26 @@ uint32_t sshkey_certificate_question(const uint8_t *certificate, size_t certific
                                      uint8_t *room, size_t room_length, sshkey_question *answer);
 
 /* Whether a certificate is valid at that second (since 1970) for one of the authorities, which are
- * named by the SHA-256 fingerprints of their keys. `verified` is 1 if the answer to the question of
- * this certificate is yes; any other number is no.
+ * named by the SHA-256 fingerprints of their keys. `is_verified` is 1 if the answer to the question
+ * of this certificate is yes; any other number is no.
  *
- * SSHKEY_DONE exactly if the bytes are a certificate that raises a question, `verified` is 1, the
- * key that signed is one of the authorities', and valid_after <= unix_time < valid_before
- * (SSHKEY_MEMORY aside). Else 10 to 29 for bytes that are no certificate, and 30 to 33 for what is
- * wrong first. Its type, its critical options and whether it is revoked are yours to judge. */
+ * SSHKEY_DONE exactly if the bytes are a certificate that raises a question, `is_verified` is 1,
+ * the key that signed is one of the authorities', valid_after <= unix_timestamp < valid_before, and
+ * unix_timestamp <= 2^63 - 1 (SSHKEY_MEMORY aside). Else 10 to 29 for bytes that are no
+ * certificate, and 30 to 33 for what is wrong first. Its type, its critical options and whether it
+ * is revoked are yours to judge. */
 uint32_t sshkey_certificate_validate(const uint8_t *certificate, size_t certificate_length,
-                                     uint64_t unix_time, const sshkey_sha256 *authorities,
-                                     size_t authority_count, uint32_t verified);
+                                     uint64_t unix_timestamp, const sshkey_sha256 *authorities,
+                                     size_t authority_count, uint32_t is_verified);
 
 /* The same, and the certificate lists the principal, or no principal at all; where it does not,
- * SSHKEY_OTHER_PRINCIPAL, which is looked at last. SSHKEY_TEXT for a principal that is not UTF-8,
- * whatever the certificate is. A certificate that lists none allows everybody here, while sshd
- * refuses it for a user. */
+ * SSHKEY_UNLISTED_PRINCIPAL, which is looked at last. SSHKEY_TEXT for a principal that is not
+ * UTF-8, whatever the certificate is. A certificate that lists none allows everybody here, while
+ * sshd refuses it for a user. */
 uint32_t sshkey_certificate_validate_for(const uint8_t *certificate, size_t certificate_length,
-                                         uint64_t unix_time, const uint8_t *principal,
+                                         uint64_t unix_timestamp, const uint8_t *principal,
                                          size_t principal_length, const sshkey_sha256 *authorities,
-                                         size_t authority_count, uint32_t verified);
+                                         size_t authority_count, uint32_t is_verified);
 
 /* What a policy asks of a certificate. */
 typedef struct {
@@ -244,8 +249,8 @@ uint32_t sshkey_certificate_fields(const uint8_t *certificate, size_t certificat
 /* Where parts of a certificate stand in its bytes, without the length before them. */
 typedef struct {
   sshkey_part key_id;           /* a text, for logs */
-  sshkey_part principals;       /* strings, one behind the other: sshkey_string goes over them */
-  sshkey_part critical_options; /* one behind the other: sshkey_certificate_option goes over them */
+  sshkey_part principals;       /* strings: sshkey_next_string goes over them */
+  sshkey_part critical_options; /* one behind the other: sshkey_next_option goes over them */
   sshkey_part extensions;       /* likewise */
   sshkey_part authority;        /* the blob of the key that signed */
 } sshkey_parts;
@@ -265,8 +270,8 @@ typedef struct {
 /* The option that begins at that place of critical options or extensions: the string of a name, and
  * a string that is empty or holds the string of a value. SSHKEY_DONE exactly if one stands there;
  * SSHKEY_END at the end of the bytes, else SSHKEY_LENGTH. Takes no memory. */
-uint32_t sshkey_certificate_option(const uint8_t *bytes, size_t length, size_t place,
-                                   sshkey_certificate_option_parts *answer);
+uint32_t sshkey_next_option(const uint8_t *bytes, size_t length, size_t place,
+                            sshkey_certificate_option_parts *answer);
 
 /* Writes the blob of the key that is certified to the front of the room, which does not stand whole
  * in the certificate. SSHKEY_DONE exactly if the bytes are a certificate, memory and room aside;
@@ -289,7 +294,7 @@ typedef struct {
   sshkey_span nonce;            /* random bytes of yours: 16 or 32 */
   sshkey_span key_id;           /* a text, for logs */
   sshkey_span principals;       /* strings, one behind the other */
-  sshkey_span critical_options; /* as sshkey_certificate_option reads them, with rising names */
+  sshkey_span critical_options; /* as sshkey_next_option reads them, with rising names */
   sshkey_span extensions;       /* likewise */
   sshkey_span authority;        /* the blob of the key that is to sign */
   uint64_t serial;
@@ -306,16 +311,16 @@ typedef struct {
  * SSHKEY_DONE exactly if the draft tells a certificate, memory and room aside. Else what is wrong,
  * in this order: SSHKEY_FORMAT for a type that is neither 1 nor 2, SSHKEY_TIME for a time above
  * 2^63 - 1, SSHKEY_EMPTY_WINDOW, SSHKEY_PRINCIPALS; then 10 to 29 for a key, a text or a list that
- * is none. Keys under private-use names have no certificates: SSHKEY_LABEL. */
+ * is none. A key to be certified that has a private-use name is rejected: SSHKEY_LABEL. */
 uint32_t sshkey_certificate_to_be_signed(const sshkey_draft *draft, uint8_t *room,
                                          size_t room_length, size_t *length);
 
 /* Writes the certificate that a signature makes of these bytes. SSHKEY_DONE exactly if that is a
  * certificate, memory and room aside; else 10 to 29. Whether the signature is one of these bytes
  * sshkey_certificate_question asks, and .._validate says. */
-uint32_t sshkey_certificate_signed(const uint8_t *to_be_signed, size_t to_be_signed_length,
-                                   const uint8_t *signature, size_t signature_length, uint8_t *room,
-                                   size_t room_length, size_t *length);
+uint32_t sshkey_certificate_make(const uint8_t *to_be_signed, size_t to_be_signed_length,
+                                 const uint8_t *signature, size_t signature_length, uint8_t *room,
+                                 size_t room_length, size_t *length);
 
 /* ---- keys ------------------------------------------------------------------------------------ */
 
@@ -350,13 +355,12 @@ uint32_t sshkey_fingerprint_sha512_text(const sshkey_sha512 *digest, uint8_t *ro
  * aside); else SSHKEY_UNSUPPORTED, or 10 to 29 for bytes that are no key, or else no signature.
  * SSHKEY_MEMORY only where they are both. A room as long as the three together, and 256 bytes, is
  * enough. */
-uint32_t sshkey_plain_signature_question(const uint8_t *key, size_t key_length,
-                                         const uint8_t *message, size_t message_length,
-                                         const uint8_t *signature, size_t signature_length,
-                                         uint8_t *room, size_t room_length,
-                                         sshkey_question *answer);
+uint32_t sshkey_signature_question(const uint8_t *key, size_t key_length, const uint8_t *message,
+                                   size_t message_length, const uint8_t *signature,
+                                   size_t signature_length, uint8_t *room, size_t room_length,
+                                   sshkey_question *answer);
 
-/* ---- signatures (PROTOCOL.sshsig) ------------------------------------------------------------ */
+/* ---- SSH signatures (PROTOCOL.sshsig) -------------------------------------------------------- */
 
 /* What has to be verified of an SSH signature of the message in that namespace, and the SHA-256
  * fingerprint of the key that signed: whether that key may sign is yours to judge. The signature is
@@ -365,11 +369,10 @@ uint32_t sshkey_plain_signature_question(const uint8_t *key, size_t key_length,
  * SSHKEY_DONE exactly if the bytes are an SSH signature for that namespace whose key and signature
  * go together (memory and room aside); else SSHKEY_OTHER_NAMESPACE, SSHKEY_UNSUPPORTED, or 10 to 29
  * for bytes that are no signature. A room of twice its length and 256 bytes is enough. */
-uint32_t sshkey_signature_question(const uint8_t *signature, size_t signature_length,
-                                   const uint8_t *name_space, size_t name_space_length,
-                                   const uint8_t *message, size_t message_length, uint8_t *room,
-                                   size_t room_length, sshkey_question *answer,
-                                   sshkey_sha256 *signer);
+uint32_t sshkey_sshsig_question(const uint8_t *signature, size_t signature_length,
+                                const uint8_t *name_space, size_t name_space_length,
+                                const uint8_t *message, size_t message_length, uint8_t *room,
+                                size_t room_length, sshkey_question *answer, sshkey_sha256 *signer);
 
 /* ---- normal forms ---------------------------------------------------------------------------- */
 
@@ -389,21 +392,21 @@ uint32_t sshkey_key_normal(const uint8_t *key, size_t key_length, uint8_t *room,
 uint32_t sshkey_certificate_normal(const uint8_t *certificate, size_t certificate_length,
                                    uint8_t *room, size_t room_length, size_t *length);
 
-/* Of an SSH signature, as sshkey_signature_question takes it. */
+/* Of an SSH signature, as sshkey_sshsig_question takes it. */
+uint32_t sshkey_sshsig_normal(const uint8_t *signature, size_t signature_length, uint8_t *room,
+                              size_t room_length, size_t *length);
+
+/* Of a signature, as sshkey_signature_question takes it, which is its own normal form. Takes no
+ * memory. */
 uint32_t sshkey_signature_normal(const uint8_t *signature, size_t signature_length, uint8_t *room,
                                  size_t room_length, size_t *length);
-
-/* Of a signature, as sshkey_plain_signature_question takes it, which is its own normal form. Takes
- * no memory. */
-uint32_t sshkey_plain_signature_normal(const uint8_t *signature, size_t signature_length,
-                                       uint8_t *room, size_t room_length, size_t *length);
 
 /* ---- strings (RFC 4251, section 5) ----------------------------------------------------------- */
 
 /* The string that begins at that place: four bytes of length, and so many bytes, which are the
  * answer. The next begins at answer.start + answer.length. SSHKEY_DONE exactly if one stands there;
  * SSHKEY_END at the end of the bytes, else SSHKEY_LENGTH. Takes no memory. */
-uint32_t sshkey_string(const uint8_t *bytes, size_t length, size_t place, sshkey_part *answer);
+uint32_t sshkey_next_string(const uint8_t *bytes, size_t length, size_t place, sshkey_part *answer);
 
 /* ---- authorized_keys and known_hosts (sshd(8)) ----------------------------------------------- */
 
@@ -424,7 +427,7 @@ typedef struct {
 
 /* The entry of a line of authorized_keys, as sshd reads it. SSHKEY_DONE exactly if the line is one
  * (memory and room aside); SSHKEY_TEXT for a line that is not UTF-8, else 10 to 29. A room of the
- * line's length is enough. Which options there may be is yours to judge: sshkey_entry_option.
+ * line's length is enough. Which options there may be is yours to judge: sshkey_nth_option.
  *
  * An option cert-authority says that the key is an authority's, which signs certificates: whoever
  * only has that key is not to be let in. And refuse a line with a zero byte: here it is a byte like
@@ -452,8 +455,8 @@ typedef struct {
  * length is enough. A `front` of no bytes has no options. Each call reads all of them, so do not go
  * on for ever: refuse an entry with an option that you do not know, and one that names an option
  * twice, but for environment, permitlisten and permitopen, which may come more than once. */
-uint32_t sshkey_entry_option(const uint8_t *options, size_t options_length, size_t number,
-                             uint8_t *room, size_t room_length, sshkey_entry_option_parts *answer);
+uint32_t sshkey_nth_option(const uint8_t *options, size_t options_length, size_t number,
+                           uint8_t *room, size_t room_length, sshkey_entry_option_parts *answer);
 
 /* What a text of known_hosts says of the key, given as its blob, that a host shows at a port. The
  * host is the name or address that was asked for, without brackets. HMAC-SHA1, under which names
@@ -462,7 +465,9 @@ uint32_t sshkey_entry_option(const uint8_t *options, size_t options_length, size
  * SSHKEY_DONE exactly if the key is trusted: an entry for the host has it, none revokes it, and no
  * line that is no entry could be one for the host (SSHKEY_MEMORY aside). Else 50 to 53, 10 to 29
  * for bytes that are no key, or SSHKEY_TEXT where the text or the host is not UTF-8. Ask it of each
- * file, and refuse what one of them calls revoked or unreadable. Of authorities nothing is said. */
+ * file, and refuse what one of them calls revoked or unreadable. For a port other than 22, where
+ * the answer is SSHKEY_HOST_UNKNOWN, ssh(1) asks about port 22 too. Of authorities nothing is
+ * said. */
 uint32_t sshkey_host_verdict(const uint8_t *known_hosts, size_t known_hosts_length,
                              const uint8_t *host, size_t host_length, uint16_t port,
                              const uint8_t *key, size_t key_length);
@@ -472,9 +477,9 @@ uint32_t sshkey_host_verdict(const uint8_t *known_hosts, size_t known_hosts_leng
  * could be one for the host (SSHKEY_MEMORY aside). SSHKEY_HOST_CHANGED is never answered, and
  * SSHKEY_HOST_UNKNOWN where no such entry has the key. The certificate itself is yours to validate,
  * by sshkey_certificate_validate_for with that key's fingerprint. */
-uint32_t sshkey_host_authority(const uint8_t *known_hosts, size_t known_hosts_length,
-                               const uint8_t *host, size_t host_length, uint16_t port,
-                               const uint8_t *key, size_t key_length);
+uint32_t sshkey_authority_verdict(const uint8_t *known_hosts, size_t known_hosts_length,
+                                  const uint8_t *host, size_t host_length, uint16_t port,
+                                  const uint8_t *key, size_t key_length);
 
 /* ---------------------------------------------------------------------------------------------- */
 

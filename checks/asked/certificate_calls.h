@@ -20,7 +20,7 @@ static void say_principals(blob certificate, sshkey_part list) {
   const uint8_t *bytes = certificate.bytes + list.start;
   uint32_t answer;
   for (size_t place = 0;
-       (answer = sshkey_string(bytes, list.length, place, &part)) == SSHKEY_DONE;
+       (answer = sshkey_next_string(bytes, list.length, place, &part)) == SSHKEY_DONE;
        place = part.start + part.length) {
     part.start += list.start;
     say_hexadecimal("principal=", certificate, part);
@@ -35,7 +35,7 @@ static void say_options(const char *name, blob certificate, sshkey_part list) {
   uint32_t answer;
   memset(&found, FILLED, sizeof found);
   for (size_t place = 0;
-       (answer = sshkey_certificate_option(bytes.bytes, bytes.length, place, &found)) == SSHKEY_DONE;
+       (answer = sshkey_next_option(bytes.bytes, bytes.length, place, &found)) == SSHKEY_DONE;
        place = found.next) {
     printf(" %s", name);
     const sshkey_part parts[] = {found.name, found.value};
@@ -76,7 +76,7 @@ static void ask_certificate_options(blob bytes) {
   for (size_t at = 0; at <= bytes.length + 4; at++) {
     size_t place = at <= bytes.length ? at : places[at - bytes.length - 1];
     sshkey_certificate_option_parts it = {{7, 7}, {7, 7}, 7};
-    uint32_t answer = sshkey_certificate_option(bytes.bytes, bytes.length, place, &it);
+    uint32_t answer = sshkey_next_option(bytes.bytes, bytes.length, place, &it);
     printf("%s%" PRIu32, at ? " " : "", answer);
     if (answer == SSHKEY_DONE)
       printf(":%zu:%zu:%zu:%zu:%zu", it.name.start, it.name.length, it.value.start,

@@ -113,7 +113,7 @@ def check_hostile_lists(count, built, sshkey, cases):
 
 
 def option_from(data, place):
-    """What sshkey_certificate_option answers (PROTOCOL.certkeys), as checks/foreign.c says it."""
+    """What sshkey_next_option answers (PROTOCOL.certkeys), as checks/foreign.c says it."""
     if place == len(data):
         return "3"
     try:
@@ -290,7 +290,7 @@ def check_issued(count, built, sshkey, check, maker, is_verified):
     count.check("ssh-keygen shows what it says", same and shown_under(shown, "Extensions") == ["permit-pty"], shown)
     blob, second = base64.b64decode(issued.stdout.split()[1]), int(sshkey.certificate_fields(base64.b64decode(issued.stdout.split()[1])).valid_after)
     by = [sshkey.fingerprint(blob_in(maker, "issuer"))]
-    for principal, wanted in (("alice", "DONE"), ("eve", "OTHER_PRINCIPAL")):
+    for principal, wanted in (("alice", "DONE"), ("eve", "UNLISTED_PRINCIPAL")):
         count.check(f"it is valid for {principal}: {wanted}", check.judge(blob, second, principal, by).name == wanted)
     signature = maker.signature("holder-cert.pub", "text")
     allowed = "alice cert-authority " + maker.read("issuer.pub")

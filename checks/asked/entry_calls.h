@@ -50,7 +50,7 @@ static void ask_options(blob text) {
     blob room = made(text.length);
     sshkey_entry_option_parts option;
     memset(&option, FILLED, sizeof option);
-    answer = sshkey_entry_option(text.bytes, text.length, number, room.bytes, room.length, &option);
+    answer = sshkey_nth_option(text.bytes, text.length, number, room.bytes, room.length, &option);
     if (answer == SSHKEY_DONE) {
       say_part(room, option.name);
       say_part(room, option.value);
@@ -72,7 +72,7 @@ static uint32_t with_room(const char *what, blob text, size_t length, size_t *ne
   memset(&option, 0, sizeof option);
   uint32_t answer;
   if (!strcmp(what, "options"))
-    answer = sshkey_entry_option(text.bytes, text.length, 0, room.bytes, length, &option);
+    answer = sshkey_nth_option(text.bytes, text.length, 0, room.bytes, length, &option);
   else
     answer = call_of(what)(text.bytes, text.length, room.bytes, length, &entry);
   *needed = strcmp(what, "options") ? entry.length : option.length;
@@ -98,8 +98,8 @@ static void ask_verdict(blob text, blob host, const char *port, blob key) {
   printf("%" PRIu32 " %" PRIu32,
          sshkey_host_verdict(text.bytes, text.length, host.bytes, host.length, number, key.bytes,
                              key.length),
-         sshkey_host_authority(text.bytes, text.length, host.bytes, host.length, number, key.bytes,
-                               key.length));
+         sshkey_authority_verdict(text.bytes, text.length, host.bytes, host.length, number,
+                                  key.bytes, key.length));
 }
 
 static void ask_of_files(char **words, blob first) {

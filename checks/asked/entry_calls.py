@@ -278,7 +278,7 @@ def check_verdicts(count, built, sshkey, draw, folder, hosts):
     said = asked(count, built, "hosts", questions)
     wrong = []
     for (shown, *given, verdict, authority), answer in zip(cases, said):
-        found = judged_by_python(sshkey.judge_host, *given), judged_by_python(sshkey.judge_authority, *given)
+        found = judged_by_python(sshkey.host_verdict, *given), judged_by_python(sshkey.authority_verdict, *given)
         if (verdict, authority) != found or answer != " ".join(str(int(sshkey.Status[it])) for it in found):
             wrong.append((shown, answer, found, verdict, authority))
     name = f"{len(cases)} verdicts on the keys of hosts and authorities are what ssh-keygen -F finds"
@@ -301,6 +301,8 @@ def check_example(count, folder, hosts):
     for host, port, wanted, status in (
         ("H.example", 22, ["trusted", "changed", "revoked"], 1), ("h.example", 2222, ["trusted", "changed", "changed"], 1),
         ("other.example", 22, ["changed", "trusted", "changed"], 1), ("x.example", 22, ["unknown"] * 3, 1),
+        ("other.example", 2222, ["changed", "trusted", "changed"], 1), ("h.example", 2200, ["trusted", "changed", "revoked"], 1),
+        ("x.example", 2222, ["unknown"] * 3, 1),
     ):  # fmt: skip
         ran = run([sys.executable, script, host, str(port), path], input=given)
         same = ran.stdout.split() == wanted and ran.returncode == status

@@ -1,11 +1,11 @@
 /* Asks about lines, SHA-512, signatures under a key and normal forms, for checks/foreign.c, which
  * has the helpers:
  *
- *     line BYTES                       what stands in the line
- *     sha512 BYTES                     the fingerprint of a key, and its text
- *     plain KEY MESSAGE SIGNATURE      what has to be verified
- *     is-plain KEY MESSAGE SIGNATURE   whether examples/c/verify.c says that it is one
- *     normal key|certificate|signature|plain BYTES
+ *     line BYTES                          what stands in the line
+ *     sha512 BYTES                        the fingerprint of a key, and its text
+ *     signature KEY MESSAGE SIGNATURE     what has to be verified
+ *     is-signature KEY MESSAGE SIGNATURE  whether examples/c/verify.c says that it is one
+ *     normal key|certificate|sshsig|signature BYTES
  *
  * Lines and normal forms are asked for with each room that is too short, too. */
 #ifndef KEY_CALLS_H
@@ -58,26 +58,24 @@ static void ask_sha512(blob key) {
   free(shorter.bytes);
 }
 
-static void ask_plain(blob key, blob message, blob signature) {
+static void ask_signature(blob key, blob message, blob signature) {
   blob room = made(key.length + message.length + signature.length + 256);
   sshkey_question question;
   memset(&question, FILLED, sizeof question);
-  uint32_t answer = sshkey_plain_signature_question(key.bytes, key.length, message.bytes,
-                                                    message.length, signature.bytes,
-                                                    signature.length, room.bytes, room.length,
-                                                    &question);
+  uint32_t answer = sshkey_signature_question(key.bytes, key.length, message.bytes, message.length,
+                                              signature.bytes, signature.length, room.bytes,
+                                              room.length, &question);
   say_question(answer, &question, room);
   free(room.bytes);
 }
 
-static void ask_is_plain(blob key, blob message, blob signature) {
+static void ask_is_signature(blob key, blob message, blob signature) {
   blob room = made(key.length + message.length + signature.length + 256);
   sshkey_question question;
   memset(&question, 0, sizeof question);
-  uint32_t answer = sshkey_plain_signature_question(key.bytes, key.length, message.bytes,
-                                                    message.length, signature.bytes,
-                                                    signature.length, room.bytes, room.length,
-                                                    &question);
+  uint32_t answer = sshkey_signature_question(key.bytes, key.length, message.bytes, message.length,
+                                              signature.bytes, signature.length, room.bytes,
+                                              room.length, &question);
   printf("%" PRIu32, answer);
   if (answer == SSHKEY_DONE) printf(" %d", is_signature(&question, room.bytes));
   free(room.bytes);
@@ -89,8 +87,8 @@ typedef uint32_t normal_call(const uint8_t *bytes, size_t length, uint8_t *room,
 static normal_call *normal_of(const char *kind) {
   if (!strcmp(kind, "key")) return sshkey_key_normal;
   if (!strcmp(kind, "certificate")) return sshkey_certificate_normal;
-  if (!strcmp(kind, "signature")) return sshkey_signature_normal;
-  return sshkey_plain_signature_normal;
+  if (!strcmp(kind, "sshsig")) return sshkey_sshsig_normal;
+  return sshkey_signature_normal;
 }
 
 static int is_normal_kept(normal_call *call, blob bytes, size_t length, size_t needed) {
@@ -127,9 +125,9 @@ static int ask_about_keys(char **words) {
     ask_sha512(first);
   } else if (!strcmp(words[0], "normal")) {
     ask_normal(words[1], first);
-  } else if (!strcmp(words[0], "plain") || !strcmp(words[0], "is-plain")) {
+  } else if (!strcmp(words[0], "signature") || !strcmp(words[0], "is-signature")) {
     blob message = bytes_of(words[2]), signature = bytes_of(words[3]);
-    (words[0][0] == 'p' ? ask_plain : ask_is_plain)(first, message, signature);
+    (words[0][0] == 's' ? ask_signature : ask_is_signature)(first, message, signature);
     free(message.bytes);
     free(signature.bytes);
   } else {

@@ -181,50 +181,50 @@ def signed_by(maker, key):
     return signer, b"SSHSIG" + b"".join(map(string, (space, reserved, hashed, digest))), take(rest)[0]
 
 
-def said_of_plain(sshkey, *given):
+def said_of_signature(sshkey, *given):
     try:
-        asked = sshkey.plain_signature_question(*given)
+        asked = sshkey.signature_question(*given)
     except sshkey.Refused as refused:
         return f"{int(refused.status)}"
     return f"0 {int(asked.algorithm)} " + " ".join(map(part_of, (asked.key, asked.message, asked.signature)))
 
 
-def check_plain(asked, sshkey, check, maker, kinds):
+def check_signatures(asked, sshkey, check, maker, kinds):
     signed = [signed_by(maker, f"user{number}") for number in range(len(kinds))]
     for number, (kind, (key, message, signature)) in enumerate(zip(kinds, signed)):
-        question = sshkey.plain_signature_question(key, message, signature)
+        question = sshkey.signature_question(key, message, signature)
         blob = all_of(signature)[1]
         parts = (question.key, question.message, question.signature) == (key, message, blob)
         others = [(key, message + b"!", signature), *((key, message, it) for it in turned(signature))]
         others += [(it, message, signature) for it in turned(key)[19:]]
         said = asked.answers(f"signatures by a key of {kind.name}", [question_of(*it) for it in [signed[number], *others]])
-        by_python = [said_of_plain(sshkey, *it) for it in [signed[number], *others]]
+        by_python = [said_of_signature(sshkey, *it) for it in [signed[number], *others]]
         good = parts and check.is_signature(question) and said == by_python
         asked.count.check(f"what a key of {kind.name} signed is asked about as it is", good, said[:2], by_python[:2])
         valid = [it for it in others if is_valid(sshkey, check, *it)]
         asked.count.check(f"and of {len(others)} others none is valid", not valid, *valid[:2])
         strange = next(it for it in signed if take(it[0])[0] != take(key)[0])[0]
-        unsupported = said_of_plain(sshkey, strange, message, signature)
+        unsupported = said_of_signature(sshkey, strange, message, signature)
         asked.count.check("under a key of another kind it is not asked about", unsupported == "40", unsupported)
 
 
 def question_of(key, message, signature):
-    return f"plain {key.hex() or '-'} {message.hex() or '-'} {signature.hex() or '-'}"
+    return f"signature {key.hex() or '-'} {message.hex() or '-'} {signature.hex() or '-'}"
 
 
 def is_valid(sshkey, check, *given):
     try:
-        return check.is_signature(sshkey.plain_signature_question(*given))
+        return check.is_signature(sshkey.signature_question(*given))
     except sshkey.Refused:
         return False
 
 
-def check_plain_parts(asked, sshkey, keys):
+def check_signature_parts(asked, sshkey, keys):
     """A security key's question (PROTOCOL.u2f), and bytes that are no key or no signature."""
     flags, message = b"\1\0\0\0\5", b"what was signed"
     device = hashlib.sha256(b"ssh:").digest() + flags + hashlib.sha256(message).digest()
     signature = string(b"sk-ssh-ed25519@openssh.com") + string(bytes(range(64))) + flags
-    question = sshkey.plain_signature_question(keys["sk-ed25519"], message, signature)
+    question = sshkey.signature_question(keys["sk-ed25519"], message, signature)
     same = (question.key, question.message, question.signature) == (keys["ed25519"], device, bytes(range(64)))
     asked.count.check("a security key's question is about the plain key and what the device signed", same, question)
     plain = string(b"ssh-ed25519") + string(bytes(64))
@@ -238,7 +238,7 @@ def check_plain_parts(asked, sshkey, keys):
     ]  # fmt: skip
     said = asked.answers("keys and signatures", [question_of(key, message, signature) for _, key, signature, _ in cases])
     for (name, key, signature, wanted), answer in zip(cases, said):
-        found = said_of_plain(sshkey, key, message, signature).split()[0]
+        found = said_of_signature(sshkey, key, message, signature).split()[0]
         wanted = str(int(sshkey.Status[wanted]))
         asked.count.check(f"key and signature: {name}", found == answer.split()[0] == wanted, found, answer, wanted)
 
@@ -285,9 +285,9 @@ def check_normal(asked, sshkey, maker, keys):
     plain = signed_by(maker, "user4")[2]
     cases = [(f"key of {name}", "key", it, it) for name, it in keys.items()]
     cases += [(f"key under {it}", "key", renamed(rsa, it.encode()), rsa) for it in ("rsa-sha2-256", "rsa-sha2-512")]
-    cases += [("signature by RSA", "signature", ssh, ssh), ("signature by Ed25519", "signature", other, other)]
-    cases += [("signature under another name", "signature", begins + string(renamed(signer)) + rest, ssh)]
-    cases += [("signature under a key", "plain", plain, plain)]
+    cases += [("SSH signature by RSA", "sshsig", ssh, ssh), ("SSH signature by Ed25519", "sshsig", other, other)]
+    cases += [("SSH signature under another name", "sshsig", begins + string(renamed(signer)) + rest, ssh)]
+    cases += [("signature under a key", "signature", plain, plain)]
     said = asked.answers("normal forms", [f"normal {kind} {given.hex()}" for _, kind, given, _ in cases])
     for (name, kind, given, wanted), answer in zip(cases, said):
         found = normal_by_python(sshkey, kind)(given)
@@ -300,8 +300,8 @@ def check_normal(asked, sshkey, maker, keys):
 
 def normal_by_python(sshkey, kind):
     return {
-        "key": sshkey.normal_key, "certificate": sshkey.normal_certificate, "signature": sshkey.normal_signature,
-        "plain": sshkey.normal_plain_signature,
+        "key": sshkey.normal_key, "certificate": sshkey.normal_certificate, "sshsig": sshkey.normal_sshsig,
+        "signature": sshkey.normal_signature,
     }[kind]  # fmt: skip
 
 
@@ -315,7 +315,7 @@ def said_of_normal(sshkey, kind, data):
 
 def check_turned_forms(asked, sshkey, key, signature):
     """Of an Ed25519 key and of an RSA signature the last bytes may be any, and no others."""
-    for kind, data, any_from in (("key", key, 19), ("plain", signature, 20)):
+    for kind, data, any_from in (("key", key, 19), ("signature", signature, 20)):
         others = turned(data)
         said = asked.answers(f"turned bytes of a {kind}", [f"normal {kind} {it.hex()}" for it in others])
         read = {at for at, it in enumerate(said) if it.startswith("0 ")}
@@ -325,7 +325,7 @@ def check_turned_forms(asked, sshkey, key, signature):
 
 def check_hostile_forms(asked, sshkey, cases):
     """Hostile byte strings have a normal form exactly if they are what they were made of."""
-    kinds = {"key": "key", "certificate": "certificate", "ssh-signature": "signature"}
+    kinds = {"key": "key", "certificate": "certificate", "ssh-signature": "sshsig"}
     tried = [(kinds[kind], data, wanted) for kind, data, wanted in cases[::SAMPLED]]
     said = asked.answers(f"{len(tried):,} hostile byte strings", [f"normal {kind} {data.hex() or '-'}" for kind, data, _ in tried])
     good = {"read": {"0"}, "trailing": {"14"}, "length": {"13"}, "refused": {str(it) for it in range(10, 30)}}
@@ -342,8 +342,8 @@ def check_key_calls(count, built, sshkey, check, maker, kinds, hostile):
     check_wrong_lines(asked, sshkey, keys)
     check_turned_lines(asked, sshkey, keys)
     check_sha512(asked, sshkey, maker, keys)
-    check_plain(asked, sshkey, check, maker, kinds)
-    check_plain_parts(asked, sshkey, keys)
+    check_signatures(asked, sshkey, check, maker, kinds)
+    check_signature_parts(asked, sshkey, keys)
     check_normal(asked, sshkey, maker, keys)
     check_normal_certificates(asked, sshkey, maker)
     check_hostile_forms(asked, sshkey, hostile)

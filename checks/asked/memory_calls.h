@@ -72,35 +72,35 @@ typedef struct {
 #define DRAWN(at) {it->spans[at].bytes, it->spans[at].length}
 #define PORT (uint16_t)it->numbers[0]
 #define BY (const sshkey_sha256 *)it->spans[2].bytes, it->spans[2].length / sizeof(sshkey_sha256)
-#define CALLS                                                                                  \
-  CALL(certificate_question, BYTES(0), ROOM, &it->question)                                     \
-  CALL(certificate_validate, BYTES(0), it->numbers[0], BY, (uint32_t)it->numbers[1])            \
+#define CALLS                                                                                    \
+  CALL(certificate_question, BYTES(0), ROOM, &it->question)                                      \
+  CALL(certificate_validate, BYTES(0), it->numbers[0], BY, (uint32_t)it->numbers[1])             \
   CALL(certificate_validate_for, BYTES(0), it->numbers[0], BYTES(1), BY,                         \
-       (uint32_t)it->numbers[1])                                                               \
-  CALL(certificate_fields, BYTES(0), &it->fields)                                               \
-  CALL(certificate_parts, BYTES(0), &it->parts)                                                 \
-  CALL(certificate_option, BYTES(0), it->numbers[0], &it->certificate_option)                   \
-  CALL(certificate_key, BYTES(0), ROOM, &it->length)                                            \
-  CALL(certificate_to_be_signed, draft, ROOM, &it->length)                                     \
-  CALL(certificate_signed, BYTES(0), BYTES(1), ROOM, &it->length)                                \
-  CALL(read_line, BYTES(0), ROOM, &it->line)                                                    \
-  CALL(fingerprint, BYTES(0), &it->sha256)                                                      \
-  CALL(fingerprint_text, (const sshkey_sha256 *)it->spans[0].bytes, ROOM)                      \
-  CALL(fingerprint_sha512, BYTES(0), &it->sha512)                                               \
-  CALL(fingerprint_sha512_text, (const sshkey_sha512 *)it->spans[0].bytes, ROOM)               \
-  CALL(plain_signature_question, BYTES(0), BYTES(1), BYTES(2), ROOM, &it->question)               \
-  CALL(signature_question, BYTES(0), BYTES(1), BYTES(2), ROOM, &it->question, &it->sha256)        \
-  CALL(key_normal, BYTES(0), ROOM, &it->length)                                                 \
-  CALL(certificate_normal, BYTES(0), ROOM, &it->length)                                         \
-  CALL(signature_normal, BYTES(0), ROOM, &it->length)                                           \
-  CALL(plain_signature_normal, BYTES(0), ROOM, &it->length)                                     \
-  CALL(string, BYTES(0), it->numbers[0], &it->part)                                             \
-  CALL(next_line, BYTES(0), it->numbers[0], &it->part)                                          \
-  CALL(authorized_entry, BYTES(0), ROOM, &it->entry)                                            \
-  CALL(known_host, BYTES(0), ROOM, &it->entry)                                                  \
-  CALL(entry_option, BYTES(0), it->numbers[0], ROOM, &it->entry_option)                         \
-  CALL(host_verdict, BYTES(0), BYTES(1), PORT, BYTES(2))                                          \
-  CALL(host_authority, BYTES(0), BYTES(1), PORT, BYTES(2))
+       (uint32_t)it->numbers[1])                                                                 \
+  CALL(certificate_fields, BYTES(0), &it->fields)                                                \
+  CALL(certificate_parts, BYTES(0), &it->parts)                                                  \
+  CALL(next_option, BYTES(0), it->numbers[0], &it->certificate_option)                           \
+  CALL(certificate_key, BYTES(0), ROOM, &it->length)                                             \
+  CALL(certificate_to_be_signed, draft, ROOM, &it->length)                                       \
+  CALL(certificate_make, BYTES(0), BYTES(1), ROOM, &it->length)                                  \
+  CALL(read_line, BYTES(0), ROOM, &it->line)                                                     \
+  CALL(fingerprint, BYTES(0), &it->sha256)                                                       \
+  CALL(fingerprint_text, (const sshkey_sha256 *)it->spans[0].bytes, ROOM)                        \
+  CALL(fingerprint_sha512, BYTES(0), &it->sha512)                                                \
+  CALL(fingerprint_sha512_text, (const sshkey_sha512 *)it->spans[0].bytes, ROOM)                 \
+  CALL(signature_question, BYTES(0), BYTES(1), BYTES(2), ROOM, &it->question)                    \
+  CALL(sshsig_question, BYTES(0), BYTES(1), BYTES(2), ROOM, &it->question, &it->sha256)          \
+  CALL(key_normal, BYTES(0), ROOM, &it->length)                                                  \
+  CALL(certificate_normal, BYTES(0), ROOM, &it->length)                                          \
+  CALL(sshsig_normal, BYTES(0), ROOM, &it->length)                                               \
+  CALL(signature_normal, BYTES(0), ROOM, &it->length)                                            \
+  CALL(next_string, BYTES(0), it->numbers[0], &it->part)                                         \
+  CALL(next_line, BYTES(0), it->numbers[0], &it->part)                                           \
+  CALL(authorized_entry, BYTES(0), ROOM, &it->entry)                                             \
+  CALL(known_host, BYTES(0), ROOM, &it->entry)                                                   \
+  CALL(nth_option, BYTES(0), it->numbers[0], ROOM, &it->entry_option)                            \
+  CALL(host_verdict, BYTES(0), BYTES(1), PORT, BYTES(2))                                         \
+  CALL(authority_verdict, BYTES(0), BYTES(1), PORT, BYTES(2))
 
 static uint32_t call_by_name(given_call *it, const sshkey_draft *draft) {
 #define CALL(call, ...) \

@@ -12,13 +12,13 @@ from .linked import HEADER, declared, run
 SPANS, NUMBERS = 7, 5
 # with a room, and so with one that is too short
 ROOMS = {
-    "certificate_question", "certificate_key", "certificate_to_be_signed", "certificate_signed", "read_line", "fingerprint_text",
-    "fingerprint_sha512_text", "plain_signature_question", "signature_question", "key_normal", "certificate_normal",
-    "signature_normal", "plain_signature_normal", "authorized_entry", "known_host", "entry_option",
+    "certificate_question", "certificate_key", "certificate_to_be_signed", "certificate_make", "read_line", "fingerprint_text",
+    "fingerprint_sha512_text", "signature_question", "sshsig_question", "key_normal", "certificate_normal", "sshsig_normal",
+    "signature_normal", "authorized_entry", "known_host", "nth_option",
 }  # fmt: skip
 # those that take memory only where the bytes are values, and of these those that take it only for a key under another name than
 # its own, as the header says
-OF_VALUES = {"certificate_normal", "plain_signature_question", "key_normal", "fingerprint_sha512"}
+OF_VALUES = {"certificate_normal", "signature_question", "key_normal", "fingerprint_sha512"}
 OF_OTHER_NAMES = {"key_normal", "fingerprint_sha512"}
 OTHER_NAME = "rsa-sha2-256"
 # every how many-th is asked under valgrind too
@@ -37,15 +37,15 @@ def of_certificate(blob, authority, second):
         yield f"certificate_{call}", [blob], [], "DONE"
         yield f"certificate_{call}", [blob[:-1]], [], "LENGTH"
         yield f"certificate_{call}", [blob + b"!"], [], "TRAILING_DATA"
-    yield "certificate_signed", [blob[:signed], blob[signed + 4 :]], [], "DONE"
-    yield "certificate_signed", [blob[:signed], blob[signed + 4 : -1]], [], "LENGTH"
-    for verified, wanted in ((1, "DONE"), (0, "NOT_SIGNED")):
-        yield "certificate_validate", [blob, b"", by], [second, verified], wanted
-        yield "certificate_validate_for", [blob, alice, by], [second, verified], wanted
+    yield "certificate_make", [blob[:signed], blob[signed + 4 :]], [], "DONE"
+    yield "certificate_make", [blob[:signed], blob[signed + 4 : -1]], [], "LENGTH"
+    for is_verified, wanted in ((1, "DONE"), (0, "NOT_SIGNED")):
+        yield "certificate_validate", [blob, b"", by], [second, is_verified], wanted
+        yield "certificate_validate_for", [blob, alice, by], [second, is_verified], wanted
     yield "certificate_validate", [blob, b"", by], [0, 1], "OUT_OF_WINDOW"
-    yield "certificate_validate", [blob, b"", bytes(32)], [second, 1], "OTHER_AUTHORITY"
+    yield "certificate_validate", [blob, b"", bytes(32)], [second, 1], "UNTRUSTED_AUTHORITY"
     yield "certificate_validate", [blob[:-1], b"", by], [second, 1], "LENGTH"
-    yield "certificate_validate_for", [blob, b"eve", by], [second, 1], "OTHER_PRINCIPAL"
+    yield "certificate_validate_for", [blob, b"eve", by], [second, 1], "UNLISTED_PRINCIPAL"
     yield "certificate_validate_for", [blob, b"\xff", by], [second, 1], "TEXT"
 
 
@@ -67,16 +67,16 @@ def of_key(blob):
 def of_signature(maker, key):
     """Calls about what a key signs."""
     file, (blob, message, signature) = maker.signature(key, "text"), signed_by(maker, key)
-    yield "signature_question", [file, b"file", b"text"], [], "DONE"
-    yield "signature_question", [file, b"git", b"text"], [], "OTHER_NAMESPACE"
-    yield "signature_question", [file[:-1], b"file", b"text"], [], "LENGTH"
-    yield "signature_normal", [file], [], "DONE"
-    yield "signature_normal", [file + b"!"], [], "TRAILING_DATA"
-    yield "plain_signature_question", [blob, message, signature], [], "DONE"
-    yield "plain_signature_question", [blob, message, signature[:-1]], [], "LENGTH"
-    yield "plain_signature_question", [blob + b"!", message, signature], [], "TRAILING_DATA"
-    yield "plain_signature_normal", [signature], [], "DONE"
-    yield "plain_signature_normal", [signature[:-1]], [], "LENGTH"
+    yield "sshsig_question", [file, b"file", b"text"], [], "DONE"
+    yield "sshsig_question", [file, b"git", b"text"], [], "OTHER_NAMESPACE"
+    yield "sshsig_question", [file[:-1], b"file", b"text"], [], "LENGTH"
+    yield "sshsig_normal", [file], [], "DONE"
+    yield "sshsig_normal", [file + b"!"], [], "TRAILING_DATA"
+    yield "signature_question", [blob, message, signature], [], "DONE"
+    yield "signature_question", [blob, message, signature[:-1]], [], "LENGTH"
+    yield "signature_question", [blob + b"!", message, signature], [], "TRAILING_DATA"
+    yield "signature_normal", [signature], [], "DONE"
+    yield "signature_normal", [signature[:-1]], [], "LENGTH"
 
 
 def of_files(maker, key):
@@ -93,15 +93,15 @@ def of_files(maker, key):
     for wanted, text in texts.items():
         yield "host_verdict", [text, b"host", key], [22], wanted
     yield "host_verdict", [hashed, b"\xff", key], [22], "TEXT"
-    yield "host_authority", [b"@cert-authority * ssh-ed25519 " + word, b"host", key], [22], "DONE"
-    yield "host_authority", [hashed, b"host", key], [22], "HOST_UNKNOWN"
+    yield "authority_verdict", [b"@cert-authority * ssh-ed25519 " + word, b"host", key], [22], "DONE"
+    yield "authority_verdict", [hashed, b"host", key], [22], "HOST_UNKNOWN"
     yield "next_line", [hashed], [0], "DONE"
     yield "next_line", [hashed], [len(hashed)], "END"
     options = b'no-pty,command="say \\"hi\\""'
     for number, wanted in ((0, "DONE"), (1, "DONE"), (2, "END")):
-        yield "entry_option", [options], [number], wanted
-    yield "entry_option", [b"command=ls"], [0], "FORMAT"
-    yield "entry_option", [b"\xff"], [0], "TEXT"
+        yield "nth_option", [options], [number], wanted
+    yield "nth_option", [b"command=ls"], [0], "FORMAT"
+    yield "nth_option", [b"\xff"], [0], "TEXT"
 
 
 def of_drafts(key, authority):
@@ -111,10 +111,10 @@ def of_drafts(key, authority):
     yield "certificate_to_be_signed", spans, [7, 1, 2, 3, 0], "FORMAT"
     yield "certificate_to_be_signed", spans, [7, 2, 2, 1, 0], "EMPTY_WINDOW"
     yield "certificate_to_be_signed", [key[:-1], *spans[1:]], [7, 1, 2, 1, 0], "LENGTH"
-    yield "certificate_option", [options], [0], "DONE"
-    yield "certificate_option", [options], [1], "LENGTH"
-    yield "string", [options], [0], "DONE"
-    yield "string", [options], [len(options)], "END"
+    yield "next_option", [options], [0], "DONE"
+    yield "next_option", [options], [1], "LENGTH"
+    yield "next_string", [options], [0], "DONE"
+    yield "next_string", [options], [len(options)], "END"
 
 
 def cases(maker, kinds, second):

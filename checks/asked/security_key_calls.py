@@ -12,7 +12,7 @@ from cryptography.hazmat.primitives.asymmetric import ec, ed25519, utils
 from lib.harness import ssh_keygen, string, take
 from lib.signatures import mpint, signed_data
 
-from .key_calls import part_of, question_of, said_of_plain, turned
+from .key_calls import part_of, question_of, said_of_signature, turned
 from .linked import run
 
 TOUCHED, VERIFIED = 1, 4
@@ -194,7 +194,7 @@ def check_window(judges, key, certificate, window, is_verified):
     maker, said, middle = judges.maker, judges.check.said, window[0]
     signature = with_signer(maker.signature("user1", "text"), certificate)
     for principal, second, wanted in (
-        ("alice", middle, "DONE"), ("eve", middle, "OTHER_PRINCIPAL"), ("alice", 0, "OUT_OF_WINDOW"),
+        ("alice", middle, "DONE"), ("eve", middle, "UNLISTED_PRINCIPAL"), ("alice", 0, "OUT_OF_WINDOW"),
         ("alice", 2 * middle, "OUT_OF_WINDOW"),
     ):  # fmt: skip
         found = judges.of_certificates([certificate_line(certificate)], key.line(), principal, second)
@@ -289,7 +289,7 @@ def check_zero_in_principal(judges, key, middle, is_verified):
         found = judges.of_certificates([certificate_line(made)], key.line(), "alice", middle)
         file = with_signer(judges.maker.signature("user0", "text"), made)
         judged = is_verified(judges.maker.folder, "zero", file, "text", "alice", middle, f"alice cert-authority {key.line()}")
-        refused = judges.check.said(judges.sshkey.Status.OTHER_PRINCIPAL)
+        refused = judges.check.said(judges.sshkey.Status.UNLISTED_PRINCIPAL)
         same = judged == is_taken and found == ([refused],) * 2
         judges.count.check(f"the principal {principal!r} is not alice", same, found, f"ssh-keygen: {judged}")
 
@@ -302,7 +302,7 @@ def check_turned_signature(judges, key, signed):
     valid = [at for at, it in enumerate(by_c[: len(others)]) if it == "0 1"]
     name = f"of {len(others)} keys and signatures of {key.kind} with a bit turned"
     judges.count.check(f"{name} libcrypto verifies none", len(by_c) == 2 * len(others) and not valid, valid)
-    same = by_c[len(others) :] == [said_of_plain(judges.sshkey, *it) for it in others]
+    same = by_c[len(others) :] == [said_of_signature(judges.sshkey, *it) for it in others]
     judges.count.check(f"{name} C and Python ask the same", same)
 
 

@@ -56,7 +56,7 @@ static uint32_t are_for(const uint8_t *options, size_t length, int is_authority,
   for (size_t number = 0; number <= MOST_OPTIONS; number++) {
     sshkey_entry_option_parts option;
     memset(&option, 0, sizeof option);
-    uint32_t answer = sshkey_entry_option(options, length, number, room, length, &option);
+    uint32_t answer = sshkey_nth_option(options, length, number, room, length, &option);
     if (answer == SSHKEY_END) return has_name == is_authority ? SSHKEY_DONE : SSHKEY_END;
     if (answer != SSHKEY_DONE) return answer;
     has_name |= option.name.length == sizeof name - 1 &&

@@ -69,7 +69,7 @@ int add_authority(authorities *to, const char *line, size_t length) {
   return 1;
 }
 
-uint32_t judge(blob certificate, uint64_t unix_time, const char *principal, authorities by) {
+uint32_t judge(blob certificate, uint64_t unix_timestamp, const char *principal, authorities by) {
   /* step 1: what has to be verified; a room of this length is enough */
   size_t room_length = 2 * certificate.length + 256;
   uint8_t *room = calloc(1, room_length);
@@ -79,18 +79,18 @@ uint32_t judge(blob certificate, uint64_t unix_time, const char *principal, auth
   uint32_t asked = sshkey_certificate_question(sshkey_bytes(certificate.bytes), certificate.length,
                                                room, room_length, &question);
   /* step 2: verify it */
-  uint32_t verified = asked == SSHKEY_DONE && is_signature(&question, room);
+  uint32_t is_verified = asked == SSHKEY_DONE && is_signature(&question, room);
   free(room);
   if (asked == SSHKEY_MEMORY || asked == SSHKEY_ROOM) return asked;
-  /* step 3: the verdict, over the same bytes */
+  /* step 3: whether it is valid, over the same bytes */
   sshkey_sha256 nobody = {{0}};
   const sshkey_sha256 *keys = by.count ? by.keys : &nobody;
   if (!principal)
     return sshkey_certificate_validate(sshkey_bytes(certificate.bytes), certificate.length,
-                                       unix_time, keys, by.count, verified);
+                                       unix_timestamp, keys, by.count, is_verified);
   return sshkey_certificate_validate_for(sshkey_bytes(certificate.bytes), certificate.length,
-                                         unix_time, (const uint8_t *)principal, strlen(principal),
-                                         keys, by.count, verified);
+                                         unix_timestamp, (const uint8_t *)principal, strlen(principal),
+                                         keys, by.count, is_verified);
 }
 
 /* Whether each critical option is met. */
@@ -103,7 +103,7 @@ static uint32_t are_options_met(blob certificate, const login *asked) {
   if (answer != SSHKEY_DONE) return answer;
   const uint8_t *options = certificate.bytes + parts.critical_options.start;
   size_t length = parts.critical_options.length, place = 0;
-  while ((answer = sshkey_certificate_option(options, length, place, &option)) == SSHKEY_DONE) {
+  while ((answer = sshkey_next_option(options, length, place, &option)) == SSHKEY_DONE) {
     if (!asked->is_met ||
         !asked->is_met(options + option.name.start, option.name.length,
                        options + option.value.start, option.value.length, asked->given))
@@ -134,8 +134,8 @@ uint32_t validate_user(blob certificate, const login *asked) {
   sshkey_fields fields;
   memset(&fields, 0, sizeof fields);
   /* judge takes no principal for any */
-  if (!asked->user) return SSHKEY_OTHER_PRINCIPAL;
-  uint32_t answer = judge(certificate, asked->unix_time, asked->user, asked->by);
+  if (!asked->user) return SSHKEY_UNLISTED_PRINCIPAL;
+  uint32_t answer = judge(certificate, asked->unix_timestamp, asked->user, asked->by);
   if (answer == SSHKEY_DONE)
     answer = sshkey_certificate_fields(certificate.bytes, certificate.length, &fields);
   if (answer != SSHKEY_DONE) return answer;
@@ -156,10 +156,10 @@ const char *meaning(uint32_t answer) {
   case SSHKEY_LENGTH: return "a length that passes the bytes";
   case SSHKEY_TRAILING_DATA: return "bytes behind the end";
   case SSHKEY_NOT_SIGNED: return "not signed";
-  case SSHKEY_OTHER_AUTHORITY: return "another authority";
-  case SSHKEY_NO_TIME: return "a time too late to be one";
+  case SSHKEY_UNTRUSTED_AUTHORITY: return "another authority";
+  case SSHKEY_INVALID_TIME: return "a time too late to be one";
   case SSHKEY_OUT_OF_WINDOW: return "not valid at that time";
-  case SSHKEY_OTHER_PRINCIPAL: return "another principal";
+  case SSHKEY_UNLISTED_PRINCIPAL: return "another principal";
   case JUDGE_NOT_FOR_USERS: return "not for users";
   case JUDGE_NOBODY_LISTED: return "no principals";
   case JUDGE_UNMET_OPTION: return "a critical option that is not known or not met";

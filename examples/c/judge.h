@@ -33,7 +33,7 @@ int add_authority(authorities *to, const char *line, size_t length);
 
 /* Whether the certificate is valid: SSHKEY_DONE, or what is wrong first. The principal may be null,
  * and then any is meant. */
-uint32_t judge(blob certificate, uint64_t unix_time, const char *principal, authorities by);
+uint32_t judge(blob certificate, uint64_t unix_timestamp, const char *principal, authorities by);
 
 /* Whether a critical option of that name is known, and met at this login. */
 typedef int is_met_option(const uint8_t *name, size_t name_length, const uint8_t *value,
@@ -41,12 +41,12 @@ typedef int is_met_option(const uint8_t *name, size_t name_length, const uint8_t
 
 /* A login by a certificate. */
 typedef struct {
-  const char *user;      /* whom the client wants to be */
-  blob key;              /* the key of which the client has proved that it holds it */
-  uint64_t unix_time;    /* when that is */
-  authorities by;        /* who may certify users */
-  is_met_option *is_met; /* may be null: then each critical option is one that is not known */
-  void *given;           /* what is_met gets */
+  const char *user;        /* whom the client wants to be */
+  blob key;                /* the key of which the client has proved that it holds it */
+  uint64_t unix_timestamp; /* when that is */
+  authorities by;          /* who may certify users */
+  is_met_option *is_met;   /* may be null: then each critical option is one that is not known */
+  void *given;             /* what is_met gets */
 } login;
 
 /* What is wrong with a certificate that is valid, and logs nobody in; beside the answers of

@@ -22,7 +22,7 @@ static slice slice_of(const uint8_t *room, sshkey_part part) {
 static slice take(slice *from) {
   sshkey_part part = {0, 0};
   slice string = {from->bytes, 0};
-  if (sshkey_string(from->bytes, from->length, 0, &part) != SSHKEY_DONE) return string;
+  if (sshkey_next_string(from->bytes, from->length, 0, &part) != SSHKEY_DONE) return string;
   string.bytes += part.start;
   string.length = part.length;
   from->bytes += part.start + part.length;

@@ -33,8 +33,9 @@ MEANING = {
     Status.BASE64: "not Base64",
     Status.CHARACTER_ENCODING: "a text that is not UTF-8", Status.LABEL: "a name that may not stand there",
     Status.LENGTH: "a length that passes the bytes", Status.TRAILING_DATA: "bytes behind the end",
-    Status.NOT_SIGNED: "not signed", Status.OTHER_AUTHORITY: "another authority", Status.NO_TIME: "a time too late to be one",
-    Status.OUT_OF_WINDOW: "not valid at that time", Status.OTHER_PRINCIPAL: "another principal",
+    Status.NOT_SIGNED: "not signed", Status.UNTRUSTED_AUTHORITY: "another authority",
+    Status.INVALID_TIME: "a time too late to be one", Status.OUT_OF_WINDOW: "not valid at that time",
+    Status.UNLISTED_PRINCIPAL: "another principal",
     Refusal.NOT_FOR_USERS: "not for users", Refusal.NOBODY_LISTED: "no principals", Refusal.OTHER_KEY: "another key",
     Refusal.UNMET_OPTION: "a critical option that is not known or not met", Status.OTHER_NAMESPACE: "another namespace",
     Status.UNSUPPORTED: "key and signature do not go together",
@@ -81,10 +82,10 @@ def is_signature(question):
 def judge(certificate, now, principal, authorities):
     """Status.DONE, or what is wrong first."""
     try:
-        verified = is_signature(sshkey.certificate_question(certificate))
+        is_verified = is_signature(sshkey.certificate_question(certificate))
     except sshkey.Refused:
-        verified = False
-    return sshkey.validate_certificate(certificate, now, authorities, verified, principal)
+        is_verified = False
+    return sshkey.validate_certificate(certificate, now, authorities, is_verified, principal)
 
 
 def validate_user(certificate, key, now, user, authorities, is_met=lambda name, value: False):
@@ -111,12 +112,12 @@ def validate_user(certificate, key, now, user, authorities, is_met=lambda name, 
 def judge_signature(signature, namespace, message, signers):
     """Status.DONE, or what is wrong first."""
     try:
-        question, signer = sshkey.signature_question(signature, namespace, message)
+        question, signer = sshkey.sshsig_question(signature, namespace, message)
     except sshkey.Refused as refused:
         return refused.status
     if not is_signature(question):
         return Status.NOT_SIGNED
-    return Status.DONE if signer in signers else Status.OTHER_AUTHORITY
+    return Status.DONE if signer in signers else Status.UNTRUSTED_AUTHORITY
 
 
 def said(status):

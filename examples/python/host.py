@@ -5,6 +5,7 @@
 
 The input has a line for each key, as public key files have; `ssh-keyscan -p PORT HOST | cut -d' ' -f2-` shows those of a host. The
 answer to each is a word: revoked, unreadable, trusted, changed or unknown, and the first of these that one of the files gives.
+Where all say unknown of another port than 22, it is what they say of port 22, about which ssh(1) asks too.
 The status is 0 if all are trusted, 1 if not, and 2 where it can't tell.
 """
 import base64
@@ -13,6 +14,8 @@ import sys
 import sshkey
 from sshkey import Status
 
+# the port at which a host is known by its plain name
+STANDARD_PORT = 22
 # the first of these that is said decides
 WORDS = {
     Status.HOST_REVOKED: "revoked", Status.HOST_UNREADABLE: "unreadable", Status.DONE: "trusted", Status.HOST_CHANGED: "changed",
@@ -22,8 +25,11 @@ WORDS = {
 
 def judge(texts, host, port, key):
     """The first verdict of those that the texts give, in the order of WORDS; HOST_UNKNOWN where there are no texts."""
-    said = {sshkey.judge_host(text, host, port, key) for text in texts}
-    return next((it for it in WORDS if it in said), Status.HOST_UNKNOWN)
+    said = {sshkey.host_verdict(text, host, port, key) for text in texts}
+    verdict = next((it for it in WORDS if it in said), Status.HOST_UNKNOWN)
+    if verdict == Status.HOST_UNKNOWN and port != STANDARD_PORT:
+        return judge(texts, host, STANDARD_PORT, key)
+    return verdict
 
 
 def main():

@@ -3,11 +3,11 @@
 Cryptography is yours. A certificate takes two calls, with your verification between them:
 
     question = sshkey.certificate_question(certificate)
-    verified = is_signature(question)  # yours: True or False
-    status = sshkey.validate_certificate(certificate, now, authorities, verified, principal="alice")
+    is_verified = is_signature(question)  # yours: True or False
+    status = sshkey.validate_certificate(certificate, now, authorities, is_verified, principal="alice")
 
 It is valid exactly if the status is Status.DONE; any other says what is wrong first. An SSH signature takes one call: it is
-valid exactly if signature_question gives a question, your verification of it says yes, and the signer is one of yours.
+valid exactly if sshsig_question gives a question, your verification of it says yes, and the signer is one of yours.
 
 The library is the file that SSHKEY_LIBRARY names in the environment, or else out/libsshkey.so beside this folder (`make` there
 builds it), or else the system's. Calls from several threads at once are fine.
@@ -20,32 +20,32 @@ from dataclasses import dataclass
 
 
 class Status(enum.IntEnum):
-    """What a call returns."""
+    """What a call returns; sshkey.h says of each what it means."""
 
     DONE = 0
     MEMORY = 1
     ROOM = 2
     END = 3
-    TEXT = 4
+    TEXT = 4  # for a line that is not UTF-8 read_line gives CHARACTER_ENCODING
     BASE64 = 10
     CHARACTER_ENCODING = 11
     LABEL = 12
     LENGTH = 13
     TRAILING_DATA = 14
     FORMAT = 15
-    ALGORITHM_UNKNOWN = 16
-    CRYPTO = 17
+    ALGORITHM_UNKNOWN = 16  # two names differ that have to be one, or a point begins with 00 or 05
+    CRYPTO = 17  # a number in a signature is not positive, or the curve of a security key is not P-256
     ECDSA = 18
     TIME = 19
     NAMESPACE = 20
-    PUBLIC_KEY = 21
+    PUBLIC_KEY = 21  # never returned: a fault of private keys
     VERSION = 22
-    OTHER_FAULT = 23
+    OTHER_FAULT = 23  # never returned
     NOT_SIGNED = 30
-    OTHER_AUTHORITY = 31
-    NO_TIME = 32
+    UNTRUSTED_AUTHORITY = 31
+    INVALID_TIME = 32
     OUT_OF_WINDOW = 33
-    OTHER_PRINCIPAL = 34
+    UNLISTED_PRINCIPAL = 34
     UNSUPPORTED = 40
     OTHER_NAMESPACE = 41
     PRINCIPALS = 45
@@ -239,27 +239,27 @@ CALLS = {
     "sshkey_certificate_fields": (*BYTES, ctypes.POINTER(Fields)),
     "sshkey_fingerprint": (*BYTES, ctypes.POINTER(Sha256)),
     "sshkey_fingerprint_text": (ctypes.POINTER(Sha256), *ROOM),
-    "sshkey_signature_question": (*BYTES, *BYTES, *BYTES, *ROOM, ctypes.POINTER(Asked), ctypes.POINTER(Sha256)),
+    "sshkey_sshsig_question": (*BYTES, *BYTES, *BYTES, *ROOM, ctypes.POINTER(Asked), ctypes.POINTER(Sha256)),
     "sshkey_read_line": (*BYTES, *ROOM, ctypes.POINTER(ReadLine)),
     "sshkey_fingerprint_sha512": (*BYTES, ctypes.POINTER(Sha512)),
     "sshkey_fingerprint_sha512_text": (ctypes.POINTER(Sha512), *ROOM),
-    "sshkey_plain_signature_question": (*BYTES, *BYTES, *BYTES, *ROOM, ctypes.POINTER(Asked)),
+    "sshkey_signature_question": (*BYTES, *BYTES, *BYTES, *ROOM, ctypes.POINTER(Asked)),
     "sshkey_key_normal": (*BYTES, *WRITTEN),
     "sshkey_certificate_normal": (*BYTES, *WRITTEN),
+    "sshkey_sshsig_normal": (*BYTES, *WRITTEN),
     "sshkey_signature_normal": (*BYTES, *WRITTEN),
-    "sshkey_plain_signature_normal": (*BYTES, *WRITTEN),
-    "sshkey_string": (*BYTES, ctypes.c_size_t, ctypes.POINTER(Part)),
+    "sshkey_next_string": (*BYTES, ctypes.c_size_t, ctypes.POINTER(Part)),
     "sshkey_certificate_parts": (*BYTES, ctypes.POINTER(Parts)),
-    "sshkey_certificate_option": (*BYTES, ctypes.c_size_t, ctypes.POINTER(OptionParts)),
+    "sshkey_next_option": (*BYTES, ctypes.c_size_t, ctypes.POINTER(OptionParts)),
     "sshkey_certificate_key": (*BYTES, *ROOM, LENGTH),
     "sshkey_certificate_to_be_signed": (ctypes.POINTER(Draft), *ROOM, LENGTH),
-    "sshkey_certificate_signed": (*BYTES, *BYTES, *ROOM, LENGTH),
+    "sshkey_certificate_make": (*BYTES, *BYTES, *ROOM, LENGTH),
     "sshkey_next_line": (*BYTES, ctypes.c_size_t, ctypes.POINTER(Part)),
     "sshkey_authorized_entry": (*BYTES, *ROOM, ctypes.POINTER(Entry)),
     "sshkey_known_host": (*BYTES, *ROOM, ctypes.POINTER(Entry)),
-    "sshkey_entry_option": (*BYTES, ctypes.c_size_t, *ROOM, ctypes.POINTER(EntryOption)),
+    "sshkey_nth_option": (*BYTES, ctypes.c_size_t, *ROOM, ctypes.POINTER(EntryOption)),
     "sshkey_host_verdict": (*BYTES, *BYTES, ctypes.c_uint16, *BYTES),
-    "sshkey_host_authority": (*BYTES, *BYTES, ctypes.c_uint16, *BYTES),
+    "sshkey_authority_verdict": (*BYTES, *BYTES, ctypes.c_uint16, *BYTES),
 }
 
 
@@ -320,15 +320,16 @@ def certificate_question(certificate):
     return _asked(lambda *room: _LIBRARY.sshkey_certificate_question(certificate, length, *room), 2 * length + 256)
 
 
-def validate_certificate(certificate, now, authorities, verified, principal=None):
-    """Status.DONE exactly if the certificate is valid at that second for one of the authorities, which are fingerprints of 32
-    bytes, and for the principal if one is given; else what is wrong first. `verified` is what your verification said of the
-    question of this very certificate, True or False, and False where it raised none; anything but True is a no."""
+def validate_certificate(certificate, now, authorities, is_verified, principal=None):
+    """Status.DONE exactly if the certificate is valid at that second, which has to be at most 2^63 - 1, for one of the
+    authorities, which are fingerprints of 32 bytes, and for the principal if one is given; else what is wrong first.
+    `is_verified` is what your verification said of the question of this very certificate, True or False, and False where it
+    raised none; anything but True is a no."""
     if not 0 <= now < 1 << 64:
         raise ValueError("a time is a number of seconds from 0 to 2^64 - 1")
     whom = () if principal is None else _bytes(principal.encode() if isinstance(principal, str) else principal)
     validate = _LIBRARY.sshkey_certificate_validate if principal is None else _LIBRARY.sshkey_certificate_validate_for
-    status = Status(validate(*_bytes(certificate), now, *whom, *_digests(authorities), 1 if verified is True else 0))
+    status = Status(validate(*_bytes(certificate), now, *whom, *_digests(authorities), 1 if is_verified is True else 0))
     if status == Status.MEMORY:
         raise MemoryError
     return status
@@ -355,14 +356,14 @@ def fingerprint_text(digest):
     return bytes(room).decode("ascii")
 
 
-def signature_question(signature, namespace, message):
+def sshsig_question(signature, namespace, message):
     """What has to be verified of an SSH signature (what stands in its armour, decoded) of the message in that namespace, and the
     fingerprint of the key that signed. Refused where the bytes are none, or are one for another namespace. That the signer may
     sign is yours to judge."""
     namespace = namespace.encode() if isinstance(namespace, str) else namespace
     given, signer = (*_bytes(signature), *_bytes(namespace), *_bytes(message)), Sha256()
     question = _asked(
-        lambda *room: _LIBRARY.sshkey_signature_question(*given, *room, ctypes.byref(signer)), sum(given[1::2]) + 256
+        lambda *room: _LIBRARY.sshkey_sshsig_question(*given, *room, ctypes.byref(signer)), sum(given[1::2]) + 256
     )
     return question, bytes(signer.bytes)
 
@@ -394,11 +395,11 @@ def fingerprint_sha512_text(digest):
     return bytes(room).decode("ascii")
 
 
-def plain_signature_question(key, message, signature):
+def signature_question(key, message, signature):
     """What has to be verified of a signature of the message under a key, both given as their bytes (RFC 4253, section 6.6): as
     an agent gives it, or a client at a login. Refused where they are none, or do not go together."""
     given = (*_bytes(key), *_bytes(message), *_bytes(signature))
-    return _asked(lambda *room: _LIBRARY.sshkey_plain_signature_question(*given, *room), sum(given[1::2]) + 256)
+    return _asked(lambda *room: _LIBRARY.sshkey_signature_question(*given, *room), sum(given[1::2]) + 256)
 
 
 def _normal(call, value):
@@ -420,14 +421,14 @@ def normal_certificate(certificate):
     return _normal(_LIBRARY.sshkey_certificate_normal, certificate)
 
 
-def normal_signature(signature):
+def normal_sshsig(signature):
     """The normal form of an SSH signature. Refused where the bytes are none."""
+    return _normal(_LIBRARY.sshkey_sshsig_normal, signature)
+
+
+def normal_signature(signature):
+    """The normal form of a signature as signature_question takes it: the bytes themselves. Refused where they are none."""
     return _normal(_LIBRARY.sshkey_signature_normal, signature)
-
-
-def normal_plain_signature(signature):
-    """The normal form of a signature as plain_signature_question takes it: the bytes themselves. Refused where they are none."""
-    return _normal(_LIBRARY.sshkey_plain_signature_normal, signature)
 
 
 def strings(blob):
@@ -435,7 +436,7 @@ def strings(blob):
     none."""
     found, place, part = [], 0, Part()
     blob, length = _bytes(blob)
-    while (status := _LIBRARY.sshkey_string(blob, length, place, ctypes.byref(part))) != Status.END:
+    while (status := _LIBRARY.sshkey_next_string(blob, length, place, ctypes.byref(part))) != Status.END:
         _done(status)
         place = part.start + part.length
         found.append(blob[part.start : place])
@@ -449,7 +450,7 @@ def options(blob):
     """The names and values of the critical options or of the extensions that the bytes are. Refused where they are none."""
     found, place, part = {}, 0, OptionParts()
     blob, length = _bytes(blob)
-    while (status := _LIBRARY.sshkey_certificate_option(blob, length, place, ctypes.byref(part))) != Status.END:
+    while (status := _LIBRARY.sshkey_next_option(blob, length, place, ctypes.byref(part))) != Status.END:
         _done(status)
         place = part.next
         name, value = (blob[it.start : it.start + it.length] for it in (part.name, part.value))
@@ -519,8 +520,8 @@ def make_certificate(
     an empty list is Refused. The type is 1 for users and 2 for hosts, and the window the seconds from `valid_after` on and
     before `valid_before`. Options are dicts of names and values. The nonce is random unless it is given.
 
-    Refused where these tell no certificate. Whether the signature is one of the authority is not asked here:
-    certificate_question asks it."""
+    Refused where these tell no certificate; a key that has a private-use name is rejected: LABEL. Whether the signature is one
+    of the authority is not asked here: certificate_question asks it."""
     texts = {
         "key": key, "nonce": os.urandom(32) if nonce is None else nonce, "key_id": key_id.encode(), "authority": authority,
         "principals": b"".join(map(string, principals or ())), "critical_options": _listed(critical_options or {}),
@@ -540,7 +541,7 @@ def make_certificate(
 def join_certificate(to_be_signed, signature):
     """The certificate that the signature's blob makes of the bytes that were signed. Refused where that is none."""
     given = (*_bytes(to_be_signed), *_bytes(signature))
-    return _written(lambda *room: _LIBRARY.sshkey_certificate_signed(*given, *room), given[1] + given[3] + 4)
+    return _written(lambda *room: _LIBRARY.sshkey_certificate_make(*given, *room), given[1] + given[3] + 4)
 
 
 # ---- authorized_keys and known_hosts
@@ -590,7 +591,7 @@ def authorized_entry(line):
 
 def known_host(line):
     """The entry of a line of known_hosts, as ssh reads it. Refused where the line is none, which may be a revocation: to judge
-    the key of a host, ask judge_host about the whole text."""
+    the key of a host, ask host_verdict about the whole text."""
     marker, *parts = _entry(_LIBRARY.sshkey_known_host, line)
     return KnownHost(Marker(marker), *parts)
 
@@ -600,7 +601,7 @@ def entry_options(text):
     where the text is no list of options. Each takes time for all, so refuse an option that you do not know, and one that comes
     twice."""
     number, answer, given = 0, EntryOption(), _bytes(text)
-    while (room := _in_room(lambda *room: _LIBRARY.sshkey_entry_option(*given, number, *room), answer, given[1])) is not None:
+    while (room := _in_room(lambda *room: _LIBRARY.sshkey_nth_option(*given, number, *room), answer, given[1])) is not None:
         name, value = _parts(room, answer.name, answer.value)
         yield name, value if answer.has_value else None
         number += 1
@@ -616,15 +617,16 @@ def _judged(call, known_hosts, host, port, key):
     return status
 
 
-def judge_host(known_hosts, host, port, key):
+def host_verdict(known_hosts, host, port, key):
     """Status.DONE exactly if a text of known_hosts trusts the key, given as its blob, for a host (a name or an address, bytes or
-    a text) at a port; HOST_REVOKED, HOST_UNREADABLE, HOST_CHANGED or HOST_UNKNOWN for what it says else. Refused where the bytes
-    are no key, or the text or the host is not UTF-8."""
+    a text) at a port; HOST_REVOKED, HOST_UNREADABLE, HOST_CHANGED or HOST_UNKNOWN for what it says else. For a port other than
+    22, where the answer is HOST_UNKNOWN, ssh(1) asks about port 22 too. Refused where the bytes are no key, or the text or the
+    host is not UTF-8."""
     return _judged(_LIBRARY.sshkey_host_verdict, known_hosts, host, port, key)
 
 
-def judge_authority(known_hosts, host, port, key):
+def authority_verdict(known_hosts, host, port, key):
     """The same of the key of an authority that signed a certificate of the host: Status.DONE exactly if an entry @cert-authority
     for the host has the key, and neither is it revoked nor a line that may be the host's unreadable; HOST_UNKNOWN where no such
     entry has it."""
-    return _judged(_LIBRARY.sshkey_host_authority, known_hosts, host, port, key)
+    return _judged(_LIBRARY.sshkey_authority_verdict, known_hosts, host, port, key)

@@ -9,8 +9,8 @@ ghost use Rattle.sshkey_model.specs.Reading.{Fault, whole};
 ghost use Rattle.sshkey_model.specs.Verification.{Question as TheQuestion};
 ghost use Rattle.sshkey_calls.specs.Fields.{GivesFields};
 ghost use Rattle.sshkey_calls.specs.Numbers.{fault_number};
-ghost use Rattle.sshkey_calls.specs.Questions.{Asks, RaisedBy, TellsNone};
-ghost use Rattle.sshkey_calls.specs.Verdicts.{IsGood, IsGoodFor, Says, TellsFirst, TellsFirstFor, Verified, authorities_of};
+ghost use Rattle.sshkey_calls.specs.Questions.{GivesQuestion, RaisedBy, TellsNone};
+ghost use Rattle.sshkey_calls.specs.Validations.{IsGood, IsGoodFor, Says, TellsFirst, TellsFirstFor, Verified, authorities_of};
 
 use sshkey_calls::{
     CertificateFields, Question, Sha256Digest, certificate_fields, certificate_question,
@@ -26,7 +26,7 @@ pub extern "C" fn sshkey_certificate_question(
     room: &mut [u8],
     answer: &mut Question,
 ) -> u32
-    ensures raised { Asks (RaisedBy certificate.now)
+    ensures raised { GivesQuestion (RaisedBy certificate.now)
         result answer.old answer.new room.old room.new }
     ensures unsupported { TellsNone certificate.now result }
     ensures fault { (fault : Fault) → whole certificate_at certificate.now ≡ Err fault
@@ -41,20 +41,21 @@ pub extern "C" fn sshkey_certificate_question(
 pub extern "C" fn sshkey_certificate_validate(
     alloc: Global,
     certificate: &[u8],
-    unix_time: u64,
+    unix_timestamp: u64,
     authorities: &[Sha256Digest],
-    verified: u32,
+    is_verified: u32,
 ) -> u32
-    ensures exactly { (accepts : TheQuestion → Bool) → Verified accepts certificate.now verified
-        → Says (IsGood accepts (authorities_of authorities.now) unix_time certificate.now)
+    ensures exactly { (accepts : TheQuestion → Bool) → Verified accepts certificate.now is_verified
+        → Says (IsGood accepts (authorities_of authorities.now) unix_timestamp certificate.now)
         result }
-    ensures first { (accepts : TheQuestion → Bool) → Verified accepts certificate.now verified
-        → TellsFirst accepts (authorities_of authorities.now) unix_time certificate.now result }
+    ensures first { (accepts : TheQuestion → Bool) → Verified accepts certificate.now is_verified
+        → TellsFirst accepts (authorities_of authorities.now) unix_timestamp certificate.now
+        result }
     ensures fault { (fault : Fault) → whole certificate_at certificate.now ≡ Err fault
         → result ≡ fault_number fault }
     ensures memory { result ≡ 1 → SpellsSome SpellsCertificate certificate.now }
 {
-    certificate_validate(alloc, certificate, unix_time, authorities, verified)
+    certificate_validate(alloc, certificate, unix_timestamp, authorities, is_verified)
 }
 
 /// Whether a certificate is valid for a principal: `sshkey_calls::certificate_validate_for`.
@@ -62,18 +63,18 @@ pub extern "C" fn sshkey_certificate_validate(
 pub extern "C" fn sshkey_certificate_validate_for(
     alloc: Global,
     certificate: &[u8],
-    unix_time: u64,
+    unix_timestamp: u64,
     principal: &[u8],
     authorities: &[Sha256Digest],
-    verified: u32,
+    is_verified: u32,
 ) -> u32
     ensures exactly { IsUtf8 principal.now → (accepts : TheQuestion → Bool)
-        → Verified accepts certificate.now verified
-        → Says (IsGoodFor accepts (authorities_of authorities.now) unix_time principal.now
+        → Verified accepts certificate.now is_verified
+        → Says (IsGoodFor accepts (authorities_of authorities.now) unix_timestamp principal.now
         certificate.now) result }
     ensures first { IsUtf8 principal.now → (accepts : TheQuestion → Bool)
-        → Verified accepts certificate.now verified
-        → TellsFirstFor accepts (authorities_of authorities.now) unix_time principal.now
+        → Verified accepts certificate.now is_verified
+        → TellsFirstFor accepts (authorities_of authorities.now) unix_timestamp principal.now
         certificate.now result }
     ensures fault { IsUtf8 principal.now → (fault : Fault)
         → whole certificate_at certificate.now ≡ Err fault → result ≡ fault_number fault }
@@ -83,10 +84,10 @@ pub extern "C" fn sshkey_certificate_validate_for(
     certificate_validate_for(
         alloc,
         certificate,
-        unix_time,
+        unix_timestamp,
         principal,
         authorities,
-        verified,
+        is_verified,
     )
 }
 

@@ -9,7 +9,7 @@ ghost use Rattle.sshkey_calls.specs.Drafts.{FitsString, IsJoined, IsSigned, IsTo
 ghost use Rattle.sshkey_calls.specs.Numbers.{fault_number};
 ghost use Rattle.sshkey_calls.specs.Writing.{Writes};
 
-use sshkey_calls::{CertificateDraft, certificate_signed, certificate_to_be_signed};
+use sshkey_calls::{CertificateDraft, certificate_make, certificate_to_be_signed};
 use std::alloc::Global;
 
 /// What is to be signed of a certificate: `sshkey_calls::certificate_to_be_signed`.
@@ -29,9 +29,9 @@ pub extern "C" fn sshkey_certificate_to_be_signed(
     certificate_to_be_signed(alloc, draft, room, length)
 }
 
-/// The certificate that a signature makes: `sshkey_calls::certificate_signed`.
+/// The certificate that a signature makes: `sshkey_calls::certificate_make`.
 #[unsafe(no_mangle)]
-pub extern "C" fn sshkey_certificate_signed(
+pub extern "C" fn sshkey_certificate_make(
     alloc: Global,
     to_be_signed: &[u8],
     signature: &[u8],
@@ -45,5 +45,5 @@ pub extern "C" fn sshkey_certificate_signed(
     ensures long { (FitsString signature.now → ⊥) → result ≡ 13 }
     ensures memory { result ≡ 1 → FitsString signature.now }
 {
-    certificate_signed(alloc, to_be_signed, signature, room, length)
+    certificate_make(alloc, to_be_signed, signature, room, length)
 }

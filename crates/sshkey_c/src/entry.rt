@@ -18,7 +18,7 @@ use std::alloc::Global;
 /// The next line that may be an entry: `sshkey_file_calls::next_line`.
 #[unsafe(no_mangle)]
 pub extern "C" fn sshkey_next_line(text: &[u8], place: usize, answer: &mut Part) -> u32
-    ensures { FindsLine text.now place result answer.new }
+    ensures { FindsLine text.now place result answer.old answer.new }
 {
     next_line(text, place, answer)
 }
@@ -44,7 +44,7 @@ pub extern "C" fn sshkey_authorized_entry(
 
 /// The option of that number: `sshkey_file_calls::nth_option`.
 #[unsafe(no_mangle)]
-pub extern "C" fn sshkey_entry_option(
+pub extern "C" fn sshkey_nth_option(
     alloc: Global,
     options: &[u8],
     number: usize,

@@ -33,7 +33,7 @@ pub extern "C" fn sshkey_host_verdict(
 /// What a text of known_hosts says of the key of an authority that signed a host's certificate:
 /// `sshkey_file_calls::authority_verdict`.
 #[unsafe(no_mangle)]
-pub extern "C" fn sshkey_host_authority(
+pub extern "C" fn sshkey_authority_verdict(
     alloc: Global,
     known_hosts: &[u8],
     host: &[u8],

@@ -13,7 +13,7 @@ mod key;
 mod line;
 mod normal;
 mod parts;
-mod plain_signature;
 mod sha512;
 mod signature;
+mod sshsig;
 mod walk;

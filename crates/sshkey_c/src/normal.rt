@@ -10,10 +10,10 @@ ghost use Rattle.sshkey_model.specs.Signatures.{signature_at};
 ghost use Rattle.sshkey_sshsig.specs.SshSignatureReaders.{ssh_signature_value_at};
 ghost use Rattle.sshkey_calls.specs.NormalForms.{IsNormalCertificate, IsNormalKey, IsNormalSignature, IsNormalSshSignature, IsRenamedKey};
 ghost use Rattle.sshkey_calls.specs.Numbers.{fault_number};
-ghost use Rattle.sshkey_calls.specs.Signatures.{NeedsSshSignature};
+ghost use Rattle.sshkey_calls.specs.SshSignatures.{NeedsSshSignature};
 ghost use Rattle.sshkey_calls.specs.Writing.{Writes};
 
-use sshkey_calls::{certificate_normal, key_normal, plain_signature_normal, signature_normal};
+use sshkey_calls::{certificate_normal, key_normal, signature_normal, sshsig_normal};
 use std::alloc::Global;
 
 /// The normal form of a key: `sshkey_calls::key_normal`.
@@ -49,9 +49,9 @@ pub extern "C" fn sshkey_certificate_normal(
     certificate_normal(alloc, certificate, room, len)
 }
 
-/// The normal form of an SSH signature: `sshkey_calls::signature_normal`.
+/// The normal form of an SSH signature: `sshkey_calls::sshsig_normal`.
 #[unsafe(no_mangle)]
-pub extern "C" fn sshkey_signature_normal(
+pub extern "C" fn sshkey_sshsig_normal(
     alloc: Global,
     signature: &[u8],
     room: &mut [u8],
@@ -63,12 +63,12 @@ pub extern "C" fn sshkey_signature_normal(
         → result ≢ 1 → result ≡ fault_number fault }
     ensures memory { result ≡ 1 → NeedsSshSignature signature.now }
 {
-    signature_normal(alloc, signature, room, len)
+    sshsig_normal(alloc, signature, room, len)
 }
 
-/// The normal form of a signature: `sshkey_calls::plain_signature_normal`.
+/// The normal form of a signature: `sshkey_calls::signature_normal`.
 #[unsafe(no_mangle)]
-pub extern "C" fn sshkey_plain_signature_normal(
+pub extern "C" fn sshkey_signature_normal(
     signature: &[u8],
     room: &mut [u8],
     len: &mut usize,
@@ -79,5 +79,5 @@ pub extern "C" fn sshkey_plain_signature_normal(
         → result ≡ fault_number fault }
     ensures memory { result ≢ 1 }
 {
-    plain_signature_normal(signature, room, len)
+    signature_normal(signature, room, len)
 }

@@ -47,7 +47,7 @@ pub extern "C" fn sshkey_certificate_key(
 
 /// The option at a place: `sshkey_calls::next_option`.
 #[unsafe(no_mangle)]
-pub extern "C" fn sshkey_certificate_option(
+pub extern "C" fn sshkey_next_option(
     bytes: &[u8],
     place: usize,
     answer: &mut OptionParts,

@@ -141,13 +141,9 @@ number_told wrong n (inr told) other = told
 
 -- ---- keys
 
-pub right_key : (k : Key) → IsCertifiable k → key_number k ≡ 0
-right_key (Opaque name k) is = absurd is
-right_key k is = refl
-
 pub other_key : (k : Key) → (IsCertifiable k → ⊥) → key_number k ≡ 12
 other_key (Opaque name k) not = refl
-other_key k not = absurd (not tt)
+other_key k not = absurd (not refl)
 
 pub certifiable_as : (found : Result Key Fault) → 0 < number_of found → certifiable_number found ≡ number_of found
 certifiable_as (Ok k) some = absurd (omega (arith, some))
@@ -242,7 +238,7 @@ no_parts_fault d f told =
     let critical = short_string d.critical_options.now (each_option f.critical_options told.critical_options.choices) told.critical_options.shape told.critical_options.fits in
     let extensions = short_string d.extensions.now (each_option f.extensions told.extensions.choices) told.extensions.shape told.extensions.fits in
     last_part d
-    (ap certifiable_number (key_is f.key d.key.now told.key.0) ∙ right_key f.key told.key.1)
+    (ap certifiable_number (key_is f.key d.key.now told.key.0) ∙ told.key.1)
     (ap number_of (key_is f.signature_key d.authority.now told.signature_key))
     (text_right _ (subst (λ (b : List ℕ). is_utf8 b ≡ true) told.key_id.0 told.key_id.1))
     (listed_right texts_at d.principals.now f.valid_principals (fits_number d.principals.now principals) (spelled_whole texts_grammar _ f.valid_principals told.valid_principals))

@@ -3,11 +3,11 @@ pub mod Laid
 pub mod Strings
 pub mod Questions
 pub mod Digests
-pub mod Signatures
-pub mod Verdicts
+pub mod SshSignatures
+pub mod Validations
 pub mod KeyLines
 pub mod NormalForms
-pub mod PlainSignatures
+pub mod Signatures
 pub mod Options
 pub mod OptionValues
 pub mod OptionPlaces

@@ -3,7 +3,7 @@ use Rattle.std.proofs.Common.{◌≡◌, ◌≢◌, ◌<◌, ◌+◌, ℕ, List,
 use Rattle.sshkey_model.specs.Keys.{normal_key}
 use Rattle.sshkey_model.specs.Parts.{flat}
 use Rattle.sshkey_model.specs.Verification as model
-use Rattle.sshkey_calls.specs.Questions.{Asks, IsAnswer, IsLaidOut, room_for}
+use Rattle.sshkey_calls.specs.Questions.{GivesQuestion, IsAnswer, IsLaidOut, room_for}
 use Rattle.std.proofs.Math.Seq.{drop-append_seam}
 use Rattle.sshkey_calls.specs.Rooms.{Fills}
 use Rattle.sshkey_calls.specs.declared.question.Question.{Question}
@@ -27,7 +27,7 @@ is_answer q content behind before after answer laid is rest = record {
     whole = omega (arith, ap length is, length-append content behind, ap length laid.content, length-append (flat (normal_key q.key)) (q.message ++ q.blob), length-append q.message q.blob)
 
 -- The room was filled, or is too short.
-pub answers : (q : model.Question) (content before after : List ℕ) (filled : Bool) (was answer : Question) (n : ℕ) → IsLaidOut q content answer → Fills content before filled after → (filled ≡ true → n ≡ 0) → (filled ≡ false → n ≡ 2) → Asks (λ x. x ≡ q) n was answer before after
+pub answers : (q : model.Question) (content before after : List ℕ) (filled : Bool) (was answer : Question) (n : ℕ) → IsLaidOut q content answer → Fills content before filled after → (filled ≡ true → n ≡ 0) → (filled ≡ false → n ≡ 2) → GivesQuestion (λ x. x ≡ q) n was answer before after
 answers q content before after true was answer n laid filled done short = record {
   asked = λ _. (q, refl, is_answer q content (drop (length content) before) before after answer laid filled refl);
   short = λ two. absurd (omega (arith, done refl, two));
@@ -48,7 +48,7 @@ answers q content before after false was answer n laid filled done short = recor
     too_short = omega (arith, whole_length, filled.1)
 
 -- What holds of the one question that was raised holds where it is raised.
-pub raised : {Raised Other : model.Question → Type 0} (n : ℕ) (was answer : Question) (before after : List ℕ) → ((q : model.Question) → Raised q → Other q) → ((q : model.Question) → Other q → Raised q) → Asks Raised n was answer before after → Asks Other n was answer before after
+pub raised : {Raised Other : model.Question → Type 0} (n : ℕ) (was answer : Question) (before after : List ℕ) → ((q : model.Question) → Raised q → Other q) → ((q : model.Question) → Other q → Raised q) → GivesQuestion Raised n was answer before after → GivesQuestion Other n was answer before after
 raised n was answer before after there back asks = record {
   asked = λ zero_. let a = asks.asked zero_ in (a.0, there a.0 a.1, a.2);
   short = λ two. let a = asks.short two in (a.0, there a.0 a.1, a.2);
@@ -57,7 +57,7 @@ raised n was answer before after there back asks = record {
 }
 
 -- Nothing is said.
-pub no_memory : {Raised : model.Question → Type 0} (n : ℕ) (was answer : Question) (before after : List ℕ) → (answer ≡ was) × (after ≡ before) → n ≡ 1 → Asks Raised n was answer before after
+pub no_memory : {Raised : model.Question → Type 0} (n : ℕ) (was answer : Question) (before after : List ℕ) → (answer ≡ was) × (after ≡ before) → n ≡ 1 → GivesQuestion Raised n was answer before after
 no_memory n was answer before after same one = record {
   asked = λ zero_. absurd (omega (arith, one, zero_));
   short = λ two. absurd (omega (arith, one, two));
@@ -66,7 +66,7 @@ no_memory n was answer before after same one = record {
 }
 
 -- There is none.
-pub none_raised : {Raised : model.Question → Type 0} (n : ℕ) (was answer : Question) (before after : List ℕ) → (answer ≡ was) × (after ≡ before) → n ≢ 0 → n ≢ 2 → (n ≢ 1 → (q : model.Question) → Raised q → ⊥) → Asks Raised n was answer before after
+pub none_raised : {Raised : model.Question → Type 0} (n : ℕ) (was answer : Question) (before after : List ℕ) → (answer ≡ was) × (after ≡ before) → n ≢ 0 → n ≢ 2 → (n ≢ 1 → (q : model.Question) → Raised q → ⊥) → GivesQuestion Raised n was answer before after
 none_raised n was answer before after same some apart none = record {
   asked = λ zero_. absurd (some zero_);
   short = λ two. absurd (apart two);

@@ -1,45 +1,33 @@
--- The one SSH signature that bytes spell.
-use Rattle.std.proofs.Common.{◌≡◌, ◌≢◌, ℕ, List, [], Some, None, refl, subst, ap, ◌∙◌}
-use Rattle.sshkey_model.specs.Names.{Sha256}
-use Rattle.sshkey_model.specs.SignedMessages.{signed_by}
-use Rattle.sshkey_model.specs.SshSignatures.{SshSignature}
+-- The one question about a key and a signature that bytes spell.
+use Rattle.std.proofs.Common.{◌≡◌, ◌≢◌, ℕ, List, [], Some, refl, sym, ap, ◌∙◌}
+use Rattle.sshkey_model.specs.Keys.{Key}
+use Rattle.sshkey_model.specs.Signatures.{Signature}
 use Rattle.sshkey_model.specs.Verification as model
+use Rattle.sshkey_model.proofs.Blobs.{key_blobs}
 use Rattle.sshkey_model.proofs.Grammars.{one_front}
-use Rattle.sshkey_sshsig.specs.SshSignatureReaders.{SpellsSshSignature, ssh_signature_grammar}
-use Rattle.sshkey_calls.specs.Fingerprints.{GivesDigestOf}
-use Rattle.sshkey_calls.specs.Questions.{Asks}
-use Rattle.sshkey_calls.specs.Signatures.{RaisedBySignature}
+use Rattle.sshkey_keys.specs.Keys.{SpellsKey}
+use Rattle.sshkey_keys.specs.SignatureReaders.{SpellsSignature, signature_grammar}
+use Rattle.sshkey_calls.specs.Signatures.{RaisedUnder}
+use Rattle.sshkey_calls.specs.Questions.{GivesQuestion}
 use Rattle.sshkey_calls.specs.declared.question.Question.{Question}
 use Rattle.sshkey_calls.proofs.Questions.{none_raised, raised}
 
-pub one_signature : (f g : SshSignature) (bytes : List ℕ) → SpellsSshSignature f bytes → SpellsSshSignature g bytes → f ≡ g
-one_signature f g bytes spelled other = (one_front ssh_signature_grammar f g bytes bytes [] [] spelled other refl).0
+module _ (k : Key) (g : Signature) (key message signature : List ℕ) (by : SpellsKey k key) (made : SpellsSignature g signature) where
+  one_key : (j : Key) → SpellsKey j key → j ≡ k
+  one_key j other = key_blobs.one j k key other by
 
-module _ (f : SshSignature) (bytes namespace message : List ℕ) (spelled : SpellsSshSignature f bytes) (n : ℕ) (was answer : Question) (before after : List ℕ) where
-  abbrev Raises : SshSignature → model.Question → Type 0
-  Raises g q = model.question g.key (signed_by g message) g.signature ≡ Some q
+  one_signature : (h : Signature) → SpellsSignature h signature → h ≡ g
+  one_signature h other = (one_front signature_grammar h g signature signature [] [] other made refl).0
 
-  pub asked_by : f.namespace ≡ namespace → Asks (Raises f) n was answer before after → Asks (RaisedBySignature bytes namespace message) n was answer before after
-  asked_by same = raised n was answer before after
-      (λ q is. record { signature = f; spelled = spelled; in_namespace = same; raised = is })
-      (λ q is. subst (λ (g : SshSignature). Raises g q) (one_signature is.signature f bytes is.spelled spelled) is.raised)
+  -- each reading raises the same
+  pub same_question : (j : Key) (h : Signature) → SpellsKey j key → SpellsSignature h signature → model.question j message h ≡ model.question k message g
+  same_question j h other made_other = ap (λ (x : Key). model.question x message h) (one_key j other) ∙ ap (λ (x : Signature). model.question k message x) (one_signature h made_other)
 
-  pub other_namespace : (answer ≡ was) × (after ≡ before) → n ≢ 0 → n ≢ 2 → f.namespace ≢ namespace → Asks (RaisedBySignature bytes namespace message) n was answer before after
-  other_namespace stays some apart other = none_raised n was answer before after stays some apart (λ _ q is. other (ap (λ (g : SshSignature). g.namespace) (one_signature f is.signature bytes spelled is.spelled) ∙ is.in_namespace))
+  pub asked_under : (n : ℕ) (was answer : Question) (before after : List ℕ) → GivesQuestion (λ q. model.question k message g ≡ Some q) n was answer before after → GivesQuestion (RaisedUnder key message signature) n was answer before after
+  asked_under n was answer before after = raised n was answer before after
+      (λ q is. record { signer = k; by = by; made = g; spelled = made; raised = is })
+      (λ q is. sym (same_question is.signer is.made is.by is.spelled) ∙ is.raised)
 
-  pub in_its_namespace : f.namespace ≡ namespace → (g : SshSignature) → SpellsSshSignature g bytes → g.namespace ≢ namespace → ⊥
-  in_its_namespace same g is other = other (ap (λ (x : SshSignature). x.namespace) (one_signature g f bytes is spelled) ∙ same)
-
-  pub none_of_each : (g : SshSignature) → SpellsSshSignature g bytes → model.question g.key (signed_by g message) g.signature ≡ None → model.question f.key (signed_by f message) f.signature ≡ None
-  none_of_each g other none = subst (λ (x : SshSignature). model.question x.key (signed_by x message) x.signature ≡ None) (one_signature g f bytes other spelled) none
-
-  pub digest_of_each : (digest : List ℕ) → GivesDigestOf Sha256 f.key digest → (g : SshSignature) → SpellsSshSignature g bytes → GivesDigestOf Sha256 g.key digest
-  digest_of_each digest is g other = subst (λ (x : SshSignature). GivesDigestOf Sha256 x.key digest) (one_signature f g bytes spelled other) is
-
--- what is in that namespace by one reading is so by the other
-pub namespace_of_each : (f : SshSignature) (bytes namespace : List ℕ) (g : SshSignature) → SpellsSshSignature f bytes → SpellsSshSignature g bytes → g.namespace ≡ namespace → f.namespace ≡ namespace
-namespace_of_each f bytes namespace g spelled other same = ap (λ (x : SshSignature). x.namespace) (one_signature f g bytes spelled other) ∙ same
-
--- no bytes spell one
-pub none_asked : (bytes namespace message : List ℕ) (n : ℕ) (was answer : Question) (before after : List ℕ) → (answer ≡ was) × (after ≡ before) → n ≢ 0 → n ≢ 2 → (n ≢ 1 → (g : SshSignature) → SpellsSshSignature g bytes → ⊥) → Asks (RaisedBySignature bytes namespace message) n was answer before after
-none_asked bytes namespace message n was answer before after stays some apart none = none_raised n was answer before after stays some apart (λ not_memory q is. none not_memory is.signature is.spelled)
+-- The bytes spell no key, or no signature.
+pub none_under : (key message signature : List ℕ) (n : ℕ) (was answer : Question) (before after : List ℕ) → (answer ≡ was) × (after ≡ before) → n ≢ 0 → n ≢ 2 → ((k : Key) (g : Signature) → SpellsKey k key → SpellsSignature g signature → ⊥) → GivesQuestion (RaisedUnder key message signature) n was answer before after
+none_under key message signature n was answer before after same some apart none = none_raised n was answer before after same some apart (λ _ q is. none is.signer is.made is.by is.spelled)

@@ -5,7 +5,7 @@ use Rattle.sshkey_base.specs.TextLists.{SpellsTexts}
 use Rattle.sshkey_cert.specs.CertificateReaders.{SpellsCertificate}
 use Rattle.sshkey_keys.specs.Keys.{SpellsKey, key_data_at}
 use Rattle.sshkey_model.specs.Certificates.{Certificate, SignedFields, IsTime, IsEnd, end_from, normal_to_be_signed, time_from, type_from, type_number}
-use Rattle.sshkey_model.specs.Keys.{Key, Opaque, normal_key}
+use Rattle.sshkey_model.specs.Keys.{Key, Dsa, Ecdsa, Ed25519, Rsa, SkEcdsa, SkEd25519, Opaque, normal_key}
 use Rattle.sshkey_model.specs.Parts.{Fits, flat}
 use Rattle.sshkey_model.specs.Reading.{Fault, Front, whole}
 use Rattle.sshkey_model.specs.Texts.{string, texts_at, IsText}
@@ -18,10 +18,19 @@ use Rattle.sshkey_options.specs.declared.unix_time.UnixTime.{UnixTime}
 use Rattle.sshkey_calls.specs.Numbers.{fault_number}
 use Rattle.sshkey_calls.specs.declared.draft.CertificateDraft.{CertificateDraft}
 
+-- 12 for a key under a private-use name
+abbrev pub key_number : Key → ℕ
+key_number (Dsa k) = 0
+key_number (Ecdsa curve point) = 0
+key_number (Ed25519 k) = 0
+key_number (Rsa k) = 0
+key_number (SkEcdsa k) = 0
+key_number (SkEd25519 k) = 0
+key_number (Opaque name k) = 12
+
 -- Certificates are of keys under the names of the standards.
 abbrev pub IsCertifiable : Key → Type 0
-IsCertifiable (Opaque name k) = ⊥
-IsCertifiable k = Unit {0}
+IsCertifiable k = key_number k ≡ 0
 
 -- The fields are those that the draft tells, and a certificate may have them: its window is not empty, and it lists no principals exactly if all are to be allowed.
 pub record Tells (d : CertificateDraft) (f : SignedFields) : Type 0 where
@@ -74,11 +83,6 @@ draft_fault d = first_of (
     ∷ [])
 
 -- ---- its parts
-
--- 12 for a key under a private-use name
-abbrev pub key_number : Key → ℕ
-key_number (Opaque name k) = 12
-key_number k = 0
 
 abbrev pub certifiable_number : Result Key Fault → ℕ
 certifiable_number (Ok k) = key_number k

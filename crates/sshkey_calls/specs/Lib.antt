@@ -4,11 +4,11 @@ pub mod Strings
 pub mod Fields
 pub mod Fingerprints
 pub mod Questions
-pub mod Signatures
-pub mod Verdicts
+pub mod SshSignatures
+pub mod Validations
 pub mod KeyLines
 pub mod NormalForms
-pub mod PlainSignatures
+pub mod Signatures
 pub mod Lists
 pub mod Options
 pub mod Writing

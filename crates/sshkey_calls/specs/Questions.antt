@@ -48,7 +48,7 @@ pub record IsLaidOut (q : model.Question) (room : List ℕ) (answer : Question) 
   pub length : answer.length ≡ room_for q
 
 -- What a call answers that looks for the one question that `Raised` tells: 0 with the question, 1 for memory, which says nothing, 2 where there is a question, and the room is too short for it; and every other number where there is none. But for 0 and 2, answer and room stay as they were.
-pub record Asks (Raised : model.Question → Type 0) (n : ℕ) (was answer : Question) (before after : List ℕ) : Type 0 where
+pub record GivesQuestion (Raised : model.Question → Type 0) (n : ℕ) (was answer : Question) (before after : List ℕ) : Type 0 where
   pub asked : n ≡ 0 → (q : model.Question) × Raised q × IsAnswer q answer before after
   pub short : n ≡ 2 → (q : model.Question) × Raised q × IsTooShort q answer before after
   pub none : n ≢ 0 → n ≢ 1 → n ≢ 2 → (q : model.Question) → Raised q → ⊥

@@ -1,29 +1,24 @@
--- What is answered of an SSH signature (PROTOCOL.sshsig).
-use Rattle.std.specs.Prelude.{◌≡◌, ◌≢◌, ◌⊎◌, ℕ, List, Some, None}
-use Rattle.sshkey_model.specs.Names.{Sha256}
-use Rattle.sshkey_model.specs.SignedMessages.{signed_by}
-use Rattle.sshkey_model.specs.SshSignatures.{SshSignature}
+-- What is answered of a signature under a key (RFC 4253, section 6.6).
+use Rattle.std.specs.Prelude.{◌≡◌, ◌≢◌, ℕ, List, Some, None}
+use Rattle.sshkey_model.specs.Keys.{Key}
+use Rattle.sshkey_model.specs.Signatures.{Signature}
 use Rattle.sshkey_model.specs.Verification as model
 use Rattle.sshkey_base.specs.Acceptance.{SpellsSome}
-use Rattle.sshkey_sshsig.specs.SshSignatureFormats.{ssh_signature_format}
-use Rattle.sshkey_sshsig.specs.SshSignatureReaders.{SpellsSshSignature}
-use Rattle.sshkey_calls.specs.Fingerprints.{GivesDigestOf}
+use Rattle.sshkey_keys.specs.Keys.{SpellsKey}
+use Rattle.sshkey_keys.specs.SignatureReaders.{SpellsSignature}
 
--- the bytes spell an SSH signature in the namespace that raises the question, over what is signed in place of the message
-pub record RaisedBySignature (bytes namespace message : List ℕ) (q : model.Question) : Type 0 where
-  pub signature : SshSignature
-  pub spelled : SpellsSshSignature signature bytes
-  pub in_namespace : signature.namespace ≡ namespace
-  pub raised : model.question signature.key (signed_by signature message) signature.signature ≡ Some q
+-- The bytes spell a key and a signature, which raise the question about the message.
+pub record RaisedUnder (key message signature : List ℕ) (q : model.Question) : Type 0 where
+  pub signer : Key
+  pub by : SpellsKey signer key
+  pub made : Signature
+  pub spelled : SpellsSignature made signature
+  pub raised : model.question signer message made ≡ Some q
 
--- 40 where the bytes spell one in the namespace that raises none, memory aside
-abbrev pub TellsNoneOfSignature : List ℕ → List ℕ → List ℕ → ℕ → Type 0
-TellsNoneOfSignature bytes namespace message n = (f : SshSignature) → SpellsSshSignature f bytes → f.namespace ≡ namespace → model.question f.key (signed_by f message) f.signature ≡ None → n ≢ 1 → n ≡ 40
+-- 40 where they spell a key and a signature that raise none, memory aside
+abbrev pub TellsNoneUnder : List ℕ → List ℕ → List ℕ → ℕ → Type 0
+TellsNoneUnder key message signature n = (k : Key) (g : Signature) → SpellsKey k key → SpellsSignature g signature → model.question k message g ≡ None → n ≢ 1 → n ≡ 40
 
--- the digest is the fingerprint of the key of the SSH signature that the bytes spell
-abbrev pub IsSignerOf : List ℕ → List ℕ → Type 0
-IsSignerOf bytes digest = (f : SshSignature) → SpellsSshSignature f bytes → GivesDigestOf Sha256 f.key digest
-
--- Memory may be asked for: by a part that stands whole before the first fault, or for the SSH signature that the bytes spell.
-abbrev pub NeedsSshSignature : List ℕ → Type 0
-NeedsSshSignature bytes = ssh_signature_format.needs bytes 0 ⊎ SpellsSome SpellsSshSignature bytes
+-- the bytes spell some key, and some signature
+abbrev pub AreSigned : List ℕ → List ℕ → Type 0
+AreSigned key signature = SpellsSome SpellsKey key × SpellsSome SpellsSignature signature

@@ -4,7 +4,7 @@ ghost use Rattle.std.specs.Prelude.{◌≡◌, IfErr, IfOk, map};
 ghost use Rattle.sshkey_base.specs.declared.error.Error.TheVariants as wide;
 ghost use Rattle.sshkey_cert.specs.Validity.{fingerprints_of};
 ghost use Rattle.sshkey_fingerprints.specs.declared.fingerprint.Fingerprint.TheVariants as kinds;
-ghost use Rattle.sshkey_calls.specs.Verdicts.{authorities_of};
+ghost use Rattle.sshkey_calls.specs.Validations.{authorities_of};
 
 use sshkey_base::Result;
 use sshkey_fingerprints::Fingerprint;

@@ -47,7 +47,7 @@ pub struct CertificateDraft<'a> {
 }
 
 /// Writes the bytes that are to be signed of the certificate that the draft tells, which the string
-/// of the signature makes a certificate of: `certificate_signed`.
+/// of the signature makes a certificate of: `certificate_make`.
 ///
 /// Returns 0, 2 where the room is shorter, 1 if memory ran out, and else what is wrong, numbers
 /// first: 15 for a type that is neither 1 nor 2, 19 for a time above 2^63 - 1, 46 for a window that

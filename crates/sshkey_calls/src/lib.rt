@@ -1,9 +1,9 @@
 //! The calls of the library for C and for whoever calls C, as an ordinary library: keys,
 //! signatures, certificates.
 //!
-//! Cryptography stays the caller's, so a check is two calls: what has to be verified, and the
-//! verdict, given what the verification said. Each call answers with a number, and the bytes that
-//! it answers with stand in the caller's room.
+//! Cryptography stays the caller's, so a check is two calls: what has to be verified, and whether
+//! the certificate is valid, given what the verification said. Each call answers with a number, and
+//! the bytes that it answers with stand in the caller's room.
 #![tactic(auto)]
 
 mod certified_key;
@@ -18,12 +18,12 @@ mod normal;
 pub mod number;
 mod option;
 pub mod part;
-mod plain_signature;
 mod question;
 mod signature;
 mod signed;
+mod sshsig;
 mod validity;
-mod verdict;
+mod verification;
 mod walk;
 mod write;
 
@@ -34,12 +34,12 @@ pub use fields::{CertificateFields, certificate_fields};
 pub use key::{fingerprint, fingerprint_sha512, fingerprint_sha512_text, fingerprint_text};
 pub use line::{Line, read_line};
 pub use lists::{CertificateParts, certificate_parts};
-pub use normal::{certificate_normal, key_normal, plain_signature_normal, signature_normal};
+pub use normal::{certificate_normal, key_normal, signature_normal, sshsig_normal};
 pub use option::{OptionParts, next_option};
 pub use part::Part;
-pub use plain_signature::plain_signature_question;
 pub use question::{Question, certificate_question};
 pub use signature::signature_question;
-pub use signed::certificate_signed;
+pub use signed::certificate_make;
+pub use sshsig::sshsig_question;
 pub use validity::{certificate_validate, certificate_validate_for};
 pub use walk::next_string;

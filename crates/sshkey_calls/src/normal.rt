@@ -13,7 +13,7 @@ ghost use Rattle.sshkey_model.specs.Signatures.{signature_at};
 ghost use Rattle.sshkey_sshsig.specs.SshSignatureReaders.{ssh_signature_value_at};
 ghost use Rattle.sshkey_calls.specs.NormalForms.{IsNormalCertificate, IsNormalKey, IsNormalSignature, IsNormalSshSignature, IsRenamedKey};
 ghost use Rattle.sshkey_calls.specs.Numbers.{fault_number};
-ghost use Rattle.sshkey_calls.specs.Signatures.{NeedsSshSignature};
+ghost use Rattle.sshkey_calls.specs.SshSignatures.{NeedsSshSignature};
 ghost use Rattle.sshkey_calls.specs.Writing.{Writes};
 
 use crate::number::{MEMORY, error_number};
@@ -105,7 +105,7 @@ fn write_certificate(
 /// Returns 0 if they spell one, 2 where the room is too short for it, 1 if memory ran out, and else
 /// from 10 to 29 their fault. With 2 the room is as it was. Memory is taken only for a part that
 /// stands whole.
-pub fn signature_normal(alloc: Global, signature: &[u8], room: &mut [u8], len: &mut usize) -> u32
+pub fn sshsig_normal(alloc: Global, signature: &[u8], room: &mut [u8], len: &mut usize) -> u32
     ensures normal { Writes (IsNormalSshSignature signature.now)
         result len.old len.new room.old room.new }
     ensures fault { (fault : Fault) → whole ssh_signature_value_at signature.now ≡ Err fault
@@ -123,7 +123,7 @@ pub fn signature_normal(alloc: Global, signature: &[u8], room: &mut [u8], len: &
 ///
 /// Returns 0 if they spell one, 2 where the room is too short for it, and else from 10 to 29 their
 /// fault. With 2 the room is as it was. Does not allocate.
-pub fn plain_signature_normal(signature: &[u8], room: &mut [u8], len: &mut usize) -> u32
+pub fn signature_normal(signature: &[u8], room: &mut [u8], len: &mut usize) -> u32
     ensures normal { Writes (IsNormalSignature signature.now)
         result len.old len.new room.old room.new }
     ensures fault { (fault : Fault) → whole signature_at signature.now ≡ Err fault

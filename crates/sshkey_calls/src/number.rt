@@ -22,21 +22,20 @@ pub const ROOM: u32 = 2;
 pub const END: u32 = 3;
 /// A text of the caller's is not UTF-8.
 pub const TEXT: u32 = 4;
-/// The SSH signature is in another namespace.
-pub(crate) const OTHER_NAMESPACE: u32 = 41;
-/// A length passes the bytes.
-pub(crate) const LENGTH: u32 = 13;
-/// Key and signature do not go together, so nothing is asked.
-pub(crate) const UNSUPPORTED: u32 = 40;
-
 /// A text is not UTF-8.
 pub(crate) const CHARACTER_ENCODING: u32 = 11;
 /// A name may not stand there.
 pub(crate) const LABEL: u32 = 12;
+/// A length passes the bytes.
+pub(crate) const LENGTH: u32 = 13;
 /// A value does not keep the form of its kind.
 pub(crate) const FORMAT: u32 = 15;
 /// A time is above 2^63 - 1.
 pub(crate) const TIME: u32 = 19;
+/// Key and signature do not go together, so nothing is asked.
+pub(crate) const UNSUPPORTED: u32 = 40;
+/// The SSH signature is in another namespace.
+pub(crate) const OTHER_NAMESPACE: u32 = 41;
 /// A draft lists no principals without saying that all are allowed, or says so and lists some.
 pub(crate) const PRINCIPALS: u32 = 45;
 /// The window of a draft has no second.
@@ -54,11 +53,11 @@ pub fn error_number(error: Error) -> u32
     match error {
         Error::Memory => MEMORY,
         Error::Encoding(fault) => encoding_number(fault),
-        Error::FormatEncoding => 15,
+        Error::FormatEncoding => FORMAT,
         Error::AlgorithmUnknown => 16,
         Error::Crypto => 17,
         Error::Ecdsa => 18,
-        Error::Time => 19,
+        Error::Time => TIME,
         Error::Namespace => 20,
         Error::PublicKey => 21,
         Error::Version { number: _ } => 22,
@@ -82,9 +81,9 @@ fn encoding_number(fault: encoding::Error) -> u32
 {
     match fault {
         encoding::Error::Base64 => 10,
-        encoding::Error::CharacterEncoding => 11,
-        encoding::Error::Label => 12,
-        encoding::Error::Length => 13,
+        encoding::Error::CharacterEncoding => CHARACTER_ENCODING,
+        encoding::Error::Label => LABEL,
+        encoding::Error::Length => LENGTH,
         encoding::Error::TrailingData { remaining: _ } => 14,
         encoding::Error::Memory => 23,
     }

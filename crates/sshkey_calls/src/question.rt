@@ -9,7 +9,7 @@ ghost use Rattle.sshkey_keys.specs.Questions.{question_of};
 ghost use Rattle.sshkey_model.specs.Certificates.{certificate_at};
 ghost use Rattle.sshkey_model.specs.Reading.{Fault, whole};
 ghost use Rattle.sshkey_calls.specs.Numbers.{fault_number};
-ghost use Rattle.sshkey_calls.specs.Questions.{Asks, IsLaidOut, RaisedBy, TellsNone};
+ghost use Rattle.sshkey_calls.specs.Questions.{GivesQuestion, IsLaidOut, RaisedBy, TellsNone};
 
 use crate::number::{DONE, MEMORY, ROOM, UNSUPPORTED, algorithm_number, error_number};
 use crate::part::{Part, add, write_to};
@@ -50,7 +50,7 @@ pub fn certificate_question(
     room: &mut [u8],
     answer: &mut Question,
 ) -> u32
-    ensures raised { Asks (RaisedBy certificate.now)
+    ensures raised { GivesQuestion (RaisedBy certificate.now)
         result answer.old answer.new room.old room.new }
     ensures unsupported { TellsNone certificate.now result }
     ensures fault { (fault : Fault) → whole certificate_at certificate.now ≡ Err fault
@@ -70,7 +70,8 @@ fn ask(
     room: &mut [u8],
     answer: &mut Question,
 ) -> u32
-    ensures raised { Asks (λ q. certificate_question (certificate_of certificate.now) ≡ Some q)
+    ensures raised { GivesQuestion
+        (λ q. certificate_question (certificate_of certificate.now) ≡ Some q)
         result answer.old answer.new room.old room.new }
     ensures unsupported { certificate_question (certificate_of certificate.now) ≡ None
         → result ≢ 1 → result ≡ 40 }
@@ -88,7 +89,7 @@ fn tell(
     room: &mut [u8],
     answer: &mut Question,
 ) -> u32
-    ensures raised { Asks (λ q. asks asked.now ≡ Some q)
+    ensures raised { GivesQuestion (λ q. asks asked.now ≡ Some q)
         result answer.old answer.new room.old room.new }
     ensures unsupported { asks asked.now ≡ None → result ≡ 40 }
 {
@@ -105,7 +106,7 @@ pub(crate) fn answer_with(
     room: &mut [u8],
     answer: &mut Question,
 ) -> u32
-    ensures { Asks (λ q. q ≡ question_of question.now)
+    ensures { GivesQuestion (λ q. q ≡ question_of question.now)
         result answer.old answer.new room.old room.new }
 {
     match laid_out(alloc, question) {

@@ -1,137 +1,99 @@
-//! What has to be verified of an SSH signature.
+//! What has to be verified of a signature under a key.
 
-ghost use Rattle.std.specs.Prelude.{◌≡◌, ◌≢◌, ◌↔◌, Err, IfSome, IsTrue, None, Some};
-ghost use Rattle.sshkey_keys.specs.Keys.{key_of};
-ghost use Rattle.sshkey_keys.specs.Questions.{question_of};
-ghost use Rattle.sshkey_model.specs.Names.{Sha256};
+ghost use Rattle.std.specs.Prelude.{◌≡◌, Err};
+ghost use Rattle.sshkey_base.specs.Acceptance.{SpellsSome};
+ghost use Rattle.sshkey_keys.specs.Keys.{SpellsKey, key_data_at};
+ghost use Rattle.sshkey_keys.specs.SignatureReaders.{SpellsSignature};
+ghost use Rattle.sshkey_keys_ref.specs.KeyDataRef.{key_bytes};
+ghost use Rattle.sshkey_keys_ref.specs.SignatureRef.{signature_bytes};
 ghost use Rattle.sshkey_model.specs.Reading.{Fault, whole};
-ghost use Rattle.sshkey_model.specs.SignedMessages.{signed_by};
-ghost use Rattle.sshkey_model.specs.SshSignatures.{SshSignature};
-ghost use Rattle.sshkey_model.specs.Verification.{question};
-ghost use Rattle.sshkey_sshsig.specs.SshSignatureReaders.{SpellsSshSignature, ssh_signature_value_at};
-ghost use Rattle.sshkey_sshsig.specs.SshSignatures.{ssh_signature_of};
-ghost use Rattle.sshkey_calls.specs.Fingerprints.{GivesDigestOf};
+ghost use Rattle.sshkey_model.specs.Signatures.{signature_at};
 ghost use Rattle.sshkey_calls.specs.Numbers.{fault_number};
-ghost use Rattle.sshkey_calls.specs.Questions.{Asks};
-ghost use Rattle.sshkey_calls.specs.Signatures.{IsSignerOf, NeedsSshSignature, RaisedBySignature, TellsNoneOfSignature};
+ghost use Rattle.sshkey_calls.specs.Questions.{GivesQuestion};
+ghost use Rattle.sshkey_calls.specs.Signatures.{AreSigned, RaisedUnder, TellsNoneUnder};
 
-use crate::digest::Sha256Digest;
-use crate::number::{DONE, MEMORY, OTHER_NAMESPACE, UNSUPPORTED, error_number};
+use crate::number::{MEMORY, UNSUPPORTED, error_number};
 use crate::question::{Question, answer_with};
-use sshkey_base::HashAlg;
-use sshkey_keys::{KeyData, Question as Asked};
-use sshkey_sshsig::SshSig;
+use sshkey_keys_ref::{KeyDataRef, SignatureRef};
 use std::alloc::Global;
 
-/// What has to be verified of the SSH signature that all the bytes spell, which are what stands in
-/// the armour, decoded: as a signature of the message in that namespace. And by whom it is: the
-/// SHA-256 fingerprint of its key. Whether that key may sign there is the caller's to judge.
+/// What has to be verified of the signature that all its bytes spell (RFC 4253, section 6.6), as
+/// one of the message under the key that all its bytes spell: as an agent gives it, or a client at
+/// a login.
 ///
 /// Returns 0 with the question in the room, 2 where the room is too short for it, 1 if memory ran
-/// out, from 10 to 29 the fault of bytes that are no SSH signature, 41 for a signature in another
-/// namespace, and 40 where the key and the signature's algorithm do not go together: such a
-/// signature is not valid. Where the question is answered, the signature is valid exactly if the
-/// verification says yes. Memory is taken only for a part that stands whole.
+/// out, from 10 to 29 the fault of bytes that are no key, or else of bytes that are no signature,
+/// and 40 where key and signature do not go together: such a signature is not valid. Where the
+/// question is answered, the signature is valid exactly if the verification says yes. Memory is
+/// taken only where both are spelled.
 pub fn signature_question(
     alloc: Global,
-    signature: &[u8],
-    namespace: &[u8],
+    key: &[u8],
     message: &[u8],
+    signature: &[u8],
     room: &mut [u8],
     answer: &mut Question,
-    signer: &mut Sha256Digest,
 ) -> u32
-    ensures raised { Asks (RaisedBySignature signature.now namespace.now message.now)
+    ensures raised { GivesQuestion (RaisedUnder key.now message.now signature.now)
         result answer.old answer.new room.old room.new }
-    ensures unsupported { TellsNoneOfSignature signature.now namespace.now message.now result }
-    ensures signer { result ≡ 0 → IsSignerOf signature.now signer.new.bytes }
-    ensures stays { result ≢ 0 → signer.new ≡ signer.old }
-    ensures namespace { (f : SshSignature) → SpellsSshSignature f signature.now
-        → f.namespace ≢ namespace.now → result ≢ 1 → result ≡ 41 }
-    ensures fault { (fault : Fault) → whole ssh_signature_value_at signature.now ≡ Err fault
-        → result ≢ 1 → result ≡ fault_number fault }
-    ensures memory { result ≡ 1 → NeedsSshSignature signature.now }
+    ensures unsupported { TellsNoneUnder key.now message.now signature.now result }
+    ensures key { (fault : Fault) → whole key_data_at key.now ≡ Err fault
+        → result ≡ fault_number fault }
+    ensures signature { SpellsSome SpellsKey key.now → (fault : Fault)
+        → whole signature_at signature.now ≡ Err fault → result ≡ fault_number fault }
+    ensures memory { result ≡ 1 → AreSigned key.now signature.now }
 {
-    match SshSig::from_bytes(alloc, signature) {
-        Ok(read) => if is_in(&read, namespace) {
-            ask(alloc, &read, message, room, answer, signer)
-        } else {
-            OTHER_NAMESPACE
-        },
+    match KeyDataRef::from_bytes(key) {
+        Ok(signer) => ask_under(alloc, &signer, message, signature, room, answer),
         Err(error) => error_number(error),
     }
 }
 
-/// Whether the signature is in the namespace.
-fn is_in(signature: &SshSig, namespace: &[u8]) -> bool
-    ensures { IsTrue result
-        ↔ ((ssh_signature_of signature.now).namespace ≡ namespace.now) }
+/// The same of a key that was read.
+fn ask_under(
+    alloc: Global,
+    signer: &KeyDataRef<'_>,
+    message: &[u8],
+    signature: &[u8],
+    room: &mut [u8],
+    answer: &mut Question,
+) -> u32
+    requires { SpellsSome SpellsKey (key_bytes signer.now) }
+    ensures raised { GivesQuestion (RaisedUnder (key_bytes signer.now) message.now signature.now)
+        result answer.old answer.new room.old room.new }
+    ensures unsupported { TellsNoneUnder (key_bytes signer.now) message.now signature.now result }
+    ensures signature { (fault : Fault) → whole signature_at signature.now ≡ Err fault
+        → result ≡ fault_number fault }
+    ensures memory { result ≡ 1 → SpellsSome SpellsSignature signature.now }
 {
-    signature.namespace().as_bytes() == namespace
+    match SignatureRef::from_bytes(signature) {
+        Ok(made) => ask(alloc, signer, message, &made, room, answer),
+        Err(error) => error_number(error),
+    }
 }
 
-/// The same of a signature that was read, and is in the namespace.
+/// The same of a signature that was read too.
 fn ask(
     alloc: Global,
-    read: &SshSig,
+    signer: &KeyDataRef<'_>,
     message: &[u8],
+    made: &SignatureRef<'_>,
     room: &mut [u8],
     answer: &mut Question,
-    signer: &mut Sha256Digest,
 ) -> u32
-    ensures raised { Asks (λ q. question (ssh_signature_of read.now).key
-        (signed_by (ssh_signature_of read.now) message.now)
-        (ssh_signature_of read.now).signature ≡ Some q)
-        result answer.old answer.new room.old room.new }
-    ensures unsupported { question (ssh_signature_of read.now).key
-        (signed_by (ssh_signature_of read.now) message.now)
-        (ssh_signature_of read.now).signature ≡ None → result ≢ 1 → result ≡ 40 }
-    ensures signer { result ≡ 0
-        → GivesDigestOf Sha256 (ssh_signature_of read.now).key signer.new.bytes }
-    ensures stays { result ≢ 0 → signer.new ≡ signer.old }
+    ensures raised { GivesQuestion (RaisedUnder (key_bytes signer.now) message.now
+        (signature_bytes made.now)) result answer.old answer.new room.old room.new }
+    ensures unsupported { TellsNoneUnder (key_bytes signer.now) message.now
+        (signature_bytes made.now) result }
 {
-    let Ok(signed) = read.signed_bytes(alloc, message) else {
+    let Ok(key) = signer.to_key_data(alloc) else {
         return MEMORY;
     };
-    match read.public_key().question(&signed, read.signature()) {
-        Some(question) => {
-            let Some(digest) = digest_of(alloc, read.public_key()) else {
-                return MEMORY;
-            };
-            answer_by(alloc, &question, &digest, room, answer, signer)
-        }
+    let Ok(signature) = made.to_signature(alloc) else {
+        return MEMORY;
+    };
+    match key.question(message, &signature) {
+        Some(question) => answer_with(alloc, &question, room, answer),
         None => UNSUPPORTED,
     }
-}
-
-/// The SHA-256 fingerprint of the key; `None` if memory ran out.
-fn digest_of(alloc: Global, key: &KeyData) -> Option<[u8; 32]>
-    ensures { IfSome result (GivesDigestOf Sha256 (key_of key.now)) }
-{
-    let Ok(fingerprint) = key.fingerprint(alloc, HashAlg::Sha256) else {
-        return None;
-    };
-    fingerprint.sha256()
-}
-
-/// Answers with the question, and where it is done with the digest of who signed.
-fn answer_by(
-    alloc: Global,
-    question: &Asked<'_>,
-    digest: &[u8; 32],
-    room: &mut [u8],
-    answer: &mut Question,
-    signer: &mut Sha256Digest,
-) -> u32
-    ensures raised { Asks (λ q. q ≡ question_of question.now)
-        result answer.old answer.new room.old room.new }
-    ensures signer { result ≡ 0 → signer.new.bytes ≡ digest.now }
-    ensures stays { result ≢ 0 → signer.new ≡ signer.old }
-{
-    let number = answer_with(alloc, question, room, answer);
-    if number == DONE {
-        signer.bytes = *digest;
-        return DONE;
-    }
-    number
 }

@@ -20,7 +20,7 @@ use std::alloc::Global;
 /// Returns 0, 2 where the room is shorter, 1 if memory ran out, and else from 10 to 29 the fault of
 /// bytes that are no certificate then, or 13 for a signature that does not fit a string. Memory is
 /// taken only where it fits one.
-pub fn certificate_signed(
+pub fn certificate_make(
     alloc: Global,
     to_be_signed: &[u8],
     signature: &[u8],

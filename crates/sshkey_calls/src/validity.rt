@@ -11,11 +11,11 @@ ghost use Rattle.sshkey_model.specs.Reading.{Fault, whole};
 ghost use Rattle.sshkey_model.specs.Refusals.{first_refusal, first_refusal_for};
 ghost use Rattle.sshkey_model.specs.Verification.{Question};
 ghost use Rattle.sshkey_calls.specs.Numbers.{fault_number, refusal_number};
-ghost use Rattle.sshkey_calls.specs.Verdicts.{IsGood, IsGoodFor, Says, TellsFirst, TellsFirstFor, Verified, authorities_of, is_yes};
+ghost use Rattle.sshkey_calls.specs.Validations.{IsGood, IsGoodFor, Says, TellsFirst, TellsFirstFor, Verified, authorities_of, is_yes};
 
 use crate::digest::{Sha256Digest, fingerprints};
 use crate::number::{MEMORY, TEXT, error_number, refusal_number};
-use crate::verdict::Verdict;
+use crate::verification::Verification;
 use sshkey_base::Result;
 use sshkey_cert::CertificateRefusal;
 use sshkey_cert_ref::CertificateRef;
@@ -33,21 +33,22 @@ use std::str;
 pub fn certificate_validate(
     alloc: Global,
     certificate: &[u8],
-    unix_time: u64,
+    unix_timestamp: u64,
     authorities: &[Sha256Digest],
-    verified: u32,
+    is_verified: u32,
 ) -> u32
-    ensures exactly { (accepts : Question → Bool) → Verified accepts certificate.now verified
-        → Says (IsGood accepts (authorities_of authorities.now) unix_time certificate.now)
+    ensures exactly { (accepts : Question → Bool) → Verified accepts certificate.now is_verified
+        → Says (IsGood accepts (authorities_of authorities.now) unix_timestamp certificate.now)
         result }
-    ensures first { (accepts : Question → Bool) → Verified accepts certificate.now verified
-        → TellsFirst accepts (authorities_of authorities.now) unix_time certificate.now result }
+    ensures first { (accepts : Question → Bool) → Verified accepts certificate.now is_verified
+        → TellsFirst accepts (authorities_of authorities.now) unix_timestamp certificate.now
+        result }
     ensures fault { (fault : Fault) → whole certificate_at certificate.now ≡ Err fault
         → result ≡ fault_number fault }
     ensures memory { result ≡ 1 → SpellsSome SpellsCertificate certificate.now }
 {
     match CertificateRef::from_bytes(certificate) {
-        Ok(read) => judge(alloc, &read, unix_time, authorities, verified),
+        Ok(read) => judge(alloc, &read, unix_timestamp, authorities, is_verified),
         Err(error) => error_number(error),
     }
 }
@@ -61,18 +62,18 @@ pub fn certificate_validate(
 pub fn certificate_validate_for(
     alloc: Global,
     certificate: &[u8],
-    unix_time: u64,
+    unix_timestamp: u64,
     principal: &[u8],
     authorities: &[Sha256Digest],
-    verified: u32,
+    is_verified: u32,
 ) -> u32
     ensures exactly { IsUtf8 principal.now → (accepts : Question → Bool)
-        → Verified accepts certificate.now verified
-        → Says (IsGoodFor accepts (authorities_of authorities.now) unix_time principal.now
+        → Verified accepts certificate.now is_verified
+        → Says (IsGoodFor accepts (authorities_of authorities.now) unix_timestamp principal.now
         certificate.now) result }
     ensures first { IsUtf8 principal.now → (accepts : Question → Bool)
-        → Verified accepts certificate.now verified
-        → TellsFirstFor accepts (authorities_of authorities.now) unix_time principal.now
+        → Verified accepts certificate.now is_verified
+        → TellsFirstFor accepts (authorities_of authorities.now) unix_timestamp principal.now
         certificate.now result }
     ensures fault { IsUtf8 principal.now → (fault : Fault)
         → whole certificate_at certificate.now ≡ Err fault → result ≡ fault_number fault }
@@ -80,7 +81,14 @@ pub fn certificate_validate_for(
     ensures memory { result ≡ 1 → SpellsSome SpellsCertificate certificate.now }
 {
     match str::from_utf8(principal) {
-        Ok(wanted) => validate_for(alloc, certificate, unix_time, wanted, authorities, verified),
+        Ok(wanted) => validate_for(
+            alloc,
+            certificate,
+            unix_timestamp,
+            wanted,
+            authorities,
+            is_verified,
+        ),
         Err(_) => TEXT,
     }
 }
@@ -89,23 +97,23 @@ pub fn certificate_validate_for(
 fn validate_for(
     alloc: Global,
     certificate: &[u8],
-    unix_time: u64,
+    unix_timestamp: u64,
     wanted: &str,
     authorities: &[Sha256Digest],
-    verified: u32,
+    is_verified: u32,
 ) -> u32
-    ensures exactly { (accepts : Question → Bool) → Verified accepts certificate.now verified
-        → Says (IsGoodFor accepts (authorities_of authorities.now) unix_time wanted.now
+    ensures exactly { (accepts : Question → Bool) → Verified accepts certificate.now is_verified
+        → Says (IsGoodFor accepts (authorities_of authorities.now) unix_timestamp wanted.now
         certificate.now) result }
-    ensures first { (accepts : Question → Bool) → Verified accepts certificate.now verified
-        → TellsFirstFor accepts (authorities_of authorities.now) unix_time wanted.now
+    ensures first { (accepts : Question → Bool) → Verified accepts certificate.now is_verified
+        → TellsFirstFor accepts (authorities_of authorities.now) unix_timestamp wanted.now
         certificate.now result }
     ensures fault { (fault : Fault) → whole certificate_at certificate.now ≡ Err fault
         → result ≡ fault_number fault }
     ensures memory { result ≡ 1 → SpellsSome SpellsCertificate certificate.now }
 {
     match CertificateRef::from_bytes(certificate) {
-        Ok(read) => judge_for(alloc, &read, unix_time, wanted, authorities, verified),
+        Ok(read) => judge_for(alloc, &read, unix_timestamp, wanted, authorities, is_verified),
         Err(error) => error_number(error),
     }
 }
@@ -114,19 +122,19 @@ fn validate_for(
 fn judge(
     alloc: Global,
     certificate: &CertificateRef<'_>,
-    unix_time: u64,
+    unix_timestamp: u64,
     authorities: &[Sha256Digest],
-    verified: u32,
+    is_verified: u32,
 ) -> u32
-    ensures { result ≢ 1 → result ≡ refusal_number (first_refusal (λ _. is_yes verified)
-        (authorities_of authorities.now) unix_time (certificate_of certificate.now)) }
+    ensures { result ≢ 1 → result ≡ refusal_number (first_refusal (λ _. is_yes is_verified)
+        (authorities_of authorities.now) unix_timestamp (certificate_of certificate.now)) }
 {
     match first_refusal(
         alloc,
         certificate,
-        unix_time,
+        unix_timestamp,
         authorities,
-        Verdict::of(verified),
+        Verification::of(is_verified),
     ) {
         Ok(first) => refusal_number(first),
         Err(_) => MEMORY,
@@ -137,16 +145,17 @@ fn judge(
 fn judge_for(
     alloc: Global,
     certificate: &CertificateRef<'_>,
-    unix_time: u64,
+    unix_timestamp: u64,
     wanted: &str,
     authorities: &[Sha256Digest],
-    verified: u32,
+    is_verified: u32,
 ) -> u32
-    ensures { result ≢ 1 → result ≡ refusal_number (first_refusal_for (λ _. is_yes verified)
-        (authorities_of authorities.now) unix_time wanted.now (certificate_of certificate.now)) }
+    ensures { result ≢ 1 → result ≡ refusal_number (first_refusal_for (λ _. is_yes is_verified)
+        (authorities_of authorities.now) unix_timestamp wanted.now
+        (certificate_of certificate.now)) }
 {
-    let verdict = Verdict::of(verified);
-    match first_refusal_for(alloc, certificate, unix_time, wanted, authorities, verdict) {
+    let verification = Verification::of(is_verified);
+    match first_refusal_for(alloc, certificate, unix_timestamp, wanted, authorities, verification) {
         Ok(first) => refusal_number(first),
         Err(_) => MEMORY,
     }
@@ -156,29 +165,30 @@ fn judge_for(
 fn first_refusal(
     alloc: Global,
     certificate: &CertificateRef<'_>,
-    unix_time: u64,
+    unix_timestamp: u64,
     authorities: &[Sha256Digest],
-    verdict: Verdict,
+    verification: Verification,
 ) -> Result<Option<CertificateRefusal>>
-    ensures { FindsFirst (first_refusal (λ _. verdict.is_yes) (authorities_of authorities.now)
-        unix_time (certificate_of certificate.now)) result }
+    ensures { FindsFirst (first_refusal (λ _. verification.is_yes) (authorities_of authorities.now)
+        unix_timestamp (certificate_of certificate.now)) result }
 {
     let given = fingerprints(alloc, authorities)?;
-    certificate.first_refusal(alloc, unix_time, &given, &verdict)
+    certificate.first_refusal(alloc, unix_timestamp, &given, &verification)
 }
 
 /// What is wrong with the certificate first, where a principal is wanted.
 fn first_refusal_for(
     alloc: Global,
     certificate: &CertificateRef<'_>,
-    unix_time: u64,
+    unix_timestamp: u64,
     wanted: &str,
     authorities: &[Sha256Digest],
-    verdict: Verdict,
+    verification: Verification,
 ) -> Result<Option<CertificateRefusal>>
-    ensures { FindsFirst (first_refusal_for (λ _. verdict.is_yes) (authorities_of authorities.now)
-        unix_time wanted.now (certificate_of certificate.now)) result }
+    ensures { FindsFirst (first_refusal_for (λ _. verification.is_yes)
+        (authorities_of authorities.now) unix_timestamp wanted.now
+        (certificate_of certificate.now)) result }
 {
     let given = fingerprints(alloc, authorities)?;
-    certificate.first_refusal_for(alloc, unix_time, wanted, &given, &verdict)
+    certificate.first_refusal_for(alloc, unix_timestamp, wanted, &given, &verification)
 }

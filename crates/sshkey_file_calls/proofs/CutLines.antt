@@ -201,13 +201,10 @@ module _ (text left line behind filled : List ℕ) (place : ℕ) (some : 0 < len
   rest : drop (((length text - length left) + (length line - length filled)) + length filled) text ≡ cut.end ++ behind
   rest = rw start_is (subst (λ (t : List ℕ). drop (length (was.before ++ blanks) + length filled) t ≡ cut.end ++ behind) (sym text_is) (simp (drop-append-add, drop-append_seam)))
 
-  pub finds : is_filled filled ≡ true → FindsLine text place 0 (record { start = (length text - length left) + (length line - length filled); length = length filled })
-  finds full = record {
+  pub finds : (part : Part) → is_filled filled ≡ true → FindsLine text place 0 part (record { start = (length text - length left) + (length line - length filled); length = length filled })
+  finds part full = record {
     found = λ _. was.same ∙ step left line behind filled true cut is full ∙ (λ i. sym content i ∷ sym (ap filled_lines rest ∙ end_skipped cut.end behind cut.ends) i);
     within = λ _. (omega (arith, start_is, was.later some, length-append was.before blanks), omega (arith, left_size, filled_size, line_size));
     none = λ other. absurd (other refl);
+    stays = λ other. absurd (other refl);
   }
-
-pub finds_none : (text left : List ℕ) (place : ℕ) (answer : Part) → IsLeft text place left → length left ≡ 0 → FindsLine text place 3 answer
-finds_none text [] place answer was none = record { found = λ z. absurd (cc z); within = λ z. absurd (cc z); none = λ _. (was.same, refl) }
-finds_none text (c ∷ left) place answer was none = absurd (omega (arith, none))

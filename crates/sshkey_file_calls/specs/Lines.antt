@@ -19,8 +19,9 @@ pub record CutsLine (text line behind : List ℕ) : Type 0 where
   pub ends : IsLineEnd end behind
   pub first : lines text ≡ line ∷ lines behind
 
--- 0 and the first of the filled lines from that place on, which lies there, and behind which the others are found; 3 exactly where there is none.
-pub record FindsLine (text : List ℕ) (place n : ℕ) (part : Part) : Type 0 where
+-- 0 and the first of the filled lines from that place on, which lies there, and behind which the others are found; 3 exactly where there is none, and then the part is as it was.
+pub record FindsLine (text : List ℕ) (place n : ℕ) (was part : Part) : Type 0 where
   pub found : n ≡ 0 → filled_lines (drop place text) ≡ bytes_of part text ∷ filled_lines (drop (part.start + part.length) text)
   pub within : n ≡ 0 → (place ≤ part.start) × (part.start + part.length ≤ length text)
   pub none : n ≢ 0 → (filled_lines (drop place text) ≡ []) × (n ≡ 3)
+  pub stays : n ≢ 0 → part ≡ was

@@ -84,7 +84,7 @@ fn rest_from(text: &[u8], place: usize) -> &[u8]
 /// Returns 0 if there is one, and else 3. Nothing is asked of the bytes. Does not allocate; takes
 /// time for the bytes that it passes.
 pub fn next_line(text: &[u8], place: usize, answer: &mut Part) -> u32
-    ensures { FindsLine text.now place result answer.new }
+    ensures { FindsLine text.now place result answer.old answer.new }
 {
     let mut left = rest_from(text, place);
     'lines: while !left.is_empty() {

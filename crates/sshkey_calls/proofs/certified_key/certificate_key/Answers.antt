@@ -6,7 +6,7 @@ use Rattle.sshkey_model.specs.Keys.{normal_key}
 use Rattle.sshkey_model.specs.Parts.{flat}
 use Rattle.sshkey_model.specs.Reading.{whole}
 use Rattle.sshkey_calls.proofs.Kept.{never_memory, no_fault}
-use Rattle.sshkey_calls.proofs.Verdicts.{one_spelled}
+use Rattle.sshkey_calls.proofs.Validations.{one_spelled}
 use Rattle.sshkey_calls.proofs.Writing.{no_bytes, told_as}
 use Rattle.sshkey_calls.proofs.certified_key.certificate_key.Goals as goal
 

@@ -5,7 +5,7 @@ use Rattle.sshkey_cert.specs.Validity.{fingerprints_of}
 use Rattle.sshkey_fingerprints.specs.declared.fingerprint.Fingerprint.{Fingerprint}
 use Rattle.sshkey_fingerprints.specs.declared.fingerprint.Fingerprint.TheVariants as kinds
 use Rattle.sshkey_model.specs.Fingerprints as model
-use Rattle.sshkey_calls.specs.Verdicts.{authorities_of}
+use Rattle.sshkey_calls.specs.Validations.{authorities_of}
 use Rattle.sshkey_calls.specs.declared.digest.Sha256Digest.{Sha256Digest}
 use Rattle.sshkey_calls.proofs.digest.fingerprints.Goals as goal
 

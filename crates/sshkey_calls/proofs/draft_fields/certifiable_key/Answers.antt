@@ -3,7 +3,7 @@ use Rattle.std.proofs.lemmas.Result.{err_from_is_err_and}
 use Rattle.sshkey_keys.specs.Keys.{key_data_at, key_of}
 use Rattle.sshkey_model.specs.Reading.{whole}
 use Rattle.sshkey_calls.specs.Drafts.{certifiable_number}
-use Rattle.sshkey_calls.proofs.DraftNumbers.{certifiable_as, key_is, other_key, right_key, wrong_part}
+use Rattle.sshkey_calls.proofs.DraftNumbers.{certifiable_as, key_is, other_key, wrong_part}
 use Rattle.sshkey_calls.proofs.draft_fields.certifiable_key.Goals as goal
 
 pub returns-in_err-key : goal.returns-in_err-key
@@ -16,7 +16,7 @@ returns-then-is_certifiable c =
     let k = key_of c.in_ok-key.key in
     let spelled = c.in_ok-key.ensures.0 in
     let certifiable = c.is_certifiable.ensures.0 c.if-is_certifiable.true in
-    ((spelled, certifiable), ap certifiable_number (key_is k c.args.blob.now spelled) ∙ right_key k certifiable)
+    ((spelled, certifiable), ap certifiable_number (key_is k c.args.blob.now spelled) ∙ certifiable)
 
 pub returns-else-is_certifiable : goal.returns-else-is_certifiable
 returns-else-is_certifiable c =

@@ -6,7 +6,7 @@ use Rattle.sshkey_model.specs.Certificates.{certificate_at}
 use Rattle.sshkey_model.specs.Reading.{whole}
 use Rattle.sshkey_calls.proofs.Kept.{never_memory, no_fault}
 use Rattle.sshkey_calls.proofs.Questions.{none_raised, raised}
-use Rattle.sshkey_calls.proofs.Verdicts.{one_spelled}
+use Rattle.sshkey_calls.proofs.Validations.{one_spelled}
 use Rattle.sshkey_calls.proofs.question.certificate_question.Goals as goal
 
 pub returns-in-Ok-clause-raised : goal.returns-in-Ok-clause-raised

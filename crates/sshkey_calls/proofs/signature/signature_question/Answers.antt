@@ -1,46 +1,47 @@
-use Rattle.std.proofs.Common.{inl, inr, refl}
+use Rattle.std.proofs.Common.{ℕ, List, refl, subst, sym}
+use Rattle.sshkey_base.specs.Acceptance.{SpellsSome}
 use Rattle.sshkey_base.specs.Causes.{cause}
-use Rattle.sshkey_sshsig.specs.SshSignatures.{ssh_signature_of}
-use Rattle.sshkey_calls.proofs.Kept.{only_memory}
-use Rattle.sshkey_calls.proofs.Signatures.{asked_by, digest_of_each, in_its_namespace, namespace_of_each, none_asked, none_of_each, other_namespace}
+use Rattle.sshkey_keys.specs.Keys.{SpellsKey, key_data_at}
+use Rattle.sshkey_keys_ref.specs.KeyDataRef.{key_bytes}
+use Rattle.sshkey_model.specs.Reading.{whole}
+use Rattle.sshkey_calls.specs.Signatures.{RaisedUnder, TellsNoneUnder}
+use Rattle.sshkey_calls.specs.Questions.{GivesQuestion}
+use Rattle.sshkey_calls.proofs.Kept.{kept_bytes, never_memory, no_fault}
+use Rattle.sshkey_calls.proofs.Signatures.{none_under}
 use Rattle.sshkey_calls.proofs.signature.signature_question.Goals as goal
 
-pub returns-then-is_in-clause-raised : goal.returns-then-is_in-clause-raised
-returns-then-is_in-clause-raised c = asked_by (ssh_signature_of c.in-Ok.read) c.args.signature.now c.args.namespace.now c.args.message.now c.in-Ok.ensures.accepts.spelled _ _ _ _ _ (c.is_in.ensures.0 c.if-is_in.true) c.ask.ensures.raised
-
-pub returns-then-is_in-clause-unsupported : goal.returns-then-is_in-clause-unsupported
-returns-then-is_in-clause-unsupported c g spelled _ none = c.ask.ensures.unsupported (none_of_each (ssh_signature_of c.in-Ok.read) c.args.signature.now c.args.namespace.now c.args.message.now c.in-Ok.ensures.accepts.spelled c.ask.result c.args.answer.now c.ask.new.answer c.args.room.now c.ask.new.room g spelled none)
-
-pub returns-then-is_in-clause-signer : goal.returns-then-is_in-clause-signer
-returns-then-is_in-clause-signer c zero_ = digest_of_each (ssh_signature_of c.in-Ok.read) c.args.signature.now c.args.namespace.now c.args.message.now c.in-Ok.ensures.accepts.spelled c.ask.result c.args.answer.now c.ask.new.answer c.args.room.now c.ask.new.room _ (c.ask.ensures.signer zero_)
-
-pub returns-then-is_in-clause-namespace : goal.returns-then-is_in-clause-namespace
-returns-then-is_in-clause-namespace c g spelled other _ = absurd (in_its_namespace (ssh_signature_of c.in-Ok.read) c.args.signature.now c.args.namespace.now c.args.message.now c.in-Ok.ensures.accepts.spelled c.ask.result c.args.answer.now c.ask.new.answer c.args.room.now c.ask.new.room (c.is_in.ensures.0 c.if-is_in.true) g spelled other)
+pub ask_under-requires : goal.ask_under-requires
+ask_under-requires c =
+    let same = kept_bytes key_bytes cause c.args.key.now c.in-Ok.signer (whole key_data_at c.args.key.now) c.in-Ok.ensures.keeps in
+    subst (SpellsSome SpellsKey) (sym same) c.in-Ok.ensures.accepts
 
 pub returns-in-Ok-clause-raised : goal.returns-in-Ok-clause-raised
-returns-in-Ok-clause-raised c = other_namespace (ssh_signature_of c.in-Ok.read) c.args.signature.now c.args.namespace.now c.args.message.now c.in-Ok.ensures.accepts.spelled _ _ _ _ _ (refl, refl) (λ e. cc e) (λ e. cc e) (λ same. let yes_ = c.is_in.ensures.1 same in cc (yes_, c.if-is_in.false))
+returns-in-Ok-clause-raised c =
+    let same = kept_bytes key_bytes cause c.args.key.now c.in-Ok.signer (whole key_data_at c.args.key.now) c.in-Ok.ensures.keeps in
+    subst (λ (b : List ℕ). GivesQuestion (RaisedUnder b c.args.message.now c.args.signature.now) c.ask_under.result c.args.answer.now c.ask_under.new.answer c.args.room.now c.ask_under.new.room) same c.ask_under.ensures.raised
 
 pub returns-in-Ok-clause-unsupported : goal.returns-in-Ok-clause-unsupported
-returns-in-Ok-clause-unsupported c g spelled same _ _ =
-    let yes_ = c.is_in.ensures.1 (namespace_of_each (ssh_signature_of c.in-Ok.read) c.args.signature.now c.args.namespace.now g c.in-Ok.ensures.accepts.spelled spelled same) in
-    cc (yes_, c.if-is_in.false)
+returns-in-Ok-clause-unsupported c =
+    let same = kept_bytes key_bytes cause c.args.key.now c.in-Ok.signer (whole key_data_at c.args.key.now) c.in-Ok.ensures.keeps in
+    subst (λ (b : List ℕ). TellsNoneUnder b c.args.message.now c.args.signature.now c.ask_under.result) same c.ask_under.ensures.unsupported
 
-pub returns-clause-unsupported : goal.returns-clause-unsupported
-returns-clause-unsupported c g spelled _ _ not_memory = absurd (c.in-Err.ensures.accepts (λ memory. not_memory (c.error_number.ensures.memory memory)) refl g spelled)
+pub returns-in-Ok-clause-key : goal.returns-in-Ok-clause-key
+returns-in-Ok-clause-key c fault is = absurd (no_fault key_bytes cause c.args.key.now c.in-Ok.signer (whole key_data_at c.args.key.now) fault is c.in-Ok.ensures.keeps)
 
-pub returns-clause-raised : goal.returns-clause-raised
-returns-clause-raised c = none_asked c.args.signature.now c.args.namespace.now c.args.message.now _ _ _ _ _ (refl, refl) c.error_number.ensures.some c.error_number.ensures.apart (λ not_memory. c.in-Err.ensures.accepts (λ memory. not_memory (c.error_number.ensures.memory memory)) refl)
+pub returns-in-Ok-clause-memory : goal.returns-in-Ok-clause-memory
+returns-in-Ok-clause-memory c one = (c.in-Ok.ensures.accepts, c.ask_under.ensures.memory one)
 
-pub returns-clause-namespace : goal.returns-clause-namespace
-returns-clause-namespace c g spelled _ not_memory = absurd (c.in-Err.ensures.accepts (λ memory. not_memory (c.error_number.ensures.memory memory)) refl g spelled)
+pub returns-in-Err-clause-raised : goal.returns-in-Err-clause-raised
+returns-in-Err-clause-raised c = none_under _ _ _ _ _ _ _ _ (refl, refl) c.error_number.ensures.some c.error_number.ensures.apart (λ k _ by _. c.in-Err.ensures.accepts k by)
 
-pub returns-clause-fault : goal.returns-clause-fault
-returns-clause-fault c fault is not_memory =
-    let met = c.in-Err.ensures.gives.fault (λ memory. not_memory (c.error_number.ensures.memory memory)) refl in
-    c.error_number.ensures.fault fault (rw is at met)
+pub returns-in-Err-clause-unsupported : goal.returns-in-Err-clause-unsupported
+returns-in-Err-clause-unsupported c k _ by _ _ _ = absurd (c.in-Err.ensures.accepts k by)
 
-pub returns-then-is_in-clause-memory : goal.returns-then-is_in-clause-memory
-returns-then-is_in-clause-memory c _ = inr (ssh_signature_of c.in-Ok.read, c.in-Ok.ensures.accepts.spelled)
+pub returns-in-Err-clause-key : goal.returns-in-Err-clause-key
+returns-in-Err-clause-key c fault is = c.error_number.ensures.fault fault (rw is at c.in-Err.ensures.keeps)
 
-pub returns-clause-memory : goal.returns-clause-memory
-returns-clause-memory c one = inl (c.in-Err.ensures.asks (only_memory (cause c.in-Err.error) _ c.error_number.ensures.range one) refl)
+pub returns-in-Err-clause-signature : goal.returns-in-Err-clause-signature
+returns-in-Err-clause-signature c some = absurd (c.in-Err.ensures.accepts some.0 some.1)
+
+pub returns-in-Err-clause-memory : goal.returns-in-Err-clause-memory
+returns-in-Err-clause-memory c one = absurd (never_memory key_bytes cause c.args.key.now (whole key_data_at c.args.key.now) _ _ c.error_number.ensures.range c.in-Err.ensures.keeps one)

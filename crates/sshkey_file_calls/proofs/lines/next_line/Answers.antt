@@ -13,7 +13,7 @@ overflow_sub-answer-then-is_filled c =
 pub returns-then-is_filled : goal.returns-then-is_filled
 returns-then-is_filled c =
     let some : 0 < length c.lines.left.now = search rules in
-    finds c.args.text.now c.lines.left.now _ _ _ c.args.place some c.lines.invariant c.split_line.ensures c.skip_blanks-filled.ensures (sym c.is_filled.ensures ∙ c.if-is_filled.true)
+    finds c.args.text.now c.lines.left.now _ _ _ c.args.place some c.lines.invariant c.split_line.ensures c.skip_blanks-filled.ensures c.args.answer.old (sym c.is_filled.ensures ∙ c.if-is_filled.true)
 
 pub lines-preserved : goal.lines-preserved
 lines-preserved c =

@@ -6,7 +6,7 @@ use Rattle.sshkey_calls.specs.Drafts.{IsJoined}
 use Rattle.sshkey_calls.proofs.DraftNumbers.{no_value, number_told, only_asked}
 use Rattle.sshkey_calls.proofs.Drafts.{fits_number, long_number}
 use Rattle.sshkey_calls.proofs.Writing.{no_bytes, told_as}
-use Rattle.sshkey_calls.proofs.signed.certificate_signed.Goals as goal
+use Rattle.sshkey_calls.proofs.signed.certificate_make.Goals as goal
 
 pub returns-in-Ok-clause-written : goal.returns-in-Ok-clause-written
 returns-in-Ok-clause-written c =

@@ -1,7 +1,7 @@
 //! What the caller's verification said.
 
 ghost use Rattle.std.specs.Prelude.{◌≡◌};
-ghost use Rattle.sshkey_calls.specs.Verdicts.{is_yes};
+ghost use Rattle.sshkey_calls.specs.Validations.{is_yes};
 
 use sshkey_base::Algorithm;
 use sshkey_keys::{KeyData, RawVerifier};
@@ -9,24 +9,24 @@ use std::alloc::AllocError;
 
 /// What the caller's verification said about the one question that it was asked.
 #[derive(Clone, Copy, Debug)]
-pub(crate) struct Verdict {
+pub(crate) struct Verification {
     /// It is a signature.
     pub is_yes: bool,
 }
 
-impl Verdict {
-    /// The verdict that the number tells: yes if it is 1, and else no.
-    pub(crate) fn of(verified: u32) -> Verdict
-        ensures { result.is_yes ≡ is_yes verified }
+impl Verification {
+    /// What the number says: yes if it is 1, and else no.
+    pub(crate) fn of(is_verified: u32) -> Verification
+        ensures { result.is_yes ≡ is_yes is_verified }
     {
-        Verdict {
-            is_yes: verified == 1,
+        Verification {
+            is_yes: is_verified == 1,
         }
     }
 }
 
-impl RawVerifier for Verdict {
-    ghost accepts = { λ verdict _. verdict.is_yes };
+impl RawVerifier for Verification {
+    ghost accepts = { λ verification _. verification.is_yes };
 
     fn verify(
         &self,

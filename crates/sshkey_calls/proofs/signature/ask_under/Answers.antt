@@ -4,16 +4,16 @@ use Rattle.sshkey_keys_ref.specs.KeyDataRef.{key_bytes}
 use Rattle.sshkey_keys_ref.specs.SignatureRef.{signature_bytes}
 use Rattle.sshkey_model.specs.Reading.{whole}
 use Rattle.sshkey_model.specs.Signatures.{signature_at}
-use Rattle.sshkey_calls.specs.PlainSignatures.{RaisedUnder, TellsNoneUnder}
-use Rattle.sshkey_calls.specs.Questions.{Asks}
+use Rattle.sshkey_calls.specs.Signatures.{RaisedUnder, TellsNoneUnder}
+use Rattle.sshkey_calls.specs.Questions.{GivesQuestion}
 use Rattle.sshkey_calls.proofs.Kept.{kept_bytes, never_memory, no_fault}
-use Rattle.sshkey_calls.proofs.PlainSignatures.{none_under}
-use Rattle.sshkey_calls.proofs.plain_signature.ask_under.Goals as goal
+use Rattle.sshkey_calls.proofs.Signatures.{none_under}
+use Rattle.sshkey_calls.proofs.signature.ask_under.Goals as goal
 
 pub returns-in-Ok-clause-raised : goal.returns-in-Ok-clause-raised
 returns-in-Ok-clause-raised c =
     let same = kept_bytes signature_bytes cause c.args.signature.now c.in-Ok.made (whole signature_at c.args.signature.now) c.in-Ok.ensures.keeps in
-    subst (λ (b : List ℕ). Asks (RaisedUnder (key_bytes c.args.signer.now) c.args.message.now b) c.ask.result c.args.answer.now c.ask.new.answer c.args.room.now c.ask.new.room) same c.ask.ensures.raised
+    subst (λ (b : List ℕ). GivesQuestion (RaisedUnder (key_bytes c.args.signer.now) c.args.message.now b) c.ask.result c.args.answer.now c.ask.new.answer c.args.room.now c.ask.new.room) same c.ask.ensures.raised
 
 pub returns-in-Ok-clause-unsupported : goal.returns-in-Ok-clause-unsupported
 returns-in-Ok-clause-unsupported c =

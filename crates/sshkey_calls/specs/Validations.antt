@@ -1,4 +1,4 @@
--- What a verdict says, given what the caller's verification said.
+-- Whether a certificate is valid, given what the caller's verification said.
 use Rattle.std.specs.Prelude.{◌≡◌, ◌≢◌, ℕ, List, map, Bool, ◌==◌, Some}
 use Rattle.sshkey_model.specs.Certificates.{Certificate}
 use Rattle.sshkey_model.specs.Fingerprints.{Fingerprint}
@@ -14,11 +14,11 @@ use Rattle.sshkey_calls.specs.declared.digest.Sha256Digest.{Sha256Digest}
 
 -- 1 says yes, and every other number no
 abbrev pub is_yes : ℕ → Bool
-is_yes verified = verified == 1
+is_yes is_verified = is_verified == 1
 
 -- That verifier says so about the question of the certificate that the bytes spell, if it raises one, and may say anything about all others.
 abbrev pub Verified : (Question → Bool) → List ℕ → ℕ → Type 0
-Verified accepts bytes verified = (c : Certificate) → SpellsCertificate c bytes → (q : Question) → certificate_question c ≡ Some q → accepts q ≡ is_yes verified
+Verified accepts bytes is_verified = (c : Certificate) → SpellsCertificate c bytes → (q : Question) → certificate_question c ≡ Some q → accepts q ≡ is_yes is_verified
 
 -- the fingerprints with these digests
 abbrev pub authorities_of : List Sha256Digest → List Fingerprint

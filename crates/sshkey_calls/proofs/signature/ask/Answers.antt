@@ -5,9 +5,9 @@ use Rattle.sshkey_keys.specs.Questions.{question_of}
 use Rattle.sshkey_keys.specs.Signatures.{signature_of}
 use Rattle.sshkey_keys_ref.specs.KeyDataRef.{key_bytes}
 use Rattle.sshkey_keys_ref.specs.SignatureRef.{signature_bytes}
-use Rattle.sshkey_calls.proofs.PlainSignatures.{asked_under, same_question}
+use Rattle.sshkey_calls.proofs.Signatures.{asked_under, same_question}
 use Rattle.sshkey_calls.proofs.Questions.{no_question, none_raised, one_question, question_is, raised}
-use Rattle.sshkey_calls.proofs.plain_signature.ask.Goals as goal
+use Rattle.sshkey_calls.proofs.signature.ask.Goals as goal
 
 pub returns-in-Some-clause-raised : goal.returns-in-Some-clause-raised
 returns-in-Some-clause-raised c =

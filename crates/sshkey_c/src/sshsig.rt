@@ -1,0 +1,37 @@
+//! What has to be verified of an SSH signature.
+
+ghost use Rattle.std.specs.Prelude.{◌≡◌, ◌≢◌, Err};
+ghost use Rattle.sshkey_model.specs.Reading.{Fault, whole};
+ghost use Rattle.sshkey_model.specs.SshSignatures.{SshSignature};
+ghost use Rattle.sshkey_sshsig.specs.SshSignatureReaders.{SpellsSshSignature, ssh_signature_value_at};
+ghost use Rattle.sshkey_calls.specs.Numbers.{fault_number};
+ghost use Rattle.sshkey_calls.specs.Questions.{GivesQuestion};
+ghost use Rattle.sshkey_calls.specs.SshSignatures.{IsSignerOf, NeedsSshSignature, RaisedBySshSignature, TellsNoneOfSshSignature};
+
+use sshkey_calls::{Question, Sha256Digest, sshsig_question};
+use std::alloc::Global;
+
+/// What has to be verified of an SSH signature: `sshkey_calls::sshsig_question`.
+#[unsafe(no_mangle)]
+pub extern "C" fn sshkey_sshsig_question(
+    alloc: Global,
+    signature: &[u8],
+    namespace: &[u8],
+    message: &[u8],
+    room: &mut [u8],
+    answer: &mut Question,
+    signer: &mut Sha256Digest,
+) -> u32
+    ensures raised { GivesQuestion (RaisedBySshSignature signature.now namespace.now message.now)
+        result answer.old answer.new room.old room.new }
+    ensures unsupported { TellsNoneOfSshSignature signature.now namespace.now message.now result }
+    ensures signer { result ≡ 0 → IsSignerOf signature.now signer.new.bytes }
+    ensures stays { result ≢ 0 → signer.new ≡ signer.old }
+    ensures namespace { (f : SshSignature) → SpellsSshSignature f signature.now
+        → f.namespace ≢ namespace.now → result ≢ 1 → result ≡ 41 }
+    ensures fault { (fault : Fault) → whole ssh_signature_value_at signature.now ≡ Err fault
+        → result ≢ 1 → result ≡ fault_number fault }
+    ensures memory { result ≡ 1 → NeedsSshSignature signature.now }
+{
+    sshsig_question(alloc, signature, namespace, message, room, answer, signer)
+}

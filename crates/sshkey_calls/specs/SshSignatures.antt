@@ -1,0 +1,29 @@
+-- What is answered of an SSH signature (PROTOCOL.sshsig).
+use Rattle.std.specs.Prelude.{◌≡◌, ◌≢◌, ◌⊎◌, ℕ, List, Some, None}
+use Rattle.sshkey_model.specs.Names.{Sha256}
+use Rattle.sshkey_model.specs.SignedMessages.{signed_by}
+use Rattle.sshkey_model.specs.SshSignatures.{SshSignature}
+use Rattle.sshkey_model.specs.Verification as model
+use Rattle.sshkey_base.specs.Acceptance.{SpellsSome}
+use Rattle.sshkey_sshsig.specs.SshSignatureFormats.{ssh_signature_format}
+use Rattle.sshkey_sshsig.specs.SshSignatureReaders.{SpellsSshSignature}
+use Rattle.sshkey_calls.specs.Fingerprints.{GivesDigestOf}
+
+-- the bytes spell an SSH signature in the namespace that raises the question, over what is signed in place of the message
+pub record RaisedBySshSignature (bytes namespace message : List ℕ) (q : model.Question) : Type 0 where
+  pub signature : SshSignature
+  pub spelled : SpellsSshSignature signature bytes
+  pub in_namespace : signature.namespace ≡ namespace
+  pub raised : model.question signature.key (signed_by signature message) signature.signature ≡ Some q
+
+-- 40 where the bytes spell one in the namespace that raises none, memory aside
+abbrev pub TellsNoneOfSshSignature : List ℕ → List ℕ → List ℕ → ℕ → Type 0
+TellsNoneOfSshSignature bytes namespace message n = (f : SshSignature) → SpellsSshSignature f bytes → f.namespace ≡ namespace → model.question f.key (signed_by f message) f.signature ≡ None → n ≢ 1 → n ≡ 40
+
+-- the digest is the fingerprint of the key of the SSH signature that the bytes spell
+abbrev pub IsSignerOf : List ℕ → List ℕ → Type 0
+IsSignerOf bytes digest = (f : SshSignature) → SpellsSshSignature f bytes → GivesDigestOf Sha256 f.key digest
+
+-- Memory may be asked for: by a part that stands whole before the first fault, or for the SSH signature that the bytes spell.
+abbrev pub NeedsSshSignature : List ℕ → Type 0
+NeedsSshSignature bytes = ssh_signature_format.needs bytes 0 ⊎ SpellsSome SpellsSshSignature bytes

@@ -1,0 +1,137 @@
+//! What has to be verified of an SSH signature.
+
+ghost use Rattle.std.specs.Prelude.{◌≡◌, ◌≢◌, ◌↔◌, Err, IfSome, IsTrue, None, Some};
+ghost use Rattle.sshkey_keys.specs.Keys.{key_of};
+ghost use Rattle.sshkey_keys.specs.Questions.{question_of};
+ghost use Rattle.sshkey_model.specs.Names.{Sha256};
+ghost use Rattle.sshkey_model.specs.Reading.{Fault, whole};
+ghost use Rattle.sshkey_model.specs.SignedMessages.{signed_by};
+ghost use Rattle.sshkey_model.specs.SshSignatures.{SshSignature};
+ghost use Rattle.sshkey_model.specs.Verification.{question};
+ghost use Rattle.sshkey_sshsig.specs.SshSignatureReaders.{SpellsSshSignature, ssh_signature_value_at};
+ghost use Rattle.sshkey_sshsig.specs.SshSignatures.{ssh_signature_of};
+ghost use Rattle.sshkey_calls.specs.Fingerprints.{GivesDigestOf};
+ghost use Rattle.sshkey_calls.specs.Numbers.{fault_number};
+ghost use Rattle.sshkey_calls.specs.Questions.{GivesQuestion};
+ghost use Rattle.sshkey_calls.specs.SshSignatures.{IsSignerOf, NeedsSshSignature, RaisedBySshSignature, TellsNoneOfSshSignature};
+
+use crate::digest::Sha256Digest;
+use crate::number::{DONE, MEMORY, OTHER_NAMESPACE, UNSUPPORTED, error_number};
+use crate::question::{Question, answer_with};
+use sshkey_base::HashAlg;
+use sshkey_keys::{KeyData, Question as Asked};
+use sshkey_sshsig::SshSig;
+use std::alloc::Global;
+
+/// What has to be verified of the SSH signature that all the bytes spell, which are what stands in
+/// the armour, decoded: as a signature of the message in that namespace. And by whom it is: the
+/// SHA-256 fingerprint of its key. Whether that key may sign there is the caller's to judge.
+///
+/// Returns 0 with the question in the room, 2 where the room is too short for it, 1 if memory ran
+/// out, from 10 to 29 the fault of bytes that are no SSH signature, 41 for a signature in another
+/// namespace, and 40 where the key and the signature's algorithm do not go together: such a
+/// signature is not valid. Where the question is answered, the signature is valid exactly if the
+/// verification says yes. Memory is taken only for a part that stands whole.
+pub fn sshsig_question(
+    alloc: Global,
+    signature: &[u8],
+    namespace: &[u8],
+    message: &[u8],
+    room: &mut [u8],
+    answer: &mut Question,
+    signer: &mut Sha256Digest,
+) -> u32
+    ensures raised { GivesQuestion (RaisedBySshSignature signature.now namespace.now message.now)
+        result answer.old answer.new room.old room.new }
+    ensures unsupported { TellsNoneOfSshSignature signature.now namespace.now message.now result }
+    ensures signer { result ≡ 0 → IsSignerOf signature.now signer.new.bytes }
+    ensures stays { result ≢ 0 → signer.new ≡ signer.old }
+    ensures namespace { (f : SshSignature) → SpellsSshSignature f signature.now
+        → f.namespace ≢ namespace.now → result ≢ 1 → result ≡ 41 }
+    ensures fault { (fault : Fault) → whole ssh_signature_value_at signature.now ≡ Err fault
+        → result ≢ 1 → result ≡ fault_number fault }
+    ensures memory { result ≡ 1 → NeedsSshSignature signature.now }
+{
+    match SshSig::from_bytes(alloc, signature) {
+        Ok(read) => if is_in(&read, namespace) {
+            ask(alloc, &read, message, room, answer, signer)
+        } else {
+            OTHER_NAMESPACE
+        },
+        Err(error) => error_number(error),
+    }
+}
+
+/// Whether the signature is in the namespace.
+fn is_in(signature: &SshSig, namespace: &[u8]) -> bool
+    ensures { IsTrue result
+        ↔ ((ssh_signature_of signature.now).namespace ≡ namespace.now) }
+{
+    signature.namespace().as_bytes() == namespace
+}
+
+/// The same of a signature that was read, and is in the namespace.
+fn ask(
+    alloc: Global,
+    read: &SshSig,
+    message: &[u8],
+    room: &mut [u8],
+    answer: &mut Question,
+    signer: &mut Sha256Digest,
+) -> u32
+    ensures raised { GivesQuestion (λ q. question (ssh_signature_of read.now).key
+        (signed_by (ssh_signature_of read.now) message.now)
+        (ssh_signature_of read.now).signature ≡ Some q)
+        result answer.old answer.new room.old room.new }
+    ensures unsupported { question (ssh_signature_of read.now).key
+        (signed_by (ssh_signature_of read.now) message.now)
+        (ssh_signature_of read.now).signature ≡ None → result ≢ 1 → result ≡ 40 }
+    ensures signer { result ≡ 0
+        → GivesDigestOf Sha256 (ssh_signature_of read.now).key signer.new.bytes }
+    ensures stays { result ≢ 0 → signer.new ≡ signer.old }
+{
+    let Ok(signed) = read.signed_bytes(alloc, message) else {
+        return MEMORY;
+    };
+    match read.public_key().question(&signed, read.signature()) {
+        Some(question) => {
+            let Some(digest) = digest_of(alloc, read.public_key()) else {
+                return MEMORY;
+            };
+            answer_by(alloc, &question, &digest, room, answer, signer)
+        }
+        None => UNSUPPORTED,
+    }
+}
+
+/// The SHA-256 fingerprint of the key; `None` if memory ran out.
+fn digest_of(alloc: Global, key: &KeyData) -> Option<[u8; 32]>
+    ensures { IfSome result (GivesDigestOf Sha256 (key_of key.now)) }
+{
+    let Ok(fingerprint) = key.fingerprint(alloc, HashAlg::Sha256) else {
+        return None;
+    };
+    fingerprint.sha256()
+}
+
+/// Answers with the question, and where it is done with the digest of who signed.
+fn answer_by(
+    alloc: Global,
+    question: &Asked<'_>,
+    digest: &[u8; 32],
+    room: &mut [u8],
+    answer: &mut Question,
+    signer: &mut Sha256Digest,
+) -> u32
+    ensures raised { GivesQuestion (λ q. q ≡ question_of question.now)
+        result answer.old answer.new room.old room.new }
+    ensures signer { result ≡ 0 → signer.new.bytes ≡ digest.now }
+    ensures stays { result ≢ 0 → signer.new ≡ signer.old }
+{
+    let number = answer_with(alloc, question, room, answer);
+    if number == DONE {
+        signer.bytes = *digest;
+        return DONE;
+    }
+    number
+}
