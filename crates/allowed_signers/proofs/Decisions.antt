@@ -1,5 +1,5 @@
 -- What a verdict, an entry and a line decide.
-use Rattle.std.proofs.Common.{◌≡◌, ◌≢◌, ◌↔◌, ◌==◌, ◌∙◌, ℕ, List, [], ◌∷◌, length, eqb-true, arith, sym, Bool, true, false, Option, Some, None, Result, Ok, Err, IfErr, IfOk, IsTrue, refl, subst, inl, inr}
+use Rattle.std.proofs.Common.{◌≡◌, ◌≢◌, ◌↔◌, ◌==◌, ◌∙◌, ℕ, ◌<◌, List, [], ◌∷◌, length, get_or, eqb-true, arith, sym, Bool, true, false, Option, Some, None, Result, Ok, Err, IfErr, IfOk, IsTrue, refl, subst, inl, inr}
 use Rattle.ssh_key.specs.base.Acceptance.{AcceptsExactly}
 use Rattle.ssh_key.specs.base.Causes.{NoMemory, cause}
 use Rattle.ssh_key.specs.base.Reading.{NoSpelling}
@@ -10,6 +10,7 @@ use Rattle.ssh_key.specs.entries.Laws.{EntriesDetermineValues}
 use Rattle.ssh_key.specs.entries.OpenSshLines.{IsAuthorizedLine}
 use Rattle.ssh_key.specs.entries.Patterns.{MatchesList}
 use Rattle.ssh_key.specs.model.Keys.{Key}
+use Rattle.ssh_key.specs.model.Lines.{IsWithout}
 use Rattle.ssh_key.specs.model.SshSignatures.{SshSignature}
 use Rattle.ssh_key.specs.sshsig.SshSignatureFormats.{ssh_signature_format}
 use Rattle.ssh_key.specs.sshsig.SshSignatureReaders.{SpellsSshSignature}
@@ -18,7 +19,7 @@ use Rattle.ssh_key.specs.types.Error.TheVariants.{Memory}
 use Rattle.ssh_key.proofs.Acceptance.{other_cause}
 use Rattle.allowed_signers.specs.AllowedSigners.{Allows, Answers, HasEntryFor, HasSignature, IsEntryFor, IsNo, Names, OkExactly, OptionsPermit, ReadsSignature}
 use Rattle.allowed_signers.specs.OneValue.{IsTheOne}
-use Rattle.allowed_signers.specs.Principals.{IsFront}
+use Rattle.allowed_signers.specs.Principals.{ArePrincipals}
 use Rattle.allowed_signers.specs.SignerOptions.{AreTerms, Permits, Terms, terms_of}
 use Rattle.allowed_signers.specs.declared.options.SignerOptions.{SignerOptions}
 use Rattle.allowed_signers.specs.declared.signers.Refusal.{Refusal}
@@ -98,15 +99,18 @@ no_entry namespace time key text e none = refused (HasEntryFor namespace time ke
 -- ---- a line
 
 module _ (identity namespace : List ℕ) (time : ℕ) (key : Key) (line : List ℕ) where
-  pub no_front : ((p : List ℕ × List ℕ) → IsFront line p → ⊥) → IsTrue false ↔ Allows identity namespace time key line
+  pub has_zero : (k : ℕ) → k < length line → get_or line k 0 ≡ 0 → IsTrue false ↔ Allows identity namespace time key line
+  has_zero k l here = never (Allows identity namespace time key line) (λ a. a.no_zero k l here)
+
+  pub no_front : ((p : List ℕ × List ℕ) → ArePrincipals line p → ⊥) → IsTrue false ↔ Allows identity namespace time key line
   no_front none = never (Allows identity namespace time key line) (λ a. none (a.principals, a.rest) a.front)
 
-  module _ (principals rest : List ℕ) (front : IsFront line (principals, rest)) (one : (p : List ℕ × List ℕ) → IsFront line p → p ≡ (principals, rest)) where
+  module _ (principals rest : List ℕ) (front : ArePrincipals line (principals, rest)) (one : (p : List ℕ × List ℕ) → ArePrincipals line p → p ≡ (principals, rest)) where
     pub not_listed : (MatchesList (λ c. c) principals identity → ⊥) → IsTrue false ↔ Allows identity namespace time key line
     not_listed none = never (Allows identity namespace time key line) (λ a. none (subst (λ (p : List ℕ × List ℕ). MatchesList (λ c. c) p.0 identity) (one (a.principals, a.rest) a.front) a.listed))
 
-    pub line_decides : MatchesList (λ c. c) principals identity → (r : Result Bool Error) → IfOk r (λ yes. IsTrue yes ↔ HasEntryFor namespace time key rest) → IfOk r (λ yes. IsTrue yes ↔ Allows identity namespace time key line)
-    line_decides listed =
+    pub line_decides : IsWithout 0 line → MatchesList (λ c. c) principals identity → (r : Result Bool Error) → IfOk r (λ yes. IsTrue yes ↔ HasEntryFor namespace time key rest) → IfOk r (λ yes. IsTrue yes ↔ Allows identity namespace time key line)
+    line_decides no_zero listed =
         told_as (HasEntryFor namespace time key rest) (Allows identity namespace time key line)
-        (λ entry. record { principals = principals; rest = rest; front = front; listed = listed; entry = entry })
+        (λ entry. record { no_zero = no_zero; principals = principals; rest = rest; front = front; listed = listed; entry = entry })
         (λ a. subst (λ (p : List ℕ × List ℕ). HasEntryFor namespace time key p.1) (one (a.principals, a.rest) a.front) a.entry)

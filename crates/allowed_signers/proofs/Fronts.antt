@@ -1,14 +1,16 @@
--- A line has one front.
-use Rattle.std.proofs.Common.{◌≡◌, ◌≢◌, ℕ, ◌<◌, List, [], ◌∷◌, ◌++◌, length, get_or, Option, None, Some, sym, ap, ◌∙◌, arith, inl, inr, lit<}
+-- A line has one front, and its principals are that.
+use Rattle.std.proofs.Common.{◌≡◌, ◌≢◌, ℕ, ◌<◌, List, [], ◌∷◌, ◌++◌, length, get_or, Option, None, Some, sym, ap, ◌∙◌, arith, inl, inr, lit<, subst}
 use Rattle.std.proofs.lemmas.Str.Pattern.{IsSplitOnceResult, split_after, split_parts}
 use Rattle.std.specs.Prelude.{slice_index}
 use Rattle.ssh_key.specs.entries.Fields.{EndsField}
 use Rattle.ssh_key.specs.entries.OptionItems.{quote}
 use Rattle.ssh_key.specs.entries.StrictReading.{is_blank}
 use Rattle.ssh_key.specs.files.Cuts.{CutsField}
+use Rattle.ssh_key.specs.model.Lines.{IsWithout}
+use Rattle.ssh_key.specs.public.OneLine.{carriage_return}
 use Rattle.ssh_key.proofs.Entries.{same_field}
 use Rattle.allowed_signers.specs.OneValue.{IsTheOne}
-use Rattle.allowed_signers.specs.Principals.{HasPrincipals, IsFront, IsPlainFront, IsUnquoted, parts_of}
+use Rattle.allowed_signers.specs.Principals.{ArePrincipals, CutsFront, IsFront, IsPlainFront, IsUnquoted, parts_of}
 use denote.Ref.{Bor}
 
 abbrev Parts : Type 0
@@ -24,7 +26,7 @@ no_word [] rest quoted plain (inr blank) e = cc (sym blank ∙ ap (λ (t : List 
 no_word (c ∷ word) rest quoted plain ends e = plain 0 (omega arith) (ap (λ (t : List ℕ). slice_index t 0) (sym e))
 
 -- behind a quote stand the principals and another
-behind_quote : (line quoted : List ℕ) (p : Parts) → line ≡ quote ∷ quoted → HasPrincipals line p.0 p.1 → quoted ≡ p.0 ++ (quote ∷ p.1)
+behind_quote : (line quoted : List ℕ) (p : Parts) → line ≡ quote ∷ quoted → CutsFront line p.0 p.1 → quoted ≡ p.0 ++ (quote ∷ p.1)
 behind_quote line quoted p e has = elim has.is [
   | inl cut ↦ absurd (no_word p.0 p.1 quoted has.unquoted cut.ends (sym e ∙ cut.is))
   | inr is ↦ let same : quote ∷ quoted ≡ quote ∷ (p.0 ++ (quote ∷ p.1)) = sym e ∙ is in cc same
@@ -62,3 +64,12 @@ quoted_word line word rest k cut l here p is =
 
 pub one_word : (line word rest : List ℕ) → CutsField line word rest → (p : Parts) → IsPlainFront line p → ◌≡◌ {A = Parts} p (word, rest)
 one_word line word rest cut p is = let same = one_cut line p.0 word p.1 rest is.1 cut in same_parts p.0 word p.1 rest same.0 same.1
+
+-- ---- the principals
+
+module _ (line : List ℕ) (x : Bor (List ℕ) × Bor (List ℕ)) (front : IsFront line (parts_of x)) (one : (p : Parts) → IsFront line p → p ≡ parts_of x) where
+  pub returned : (k : ℕ) → k < length x.0.now → get_or x.0.now k 0 ≡ carriage_return → (p : Parts) → ArePrincipals line p → ⊥
+  returned k l here p has = subst (λ (q : Parts). IsWithout carriage_return q.0) (one p has.cut) has.no_return k l here
+
+  pub principals : IsWithout carriage_return x.0.now → IsTheOne parts_of (ArePrincipals line) (Some x)
+  principals plain = (record { cut = front; no_return = plain }, λ p has. one p has.cut)

@@ -8,6 +8,7 @@ use Rattle.ssh_key.specs.entries.Fields.{filled_lines}
 use Rattle.ssh_key.specs.entries.OpenSshLines.{IsAuthorizedLine}
 use Rattle.ssh_key.specs.entries.Patterns.{MatchesList}
 use Rattle.ssh_key.specs.model.Keys.{Key}
+use Rattle.ssh_key.specs.model.Lines.{IsWithout}
 use Rattle.ssh_key.specs.model.SignedMessages.{IsVerified}
 use Rattle.ssh_key.specs.model.SshSignatures.{SshSignature}
 use Rattle.ssh_key.specs.model.Verification.{Question}
@@ -39,8 +40,9 @@ pub record IsEntryFor (namespace : List ℕ) (time : ℕ) (key : Key) (entry : A
 abbrev pub HasEntryFor : List ℕ → ℕ → Key → List ℕ → Type 0
 HasEntryFor namespace time key text = (entry : AuthorizedKey) × IsAuthorizedLine text entry × IsEntryFor namespace time key entry
 
--- The line lets the key sign for the identity, in the namespace and at the time: its principals list the identity, letters in their own case, and behind them stands such an entry.
+-- The line lets the key sign for the identity, in the namespace and at the time: its principals list the identity, letters in their own case, and behind them stands such an entry. No byte is 0, where ssh-keygen takes the line to end.
 pub record Allows (identity namespace : List ℕ) (time : ℕ) (key : Key) (line : List ℕ) : Type 0 where
+  pub no_zero : IsWithout 0 line
   pub principals : List ℕ
   pub rest : List ℕ
   pub front : HasPrincipals line principals rest

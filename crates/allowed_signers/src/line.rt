@@ -1,13 +1,27 @@
 //! The front of a line.
 
 ghost use Rattle.allowed_signers.specs.OneValue.{IsTheOne};
-ghost use Rattle.allowed_signers.specs.Principals.{IsFront, IsPlainFront, parts_of};
+ghost use Rattle.allowed_signers.specs.Principals.{ArePrincipals, IsFront, IsPlainFront, parts_of};
 
 use ssh_key::authorized_keys::split_field;
 
-/// The principals at the front of a line, and what follows them. They are a word, or stand in
-/// double quotes. None are read where a quote stands within a word, or quotes stay open.
+/// The principals at the front of a line, and what follows them. None are read where a carriage
+/// return stands in them: ssh-keygen ends a word there, and would read other principals.
 pub(crate) fn split_principals(line: &str) -> Option<(&str, &str)>
+    ensures { IsTheOne parts_of (ArePrincipals line.now) result }
+{
+    let Some((principals, rest)) = split_front(line) else {
+        return None;
+    };
+    if principals.contains('\r') {
+        return None;
+    }
+    Some((principals, rest))
+}
+
+/// The first text of a line, and what follows it. It is a word, or stands in double quotes. None is
+/// read where a quote stands within a word, or quotes stay open.
+fn split_front(line: &str) -> Option<(&str, &str)>
     ensures { IsTheOne parts_of (IsFront line.now) result }
 {
     match line.strip_prefix('"') {

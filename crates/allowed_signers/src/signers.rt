@@ -39,7 +39,9 @@ pub enum Refusal {
 /// each option is one of these and stands there once: `namespaces="..."`, a list of patterns for
 /// the namespace, and `valid-after="..."` and `valid-before="..."`, the first and the last second,
 /// in UTC. A line with `cert-authority` lets certificates sign, which are not read in a signature:
-/// it is passed over. So is each line in which something else stands, as ssh-keygen does.
+/// it is passed over. So is each line in which something else stands, as ssh-keygen does, a line in
+/// which a byte is 0, and one with a carriage return in its list of patterns: there ssh-keygen ends
+/// the line, or the list.
 ///
 /// `signature` is what stands in the armour of `ssh-keygen -Y sign`, decoded. Unless memory runs
 /// out, it is refused for the first of these that holds: `NoSignature`, `NotAllowed`,
@@ -179,6 +181,9 @@ fn allows(
         unix_timestamp (key_of key.now) line.now) }
     ensures memory { IfErr result (λ e. e ≡ Memory) }
 {
+    if line.contains('\0') {
+        return Ok(false);
+    }
     let Some((principals, rest)) = split_principals(line) else {
         return Ok(false);
     };

@@ -1,13 +1,19 @@
-use Rattle.std.proofs.Common.{None, Some, lit<}
-use Rattle.std.proofs.lemmas.Str.Pattern.{strip_prefix_char}
-use Rattle.ssh_key.specs.entries.OptionItems.{quote}
-use Rattle.allowed_signers.proofs.Fronts.{plain_front, quoted_front}
+use Rattle.std.proofs.Common.{◌∙◌, lit<, sym}
+use Rattle.std.proofs.lemmas.Str.Pattern.{contains_char}
+use Rattle.ssh_key.specs.public.OneLine.{carriage_return}
+use Rattle.allowed_signers.proofs.Fronts.{principals, returned}
 use Rattle.allowed_signers.proofs.line.split_principals.Goals as goal
 
-pub returns-in-Some : goal.returns-in-Some
-returns-in-Some c =
-    let front = strip_prefix_char quote c.args.line.now (Some c.in-Some.quoted) c.in-Some.ensures.cases (lit< tt) in
-    quoted_front c.args.line.now c.in-Some.quoted.now c.split_once.result front c.split_once.ensures.cases
+pub returns-in_default : goal.returns-in_default
+returns-in_default c = λ p has. c.in_default.ensures p has.cut
 
-pub returns-in-None : goal.returns-in-None
-returns-in-None c = plain_front c.args.line.now c.split_word.result (strip_prefix_char quote c.args.line.now None c.in-None.ensures.cases (lit< tt)) c.split_word.ensures
+pub returns-then-contains : goal.returns-then-contains
+returns-then-contains c =
+    let here = (contains_char carriage_return c.in-Some.principals.now c.contains.result c.contains.ensures.cases (lit< tt)).0 c.if-contains.true in
+    returned c.args.line.now (c.in-Some.principals, c.in-Some.rest) c.in-Some.ensures.0 c.in-Some.ensures.1 here.0 here.1 here.2
+
+pub returns : goal.returns
+returns c =
+    let found = contains_char carriage_return c.in-Some.principals.now c.contains.result c.contains.ensures.cases (lit< tt) in
+    principals c.args.line.now (c.in-Some.principals, c.in-Some.rest) c.in-Some.ensures.0 c.in-Some.ensures.1
+    (λ i l e. cc (sym (found.1 i l e) ∙ c.if-contains.false))
