@@ -90,8 +90,8 @@ impl SkEd25519 {
     }
 }
 
-/// Shows `SkEcdsaSha2NistP256 { .. }`, whatever options the formatter has: nothing of the public key,
-/// and nothing of what is kept beside it.
+/// Shows `SkEcdsaSha2NistP256 { .. }`, whatever options the formatter has: nothing of the public
+/// key, and nothing of what is kept beside it.
 impl fmt::Debug for SkEcdsaSha2NistP256 {
     ghost debug_output = { λ _. Some (codes "SkEcdsaSha2NistP256 { .. }") };
 
@@ -103,8 +103,8 @@ impl fmt::Debug for SkEcdsaSha2NistP256 {
     }
 }
 
-/// Shows `SkEd25519 { .. }`, whatever options the formatter has: nothing of the public key,
-/// and nothing of what is kept beside it.
+/// Shows `SkEd25519 { .. }`, whatever options the formatter has: nothing of the public
+/// key, and nothing of what is kept beside it.
 impl fmt::Debug for SkEd25519 {
     ghost debug_output = { λ _. Some (codes "SkEd25519 { .. }") };
 

@@ -1,6 +1,6 @@
 -- How a private key is refused where a stated length passes.
 use Rattle.std.proofs.Common.{◌≡◌, ◌⊎◌, inl, inr, ℕ, List, Result, Ok, Err, refl}
-use Rattle.sshkey_model.specs.Reading.{Length, ◌>>=◌, Front}
+use Rattle.sshkey_model.specs.Reading.{Length, Front}
 use Rattle.sshkey_model.specs.KeyDerivation.{Cipher}
 use Rattle.sshkey_model.specs.PrivateKeys.{blocks_from}
 use Rattle.sshkey_base.specs.Causes.{Cause, Faulty}

@@ -6,7 +6,7 @@ use Rattle.sshkey_model.specs.Keys.{Key}
 use Rattle.sshkey_model.specs.KeyDerivation.{Cipher, NoCipher, Kdf, NoKdf, Bcrypt}
 use Rattle.sshkey_model.specs.Parts.{Any, bytes, number}
 use Rattle.sshkey_model.specs.PrivateKeys.{private_key_magic, one_key}
-use Rattle.sshkey_model.specs.Reading.{Fault, Length, ◌>>=◌, number_at, literal_at}
+use Rattle.sshkey_model.specs.Reading.{Fault, Length, number_at, literal_at}
 use Rattle.sshkey_model.proofs.CombinedReaders.{wide32, bind_assoc, number_reads, literal_reads, checked_reads, kept}
 use Rattle.sshkey_model.proofs.Grammars.{grammar}
 use Rattle.sshkey_base.specs.Causes.{Cause, Faulty}

@@ -23,7 +23,7 @@ ghost use Rattle.sshkey_private.specs.Inner.{inner_of, inner_at, padded_below, c
 
 use crate::part::Inner;
 use sshkey_base::{Decode, Error, Reader, Result, Text, encoding};
-use sshkey_ciphers::end_padding;
+use sshkey_ciphers::padding_from;
 use sshkey_format::Then;
 use sshkey_keypairs::{KeypairData, OpaqueKeypair};
 use sshkey_keys::KeyData;
@@ -73,7 +73,7 @@ fn padded_inner_from<R: Reader>(
         return Err(Error::Encoding(encoding::Error::Length));
     }
     let inner = inner_from(alloc, reader, public)?;
-    end_padding(reader, most)?;
+    padding_from(reader, most)?;
     Ok(inner)
 }
 

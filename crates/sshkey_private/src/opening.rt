@@ -1,6 +1,6 @@
 //! What stands before the private part of a key.
 
-ghost use Rattle.std.specs.Prelude.{◌≡◌, ℕ, List};
+ghost use Rattle.std.specs.Prelude.{ℕ, List};
 ghost use Rattle.sshkey_base.specs.Answers.{AnswersAlways};
 ghost use Rattle.sshkey_base.specs.Causes.{cause};
 ghost use Rattle.sshkey_base.specs.Needs.{Asks};
@@ -8,9 +8,9 @@ ghost use Rattle.sshkey_base.specs.Reading.{Gives};
 ghost use Rattle.sshkey_base.specs.Source.{Later};
 ghost use Rattle.sshkey_base.specs.Stops.{StopsBy};
 ghost use Rattle.sshkey_model.specs.PrivateKeys.{private_key_magic, one_key};
-ghost use Rattle.sshkey_model.specs.Reading.{literal_at, literal_from};
+ghost use Rattle.sshkey_model.specs.Reading.{literal_from};
 ghost use Rattle.sshkey_private.specs.Openings.{opening_of, magic_of, one_of};
-ghost use Rattle.sshkey_private.specs.PrivateKeyReaders.{opening_at, one_at};
+ghost use Rattle.sshkey_private.specs.PrivateKeyReaders.{opening_at};
 ghost use Rattle.sshkey_private.specs.PrivateKeyFormats.{magic_format, one_format, opening_parts};
 
 use sshkey_base::{Decode, Error, Reader, Result, array_from, encoding};

@@ -3,7 +3,7 @@
 use super::pairs::{bytes_of, is_written};
 use super::support::is_wanted;
 use sshkey_base::{Error, Result, SliceWriter, decode_whole, encoding};
-use sshkey_ciphers::{Cipher, Kdf, KdfAlg, ciphertext_from, encode_padded, end_padding, tag_from};
+use sshkey_ciphers::{Cipher, Kdf, KdfAlg, ciphertext_from, encode_padded, padding_from, tag_from};
 use sshkey_testing::Count;
 use std::alloc::Global;
 
@@ -107,7 +107,7 @@ fn ciphertexts(rt: HostRuntime) {
 }
 
 fn is_padding(mut bytes: &[u8]) -> Result<()> {
-    end_padding(&mut bytes, 7)
+    padding_from(&mut bytes, 7)
 }
 
 #[test]

@@ -19,21 +19,21 @@ returns-in_err-inner-clause-asks g c =
     let p = err_from_is_err_and c.from_residual.result c.from_residual.ensures.1 in
     rw (p.1, p.2) (asks_padded (NeedsInner (key_of c.args.public.now)) (g.R.Reader.source c.args.reader.now) _ (sym (ap (λ (n : ℕ). n % 8) c.remaining_len.ensures) ∙ c.if-remaining_len-ne0.false) c.in_err-inner.ensures.asks)
 
-pub returns-in_err-end_padding-clause-gives : goal.returns-in_err-end_padding-clause-gives
-returns-in_err-end_padding-clause-gives g c =
-    let p = err_from_is_err_and c.from_residual-in_err-end_padding.result c.from_residual-in_err-end_padding.ensures.1 in
-    rw (p.1, p.2) (padding_refused (suc c.args.most) (inner_at (key_of c.args.public.now)) inner_of _ _ _ c.in_ok-inner.ensures.gives (sym (ap (λ (n : ℕ). n % 8) c.remaining_len.ensures) ∙ c.if-remaining_len-ne0.false) _ c.in_err-end_padding.ensures.gives)
+pub returns-in_err-padding_from-clause-gives : goal.returns-in_err-padding_from-clause-gives
+returns-in_err-padding_from-clause-gives g c =
+    let p = err_from_is_err_and c.from_residual-in_err-padding_from.result c.from_residual-in_err-padding_from.ensures.1 in
+    rw (p.1, p.2) (padding_refused (suc c.args.most) (inner_at (key_of c.args.public.now)) inner_of _ _ _ c.in_ok-inner.ensures.gives (sym (ap (λ (n : ℕ). n % 8) c.remaining_len.ensures) ∙ c.if-remaining_len-ne0.false) _ c.in_err-padding_from.ensures.gives)
 
 pub returns-clause-gives : goal.returns-clause-gives
-returns-clause-gives g c = padded_read (suc c.args.most) (inner_at (key_of c.args.public.now)) inner_of _ _ _ c.in_ok-inner.ensures.gives (sym (ap (λ (n : ℕ). n % 8) c.remaining_len.ensures) ∙ c.if-remaining_len-ne0.false) _ c.in_ok-end_padding.ensures.sound c.in_ok-end_padding.ensures.gives
+returns-clause-gives g c = padded_read (suc c.args.most) (inner_at (key_of c.args.public.now)) inner_of _ _ _ c.in_ok-inner.ensures.gives (sym (ap (λ (n : ℕ). n % 8) c.remaining_len.ensures) ∙ c.if-remaining_len-ne0.false) _ c.in_ok-padding_from.ensures.sound c.in_ok-padding_from.ensures.gives
 
-pub returns-in_err-end_padding-clause-later : goal.returns-in_err-end_padding-clause-later
-returns-in_err-end_padding-clause-later g c = later_then _ _ _ c.in_ok-inner.ensures.later c.in_err-end_padding.ensures.later
+pub returns-in_err-padding_from-clause-later : goal.returns-in_err-padding_from-clause-later
+returns-in_err-padding_from-clause-later g c = later_then _ _ _ c.in_ok-inner.ensures.later c.in_err-padding_from.ensures.later
 
-pub returns-in_err-end_padding-clause-asks : goal.returns-in_err-end_padding-clause-asks
-returns-in_err-end_padding-clause-asks g c =
-    let p = err_from_is_err_and c.from_residual-in_err-end_padding.result c.from_residual-in_err-end_padding.ensures.1 in
-    rw (p.1, p.2) (λ memory sound. absurd (c.in_err-end_padding.ensures.asks memory (c.in_ok-inner.ensures.gives.missing ∙ sound)))
+pub returns-in_err-padding_from-clause-asks : goal.returns-in_err-padding_from-clause-asks
+returns-in_err-padding_from-clause-asks g c =
+    let p = err_from_is_err_and c.from_residual-in_err-padding_from.result c.from_residual-in_err-padding_from.ensures.1 in
+    rw (p.1, p.2) (λ memory sound. absurd (c.in_err-padding_from.ensures.asks memory (c.in_ok-inner.ensures.gives.missing ∙ sound)))
 
 pub returns-clause-later : goal.returns-clause-later
-returns-clause-later g c = later_then _ _ _ c.in_ok-inner.ensures.later c.in_ok-end_padding.ensures.later
+returns-clause-later g c = later_then _ _ _ c.in_ok-inner.ensures.later c.in_ok-padding_from.ensures.later
