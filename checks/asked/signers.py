@@ -124,12 +124,36 @@ TEXTS = [
     ("from 1969", '{who} valid-after="19691231Z" {key}\n', NO),
     ("a time without minutes", '{who} valid-after="2024010111Z" {key}\n', NO),
     ("a sign in a time", '{who} valid-after="+2230101Z" {key}\n', NO),
+    ("negated before a carriage return", "*,!{who}\r {key}\n", NO),
+    ("negated before two carriage returns", "*,!{who}\r\r\t {key}\n", NO),
+    ("behind a carriage return", "bob@example.com\r,{who} {key}\n", NO),
+    ("a carriage return in front", "\r{who} {key}\n", NO),
+    ("a carriage return in a namespace", '{who} namespaces="*,!git\r" {key}\n', OK),
+    ("a carriage return in the comment", "{who} {key} x\ry\n", OK),
+    ("a carriage return in another line", "bob@example.com\r {other}\n{who} {key}\n", OK),
+    ("negated before a zero byte", "*,!{who}\0 {key}\n", NO),
+    ("negated before a zero byte, first", "!{who}\0,* {key}\n", NO),
+    ("negated before a zero byte, in quotes", '"*,!{who}\0" {key}\n', NO),
+    ("a zero byte behind the identity", "{who}\0 {key}\n", NO),
+    ("a zero byte in front", "\0{who} {key}\n", NO),
+    ("a zero byte before the key", "{who} \0{key}\n", NO),
+    ("a zero byte in a namespace", '{who} namespaces="*,!git\0" {key}\n', NO),
+    ("a zero byte in another line", "bob@example.com\0 {other}\n{who} {key}\n", OK),
+    ("a zero byte in a comment line", "# \0\n{who} {key}\n", OK),
 ]  # fmt: skip
 
 # read by ssh-keygen and not here, which lets nobody else in
 STRICTER = [
     ("quotes within a word", 'ali"ce@example.com" {key}\n', NO),
     ("a carriage return within a line", "{who}\r{key}\n", NO),
+    ("a carriage return behind the identity", "{who}\r {key}\n", NO),
+    ("a carriage return within quotes", '"bob@example.com\r,{who}" {key}\n', NO),
+    ("negated before a carriage return, in quotes", '"*,!{who}\r" {key}\n', NO),
+    ("a carriage return behind quotes", '"{who}"\r {key}\n', NO),
+    ("a carriage return before the key", "{who} \r{key}\n", NO),
+    ("a carriage return at the end of the text", "{who} {bare}\r", NO),
+    ("a zero byte behind the key", "{who} {bare}\0\n", NO),
+    ("a zero byte in the comment", "{who} {key} x\0y\n", NO),
     ("a form feed within a key", "{who} ssh-ed25519 \f{word}\n", NO),
     ("a space in a time", '{who} valid-after="2023 101Z" {key}\n', NO),
 ]
@@ -182,6 +206,7 @@ def signers(maker):
     keys = {"who": WHO, "key": maker.key("signer"), "other": maker.key("another-signer")}
     keys["tabbed"] = keys["key"].replace(" ", " \t ")
     keys["word"] = keys["key"].split(" ")[1]
+    keys["bare"] = "ssh-ed25519 " + keys["word"]
     message = b"a commit\n"
     made = made_by(maker, "signer", message)
     of_made = told_of_file(made, message)

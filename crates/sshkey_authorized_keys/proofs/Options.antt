@@ -1,16 +1,17 @@
 -- When a line is an entry of authorized_keys.
-use Rattle.std.proofs.Common.{◌≡◌, ◌≢◌, ◌⊎◌, ◌<◌, ◌≤◌, ℕ, List, count_by, None, Some, Result, Ok, Err, Bor, refl, sym, ap, subst, arith, inl, inr}
-use Rattle.std.proofs.lemmas.Str.Pattern.{IsSplitOnceResult, split_after}
+use Rattle.std.proofs.Common.{◌≡◌, ◌≢◌, ◌⊎◌, ◌<◌, ◌≤◌, ℕ, List, count_by, None, Some, Result, Ok, Err, Bor, refl, sym, ap, subst, ◌∙◌, arith, inl, inr}
+use Rattle.std.proofs.lemmas.Str.Pattern.{IsSplitOnceResult, split_after, split_parts}
 use Rattle.sshkey_base.specs.Causes.{cause, NoMemory}
 use Rattle.sshkey_base.specs.declared.error.Error.{Error}
 use Rattle.sshkey_model.specs.Lines.{space, IsKeyLine}
-use Rattle.sshkey_files.specs.Answers.{ReadsEntry}
+use Rattle.sshkey_files.specs.Answers.{AsksEntry, ReadsEntry}
 use Rattle.sshkey_authorized_keys.specs.AuthorizedEntries.{authorized_key_of}
 use Rattle.sshkey_files.specs.AuthorizedKeys.{AuthorizedKey, IsAuthorizedKey, HasOptions, is_space}
 use Rattle.sshkey_files.specs.ConfigOptions.{AreOptions}
 use Rattle.sshkey_files.proofs.OneEntry.{no_space}
 use Rattle.sshkey_authorized_keys.specs.OptionAnswers.{IsNotAllowed}
 use Rattle.sshkey_authorized_keys.specs.EntryFaults.{HasFault}
+use Rattle.sshkey_authorized_keys.specs.EntryNeeds.{NeedsLine, NeedsOptions}
 use Rattle.sshkey_base.specs.declared.error.Error.TheVariants.{FormatEncoding, Memory}
 use Rattle.sshkey_files.specs.AuthorizedKeys.{IsNoKeyLine}
 use Rattle.sshkey_authorized_keys.specs.declared.entry.Entry.{Entry}
@@ -76,3 +77,19 @@ no_space_fault line zero = record { no_space = λ _. refl; no_options = λ front
 -- one or two spaces: the fault of the key's line
 pub line_fault : (line : List ℕ) (e : Error) → count_by is_space line ≢ 0 → count_by is_space line < 3 → HasFault line e
 line_fault line e some few = record { no_space = λ zero. absurd (some zero); no_options = λ front rest is without many bad. absurd (omega (arith, few, many)) }
+
+-- ---- memory
+
+module _ (line : List ℕ) (options rest : Bor (List ℕ)) (cut : IsSplitOnceResult space line (Some (options, rest))) (some : 3 ≤ count_by is_space line) where
+  -- options that are allowed
+  pub options_needed : AreOptions options.now → NeedsOptions line
+  options_needed are = let parts = split_parts space line (Some (options, rest)) cut (omega arith) in
+      record { options = options.now; rest = rest.now; is = parts.0; one_word = parts.1; are = are; spaces = some }
+
+  pub options_asked : (e : Error) → (AreOptions options.now × (e ≡ Memory)) ⊎ IsNotAllowed options.now e → cause e ≡ NoMemory → NeedsOptions line
+  options_asked e (inl full) memory = options_needed full.0
+  options_asked e (inr not_allowed) memory = cc (sym (ap cause not_allowed.0) ∙ memory)
+
+pub line_asks : (line : List ℕ) (r : Result Entry Error) → AsksEntry NeedsOptions line r → AsksEntry NeedsLine line r
+line_asks line (Ok e) asks = tt
+line_asks line (Err e) asks = λ memory. inr (asks memory)

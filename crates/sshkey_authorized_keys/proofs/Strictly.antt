@@ -10,6 +10,7 @@ use Rattle.sshkey_files.specs.StrictReading.{IsLeftOut, IsReadStrictly, IsLineRe
 use Rattle.sshkey_files.proofs.OneEntry.{one_entry}
 use Rattle.sshkey_files.proofs.StrictReading.{read}
 use Rattle.sshkey_authorized_keys.specs.EntryFaults.{HasFault, HasStrictFault, HasStrictLineFault}
+use Rattle.sshkey_authorized_keys.specs.EntryNeeds.{NeedsLine, NeedsStrictLine}
 
 -- ---- an entry
 
@@ -33,16 +34,18 @@ module _ (entry rest line : List ℕ) (is : entry ≡ uncommented line) (whole :
   pub line_strictly : (a : AuthorizedKey) → IsReadStrictly entry a → IsLeftOut rest → IsLineReadStrictly line a
   line_strictly a s left = record { rest = rest; is = whole_line; left_out = left; entry = subst (λ (l : List ℕ). IsReadStrictly l a) is s }
 
-  pub line_refused : (e : Error) → (cause e ≢ NoMemory → IsNoEntry IsReadStrictly entry) → (cause e ≢ NoMemory → HasStrictFault entry e)
-      → (cause e ≢ NoMemory → IsNoEntry IsLineReadStrictly line) × (cause e ≢ NoMemory → HasStrictLineFault line e)
-  line_refused e none fault = (
+  pub line_refused : (e : Error) → (cause e ≢ NoMemory → IsNoEntry IsReadStrictly entry) → (cause e ≢ NoMemory → HasStrictFault entry e) → (cause e ≡ NoMemory → NeedsLine entry)
+      → (cause e ≢ NoMemory → IsNoEntry IsLineReadStrictly line) × (cause e ≢ NoMemory → HasStrictLineFault line e) × (cause e ≡ NoMemory → NeedsStrictLine line)
+  line_refused e none fault asks = (
     λ other a s. none other a (subst (λ (l : List ℕ). IsReadStrictly l a) (sym is) s.entry),
     λ other. subst (λ (l : List ℕ). HasStrictFault l e) is (fault other),
+    λ memory. subst NeedsLine is (asks memory),
   )
 
   pub line_not_left_out : (a : AuthorizedKey) → IsReadStrictly entry a → (IsLeftOut rest → ⊥)
-      → (cause FormatEncoding ≢ NoMemory → IsNoEntry IsLineReadStrictly line) × (cause FormatEncoding ≢ NoMemory → HasStrictLineFault line FormatEncoding)
+      → (cause FormatEncoding ≢ NoMemory → IsNoEntry IsLineReadStrictly line) × (cause FormatEncoding ≢ NoMemory → HasStrictLineFault line FormatEncoding) × (cause FormatEncoding ≡ NoMemory → NeedsStrictLine line)
   line_not_left_out a s other = (
     λ _ b l. other (subst IsLeftOut (append_cancel_left (uncommented line) l.rest rest (sym l.is ∙ whole_line)) l.left_out),
     λ _. subst (λ (l : List ℕ). HasStrictFault l FormatEncoding) is (strict_fault entry a (read entry a s)),
+    λ memory. cc memory,
   )

@@ -2,6 +2,7 @@ pub mod Dividers
 pub mod OptionAnswers
 pub mod AuthorizedEntries
 pub mod EntryFaults
+pub mod EntryNeeds
 pub mod LeftOut
 pub mod StrictAnswers
 pub mod OpenSshEntries

@@ -1,8 +1,10 @@
 -- What calls of an iterator over entries gave, in order.
-use Rattle.std.proofs.Common.{◌≡◌, ℕ, List, [], ◌∷◌, ◌++◌, None, sym, ap, subst, ◌∙◌, append_assoc}
+use Rattle.std.proofs.Common.{◌≡◌, ◌⊎◌, ℕ, List, [], ◌∷◌, ◌++◌, length, None, sym, ap, subst, ◌∙◌, append_assoc, arith}
+use Rattle.std.proofs.lemmas.List.{length-append}
+use Rattle.std.proofs.Math.Seq.{get_or-append_seam}
 use Rattle.std.specs.List.{AllZip}
 use Rattle.std.specs.Iterator.{Yields}
-use Rattle.sshkey_files.specs.Answers.{YieldsAnswers}
+use Rattle.sshkey_files.specs.Answers.{NeedsSome, YieldsAnswers}
 
 module _ {X : Type 0} (R : List ℕ → X → Type 0) where
   zip_push : (all : List (List ℕ)) (xs : List X) (entry : List ℕ) (x : X) → AllZip R all xs → R entry x → AllZip R (all ++ (entry ∷ [])) (xs ++ (x ∷ []))
@@ -26,3 +28,10 @@ module _ {X : Type 0} (R : List ℕ → X → Type 0) where
   all_answered left end after (x ∷ xs) steps none =
       let step = steps.1 in
       subst (λ (l : List (List ℕ)). AllZip R l (x ∷ xs)) (sym step.1) (step.2, all_answered steps.0 end after xs steps.2 none)
+
+-- the first of the lines that are left has a value or needs memory
+pub needed_there : {Y : Type 0} (IsEntry : List ℕ → Y → Type 0) (Needs : List ℕ → Type 0) (all before left rest : List (List ℕ)) (line : List ℕ) → all ≡ before ++ left → left ≡ line ∷ rest
+    → ((y : Y) × IsEntry line y) ⊎ Needs line → NeedsSome IsEntry Needs all
+needed_there IsEntry Needs all before left rest line e first need =
+    subst (NeedsSome IsEntry Needs) (sym (e ∙ ap (λ (l : List (List ℕ)). before ++ l) first))
+    (length before, line, omega (arith, length-append before (line ∷ rest)), get_or-append_seam before line rest line, need)

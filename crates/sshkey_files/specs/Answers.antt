@@ -1,6 +1,6 @@
 -- What a reader of entries answers.
 use Rattle.std.specs.Prelude.{◌≡◌, ◌≢◌, ◌⊎◌, ℕ, List, [], ◌∷◌, ◌++◌, Option, Some, None, Result, Ok, Err, Vec}
-use Rattle.std.specs.List.{AllZip}
+use Rattle.std.specs.List.{AllZip, Any}
 use Rattle.sshkey_base.specs.Causes.{cause, NoMemory}
 use Rattle.sshkey_base.specs.Faults.{IsMachineFault}
 use Rattle.sshkey_base.specs.declared.error.Error.{Error}
@@ -17,9 +17,14 @@ abbrev pub RefusesFor : {X : Type 0} → (List ℕ → Error → Type 0) → Lis
 RefusesFor HasFault line (Ok x) = Unit {0}
 RefusesFor HasFault line (Err e) = cause e ≢ NoMemory → HasFault line e
 
--- Both of them: the value of the line; or it has none, and that fault.
-abbrev pub AnswersEntry : {X Y : Type 0} → (X → Y) → (List ℕ → Y → Type 0) → (List ℕ → Error → Type 0) → List ℕ → Result X Error → Type 0
-AnswersEntry means IsEntry HasFault line r = ReadsEntry means IsEntry line r × RefusesFor HasFault line r
+-- Memory was refused only where the line needs it.
+abbrev pub AsksEntry : {X : Type 0} → (List ℕ → Type 0) → List ℕ → Result X Error → Type 0
+AsksEntry Needs line (Ok x) = Unit {0}
+AsksEntry Needs line (Err e) = cause e ≡ NoMemory → Needs line
+
+-- All of them: the value of the line; or it has none, and that fault; and memory was refused only where it was needed.
+abbrev pub AnswersEntry : {X Y : Type 0} → (X → Y) → (List ℕ → Y → Type 0) → (List ℕ → Error → Type 0) → (List ℕ → Type 0) → List ℕ → Result X Error → Type 0
+AnswersEntry means IsEntry HasFault Needs line r = ReadsEntry means IsEntry line r × RefusesFor HasFault line r × AsksEntry Needs line r
 
 -- The line is its entry, and what stands behind it.
 abbrev pub AreParts : List ℕ → Bor (List ℕ) × Bor (List ℕ) → Type 0
@@ -57,3 +62,14 @@ ReadsEntries means IsEntry HasFault all (Err e) = cause e ≢ NoMemory → First
 abbrev pub ReadsFile : {X Y Z : Type 0} → (X → Y) → (List ℕ → Y → Type 0) → (List ℕ → Error → Type 0) → Result (Vec X Z) Error → Type 0
 ReadsFile means IsEntry HasFault (Ok v) = (text : List ℕ) × AreEntries means IsEntry (entries text) v.items
 ReadsFile means IsEntry HasFault (Err e) = IsMachineFault e ⊎ ((text : List ℕ) × FirstIsNone means IsEntry HasFault (entries text) e)
+
+-- ---- memory
+
+-- One of the lines has a value, which is kept, or needs memory itself.
+abbrev pub NeedsSome : {Y : Type 0} → (List ℕ → Y → Type 0) → (List ℕ → Type 0) → List (List ℕ) → Type 0
+NeedsSome {Y} IsEntry Needs = Any (λ line. ((y : Y) × IsEntry line y) ⊎ Needs line)
+
+-- Memory was refused only where one of them does.
+abbrev pub AsksEntries : {X Y : Type 0} → (List ℕ → Y → Type 0) → (List ℕ → Type 0) → List (List ℕ) → Result X Error → Type 0
+AsksEntries IsEntry Needs all (Ok x) = Unit {0}
+AsksEntries IsEntry Needs all (Err e) = cause e ≡ NoMemory → NeedsSome IsEntry Needs all

@@ -1,13 +1,13 @@
 -- Which hosts of a line are for a host (sshd(8), "SSH_KNOWN_HOSTS FILE FORMAT").
-use Rattle.std.specs.Prelude.{◌≡◌, ℕ, List, ◌++◌, map, codes, decimal, ◌==◌, if◌then◌else◌}
+use Rattle.std.specs.Prelude.{◌≡◌, ℕ, List, ◌++◌, map, codes, decimal, length, ◌==◌, if◌then◌else◌}
 use Rattle.std.specs.Char.{to_ascii_lowercase}
 use Rattle.sshkey_files.specs.KnownHosts.{Hosts, Patterns, HashedName}
 use Rattle.sshkey_files.specs.Patterns.{IsNamed}
 
--- The hosts are for a name: by their patterns, in which letters match in either case, or as its hash under the salt.
+-- The hosts are for a name: by their patterns, in which letters match in either case, or as its hash under the salt. OpenSSH draws a salt of 20 bytes, and takes no other.
 abbrev pub AreFor : (List ℕ → List ℕ → List ℕ) → List ℕ → Hosts → Type 0
 AreFor hmac name (Patterns patterns) = IsNamed to_ascii_lowercase name patterns
-AreFor hmac name (HashedName salt hash) = hash ≡ hmac salt name
+AreFor hmac name (HashedName salt hash) = (length salt ≡ 20) × (hash ≡ hmac salt name)
 
 abbrev pub standard_port : ℕ
 standard_port = 22

@@ -3,7 +3,7 @@
 ghost use Rattle.std.specs.Prelude.{ℕ, List};
 ghost use Rattle.sshkey_base.specs.declared.error.Error.{Error};
 ghost use Rattle.sshkey_files.specs.Entries.{entries};
-ghost use Rattle.sshkey_files.specs.Answers.{ReadsEntries, ReadsEntry, ReadsFile, RefusesFor};
+ghost use Rattle.sshkey_files.specs.Answers.{AsksEntries, AsksEntry, ReadsEntries, ReadsEntry, ReadsFile, RefusesFor};
 
 use crate::entry_lines::EntryTexts;
 use sshkey_base::Result;
@@ -25,16 +25,21 @@ pub trait FromLine: Drop + Sized {
     /// The error is one that names a fault of the line, which spells no entry.
     ghost HasFault: { List ℕ → Error → Type 0 };
 
+    /// Reading the line needs memory.
+    ghost Needs: { List ℕ → Type 0 };
+
     /// The entry of a line, as it stands. Unless memory runs out, it fails exactly if the line is
     /// no entry, for a fault that it has.
     fn from_line(alloc: Global, line: &str) -> Result<Self>
         ensures reads { ReadsEntry means IsEntry line.now result }
-        ensures fault { RefusesFor HasFault line.now result };
+        ensures fault { RefusesFor HasFault line.now result }
+        ensures asks { AsksEntry Needs line.now result };
 }
 
 /// All entries of a text, in order, or the error of the first line that is no entry.
 pub fn entries_of_text<E: FromLine>(alloc: Global, text: &str) -> Result<Vec<E>>
-    ensures { ReadsEntries E.means E.IsEntry E.HasFault (entries text.now) result }
+    ensures reads { ReadsEntries E.means E.IsEntry E.HasFault (entries text.now) result }
+    ensures asks { AsksEntries E.IsEntry E.Needs (entries text.now) result }
 {
     let mut found = Vec::new(alloc);
     for line in EntryTexts::new(text) {

@@ -1,10 +1,9 @@
 //! Entries of known_hosts.
 
 ghost use Rattle.std.specs.Prelude.{◌≡◌, ◌↔◌, IsTrue, IfErr, IfOk, string_bytes};
-ghost use Rattle.sshkey_base.specs.Causes.{cause, NoMemory};
 ghost use Rattle.sshkey_base.specs.declared.error.Error.TheVariants as wide;
 ghost use Rattle.sshkey_files.specs.KnownHosts.{KnownHost, IsKnownHost, known_text};
-ghost use Rattle.sshkey_files.specs.Answers.{ReadsEntry, RefusesFor};
+ghost use Rattle.sshkey_files.specs.Answers.{AsksEntry, ReadsEntry, RefusesFor};
 ghost use Rattle.sshkey_known_hosts.specs.HostEntries.{key_in, hosts_in, known_host_of, marker_front, marker_in, SplitsMarker};
 ghost use Rattle.sshkey_known_hosts.specs.HostFaults.{HasFault, NeedsLine};
 ghost use Rattle.sshkey_files.specs.MadeTexts.{MakesEntry};
@@ -63,6 +62,8 @@ impl FromLine for Entry {
 
     ghost HasFault = { HasFault };
 
+    ghost Needs = { NeedsLine };
+
     fn from_line(alloc: Global, line: &str) -> Result<Entry> {
         Entry::from_line(alloc, line)
     }
@@ -87,7 +88,7 @@ impl Entry {
     pub fn from_line(alloc: Global, line: &str) -> Result<Entry>
         ensures reads { ReadsEntry known_host_of IsKnownHost line.now result }
         ensures fault { RefusesFor HasFault line.now result }
-        ensures asks { IfErr result (λ e. cause e ≡ NoMemory → NeedsLine line.now) }
+        ensures asks { AsksEntry NeedsLine line.now result }
     {
         let (marker, unmarked) = split_marker(line)?;
         let Some((hosts, rest)) = unmarked.split_once(' ') else {

@@ -7,7 +7,7 @@ ghost use Rattle.sshkey_files.specs.Fields.{filled_lines};
 ghost use Rattle.sshkey_files.specs.KnownHosts.{IsKnownHost};
 ghost use Rattle.sshkey_files.specs.Answers.{AnswersEntry, ReadsFile, YieldsAnswers};
 ghost use Rattle.sshkey_known_hosts.specs.HostEntries.{known_host_of};
-ghost use Rattle.sshkey_known_hosts.specs.HostFaults.{HasFault};
+ghost use Rattle.sshkey_known_hosts.specs.HostFaults.{HasFault, NeedsLine};
 
 use crate::entry::Entry;
 use crate::openssh::OpenSshKnownHosts;
@@ -71,7 +71,8 @@ impl KnownHosts<'_> {
 impl<'a> Iterator for KnownHosts<'a> {
     type Item = Result<Entry>;
 
-    ghost next_gives = { YieldsAnswers (AnswersEntry known_host_of IsKnownHost HasFault) };
+    ghost next_gives = { YieldsAnswers
+        (AnswersEntry known_host_of IsKnownHost HasFault NeedsLine) };
 
     ghost remaining = { item_count (λ left. left) };
 

@@ -1,5 +1,5 @@
-use Rattle.std.proofs.Common.{sym, ◌∙◌, arith}
-use Rattle.sshkey_authorized_keys.proofs.Options.{few_spaces, only_options, no_space_fault, line_fault}
+use Rattle.std.proofs.Common.{inl, sym, ◌∙◌, arith}
+use Rattle.sshkey_authorized_keys.proofs.Options.{few_spaces, line_asks, only_options, no_space_fault, line_fault}
 use Rattle.sshkey_authorized_keys.proofs.entry.Entry.from_line.Goals as goal
 
 pub behind_options-requires : goal.behind_options-requires
@@ -19,3 +19,12 @@ returns-then-spaces-lt3-clause-fault c = λ _. line_fault c.args.line.now _ (λ 
 
 pub returns-clause-reads : goal.returns-clause-reads
 returns-clause-reads c = only_options c.args.line.now c.behind_options.result (c.in-Err.ensures.reads (λ memory. cc (sym c.if-is_memory.false ∙ c.is_memory.ensures.1 memory))) c.behind_options.ensures.reads
+
+pub returns-then-is_memory-clause-asks : goal.returns-then-is_memory-clause-asks
+returns-then-is_memory-clause-asks c = λ memory. inl (c.in-Err.ensures.asks memory)
+
+pub returns-then-spaces-lt3-clause-asks : goal.returns-then-spaces-lt3-clause-asks
+returns-then-spaces-lt3-clause-asks c = λ memory. cc (sym c.if-is_memory.false ∙ c.is_memory.ensures.1 memory)
+
+pub returns-clause-asks : goal.returns-clause-asks
+returns-clause-asks c = line_asks c.args.line.now c.behind_options.result c.behind_options.ensures.asks

@@ -15,3 +15,6 @@ returns-then-not-is_read_strictly-clause-reads c = λ _. not_strictly c.args.lin
 
 pub returns-then-not-is_read_strictly-clause-fault : goal.returns-then-not-is_read_strictly-clause-fault
 returns-then-not-is_read_strictly-clause-fault c = λ _. strict_fault c.args.line.now _ c.in_ok-entry.ensures.reads
+
+pub returns-in_err-entry-clause-asks : goal.returns-in_err-entry-clause-asks
+returns-in_err-entry-clause-asks c = let p = err_from_is_err_and c.from_residual.result c.from_residual.ensures.1 in rw (p.1, p.2) c.in_err-entry.ensures.asks

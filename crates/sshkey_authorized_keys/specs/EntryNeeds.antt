@@ -1,0 +1,26 @@
+-- Where reading an entry of authorized_keys needs memory.
+use Rattle.std.specs.Prelude.{◌≡◌, ◌⊎◌, ℕ, ◌≤◌, List, ◌∷◌, ◌++◌, count_by}
+use Rattle.sshkey_files.specs.AuthorizedKeys.{is_space}
+use Rattle.sshkey_files.specs.ConfigOptions.{AreOptions}
+use Rattle.sshkey_files.specs.Entries.{uncommented}
+use Rattle.sshkey_keys.specs.KeyFormats.{key_format}
+use Rattle.sshkey_keys.specs.Keys.{SpellsKey}
+use Rattle.sshkey_model.specs.Lines.{space, key_name, IsWithout}
+use Rattle.sshkey_public.specs.LineNeeds.{HasComment, NeedsValue}
+
+-- There are three spaces or more, and options stand before the first.
+pub record NeedsOptions (line : List ℕ) : Type 0 where
+  pub options : List ℕ
+  pub rest : List ℕ
+  pub is : line ≡ options ++ (space ∷ rest)
+  pub one_word : IsWithout space options
+  pub are : AreOptions options
+  pub spaces : 3 ≤ count_by is_space line
+
+-- Reading the line needs memory: for the key or the comment of a key's line, or for options.
+abbrev pub NeedsLine : List ℕ → Type 0
+NeedsLine line = (NeedsValue key_format.needs line ⊎ HasComment key_name SpellsKey line) ⊎ NeedsOptions line
+
+-- the same of the entry of a line
+abbrev pub NeedsStrictLine : List ℕ → Type 0
+NeedsStrictLine line = NeedsLine (uncommented line)
