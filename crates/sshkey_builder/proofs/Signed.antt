@@ -1,5 +1,5 @@
 -- What a builder signs is its draft.
-use Rattle.std.proofs.Common.{◌≡◌, ◌<◌, ◌≤◌, List, Bool, Contains, Result, Ok, Err, IfOk, IfErr, ℕ, subst, sym, ap, ◌∙◌}
+use Rattle.std.proofs.Common.{◌≡◌, ◌<◌, ◌≤◌, List, Bool, Contains, Result, Ok, Err, IfOk, IfErr, ℕ, subst, sym, ap, ◌∙◌, inl, inr}
 use Rattle.sshkey_model.specs.Parts.{flat}
 use Rattle.sshkey_model.specs.Names.{Sha256}
 use Rattle.sshkey_model.specs.Keys.{Key}
@@ -12,7 +12,7 @@ use Rattle.sshkey_base.specs.declared.error.Error.{Error}
 use Rattle.sshkey_keys.specs.Keys.{key_of}
 use Rattle.sshkey_keys.specs.declared.key_data.KeyData.{KeyData}
 use Rattle.sshkey_cert.specs.CertificateValues.{certificate_of}
-use Rattle.sshkey_cert.specs.Signing.{RefusesToSign}
+use Rattle.sshkey_cert.specs.Signing.{RefusesExactly, RefusesToSign}
 use Rattle.sshkey_cert.specs.declared.certificate.Certificate.{Certificate}
 use Rattle.sshkey_builder.specs.Builders.{IsValidExactlyIn}
 
@@ -40,5 +40,11 @@ module _ (accepts : Question → Bool) (k : Key) (d : Draft) where
   valid_of (Ok c) signed = valid_exactly (certificate_of c) signed
   valid_of (Err e) signed = tt
 
-pub refused_of : (refuses : List ℕ → Error → Type 0) (u d : SignedFields) (r : Result Certificate Error) → u ≡ d → IfErr r (RefusesToSign refuses u) → IfErr r (RefusesToSign refuses d)
-refused_of refuses u d r same h = subst (λ (w : SignedFields). IfErr r (RefusesToSign refuses w)) same h
+memory_aside : (refuses : List ℕ → Error → Type 0) (u : SignedFields) (e : Error) → RefusesExactly refuses u e → RefusesToSign refuses u e
+memory_aside refuses u e (inl long) = λ other. inl long
+memory_aside refuses u e (inr (fits, inl memory)) = λ other. absurd (other memory)
+memory_aside refuses u e (inr (fits, inr own)) = λ other. inr (fits, own)
+
+pub refused_of : (refuses : List ℕ → Error → Type 0) (u d : SignedFields) (r : Result Certificate Error) → u ≡ d → IfErr r (RefusesExactly refuses u) → IfErr r (RefusesToSign refuses d)
+refused_of refuses u d (Ok c) same h = tt
+refused_of refuses u d (Err e) same h = subst (λ (w : SignedFields). RefusesToSign refuses w e) same (memory_aside refuses u e h)

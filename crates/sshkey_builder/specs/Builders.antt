@@ -1,5 +1,5 @@
 -- What a builder holds, and what its calls answer.
-use Rattle.std.specs.Prelude.{◌≡◌, ◌≢◌, ◌↔◌, ℕ, ◌<◌, ◌≤◌, ◌^◌, List, Bool, Contains, Option, Some, None, option_map, Result, Ok, Err, IfOk}
+use Rattle.std.specs.Prelude.{◌≡◌, ◌↔◌, ℕ, ◌<◌, ◌≤◌, ◌^◌, List, Bool, Contains, Option, Some, None, option_map, Result, Ok, Err, IfOk}
 use Rattle.std.specs.Borrow.{RestsIfErr, MutBor, Fml}
 use Rattle.sshkey_model.specs.Drafts.{Draft, DraftField, SerialField, KindField, KeyIdField, PrincipalsField, AfterField, BeforeField, CriticalField, ExtensionsField, CommentField, Step, after_step, bad_window}
 use Rattle.sshkey_model.specs.Certificates.{Certificate}
@@ -12,6 +12,7 @@ use Rattle.sshkey_base.specs.declared.certificate.field.Field.TheVariants as fie
 use Rattle.sshkey_base.specs.declared.error.Error.{Error}
 use Rattle.sshkey_base.specs.declared.error.Error.TheVariants as wide
 use Rattle.sshkey_keys.specs.Keys.{key_of}
+use Rattle.sshkey_keys.specs.declared.key_data.KeyData.{KeyData}
 use Rattle.sshkey_options.specs.CertTypes.{type_of}
 use Rattle.sshkey_options.specs.OptionMaps.{options_of}
 use Rattle.sshkey_options.specs.declared.end_time.EndTime.{EndTime}
@@ -35,6 +36,10 @@ draft_of b = record {
   extensions = options_of b.extensions;
   comment = b.comment;
 }
+
+-- the key that is to be certified
+abbrev pub given_key : Builder → KeyData
+given_key b = b.public_key
 
 abbrev pub field_of : DraftField → Field
 field_of SerialField = field.Serial
@@ -113,10 +118,15 @@ abbrev pub Begins : Option DraftField → Draft → Result Builder Error → Typ
 Begins bad d (Ok b) = (bad ≡ None) × (draft_of b ≡ d)
 Begins bad d (Err e) = option_map field_error bad ≡ Some e
 
--- The same of a call that takes memory.
+-- The field's error, or `Memory` where no time is bad.
+abbrev pub why_not : Option DraftField → Error
+why_not None = wide.Memory
+why_not (Some f) = field_error f
+
+-- The same of a call that takes memory, which it asks for only where no time is bad.
 abbrev pub BeginsInMemory : Option DraftField → Draft → Result Builder Error → Type 0
 BeginsInMemory bad d (Ok b) = (bad ≡ None) × (draft_of b ≡ d)
-BeginsInMemory bad d (Err e) = e ≢ wide.Memory → option_map field_error bad ≡ Some e
+BeginsInMemory bad d (Err e) = e ≡ why_not bad
 
 -- ---- signed
 

@@ -106,7 +106,8 @@ impl Builder {
     }
 
     /// Does what `new` does, with the next 16 bytes of the generator as the nonce, for which it
-    /// allocates. Draws nothing if it fails.
+    /// allocates. Draws nothing if it fails: as `new` does, or, where both times are right, with
+    /// `Memory`.
     pub fn new_with_random_nonce<R: Rng + CryptoRng>(
         alloc: Global,
         rng: &mut R,

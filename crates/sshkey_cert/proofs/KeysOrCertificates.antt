@@ -1,17 +1,18 @@
 -- Bytes under a certificate's name are a certificate or nothing, and others a key or nothing.
-use Rattle.std.proofs.Common.{◌≡◌, ◌≢◌, ℕ, List, [], true, false, Result, Ok, Err, refl, sym, ap, ◌∙◌, append-nil}
-use Rattle.std.specs.Prelude.{is_ok}
+use Rattle.std.proofs.Common.{◌≡◌, ◌≢◌, ℕ, List, [], true, false, Result, Ok, Err, refl, sym, ap, ◌∙◌, append-nil, inl}
+use Rattle.std.specs.Prelude.{is_ok, IsOkAnd}
 use Rattle.sshkey_model.specs.CertificateNames.{certificate_algorithm_at}
 use Rattle.sshkey_model.specs.Certificates.{Certificate, certificate_at, signed_fields_at}
 use Rattle.sshkey_model.specs.Names.{Algorithm}
 use Rattle.sshkey_model.specs.Reading.{Fault}
 use Rattle.sshkey_base.specs.Causes.{NoMemory, cause}
+use Rattle.sshkey_base.specs.NameFormats.{certified_format}
 use Rattle.sshkey_base.specs.Reading.{NoSpelling}
 use Rattle.sshkey_base.specs.Source.{IsSound, all_of}
 use Rattle.sshkey_base.specs.declared.error.Error.{Error}
 use Rattle.sshkey_keys.specs.Keys.{SpellsKey}
 use Rattle.sshkey_cert.specs.CertificateReaders.{SpellsCertificate, certificate_grammar, certificate_value_at}
-use Rattle.sshkey_cert.specs.KeysOrCertificates.{AcceptsEither, names_certificate}
+use Rattle.sshkey_cert.specs.KeysOrCertificates.{AcceptsEither, NeedsEither, names_certificate}
 use Rattle.sshkey_cert.specs.declared.key_or_certificate.KeyOrCertificate.TheVariants as either
 
 -- what has no name in front is no certificate
@@ -30,3 +31,11 @@ no_certificate e bytes named none other (either.Certificate c) spelled = none ot
 pub no_key : (e : Error) (bytes : List ℕ) → names_certificate bytes ≡ false → (cause e ≢ NoMemory → IsSound (all_of bytes) → NoSpelling SpellsKey bytes) → AcceptsEither bytes (Err e)
 no_key e bytes unnamed none other (either.Key k) spelled = none other refl _ spelled.1
 no_key e bytes unnamed none other (either.Certificate c) spelled = let named = named_first _ bytes spelled.0 in absurd cc
+
+is_named : {A F : Type 0} (P : A → Type 0) (r : Result A F) → IsOkAnd r P → is_ok r ≡ true
+is_named P (Ok name) needs = refl
+is_named P (Err f) needs = absurd needs
+
+-- a certificate's name is the first that it needs memory for
+pub name_needs : (bytes : List ℕ) (missing : ℕ) → certified_format.needs bytes missing → NeedsEither bytes missing
+name_needs bytes missing needs = inl (is_named _ (certificate_algorithm_at bytes) needs, inl (inl (inl (inl (inl needs)))))

@@ -3,7 +3,6 @@ use Rattle.std.specs.Prelude.{◌≡◌, ◌≢◌, ◌⊎◌, ℕ, List, [], Bo
 use Rattle.sshkey_model.specs.CertificateNames.{certificate_algorithm_at}
 use Rattle.sshkey_model.specs.Reading.{whole}
 use Rattle.sshkey_base.specs.Causes.{NoMemory, cause}
-use Rattle.sshkey_base.specs.NameFormats.{certified_format}
 use Rattle.sshkey_base.specs.Reading.{IsRefused}
 use Rattle.sshkey_base.specs.declared.error.Error.{Error}
 use Rattle.sshkey_keys.specs.KeyFormats.{key_format}
@@ -33,6 +32,6 @@ pub data RefusesEither (bytes : List ℕ) (e : Error) : Type 0 where
   ByCertificate : names_certificate bytes ≡ true → IsRefused 0 (cause e) (whole certificate_value_at bytes) → RefusesEither bytes e
   ByKey : names_certificate bytes ≡ false → IsRefused 0 (cause e) (whole key_data_at bytes) → RefusesEither bytes e
 
--- The name needs memory, or what stands under it.
+-- Under a certificate's name the certificate needs memory, and else the key.
 abbrev pub NeedsEither : List ℕ → ℕ → Type 0
-NeedsEither bytes missing = certified_format.needs bytes missing ⊎ certificate_format.needs bytes missing ⊎ key_format.needs bytes missing
+NeedsEither bytes missing = ((names_certificate bytes ≡ true) × certificate_format.needs bytes missing) ⊎ ((names_certificate bytes ≡ false) × key_format.needs bytes missing)

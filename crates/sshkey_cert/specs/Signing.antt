@@ -14,6 +14,14 @@ use Rattle.sshkey_keys.specs.declared.key_data.KeyData.{KeyData}
 abbrev pub IsSignatureOf : (Question → Bool) → KeyData → SignedFields → Signature → Type 0
 IsSignatureOf accepts key c g = IsAccepted accepts (key_of key) (flat (normal_to_be_signed c)) g
 
+-- Where the bytes to be signed fit, the signer may be asked to sign them.
+abbrev pub PermitsToSign : (List ℕ → Type 0) → SignedFields → Type 0
+PermitsToSign permits c = BoxesFit (normal_to_be_signed c) → permits (flat (normal_to_be_signed c))
+
+-- It is `Length` exactly where the bytes to be signed do not fit, and else `Memory` or an error that the signer has for these bytes.
+abbrev pub RefusesExactly : (List ℕ → Error → Type 0) → SignedFields → Error → Type 0
+RefusesExactly refuses c e = ((BoxesFit (normal_to_be_signed c) → ⊥) × (e ≡ Encoding Length)) ⊎ (BoxesFit (normal_to_be_signed c) × ((e ≡ Memory) ⊎ refuses (flat (normal_to_be_signed c)) e))
+
 -- Memory aside, it is `Length` exactly where the bytes to be signed do not fit, and else an error that the signer has for these bytes.
 abbrev pub RefusesToSign : (List ℕ → Error → Type 0) → SignedFields → Error → Type 0
 RefusesToSign refuses c e = e ≢ Memory → ((BoxesFit (normal_to_be_signed c) → ⊥) × (e ≡ Encoding Length)) ⊎ (BoxesFit (normal_to_be_signed c) × refuses (flat (normal_to_be_signed c)) e)

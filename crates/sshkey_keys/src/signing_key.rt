@@ -27,6 +27,9 @@ pub trait SigningKey {
     /// For which messages it may refuse to sign, and with which error.
     ghost refuses: { Self → List ℕ → Error → Type 0 };
 
+    /// Which messages it may be asked to sign.
+    ghost permits: { Self → List ℕ → Type 0 };
+
     /// The verifier that accepts its signatures.
     fn raw(&self) -> &Self::Raw
         ensures { result.now ≡ raw_of self.now };
@@ -39,6 +42,7 @@ pub trait SigningKey {
     ///
     /// An error is one that the signer may refuse that message with.
     fn try_sign(&self, alloc: Global, message: &[u8]) -> Result<Signature>
+        requires { permits self.now message.now }
         ensures accepted { IfOk result (λ g. IsAccepted (Self.Raw.accepts (raw_of self.now))
             (key_of (public_of self.now)) message.now (signature_of g)) }
         ensures refused { IfErr result (refuses self.now message.now) };

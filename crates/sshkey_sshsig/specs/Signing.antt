@@ -28,9 +28,13 @@ pub record IsMade (accepts : Question → Bool) (k : Key) (n message : List ℕ)
   pub reserved : (ssh_signature_of f).reserved ≡ []
   pub by : (ssh_signature_of f).hash ≡ hash_of h
 
--- Why nothing was made: the parts do not fit, memory was refused, or the signer may refuse their bytes so.
+-- Where the parts fit, the signer may be asked to sign their bytes.
+abbrev pub Permits : (List ℕ → Type 0) → Parts → Type 0
+Permits permits parts = BoxesFit parts → permits (flat parts)
+
+-- Why nothing was made: `Length` exactly where the parts do not fit, else memory was refused, or the signer may refuse their bytes so.
 abbrev pub IsNotMade : (List ℕ → Error → Type 0) → Parts → Error → Type 0
-IsNotMade refuses parts e = ((BoxesFit parts → ⊥) × (e ≡ Encoding Length)) ⊎ (e ≡ Memory) ⊎ (BoxesFit parts × refuses (flat parts) e)
+IsNotMade refuses parts e = ((BoxesFit parts → ⊥) × (e ≡ Encoding Length)) ⊎ (BoxesFit parts × ((e ≡ Memory) ⊎ refuses (flat parts) e))
 
 abbrev pub MakesSigned : (Question → Bool) → (List ℕ → Error → Type 0) → Key → List ℕ → List ℕ → HashAlg → Result SshSig Error → Type 0
 MakesSigned accepts refuses k n message h (Ok f) = IsMade accepts k n message h f

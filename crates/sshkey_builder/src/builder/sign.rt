@@ -1,14 +1,14 @@
 //! How what a builder holds is signed.
 
 ghost use Rattle.std.specs.Prelude.{◌≡◌, [], Err, IfOk, IfErr, IsSome, IsNone};
-ghost use Rattle.sshkey_keys.specs.Keys.{key_of};
+ghost use Rattle.sshkey_keys.specs.Keys.{key_of, stored_algorithm};
 ghost use Rattle.sshkey_model.specs.Drafts.{IsSignedDraft, drafted, or_default};
 ghost use Rattle.sshkey_model.specs.Fingerprints.{fingerprint};
 ghost use Rattle.sshkey_model.specs.Names.{Sha256};
-ghost use Rattle.sshkey_builder.specs.Builders.{IsValidExactlyIn, draft_of, no_principals};
+ghost use Rattle.sshkey_builder.specs.Builders.{IsValidExactlyIn, draft_of, given_key, no_principals};
 ghost use Rattle.sshkey_to_be_signed.specs.ToBeSignedValues.{to_be_signed_of};
-ghost use Rattle.sshkey_cert.specs.CertificateValues.{certificate_of, comment_of};
-ghost use Rattle.sshkey_cert.specs.Signing.{RefusesToSign};
+ghost use Rattle.sshkey_cert.specs.CertificateValues.{certificate_of, certified_key_of, comment_of};
+ghost use Rattle.sshkey_cert.specs.Signing.{PermitsToSign, RefusesToSign};
 
 use super::Builder;
 use sshkey_base::certificate::Field;
@@ -29,11 +29,17 @@ impl Builder {
     ///
     /// Fails with `CertificateFieldInvalid(Field::ValidPrincipals)` if no principal was named and
     /// not all were made valid, whatever memory there is. Else, unless memory runs out, with
-    /// `Length` if the bytes to be signed do not fit, and otherwise with the signer's own error.
+    /// `Length` if the bytes to be signed do not fit. In these cases the signer is not asked.
+    /// Otherwise fails with the signer's own error.
     pub fn sign<S: SigningKey>(self, alloc: Global, signing_key: &S) -> Result<Certificate>
+        requires permits { IsSome (draft_of self).valid_principals
+            → PermitsToSign (S.permits signing_key.now)
+            (drafted (draft_of self) (key_of (S.public_of signing_key.now))) }
         ensures unnamed { IsNone (draft_of self).valid_principals → result ≡ Err no_principals }
         ensures signed { IfOk result (λ c. IsSignedDraft (S.Raw.accepts (S.raw_of signing_key.now))
             (key_of (S.public_of signing_key.now)) (draft_of self) (certificate_of c)) }
+        ensures algorithm { IfOk result
+            (λ c. stored_algorithm (certified_key_of c) ≡ stored_algorithm (given_key self)) }
         ensures comment { IfOk result
             (λ c. comment_of c ≡ or_default [] (draft_of self).comment) }
         ensures valid { IfOk result (λ c. IsValidExactlyIn
@@ -56,6 +62,7 @@ impl Builder {
     /// were named.
     fn fields(self, alloc: Global, signature_key: KeyData) -> (ToBeSigned, Text)
         requires { IsSome self.valid_principals }
+        ensures key { result.0.public_key ≡ given_key self }
         ensures fields { to_be_signed_of result.0 ≡ drafted (draft_of self) (key_of signature_key) }
         ensures comment { result.1 ≡ or_default [] (draft_of self).comment }
     {

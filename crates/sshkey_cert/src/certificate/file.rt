@@ -16,7 +16,8 @@ impl Certificate {
     /// Reads the line that a file holds.
     ///
     /// Fails with `Io` and the machine's fault if the file could not be read to its end, with
-    /// `Io(InvalidData)` if it is not UTF-8, and else as `from_openssh` does.
+    /// `Io(InvalidData)` if it is not UTF-8, with `Io(Other)` if its end is not met in 2^32 reads,
+    /// with `Memory`, and else as `from_openssh` does.
     pub fn read_file<R: Files>(rt: &R, alloc: Global, path: &str) -> Result<Certificate>
         ensures { IfOk result IsOfSomeLine }
     {

@@ -21,7 +21,7 @@ pub enum CertificateRefusal {
     Time,
     /// The certificate is not yet valid at that time, or no longer.
     Window,
-    /// The certificate does not allow the wanted principal.
+    /// The certificate does not allow the principal.
     Principal,
 }
 
@@ -41,7 +41,7 @@ impl CertificateRefusal {
 }
 
 /// Returns `Ok` if nothing is wrong, and else fails with the error of what is. Does not allocate.
-pub fn tell(first: Option<CertificateRefusal>) -> Result<()>
+pub fn result_of_refusal(first: Option<CertificateRefusal>) -> Result<()>
     ensures { Tells (option_map refusal_of first) result }
 {
     match first {
@@ -52,7 +52,7 @@ pub fn tell(first: Option<CertificateRefusal>) -> Result<()>
 
 /// The first refusal, if there is one, and else the principal's where it is not allowed. Does not
 /// allocate.
-pub fn or_principal(
+pub fn refusal_with_principal(
     first: Option<CertificateRefusal>,
     is_allowed: bool,
 ) -> Option<CertificateRefusal>

@@ -1,15 +1,14 @@
 //! How certificates are signed.
 
-ghost use Rattle.std.specs.Prelude.{◌≡◌, ◌≢◌, IfOk, IfErr, OnOk, true};
-ghost use Rattle.sshkey_base.specs.declared.encoding.Error.TheVariants as narrow;
-ghost use Rattle.sshkey_base.specs.declared.error.Error.TheVariants as wide;
+ghost use Rattle.std.specs.Prelude.{◌≡◌, IfOk, IfErr, OnOk, true};
+ghost use Rattle.sshkey_keys.specs.Blobs.{MakesBlob};
+ghost use Rattle.sshkey_keys.specs.Keys.{stored_algorithm};
 ghost use Rattle.sshkey_keys.specs.Signatures.{signature_of};
 ghost use Rattle.sshkey_model.specs.Certificates.{normal_to_be_signed};
-ghost use Rattle.sshkey_model.specs.Parts.{BoxesFit, flat};
 ghost use Rattle.sshkey_to_be_signed.specs.ToBeSignedValues.{to_be_signed_of};
-ghost use Rattle.sshkey_cert.specs.CertificateValues.{certificate_of, comment_of};
+ghost use Rattle.sshkey_cert.specs.CertificateValues.{certificate_of, certified_key_of, comment_of, signer_of};
 ghost use Rattle.sshkey_cert.specs.Fitting.{signed_fits};
-ghost use Rattle.sshkey_cert.specs.Signing.{IsSignatureOf, RefusesToSign};
+ghost use Rattle.sshkey_cert.specs.Signing.{IsSignatureOf, PermitsToSign, RefusesExactly};
 
 use super::Certificate;
 use sshkey_base::{Result, Text};
@@ -20,21 +19,27 @@ use std::alloc::Global;
 impl Certificate {
     /// The certificate of these fields, with the signer's signature and that comment.
     ///
-    /// Unless memory runs out, fails with `Length` exactly if a box in the bytes to be signed would
-    /// exceed 2^32 - 1 bytes, and else with an error of the signer's own.
+    /// Fails with `Length` exactly if a box in the bytes to be signed would exceed 2^32 - 1 bytes,
+    /// and then the signer is not asked. Otherwise fails with `Memory` if it ran out, or with an
+    /// error of the signer's own.
     pub fn sign<S: SigningKey>(
         alloc: Global,
         fields: ToBeSigned,
         signing_key: &S,
         comment: Text,
     ) -> Result<Certificate>
+        requires permits { PermitsToSign (S.permits signing_key.now) (to_be_signed_of fields) }
         ensures fields { IfOk result (λ c. (certificate_of c).signed ≡ to_be_signed_of fields) }
+        ensures algorithm { IfOk result
+            (λ c. stored_algorithm (certified_key_of c) ≡ stored_algorithm fields.public_key) }
+        ensures signer_algorithm { IfOk result
+            (λ c. stored_algorithm (signer_of c) ≡ stored_algorithm fields.signature_key) }
         ensures comment { IfOk result (λ c. comment_of c ≡ comment) }
         ensures signature { IfOk result (λ c.
             IsSignatureOf (S.Raw.accepts (S.raw_of signing_key.now)) (S.public_of signing_key.now)
             (to_be_signed_of fields) (certificate_of c).signature) }
         ensures refused { IfErr result
-            (RefusesToSign (S.refuses signing_key.now) (to_be_signed_of fields)) }
+            (RefusesExactly (S.refuses signing_key.now) (to_be_signed_of fields)) }
     {
         match signature_by(alloc, &fields, signing_key) {
             Ok(signature) => Ok(Certificate {
@@ -53,11 +58,12 @@ fn signature_by<S: SigningKey>(
     fields: &ToBeSigned,
     signing_key: &S,
 ) -> Result<Signature>
+    requires permits { PermitsToSign (S.permits signing_key.now) (to_be_signed_of fields.now) }
     ensures accepted { IfOk result (λ g. IsSignatureOf (S.Raw.accepts (S.raw_of signing_key.now))
         (S.public_of signing_key.now) (to_be_signed_of fields.now) (signature_of g)) }
     ensures fits { OnOk result (signed_fits (to_be_signed_of fields.now) ≡ true) }
     ensures refused { IfErr result
-        (RefusesToSign (S.refuses signing_key.now) (to_be_signed_of fields.now)) }
+        (RefusesExactly (S.refuses signing_key.now) (to_be_signed_of fields.now)) }
 {
     let signed = checked_bytes(alloc, fields)?;
     signing_key.try_sign(alloc, &signed)
@@ -65,12 +71,8 @@ fn signature_by<S: SigningKey>(
 
 /// The bytes that are signed, where they fit.
 fn checked_bytes(alloc: Global, fields: &ToBeSigned) -> Result<Vec<u8>>
-    ensures bytes { IfOk result
-        (λ v. v.items ≡ flat (normal_to_be_signed (to_be_signed_of fields.now))) }
+    ensures made { MakesBlob (normal_to_be_signed (to_be_signed_of fields.now)) result }
     ensures fits { OnOk result (signed_fits (to_be_signed_of fields.now) ≡ true) }
-    ensures boxes { OnOk result (BoxesFit (normal_to_be_signed (to_be_signed_of fields.now))) }
-    ensures too_long { IfErr result (λ e. e ≢ wide.Memory → (e ≡ wide.Encoding narrow.Length)
-        × (BoxesFit (normal_to_be_signed (to_be_signed_of fields.now)) → ⊥)) }
 {
     fields.signed_bytes(alloc)
 }

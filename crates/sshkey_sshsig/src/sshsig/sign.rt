@@ -1,9 +1,11 @@
 //! Signing messages.
 
 ghost use Rattle.std.specs.Prelude.{◌≡◌, ◌≢◌, [], true, false, Err, IsErrAnd};
+ghost use Rattle.sshkey_base.specs.Names.{hash_of};
 ghost use Rattle.sshkey_base.specs.declared.error.Error.TheVariants as wide;
 ghost use Rattle.sshkey_keys.specs.Keys.{key_of};
-ghost use Rattle.sshkey_sshsig.specs.Signing.{is_security_key, MakesSigned, IsNoSigner, ChecksSigner};
+ghost use Rattle.sshkey_model.specs.SignedMessages.{signed_message};
+ghost use Rattle.sshkey_sshsig.specs.Signing.{is_security_key, MakesSigned, IsNoSigner, ChecksSigner, Permits};
 
 use super::SshSig;
 use super::signed_data::signed_bytes;
@@ -19,8 +21,9 @@ impl SshSig {
     ///
     /// Fails with `Namespace` exactly if the namespace is empty. Else with `AlgorithmUnsupported`
     /// and the key's algorithm exactly if a security key holds the signer's key, since such a key
-    /// signs in another way. Else with `Length` if the namespace is longer than 2^32 - 1 bytes,
-    /// with `Memory` if it ran out, and with the signer's own errors for the bytes that are signed.
+    /// signs in another way. Else with `Length` exactly if the namespace is longer than 2^32 - 1
+    /// bytes. In these cases the signer is not asked. Otherwise fails with `Memory` if it ran out,
+    /// and with the signer's own errors for the bytes that are signed.
     pub fn sign<S: SigningKey>(
         alloc: Global,
         signer: &S,
@@ -28,6 +31,10 @@ impl SshSig {
         hash_alg: HashAlg,
         message: &[u8],
     ) -> Result<SshSig>
+        requires permits { namespace.now ≢ []
+            → is_security_key (key_of (S.public_of signer.now)) ≡ false
+            → Permits (S.permits signer.now)
+            (signed_message namespace.now [] (hash_of hash_alg) message.now) }
         ensures empty { namespace.now ≡ [] → result ≡ Err wide.Namespace }
         ensures security_key { namespace.now ≢ []
             → is_security_key (key_of (S.public_of signer.now)) ≡ true

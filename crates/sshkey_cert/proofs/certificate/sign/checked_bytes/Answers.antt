@@ -1,12 +1,6 @@
 use Rattle.sshkey_to_be_signed.specs.ToBeSignedValues.{to_be_signed_of}
-use Rattle.sshkey_cert.proofs.Signing.{blob_fits, blob_boxes, blob_long}
+use Rattle.sshkey_cert.proofs.Signing.{blob_fits}
 use Rattle.sshkey_cert.proofs.certificate.sign.checked_bytes.Goals as goal
 
 pub returns-clause-fits : goal.returns-clause-fits
 returns-clause-fits c = blob_fits (to_be_signed_of c.args.fields.now) c.signed_bytes.result c.signed_bytes.ensures
-
-pub returns-clause-boxes : goal.returns-clause-boxes
-returns-clause-boxes c = blob_boxes (to_be_signed_of c.args.fields.now) c.signed_bytes.result c.signed_bytes.ensures
-
-pub returns-clause-too_long : goal.returns-clause-too_long
-returns-clause-too_long c = blob_long (to_be_signed_of c.args.fields.now) c.signed_bytes.result c.signed_bytes.ensures
