@@ -1,7 +1,6 @@
 //! Key pairs under private-use names.
 
-ghost use Rattle.std.specs.Fmt.{WritesStyledOnOk};
-ghost use Rattle.std.specs.Prelude.{◌≡◌, ◌+◌, ◌*◌, ◌^◌, List, ℕ, IfOk, IfErr, Some, codes};
+ghost use Rattle.std.specs.Prelude.{◌≡◌, ◌+◌, ◌*◌, ◌^◌, List, ℕ, IfOk, IfErr};
 ghost use Rattle.sshkey_model.specs.Reading.{string_at};
 ghost use Rattle.sshkey_model.specs.KeyPairs.{OpaquePair, pair, Plain};
 ghost use Rattle.sshkey_model.specs.Names.{algorithm_name};
@@ -196,15 +195,12 @@ impl OpaqueKeypair {
     }
 }
 
-/// Shows `OpaqueKeypair { .. }`, whatever options the formatter has: no byte of either half.
+/// Shows the public key, and no private bytes.
 impl fmt::Debug for OpaqueKeypair {
-    ghost debug_output = { λ _. Some (codes "OpaqueKeypair { .. }") };
-
-    fn fmt<W: fmt::Write>(&self, f: &mut fmt::Formatter<W>) -> fmt::Result
-        ensures styled { WritesStyledOnOk W.write_str_gives f.old result
-            (codes "OpaqueKeypair { .. }") f.new }
-    {
-        f.write_str("OpaqueKeypair { .. }")
+    fn fmt<W: fmt::Write>(&self, f: &mut fmt::Formatter<W>) -> fmt::Result {
+        f.debug_struct("OpaqueKeypair")
+            .field("public", &self.public)
+            .finish_non_exhaustive()
     }
 }
 

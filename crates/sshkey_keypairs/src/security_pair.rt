@@ -1,7 +1,6 @@
 //! Pairs of security keys.
 
-ghost use Rattle.std.specs.Fmt.{WritesStyledOnOk};
-ghost use Rattle.std.specs.Prelude.{◌≡◌, ◌≤◌, ◌+◌, ◌*◌, ◌^◌, length, IfOk, IsOk, ◌↔◌, IfErr, Some, codes};
+ghost use Rattle.std.specs.Prelude.{◌≡◌, ◌≤◌, ◌+◌, ◌*◌, ◌^◌, length, IfOk, IsOk, ◌↔◌, IfErr};
 ghost use Rattle.sshkey_base.specs.declared.error.Error.TheVariants as wide;
 ghost use Rattle.sshkey_base.specs.declared.encoding.Error.TheVariants as encoding;
 ghost use Rattle.sshkey_model.specs.KeyPairs.{KeyPair, pair, Plain};
@@ -90,29 +89,21 @@ impl SkEd25519 {
     }
 }
 
-/// Shows `SkEcdsaSha2NistP256 { .. }`, whatever options the formatter has: nothing of the public
-/// key, and nothing of what is kept beside it.
+/// Shows the public key, and nothing of what is kept beside it.
 impl fmt::Debug for SkEcdsaSha2NistP256 {
-    ghost debug_output = { λ _. Some (codes "SkEcdsaSha2NistP256 { .. }") };
-
-    fn fmt<W: fmt::Write>(&self, f: &mut fmt::Formatter<W>) -> fmt::Result
-        ensures styled { WritesStyledOnOk W.write_str_gives f.old result
-            (codes "SkEcdsaSha2NistP256 { .. }") f.new }
-    {
-        f.write_str("SkEcdsaSha2NistP256 { .. }")
+    fn fmt<W: fmt::Write>(&self, f: &mut fmt::Formatter<W>) -> fmt::Result {
+        f.debug_struct("SkEcdsaSha2NistP256")
+            .field("public", &self.public)
+            .finish_non_exhaustive()
     }
 }
 
-/// Shows `SkEd25519 { .. }`, whatever options the formatter has: nothing of the public
-/// key, and nothing of what is kept beside it.
+/// Shows the public key, and nothing of what is kept beside it.
 impl fmt::Debug for SkEd25519 {
-    ghost debug_output = { λ _. Some (codes "SkEd25519 { .. }") };
-
-    fn fmt<W: fmt::Write>(&self, f: &mut fmt::Formatter<W>) -> fmt::Result
-        ensures styled { WritesStyledOnOk W.write_str_gives f.old result
-            (codes "SkEd25519 { .. }") f.new }
-    {
-        f.write_str("SkEd25519 { .. }")
+    fn fmt<W: fmt::Write>(&self, f: &mut fmt::Formatter<W>) -> fmt::Result {
+        f.debug_struct("SkEd25519")
+            .field("public", &self.public)
+            .finish_non_exhaustive()
     }
 }
 

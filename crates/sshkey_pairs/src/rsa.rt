@@ -1,7 +1,6 @@
 //! RSA key pairs.
 
-ghost use Rattle.std.specs.Fmt.{WritesStyledOnOk};
-ghost use Rattle.std.specs.Prelude.{◌≡◌, ◌+◌, ◌*◌, ◌^◌, IfOk, IfErr, Some, codes};
+ghost use Rattle.std.specs.Prelude.{◌≡◌, ◌+◌, ◌*◌, ◌^◌, IfOk, IfErr};
 ghost use Rattle.sshkey_model.specs.KeyPairs.{KeyPair, RsaPrivate, rsa_private, pair, Plain};
 
 use sshkey_base::{Decode, Encode, Error, Mpint, Reader, Result, Writer, encoding};
@@ -125,15 +124,12 @@ impl RsaKeypair {
     }
 }
 
-/// Shows `RsaKeypair { .. }`, whatever options the formatter has: no number of either half.
+/// Shows the public key, and no private number.
 impl fmt::Debug for RsaKeypair {
-    ghost debug_output = { λ _. Some (codes "RsaKeypair { .. }") };
-
-    fn fmt<W: fmt::Write>(&self, f: &mut fmt::Formatter<W>) -> fmt::Result
-        ensures styled { WritesStyledOnOk W.write_str_gives f.old result
-            (codes "RsaKeypair { .. }") f.new }
-    {
-        f.write_str("RsaKeypair { .. }")
+    fn fmt<W: fmt::Write>(&self, f: &mut fmt::Formatter<W>) -> fmt::Result {
+        f.debug_struct("RsaKeypair")
+            .field("public", &self.public)
+            .finish_non_exhaustive()
     }
 }
 
