@@ -20,7 +20,7 @@ pub struct Limits {
 
 impl Limits {
     /// Whether the request is within the limits: it is for some users, each of whom is listed, and
-    /// its window has a second and no more than `longest`. Takes no memory.
+    /// its window has a second and no more than `longest`. Does not allocate.
     ///
     /// Else `CertificateFieldInvalid`, with `ValidPrincipals` for the users and `ValidBefore` for the
     /// window.

@@ -23,7 +23,7 @@ pub struct Grant {
     pub extensions: OptionsMap,
 }
 
-/// What the certificate's options say. Refused only when out of memory.
+/// What the certificate's options say. Fails only when out of memory.
 pub(crate) fn grant_of(alloc: Global, certificate: &Certificate) -> Result<Grant>
     ensures value { IfOk result (λ g. IsGrantOf (certificate_of certificate.now) g) }
     ensures memory { IfErr result (λ e. e ≡ Memory) }

@@ -25,9 +25,9 @@ use std::alloc::Global;
 ///
 /// Out of memory aside, it refuses all others: with the refusals of `Certificate::from_openssh`;
 /// `CertificateFieldInvalid` with `CertType` for a certificate for hosts, with `PublicKey` for one of
-/// another key, with `CriticalOptions` where an option is not known, and with `ValidPrincipals`
-/// where nobody is listed, who by sshd_config(5), `TrustedUserCAKeys`, is nobody and not everybody;
-/// and with those of `Certificate::validate_principal_at`, in this order. Where the line is no
+/// another key, with `CriticalOptions` where an option is not known, and with `ValidPrincipals` if
+/// the certificate lists no principal: by sshd_config(5), `TrustedUserCAKeys`, such a certificate
+/// lets nobody in; then as `Certificate::validate_principal_at` does, in this order. Where the line is no
 /// certificate's, `Memory` means what it means of `Certificate::from_openssh`.
 ///
 /// Whoever calls it has asked the client for a signature under the offered key, and does what the

@@ -18,7 +18,8 @@ const POINT: [u8; 32] =
 const KEY: KeyData = KeyData::Ed25519(Ed25519PublicKey(POINT));
 
 /// The certificate of the nonce 01, `KEY` and the times 10 and 20, for all principals, signed by
-/// `Fixed`: 180 bytes that are signed, and the signature of 87.
+/// `Fixed`: 180 bytes that are signed, and the signature of 87. Put together by hand from
+/// PROTOCOL.certkeys.
 const ISSUED: &str =
     "000000207373682d656432353531392d636572742d763031406f70656e7373682e636f6d00000001\
     0100000020b33eaef37ea2df7caa010defdea34e241f65f1b529a4f43ed14327f5c54aab62000000\
