@@ -1,6 +1,5 @@
 -- The fields of a certificate behind its key, with the choices of their spelling, by the term that they are read as.
 use Rattle.std.specs.Prelude.{ℕ, List, []}
-use Rattle.sshkey_model.specs.Certificates.{CertificateType}
 use Rattle.sshkey_model.specs.Grammar.{SpellsAs}
 use Rattle.sshkey_model.specs.Keys.{Head, Key, IsKey, HasKeyPlaces, Opaque, Plain, key, key_at}
 use Rattle.sshkey_model.specs.Names.{Dsa}
@@ -21,10 +20,13 @@ use Rattle.sshkey_keys_ref.specs.declared.key_data_ref.KeyDataRef.{KeyDataRef}
 use Rattle.sshkey_keys_ref.specs.declared.signature_ref.SignatureRef.{SignatureRef}
 use Rattle.sshkey_cert_ref.specs.OptionLists.{SpellsOptionString}
 use Rattle.sshkey_format.specs.Slices.{found_or}
-use Rattle.sshkey_to_be_signed.specs.ToBeSignedFormats.{grant_format, window_format}
+use Rattle.sshkey_to_be_signed.specs.ToBeSignedFormats.{Grant, Window, grant_format, window_format}
+
+abbrev OptionsAsSpelled : Type 0
+OptionsAsSpelled = List CertificateOption × List Nesting
 
 -- options in a string, each empty value as its choice says
-abbrev pub spelled_options_format : Format (List CertificateOption × List Nesting)
+abbrev pub spelled_options_format : Format OptionsAsSpelled
 spelled_options_format = record { Spells = SpellsOptionString; read = options_at; needs = NoNeed; overruns = NoOverrun; grammar = grammar options_reads; lengths = no_lengths options_at }
 
 -- a key, and how its name is spelled
@@ -50,13 +52,7 @@ no_signature = record { algorithm = Dsa; blob = [] }
 abbrev pub spelled_signature_of : SignatureRef → Signature
 spelled_signature_of r = found_or no_signature (whole signature_at (signature_bytes r))
 
-abbrev Grant : Type 0
-Grant = (ℕ × CertificateType) × (List ℕ × List (List ℕ))
-
-abbrev Limits : Type 0
-Limits = (List CertificateOption × List Nesting) × (List CertificateOption × List Nesting)
-
 -- the serial number, the type, the key id and the principals; the two times; the options; the reserved bytes and the key
 -- that signs
-abbrev pub behind_key_format : Format (Grant × ((ℕ × ℕ) × (Limits × (List ℕ × (Key × Head)))))
+abbrev pub behind_key_format : Format (Grant × (Window × ((OptionsAsSpelled × OptionsAsSpelled) × (List ℕ × (Key × Head)))))
 behind_key_format = grant_format then window_format then (spelled_options_format then spelled_options_format) then string_format then boxed_key_format

@@ -56,14 +56,14 @@ subject_format = made_of named_format subject_parts_read subject_grammar
 
 -- ---- all fields
 
-abbrev Grant : Type 0
+abbrev pub Grant : Type 0
 Grant = (ℕ × CertificateType) × (List ℕ × List (List ℕ))
 
 -- the serial number, the type, the key id and the principals
 abbrev pub grant_format : Format Grant
 grant_format = (number64_format then type_format) then (text_format then texts_format)
 
-abbrev Window : Type 0
+abbrev pub Window : Type 0
 Window = ℕ × ℕ
 
 -- the two times
