@@ -72,10 +72,10 @@ impl Drop for Request {
 
 /// A length of four bytes, the number of the request in one byte, and what it holds.
 ///
-/// Fails with `Length` where a stated length passes what is left, without an allocation, with
-/// `TrailingData` where bytes of the frame are left over, with `FormatEncoding` for the number of
-/// no request, and with the errors of what it holds. Constraints stand up to the end of the frame,
-/// so bytes behind them are read as one more.
+/// Fails with `Length` where a stated length passes what is left, unless memory ran out for a value
+/// before it, with `TrailingData` where bytes of the frame are left over, with `FormatEncoding` for
+/// the number of no request, and with the errors of what it holds. Such a length allocates nothing.
+/// Constraints stand up to the end of the frame, so bytes behind them are read as one more.
 impl Decode for Request {
     type Error = Error;
 

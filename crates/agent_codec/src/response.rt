@@ -51,9 +51,10 @@ impl Drop for Response {
 
 /// A length of four bytes, the number of the response in one byte, and what it holds.
 ///
-/// Fails with `Length` where a stated length or count passes what is left, without an allocation,
-/// with `TrailingData` where bytes of the frame are left over, with `FormatEncoding` for the number
-/// of no response, and with the errors of what it holds.
+/// Fails with `Length` where a stated length or count passes what is left, unless memory ran out
+/// for a value before it, with `TrailingData` where bytes of the frame are left over, with
+/// `FormatEncoding` for the number of no response, and with the errors of what it holds. Such a
+/// length or count allocates nothing.
 impl Decode for Response {
     type Error = Error;
 

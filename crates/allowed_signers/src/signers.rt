@@ -47,8 +47,9 @@ pub enum Refusal {
 /// out, it is refused for the first of these that holds: `NoSignature`, `NotAllowed`,
 /// `NotVerified`. Where the bytes are no signature, `Memory` means that an allocation for what
 /// stands in front of their fault failed: a length that they only state allocates nothing. One with
-/// reserved bytes is not verified. RSA keys of less than 1,024 bits, which ssh-keygen does not read,
-/// are left to the verifier.
+/// reserved bytes is not verified. Keys that ssh-keygen does not read are left to the verifier: RSA
+/// keys of fewer than 1,024 bits or more than 16,384, keys with negative numbers, and points that
+/// are compressed or not on their curve.
 pub fn verify<V: RawVerifier>(
     alloc: Global,
     signers: &str,

@@ -2,6 +2,7 @@ pub use Rattle.sshkey_authorized_keys.specs.Dividers
 pub use Rattle.sshkey_authorized_keys.specs.OptionAnswers
 pub use Rattle.sshkey_authorized_keys.specs.AuthorizedEntries
 pub use Rattle.sshkey_authorized_keys.specs.EntryFaults
+pub use Rattle.sshkey_authorized_keys.specs.EntryNeeds
 pub use Rattle.sshkey_authorized_keys.specs.LeftOut
 pub use Rattle.sshkey_authorized_keys.specs.StrictAnswers
 pub use Rattle.sshkey_authorized_keys.specs.OpenSshEntries

@@ -146,7 +146,8 @@ impl PrivateKey {
     ///
     /// Unless memory runs out, they are rejected only if they spell none: with the errors of
     /// `decode`, or `Encoding(TrailingData)` with the number of bytes after one that is not
-    /// encrypted. Out of memory is never answered where a stated length passes the bytes.
+    /// encrypted. Where a stated length passes the bytes, out of memory is answered only if it ran
+    /// out for a value before it.
     pub fn from_bytes(alloc: Global, bytes: &[u8]) -> Result<PrivateKey>
         ensures gives { GivesWhole private_of cause (whole private_value_at)
             (all_of bytes.now) result }
@@ -169,8 +170,8 @@ impl PrivateKey {
     ///
     /// Unless memory runs out, the bytes are rejected only if they spell no such key: with the
     /// errors of `from_bytes`, but with `Length` for 256 bytes or more after the comment, not for
-    /// eight. Padding does not allocate, and out of memory is never answered where a stated length
-    /// passes the bytes.
+    /// eight. Padding does not allocate. Where a stated length passes the bytes, out of memory is
+    /// answered only if it ran out for a value before it.
     pub fn from_padded_bytes(alloc: Global, bytes: &[u8]) -> Result<PrivateKey>
         ensures gives { GivesWhole private_of cause (whole padded_value_at)
             (all_of bytes.now) result }
