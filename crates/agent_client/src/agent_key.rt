@@ -120,6 +120,8 @@ impl<A: Agent, V: RawVerifier> SigningKey for AgentKey<'_, A, V> {
     ghost refuses = { λ s. RefusesToSign (A.answers s.agent.now) (V.accepts s.verifier.now)
         (key_of s.key) s.flags };
 
+    ghost permits = { λ _ _. Unit {0} };
+
     fn raw(&self) -> &V {
         self.verifier
     }
