@@ -3,7 +3,6 @@
 ghost use Rattle.std.specs.Prelude.{◌≡◌, ◌≢◌, ℕ, List, Result, IfErr, IfOk};
 ghost use Rattle.ssh_key.specs.keys.Keys.{key_of};
 ghost use Rattle.ssh_key.specs.keys.Signatures.{signature_of};
-ghost use Rattle.ssh_key.specs.model.Keys.{Key};
 ghost use Rattle.ssh_key.specs.model.Parts.{flat, BoxesFit};
 ghost use Rattle.ssh_key.specs.model.Verification.{IsAccepted};
 ghost use Rattle.ssh_key.specs.types.Error.{Error};
@@ -21,12 +20,8 @@ pub trait Agent {
     /// What it may answer to the bytes of a request, or fail with.
     ghost answers: { Self → List ℕ → Result (List ℕ) Error → Type 0 };
 
-    /// Which bytes it may be sent. Code over any agent knows of no others than `signs` says.
+    /// Which bytes it may be sent.
     ghost permits: { Self → List ℕ → Type 0 };
-
-    /// Each request for a signature.
-    ghost signs: { (agent : Self) (key : Key) (flags : ℕ) (message : List ℕ)
-        → permits agent (flat (signing_request key flags message)) };
 
     /// Sends the bytes of a request, and returns those of the answer, with its frame.
     fn ask(&self, alloc: Global, request: &[u8]) -> Result<Vec<u8>>
@@ -63,6 +58,8 @@ impl<A, V> Drop for AgentKey<'_, A, V> {
 impl<A: Agent, V: RawVerifier> AgentKey<'_, A, V> {
     /// The signature that the agent answers. Fails where it answers none.
     fn ask(&self, alloc: Global, message: &[u8]) -> Result<Signature>
+        requires { A.permits self.now.agent.now
+            (flat (signing_request (key_of self.now.key) self.now.flags message.now)) }
         ensures { GetsSignature (A.answers self.now.agent.now)
             (signing_request (key_of self.now.key) self.now.flags message.now) result }
     {
@@ -119,6 +116,9 @@ impl<A: Agent, V: RawVerifier> SigningKey for AgentKey<'_, A, V> {
 
     ghost refuses = { λ s. RefusesToSign (A.answers s.agent.now) (V.accepts s.verifier.now)
         (key_of s.key) s.flags };
+
+    ghost permits = { λ s message. A.permits s.agent.now
+        (flat (signing_request (key_of s.key) s.flags message)) };
 
     fn raw(&self) -> &V {
         self.verifier

@@ -1,9 +1,9 @@
 -- What a builder that was told of a request signs.
-use Rattle.std.proofs.Common.{◌≡◌, ◌∙◌, ℕ, List, [], Bool, Result, Ok, Err, IfOk, IfErr, subst}
+use Rattle.std.proofs.Common.{◌≡◌, ◌≢◌, ◌∙◌, ℕ, List, [], ◌∷◌, Bool, Result, Ok, Err, IfOk, IfErr, subst, sym}
 use Rattle.std.specs.Prelude.{Option, None, Some, IsNone, IsSome, option_map, string_bytes}
 use Rattle.ssh_key.specs.builder.Builders.{IsValidExactlyIn, RefusesAlways, field_error, no_principals}
 use Rattle.ssh_key.specs.cert.CertificateValues.{certificate_of, comment_of}
-use Rattle.ssh_key.specs.cert.Signing.{RefusesToSign}
+use Rattle.ssh_key.specs.cert.Signing.{PermitsToSign, RefusesToSign}
 use Rattle.ssh_key.specs.keys.Keys.{key_of}
 use Rattle.ssh_key.specs.model.Certificates.{SignedFields}
 use Rattle.ssh_key.specs.model.Drafts.{Draft, DraftField, IsSignedDraft, KeyId, Serial, after_step, begun, drafted, or_default}
@@ -13,9 +13,9 @@ use Rattle.ssh_key.specs.model.Names.{Sha256}
 use Rattle.ssh_key.specs.model.Verification.{Question}
 use Rattle.ssh_key.specs.types.Certificate.{Certificate}
 use Rattle.ssh_key.specs.types.Error.{Error}
-use Rattle.authority.specs.Requests.{CertifiesExactly, names_of}
+use Rattle.authority.specs.Requests.{CertifiesExactly, fields_for, names_of}
 use Rattle.authority.specs.declared.request.Request.{Request}
-use Rattle.authority.proofs.Drafts.{draft_for, not_none, signed_fields, some_names}
+use Rattle.authority.proofs.Drafts.{draft_for, not_none, signed_fields, some_names, with_names}
 
 -- ---- steps that are not refused
 
@@ -28,6 +28,17 @@ serial_is_taken nonce key serial after before d e is refused = rw is at refused
 
 pub key_id_is_taken : (nonce : List ℕ) (key : Key) (serial after before : ℕ) (key_id : List ℕ) (d : Draft) (e : Error) → d ≡ record (begun nonce key after before) { serial = Some serial } → RefusesAlways (after_step (KeyId key_id) d) e → ⊥
 key_id_is_taken nonce key serial after before key_id d e is refused = rw is at refused
+
+-- ---- what the signer is asked
+
+names_some : (names : List (List ℕ)) → IsSome (with_names names) → names ≢ []
+names_some [] some = absurd cc
+names_some (n ∷ names) some = λ none. absurd cc
+
+pub permitted : (permits : List ℕ → Type 0) (authority : Key) (r : Request) (serial : ℕ) (nonce : List ℕ) (d : Draft) → d ≡ draft_for nonce (key_of r.key) serial (string_bytes r.key_id) (names_of r) r.valid_after r.valid_before → (names_of r ≢ [] → PermitsToSign permits (fields_for r serial nonce authority)) → IsSome d.valid_principals → PermitsToSign permits (drafted d authority)
+permitted permits authority r serial nonce d is may some =
+    let named = names_some (names_of r) (rw (← is) some) in
+    rw is (subst (PermitsToSign permits) (sym (signed_fields nonce (key_of r.key) serial (string_bytes r.key_id) (names_of r) r.valid_after r.valid_before authority named)) (may named))
 
 -- ---- signed
 

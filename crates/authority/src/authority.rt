@@ -1,9 +1,10 @@
 //! An authority.
 
 ghost use Rattle.std.specs.Prelude.{◌≡◌, ◌≤◌, ◌<◌, ◌+◌, ◌^◌, ◌⊎◌, ◌↔◌, ◌++◌, ◌∷◌, [], IfErr, OnErr, OnOk, IsTrue, Contains};
+ghost use Rattle.ssh_key.specs.cert.Signing.{PermitsToSign};
 ghost use Rattle.ssh_key.specs.keys.Keys.{key_of};
 ghost use Rattle.ssh_key.specs.types.Error.TheVariants.{Memory};
-ghost use Rattle.authority.specs.Requests.{IsLeft, IssuesExactly, IsWithin};
+ghost use Rattle.authority.specs.Requests.{IsLeft, IssuesExactly, IsWithin, fields_for};
 ghost use Rattle.authority.specs.Serials.{IsHistory, serial_of};
 
 use crate::certify::certify;
@@ -42,7 +43,7 @@ impl Authority {
     /// `CertificateFieldInvalid` where it is not, as `Limits::check` has it, or where no serial
     /// number is left (`Field::Serial`), and then nothing is changed. Else the refusals of
     /// `Builder::new` and of `Builder::sign`. A serial number is used up also where signing is
-    /// refused, since the signer may have signed.
+    /// refused, since the signer may have signed. The signer is asked for that certificate alone.
     pub fn issue<S: SigningKey>(
         &mut self,
         alloc: Global,
@@ -50,6 +51,10 @@ impl Authority {
         nonce: Vec<u8>,
         signer: &S,
     ) -> Result<Certificate>
+        requires permits { IsWithin self.old.limits request → IsLeft self.old.next_serial
+            → PermitsToSign (S.permits signer.now)
+            (fields_for request self.old.next_serial nonce.items
+            (key_of (S.public_of signer.now))) }
         ensures issued { IssuesExactly (S.Raw.accepts (S.raw_of signer.now))
             (key_of (S.public_of signer.now)) (S.refuses signer.now) self.old.limits request
             self.old.next_serial nonce.items result }

@@ -1,8 +1,10 @@
 //! How a request is certified.
 
-ghost use Rattle.std.specs.Prelude.{map, string_bytes};
+ghost use Rattle.std.specs.Prelude.{◌≡◌, ◌≢◌, None, [], map, string_bytes};
+ghost use Rattle.ssh_key.specs.cert.Signing.{PermitsToSign};
 ghost use Rattle.ssh_key.specs.keys.Keys.{key_of};
-ghost use Rattle.authority.specs.Requests.{CertifiesExactly, NamesEach};
+ghost use Rattle.ssh_key.specs.model.Drafts.{bad_window};
+ghost use Rattle.authority.specs.Requests.{CertifiesExactly, NamesEach, fields_for, names_of};
 
 use crate::request::Request;
 use ssh_key::certificate::Builder;
@@ -17,6 +19,9 @@ pub(crate) fn certify<S: SigningKey>(
     nonce: Vec<u8>,
     signer: &S,
 ) -> Result<Certificate>
+    requires { bad_window request.valid_after request.valid_before ≡ None → names_of request ≢ []
+        → PermitsToSign (S.permits signer.now)
+        (fields_for request serial nonce.items (key_of (S.public_of signer.now))) }
     ensures { CertifiesExactly (S.Raw.accepts (S.raw_of signer.now))
         (key_of (S.public_of signer.now)) (S.refuses signer.now) request serial nonce.items result }
 {

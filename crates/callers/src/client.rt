@@ -21,8 +21,6 @@ impl Agent for Recorded {
 
     ghost permits = { λ _ _. Unit {0} };
 
-    ghost signs = { λ _ _ _ _. tt };
-
     fn ask(&self, _alloc: Global, request: &[u8]) -> Result<Vec<u8>> {
         if self.request.as_slice() != request {
             return Err(Error::Crypto);

@@ -33,6 +33,8 @@ impl SigningKey for Outside<'_> {
 
     ghost refuses = { λ _ _ e. (e ≡ Memory) ⊎ (e ≡ Crypto) };
 
+    ghost permits = { λ _ _. Unit {0} };
+
     fn raw(&self) -> &Told {
         self.told
     }

@@ -144,6 +144,8 @@ impl SigningKey for Fixed {
 
     ghost refuses = { λ _ _ e. e ≡ wide.Memory };
 
+    ghost permits = { λ _ _. Unit {0} };
+
     fn raw(&self) -> &AcceptAll {
         &self.raw
     }
@@ -185,6 +187,8 @@ impl SigningKey for Absent {
     ghost public_of = { λ s. s.key };
 
     ghost refuses = { λ _ _ e. e ≡ wide.Crypto };
+
+    ghost permits = { λ _ _. Unit {0} };
 
     fn raw(&self) -> &RefuseAll {
         &self.raw

@@ -44,6 +44,8 @@ impl SigningKey for Tally {
 
     ghost refuses = { λ _ _ e. e ≡ wide.Crypto };
 
+    ghost permits = { λ _ _. Unit {0} };
+
     fn raw(&self) -> &RefuseAll {
         &self.raw
     }

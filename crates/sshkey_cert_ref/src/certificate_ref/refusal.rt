@@ -6,7 +6,7 @@ ghost use Rattle.sshkey_cert_ref.specs.CertificateRef.{certificate_of};
 
 use super::CertificateRef;
 use sshkey_base::Result;
-use sshkey_cert::{CertificateRefusal, or_principal, wrong_authority_or_time};
+use sshkey_cert::{CertificateRefusal, refusal_of_authority_or_time, refusal_with_principal};
 use sshkey_fingerprints::Fingerprint;
 use sshkey_keys::RawVerifier;
 use std::alloc::Global;
@@ -30,24 +30,24 @@ impl CertificateRef<'_> {
         }
         let authority = self.authority(alloc)?;
         let window = (self.valid_after(), self.valid_before());
-        Ok(wrong_authority_or_time(authority.as_bytes(), window, fingerprints, unix_timestamp))
+        Ok(refusal_of_authority_or_time(authority.as_bytes(), window, fingerprints, unix_timestamp))
     }
 
-    /// The same where a principal is wanted, which is looked at last: `None` exactly if
+    /// The same for a principal, which is looked at last: `None` exactly if
     /// `validate_principal_at` is `Ok`.
     pub fn first_refusal_for<V: RawVerifier>(
         &self,
         alloc: Global,
         unix_timestamp: u64,
-        wanted: &str,
+        principal: &str,
         fingerprints: &[Fingerprint],
         verifier: &V,
     ) -> Result<Option<CertificateRefusal>>
         ensures { FindsFirst (first_refusal_for (V.accepts verifier.now)
-            (fingerprints_of fingerprints.now) unix_timestamp wanted.now
+            (fingerprints_of fingerprints.now) unix_timestamp principal.now
             (certificate_of self.now)) result }
     {
         let first = self.first_refusal(alloc, unix_timestamp, fingerprints, verifier)?;
-        Ok(or_principal(first, self.allows_principal(wanted)))
+        Ok(refusal_with_principal(first, self.allows_principal(principal)))
     }
 }

@@ -11,7 +11,7 @@ ghost use Rattle.sshkey_cert_ref.specs.CertificateRef.{certificate_of};
 
 use super::CertificateRef;
 use sshkey_base::{Error, HashAlg, Result};
-use sshkey_cert::tell;
+use sshkey_cert::result_of_refusal;
 use sshkey_fingerprints::Fingerprint;
 use sshkey_keys::RawVerifier;
 use std::alloc::Global;
@@ -53,21 +53,21 @@ impl CertificateRef<'_> {
         ensures { Judges (V.accepts verifier.now) fingerprints.now unix_timestamp
             (certificate_of self.now) result }
     {
-        tell(self.first_refusal(alloc, unix_timestamp, fingerprints, verifier)?)
+        result_of_refusal(self.first_refusal(alloc, unix_timestamp, fingerprints, verifier)?)
     }
 
     /// Whether the certificate lists no principals, or lists that very text. Does not allocate.
     ///
     /// So a certificate without principals allows everybody here (PROTOCOL.certkeys), while sshd(8)
     /// rejects it for a user: a login asks also that `valid_principals` is not empty.
-    pub fn allows_principal(&self, wanted: &str) -> bool
-        ensures { IsTrue result ↔ Allows (certificate_of self.now) wanted.now }
+    pub fn allows_principal(&self, principal: &str) -> bool
+        ensures { IsTrue result ↔ Allows (certificate_of self.now) principal.now }
     {
         let principals = self.valid_principals();
-        principals.is_empty() || principals.contains(wanted)
+        principals.is_empty() || principals.contains(principal)
     }
 
-    /// Whether the certificate is valid as `validate_at` has it, and allows the wanted principal.
+    /// Whether the certificate is valid as `validate_at` has it, and allows the principal.
     ///
     /// Unless memory runs out, `Ok` exactly if it is; else the error of `validate_at`, and last
     /// `CertificateFieldInvalid(Field::ValidPrincipals)` for the principal.
@@ -75,14 +75,20 @@ impl CertificateRef<'_> {
         &self,
         alloc: Global,
         unix_timestamp: u64,
-        wanted: &str,
+        principal: &str,
         fingerprints: &[Fingerprint],
         verifier: &V,
     ) -> Result<()>
-        ensures { JudgesFor (V.accepts verifier.now) fingerprints.now unix_timestamp wanted.now
+        ensures { JudgesFor (V.accepts verifier.now) fingerprints.now unix_timestamp principal.now
             (certificate_of self.now) result }
     {
-        tell(self.first_refusal_for(alloc, unix_timestamp, wanted, fingerprints, verifier)?)
+        result_of_refusal(self.first_refusal_for(
+            alloc,
+            unix_timestamp,
+            principal,
+            fingerprints,
+            verifier,
+        )?)
     }
 
     /// Whether the verifier accepts the signature. Fails only when out of memory.

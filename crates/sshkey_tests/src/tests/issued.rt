@@ -8,7 +8,7 @@ use sshkey_cert::Certificate;
 use sshkey_keys::{Fingerprint, KeyData};
 use sshkey_kinds::Ed25519PublicKey;
 use sshkey_options::{FOREVER, MAX_SECS};
-use sshkey_testing::{Absent, AcceptAll, Fixed, RefuseAll};
+use sshkey_testing::{Absent, AcceptAll, Fixed, RefuseAll, Tally};
 use std::alloc::Global;
 
 /// The bytes of an Ed25519 key that ssh-keygen made.
@@ -267,19 +267,31 @@ fn bad_windows_are_refused(rt: HostRuntime) {
     assert!(rt; is_wanted(window_error(rt.alloc(), 0, FOREVER), before()));
 }
 
-/// The signer is not asked where no principal was named.
-fn unnamed(alloc: Global) -> Result<Certificate, Error> {
-    builder(alloc, 10, 20)?.sign(alloc, &signer())
+fn unnamed(alloc: Global, signer: &Tally) -> Result<Certificate, Error> {
+    builder(alloc, 10, 20)?.sign(alloc, signer)
 }
 
+fn named(alloc: Global, signer: &Tally) -> Result<Certificate, Error> {
+    for_all(builder(alloc, 10, 20)?)?.sign(alloc, signer)
+}
+
+/// The signer is not asked where no principal was named.
 fn is_unnamed(alloc: Global) -> bool {
-    is_wanted(
-        unnamed(alloc).err(),
-        Some(Error::CertificateFieldInvalid(Field::ValidPrincipals)),
-    )
+    let signer = Tally::new(KEY);
+    let error = unnamed(alloc, &signer).err();
+    let refused = Some(Error::CertificateFieldInvalid(Field::ValidPrincipals));
+    is_wanted(error, refused) && signer.asked() == 0
+}
+
+/// It is asked once where all were made valid.
+fn is_asked_once(alloc: Global) -> bool {
+    let signer = Tally::new(KEY);
+    let error = named(alloc, &signer).err();
+    is_wanted(error, Some(Error::Crypto)) && signer.asked() == 1
 }
 
 #[test]
 fn a_builder_is_told_whom(rt: HostRuntime) {
     assert!(rt; is_unnamed(rt.alloc()));
+    assert!(rt; is_asked_once(rt.alloc()));
 }

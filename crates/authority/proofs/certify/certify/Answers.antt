@@ -1,5 +1,5 @@
 use Rattle.std.proofs.lemmas.Result.{err_from_is_err_and}
-use Rattle.authority.proofs.Certified.{certified, key_id_is_taken, no_bad_window, serial_is_taken}
+use Rattle.authority.proofs.Certified.{certified, key_id_is_taken, no_bad_window, permitted, serial_is_taken}
 use Rattle.authority.proofs.Drafts.{numbered, told}
 use Rattle.authority.proofs.certify.certify.Goals as goal
 
@@ -23,6 +23,11 @@ pub returns-in_err-add_principals : goal.returns-in_err-add_principals
 returns-in_err-add_principals g c =
     let p = err_from_is_err_and c.from_residual-in_err-add_principals.result c.from_residual-in_err-add_principals.ensures.1 in
     rw (p.1, p.2) (λ none some other. absurd (other c.in_err-add_principals.ensures))
+
+pub sign-requires : goal.sign-requires
+sign-requires g c =
+    let is = told _ _ _ _ _ _ _ _ _ _ _ c.in_ok-builder.ensures.1 c.in_ok-set_serial.ensures c.in_ok-set_key_id.ensures c.in_ok-add_principals.ensures in
+    record { permits = permitted (g.S.SigningKey.permits c.args.signer.now) _ c.args.request _ _ _ is (c.requires c.in_ok-builder.ensures.0) }
 
 pub returns : goal.returns
 returns g c =

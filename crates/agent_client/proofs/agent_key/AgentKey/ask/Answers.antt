@@ -1,6 +1,5 @@
 use Rattle.std.proofs.Common.{inl, subst, sym, ◌∙◌}
 use Rattle.std.proofs.lemmas.Result.{err_from_is_err_and}
-use Rattle.ssh_key.specs.keys.Keys.{key_of}
 use Rattle.agent_client.proofs.Signing.{agent_failed, answer_read}
 use Rattle.agent_client.proofs.agent_key.AgentKey.ask.Goals as goal
 
@@ -10,7 +9,7 @@ returns-in_err-request g c =
     rw (p.1, p.2) (λ other. inl (c.in_err-request.ensures.refused other))
 
 pub ask-requires : goal.ask-requires
-ask-requires g c = subst (g.A.Agent.permits c.args.self.now.agent.now) (sym (c.deref.ensures.value ∙ c.in_ok-request.ensures.bytes)) (g.A.Agent.signs c.args.self.now.agent.now (key_of c.args.self.now.key) c.args.self.now.flags c.args.message.now)
+ask-requires g c = subst (g.A.Agent.permits c.args.self.now.agent.now) (sym (c.deref.ensures.value ∙ c.in_ok-request.ensures.bytes)) c.requires
 
 pub returns-in_err-answer : goal.returns-in_err-answer
 returns-in_err-answer g c =

@@ -11,6 +11,9 @@ returns-in_err-check-clause-issued g c =
 pub returns-in_err-check-clause-used : goal.returns-in_err-check-clause-used
 returns-in_err-check-clause-used g c = λ within room. absurd (outside _ _ _ c.in_err-check.ensures.refused within)
 
+pub certify-requires : goal.certify-requires
+certify-requires g c = λ window some. c.requires.permits c.in_ok-check.ensures.exactly (search rules)
+
 pub returns-clause-issued : goal.returns-clause-issued
 returns-clause-issued g c = issued _ _ (g.S.SigningKey.refuses c.args.signer.now) _ c.args.request _ _ c.in_ok-check.ensures.exactly c.certify.result c.certify.ensures (search rules)
 

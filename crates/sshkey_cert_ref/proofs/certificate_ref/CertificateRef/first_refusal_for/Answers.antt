@@ -5,5 +5,5 @@ use Rattle.sshkey_cert_ref.proofs.certificate_ref.CertificateRef.first_refusal_f
 
 pub returns : goal.returns
 returns g c =
-    let allowed = allows_is c.allows_principal.result (certificate_of c.args.self.now).signed.valid_principals c.args.wanted.now c.allows_principal.ensures in
-    rw (c.or_principal.ensures, c.in_ok-first.ensures, allowed) refl
+    let allowed = allows_is c.allows_principal.result (certificate_of c.args.self.now).signed.valid_principals c.args.principal.now c.allows_principal.ensures in
+    rw (c.refusal_with_principal.ensures, c.in_ok-first.ensures, allowed) refl

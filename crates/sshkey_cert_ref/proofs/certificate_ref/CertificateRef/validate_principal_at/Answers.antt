@@ -3,4 +3,4 @@ use Rattle.sshkey_cert.proofs.Given.{exactly}
 use Rattle.sshkey_cert_ref.proofs.certificate_ref.CertificateRef.validate_principal_at.Goals as goal
 
 pub returns : goal.returns
-returns g c = exactly _ _ _ c.in_ok-first_refusal_for.ensures (none_where_wanted _ _ _ _ _) c.tell.ensures
+returns g c = exactly _ _ _ c.in_ok-first_refusal_for.ensures (none_where_wanted _ _ _ _ _) c.result_of_refusal.ensures
