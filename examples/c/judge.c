@@ -89,8 +89,8 @@ uint32_t judge(blob certificate, uint64_t unix_timestamp, const char *principal,
     return sshkey_certificate_validate(sshkey_bytes(certificate.bytes), certificate.length,
                                        unix_timestamp, keys, by.count, is_verified);
   return sshkey_certificate_validate_for(sshkey_bytes(certificate.bytes), certificate.length,
-                                         unix_timestamp, (const uint8_t *)principal, strlen(principal),
-                                         keys, by.count, is_verified);
+                                         unix_timestamp, (const uint8_t *)principal,
+                                         strlen(principal), keys, by.count, is_verified);
 }
 
 /* Whether each critical option is met. */
