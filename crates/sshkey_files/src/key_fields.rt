@@ -1,7 +1,6 @@
 //! A key in the fields of a line.
 
-ghost use Rattle.std.specs.Prelude.{◌≡◌, ◌↔◌, ◌<◌, length, IfErr, IfOk, IsTrue, string_bytes};
-ghost use Rattle.sshkey_base.specs.declared.error.Error.TheVariants as wide;
+ghost use Rattle.std.specs.Prelude.{◌≡◌, ◌↔◌, IsTrue};
 ghost use Rattle.sshkey_files.specs.Answers.{RefusesFor};
 ghost use Rattle.sshkey_keys.specs.Keys.{key_of};
 ghost use Rattle.sshkey_model.specs.Lines.{key_name};
@@ -10,24 +9,13 @@ ghost use Rattle.sshkey_files.specs.KeyFields.{AsksKeyFields, HasKeyFault, Reads
 use crate::blanks::{skip_blanks, split_field};
 use sshkey_base::{Error, Result, encoding};
 use sshkey_keys::KeyData;
-use sshkey_public::{PublicKey, read_word};
+use sshkey_public::{PublicKey, copied, read_word};
 use std::alloc::Global;
 
 fn is_named(key: &KeyData, name: &str) -> bool
     ensures { IsTrue result ↔ (name.now ≡ key_name (key_of key.now)) }
 {
     name == key.algorithm_name()
-}
-
-/// A copy of a text. Fails only when out of memory, and never where the text is empty.
-fn copied(alloc: Global, text: &str) -> Result<String>
-    ensures text { IfOk result (λ copy. string_bytes copy ≡ text.now) }
-    ensures memory { IfErr result (λ e. (e ≡ wide.Memory) × (0 < length text.now)) }
-{
-    if text.is_empty() {
-        return Ok(String::new(alloc));
-    }
-    Ok(String::from_str(alloc, text)?)
 }
 
 /// The key of a text that is a key's fields: the name of its algorithm, the key in padded Base64 and

@@ -168,8 +168,8 @@ impl From<OptionsMap> for BTreeMap<String, String> {
 /// A string of options: the string of a name, and a string that is empty or holds one text
 /// (PROTOCOL.certkeys). The names rise, by bytes.
 ///
-/// Fails with `FormatEncoding` if a name does not rise, and with the faults of strings and texts. It
-/// fails with `Memory` only where the string of a first name stands in it.
+/// Fails with `FormatEncoding` if a name does not rise, and with the faults of strings and texts.
+/// It fails with `Memory` only where the string of a first name stands in it.
 #[tactic(auto, using(sshkey_base::proofs::Boxes::boxes))]
 impl Decode for OptionsMap {
     type Error = Error;
