@@ -68,11 +68,7 @@ pub extern "C" fn sshkey_sshsig_normal(
 
 /// The normal form of a signature: `sshkey_calls::signature_normal`.
 #[unsafe(no_mangle)]
-pub extern "C" fn sshkey_signature_normal(
-    signature: &[u8],
-    room: &mut [u8],
-    len: &mut usize,
-) -> u32
+pub extern "C" fn sshkey_signature_normal(signature: &[u8], room: &mut [u8], len: &mut usize) -> u32
     ensures normal { Writes (IsNormalSignature signature.now)
         result len.old len.new room.old room.new }
     ensures fault { (fault : Fault) → whole signature_at signature.now ≡ Err fault

@@ -47,11 +47,7 @@ pub extern "C" fn sshkey_certificate_key(
 
 /// The option at a place: `sshkey_calls::next_option`.
 #[unsafe(no_mangle)]
-pub extern "C" fn sshkey_next_option(
-    bytes: &[u8],
-    place: usize,
-    answer: &mut OptionParts,
-) -> u32
+pub extern "C" fn sshkey_next_option(bytes: &[u8], place: usize, answer: &mut OptionParts) -> u32
     ensures { FindsOption bytes.now place result answer.old answer.new }
 {
     next_option(bytes, place, answer)

@@ -113,7 +113,14 @@ fn validate_for(
     ensures memory { result ≡ 1 → SpellsSome SpellsCertificate certificate.now }
 {
     match CertificateRef::from_bytes(certificate) {
-        Ok(read) => judge_for(alloc, &read, unix_timestamp, wanted, authorities, is_verified),
+        Ok(read) => judge_for(
+            alloc,
+            &read,
+            unix_timestamp,
+            wanted,
+            authorities,
+            is_verified,
+        ),
         Err(error) => error_number(error),
     }
 }
@@ -155,7 +162,14 @@ fn judge_for(
         (certificate_of certificate.now)) }
 {
     let verification = Verification::of(is_verified);
-    match first_refusal_for(alloc, certificate, unix_timestamp, wanted, authorities, verification) {
+    match first_refusal_for(
+        alloc,
+        certificate,
+        unix_timestamp,
+        wanted,
+        authorities,
+        verification,
+    ) {
         Ok(first) => refusal_number(first),
         Err(_) => MEMORY,
     }

@@ -118,8 +118,8 @@ impl HostPatterns {
     /// The name that is looked up is the host's in small letters, and at another port than 22 it is
     /// `[host]:port`. In patterns a `*` stands for any characters, a `?` for one, and a letter for
     /// itself in either case: one of them has to match, and none after a `!` (ssh_config(5),
-    /// "PATTERNS"). A hashed name is compared with the HMAC of the name under its salt, which has to
-    /// have 20 bytes.
+    /// "PATTERNS"). A hashed name is compared with the HMAC of the name under its salt, which has
+    /// 20 bytes, or else is for no host.
     ///
     /// Of a host at another port ssh(1) asks, where nothing is known of it, about the bare name as
     /// well: that is port 22 here.
@@ -147,8 +147,7 @@ impl HostPatterns {
         match self {
             HostPatterns::Patterns(patterns) => are_named(patterns, name),
             HostPatterns::HashedName { salt, hash } => {
-                salt.as_slice().len() == 20
-                    && hmac.hash(salt.as_slice(), name.as_bytes()) == *hash
+                salt.as_slice().len() == 20 && hmac.hash(salt.as_slice(), name.as_bytes()) == *hash
             }
         }
     }
