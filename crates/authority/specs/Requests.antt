@@ -3,7 +3,7 @@ use Rattle.std.specs.Prelude.{◌≡◌, ◌≢◌, ◌⊎◌, ℕ, ◌+◌, ◌
 use Rattle.std.specs.List.{list_any}
 use Rattle.ssh_key.specs.builder.Builders.{IsValidExactlyIn, draft_of}
 use Rattle.ssh_key.specs.cert.CertificateValues.{certificate_of, comment_of}
-use Rattle.ssh_key.specs.cert.Signing.{RefusesToSign}
+use Rattle.ssh_key.specs.cert.Signing.{PermitsToSign, RefusesToSign}
 use Rattle.ssh_key.specs.keys.Keys.{key_of}
 use Rattle.ssh_key.specs.model.Certificates.{SignedFields, User}
 use Rattle.ssh_key.specs.model.Drafts.{Principal, after_steps, bad_window}
@@ -16,6 +16,8 @@ use Rattle.ssh_key.specs.types.Error.{Error}
 use Rattle.ssh_key.specs.types.Error.TheVariants.{CertificateFieldInvalid, Memory}
 use Rattle.ssh_key.specs.types.certificate.Builder.{Builder}
 use Rattle.ssh_key.specs.types.certificate.Field.TheVariants as field
+use Rattle.ssh_key.specs.types.public.KeyData.{KeyData}
+use Rattle.authority.specs.declared.authority.Authority.{Authority}
 use Rattle.authority.specs.declared.limits.Limits.{Limits}
 use Rattle.authority.specs.declared.request.Request.{Request}
 
@@ -80,6 +82,10 @@ CertifiesExactly accepts authority refuses r serial nonce (Err e) = bad_window r
 -- A serial number is left: there is one behind it.
 abbrev pub IsLeft : ℕ → Type 0
 IsLeft serial = serial + 1 < 2 ^ 64
+
+-- What a call may ask the signer to sign: the certificate of the request under the next serial number, where it is within the limits and a number is left.
+abbrev pub MayIssue : {S : Type 0} → (S → List ℕ → Type 0) → (S → KeyData) → S → Authority → Request → List ℕ → Type 0
+MayIssue permits public_of s a r nonce = IsWithin a.limits r → IsLeft a.next_serial → PermitsToSign (permits s) (fields_for r a.next_serial nonce (key_of (public_of s)))
 
 -- Ok is that certificate, of a request within the limits. Else the request is outside them; or it is within, and no serial number is left; or one is, and it is not signed.
 abbrev pub IssuesExactly : (Question → Bool) → Key → (List ℕ → Error → Type 0) → Limits → Request → ℕ → List ℕ → Result Certificate Error → Type 0

@@ -1,10 +1,9 @@
 //! An authority.
 
 ghost use Rattle.std.specs.Prelude.{◌≡◌, ◌≤◌, ◌<◌, ◌+◌, ◌^◌, ◌⊎◌, ◌↔◌, ◌++◌, ◌∷◌, [], IfErr, OnErr, OnOk, IsTrue, Contains};
-ghost use Rattle.ssh_key.specs.cert.Signing.{PermitsToSign};
 ghost use Rattle.ssh_key.specs.keys.Keys.{key_of};
 ghost use Rattle.ssh_key.specs.types.Error.TheVariants.{Memory};
-ghost use Rattle.authority.specs.Requests.{IsLeft, IssuesExactly, IsWithin, fields_for};
+ghost use Rattle.authority.specs.Requests.{IsLeft, IssuesExactly, IsWithin, MayIssue};
 ghost use Rattle.authority.specs.Serials.{IsHistory, serial_of};
 
 use crate::certify::certify;
@@ -51,10 +50,7 @@ impl Authority {
         nonce: Vec<u8>,
         signer: &S,
     ) -> Result<Certificate>
-        requires permits { IsWithin self.old.limits request → IsLeft self.old.next_serial
-            → PermitsToSign (S.permits signer.now)
-            (fields_for request self.old.next_serial nonce.items
-            (key_of (S.public_of signer.now))) }
+        requires permits { MayIssue S.permits S.public_of signer.now self.old request nonce.items }
         ensures issued { IssuesExactly (S.Raw.accepts (S.raw_of signer.now))
             (key_of (S.public_of signer.now)) (S.refuses signer.now) self.old.limits request
             self.old.next_serial nonce.items result }

@@ -1,7 +1,7 @@
 -- What a builder holds, and what its calls answer.
-use Rattle.std.specs.Prelude.{◌≡◌, ◌↔◌, ℕ, ◌<◌, ◌≤◌, ◌^◌, List, Bool, Contains, Option, Some, None, option_map, Result, Ok, Err, IfOk}
+use Rattle.std.specs.Prelude.{◌≡◌, ◌↔◌, ℕ, ◌<◌, ◌≤◌, ◌^◌, List, Bool, Contains, Option, Some, None, option_map, IsSome, Result, Ok, Err, IfOk}
 use Rattle.std.specs.Borrow.{RestsIfErr, MutBor, Fml}
-use Rattle.sshkey_model.specs.Drafts.{Draft, DraftField, SerialField, KindField, KeyIdField, PrincipalsField, AfterField, BeforeField, CriticalField, ExtensionsField, CommentField, Step, after_step, bad_window}
+use Rattle.sshkey_model.specs.Drafts.{Draft, DraftField, SerialField, KindField, KeyIdField, PrincipalsField, AfterField, BeforeField, CriticalField, ExtensionsField, CommentField, Step, after_step, bad_window, drafted}
 use Rattle.sshkey_model.specs.Certificates.{Certificate}
 use Rattle.sshkey_model.specs.Fingerprints.{Fingerprint}
 use Rattle.sshkey_model.specs.Verification.{Question}
@@ -11,6 +11,7 @@ use Rattle.sshkey_base.specs.declared.certificate.field.Field.{Field}
 use Rattle.sshkey_base.specs.declared.certificate.field.Field.TheVariants as field
 use Rattle.sshkey_base.specs.declared.error.Error.{Error}
 use Rattle.sshkey_base.specs.declared.error.Error.TheVariants as wide
+use Rattle.sshkey_cert.specs.Signing.{PermitsToSign}
 use Rattle.sshkey_keys.specs.Keys.{key_of}
 use Rattle.sshkey_keys.specs.declared.key_data.KeyData.{KeyData}
 use Rattle.sshkey_options.specs.CertTypes.{type_of}
@@ -129,6 +130,10 @@ BeginsInMemory bad d (Ok b) = (bad ≡ None) × (draft_of b ≡ d)
 BeginsInMemory bad d (Err e) = e ≡ why_not bad
 
 -- ---- signed
+
+-- What a call may ask the signer to sign: the draft, where principals were named and it fits.
+abbrev pub MaySign : {S : Type 0} → (S → List ℕ → Type 0) → (S → KeyData) → S → Builder → Type 0
+MaySign permits public_of s b = IsSome (draft_of b).valid_principals → PermitsToSign (permits s) (drafted (draft_of b) (key_of (public_of s)))
 
 -- It is valid exactly at the times from the first one on and before the second, for whoever has that fingerprint.
 abbrev pub IsValidExactlyIn : (Question → Bool) → Fingerprint → ℕ → ℕ → Certificate → Type 0

@@ -1,5 +1,5 @@
 -- What is signed in place of a message, and what signing answers.
-use Rattle.std.specs.Prelude.{◌≡◌, ◌⊎◌, ◌||◌, ℕ, List, [], Bool, Result, Ok, Err, true, false}
+use Rattle.std.specs.Prelude.{◌≡◌, ◌≢◌, ◌⊎◌, ◌||◌, ℕ, List, [], Bool, Result, Ok, Err, true, false}
 use Rattle.sshkey_model.specs.Keys.{Key, key_algorithm}
 use Rattle.sshkey_model.specs.Parts.{Parts, flat, BoxesFit}
 use Rattle.sshkey_model.specs.SignedMessages.{signed_message, IsVerified}
@@ -10,6 +10,8 @@ use Rattle.sshkey_base.specs.declared.encoding.Error.TheVariants.{Length}
 use Rattle.sshkey_base.specs.declared.error.Error.{Error}
 use Rattle.sshkey_base.specs.declared.error.Error.TheVariants.{AlgorithmUnsupported, Encoding, Memory}
 use Rattle.sshkey_keys.specs.KeyKinds.{is_sk_ecdsa, is_sk_ed25519}
+use Rattle.sshkey_keys.specs.Keys.{key_of}
+use Rattle.sshkey_keys.specs.declared.key_data.KeyData.{KeyData}
 use Rattle.sshkey_sshsig.specs.declared.sshsig.SshSig.{SshSig}
 use Rattle.sshkey_sshsig.specs.SshSignatures.{ssh_signature_of}
 
@@ -28,9 +30,9 @@ pub record IsMade (accepts : Question → Bool) (k : Key) (n message : List ℕ)
   pub reserved : (ssh_signature_of f).reserved ≡ []
   pub by : (ssh_signature_of f).hash ≡ hash_of h
 
--- Where the parts fit, the signer may be asked to sign their bytes.
-abbrev pub Permits : (List ℕ → Type 0) → Parts → Type 0
-Permits permits parts = BoxesFit parts → permits (flat parts)
+-- What a call may ask the signer to sign: these bytes, where there is a namespace, no security key holds the key, and they fit.
+abbrev pub MaySign : {S : Type 0} → (S → List ℕ → Type 0) → (S → KeyData) → S → List ℕ → List ℕ → HashAlg → Type 0
+MaySign permits public_of s n message h = n ≢ [] → is_security_key (key_of (public_of s)) ≡ false → BoxesFit (signed_message n [] (hash_of h) message) → permits s (flat (signed_message n [] (hash_of h) message))
 
 -- Why nothing was made: `Length` exactly where the parts do not fit, else memory was refused, or the signer may refuse their bytes so.
 abbrev pub IsNotMade : (List ℕ → Error → Type 0) → Parts → Error → Type 0

@@ -5,10 +5,10 @@ ghost use Rattle.sshkey_keys.specs.Keys.{key_of, stored_algorithm};
 ghost use Rattle.sshkey_model.specs.Drafts.{IsSignedDraft, drafted, or_default};
 ghost use Rattle.sshkey_model.specs.Fingerprints.{fingerprint};
 ghost use Rattle.sshkey_model.specs.Names.{Sha256};
-ghost use Rattle.sshkey_builder.specs.Builders.{IsValidExactlyIn, draft_of, given_key, no_principals};
+ghost use Rattle.sshkey_builder.specs.Builders.{IsValidExactlyIn, MaySign, draft_of, given_key, no_principals};
 ghost use Rattle.sshkey_to_be_signed.specs.ToBeSignedValues.{to_be_signed_of};
 ghost use Rattle.sshkey_cert.specs.CertificateValues.{certificate_of, certified_key_of, comment_of};
-ghost use Rattle.sshkey_cert.specs.Signing.{PermitsToSign, RefusesToSign};
+ghost use Rattle.sshkey_cert.specs.Signing.{RefusesToSign};
 
 use super::Builder;
 use sshkey_base::certificate::Field;
@@ -32,9 +32,7 @@ impl Builder {
     /// `Length` if the bytes to be signed do not fit. In these cases the signer is not asked.
     /// Otherwise fails with the signer's own error.
     pub fn sign<S: SigningKey>(self, alloc: Global, signing_key: &S) -> Result<Certificate>
-        requires permits { IsSome (draft_of self).valid_principals
-            → PermitsToSign (S.permits signing_key.now)
-            (drafted (draft_of self) (key_of (S.public_of signing_key.now))) }
+        requires permits { MaySign S.permits S.public_of signing_key.now self }
         ensures unnamed { IsNone (draft_of self).valid_principals → result ≡ Err no_principals }
         ensures signed { IfOk result (λ c. IsSignedDraft (S.Raw.accepts (S.raw_of signing_key.now))
             (key_of (S.public_of signing_key.now)) (draft_of self) (certificate_of c)) }

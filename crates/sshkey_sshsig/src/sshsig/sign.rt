@@ -1,11 +1,9 @@
 //! Signing messages.
 
 ghost use Rattle.std.specs.Prelude.{◌≡◌, ◌≢◌, [], true, false, Err, IsErrAnd};
-ghost use Rattle.sshkey_base.specs.Names.{hash_of};
 ghost use Rattle.sshkey_base.specs.declared.error.Error.TheVariants as wide;
 ghost use Rattle.sshkey_keys.specs.Keys.{key_of};
-ghost use Rattle.sshkey_model.specs.SignedMessages.{signed_message};
-ghost use Rattle.sshkey_sshsig.specs.Signing.{is_security_key, MakesSigned, IsNoSigner, ChecksSigner, Permits};
+ghost use Rattle.sshkey_sshsig.specs.Signing.{is_security_key, MakesSigned, IsNoSigner, ChecksSigner, MaySign};
 
 use super::SshSig;
 use super::signed_data::signed_bytes;
@@ -31,10 +29,7 @@ impl SshSig {
         hash_alg: HashAlg,
         message: &[u8],
     ) -> Result<SshSig>
-        requires permits { namespace.now ≢ []
-            → is_security_key (key_of (S.public_of signer.now)) ≡ false
-            → Permits (S.permits signer.now)
-            (signed_message namespace.now [] (hash_of hash_alg) message.now) }
+        requires { MaySign S.permits S.public_of signer.now namespace.now message.now hash_alg }
         ensures empty { namespace.now ≡ [] → result ≡ Err wide.Namespace }
         ensures security_key { namespace.now ≢ []
             → is_security_key (key_of (S.public_of signer.now)) ≡ true
