@@ -29,10 +29,11 @@
  * In return no call keeps a pointer or hands one out, and there is no state: threads may call at
  * once. No call writes more than `room_length` bytes to a room. All that a call tells lies in the
  * room, and a part of it is a place and a number of bytes. Where the room is too short, the call
- * returns SSHKEY_ROOM and leaves the room as it was, and `length` alone is told, how many bytes are
- * needed (the text of a fingerprint has a fixed length, so its calls tell none): a room of 0 bytes
- * asks for that. Every other return value but SSHKEY_DONE leaves the room and `*answer` as they
- * were, and `*length` too; and `*signer` is written with SSHKEY_DONE alone.
+ * returns SSHKEY_ROOM, leaves the room as it was, and sets `length` to the number of bytes that are
+ * needed, so a room of 0 bytes asks for that number; do not rely on the other fields of `*answer`
+ * then. (The text of a fingerprint has a fixed length, so its calls set none.) Every other return
+ * value but SSHKEY_DONE leaves the room, `*answer` and `*length` as they were. `*signer` is written
+ * with SSHKEY_DONE alone.
  */
 #ifndef SSHKEY_H
 #define SSHKEY_H

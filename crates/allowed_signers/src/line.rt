@@ -6,7 +6,8 @@ ghost use Rattle.allowed_signers.specs.Principals.{ArePrincipals, IsFront, IsPla
 use ssh_key::authorized_keys::split_field;
 
 /// The principals at the front of a line, and what follows them. None are read where a carriage
-/// return stands in them: ssh-keygen ends a word there, and would read other principals.
+/// return stands in them: it ends an unquoted word for ssh-keygen, which would read other
+/// principals; in quotes it is rejected alike.
 pub(crate) fn split_principals(line: &str) -> Option<(&str, &str)>
     ensures { IsTheOne parts_of (ArePrincipals line.now) result }
 {

@@ -40,8 +40,8 @@ pub enum Refusal {
 /// the namespace, and `valid-after="..."` and `valid-before="..."`, the first and the last second,
 /// in UTC. A line with `cert-authority` lets certificates sign, which are not read in a signature:
 /// it is passed over. So is each line in which something else stands, as ssh-keygen does, a line in
-/// which a byte is 0, and one with a carriage return in its list of patterns: there ssh-keygen ends
-/// the line, or the list.
+/// which a byte is 0, and one with a carriage return in its list of patterns: ssh-keygen ends the
+/// line at the former, and an unquoted list at the latter.
 ///
 /// `signature` is what stands in the armour of `ssh-keygen -Y sign`, decoded. Unless memory runs
 /// out, it is refused for the first of these that holds: `NoSignature`, `NotAllowed`,

@@ -23,12 +23,12 @@ use std::alloc::Global;
 /// fingerprints, and has only critical options that are known here: `force-command`,
 /// `source-address` and `verify-required` (PROTOCOL.certkeys).
 ///
-/// Out of memory aside, it refuses all others: with the refusals of `Certificate::from_openssh`;
-/// `CertificateFieldInvalid` with `CertType` for a certificate for hosts, with `PublicKey` for one of
-/// another key, with `CriticalOptions` where an option is not known, and with `ValidPrincipals` if
-/// the certificate lists no principal: by sshd_config(5), `TrustedUserCAKeys`, such a certificate
-/// lets nobody in; then as `Certificate::validate_principal_at` does, in this order. Where the line is no
-/// certificate's, `Memory` means what it means of `Certificate::from_openssh`.
+/// Out of memory aside, it refuses all others with the first of these: the errors of
+/// `Certificate::from_openssh`; `CertificateFieldInvalid` with `CertType` for a certificate for
+/// hosts, with `PublicKey` for one of another key, with `CriticalOptions` where an option is not
+/// known, and with `ValidPrincipals` if it lists no principal (such a certificate lets nobody in:
+/// sshd_config(5), `TrustedUserCAKeys`); the errors of `Certificate::validate_principal_at`. Where
+/// the line is no certificate's, `Memory` means what it means of `Certificate::from_openssh`.
 ///
 /// Whoever calls it has asked the client for a signature under the offered key, and does what the
 /// grant says.

@@ -45,6 +45,6 @@ pub record Says (Holds : Type 0) (n : ℕ) : Type 0 where
 abbrev pub TellsFirst : (Question → Bool) → List Fingerprint → ℕ → List ℕ → ℕ → Type 0
 TellsFirst accepts authorities t bytes n = (c : Certificate) → SpellsCertificate c bytes → n ≢ 1 → n ≡ refusal_number (first_refusal accepts authorities t c)
 
--- The same where a principal is wanted.
+-- The same for a principal.
 abbrev pub TellsFirstFor : (Question → Bool) → List Fingerprint → ℕ → List ℕ → List ℕ → ℕ → Type 0
 TellsFirstFor accepts authorities t principal bytes n = (c : Certificate) → SpellsCertificate c bytes → n ≢ 1 → n ≡ refusal_number (first_refusal_for accepts authorities t principal c)

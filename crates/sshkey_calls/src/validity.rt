@@ -53,7 +53,7 @@ pub fn certificate_validate(
     }
 }
 
-/// The same where a principal is wanted: the certificate lists it, or no principals, and 34, the
+/// The same for a principal: the certificate lists it, or no principals, and 34, the
 /// last of what is wrong, where it does not. 4 for a principal that is not UTF-8, whatever the
 /// certificate is.
 ///
@@ -81,11 +81,11 @@ pub fn certificate_validate_for(
     ensures memory { result ≡ 1 → SpellsSome SpellsCertificate certificate.now }
 {
     match str::from_utf8(principal) {
-        Ok(wanted) => validate_for(
+        Ok(principal) => validate_for(
             alloc,
             certificate,
             unix_timestamp,
-            wanted,
+            principal,
             authorities,
             is_verified,
         ),
@@ -98,15 +98,15 @@ fn validate_for(
     alloc: Global,
     certificate: &[u8],
     unix_timestamp: u64,
-    wanted: &str,
+    principal: &str,
     authorities: &[Sha256Digest],
     is_verified: u32,
 ) -> u32
     ensures exactly { (accepts : Question → Bool) → Verified accepts certificate.now is_verified
-        → Says (IsGoodFor accepts (authorities_of authorities.now) unix_timestamp wanted.now
+        → Says (IsGoodFor accepts (authorities_of authorities.now) unix_timestamp principal.now
         certificate.now) result }
     ensures first { (accepts : Question → Bool) → Verified accepts certificate.now is_verified
-        → TellsFirstFor accepts (authorities_of authorities.now) unix_timestamp wanted.now
+        → TellsFirstFor accepts (authorities_of authorities.now) unix_timestamp principal.now
         certificate.now result }
     ensures fault { (fault : Fault) → whole certificate_at certificate.now ≡ Err fault
         → result ≡ fault_number fault }
@@ -117,7 +117,7 @@ fn validate_for(
             alloc,
             &read,
             unix_timestamp,
-            wanted,
+            principal,
             authorities,
             is_verified,
         ),
@@ -148,17 +148,17 @@ fn judge(
     }
 }
 
-/// The same where a principal is wanted.
+/// The same for a principal.
 fn judge_for(
     alloc: Global,
     certificate: &CertificateRef<'_>,
     unix_timestamp: u64,
-    wanted: &str,
+    principal: &str,
     authorities: &[Sha256Digest],
     is_verified: u32,
 ) -> u32
     ensures { result ≢ 1 → result ≡ refusal_number (first_refusal_for (λ _. is_yes is_verified)
-        (authorities_of authorities.now) unix_timestamp wanted.now
+        (authorities_of authorities.now) unix_timestamp principal.now
         (certificate_of certificate.now)) }
 {
     let verification = Verification::of(is_verified);
@@ -166,7 +166,7 @@ fn judge_for(
         alloc,
         certificate,
         unix_timestamp,
-        wanted,
+        principal,
         authorities,
         verification,
     ) {
@@ -190,19 +190,19 @@ fn first_refusal(
     certificate.first_refusal(alloc, unix_timestamp, &given, &verification)
 }
 
-/// What is wrong with the certificate first, where a principal is wanted.
+/// What is wrong with the certificate first, the principal last.
 fn first_refusal_for(
     alloc: Global,
     certificate: &CertificateRef<'_>,
     unix_timestamp: u64,
-    wanted: &str,
+    principal: &str,
     authorities: &[Sha256Digest],
     verification: Verification,
 ) -> Result<Option<CertificateRefusal>>
     ensures { FindsFirst (first_refusal_for (λ _. verification.is_yes)
-        (authorities_of authorities.now) unix_timestamp wanted.now
+        (authorities_of authorities.now) unix_timestamp principal.now
         (certificate_of certificate.now)) result }
 {
     let given = fingerprints(alloc, authorities)?;
-    certificate.first_refusal_for(alloc, unix_timestamp, wanted, &given, &verification)
+    certificate.first_refusal_for(alloc, unix_timestamp, principal, &given, &verification)
 }

@@ -37,7 +37,8 @@ impl KeyOrCertificate {
     /// rejected, and else a key.
     ///
     /// Unless memory runs out, fails only with the error of `Certificate::from_bytes` or of a key's
-    /// reader, as the name says. Allocates only where what the name says does.
+    /// reader, as the name says. Fails with `Memory` only where the reader that the name selects
+    /// needs some.
     pub fn from_bytes(alloc: Global, bytes: &[u8]) -> Result<KeyOrCertificate>
         ensures accepts { AcceptsEither bytes.now result }
         ensures refused { IfErr result (λ e. RefusesEither bytes.now e) }

@@ -81,10 +81,10 @@ impl<'a> TextsRef<'a> {
     }
 
     /// Whether one of the texts has the same bytes as that text.
-    pub fn contains(&self, wanted: &str) -> bool
-        ensures { IsTrue result ↔ Contains (texts_of self.now) wanted.now }
+    pub fn contains(&self, text: &str) -> bool
+        ensures { IsTrue result ↔ Contains (texts_of self.now) text.now }
     {
-        is_listed(self.bytes, wanted.as_bytes())
+        is_listed(self.bytes, text.as_bytes())
     }
 }
 

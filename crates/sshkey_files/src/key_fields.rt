@@ -9,7 +9,7 @@ ghost use Rattle.sshkey_files.specs.KeyFields.{AsksKeyFields, HasKeyFault, Reads
 use crate::blanks::{skip_blanks, split_field};
 use sshkey_base::{Error, Result, encoding};
 use sshkey_keys::KeyData;
-use sshkey_public::{PublicKey, copied, read_word};
+use sshkey_public::{PublicKey, copy_of_text, read_word};
 use std::alloc::Global;
 
 fn is_named(key: &KeyData, name: &str) -> bool
@@ -42,6 +42,6 @@ pub fn read_key_fields(alloc: Global, text: &str) -> Result<PublicKey>
     if !is_named(&key_data, name) {
         return Err(Error::AlgorithmUnknown);
     }
-    let comment = copied(alloc, skip_blanks(behind_key))?;
+    let comment = copy_of_text(alloc, skip_blanks(behind_key))?;
     Ok(PublicKey::new(key_data, comment))
 }

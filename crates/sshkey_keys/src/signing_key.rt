@@ -40,7 +40,8 @@ pub trait SigningKey {
 
     /// A signature of the message, which `KeyData::verify` accepts under the public key by `raw`.
     ///
-    /// An error is one that the signer may refuse that message with.
+    /// It may be asked only for a message that the signer permits. An error is one that the signer
+    /// may refuse that message with.
     fn try_sign(&self, alloc: Global, message: &[u8]) -> Result<Signature>
         requires { permits self.now message.now }
         ensures accepted { IfOk result (λ g. IsAccepted (Self.Raw.accepts (raw_of self.now))

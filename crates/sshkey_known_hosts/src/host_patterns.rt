@@ -19,6 +19,9 @@ use sshkey_files::split_pattern;
 use sshkey_public::is_one_line;
 use std::alloc::Global;
 
+/// The bytes of a salt that OpenSSH takes.
+const SALT_LEN: usize = 20;
+
 /// The hosts of a line (sshd(8), "SSH_KNOWN_HOSTS FILE FORMAT").
 #[derive(Debug, Drop, PartialEq, Eq)]
 pub enum HostPatterns {
@@ -26,8 +29,8 @@ pub enum HostPatterns {
     Patterns(Vec<Text>),
     /// The HMAC-SHA1 of a host's name, with a salt as its key.
     HashedName {
-        /// The salt, the key of the HMAC. OpenSSH draws 20 bytes; any number is read, and with
-        /// another the name is that of no host.
+        /// The salt, the key of the HMAC. OpenSSH draws 20 bytes. Any number is read, but with
+        /// another number the entry is for no host.
         salt: Bytes,
         /// The HMAC-SHA1 of the host's name, 20 bytes.
         hash: [u8; 20],
@@ -118,8 +121,8 @@ impl HostPatterns {
     /// The name that is looked up is the host's in small letters, and at another port than 22 it is
     /// `[host]:port`. In patterns a `*` stands for any characters, a `?` for one, and a letter for
     /// itself in either case: one of them has to match, and none after a `!` (ssh_config(5),
-    /// "PATTERNS"). A hashed name is compared with the HMAC of the name under its salt, which has
-    /// 20 bytes, or else is for no host.
+    /// "PATTERNS"). A hashed name is compared with the HMAC of the name under its salt; one whose
+    /// salt does not have 20 bytes is for no host.
     ///
     /// Of a host at another port ssh(1) asks, where nothing is known of it, about the bare name as
     /// well: that is port 22 here.
@@ -147,7 +150,8 @@ impl HostPatterns {
         match self {
             HostPatterns::Patterns(patterns) => are_named(patterns, name),
             HostPatterns::HashedName { salt, hash } => {
-                salt.as_slice().len() == 20 && hmac.hash(salt.as_slice(), name.as_bytes()) == *hash
+                salt.as_slice().len() == SALT_LEN
+                    && hmac.hash(salt.as_slice(), name.as_bytes()) == *hash
             }
         }
     }

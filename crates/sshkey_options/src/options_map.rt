@@ -60,7 +60,8 @@ impl OptionsMap {
 
     /// A copy of the options. Fails only when out of memory, and never where there are none.
     ///
-    /// A map copies itself through the allocator that it holds.
+    /// `alloc` makes the empty map; one that holds something copies itself through its own
+    /// allocator.
     pub fn try_clone(&self, alloc: Global) -> Result<OptionsMap>
         ensures value { IfOk result (λ m. options_of m ≡ options_of self.now) }
         ensures memory { IfErr result (λ e. e ≡ Error.Memory) }

@@ -11,7 +11,7 @@ mod public_key;
 mod words;
 
 pub use blob::Blob;
-pub use line::{copied, make_line, read_line, read_word, write_line};
+pub use line::{copy_of_text, make_line, read_line, read_word, write_line};
 pub use one_line::{is_one_line, makes_one_line};
 pub use public_key::PublicKey;
 pub use sshkey_base64::Base64Reader;

@@ -34,7 +34,7 @@ pub record IsMade (accepts : Question → Bool) (k : Key) (n message : List ℕ)
 abbrev pub MaySign : {S : Type 0} → (S → List ℕ → Type 0) → (S → KeyData) → S → List ℕ → List ℕ → HashAlg → Type 0
 MaySign permits public_of s n message h = n ≢ [] → is_security_key (key_of (public_of s)) ≡ false → BoxesFit (signed_message n [] (hash_of h) message) → permits s (flat (signed_message n [] (hash_of h) message))
 
--- Why nothing was made: `Length` exactly where the parts do not fit, else memory was refused, or the signer may refuse their bytes so.
+-- Why nothing was made: `Length` where the parts do not fit, else memory was refused, or the signer may refuse their bytes so.
 abbrev pub IsNotMade : (List ℕ → Error → Type 0) → Parts → Error → Type 0
 IsNotMade refuses parts e = ((BoxesFit parts → ⊥) × (e ≡ Encoding Length)) ⊎ (BoxesFit parts × ((e ≡ Memory) ⊎ refuses (flat parts) e))
 

@@ -54,8 +54,8 @@ impl ToBeSigned {
 
     /// The bytes that the signature is over, newly allocated.
     ///
-    /// Fails with `Length` exactly if a string in them would exceed 2^32 - 1 bytes, and otherwise only
-    /// when out of memory.
+    /// Fails with `Length` exactly if a string in them would exceed 2^32 - 1 bytes, and otherwise
+    /// only when out of memory.
     pub fn signed_bytes(&self, alloc: Global) -> Result<Vec<u8>>
         ensures { MakesBlob (normal_to_be_signed (to_be_signed_of self.now)) result }
     {

@@ -29,8 +29,8 @@ impl Builder {
     ///
     /// Fails with `CertificateFieldInvalid(Field::ValidPrincipals)` if no principal was named and
     /// not all were made valid, whatever memory there is. Else, unless memory runs out, with
-    /// `Length` if the bytes to be signed do not fit. In these cases the signer is not asked.
-    /// Otherwise fails with the signer's own error.
+    /// `Length` if the bytes to be signed do not fit. In these cases the signer is not asked. Any
+    /// other failure is `Memory` or the signer's own error.
     pub fn sign<S: SigningKey>(self, alloc: Global, signing_key: &S) -> Result<Certificate>
         requires permits { MaySign S.permits S.public_of signing_key.now self }
         ensures unnamed { IsNone (draft_of self).valid_principals → result ≡ Err no_principals }

@@ -72,8 +72,8 @@ impl Certificate {
     /// The line of the certificate's normal form, newly allocated. Its comment may hold line ends:
     /// if `is_one_line` returns false, it is more than one line of a file.
     ///
-    /// Fails with `Length` exactly if a string in it would exceed 2^32 - 1 bytes, and otherwise only
-    /// when out of memory.
+    /// Fails with `Length` exactly if a string in it would exceed 2^32 - 1 bytes, and otherwise
+    /// only when out of memory.
     pub fn to_openssh(&self, alloc: Global) -> Result<String>
         ensures { MakesLine (name_of_certificate (certificate_of self.now))
             (normal_certificate (certificate_of self.now)) (comment_of self.now) result }

@@ -19,9 +19,9 @@ use std::alloc::Global;
 impl Certificate {
     /// The certificate of these fields, with the signer's signature and that comment.
     ///
-    /// Fails with `Length` exactly if a string in the bytes to be signed would exceed 2^32 - 1
-    /// bytes, and then the signer is not asked. Otherwise fails with `Memory` if it ran out, or
-    /// with an error of the signer's own.
+    /// Fails with `Length` if a string in the bytes to be signed would exceed 2^32 - 1 bytes, and
+    /// then the signer is not asked. Any other failure is `Memory`, or an error of the signer's
+    /// own.
     pub fn sign<S: SigningKey>(
         alloc: Global,
         fields: ToBeSigned,

@@ -19,9 +19,9 @@ impl SshSig {
     ///
     /// Fails with `Namespace` exactly if the namespace is empty. Else with `AlgorithmUnsupported`
     /// and the key's algorithm exactly if a security key holds the signer's key, since such a key
-    /// signs in another way. Else with `Length` exactly if the namespace is longer than 2^32 - 1
-    /// bytes. In these cases the signer is not asked. Otherwise fails with `Memory` if it ran out,
-    /// and with the signer's own errors for the bytes that are signed.
+    /// signs in another way. Else with `Length` if the namespace is longer than 2^32 - 1 bytes. In
+    /// these cases the signer is not asked. Any other failure is `Memory`, or the signer's own
+    /// error for the bytes that are signed.
     pub fn sign<S: SigningKey>(
         alloc: Global,
         signer: &S,

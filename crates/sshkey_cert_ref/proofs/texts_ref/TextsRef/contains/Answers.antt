@@ -7,6 +7,6 @@ use Rattle.sshkey_cert_ref.proofs.texts_ref.TextsRef.contains.Goals as goal
 pub returns : goal.returns
 returns c =
     let ts = texts_of c.args.self.now in
-    let w = c.args.wanted.now in
+    let w = c.args.text.now in
     let answer : c.is_listed.result ≡ list_any (bytes_eq w) ts = rw c.as_bytes.ensures.value at c.is_listed.ensures in
     (λ yes_. contained bytes_eq same_bytes w ts (sym answer ∙ yes_), λ has. answer ∙ found bytes_eq same_bytes w ts has)
