@@ -133,6 +133,8 @@ impl<A: Agent, V: RawVerifier> SigningKey for AgentKey<'_, A, V> {
     /// Fails with `Crypto` where the agent answers none that the verifier accepts, or a string of
     /// the request is too long, and else only when out of memory.
     fn try_sign(&self, alloc: Global, message: &[u8]) -> Result<Signature>
+        requires { A.permits self.now.agent.now
+            (flat (signing_request (key_of self.now.key) self.now.flags message.now)) }
         ensures accepted { IfOk result (λ g. IsAccepted (V.accepts self.now.verifier.now)
             (key_of self.now.key) message.now (signature_of g)) }
         ensures refused { IfErr result (RefusesToSign (A.answers self.now.agent.now)

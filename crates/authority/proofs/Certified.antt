@@ -37,8 +37,8 @@ names_some (n ∷ names) some = λ none. absurd cc
 
 pub permitted : (permits : List ℕ → Type 0) (authority : Key) (r : Request) (serial : ℕ) (nonce : List ℕ) (d : Draft) → d ≡ draft_for nonce (key_of r.key) serial (string_bytes r.key_id) (names_of r) r.valid_after r.valid_before → (names_of r ≢ [] → PermitsToSign permits (fields_for r serial nonce authority)) → IsSome d.valid_principals → PermitsToSign permits (drafted d authority)
 permitted permits authority r serial nonce d is may some =
-    let named = names_some (names_of r) (rw (← is) some) in
-    rw is (subst (PermitsToSign permits) (sym (signed_fields nonce (key_of r.key) serial (string_bytes r.key_id) (names_of r) r.valid_after r.valid_before authority named)) (may named))
+    let named = names_some (names_of r) (subst (λ (x : Draft). IsSome x.valid_principals) is some) in
+    subst (λ (x : Draft). PermitsToSign permits (drafted x authority)) (sym is) (subst (PermitsToSign permits) (sym (signed_fields nonce (key_of r.key) serial (string_bytes r.key_id) (names_of r) r.valid_after r.valid_before authority named)) (may named))
 
 -- ---- signed
 
