@@ -1,4 +1,5 @@
 use Rattle.std.proofs.lemmas.Result.{err_from_is_err_and}
+use Rattle.ssh_key.specs.keys.Keys.{key_of}
 use Rattle.authority.proofs.Certified.{certified, key_id_is_taken, no_bad_window, permitted, serial_is_taken}
 use Rattle.authority.proofs.Drafts.{numbered, told}
 use Rattle.authority.proofs.certify.certify.Goals as goal
@@ -27,7 +28,7 @@ returns-in_err-add_principals g c =
 pub sign-requires : goal.sign-requires
 sign-requires g c =
     let is = told _ _ _ _ _ _ _ _ _ _ _ c.in_ok-builder.ensures.1 c.in_ok-set_serial.ensures c.in_ok-set_key_id.ensures c.in_ok-add_principals.ensures in
-    record { permits = permitted (g.S.SigningKey.permits c.args.signer.now) _ c.args.request _ _ _ is (c.requires c.in_ok-builder.ensures.0) }
+    record { permits = permitted (g.S.SigningKey.permits c.args.signer.now) (key_of (g.S.SigningKey.public_of c.args.signer.now)) c.args.request _ _ _ is (c.requires c.in_ok-builder.ensures.0) }
 
 pub returns : goal.returns
 returns g c =
