@@ -4,9 +4,7 @@ pub use sshkey_base::encoding::{Error, Result};
 pub use sshkey_base::{
     Bytes, Decode, Encode, Label, LabelError, NestedReader, NormalForm, Reader, Refusal,
     ShortBytes, SliceWriter, Text, Writer, array_from, both_len, decode_boxed, decode_front,
-    decode_whole, encode_both, encode_list, encode_string, encode_vec, length_from, list_len,
-    string_len, u32_of,
+    decode_whole, each_len, encode_both, encode_each, encode_list, encode_string, encode_vec,
+    length_from, list_len, string_len, u32_of,
 };
-pub use sshkey_format::{
-    Boxed, Counted, Then, Wide, counted_len, decode_each, each_len, encode_counted, encode_each,
-};
+pub use sshkey_format::{Boxed, Counted, Then, Wide, counted_len, decode_each, encode_counted};

@@ -12,7 +12,7 @@ use Rattle.sshkey_base.specs.declared.encoding.Error.TheVariants as encoding
 use Rattle.sshkey_base.specs.Causes.{Cause, NoMemory, Faulty, encoding_cause}
 use Rattle.sshkey_base.specs.Source.{Outer, Source, IsSound, announced_len, part}
 use Rattle.sshkey_base.specs.Reading.{Reads, Refuses, IsRefused, Gives, GivesAlways}
-use Rattle.sshkey_base.specs.Needs.{Asks, NeedsString, NeedsBoxed}
+use Rattle.sshkey_base.specs.Needs.{Asks, HasString, NeedsBoxed}
 use Rattle.sshkey_base.specs.Stops.{OverrunsString, OverrunsBoxed, AreLengths, RanOut, Stopped, StopsBy, StopsToEnd}
 use Rattle.sshkey_base.specs.Nested.{ReadsBy, AsksBy, Calls, Past, Trails, Finishes, NoLength, Prefixed}
 use Rattle.sshkey_base.proofs.Judging.{only_memory}
@@ -127,7 +127,7 @@ module _ {Y : Type 0} (read : Front Y) where
         absurd cc
 
   -- of a value that is read to the end
-  box_stopped_to_end : (overruns : List ℕ → ℕ → Type 0) (c : Cause) (s t : Source) (n name : ℕ) → Reads (λ k. k) (number_at w32) s n t → n ≤ announced_len t → IsRefused (n - length t.left) c (read (take n t.left)) → (overruns (take n t.left) (n - length t.left) → (c ≡ Faulty Length) ⊎ (c ≡ NoMemory)) → Stopped c (box_at (whole read)) NeedsString (OverrunsBoxed overruns) s
+  box_stopped_to_end : (overruns : List ℕ → ℕ → Type 0) (c : Cause) (s t : Source) (n name : ℕ) → Reads (λ k. k) (number_at w32) s n t → n ≤ announced_len t → IsRefused (n - length t.left) c (read (take n t.left)) → (overruns (take n t.left) (n - length t.left) → (c ≡ Faulty Length) ⊎ (c ≡ NoMemory)) → Stopped c (box_at (whole read)) HasString (OverrunsBoxed overruns) s
   unfolding box_at
   box_stopped_to_end overruns c s t n name a le k past = record {
     takes = λ ok. elim (cases_lt (length t.left) n) [
@@ -139,10 +139,10 @@ module _ {Y : Type 0} (read : Front Y) where
     past = go;
   }
     where
-      ran : c ≡ NoMemory → RanOut c NeedsString s
+      ran : c ≡ NoMemory → RanOut c HasString s
       ran memory = record { memory = memory; needed = rw (a.value, ← a.missing) le }
 
-      go : OverrunsBoxed overruns s.left s.missing → (c ≡ Faulty Length) ⊎ RanOut c NeedsString s
+      go : OverrunsBoxed overruns s.left s.missing → (c ≡ Faulty Length) ⊎ RanOut c HasString s
       go (inl o) = absurd (within_not n s t a le o)
       go (inr o) =
           let i : (n ≤ length t.left + s.missing) × overruns (take n t.left) (n - length t.left) = rw a.value at o in
@@ -255,9 +255,9 @@ module _ {F N T E Y : Type 0} (call : Once F (MutBor N × Unit {0}) (Result T E 
   StopsInsideToEnd overruns = (p q : MutBor N) (r : Result T E) → call.post f (p, tt) (r, (q, tt)) → StopsToEnd cause overruns (source p.now) r
 
   module _ (overruns : List ℕ → ℕ → Type 0) (never : AreLengths read overruns) (by : ReadsBy call source cause f means read) (stops : StopsInsideToEnd overruns) where
-    pub prefixed_stops_to_end : (s u : Source) (r : Result T E) → Prefixed call source from_gives f s r u → StopsBy cause (box_at (whole read)) NeedsString (OverrunsBoxed overruns) s r
+    pub prefixed_stops_to_end : (s u : Source) (r : Result T E) → Prefixed call source from_gives f s r u → StopsBy cause (box_at (whole read)) HasString (OverrunsBoxed overruns) s r
     prefixed_stops_to_end s u (Ok x) h = tt
-    prefixed_stops_to_end s u (Err e) (inl h) = refused_stopped _ _ _ _ s (of_length by s e h) (λ o. no_length read NeedsString overruns s _ h.refused o)
+    prefixed_stops_to_end s u (Err e) (inl h) = refused_stopped _ _ _ _ s (of_length by s e h) (λ o. no_length read HasString overruns s _ h.refused o)
     prefixed_stops_to_end s u (Err e) (inr (inl h)) = refused_stopped _ _ _ _ s (of_past by s e h) (λ o. keeps encoding.Length e h.is)
     prefixed_stops_to_end s u (Err e) (inr (inr (inl h))) =
         let g : IsRefused (part h.name h.len h.after).missing (cause e) (read (part h.name h.len h.after).left) = rw h.starts at (by h.given h.left (Err e) h.met) in
@@ -266,6 +266,6 @@ module _ {F N T E Y : Type 0} (call : Once F (MutBor N × Unit {0}) (Result T E 
     prefixed_stops_to_end s u (Err e) (inr (inr (inr h))) =
         let c = h.calls in
         let g : Reads means read (part c.name c.len c.after) h.value (part h.other h.rest h.now) = rw (c.starts, h.ends) at (by c.given c.left (Ok h.value) c.met) in
-        refused_stopped _ _ _ _ s (of_trails by s e h) (λ o. took read NeedsString overruns means s c.after c.len c.name h.other h.rest h.now h.value never c.number c.within g o)
+        refused_stopped _ _ _ _ s (of_trails by s e h) (λ o. took read HasString overruns means s c.after c.len c.name h.other h.rest h.now h.value never c.number c.within g o)
 
 pub ruleset boxes = (prefixed_asks, prefixed_gives, prefixed_gives_always, prefixed_stops_always, gives_sound)

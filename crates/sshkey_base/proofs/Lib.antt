@@ -5,6 +5,7 @@ pub mod Stopping
 pub mod Places
 pub mod Lending
 pub mod Boxes
+pub mod FilledBoxes
 pub mod Accepted
 pub mod Acceptance
 pub mod BoxGrammars

@@ -9,7 +9,7 @@ use Rattle.sshkey_model.specs.Reading.{Fault, Length, ◌>>=◌, Front, number_a
 use Rattle.sshkey_base.specs.declared.encoding.Error.{Error}
 use Rattle.sshkey_base.specs.Causes.{Cause, NoMemory, encoding_cause}
 use Rattle.sshkey_base.specs.Source.{Source, IsSound, Advances, TooFew}
-use Rattle.sshkey_base.specs.Needs.{Asks, NeedsString, NeedsThen}
+use Rattle.sshkey_base.specs.Needs.{Asks, HasString, NeedsBytes, NeedsString, NeedsThen}
 use Rattle.sshkey_base.specs.Reading.{Reads, Refuses, IsRefused, Gives, GivesAlways}
 use Rattle.sshkey_base.proofs.Places.{later_none, later_then}
 
@@ -40,10 +40,10 @@ gives_sound means cause read s t (Err e) h = refuses_sound _ _ _ h
 pub never_asks : {A : Type 0} {X : Type 0} (m : ℕ) (c : Cause) (r : Result A Fault) → Refuses m c r → c ≡ NoMemory → m ≡ 0 → X
 never_asks m c r h memory sound = let f = h.same sound in absurd cc
 
-pub asks_number : (s t : Source) (n : ℕ) → Reads (λ k. k) (number_at w32) s n t → n ≤ length t.left + t.missing → NeedsString s.left s.missing
+pub asks_number : (s t : Source) (n : ℕ) → Reads (λ k. k) (number_at w32) s n t → NeedsBytes n t.left t.missing → NeedsString s.left s.missing
 asks_number s t n h le = rw (h.value, ← h.missing) le
 
-pub asks_string : (s t : Source) (n : ℕ) (c : Cause) → Reads (λ k. k) (number_at w32) s n t → (c ≡ NoMemory → IsSound t → n ≤ length t.left + t.missing) → c ≡ NoMemory → IsSound s → NeedsString s.left s.missing
+pub asks_string : (s t : Source) (n : ℕ) (c : Cause) → Reads (λ k. k) (number_at w32) s n t → (c ≡ NoMemory → IsSound t → NeedsBytes n t.left t.missing) → c ≡ NoMemory → IsSound s → NeedsString s.left s.missing
 asks_string s t n c h asks memory sound = asks_number s t n h (asks memory (h.missing ∙ sound))
 
 pub asks_first : {A : Type 0} (first : List ℕ → ℕ → Type 0) (second : A → List ℕ → ℕ → Type 0) (read : Front A) (s : Source) (c : Cause) → (c ≡ NoMemory → IsSound s → first s.left s.missing) → c ≡ NoMemory → IsSound s → NeedsThen first read second s.left s.missing
@@ -55,7 +55,7 @@ asks_later means first second read s t x c a h memory sound = inr (rw (a.value, 
 pub ruleset steps = (never_asks, asks_string, asks_first, asks_later, refused_first, refused_later, refuses_first, refuses_later, refuses_sound, gives_sound, later_none, later_then)
 
 -- a string that was read stood whole at the front
-pub string_stood : {X : Type 0} (means : X → List ℕ) (s t : Source) (x : X) → Reads means string_at s x t → NeedsString s.left s.missing
+pub string_stood : {X : Type 0} (means : X → List ℕ) (s t : Source) (x : X) → Reads means string_at s x t → HasString s.left s.missing
 unfolding string_at bytes_at
 string_stood {X} means s t x h = go (number_at w32 s.left) h.value
   where

@@ -8,7 +8,7 @@ use Rattle.sshkey_model.specs.Reading.{Front, Whole, whole, bytes_at, number_at,
 use Rattle.sshkey_model.specs.Grammar.{IsGrammar, Spells, Checks}
 use Rattle.sshkey_base.specs.Causes.{Cause}
 use Rattle.sshkey_base.specs.Source.{Source}
-use Rattle.sshkey_base.specs.Needs.{NoNeed, NeedsString}
+use Rattle.sshkey_base.specs.Needs.{NoNeed, NeedsBoxed, NeedsString, HasByte}
 use Rattle.sshkey_base.specs.Stops.{NoOverrun, OverrunsString, OverrunsBoxed, OverrunsList, AreLengths, StopsBy}
 use Rattle.sshkey_base.specs.Lengths.{no_lengths, string_lengths, box_lengths, short_lengths, text_lengths, mpint_lengths, label_lengths, texts_lengths}
 use Rattle.sshkey_base.specs.Leaves.{SpellsByte, SpellsNumber32, SpellsNumber64, SpellsString, SpellsArray, SpellsMpint, byte_grammar, number32_grammar, number64_grammar, string_grammar, array_grammar, mpint_grammar}
@@ -67,7 +67,7 @@ mpint_format = record { Spells = SpellsMpint; read = mpint_at; needs = NeedsStri
 
 -- texts up to the end of a string
 abbrev pub texts_format : Format (List (List ℕ))
-texts_format = record { Spells = SpellsTexts; read = texts_at; needs = NeedsString; overruns = OverrunsBoxed (OverrunsList (λ before. text_at) OverrunsString); grammar = texts_grammar; lengths = texts_lengths }
+texts_format = record { Spells = SpellsTexts; read = texts_at; needs = NeedsBoxed HasByte; overruns = OverrunsBoxed (OverrunsList (λ before. text_at) OverrunsString); grammar = texts_grammar; lengths = texts_lengths }
 
 -- a name, of which `needs` says where its value keeps memory
 abbrev pub label_format : {N : Type 0} {Is : N → Type 0} {name : N → List ℕ} {named : Whole N} → (List ℕ → ℕ → Type 0) → Checks Any bytes Is (λ n. bytes (name n)) named → Format N

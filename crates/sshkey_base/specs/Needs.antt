@@ -1,5 +1,5 @@
 -- What memory may be asked for by a reading call.
-use Rattle.std.specs.Prelude.{◌≡◌, ◌≤◌, ◌+◌, ◌-◌, ℕ, List, length, take, IsOkAnd, Result, Ok, Err, ◌⊎◌}
+use Rattle.std.specs.Prelude.{◌≡◌, ◌≤◌, ◌<◌, ◌+◌, ◌-◌, ℕ, List, length, take, IsOkAnd, Result, Ok, Err, ◌⊎◌}
 use Rattle.std.specs.Int.{w32}
 use Rattle.sshkey_model.specs.Reading.{Front, number_at}
 use Rattle.sshkey_base.specs.Causes.{Cause, NoMemory}
@@ -12,12 +12,20 @@ abbrev pub NoNeed : List ℕ → ℕ → Type 0
 NoNeed b m = ⊥
 
 -- A string stands at the front that is no longer than was announced.
-abbrev pub NeedsString : List ℕ → ℕ → Type 0
-NeedsString b m = IsOkAnd (number_at w32 b) (λ x. x.0 ≤ length x.1 + m)
+abbrev pub HasString : List ℕ → ℕ → Type 0
+HasString b m = IsOkAnd (number_at w32 b) (λ x. x.0 ≤ length x.1 + m)
 
--- So do n bytes.
+-- n bytes, of which there is one, are no more than was announced.
 abbrev pub NeedsBytes : ℕ → List ℕ → ℕ → Type 0
-NeedsBytes n b m = n ≤ length b + m
+NeedsBytes n b m = (0 < n) × (n ≤ length b + m)
+
+-- Such a string stands at the front: one of no bytes needs no memory.
+abbrev pub NeedsString : List ℕ → ℕ → Type 0
+NeedsString b m = IsOkAnd (number_at w32 b) (λ x. NeedsBytes x.0 x.1 m)
+
+-- A byte is left: so values up to the end have a first one.
+abbrev pub HasByte : List ℕ → ℕ → Type 0
+HasByte b m = 0 < length b + m
 
 -- What the first value needs, or the second behind it, which may depend on the first.
 abbrev pub NeedsThen : {A : Type 0} → (List ℕ → ℕ → Type 0) → Front A → (A → List ℕ → ℕ → Type 0) → List ℕ → ℕ → Type 0

@@ -60,6 +60,11 @@ abbrev pub StopsToEnd : {X E : Type 0} → (E → Cause) → (overruns : List �
 StopsToEnd cause overruns s (Ok x) = Unit {0}
 StopsToEnd cause overruns s (Err e) = overruns s.left s.missing → (cause e ≡ Faulty Length) ⊎ (cause e ≡ NoMemory)
 
+-- What is said of a refusal where a length passes alone: it is `Length`, unless memory ran out for a value before it.
+abbrev pub StopsPast : {X E : Type 0} → (E → Cause) → (needs overruns : List ℕ → ℕ → Type 0) → Source → Result X E → Type 0
+StopsPast cause needs overruns s (Ok x) = Unit {0}
+StopsPast cause needs overruns s (Err e) = overruns s.left s.missing → (cause e ≡ Faulty Length) ⊎ RanOut (cause e) needs s
+
 -- a call, whatever source it reads
 abbrev pub StopsBy : {X Y E : Type 0} → (E → Cause) → Front Y → (needs overruns : List ℕ → ℕ → Type 0) → Source → Result X E → Type 0
 StopsBy cause read needs overruns s (Ok x) = Unit {0}

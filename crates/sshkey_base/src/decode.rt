@@ -5,7 +5,7 @@ ghost use Rattle.std.specs.Int.{w8, w32, w64};
 ghost use Rattle.sshkey_model.specs.Reading.{whole, bytes_at, number_at, box_at};
 ghost use Rattle.sshkey_base.specs.Reading.{Decodes, DecodesAlways, AcceptsFront, AcceptsWhole, SpellsBoxed, Gives, GivesWhole};
 ghost use Rattle.sshkey_base.specs.Formats.{Format, Stops, byte_format, number32_format, number64_format, array_format};
-ghost use Rattle.sshkey_base.specs.Stops.{StopsBy, OverrunsBoxed};
+ghost use Rattle.sshkey_base.specs.Stops.{StopsBy, StopsPast, OverrunsBoxed};
 ghost use Rattle.sshkey_base.specs.Causes.{encoding_cause};
 ghost use Rattle.sshkey_base.specs.Nested.{nested_source};
 ghost use Rattle.sshkey_base.specs.Needs.{Asks, NeedsBoxed, NoNeed};
@@ -198,7 +198,8 @@ pub fn decode_front<T: Decode, R: Reader>(alloc: Global, reader: &mut R) -> Resu
 /// Unless memory runs out, a sound source is accepted exactly if all its bytes together spell a
 /// value, which is then returned. Fails with `TrailingData` and the number of bytes after a value,
 /// and with `Length` for a stated length that exceeds what is left, for which nothing is allocated.
-/// A source with a fault is never accepted.
+/// A source with a fault is never accepted; a stated length that exceeds all that was announced
+/// fails with `Length` there too, unless memory ran out for a value before it.
 pub fn decode_whole<T: Decode + Drop, R: Reader + Drop>(
     alloc: Global,
     mut reader: R,
@@ -206,6 +207,8 @@ pub fn decode_whole<T: Decode + Drop, R: Reader + Drop>(
     ensures gives { GivesWhole T.means T.Error.cause
         (whole T.format.read) (R.source reader) result }
     ensures asks { Asks T.Error.cause T.format.needs (R.source reader) result }
+    ensures past { StopsPast T.Error.cause T.format.needs T.format.overruns
+        (R.source reader) result }
     ensures accepts { AcceptsWhole T.means T.format.Spells T.Error.cause (R.source reader) result }
 {
     let value = T::decode(alloc, &mut reader)?;

@@ -20,7 +20,7 @@ pub trait Encode {
     /// No value that fits has more bytes.
     ghost max_len: { ℕ };
 
-    /// How many bytes the normal form has. Fails with `Length` exactly if a box in it would exceed
+    /// How many bytes the normal form has. Fails with `Length` exactly if a string in it would exceed
     /// 2^32 - 1 bytes. Does not allocate.
     fn encoded_len(&self) -> Result<usize>
         ensures measures { Measures (normal self.now) result }
@@ -28,14 +28,14 @@ pub trait Encode {
 
     /// Writes the bytes of the normal form.
     ///
-    /// Fails with `Length` if a box in it would exceed 2^32 - 1 bytes; any other error is the
+    /// Fails with `Length` if a string in it would exceed 2^32 - 1 bytes; any other error is the
     /// writer's own. After an error the writer holds what it held before, and a prefix of the
     /// bytes. Does not allocate by itself.
     fn encode<W: Writer>(&self, writer: &mut W) -> Result<()>
         ensures { Encodes W.fault (normal self.now)
             (W.sink writer.old) result (W.sink writer.new) };
 
-    /// How many bytes the value has after its length. Fails with `Length` exactly if it or a box in
+    /// How many bytes the value has after its length. Fails with `Length` exactly if it or a string in
     /// it would exceed 2^32 - 1 bytes. Does not allocate.
     final fn encoded_len_prefixed(&self) -> Result<usize>
     where
@@ -92,7 +92,7 @@ pub fn string_len(bytes: &[u8]) -> Result<usize>
     Ok(4 + len as usize)
 }
 
-/// How many bytes two values have, one after the other. Fails with `Length` exactly if a box in one
+/// How many bytes two values have, one after the other. Fails with `Length` exactly if a string in one
 /// of them would exceed 2^32 - 1 bytes. Does not allocate.
 #[tactic(auto, using(crate::proofs::Writing::measuring))]
 pub fn both_len<A: Encode, B: Encode>(first: &A, second: &B) -> Result<usize>
@@ -119,7 +119,7 @@ pub fn encode_both<A: Encode, B: Encode, W: Writer>(
 
 /// The bytes of the normal form, newly allocated.
 ///
-/// Fails with `Length` exactly if a box in it would exceed 2^32 - 1 bytes, and otherwise only when
+/// Fails with `Length` exactly if a string in it would exceed 2^32 - 1 bytes, and otherwise only when
 /// out of memory.
 pub fn encode_vec<T: Encode>(alloc: Global, value: &T) -> Result<Vec<u8>>
     ensures { MakesBytes (T.normal value.now) result }

@@ -32,7 +32,7 @@ pub use error::{Error, Result};
 pub use hexadecimal::{write_lower_hex, write_upper_hex};
 pub use label::Label;
 pub use label_error::LabelError;
-pub use list::{encode_list, list_len};
+pub use list::{each_len, encode_each, encode_list, list_len};
 pub use mpint::Mpint;
 pub use normal_form::NormalForm;
 pub use reader::{NestedReader, Reader, array_from, length_from};

@@ -1,4 +1,4 @@
-//! Lists of values, all of them in one box.
+//! Lists of values, all of them in one string.
 
 ghost use Rattle.std.specs.Prelude.{◌≡◌, ◌+◌, ◌<◌, ◌^◌, ℕ, List, IfOk};
 ghost use Rattle.sshkey_model.specs.Parts.{box, each};
@@ -6,10 +6,10 @@ ghost use Rattle.sshkey_model.specs.Texts.{texts, text_at, texts_at};
 ghost use Rattle.sshkey_base.specs.Causes.{encoding_cause};
 ghost use Rattle.sshkey_base.specs.Formats.{Stops, texts_format};
 ghost use Rattle.sshkey_base.specs.Nested.{nested_source};
-ghost use Rattle.sshkey_base.specs.Needs.{Asks, NeedsString};
+ghost use Rattle.sshkey_base.specs.Needs.{Asks, NeedsBoxed, HasByte};
 ghost use Rattle.sshkey_base.specs.Reading.{Decodes, to_end};
 ghost use Rattle.sshkey_base.specs.Source.{Later};
-ghost use Rattle.sshkey_base.specs.Stops.{OverrunsList, OverrunsString, StopsToEnd};
+ghost use Rattle.sshkey_base.specs.Stops.{OverrunsList, OverrunsString, StopsPast};
 ghost use Rattle.sshkey_base.specs.Sink.{Encodes, Measures, MeasuresBoxed};
 ghost use Rattle.sshkey_base.specs.TextLists.{texts_of, text_list_at, texts_normal};
 
@@ -21,9 +21,9 @@ use crate::reader::{NestedReader, Reader};
 use crate::writer::Writer;
 use std::alloc::Global;
 
-/// How many bytes the values have, one after the other. Fails with `Length` exactly if a box can't
-/// hold them, or a box in one of them is too long.
-fn each_len<T: Encode>(values: &[T]) -> Result<u32>
+/// How many bytes the values have, one after the other. Fails with `Length` exactly if a string
+/// can't hold them, or a string in one of them is too long. Does not allocate.
+pub fn each_len<T: Encode>(values: &[T]) -> Result<u32>
     ensures { MeasuresBoxed (each T.normal values.now) result }
 {
     let mut len = 0;
@@ -34,8 +34,9 @@ fn each_len<T: Encode>(values: &[T]) -> Result<u32>
     Ok(len)
 }
 
-/// Writes the values, one after the other.
-fn encode_each<T: Encode, W: Writer>(values: &[T], writer: &mut W) -> Result<()>
+/// Writes the values, one after the other, without a length before them. Fails as writing them
+/// does.
+pub fn encode_each<T: Encode, W: Writer>(values: &[T], writer: &mut W) -> Result<()>
     ensures { Encodes W.fault (each T.normal values.now)
         (W.sink writer.old) result (W.sink writer.new) }
 {
@@ -47,7 +48,7 @@ fn encode_each<T: Encode, W: Writer>(values: &[T], writer: &mut W) -> Result<()>
 
 /// How many bytes a list has: a length of four bytes, and the values, one after the other.
 ///
-/// Fails with `Length` exactly if the values exceed 2^32 - 1 bytes, or a box in one of them does.
+/// Fails with `Length` exactly if the values exceed 2^32 - 1 bytes, or a string in one of them does.
 /// Does not allocate.
 pub fn list_len<T: Encode>(values: &[T]) -> Result<usize>
     ensures measures { Measures (box (each T.normal values.now)) result }
@@ -73,8 +74,9 @@ pub fn encode_list<T: Encode, W: Writer>(values: &[T], writer: &mut W) -> Result
 fn texts_from<R: Reader>(alloc: Global, reader: &mut R) -> Result<Vec<String>>
     ensures gives { Decodes texts_of (to_end text_list_at) R.source reader.old result reader.new }
     ensures later { Later (R.source reader.old) (R.source reader.new) }
-    ensures past { StopsToEnd encoding_cause (OverrunsList (λ before. text_at) OverrunsString)
-        (R.source reader.old) result }
+    ensures asks { Asks encoding_cause HasByte (R.source reader.old) result }
+    ensures past { StopsPast encoding_cause HasByte
+        (OverrunsList (λ before. text_at) OverrunsString) (R.source reader.old) result }
 {
     let mut texts = Vec::new(alloc);
     'reads: while !reader.is_finished() {
@@ -102,7 +104,8 @@ impl Decode for Vec<String> {
     fn decode<R: Reader>(alloc: Global, reader: &mut R) -> Result<Vec<String>>
         ensures gives { Decodes texts_of texts_at R.source reader.old result reader.new }
         ensures later { Later (R.source reader.old) (R.source reader.new) }
-        ensures asks { Asks encoding_cause NeedsString (R.source reader.old) result }
+        ensures asks { Asks encoding_cause (NeedsBoxed HasByte)
+            (R.source reader.old) result }
         ensures past { Stops encoding_cause texts_format (R.source reader.old) result }
     {
         reader.read_prefixed(
@@ -111,7 +114,9 @@ impl Decode for Vec<String> {
                     (nested_source R.source) part.old result part.new }
                 ensures later { Later (nested_source R.source part.old)
                     (nested_source R.source part.new) }
-                ensures past { StopsToEnd encoding_cause
+                ensures asks { Asks encoding_cause HasByte
+                    (nested_source R.source part.old) result }
+                ensures past { StopsPast encoding_cause HasByte
                     (OverrunsList (λ before. text_at) OverrunsString)
                     (nested_source R.source part.old) result }
             { texts_from(alloc, part) },
@@ -119,7 +124,7 @@ impl Decode for Vec<String> {
     }
 }
 
-/// A list of texts in one box.
+/// A list of texts in one string.
 impl Encode for Vec<String> {
     ghost normal = { λ v. texts (texts_of v) };
 

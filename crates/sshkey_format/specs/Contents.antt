@@ -11,7 +11,7 @@ use Rattle.sshkey_base.specs.Lengths.{boxed_lengths, checked_lengths, to_end_len
 use Rattle.sshkey_base.specs.Needs.{NeedsBoxed, NeedsThen}
 use Rattle.sshkey_base.specs.Reading.{SpellsBoxed, to_end}
 use Rattle.sshkey_base.specs.Source.{Source}
-use Rattle.sshkey_base.specs.Stops.{AreLengths, OverrunsBoxed, OverrunsList, OverrunsThen, RanOut}
+use Rattle.sshkey_base.specs.Stops.{AreLengths, OverrunsBoxed, OverrunsList, OverrunsThen, StopsPast}
 use Rattle.sshkey_format.specs.Counted.{SpellsEach}
 use Rattle.sshkey_format.specs.Behind.{SpellsThen, behind_at}
 use Rattle.sshkey_format.specs.Terms.{then_lengths}
@@ -35,14 +35,9 @@ pub record Contents (A : Type 0) : Type 1 where
   pub grammar : IsWhole Spells read
   pub lengths : AreLengths read overruns
 
--- How a call refuses that reads to the end: a length that passes all that was announced is `Length`, unless memory ran out
--- for a value before it.
-abbrev pub StopsInBy : {X E : Type 0} → (E → Cause) → (needs overruns : List ℕ → ℕ → Type 0) → Source → Result X E → Type 0
-StopsInBy cause needs overruns s (Ok x) = Unit {0}
-StopsInBy cause needs overruns s (Err e) = overruns s.left s.missing → (cause e ≡ Faulty Length) ⊎ RanOut (cause e) needs s
-
+-- How a call refuses that reads to the end.
 abbrev pub StopsIn : {X Y E : Type 0} → (E → Cause) → Contents Y → Source → Result X E → Type 0
-StopsIn cause c = StopsInBy cause c.needs c.overruns
+StopsIn cause c = StopsPast cause c.needs c.overruns
 
 -- Each spelling of such a value has a byte.
 abbrev pub HasBytes : {A : Type 0} → Format A → Type 0

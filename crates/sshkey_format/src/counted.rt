@@ -9,4 +9,4 @@ mod write;
 
 pub use read::Counted;
 pub use to_end::decode_each;
-pub use write::{counted_len, each_len, encode_counted, encode_each};
+pub use write::{counted_len, encode_counted};

@@ -2,19 +2,17 @@
 //! of a slice (RFC 4251, section 5).
 
 ghost use Rattle.std.specs.Prelude.{ℕ, List};
-ghost use Rattle.sshkey_base.specs.Answers.{AnswersAlways};
 ghost use Rattle.sshkey_base.specs.Causes.{encoding_cause};
 ghost use Rattle.sshkey_base.specs.Formats.{array_format, number32_format, number64_format, string_format, text_format};
 ghost use Rattle.sshkey_base.specs.Nested.{nested_source};
 ghost use Rattle.sshkey_base.specs.Reading.{DecodesAlways, GivesAlways};
 ghost use Rattle.sshkey_base.specs.Source.{Later, all_of};
 ghost use Rattle.sshkey_model.specs.Reading.{bytes_at};
-ghost use Rattle.sshkey_model.specs.Texts.{text_from};
 
 use crate::read_from::ReadFrom;
+use crate::split::{split_bytes, text_of};
 use sshkey_base::encoding::{Error, Result};
 use sshkey_base::{NestedReader, Reader, array_from, length_from};
-use std::str;
 
 /// A number of four bytes, most significant first. Fails with `Length` if fewer are left.
 #[tactic(auto, using(sshkey_base::proofs::Steps::steps), unfolding(sshkey_model::specs::Reading::number_at))]
@@ -117,25 +115,4 @@ pub fn bytes_from<'a>(len: usize, bytes: &mut &'a [u8]) -> Result<&'a [u8]>
     let (front, rest) = split_bytes(len, *bytes)?;
     *bytes = rest;
     Ok(front)
-}
-
-/// The next `len` bytes, and what stands after them. Fails with `Length` if fewer are left.
-fn split_bytes(len: usize, bytes: &[u8]) -> Result<(&[u8], &[u8])>
-    ensures { AnswersAlways (λ p. (p.0.now, p.1.now)) encoding_cause (bytes_at len bytes.now)
-        result }
-{
-    if bytes.len() < len {
-        return Err(Error::Length);
-    }
-    Ok(bytes.split_at(len))
-}
-
-/// The text of the bytes. Fails with `CharacterEncoding` if they are not UTF-8.
-fn text_of(bytes: &[u8]) -> Result<&str>
-    ensures { AnswersAlways (λ t. t.now) encoding_cause (text_from bytes.now) result }
-{
-    match str::from_utf8(bytes) {
-        Ok(text) => Ok(text),
-        Err(_) => Err(Error::CharacterEncoding),
-    }
 }

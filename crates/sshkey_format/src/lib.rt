@@ -21,7 +21,7 @@ mod then;
 mod wide;
 
 pub use boxed::Boxed;
-pub use counted::{Counted, counted_len, decode_each, each_len, encode_counted, encode_each};
+pub use counted::{Counted, counted_len, decode_each, encode_counted};
 pub use leaves::bytes_from;
 pub use read_from::ReadFrom;
 pub use split::{split_bytes, split_string, split_text, split_u32, split_u64};

@@ -67,7 +67,7 @@ pub fn split_text(bytes: &[u8]) -> Result<(&str, &[u8])>
 }
 
 /// The text of the bytes. Fails with `CharacterEncoding` if they are not UTF-8.
-fn text_of(bytes: &[u8]) -> Result<&str>
+pub(crate) fn text_of(bytes: &[u8]) -> Result<&str>
     ensures { AnswersAlways (λ t. t.now) encoding_cause (text_from bytes.now) result }
 {
     match str::from_utf8(bytes) {

@@ -8,7 +8,7 @@ use Rattle.sshkey_model.specs.Reading.{Fault, Length, number_at, string_at}
 use Rattle.sshkey_model.specs.Texts.{text_at}
 use Rattle.sshkey_base.specs.Causes.{Cause, NoMemory, Faulty}
 use Rattle.sshkey_base.specs.Lengths.{text_lengths, to_end_lengths}
-use Rattle.sshkey_base.specs.Needs.{NeedsString}
+use Rattle.sshkey_base.specs.Needs.{HasString}
 use Rattle.sshkey_base.specs.Reading.{Reads, to_end}
 use Rattle.sshkey_base.specs.Source.{IsSound, Later, Source}
 use Rattle.sshkey_base.specs.Stops.{OverrunsList, OverrunsString, OverrunsWithin, RanOut, Stopped}
@@ -23,7 +23,7 @@ abbrev pub options_inside : Contents (List CertificateOption)
 options_inside = record {
   Spells = λ os b. to_end option_list_at b ≡ Ok (os, []);
   read = to_end option_list_at;
-  needs = NeedsString;
+  needs = HasString;
   overruns = OverrunsList item OverrunsOption;
   grammar = record { takes = λ b os e. e; again = λ os b e. e };
   lengths = to_end_lengths option_lengths;
@@ -37,7 +37,7 @@ ok_of P (Ok x) p = refl
 ok_of P (Err e) p = absurd p
 
 -- A text was read, so its string stands there.
-pub text_stands : (b : List ℕ) (m : ℕ) → IsOk (text_at b) → NeedsString b m
+pub text_stands : (b : List ℕ) (m : ℕ) → IsOk (text_at b) → HasString b m
 unfolding text_at string_at
 text_stands b m ok = go (number_at w32 b) refl
   where
@@ -50,42 +50,42 @@ text_stands b m ok = go (number_at w32 b) refl
       | inr ge ↦ omega (arith, ge)
     ]
 
-pub text_read : {X : Type 0} (means : X → List ℕ) (s t : Source) (x : X) → Reads means text_at s x t → NeedsString s.left s.missing
+pub text_read : {X : Type 0} (means : X → List ℕ) (s t : Source) (x : X) → Reads means text_at s x t → HasString s.left s.missing
 text_read means s t x r = text_stands s.left s.missing (is_ok (text_at s.left) (means x, t.left) r.value)
 
 -- What an option needs, its name stands for.
-name_stands : (b : List ℕ) (m : ℕ) → NeedsOption b m → NeedsString b m
+name_stands : (b : List ℕ) (m : ℕ) → NeedsOption b m → HasString b m
 name_stands b m (inl name) = name
 name_stands b m (inr value) = text_stands b m (ok_of _ (text_at b) value)
 
 -- Nothing was read yet, or the string of the first name stands there.
 abbrev pub Begun : {P : Type 0} → List P → Source → Source → Type 0
-Begun done s t = ((t ≡ s) × (done ≡ [])) ⊎ NeedsString s.left s.missing
+Begun done s t = ((t ≡ s) × (done ≡ [])) ⊎ HasString s.left s.missing
 
 module _ {P : Type 0} (done : List P) (s t : Source) (begun : Begun done s t) where
-  pub first_stands : NeedsString t.left t.missing → NeedsString s.left s.missing
+  pub first_stands : HasString t.left t.missing → HasString s.left s.missing
   first_stands want = elim begun [
     | inl none ↦ rw (← none.0) want
     | inr first ↦ first
   ]
 
   -- the name of an option is asked for
-  pub options_ask : (c : Cause) → Later s t → (c ≡ NoMemory → IsSound t → NeedsString t.left t.missing) → c ≡ NoMemory → IsSound s → NeedsString s.left s.missing
+  pub options_ask : (c : Cause) → Later s t → (c ≡ NoMemory → IsSound t → HasString t.left t.missing) → c ≡ NoMemory → IsSound s → HasString s.left s.missing
   options_ask c later asks memory sound = first_stands (asks memory (rw later.missing sound))
 
   -- an option was read
-  pub option_stands : {X : Type 0} (means : X → CertificateOption) (before : Option (List ℕ)) (x : X) (u : Source) → Reads means (option_behind before) t x u → NeedsString s.left s.missing
+  pub option_stands : {X : Type 0} (means : X → CertificateOption) (before : Option (List ℕ)) (x : X) (u : Source) → Reads means (option_behind before) t x u → HasString s.left s.missing
   unfolding option_behind
   option_stands means before x u r = first_stands (text_stands t.left t.missing (step_ok (text_at t.left) _ (is_ok (option_behind before t.left) (means x, u.left) r.value)))
 
   -- an option is refused
-  pub options_stopped : (c : Cause) (before : Option CertificateOption) → StillOverruns item OverrunsOption option_lengths s before t → Stopped c (item before) NeedsOption OverrunsOption t → OverrunsList item OverrunsOption s.left s.missing → (c ≡ Faulty Length) ⊎ RanOut c NeedsString s
+  pub options_stopped : (c : Cause) (before : Option CertificateOption) → StillOverruns item OverrunsOption option_lengths s before t → Stopped c (item before) NeedsOption OverrunsOption t → OverrunsList item OverrunsOption s.left s.missing → (c ≡ Faulty Length) ⊎ RanOut c HasString s
   options_stopped c before still h o = go (still o).0 t.left refl (still o).1
     where
-      more : RanOut c NeedsOption t → RanOut c NeedsString s
+      more : RanOut c NeedsOption t → RanOut c HasString s
       more m = record { memory = m.memory; needed = first_stands (name_stands t.left t.missing m.needed) }
 
-      go : (n : ℕ) (b : List ℕ) → b ≡ t.left → OverrunsWithin item OverrunsOption n before b t.missing → (c ≡ Faulty Length) ⊎ RanOut c NeedsString s
+      go : (n : ℕ) (b : List ℕ) → b ≡ t.left → OverrunsWithin item OverrunsOption n before b t.missing → (c ≡ Faulty Length) ⊎ RanOut c HasString s
       go n [] is w = absurd w
       go zero (d ∷ b) is w = absurd w
       go (suc n) (d ∷ b) is (inl w) = elim (h.past (rw is at w)) [
@@ -95,7 +95,7 @@ module _ {P : Type 0} (done : List P) (s t : Source) (begun : Begun done s t) wh
       go (suc n) (d ∷ b) is (inr w) = inr (more (h.takes (ok_of _ (item before t.left) (rw is at w))))
 
   -- there is no memory for all of them
-  pub some_stand : {Z : Type 0} → (done ≡ [] → Z) → (Z → ⊥) → NeedsString s.left s.missing
+  pub some_stand : {Z : Type 0} → (done ≡ [] → Z) → (Z → ⊥) → HasString s.left s.missing
   some_stand made not = elim begun [
     | inl none ↦ absurd (not (made none.1))
     | inr first ↦ first

@@ -7,7 +7,7 @@ use Rattle.sshkey_model.specs.Texts.{text_at}
 use Rattle.sshkey_model.specs.Options.{CertificateOption, Nesting, nesting_of, option_value_from, option_before, is_after, in_order, option_at, firsts, seconds, options_at}
 use Rattle.sshkey_base.specs.Formats.{Format}
 use Rattle.sshkey_base.specs.Lengths.{with_rest, text_lengths, boxed_lengths, box_list_lengths}
-use Rattle.sshkey_base.specs.Needs.{NeedsBoxed, NeedsString}
+use Rattle.sshkey_base.specs.Needs.{NeedsBoxed, HasString}
 use Rattle.sshkey_base.specs.Stops.{OverrunsString, OverrunsBoxed, OverrunsList, AreLengths}
 use Rattle.sshkey_base.proofs.MappedBoxes.{on_value, made, first_same, box_map}
 use Rattle.sshkey_options.specs.OptionReaders.{SpellsOptions, options_grammar, value_front, option_box_at, may_follow, option_behind, name_before, item, option_list_at, options_value_at, OverrunsValue, OverrunsOption}
@@ -144,4 +144,4 @@ options_lengths b m o = sym (options_is b) ∙ box_list_lengths option_lengths b
 
 -- options up to the end of a string (PROTOCOL.certkeys): memory is needed where the name of the first stands in it
 abbrev pub options_format : Format (List CertificateOption)
-options_format = record { Spells = SpellsOptions; read = options_value_at; needs = NeedsBoxed NeedsString; overruns = OverrunsBoxed (OverrunsList item OverrunsOption); grammar = options_grammar; lengths = options_lengths }
+options_format = record { Spells = SpellsOptions; read = options_value_at; needs = NeedsBoxed HasString; overruns = OverrunsBoxed (OverrunsList item OverrunsOption); grammar = options_grammar; lengths = options_lengths }

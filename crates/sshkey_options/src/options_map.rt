@@ -9,11 +9,10 @@ ghost use Rattle.sshkey_model.specs.Options.{CertificateOption, AreOptions, norm
 ghost use Rattle.sshkey_base.specs.Causes.{cause};
 ghost use Rattle.sshkey_base.specs.Formats.{Stops};
 ghost use Rattle.sshkey_base.specs.Nested.{nested_source};
-ghost use Rattle.sshkey_base.specs.Needs.{Asks, NeedsBoxed, NeedsString};
+ghost use Rattle.sshkey_base.specs.Needs.{Asks, NeedsBoxed, HasString};
 ghost use Rattle.sshkey_base.specs.Reading.{DecodesWide, Gives, to_end};
 ghost use Rattle.sshkey_base.specs.Source.{Later};
 ghost use Rattle.sshkey_base.specs.Stops.{OverrunsList};
-ghost use Rattle.sshkey_format.specs.Contents.{StopsInBy};
 ghost use Rattle.sshkey_options.specs.OptionReaders.{item, option_list_at, options_value_at, options_normal, OverrunsOption};
 ghost use Rattle.sshkey_options.specs.OptionLists.{options_format};
 ghost use Rattle.sshkey_options.specs.OptionMaps.{IsNamedAmong, is_among, option_of, options_of};
@@ -185,7 +184,7 @@ impl Decode for OptionsMap {
         ensures gives { DecodesWide options_of options_value_at
             R.source reader.old result reader.new }
         ensures later { Later (R.source reader.old) (R.source reader.new) }
-        ensures asks { Asks cause (NeedsBoxed NeedsString) (R.source reader.old) result }
+        ensures asks { Asks cause (NeedsBoxed HasString) (R.source reader.old) result }
         ensures past { Stops cause options_format (R.source reader.old) result }
     {
         reader.read_prefixed(
@@ -194,8 +193,8 @@ impl Decode for OptionsMap {
                     (nested_source R.source part.old) result (nested_source R.source part.new) }
                 ensures later { Later (nested_source R.source part.old)
                     (nested_source R.source part.new) }
-                ensures asks { Asks cause NeedsString (nested_source R.source part.old) result }
-                ensures past { StopsInBy cause NeedsString (OverrunsList item OverrunsOption)
+                ensures asks { Asks cause HasString (nested_source R.source part.old) result }
+                ensures past { StopsPast cause HasString (OverrunsList item OverrunsOption)
                     (nested_source R.source part.old) result }
             { options_from(alloc, part) },
         )

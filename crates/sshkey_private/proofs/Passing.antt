@@ -5,17 +5,17 @@ use Rattle.sshkey_model.specs.KeyDerivation.{Cipher}
 use Rattle.sshkey_model.specs.PrivateKeys.{blocks_from}
 use Rattle.sshkey_base.specs.Causes.{Cause, Faulty}
 use Rattle.sshkey_base.specs.Lengths.{checked_lengths, string_lengths}
-use Rattle.sshkey_base.specs.Needs.{NeedsString}
+use Rattle.sshkey_base.specs.Needs.{HasString}
 use Rattle.sshkey_base.specs.Reading.{Reads}
 use Rattle.sshkey_base.specs.Source.{Source}
-use Rattle.sshkey_base.specs.Stops.{NoOverrun, OverrunsString, OverrunsBoxed, AreLengths, RanOut, Stopped, StopsBy, StopsToEnd}
+use Rattle.sshkey_base.specs.Stops.{NoOverrun, OverrunsString, OverrunsBoxed, AreLengths, RanOut, Stopped, StopsBy, StopsToEnd, StopsPast}
 use Rattle.sshkey_base.proofs.Stopping.{read_past}
 use Rattle.sshkey_format.specs.Behind.{behind_at}
 use Rattle.sshkey_format.specs.Terms.{mapped_lengths}
 use Rattle.sshkey_format.proofs.Stopping.{stopped_first}
 use Rattle.sshkey_ciphers.specs.Ciphertexts.{blocks_at}
 use Rattle.sshkey_private.specs.PrivateKeyReaders.{Opening, one_at, opening_at, sealed_at}
-use Rattle.sshkey_private.specs.PrivateKeyFormats.{opening_parts, opening_parts_read, OverrunsContent, OverrunsPrivateKey, MayRunOut, PassesAs}
+use Rattle.sshkey_private.specs.PrivateKeyFormats.{opening_parts, opening_parts_read, OverrunsContent, OverrunsPrivateKey, MayRunOut}
 
 -- ---- a box that is read to its end, of whose inside nothing is said
 
@@ -23,7 +23,7 @@ pub none_over : {X E : Type 0} (cause : E → Cause) (s : Source) (r : Result X 
 none_over cause s (Ok x) = tt
 none_over cause s (Err e) = λ o. absurd o
 
-pub box_passes : {X Y E : Type 0} (cause : E → Cause) (read : Front Y) (needs inner : List ℕ → ℕ → Type 0) (s : Source) (r : Result X E) → StopsBy cause read needs (OverrunsBoxed inner) s r → PassesAs cause needs OverrunsString s r
+pub box_passes : {X Y E : Type 0} (cause : E → Cause) (read : Front Y) (needs inner : List ℕ → ℕ → Type 0) (s : Source) (r : Result X E) → StopsBy cause read needs (OverrunsBoxed inner) s r → StopsPast cause needs OverrunsString s r
 box_passes cause read needs inner s (Ok x) h = tt
 box_passes cause read needs inner s (Err e) h = λ o. h.past (inl o)
 
@@ -43,10 +43,10 @@ opening_lengths : AreLengths opening_at opening_parts.overruns
 opening_lengths = mapped_lengths opening_parts_read opening_parts.lengths
 
 pub opening_passes : (c : Cause) (s : Source) → Stopped c opening_at opening_parts.needs opening_parts.overruns s → OverrunsPrivateKey s.left s.missing → (c ≡ Faulty Length) ⊎ RanOut c MayRunOut s
-opening_passes c s h = (stopped_first opening_parts.needs opening_parts.overruns opening_at (λ h. NeedsString) (λ h. OverrunsContent h.cipher h.kdf) (λ h. one_at) c s h).past
+opening_passes c s h = (stopped_first opening_parts.needs opening_parts.overruns opening_at (λ h. HasString) (λ h. OverrunsContent h.cipher h.kdf) (λ h. one_at) c s h).past
 
 module _ {C X E : Type 0} (means : C → Opening) (cause : E → Cause) (s t : Source) (x : C) (h : Reads means opening_at s x t) where
-  pub content_passes : (r : Result X E) → PassesAs cause NeedsString (OverrunsContent (means x).cipher (means x).kdf) t r → PassesAs cause MayRunOut OverrunsPrivateKey s r
+  pub content_passes : (r : Result X E) → StopsPast cause HasString (OverrunsContent (means x).cipher (means x).kdf) t r → StopsPast cause MayRunOut OverrunsPrivateKey s r
   content_passes (Ok k) p = tt
   content_passes (Err e) p = go
     where

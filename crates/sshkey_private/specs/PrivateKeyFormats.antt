@@ -13,7 +13,7 @@ use Rattle.sshkey_base.specs.Causes.{Cause, Faulty}
 use Rattle.sshkey_base.specs.Formats.{Format, number32_format, label_format}
 use Rattle.sshkey_base.specs.Labels.{label_at}
 use Rattle.sshkey_base.specs.Lengths.{no_lengths}
-use Rattle.sshkey_base.specs.Needs.{NoNeed, NeedsString, NeedsBoxed, NeedsThen}
+use Rattle.sshkey_base.specs.Needs.{NoNeed, HasString, NeedsBoxed, NeedsThen}
 use Rattle.sshkey_base.specs.Source.{Source}
 use Rattle.sshkey_base.specs.Stops.{NoOverrun, OverrunsString, OverrunsThen, RanOut}
 use Rattle.sshkey_format.specs.Behind.{behind_at}
@@ -74,7 +74,7 @@ opening_parts_read = record { same = λ b. simp bind_assoc }
 abbrev pub NeedsContent : Cipher → Kdf → Key → List ℕ → ℕ → Type 0
 NeedsContent NoCipher NoKdf public = NeedsBoxed (NeedsPadded (NeedsInner public))
 NeedsContent NoCipher (Bcrypt o) public = NoNeed
-NeedsContent c k public = NeedsString
+NeedsContent c k public = HasString
 
 -- what stands before the private part, or that part
 abbrev pub NeedsPrivateKey : List ℕ → ℕ → Type 0
@@ -97,9 +97,4 @@ OverrunsPrivateKey = OverrunsThen opening_parts.overruns opening_at (λ h. Overr
 
 -- memory may have run out for the opening, or for the private part, however much of it stands there
 abbrev pub MayRunOut : List ℕ → ℕ → Type 0
-MayRunOut = NeedsThen opening_parts.needs opening_at (λ h. NeedsString)
-
--- A length that passes all that was announced is `Length`, unless memory ran out for a value before it.
-abbrev pub PassesAs : {X E : Type 0} → (E → Cause) → (needs overruns : List ℕ → ℕ → Type 0) → Source → Result X E → Type 0
-PassesAs cause needs overruns s (Ok x) = Unit {0}
-PassesAs cause needs overruns s (Err e) = overruns s.left s.missing → (cause e ≡ Faulty Length) ⊎ RanOut (cause e) needs s
+MayRunOut = NeedsThen opening_parts.needs opening_at (λ h. HasString)

@@ -3,10 +3,10 @@
 ghost use Rattle.std.specs.Prelude.{◌≡◌, true, IfOk, suc};
 ghost use Rattle.sshkey_base.specs.Answers.{AnswersAlways};
 ghost use Rattle.sshkey_base.specs.Causes.{cause};
-ghost use Rattle.sshkey_base.specs.Needs.{Asks, NoNeed, NeedsBoxed, NeedsString};
+ghost use Rattle.sshkey_base.specs.Needs.{Asks, NoNeed, NeedsBoxed, HasString};
 ghost use Rattle.sshkey_base.specs.Reading.{Gives, to_end};
 ghost use Rattle.sshkey_base.specs.Source.{Later};
-ghost use Rattle.sshkey_base.specs.Stops.{OverrunsString};
+ghost use Rattle.sshkey_base.specs.Stops.{OverrunsString, StopsPast};
 ghost use Rattle.sshkey_keypairs.specs.KeypairFormats.{keypair_format};
 ghost use Rattle.sshkey_keypairs.specs.Keypairs.{pair_of};
 ghost use Rattle.sshkey_keys.specs.Keys.{key_of};
@@ -18,7 +18,6 @@ ghost use Rattle.sshkey_model.specs.PrivateKeys.{key_eq};
 ghost use Rattle.sshkey_model.specs.Reading.{box_at};
 ghost use Rattle.sshkey_pairs.specs.Pairs.{ecdsa_pair_of};
 ghost use Rattle.sshkey_private.specs.Halves.{is_half};
-ghost use Rattle.sshkey_private.specs.PrivateKeyFormats.{PassesAs};
 ghost use Rattle.sshkey_private.specs.Inner.{inner_of, inner_at, padded_below, checkint_at, one_checkint, half_of, pair_with_at, NeedsInner, NeedsPadded};
 
 use crate::part::Inner;
@@ -50,7 +49,7 @@ pub(crate) fn decode_inner<R: Reader>(
     ensures later { Later (R.source reader.old) (R.source reader.new) }
     ensures asks { Asks cause (NeedsBoxed (NeedsPadded (NeedsInner (key_of public.now))))
         (R.source reader.old) result }
-    ensures past { PassesAs cause NeedsString OverrunsString (R.source reader.old) result }
+    ensures past { StopsPast cause HasString OverrunsString (R.source reader.old) result }
 {
     reader.read_prefixed(|part| padded_inner_from(alloc, part, public, most))
 }

@@ -58,6 +58,7 @@ impl PrivateKey {
     ghost use Rattle.sshkey_base.specs.Needs.{Asks};
     ghost use Rattle.sshkey_base.specs.Reading.{AcceptsWhole, Gives, GivesWhole};
     ghost use Rattle.sshkey_base.specs.Source.{Later, all_of};
+    ghost use Rattle.sshkey_base.specs.Stops.{StopsPast};
     ghost use Rattle.sshkey_base.specs.declared.error.Error.TheVariants as wide;
     ghost use Rattle.sshkey_keys.specs.Blobs.{MakesBlob};
     ghost use Rattle.sshkey_keys.specs.Fingerprints.{GivesFingerprint, IsShort};
@@ -70,7 +71,7 @@ impl PrivateKey {
     ghost use Rattle.sshkey_private.specs.Comparisons.{seen};
     ghost use Rattle.sshkey_private.specs.PrivateKeyReaders.{SpellsPrivateKey, private_value_at, padded_value_at};
     ghost use Rattle.sshkey_private.specs.PaddedKeys.{SpellsPaddedKey};
-    ghost use Rattle.sshkey_private.specs.PrivateKeyFormats.{NeedsPrivateKey, OverrunsPrivateKey, MayRunOut, PassesAs};
+    ghost use Rattle.sshkey_private.specs.PrivateKeyFormats.{NeedsPrivateKey, OverrunsPrivateKey, MayRunOut};
     ghost use Rattle.sshkey_private.specs.PrivateKeys.{private_of, is_encrypted, data_of, outer_of, with_comment, HasWrittenComment, GivesNew};
     ghost use Rattle.sshkey_public.specs.PublicKeys.{public_of, comment_of, data_of as key_data_of};
 
@@ -135,7 +136,7 @@ impl PrivateKey {
             (R.source reader.old) result (R.source reader.new) }
         ensures later { Later (R.source reader.old) (R.source reader.new) }
         ensures asks { Asks cause NeedsPrivateKey (R.source reader.old) result }
-        ensures past { PassesAs cause MayRunOut OverrunsPrivateKey (R.source reader.old) result }
+        ensures past { StopsPast cause MayRunOut OverrunsPrivateKey (R.source reader.old) result }
         ensures comment { IfOk result HasWrittenComment }
         ensures form { IfOk result (λ k. IsPrivateKey (private_of k)) }
     {

@@ -4,7 +4,7 @@ ghost use Rattle.std.specs.Prelude.{map};
 ghost use Rattle.sshkey_base.specs.Needs.{Asks};
 ghost use Rattle.sshkey_base.specs.Reading.{Gives};
 ghost use Rattle.sshkey_base.specs.Source.{Later};
-ghost use Rattle.sshkey_format.specs.Contents.{HasBytes, NeedsEach, OverrunsEach, StopsInBy, each_at};
+ghost use Rattle.sshkey_format.specs.Contents.{HasBytes, NeedsEach, OverrunsEach, each_at};
 
 use crate::counted::read::add;
 use sshkey_base::{Decode, Reader};
@@ -16,7 +16,7 @@ use std::alloc::Global;
 /// Fails with the first error of a value. Memory is asked for only once the first value stands
 /// there, or needs some.
 ///
-/// [`encode_each`]: crate::encode_each
+/// [`encode_each`]: sshkey_base::encode_each
 #[tactic(auto, using(sshkey_base::proofs::Places::places))]
 pub fn decode_each<T: Decode + Drop, R: Reader>(
     alloc: Global,
@@ -27,7 +27,7 @@ pub fn decode_each<T: Decode + Drop, R: Reader>(
         (R.source reader.old) result (R.source reader.new) }
     ensures later { Later (R.source reader.old) (R.source reader.new) }
     ensures asks { Asks T.Error.cause (NeedsEach T.format) (R.source reader.old) result }
-    ensures past { StopsInBy T.Error.cause (NeedsEach T.format) (OverrunsEach T.format)
+    ensures past { StopsPast T.Error.cause (NeedsEach T.format) (OverrunsEach T.format)
         (R.source reader.old) result }
 {
     let mut values = Vec::new(alloc);

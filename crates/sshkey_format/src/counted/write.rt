@@ -1,33 +1,13 @@
-//! How values are written one after the other, and how many bytes they have.
+//! How a counted list is written, and how many bytes it has.
 
 ghost use Rattle.std.specs.Prelude.{length};
-ghost use Rattle.sshkey_model.specs.Parts.{each};
 ghost use Rattle.sshkey_base.specs.Sink.{Encodes, MeasuresBoxed};
 ghost use Rattle.sshkey_format.specs.Counted.{counted};
 
 use sshkey_base::encoding::Result;
-use sshkey_base::{Encode, Writer, list_len, u32_of};
+use sshkey_base::{Encode, Writer, each_len, encode_each, u32_of};
 
-/// How many bytes the values have, one after the other. Fails with `Length` exactly if a box can't
-/// hold them, or a box in one of them is too long. Does not allocate.
-pub fn each_len<T: Encode>(values: &[T]) -> Result<u32>
-    ensures { MeasuresBoxed (each T.normal values.now) result }
-{
-    u32_of(list_len(values)? - 4)
-}
-
-/// Writes the values, one after the other, without a length before them.
-pub fn encode_each<T: Encode, W: Writer>(values: &[T], writer: &mut W) -> Result<()>
-    ensures { Encodes W.fault (each T.normal values.now)
-        (W.sink writer.old) result (W.sink writer.new) }
-{
-    for value in values {
-        value.encode(writer)?;
-    }
-    Ok(())
-}
-
-/// How many bytes a counted list has. Fails with `Length` exactly if a box can't hold it, a box in
+/// How many bytes a counted list has. Fails with `Length` exactly if a string can't hold it, a string in
 /// one of the values is too long, or the values are more than 2^32 - 1. Does not allocate.
 pub fn counted_len<T: Encode>(values: &[T]) -> Result<u32>
     ensures { MeasuresBoxed (counted T.normal values.now) result }

@@ -4,10 +4,9 @@ ghost use Rattle.std.specs.Prelude.{◌≡◌, option_map, string_bytes};
 ghost use Rattle.sshkey_base.specs.Causes.{cause, encoding_cause};
 ghost use Rattle.sshkey_base.specs.Nested.{nested_source};
 ghost use Rattle.sshkey_base.specs.Reading.{Decodes, DecodesWide, Gives, to_end};
-ghost use Rattle.sshkey_base.specs.Needs.{Asks, NeedsString};
+ghost use Rattle.sshkey_base.specs.Needs.{Asks, HasString};
 ghost use Rattle.sshkey_base.specs.Source.{Later};
-ghost use Rattle.sshkey_base.specs.Stops.{OverrunsString, OverrunsList, StopsBy, StopsToEnd};
-ghost use Rattle.sshkey_format.specs.Contents.{StopsInBy};
+ghost use Rattle.sshkey_base.specs.Stops.{OverrunsString, OverrunsList, StopsBy, StopsPast, StopsToEnd};
 ghost use Rattle.sshkey_options.specs.OptionReaders.{may_follow, value_front, option_box_at, option_behind, item, option_list_at, NeedsOption, OverrunsValue, OverrunsOption};
 ghost use Rattle.sshkey_options.specs.OptionMaps.{option_of, options_of};
 
@@ -22,8 +21,8 @@ pub(super) fn options_from<R: Reader>(alloc: Global, reader: &mut R) -> Result<O
     ensures gives { DecodesWide options_of (to_end option_list_at)
         R.source reader.old result reader.new }
     ensures later { Later (R.source reader.old) (R.source reader.new) }
-    ensures asks { Asks cause NeedsString (R.source reader.old) result }
-    ensures past { StopsInBy cause NeedsString (OverrunsList item OverrunsOption)
+    ensures asks { Asks cause HasString (R.source reader.old) result }
+    ensures past { StopsPast cause HasString (OverrunsList item OverrunsOption)
         (R.source reader.old) result }
 {
     let mut gathered = Gathered::new(alloc, reader.remaining_len());
@@ -46,7 +45,7 @@ fn option_from<R: Reader>(
         (option_behind (option_map (λ name. name.now) before.entry))
         (R.source reader.old) result (R.source reader.new) }
     ensures later { Later (R.source reader.old) (R.source reader.new) }
-    ensures asks { Asks cause NeedsString (R.source reader.old) result }
+    ensures asks { Asks cause HasString (R.source reader.old) result }
     ensures past { StopsBy cause (option_behind (option_map (λ name. name.now) before.entry))
         NeedsOption OverrunsOption (R.source reader.old) result }
 {
@@ -72,7 +71,7 @@ fn may_follow(before: Option<&str>, name: &str) -> bool
 fn boxed_value<R: Reader>(alloc: Global, reader: &mut R) -> encoding::Result<String>
     ensures gives { Decodes string_bytes option_box_at R.source reader.old result reader.new }
     ensures later { Later (R.source reader.old) (R.source reader.new) }
-    ensures past { StopsBy encoding_cause option_box_at NeedsString OverrunsValue
+    ensures past { StopsBy encoding_cause option_box_at HasString OverrunsValue
         (R.source reader.old) result }
 {
     reader.read_prefixed(

@@ -2,10 +2,10 @@
 
 ghost use Rattle.std.specs.Prelude.{◌≡◌, ◌%◌, [], false, true, length, suc, Some, option_map, IfOk};
 ghost use Rattle.sshkey_base.specs.Causes.{cause};
-ghost use Rattle.sshkey_base.specs.Needs.{Asks, NeedsBoxed, NeedsString};
+ghost use Rattle.sshkey_base.specs.Needs.{Asks, NeedsBoxed, HasString};
 ghost use Rattle.sshkey_base.specs.Reading.{Gives, GivesWhole};
 ghost use Rattle.sshkey_base.specs.Source.{Later, all_of};
-ghost use Rattle.sshkey_base.specs.Stops.{OverrunsString};
+ghost use Rattle.sshkey_base.specs.Stops.{OverrunsString, StopsPast};
 ghost use Rattle.sshkey_keypairs.specs.Keypairs.{pair_of};
 ghost use Rattle.sshkey_keys.specs.Keys.{key_of};
 ghost use Rattle.sshkey_model.specs.KeyDerivation.{Kdf as TheKdf, NoCipher, block_size, tag_size};
@@ -17,7 +17,7 @@ ghost use Rattle.sshkey_ciphers.specs.Ciphertexts.{tag_bytes};
 ghost use Rattle.sshkey_private.specs.Halves.{is_half};
 ghost use Rattle.sshkey_private.specs.Inner.{NeedsInner, NeedsPadded, inner_of};
 ghost use Rattle.sshkey_private.specs.PrivateKeyReaders.{steps_at, sealed_at, sealed_with, unencrypted_below, last_content_at, last_encrypted_at};
-ghost use Rattle.sshkey_private.specs.PrivateKeyFormats.{NeedsContent, NeedsPrivateKey, OverrunsContent, OverrunsPrivateKey, MayRunOut, PassesAs};
+ghost use Rattle.sshkey_private.specs.PrivateKeyFormats.{NeedsContent, NeedsPrivateKey, OverrunsContent, OverrunsPrivateKey, MayRunOut};
 ghost use Rattle.sshkey_private.specs.PrivateKeys.{private_of, is_encrypted, outer_of, HasWrittenComment};
 ghost use Rattle.sshkey_public.specs.PublicKeys.{comment_of};
 
@@ -56,7 +56,7 @@ pub(super) fn private_key_from<R: Reader>(
         (R.source reader.old) result (R.source reader.new) }
     ensures later { Later (R.source reader.old) (R.source reader.new) }
     ensures asks { Asks cause NeedsPrivateKey (R.source reader.old) result }
-    ensures past { PassesAs cause MayRunOut OverrunsPrivateKey (R.source reader.old) result }
+    ensures past { StopsPast cause MayRunOut OverrunsPrivateKey (R.source reader.old) result }
     ensures comment { IfOk result HasWrittenComment }
 {
     let opening = opening_from(alloc, reader)?;
@@ -77,7 +77,7 @@ fn content_from<R: Reader>(
     ensures asks { Asks cause
         (NeedsContent (cipher_of opening.cipher) (kdf_of opening.kdf) (key_of opening.public))
         (R.source reader.old) result }
-    ensures past { PassesAs cause NeedsString
+    ensures past { StopsPast cause HasString
         (OverrunsContent (cipher_of opening.cipher) (kdf_of opening.kdf))
         (R.source reader.old) result }
     ensures comment { IfOk result HasWrittenComment }
@@ -103,7 +103,7 @@ fn unencrypted_from<R: Reader>(
     ensures later { Later (R.source reader.old) (R.source reader.new) }
     ensures asks { Asks cause (NeedsBoxed (NeedsPadded (NeedsInner (key_of public))))
         (R.source reader.old) result }
-    ensures past { PassesAs cause NeedsString OverrunsString (R.source reader.old) result }
+    ensures past { StopsPast cause HasString OverrunsString (R.source reader.old) result }
     ensures plain { IfOk result (λ k. is_encrypted (private_of k) ≡ false) }
 {
     let inner = decode_inner(alloc, reader, &public, most)?;
@@ -137,8 +137,8 @@ fn encrypted_from<R: Reader>(alloc: Global, reader: &mut R, opening: Opening) ->
         (last_encrypted_at (cipher_of opening.cipher) (kdf_of opening.kdf) (key_of opening.public))
         (R.source reader.old) result (R.source reader.new) }
     ensures later { Later (R.source reader.old) (R.source reader.new) }
-    ensures asks { Asks cause NeedsString (R.source reader.old) result }
-    ensures past { PassesAs cause NeedsString OverrunsString (R.source reader.old) result }
+    ensures asks { Asks cause HasString (R.source reader.old) result }
+    ensures past { StopsPast cause HasString OverrunsString (R.source reader.old) result }
     ensures comment { IfOk result (λ k. comment_of (outer_of k) ≡ []) }
 {
     let (ciphertext, tag) = last_sealed_from(alloc, reader, opening.cipher)?;
@@ -169,8 +169,8 @@ fn last_sealed_from<R: Reader>(
         (last_encrypted_at (cipher_of cipher) k public)
         (R.source reader.old) result (R.source reader.new) }
     ensures later { Later (R.source reader.old) (R.source reader.new) }
-    ensures asks { Asks cause NeedsString (R.source reader.old) result }
-    ensures past { PassesAs cause NeedsString OverrunsString (R.source reader.old) result }
+    ensures asks { Asks cause HasString (R.source reader.old) result }
+    ensures past { StopsPast cause HasString OverrunsString (R.source reader.old) result }
     ensures whole { IfOk result (λ p. length p.0.items % block_size (cipher_of cipher) ≡ 0) }
     ensures size { IfOk result (λ p. length (tag_bytes p.1) ≡ tag_size (cipher_of cipher)) }
 {
@@ -192,8 +192,8 @@ fn sealed_from<R: Reader>(
     ensures gives { Gives (λ p. (p.0.items, tag_bytes p.1)) cause
         (sealed_at (cipher_of cipher)) (R.source reader.old) result (R.source reader.new) }
     ensures later { Later (R.source reader.old) (R.source reader.new) }
-    ensures asks { Asks cause NeedsString (R.source reader.old) result }
-    ensures past { PassesAs cause NeedsString OverrunsString (R.source reader.old) result }
+    ensures asks { Asks cause HasString (R.source reader.old) result }
+    ensures past { StopsPast cause HasString OverrunsString (R.source reader.old) result }
     ensures whole { IfOk result (λ p. length p.0.items % block_size (cipher_of cipher) ≡ 0) }
     ensures size { IfOk result (λ p. length (tag_bytes p.1) ≡ tag_size (cipher_of cipher)) }
 {

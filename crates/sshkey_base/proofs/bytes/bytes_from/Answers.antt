@@ -1,13 +1,20 @@
-use Rattle.std.proofs.Common.{rules, ◌≡◌, length, arith, refl, take, drop, ◌++◌}
+use Rattle.std.proofs.Common.{rules, ◌≡◌, ℕ, List, [], length, arith, refl, take, drop, ◌++◌}
 use Rattle.std.proofs.lemmas.Result.{err_from_is_err_and}
 use Rattle.std.proofs.lemmas.List.{take_at}
 use Rattle.sshkey_base.specs.declared.encoding.Error.TheVariants.{Length}
+use Rattle.sshkey_base.proofs.Lending.{lent_front}
 use Rattle.sshkey_base.proofs.Steps.{few_refused, front_reads, refuses_sound}
 use Rattle.sshkey_base.proofs.Stopping.{refused_stopped}
 use Rattle.sshkey_base.proofs.bytes.bytes_from.Goals as goal
 
 pub returns-then-remaining_len-len-clause-gives : goal.returns-then-remaining_len-len-clause-gives
 returns-then-remaining_len-len-clause-gives g c = refuses_sound _ _ _ (few_refused c.args.len (g.R.Reader.source c.args.reader.now) Length (record { few = omega arith; sound = λ _. refl }))
+
+pub returns-then-len-eq0-clause-gives : goal.returns-then-len-eq0-clause-gives
+returns-then-len-eq0-clause-gives g c =
+    let none : c.args.len ≡ 0 = search rules in
+    let empty : c.new.result.items ≡ [] = search rules in
+    rw (none, empty) (lent_front 0 (g.R.Reader.source c.args.reader.now) [] (omega arith) refl refl)
 
 pub returns-in_err-read-clause-gives : goal.returns-in_err-read-clause-gives
 returns-in_err-read-clause-gives g c =

@@ -11,6 +11,7 @@ use Rattle.sshkey_base.proofs.ReadLists.{collects_more, collects_refused, collec
 use Rattle.sshkey_base.specs.Lengths.{text_lengths}
 use Rattle.sshkey_base.specs.Needs.{NeedsString}
 use Rattle.sshkey_base.specs.Stops.{OverrunsString}
+use Rattle.sshkey_base.proofs.FilledBoxes.{later_some, ran_some}
 use Rattle.sshkey_base.proofs.Places.{later_then}
 use Rattle.sshkey_base.proofs.list.texts_from.Goals as goal
 
@@ -37,7 +38,14 @@ reads-preserved g c =
 pub returns-clause-gives : goal.returns-clause-gives
 returns-clause-gives g c = collects_end (λ _. text_at) texts_of _ _ _ _ c.reads.invariant.0.1 (c.is_finished.ensures.0 c.reads-test.false)
 
+pub returns-in_err-decode-clause-asks : goal.returns-in_err-decode-clause-asks
+returns-in_err-decode-clause-asks g c =
+    let p = err_from_is_err_and c.from_residual.result c.from_residual.ensures.1 in
+    let some : announced_len (g.R.Reader.source c.reads.reader) ≢ 0 = (λ none. let t = c.is_finished.ensures.1 none in cc) in
+    rw (p.1, p.2) (λ memory sound. later_some _ _ c.reads.invariant.1 some)
+
 pub returns-in_err-decode-clause-past : goal.returns-in_err-decode-clause-past
 returns-in_err-decode-clause-past g c =
     let p = err_from_is_err_and c.from_residual.result c.from_residual.ensures.1 in
-    rw (p.1, p.2) (list_stopped (λ _. text_at) OverrunsString (λ _. text_lengths) _ NeedsString (g.R.Reader.source c.args.reader.now) _ _ c.reads.invariant.0.2 c.in_err-decode.ensures.past)
+    let some : announced_len (g.R.Reader.source c.reads.reader) ≢ 0 = (λ none. let t = c.is_finished.ensures.1 none in cc) in
+    rw (p.1, p.2) (λ over. ran_some _ _ (later_some _ _ c.reads.invariant.1 some) (list_stopped (λ _. text_at) OverrunsString (λ _. text_lengths) _ NeedsString (g.R.Reader.source c.args.reader.now) _ _ c.reads.invariant.0.2 c.in_err-decode.ensures.past over))

@@ -7,7 +7,7 @@ use Rattle.sshkey_base.proofs.ReadLists.{box_to_end, same_gives}
 use Rattle.sshkey_keys.specs.Keys.{key_of}
 use Rattle.sshkey_private.specs.Inner.{inner_of, inner_at, padded_below}
 use Rattle.sshkey_base.specs.Lengths.{no_lengths}
-use Rattle.sshkey_base.specs.Needs.{NeedsString}
+use Rattle.sshkey_base.specs.Needs.{HasString}
 use Rattle.sshkey_base.specs.Stops.{NoOverrun}
 use Rattle.sshkey_private.proofs.Passing.{none_over, box_passes}
 use Rattle.sshkey_private.proofs.inner.decode_inner.Goals as goal
@@ -20,4 +20,4 @@ returns-clause-gives g c =
 pub returns-clause-past : goal.returns-clause-past
 returns-clause-past g c =
     let read = padded_below (suc c.args.most) (inner_at (key_of c.args.public.now)) in
-    box_passes cause (box_at (whole (to_end read))) NeedsString NoOverrun (g.R.Reader.source c.args.reader.now) _ (prefixed_stops_to_end _ _ _ _ _ inner_of (to_end read) (search rules) NoOverrun (no_lengths (to_end read)) (search rules) (λ p q r met. none_over cause (g.R.Reader.source c.args.reader.now) r) _ _ _ c.read_prefixed.ensures.calls)
+    box_passes cause (box_at (whole (to_end read))) HasString NoOverrun (g.R.Reader.source c.args.reader.now) _ (prefixed_stops_to_end _ _ _ _ _ inner_of (to_end read) (search rules) NoOverrun (no_lengths (to_end read)) (search rules) (λ p q r met. none_over cause (g.R.Reader.source c.args.reader.now) r) _ _ _ c.read_prefixed.ensures.calls)
