@@ -1,6 +1,6 @@
 //! Why a host is refused.
 
-ghost use Rattle.std.specs.Prelude.{◌≡◌, ◌↔◌, IsTrue};
+ghost use Rattle.std.specs.Prelude.{◌≡◌};
 ghost use Rattle.ssh_key.specs.types.Error.TheVariants.{Memory};
 ghost use Rattle.host_keys.specs.Answers.{Names, answer_of};
 
@@ -29,17 +29,11 @@ impl Refusal {
     pub(crate) fn of_certificate(error: Error) -> Refusal
         ensures { Names error result }
     {
-        if is_memory(&error) {
+        if error.is_memory() {
             return Refusal::Memory;
         }
         Refusal::Certificate(error)
     }
-}
-
-fn is_memory(error: &Error) -> bool
-    ensures { IsTrue result ↔ (error.now ≡ Memory) }
-{
-    matches!(error, Error::Memory)
 }
 
 /// What follows from a verdict.

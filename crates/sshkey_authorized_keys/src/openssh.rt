@@ -9,7 +9,7 @@ ghost use Rattle.sshkey_authorized_keys.specs.OpenSshEntries.{openssh_entry_of, 
 ghost use Rattle.sshkey_authorized_keys.specs.OpenSshFaults.{CutsOptions, FindsEnd, HasLineFault, HasTextFault, EndsHere};
 ghost use Rattle.sshkey_authorized_keys.specs.OpenSshNeeds.{AnswersLine, AsksFor, NeedsBehind, NeedsEntry};
 
-use crate::entry::{Entry, is_memory};
+use crate::entry::Entry;
 use crate::openssh_options::OpenSshOptions;
 use crate::strict::{is_blank, is_comment, is_mark};
 use sshkey_base::{Error, Result};
@@ -94,7 +94,7 @@ impl Entry {
             Ok(public_key) => return Ok(OpenSshEntry::alone(alloc, public_key)),
             Err(error) => error,
         };
-        if is_memory(&error) {
+        if error.is_memory() {
             return Err(error);
         }
         OpenSshEntry::behind_options(alloc, text)

@@ -8,7 +8,7 @@ ghost use Rattle.sshkey_authorized_keys.specs.AuthorizedEntries.{IsOfKey, author
 ghost use Rattle.sshkey_authorized_keys.specs.OpenSshEntries.{IsOfOpenSshKey, openssh_entry_of};
 ghost use Rattle.sshkey_authorized_keys.specs.ReadBack.{IsReadAs, Tells, TellsNone};
 
-use crate::entry::{Entry, is_memory};
+use crate::entry::Entry;
 use crate::laws::equal_authorized_keys;
 use crate::openssh::OpenSshEntry;
 use sshkey_base::{Error, Result};
@@ -20,7 +20,7 @@ use std::alloc::Global;
 fn no_entry(error: &Error) -> Result<bool>
     ensures { TellsNone (cause error.now ≡ NoMemory) result }
 {
-    if is_memory(error) {
+    if error.is_memory() {
         return Err(Error::Memory);
     }
     Ok(false)

@@ -1,6 +1,6 @@
 //! Values that are written as bytes.
 
-ghost use Rattle.std.specs.Prelude.{◌≡◌, ◌≤◌, ◌<◌, ◌+◌, ◌^◌, ℕ, IfOk};
+ghost use Rattle.std.specs.Prelude.{◌≤◌, ◌<◌, ◌+◌, ◌^◌, ℕ, IfOk};
 ghost use Rattle.std.specs.Int.{w8, w32, w64};
 ghost use Rattle.sshkey_model.specs.Parts.{Parts, number, box, ◌&◌};
 ghost use Rattle.sshkey_model.specs.Texts.{string};
@@ -20,8 +20,8 @@ pub trait Encode {
     /// No value that fits has more bytes.
     ghost max_len: { ℕ };
 
-    /// How many bytes the normal form has. Fails with `Length` exactly if a string in it would exceed
-    /// 2^32 - 1 bytes. Does not allocate.
+    /// How many bytes the normal form has. Fails with `Length` exactly if a string in it would
+    /// exceed 2^32 - 1 bytes. Does not allocate.
     fn encoded_len(&self) -> Result<usize>
         ensures measures { Measures (normal self.now) result }
         ensures short { IfOk result (λ n. n ≤ max_len) };
@@ -35,8 +35,8 @@ pub trait Encode {
         ensures { Encodes W.fault (normal self.now)
             (W.sink writer.old) result (W.sink writer.new) };
 
-    /// How many bytes the value has after its length. Fails with `Length` exactly if it or a string in
-    /// it would exceed 2^32 - 1 bytes. Does not allocate.
+    /// How many bytes the value has after its length. Fails with `Length` exactly if it or a string
+    /// in it would exceed 2^32 - 1 bytes. Does not allocate.
     final fn encoded_len_prefixed(&self) -> Result<usize>
     where
         Self: Sized,
@@ -73,7 +73,8 @@ pub fn u32_of(len: usize) -> Result<u32>
 
 /// Writes a length of four bytes, and the bytes (RFC 4251, section 5).
 ///
-/// Fails with `Length` if there are more than 2^32 - 1; any other error is the writer's own.
+/// Fails with `Length` if there are more than 2^32 - 1; any other error is the writer's own. After
+/// an error the writer holds what it held before, and a prefix of these bytes.
 pub fn encode_string<W: Writer>(bytes: &[u8], writer: &mut W) -> Result<()>
     ensures { Encodes W.fault (string bytes.now) (W.sink writer.old) result (W.sink writer.new) }
 {
@@ -92,8 +93,8 @@ pub fn string_len(bytes: &[u8]) -> Result<usize>
     Ok(4 + len as usize)
 }
 
-/// How many bytes two values have, one after the other. Fails with `Length` exactly if a string in one
-/// of them would exceed 2^32 - 1 bytes. Does not allocate.
+/// How many bytes two values have, one after the other. Fails with `Length` exactly if a string in
+/// one of them would exceed 2^32 - 1 bytes. Does not allocate.
 #[tactic(auto, using(crate::proofs::Writing::measuring))]
 pub fn both_len<A: Encode, B: Encode>(first: &A, second: &B) -> Result<usize>
     requires { A.max_len + B.max_len < 2 ^ 64 }
@@ -103,7 +104,9 @@ pub fn both_len<A: Encode, B: Encode>(first: &A, second: &B) -> Result<usize>
     Ok(first.encoded_len()? + second.encoded_len()?)
 }
 
-/// Writes two values, one after the other.
+/// Writes two values, one after the other. Fails with `Length` if a string in one of them would
+/// exceed 2^32 - 1 bytes; any other error is the writer's own. After an error the writer holds what
+/// it held before, and a prefix of these bytes.
 #[tactic(auto, using(crate::proofs::Writing::writing))]
 pub fn encode_both<A: Encode, B: Encode, W: Writer>(
     first: &A,
@@ -119,8 +122,8 @@ pub fn encode_both<A: Encode, B: Encode, W: Writer>(
 
 /// The bytes of the normal form, newly allocated.
 ///
-/// Fails with `Length` exactly if a string in it would exceed 2^32 - 1 bytes, and otherwise only when
-/// out of memory.
+/// Fails with `Length` exactly if a string in it would exceed 2^32 - 1 bytes, and otherwise only
+/// when out of memory.
 pub fn encode_vec<T: Encode>(alloc: Global, value: &T) -> Result<Vec<u8>>
     ensures { MakesBytes (T.normal value.now) result }
 {

@@ -19,7 +19,8 @@ pub enum Error {
     /// A name is not one of those allowed.
     #[error("label invalid")]
     Label,
-    /// A length passes what is left, what can be written, or 2^32 - 1.
+    /// A stated length exceeds what is left, a value has not the size of its kind, a word of a line
+    /// is missing, or a string would exceed 2^32 - 1 bytes or the room to write into.
     #[error("length invalid")]
     Length,
     /// Bytes are left after a value.

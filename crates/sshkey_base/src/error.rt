@@ -1,8 +1,8 @@
 //! Why a key could not be read, written or used.
 
 ghost use Rattle.std.specs.IoError.{error_kind};
-ghost use Rattle.std.specs.Prelude.{◌≡◌};
-ghost use Rattle.sshkey_base.specs.Causes.{widened, of_machine};
+ghost use Rattle.std.specs.Prelude.{◌≡◌, ◌↔◌, IsTrue};
+ghost use Rattle.sshkey_base.specs.Causes.{NoMemory, cause, widened, of_machine};
 ghost use Rattle.sshkey_base.specs.declared.encoding.Error.TheVariants as encoding;
 ghost use Rattle.sshkey_base.specs.declared.error.Error.TheVariants as wide;
 
@@ -15,11 +15,15 @@ use std::io;
 use std::str::Utf8Error;
 
 /// Every error of the crates.
+///
+/// Where documentation says `Base64`, `CharacterEncoding`, `Label` or `Length`, it means `Encoding`
+/// of that fault; and so it does by `TrailingData`, but where it says `Error::TrailingData`.
 #[derive(Debug, Drop, PartialEq, Eq, thiserror::Error)]
 pub enum Error {
     /// The algorithm, the curve or the hash is not the one that was stated, or is none: the first
     /// word of a line is not the name in its key, a point is of another curve, a fingerprint begins
-    /// with the name of no hash, or options follow a key derivation that has none.
+    /// with the name of no hash, the tag of a point is 00 or 05, options follow a key derivation
+    /// that has none, or one is to be made that derives nothing.
     #[error("unknown algorithm")]
     AlgorithmUnknown,
     /// Keys or signatures of the algorithm can't be used for what was asked.
@@ -29,7 +33,8 @@ pub enum Error {
         algorithm: Algorithm,
     },
     /// A verifier said no; or a key or a signature is not one of its kind: a number in a signature
-    /// is not positive, two checkints differ, a ciphertext is not whole blocks, or a key derivation
+    /// is not positive, the curve of a security key is not P-256, the public bytes in an Ed25519
+    /// pair differ, two checkints differ, a ciphertext is not whole blocks, or a key derivation
     /// stands where nothing is encrypted.
     #[error("cryptographic error")]
     Crypto,
@@ -91,6 +96,16 @@ pub enum Error {
 
 /// The result of a call of the crates.
 pub type Result<T> = std::result::Result<T, Error>;
+
+impl Error {
+    /// Whether memory ran out.
+    pub fn is_memory(&self) -> bool
+        ensures value { IsTrue result ↔ (self.now ≡ wide.Memory) }
+        ensures cause { IsTrue result ↔ (cause self.now ≡ NoMemory) }
+    {
+        matches!(self, Error::Memory)
+    }
+}
 
 impl From<encoding::Error> for Error {
     ghost from_gives = { λ x e. e ≡ widened x };

@@ -2,7 +2,7 @@
 
 ghost use Rattle.std.specs.Prelude.{◌≡◌, ◌+◌, ◌^◌, ℕ, List, true, Err, length, nat_le};
 ghost use Rattle.sshkey_model.specs.Names.{are_ascii};
-ghost use Rattle.sshkey_model.specs.Parts.{Parts, Any, bytes};
+ghost use Rattle.sshkey_model.specs.Parts.{Any, bytes};
 ghost use Rattle.sshkey_model.specs.Reading.{Fault, Whole, Label as label_fault, bytes_at, checked_at};
 ghost use Rattle.sshkey_model.specs.Texts.{string};
 ghost use Rattle.sshkey_model.specs.Grammar.{Checks};

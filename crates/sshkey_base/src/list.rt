@@ -1,6 +1,6 @@
 //! Lists of values, all of them in one string.
 
-ghost use Rattle.std.specs.Prelude.{◌≡◌, ◌+◌, ◌<◌, ◌^◌, ℕ, List, IfOk};
+ghost use Rattle.std.specs.Prelude.{◌+◌, ◌<◌, ◌^◌, ℕ, List, IfOk};
 ghost use Rattle.sshkey_model.specs.Parts.{box, each};
 ghost use Rattle.sshkey_model.specs.Texts.{texts, text_at, texts_at};
 ghost use Rattle.sshkey_base.specs.Causes.{encoding_cause};
@@ -34,8 +34,9 @@ pub fn each_len<T: Encode>(values: &[T]) -> Result<u32>
     Ok(len)
 }
 
-/// Writes the values, one after the other, without a length before them. Fails as writing them
-/// does.
+/// Writes the values, one after the other, without a length before them. Fails with `Length` if a
+/// string in one of them would exceed 2^32 - 1 bytes; any other error is the writer's own. After an
+/// error the writer holds what it held before, and a prefix of these bytes.
 pub fn encode_each<T: Encode, W: Writer>(values: &[T], writer: &mut W) -> Result<()>
     ensures { Encodes W.fault (each T.normal values.now)
         (W.sink writer.old) result (W.sink writer.new) }
@@ -60,7 +61,7 @@ pub fn list_len<T: Encode>(values: &[T]) -> Result<usize>
 
 /// Writes a list: a length of four bytes, and the values, one after the other.
 ///
-/// Fails as writing the values does, and with `Length` if they have more than 2^32 - 1 bytes.
+/// Fails as `encode_each` does, and with `Length` if the values have more than 2^32 - 1 bytes.
 pub fn encode_list<T: Encode, W: Writer>(values: &[T], writer: &mut W) -> Result<()>
     ensures { Encodes W.fault (box (each T.normal values.now))
         (W.sink writer.old) result (W.sink writer.new) }

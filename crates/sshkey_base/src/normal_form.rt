@@ -1,8 +1,7 @@
 //! Values that are read back from what is written of them.
 
-ghost use Rattle.std.specs.Prelude.{◌≡◌, ℕ, length};
-ghost use Rattle.std.specs.Int.{w8, w32, w64};
-ghost use Rattle.sshkey_model.specs.Parts.{Fits, flat, Any};
+ghost use Rattle.std.specs.Prelude.{◌≡◌, length};
+ghost use Rattle.sshkey_model.specs.Parts.{Fits, flat};
 ghost use Rattle.sshkey_model.specs.Texts.{IsText};
 ghost use Rattle.sshkey_base.specs.Leaves.{byte_normal, number32_normal, number64_normal, string_normal, array_normal};
 ghost use Rattle.sshkey_base.specs.Labels.{label_normal};

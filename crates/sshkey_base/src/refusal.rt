@@ -1,6 +1,6 @@
 //! Error types of reading calls.
 
-ghost use Rattle.std.proofs.Common.{refl, sym, ap, ◌∙◌};
+ghost use Rattle.std.proofs.Common.{ap, ◌∙◌};
 ghost use Rattle.std.specs.Prelude.{◌≡◌};
 ghost use Rattle.sshkey_base.specs.Causes.{Cause, cause as wide_cause, encoding_cause, same_cause};
 ghost use Rattle.sshkey_base.specs.declared.encoding.Error as narrow;

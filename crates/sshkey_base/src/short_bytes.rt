@@ -33,7 +33,8 @@ impl<const MAX: usize> ShortBytes<MAX> {
         &self.bytes[..self.len]
     }
 
-    /// The next `len` bytes where they lie in memory, if they are not more than `MAX`.
+    /// The next `len` bytes where they lie in memory, if they are not more than `MAX`. `None` also
+    /// where fewer are left, and always from a reader that does not hold its bytes.
     pub fn ahead<R: Reader>(len: usize, reader: &R) -> Option<&[u8]>
         ensures lent { IfSome result (λ bytes. Reads (λ x. x)
             (checked_at (at_most MAX) (bytes_at len)) (R.source reader.now)
@@ -47,7 +48,7 @@ impl<const MAX: usize> ShortBytes<MAX> {
     }
 
     /// The next `len` bytes. Fails with `Length` if there are more than `MAX`, or more than are
-    /// announced.
+    /// announced. After an error some bytes may have been consumed.
     pub fn take_from<R: Reader>(len: usize, reader: &mut R) -> Result<ShortBytes<MAX>>
         ensures gives { DecodesAlways short_of (checked_at (at_most MAX) (bytes_at len))
             R.source reader.old result reader.new }

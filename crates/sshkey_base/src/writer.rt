@@ -37,7 +37,7 @@ impl Writer for Vec<u8> {
     }
 }
 
-/// A slice that is filled from its front; what stands behind what is written stays as it was.
+/// A slice that is filled from its front. The bytes after what is written stay as they were.
 #[derive(Drop)]
 pub struct SliceWriter<'s> {
     slice: &'s mut [u8],
@@ -78,8 +78,8 @@ impl fmt::Debug for SliceWriter<'_> {
     }
 }
 
-/// Fails with `Length` if the bytes pass the rest of the slice; then the slice is as it was. What
-/// stands behind what is written is as it was in any case.
+/// Fails with `Length` if the bytes exceed the rest of the slice; then the slice is as it was. The
+/// bytes after what is written are as they were in any case.
 #[tactic(auto, using(crate::proofs::Writing::wrote_none))]
 impl Writer for SliceWriter<'_> {
     ghost use Rattle.sshkey_base.specs.SliceWriter.{slice_sink, KeepsBehind};

@@ -1,7 +1,6 @@
 //! A part of what is written.
 
 ghost use Rattle.std.specs.Prelude.{◌≡◌, ◌-◌, ◌≤◌, ◌∷◌, [], None, length, take, drop};
-ghost use Rattle.sshkey_base.specs.Sink.{Sink};
 
 use crate::history::{History, Piece};
 use sshkey_base::Writer;

@@ -14,9 +14,9 @@ use sshkey_base::{Encode, Writer};
 /// The bytes that are encoded at once, in whole groups.
 pub(crate) const PIECE: usize = 48;
 
-/// Writes bytes in padded Base64, piece by piece. Does not allocate.
+/// Writes bytes in padded Base64, piece by piece. Allocates only where the writer does.
 ///
-/// Any refusal is the writer's own; then it holds what it held, and a beginning of the word.
+/// Any error is the writer's own; then it holds what it held before, and a prefix of the word.
 pub fn write_base64<W: Writer>(blob: &[u8], writer: &mut W) -> Result<()>
     ensures { Encodes W.fault (bytes (encode_of standard blob.now))
         (W.sink writer.old) result (W.sink writer.new) }
@@ -34,10 +34,11 @@ pub fn write_base64<W: Writer>(blob: &[u8], writer: &mut W) -> Result<()>
     Ok(())
 }
 
-/// Writes a value's normal form, of so many bytes, in padded Base64. Does not allocate.
+/// Writes a value's normal form, of `len` bytes, in padded Base64. Allocates only where the writer
+/// does.
 ///
 /// The value is encoded once for each 3,072 of its bytes, so for n times the bytes it takes n * n
-/// times as long. Any refusal is the writer's own; then it holds what it held, and a beginning of
+/// times as long. Any error is the writer's own; then it holds what it held before, and a prefix of
 /// the word.
 pub fn write_word<T: Encode, W: Writer>(value: &T, len: usize, writer: &mut W) -> Result<()>
     requires boxes { BoxesFit (T.normal value.now) }

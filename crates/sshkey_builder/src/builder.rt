@@ -2,7 +2,7 @@
 
 ghost use Rattle.rand_core.specs.Stream.{fill_bytes};
 ghost use Rattle.std.specs.Borrow.{sem};
-ghost use Rattle.std.specs.Prelude.{◌≡◌, [], OnErr, OnOk, string_bytes};
+ghost use Rattle.std.specs.Prelude.{◌≡◌, OnErr, OnOk, string_bytes};
 ghost use Rattle.sshkey_keys.specs.Keys.{key_of};
 ghost use Rattle.sshkey_model.specs.Certificates.{forever};
 ghost use Rattle.sshkey_model.specs.Drafts.{Serial, Kind, KeyId, Comment, Principal, AllPrincipals, Critical, Extension, begun, bad_start, bad_window};

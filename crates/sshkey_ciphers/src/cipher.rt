@@ -71,14 +71,14 @@ impl Cipher {
         }
     }
 
-    /// Whether it is none.
+    /// Whether it is `None`: the key is not encrypted.
     pub fn is_none(&self) -> bool
         ensures { IsTrue result ↔ (cipher_of self.now ≡ NoCipher) }
     {
         matches!(self, Cipher::None)
     }
 
-    /// Whether it is a cipher.
+    /// Whether it is not `None`.
     pub fn is_some(&self) -> bool
         ensures { IsTrue result ↔ (cipher_of self.now ≢ NoCipher) }
     {
@@ -112,7 +112,7 @@ impl Cipher {
         )
     }
 
-    /// How many bytes are wanted after so many to make whole blocks: the least number that does.
+    /// The least number of bytes that after `len` bytes completes a block.
     pub fn padding_len(&self, len: usize) -> usize
         ensures { result ≡ padding_length (block_size (cipher_of self.now)) len }
     {

@@ -49,8 +49,8 @@ fn check_blocks(ciphertext: Vec<u8>, cipher: Cipher) -> Result<Vec<u8>>
     Ok(ciphertext)
 }
 
-/// Reads the tag of 16 bytes, where the cipher has one (OpenSSH, PROTOCOL.key); of the other
-/// ciphers it is none, and nothing is read.
+/// Reads the tag of 16 bytes, where the cipher has one (OpenSSH, PROTOCOL.key). Returns `None`, and
+/// reads nothing, for a cipher without a tag.
 ///
 /// A sound source is rejected only with `Length`, where fewer bytes are left. Does not allocate.
 #[tactic(auto, using(sshkey_base::proofs::Steps::steps, sshkey_base::proofs::Stopping::stopping))]

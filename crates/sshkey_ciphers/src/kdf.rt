@@ -39,11 +39,10 @@ pub enum Kdf {
 }
 
 impl Kdf {
-    /// bcrypt with 16 rounds and a salt of the next 16 bytes of the generator, for which memory is
-    /// asked first.
+    /// bcrypt with 16 rounds and the next 16 bytes of the generator as salt.
     ///
-    /// Fails with `AlgorithmUnknown` exactly if no key is to be derived. A rejected call draws
-    /// nothing.
+    /// Fails with `AlgorithmUnknown` exactly for `KdfAlg::None`, and otherwise only when out of
+    /// memory. After an error the generator is unchanged.
     pub fn new<R: Rng + CryptoRng>(alloc: Global, algorithm: KdfAlg, rng: &mut R) -> Result<Kdf>
         ensures gives { Answers kdf_of cause (kdf_with_salt (kdf_algorithm_of algorithm)
             (fill_bytes 16 (R.stream rng.old)).0) result }
@@ -118,11 +117,12 @@ impl Default for Kdf {
     }
 }
 
-/// The name, and after it the number 0 where no key is derived, else a string of salt and rounds.
+/// The name as a string, and the options as a string: no bytes for `none`, otherwise the salt as a
+/// string and the rounds in four bytes (OpenSSH, PROTOCOL.key).
 ///
-/// Fails with `Length` if a number or a string passes what is left, with `Label` for another name,
-/// with `AlgorithmUnknown` for another number, and `TrailingData` for bytes after the rounds in
-/// their string.
+/// Fails with `Length` if a stated length exceeds what is left, with `Label` for another name, with
+/// `AlgorithmUnknown` if the options of `none` are not empty, and with `TrailingData` for bytes
+/// after the rounds in their string.
 #[tactic(auto, using(sshkey_format::proofs::Chosen::chosen, crate::specs::KdfFormats::kdf_chosen, sshkey_base::specs::Lengths::label_lengths))]
 impl Decode for Kdf {
     type Error = Error;

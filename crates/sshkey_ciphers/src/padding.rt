@@ -53,10 +53,11 @@ fn is_rising(bytes: &[u8]) -> bool
 }
 
 /// Writes the value, and after it 01, 02, 03 and so on up to a multiple of eight bytes (OpenSSH,
-/// PROTOCOL.key). Does not allocate.
+/// PROTOCOL.key). Allocates only where the writer does.
 ///
 /// Fails with `Length` exactly if a string in the value would exceed 2^32 - 1 bytes; any other
-/// error is the writer's own. Then it holds what it held, and a beginning of these bytes.
+/// error is the writer's own. Then the writer holds what it held before, and a prefix of these
+/// bytes.
 #[tactic(auto, using(sshkey_base::proofs::Writing::writing))]
 pub fn encode_padded<T: Encode, W: Writer>(value: &T, writer: &mut W) -> encoding::Result<()>
     ensures { Encodes W.fault (padded (T.normal value.now))

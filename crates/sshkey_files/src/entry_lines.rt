@@ -1,6 +1,6 @@
 //! The entries of a text, as parts of its lines.
 
-ghost use Rattle.std.specs.Prelude.{◌≡◌, ◌++◌, List, ℕ, map};
+ghost use Rattle.std.specs.Prelude.{◌≡◌, List, ℕ, map};
 ghost use Rattle.std.specs.Iterator.{YieldsFirstRef, item_count};
 ghost use Rattle.std.specs.List.{before_first};
 ghost use Rattle.std.specs.Str.Iter.{lines_rest};

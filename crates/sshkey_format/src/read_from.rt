@@ -5,7 +5,7 @@ ghost use Rattle.sshkey_base.specs.Reading.{GivesAlways};
 
 use sshkey_base::{Reader, Refusal};
 
-/// A value that a reader of this kind gives without memory: a number, or a part of the slice that
+/// A value that a reader of this kind returns without memory: a number, or a part of the slice that
 /// is read.
 ///
 /// Its format is that of its owned form, where it has one: so the same bytes are accepted, and the

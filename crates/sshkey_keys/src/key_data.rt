@@ -1,6 +1,6 @@
 //! Public keys of any kind.
 
-ghost use Rattle.std.specs.Prelude.{◌≡◌, ◌≤◌, ◌+◌, ◌*◌, ◌^◌, ◌||◌, ℕ, List, IfOk, IfErr, IsOk, IsTrue, None};
+ghost use Rattle.std.specs.Prelude.{◌≡◌, ◌≤◌, ◌+◌, ◌*◌, ◌^◌, ◌||◌, IfOk, IfErr, IsOk, IsTrue, None};
 ghost use Rattle.sshkey_model.specs.Keys.{Key, key_algorithm, normal_key, body, unhashed, IsKey};
 ghost use Rattle.sshkey_model.specs.Lines.{key_name};
 ghost use Rattle.sshkey_base.specs.Reading.{AcceptsFront};
@@ -58,7 +58,7 @@ pub enum KeyData {
     Other(OpaquePublicKey),
 }
 
-/// By hand, so that who holds a key lets it go by one call, and not by the parts of each kind.
+/// By hand, so that who holds a key drops it by one call, and not by the parts of each kind.
 impl Drop for KeyData {
     fn drop(self) {
         match self {

@@ -1,11 +1,8 @@
 //! Public keys as slices of their parts.
 
-ghost use Rattle.std.specs.Prelude.{◌≡◌, Ok};
+ghost use Rattle.std.specs.Prelude.{Ok};
 ghost use Rattle.sshkey_base.specs.Names.{algorithm_of};
-ghost use Rattle.sshkey_model.specs.Keys.{Key};
 ghost use Rattle.sshkey_model.specs.Names as model;
-ghost use Rattle.sshkey_model.specs.Reading.{whole};
-ghost use Rattle.sshkey_keys.specs.Keys.{key_data_at};
 ghost use Rattle.sshkey_keys_ref.specs.KeyRef.{HoldsBody, HoldsKey};
 ghost use Rattle.sshkey_keys_ref.specs.NameRef.{named_of};
 ghost use Rattle.sshkey_keys_ref.specs.Taking.{Finds};

@@ -1,7 +1,6 @@
 //! Points of elliptic curves.
 
 ghost use Rattle.std.specs.Prelude.{◌≡◌, ◌≤◌, ◌-◌, true, take, drop, replicate, option_map};
-ghost use Rattle.sshkey_model.specs.Points.{is_point};
 ghost use Rattle.sshkey_base.specs.Names.{curve_of};
 ghost use Rattle.sshkey_kinds.specs.PointSizes.{curve_of_longest, is_point_within};
 

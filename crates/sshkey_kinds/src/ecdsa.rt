@@ -39,8 +39,8 @@ impl EcdsaPublicKey {
     ghost use Rattle.std.specs.Prelude.{◌↔◌, IsOk};
     ghost use Rattle.sshkey_kinds.specs.EcdsaPublicKey.{ecdsa_of, sec1_from, IsAnyPoint};
 
-    /// The key of a point string (SEC 1, section 2.3.3), whose curve its tag and its size tell. The
-    /// answer is `Ok` exactly where the bytes are a point string of one of the curves.
+    /// The key of a point string (SEC 1, section 2.3.3), whose curve its tag and its size tell.
+    /// Returns `Ok` exactly if the bytes are a point string of one of the curves.
     ///
     /// Fails with `Length` for no bytes and where the size is that of no curve's coordinates, with
     /// `AlgorithmUnknown` for the tags 00 and 05, and with `Ecdsa` for any other tag but 02, 03 and

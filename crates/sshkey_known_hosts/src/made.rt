@@ -11,7 +11,6 @@ use crate::entry::Entry;
 use crate::host_patterns::HostPatterns;
 use crate::laws::equal_known_hosts;
 use crate::marker::Marker;
-use crate::verdict::is_memory;
 use sshkey_base::{Error, Result};
 use sshkey_public::PublicKey;
 use std::alloc::Global;
@@ -32,7 +31,7 @@ fn is_read_back(alloc: Global, line: &str, entry: &Entry) -> Result<bool>
     match Entry::from_line(alloc, line) {
         Ok(read) => Ok(is_same_entry(&read, entry)),
         Err(error) => {
-            if is_memory(&error) {
+            if error.is_memory() {
                 return Err(Error::Memory);
             }
             Ok(false)
@@ -48,7 +47,7 @@ fn is_read_back_openssh(alloc: Global, line: &str, entry: &Entry) -> Result<bool
     match Entry::from_line_openssh(alloc, line) {
         Ok(read) => Ok(is_same_entry(&read, entry)),
         Err(error) => {
-            if is_memory(&error) {
+            if error.is_memory() {
                 return Err(Error::Memory);
             }
             Ok(false)

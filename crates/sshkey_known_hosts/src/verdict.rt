@@ -1,7 +1,6 @@
 //! What a text of known_hosts says of a host's key.
 
 ghost use Rattle.std.specs.Prelude.{◌≡◌, ◌<◌, ◌↔◌, ◌∷◌, [], ℕ, List, IsTrue, IfOk, IfErr, length};
-ghost use Rattle.sshkey_base.specs.Causes.{cause, NoMemory};
 ghost use Rattle.sshkey_base.specs.declared.error.Error.TheVariants as wide;
 ghost use Rattle.sshkey_files.specs.Fields.{filled_lines};
 ghost use Rattle.sshkey_files.specs.HostNames.{known_name};
@@ -39,12 +38,6 @@ pub enum Verdict {
     Unknown,
 }
 
-pub(crate) fn is_memory(error: &Error) -> bool
-    ensures { IsTrue result ↔ (cause error.now ≡ NoMemory) }
-{
-    matches!(error, Error::Memory)
-}
-
 /// The entry of a line as OpenSSH reads it, or none.
 pub(crate) fn read_entry(alloc: Global, line: &str) -> Result<Option<Entry>>
     ensures answer { IfOk result (ReadsOrNone known_host_of IsHostLine line.now) }
@@ -53,7 +46,7 @@ pub(crate) fn read_entry(alloc: Global, line: &str) -> Result<Option<Entry>>
     match Entry::from_line_openssh(alloc, line) {
         Ok(entry) => Ok(Some(entry)),
         Err(error) => {
-            if is_memory(&error) {
+            if error.is_memory() {
                 return Err(Error::Memory);
             }
             Ok(None)
@@ -119,7 +112,7 @@ fn is_for_others<H: HmacSha1>(alloc: Global, line: &str, name: &str, hmac: &H) -
     match HostPatterns::from_text(alloc, hosts) {
         Ok(hosts) => Ok(!hosts.are_for(name, hmac)),
         Err(error) => {
-            if is_memory(&error) {
+            if error.is_memory() {
                 return Err(Error::Memory);
             }
             Ok(false)

@@ -1,9 +1,8 @@
 //! Critical options and extensions.
 
-ghost use Rattle.std.specs.Prelude.{◌≡◌, ◌+◌, ◌*◌, ◌^◌, ◌<◌, ◌≤◌, ℕ, List, [], length, IfOk, IfErr, IsOk, OnErr, OnOk, map, option_map, is_some, IsTrue, ◌↔◌, All, String, string_bytes};
+ghost use Rattle.std.specs.Prelude.{◌≡◌, ◌+◌, ◌*◌, ◌^◌, ◌<◌, List, [], length, IfOk, IfErr, IsOk, OnErr, OnOk, map, option_map, is_some, IsTrue, ◌↔◌, All, String, string_bytes};
 ghost use Rattle.std.specs.Global.{Global};
 ghost use Rattle.std.specs.Map.Iter.{ShowsInOrder, deref_pair};
-ghost use Rattle.std.specs.BTreeMap.{get_by_text, IsUnchanged};
 ghost use Rattle.sshkey_model.specs.OptionMaps.{value_of, with_option, with_options};
 ghost use Rattle.sshkey_model.specs.Options.{CertificateOption, AreOptions, normal_options};
 ghost use Rattle.sshkey_base.specs.Causes.{cause};

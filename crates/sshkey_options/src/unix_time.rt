@@ -1,6 +1,6 @@
 //! Times.
 
-ghost use Rattle.std.specs.Prelude.{◌≡◌, ℕ, true, IfOk};
+ghost use Rattle.std.specs.Prelude.{◌≡◌, ℕ, true};
 ghost use Rattle.sshkey_model.specs.Certificates.{is_time};
 ghost use Rattle.sshkey_model.specs.Parts.{number};
 ghost use Rattle.std.specs.Int.{w64};

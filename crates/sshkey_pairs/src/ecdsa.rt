@@ -131,9 +131,10 @@ impl<const SIZE: usize> fmt::Debug for EcdsaPrivateKey<SIZE> {
 /// A string of `SIZE` bytes, or of 00 and so many, or of fewer that are the scalar's shortest
 /// mpint.
 ///
-/// Fails with `Length` if the string passes what is left; with `FormatEncoding` for one more byte
-/// that does not begin with 00, and for fewer that are no such mpint; with `TrailingData` for two
-/// more. Does not allocate.
+/// Fails with `Length` if the string exceeds what is left; with `FormatEncoding` for `SIZE + 1`
+/// bytes that do not begin with 00, and for fewer than `SIZE` that are no such mpint; with
+/// `TrailingData` and the number of bytes beyond `SIZE` for `SIZE + 2` bytes or more. Does not
+/// allocate.
 #[tactic(auto, using(sshkey_base::proofs::Steps::steps))]
 impl<const SIZE: usize> Decode for EcdsaPrivateKey<SIZE> {
     type Error = Error;

@@ -78,7 +78,7 @@ impl PrivateKey {
     /// The private key of that pair, not encrypted, with that comment. Its public key has the
     /// algorithm of the pair, and its checkint is the one that is derived from the pair.
     ///
-    /// `Encrypted` exactly for an encrypted pair; otherwise it fails only when out of memory, and
+    /// Fails with `Encrypted` exactly for an encrypted pair; otherwise only when out of memory, and
     /// for an ECDSA or an Ed25519 pair never.
     pub fn new(alloc: Global, key_data: KeypairData, comment: String) -> Result<PrivateKey>
         ensures value { GivesNew (pair_of key_data) (string_bytes comment) result }
@@ -103,7 +103,7 @@ impl PrivateKey {
     /// The private key of that pair, not encrypted, under the same algorithm and with an empty
     /// comment.
     ///
-    /// `Encrypted` exactly for an encrypted pair; otherwise it fails only when out of memory, and
+    /// Fails with `Encrypted` exactly for an encrypted pair; otherwise only when out of memory, and
     /// for an ECDSA or an Ed25519 pair never.
     pub fn from_keypair(alloc: Global, key_data: KeypairData) -> Result<PrivateKey>
         ensures value { GivesNew (pair_of key_data) [] result }
@@ -127,8 +127,8 @@ impl PrivateKey {
     /// multiple of eight bytes, `Crypto` where the checkint is not the same again, the errors of
     /// `KeypairData`, `PublicKey` where the pair has another public half, `Length` for eight bytes
     /// or more after the comment, `FormatEncoding` for other padding, `Crypto` for a ciphertext
-    /// that is not whole blocks, and `TrailingData` with the number of bytes after an encrypted
-    /// key. Of a source with a fault, a stated length of the opening, or of the private part, that
+    /// that is not whole blocks, and `Error::TrailingData` with the number of bytes after an
+    /// encrypted key. Of a source with a fault, a stated length of the opening, or of the private part, that
     /// passes all that was announced is `Length`, unless memory ran out for a value before it; how
     /// else it is rejected is open.
     pub fn decode<R: Reader>(alloc: Global, reader: &mut R) -> Result<PrivateKey>
@@ -147,8 +147,8 @@ impl PrivateKey {
     ///
     /// Unless memory runs out, they are rejected only if they spell none: with the errors of
     /// `decode`, or `Encoding(TrailingData)` with the number of bytes after one that is not
-    /// encrypted. Where a stated length passes the bytes, out of memory is answered only if it ran
-    /// out for a value before it.
+    /// encrypted. Where a stated length exceeds the bytes, it fails with `Memory` only if that
+    /// ran out for a value before it.
     pub fn from_bytes(alloc: Global, bytes: &[u8]) -> Result<PrivateKey>
         ensures gives { GivesWhole private_of cause (whole private_value_at)
             (all_of bytes.now) result }
@@ -171,8 +171,8 @@ impl PrivateKey {
     ///
     /// Unless memory runs out, the bytes are rejected only if they spell no such key: with the
     /// errors of `from_bytes`, but with `Length` for 256 bytes or more after the comment, not for
-    /// eight. Padding does not allocate. Where a stated length passes the bytes, out of memory is
-    /// answered only if it ran out for a value before it.
+    /// eight. Padding does not allocate. Where a stated length exceeds the bytes, it fails with
+    /// `Memory` only if that ran out for a value before it.
     pub fn from_padded_bytes(alloc: Global, bytes: &[u8]) -> Result<PrivateKey>
         ensures gives { GivesWhole private_of cause (whole padded_value_at)
             (all_of bytes.now) result }
@@ -266,7 +266,7 @@ impl PrivateKey {
         self.public_key.fingerprint(alloc, hash_alg)
     }
 
-    /// Gives the key another comment, which of an encrypted key is not written. Does not allocate.
+    /// Replaces the comment, which of an encrypted key is not written. Does not allocate.
     pub fn set_comment(&mut self, comment: String)
         ensures value { private_of self.new
             ≡ with_comment (string_bytes comment) (private_of self.old) }

@@ -1,13 +1,12 @@
 //! All of a certificate that its signature is over.
 
-ghost use Rattle.std.specs.Prelude.{◌≡◌, ◌≤◌, ◌+◌, ◌*◌, ◌^◌, ◌<◌, IfOk, List, ℕ};
-ghost use Rattle.sshkey_base.specs.Causes.{cause};
-ghost use Rattle.sshkey_base.specs.Sink.{Encodes, Measures};
+ghost use Rattle.std.specs.Prelude.{◌+◌, ◌*◌, ◌^◌, ◌<◌};
 ghost use Rattle.sshkey_model.specs.Certificates.{SignedFields, normal_to_be_signed};
 ghost use Rattle.sshkey_keys.specs.Blobs.{MakesBlob};
 ghost use Rattle.sshkey_to_be_signed.specs.ToBeSignedFormats.{to_be_signed_format};
 
 mod copy;
+mod order;
 mod subject;
 mod write;
 
@@ -19,6 +18,8 @@ use sshkey_keys::KeyData;
 use sshkey_options::{CertType, EndTime, OptionsMap, UnixTime};
 use std::alloc::Global;
 use subject::Subject;
+
+pub use order::BehindKey;
 
 /// All of a certificate but its signature and its comment (PROTOCOL.certkeys).
 #[derive(Debug, Drop, PartialEq, Eq, PartialOrd, Ord)]
@@ -84,14 +85,19 @@ impl Decode for ToBeSigned {
     ghost format = { to_be_signed_format };
 
     fn decode<R: Reader>(alloc: Global, reader: &mut R) -> Result<ToBeSigned> {
-        type Grant = Then<Then<Wide<u64>, CertType>, Then<Wide<Text>, Wide<Vec<String>>>>;
-        type Window = Then<UnixTime, EndTime>;
-        type Limits = Then<OptionsMap, OptionsMap>;
-        type Authority = Then<Wide<Bytes>, Boxed<KeyData>>;
-        type Fields = Then<Then<Subject, Grant>, Then<Window, Then<Limits, Authority>>>;
-        let Then(Then(subject, grant), Then(window, Then(limits, authority))) = Fields::decode(
-            alloc, reader,
-        )?;
+        type Owned = BehindKey<
+            Wide<u64>,
+            CertType,
+            Wide<Text>,
+            Wide<Vec<String>>,
+            UnixTime,
+            EndTime,
+            OptionsMap,
+            Wide<Bytes>,
+            Boxed<KeyData>,
+        >;
+        let Then(subject, behind_key) = Then::<Subject, Owned>::decode(alloc, reader)?;
+        let Then(grant, Then(window, Then(limits, authority))) = behind_key;
         let Subject { nonce, key } = subject;
         let Then(Then(Wide(serial), cert_type), Then(Wide(key_id), Wide(valid_principals))) = grant;
         let Then(valid_after, valid_before) = window;

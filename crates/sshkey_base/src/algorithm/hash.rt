@@ -61,7 +61,8 @@ impl HashAlg {
         }
     }
 
-    /// The digest of the message, of `digest_size` bytes (FIPS 180-4).
+    /// The digest of the message, 32 or 64 bytes (FIPS 180-4), newly allocated. Fails only with
+    /// `Memory`.
     pub fn digest(&self, alloc: Global, message: &[u8]) -> Result<Vec<u8>>
         ensures ok { IfOk result
             (λ digest. digest.items ≡ digest_of (hash_of self.now) message.now) }

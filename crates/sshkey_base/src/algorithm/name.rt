@@ -55,8 +55,11 @@ impl Model for AlgorithmName {
 }
 
 impl AlgorithmName {
-    /// The name with those bytes. Fails with `Label` if they are none. A fixed name with an at sign
-    /// is accepted too. Allocates only for a name.
+    /// The private-use name with those bytes (RFC 4251, section 6). Allocates only for a name.
+    ///
+    /// Fails with `Label` exactly if the text is none: it is not ASCII, has more than 64 bytes, or
+    /// has not exactly one at sign that is neither first nor last; otherwise only when out of
+    /// memory. A fixed name with an at sign is accepted too.
     pub fn new(alloc: Global, text: &str) -> Result<AlgorithmName>
         ensures gives { Names (λ name. name) cause (own_name_from text.now) result }
         ensures refused { is_own_name text.now ≡ false →

@@ -20,10 +20,10 @@ impl Mpint {
     /// string of so many bytes, or of 00 and so many, or of fewer that are the number's shortest
     /// form (RFC 4251, section 5).
     ///
-    /// Fails with `Length` if the string passes what is left, with `FormatEncoding` for one more
-    /// byte that does not begin with 00, and for fewer that are no such form; with `TrailingData`
-    /// for two more. Does not allocate. After an error some of the remaining bytes may have been
-    /// consumed.
+    /// Fails with `Length` if the string exceeds what is left; with `FormatEncoding` for `SIZE + 1`
+    /// bytes that do not begin with 00, and for fewer than `SIZE` that are no such form; with
+    /// `TrailingData` and the number of bytes beyond `SIZE` for `SIZE + 2` bytes or more. Does not
+    /// allocate. After an error some of the remaining bytes may have been consumed.
     pub fn decode_fixed<const SIZE: usize, R: Reader>(reader: &mut R) -> Result<[u8; SIZE]>
         ensures gives { GivesBytes (value_at (scalar_at SIZE))
             R.source reader.old result reader.new }

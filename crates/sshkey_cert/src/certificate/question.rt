@@ -28,7 +28,7 @@ pub struct CertificateQuestion<'a> {
 
 impl Certificate {
     /// What a verifier is asked about the certificate, in memory of its own: it may be kept when
-    /// the certificate is let go. Fails only when out of memory.
+    /// the certificate is dropped. Fails only when out of memory.
     pub fn question(&self, alloc: Global) -> Result<CertificateQuestion<'static>>
         ensures value { IfOk result
             (λ q. asks q ≡ certificate_question (certificate_of self.now)) }

@@ -1,7 +1,7 @@
 //! One option.
 
 ghost use Rattle.std.specs.Prelude.{◌≡◌, option_map};
-ghost use Rattle.sshkey_model.specs.Options.{in_order, is_after, option_at, option_before, option_value_from};
+ghost use Rattle.sshkey_model.specs.Options.{is_after, option_at, option_before, option_value_from};
 ghost use Rattle.sshkey_model.specs.Reading.{box_at, whole};
 ghost use Rattle.sshkey_model.specs.Texts.{text_at};
 ghost use Rattle.sshkey_base.specs.Answers.{AnswersAlways};

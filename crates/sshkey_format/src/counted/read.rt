@@ -15,8 +15,8 @@ use std::alloc::Global;
 /// A list of values after their number, which is four bytes; each value has a byte at least.
 ///
 /// Decoding fails with `Length` where more values are counted than bytes are left, without an
-/// allocation; else with the first error of a value. Memory for the list is asked for only once the
-/// first value stands there.
+/// allocation; otherwise with the first error of a value. The list is allocated only once its first
+/// value was read.
 #[derive(Drop)]
 pub struct Counted<T>(pub Vec<T>);
 

@@ -13,8 +13,7 @@ use std::alloc::Global;
 /// Reads values, one after the other, up to the end of the reader: what [`encode_each`] writes,
 /// where nothing follows it.
 ///
-/// Fails with the first error of a value. Memory is asked for only once the first value stands
-/// there, or needs some.
+/// Fails with the first error of a value. The list is allocated only once its first value was read.
 ///
 /// [`encode_each`]: sshkey_base::encode_each
 #[tactic(auto, using(sshkey_base::proofs::Places::places))]

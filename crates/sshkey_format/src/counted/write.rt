@@ -1,6 +1,5 @@
 //! How a counted list is written, and how many bytes it has.
 
-ghost use Rattle.std.specs.Prelude.{length};
 ghost use Rattle.sshkey_base.specs.Sink.{Encodes, MeasuresBoxed};
 ghost use Rattle.sshkey_format.specs.Counted.{counted};
 
@@ -16,7 +15,7 @@ pub fn counted_len<T: Encode>(values: &[T]) -> Result<u32>
 }
 
 /// Writes a counted list: the number of the values in four bytes, and the values, one after the
-/// other. Fails as writing the values does, and with `Length` if they are more than 2^32 - 1.
+/// other. Fails as `encode_each` does, and with `Length` if the values are more than 2^32 - 1.
 pub fn encode_counted<T: Encode, W: Writer>(values: &[T], writer: &mut W) -> Result<()>
     ensures { Encodes W.fault (counted T.normal values.now)
         (W.sink writer.old) result (W.sink writer.new) }

@@ -11,7 +11,7 @@ ghost use Rattle.sshkey_base.specs.Source.{Later, all_of};
 ghost use Rattle.sshkey_base.specs.Stops.{OverrunsString, StopsBy};
 ghost use Rattle.sshkey_base.specs.Sink.{Encodes, Measures};
 ghost use Rattle.sshkey_model.specs.Reading.{checked_at, string_at, whole};
-ghost use Rattle.sshkey_model.specs.Signatures.{Signature as TheSignature, IsSignature, IsSignatureBlob, signature, signature_blob, signature_blob_at, signature_at, trailed_at};
+ghost use Rattle.sshkey_model.specs.Signatures.{Signature as TheSignature, IsSignature, signature, signature_blob, signature_blob_at, signature_at, trailed_at};
 ghost use Rattle.sshkey_keys.specs.Blobs.{ReadsFrontOf, MakesBlob};
 ghost use Rattle.sshkey_keys.specs.SignatureForms.{joined_from, string_from};
 ghost use Rattle.sshkey_keys.specs.KeyFormats.{blob_format, signature_format, signature_under};

@@ -1,6 +1,6 @@
 //! How options are written.
 
-ghost use Rattle.std.specs.Prelude.{◌≡◌, ◌+◌, ◌*◌, ◌^◌, ◌<◌, ◌≤◌, IfOk};
+ghost use Rattle.std.specs.Prelude.{◌+◌, ◌*◌, ◌^◌, ◌<◌};
 ghost use Rattle.sshkey_model.specs.Options.{option, option_value, Plain};
 ghost use Rattle.sshkey_model.specs.Parts.{each};
 ghost use Rattle.sshkey_base.specs.Sink.{Encodes, MeasuresBoxed};

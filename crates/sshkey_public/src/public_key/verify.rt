@@ -28,10 +28,11 @@ impl PublicKey {
     /// Verifies an SSH signature of the message, which has to be by this key and in that namespace,
     /// by the caller's verifier.
     ///
-    /// Fails with `PublicKey` exactly if the signature is by another key. Else with `Namespace`
-    /// exactly if it is in another namespace. Else it answers as `KeyData::verify` over what is
-    /// signed in place of the message, by the signature's own namespace, reserved bytes and hash;
-    /// with `Length` if one of these is longer than 2^32 - 1 bytes.
+    /// Fails with `PublicKey` exactly if the signature is by another key. Otherwise with
+    /// `Namespace` exactly if it is in another namespace. Otherwise it succeeds or fails as
+    /// `KeyData::verify` over what is signed in place of the message, by the signature's own
+    /// namespace, reserved bytes and hash; with `Length` if one of these is longer than 2^32 - 1
+    /// bytes.
     ///
     /// So under a key and for a signature that readers gave, unless memory runs out: `Ok` exactly
     /// if the signature is by this key, in this namespace, and the verifier says yes to it.

@@ -1,7 +1,6 @@
 //! How the fields of a certificate are written.
 
-ghost use Rattle.std.specs.Int.{w32, w64};
-ghost use Rattle.std.specs.Prelude.{◌≡◌, ◌≤◌, ◌+◌, ◌*◌, ◌^◌, ◌<◌, IfOk};
+ghost use Rattle.std.specs.Prelude.{◌≤◌, ◌+◌, ◌*◌, ◌^◌, ◌<◌, IfOk};
 ghost use Rattle.sshkey_base.specs.Sink.{Encodes, Measures};
 ghost use Rattle.sshkey_to_be_signed.specs.ToBeSignedParts.{grant_parts, names_parts, limits_parts, authority_parts};
 ghost use Rattle.sshkey_to_be_signed.specs.ToBeSignedValues.{to_be_signed_of};

@@ -13,4 +13,4 @@ returns-in-Ok-clause-answer c =
 
 pub returns-else-is_memory-clause-answer : goal.returns-else-is_memory-clause-answer
 returns-else-is_memory-clause-answer c =
-    (λ never. cc never, λ k. absurd (c.in-Err.ensures.reads (λ e. cc (sym c.if-is_memory.false ∙ c.is_memory.ensures.1 e)) (known_host_of c.args.entry.now) k))
+    (λ never. cc never, λ k. absurd (c.in-Err.ensures.reads (λ e. cc (sym c.if-is_memory.false ∙ c.is_memory.ensures.cause.1 e)) (known_host_of c.args.entry.now) k))

@@ -21,5 +21,5 @@ returns-else-is_memory-clause-answer g c =
     let m = option_map marker_of c.in-Ok.field-0-0 in (
       λ never. cc never,
       λ f. absurd (without_hosts hmac c.args.name.now c.args.line.now c.skip_blanks.result.now c.skip_blanks.ensures m c.in-Ok.unmarked.now c.split_field.result.0.now c.split_field.result.1.now c.in-Ok.ensures c.split_field.ensures
-          (c.in-Err.ensures.reads (λ e. cc (sym c.if-is_memory.false ∙ c.is_memory.ensures.1 e))) f),
+          (c.in-Err.ensures.reads (λ e. cc (sym c.if-is_memory.false ∙ c.is_memory.ensures.cause.1 e))) f),
     )

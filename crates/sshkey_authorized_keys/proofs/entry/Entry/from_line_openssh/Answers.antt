@@ -16,10 +16,10 @@ returns-in-Ok-clause-reads c = alone_read c.args.line.now c.skip_blanks-text.res
     (subst (λ (k : PublicKey). AreKeyFields c.skip_blanks-text.result.now (public_of k) (comment_of k)) (sym c.alone.ensures.key) c.in-Ok.ensures.reads)
 
 pub behind_options-requires : goal.behind_options-requires
-behind_options-requires c = c.in-Err.ensures.reads (λ memory. cc (sym c.if-is_memory.false ∙ c.is_memory.ensures.1 memory))
+behind_options-requires c = c.in-Err.ensures.reads (λ memory. cc (sym c.if-is_memory.false ∙ c.is_memory.ensures.cause.1 memory))
 
 pub returns-clause-reads : goal.returns-clause-reads
-returns-clause-reads c = behind_read c.args.line.now c.skip_blanks-text.result.now c.skip_blanks-text.ensures (λ here. cc (sym c.if-is_comment.false ∙ c.is_comment.ensures.1 here)) c.behind_options.result (c.in-Err.ensures.reads (λ memory. cc (sym c.if-is_memory.false ∙ c.is_memory.ensures.1 memory))) c.behind_options.ensures.reads
+returns-clause-reads c = behind_read c.args.line.now c.skip_blanks-text.result.now c.skip_blanks-text.ensures (λ here. cc (sym c.if-is_comment.false ∙ c.is_comment.ensures.1 here)) c.behind_options.result (c.in-Err.ensures.reads (λ memory. cc (sym c.if-is_memory.false ∙ c.is_memory.ensures.cause.1 memory))) c.behind_options.ensures.reads
 
 pub returns-clause-fault : goal.returns-clause-fault
 returns-clause-fault c = behind_fault c.args.line.now c.skip_blanks-text.result.now c.skip_blanks-text.ensures (λ here. cc (sym c.if-is_comment.false ∙ c.is_comment.ensures.1 here)) c.behind_options.result c.behind_options.ensures.fault
