@@ -11,7 +11,7 @@ ghost use Rattle.sshkey_base.specs.Nested.{nested_source};
 ghost use Rattle.sshkey_base.specs.Needs.{Asks, NeedsBoxed, HasString};
 ghost use Rattle.sshkey_base.specs.Reading.{DecodesWide, Gives, to_end};
 ghost use Rattle.sshkey_base.specs.Source.{Later};
-ghost use Rattle.sshkey_base.specs.Stops.{OverrunsList};
+ghost use Rattle.sshkey_base.specs.Stops.{OverrunsList, StopsPast};
 ghost use Rattle.sshkey_options.specs.OptionReaders.{item, option_list_at, options_value_at, options_normal, OverrunsOption};
 ghost use Rattle.sshkey_options.specs.OptionLists.{options_format};
 ghost use Rattle.sshkey_options.specs.OptionMaps.{IsNamedAmong, is_among, option_of, options_of};
