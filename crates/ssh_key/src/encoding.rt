@@ -2,7 +2,7 @@
 
 pub use sshkey_base::encoding::{Error, Result};
 pub use sshkey_base::{
-    Bytes, Decode, Encode, Label, LabelError, NestedReader, NormalForm, Reader, Refusal,
+    Bytes, Decode, DecodeError, Encode, Label, LabelError, NestedReader, NormalForm, Reader,
     ShortBytes, SliceWriter, Text, Writer, array_from, both_len, decode_boxed, decode_front,
     decode_whole, each_len, encode_both, encode_each, encode_list, encode_string, encode_vec,
     length_from, list_len, string_len, u32_of,

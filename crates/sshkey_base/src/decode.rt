@@ -13,13 +13,13 @@ ghost use Rattle.sshkey_base.specs.Source.{Later};
 
 use crate::encoding;
 use crate::reader::{NestedReader, Reader, array_from};
-use crate::refusal::Refusal;
+use crate::decode_error::DecodeError;
 use std::alloc::Global;
 
 /// A value that bytes spell.
 pub trait Decode: Sized {
     /// Why bytes are rejected.
-    type Error: Refusal;
+    type Error: DecodeError;
 
     /// What a value means: the model's value.
     ghost Meaning: { Type 0 };

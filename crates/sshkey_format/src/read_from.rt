@@ -3,7 +3,7 @@
 ghost use Rattle.sshkey_base.specs.Formats.{Format};
 ghost use Rattle.sshkey_base.specs.Reading.{GivesAlways};
 
-use sshkey_base::{Reader, Refusal};
+use sshkey_base::{DecodeError, Reader};
 
 /// A value that a reader of this kind returns without memory: a number, or a part of the slice that
 /// is read.
@@ -12,7 +12,7 @@ use sshkey_base::{Reader, Refusal};
 /// others are rejected with the same faults.
 pub trait ReadFrom<R: Reader>: Sized {
     /// Why bytes are rejected.
-    type Error: Refusal;
+    type Error: DecodeError;
 
     /// What a value means: the model's value.
     ghost Meaning: { Type 0 };

@@ -30,10 +30,10 @@ pub mod certificate {
 /// The wire encoding.
 pub mod encoding {
     pub use ssh_key::encoding::{
-        Boxed, Bytes, Decode, Encode, Error, Label, LabelError, NestedReader, NormalForm, Reader,
-        Refusal, Result, ShortBytes, SliceWriter, Text, Then, Wide, Writer, array_from, both_len,
-        decode_boxed, decode_front, decode_whole, encode_both, encode_list, encode_string,
-        encode_vec, length_from, list_len, string_len,
+        Boxed, Bytes, Decode, DecodeError, Encode, Error, Label, LabelError, NestedReader,
+        NormalForm, Reader, Result, ShortBytes, SliceWriter, Text, Then, Wide, Writer, array_from,
+        both_len, decode_boxed, decode_front, decode_whole, encode_both, encode_list,
+        encode_string, encode_vec, length_from, list_len, string_len,
     };
 }
 

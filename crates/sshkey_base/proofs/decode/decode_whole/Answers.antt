@@ -14,10 +14,10 @@ returns-in_err-value-clause-accepts g c = accepts_whole g.T.Decode.format.gramma
 pub returns-in_err-finish-clause-gives : goal.returns-in_err-finish-clause-gives
 returns-in_err-finish-clause-gives g c =
     let p = err_from_is_err_and c.from_residual-in_err-finish.result c.from_residual-in_err-finish.ensures.1 in
-    rw p.1 (finish_refused g.T.Decode.means g.T.Error.Refusal.cause g.T.Decode.format.read (g.R.Reader.source c.args.reader) _ _ _ _ c.in_ok-value.ensures.gives c.in_err-finish.ensures (g.met.T.Error.Refusal.keeps_causes _ p.0 p.2))
+    rw p.1 (finish_refused g.T.Decode.means g.T.Error.DecodeError.cause g.T.Decode.format.read (g.R.Reader.source c.args.reader) _ _ _ _ c.in_ok-value.ensures.gives c.in_err-finish.ensures (g.met.T.Error.DecodeError.keeps_causes _ p.0 p.2))
 
 pub returns-in_err-finish-clause-accepts : goal.returns-in_err-finish-clause-accepts
-returns-in_err-finish-clause-accepts g c = accepts_whole g.T.Decode.format.grammar g.T.Decode.means g.T.Error.Refusal.cause (g.R.Reader.source c.args.reader) _ (returns-in_err-finish-clause-gives g c)
+returns-in_err-finish-clause-accepts g c = accepts_whole g.T.Decode.format.grammar g.T.Decode.means g.T.Error.DecodeError.cause (g.R.Reader.source c.args.reader) _ (returns-in_err-finish-clause-gives g c)
 
 pub returns-in_err-value-clause-asks : goal.returns-in_err-value-clause-asks
 returns-in_err-value-clause-asks g c =
@@ -27,4 +27,4 @@ returns-in_err-value-clause-asks g c =
 pub returns-in_err-finish-clause-asks : goal.returns-in_err-finish-clause-asks
 returns-in_err-finish-clause-asks g c =
     let p = err_from_is_err_and c.from_residual-in_err-finish.result c.from_residual-in_err-finish.ensures.1 in
-    rw p.1 (λ memory _. finish_asks g.T.Decode.means g.T.Error.Refusal.cause g.T.Decode.format.read _ _ _ _ c.in_err-finish.ensures (g.met.T.Error.Refusal.keeps_causes _ p.0 p.2) memory)
+    rw p.1 (λ memory _. finish_asks g.T.Decode.means g.T.Error.DecodeError.cause g.T.Decode.format.read _ _ _ _ c.in_err-finish.ensures (g.met.T.Error.DecodeError.keeps_causes _ p.0 p.2) memory)

@@ -32,7 +32,7 @@ returns-in_err-decode-clause-later g c = later_then _ _ _ c.reads.invariant.2 c.
 pub returns-in_err-add-clause-gives : goal.returns-in_err-add-clause-gives
 returns-in_err-add-clause-gives g c =
     let p = err_from_is_err_and c.from_residual-in_err-add.result c.from_residual-in_err-add.ensures.1 in
-    rw p.1 (full_refused _ _ _ (g.met.T.Error.Refusal.keeps_causes _ p.0 p.2 ∙ ap encoding_cause c.in_err-add.ensures.memory))
+    rw p.1 (full_refused _ _ _ (g.met.T.Error.DecodeError.keeps_causes _ p.0 p.2 ∙ ap encoding_cause c.in_err-add.ensures.memory))
 
 pub returns-in_err-add-clause-later : goal.returns-in_err-add-clause-later
 returns-in_err-add-clause-later g c = later_then _ _ _ c.reads.invariant.2 c.in_ok-decode.ensures.later
@@ -47,7 +47,7 @@ pub returns-in_err-add-clause-past : goal.returns-in_err-add-clause-past
 returns-in_err-add-clause-past g c =
     let p = err_from_is_err_and c.from_residual-in_err-add.result c.from_residual-in_err-add.ensures.1 in
     let some = some_left _ (announced_len (g.R.Reader.source c.reads.reader)) c.is_finished.ensures.1 c.reads-test.true in
-    let memory = g.met.T.Error.Refusal.keeps_causes _ p.0 p.2 ∙ ap encoding_cause c.in_err-add.ensures.memory in
+    let memory = g.met.T.Error.DecodeError.keeps_causes _ p.0 p.2 ∙ ap encoding_cause c.in_err-add.ensures.memory in
     rw p.1 (λ o. full_stopped g.T.Decode.format _ _ c.reads.invariant.1 c.reads.invariant.2 some g.T.Decode.means _ _ _ c.in_ok-decode.ensures.gives memory)
 
 pub reads-init : goal.reads-init

@@ -13,12 +13,12 @@ use Rattle.sshkey_format.proofs.counted.read.CountedDecode.decode.Goals as goal
 pub returns-in_err-count-clause-gives : goal.returns-in_err-count-clause-gives
 returns-in_err-count-clause-gives g c =
     let p = err_from_is_err_and c.from_residual.result c.from_residual.ensures.1 in
-    rw (p.1, g.met.T.Error.Refusal.keeps_causes _ p.0 p.2) (chosen_refused (number_at w32) (λ n. values_at g.T.Decode.format.read n) _ _ _ (counted_at g.T.Decode.format.read) (counted_chosen g.T.Decode.format) c.in_err-count.ensures.gives)
+    rw (p.1, g.met.T.Error.DecodeError.keeps_causes _ p.0 p.2) (chosen_refused (number_at w32) (λ n. values_at g.T.Decode.format.read n) _ _ _ (counted_at g.T.Decode.format.read) (counted_chosen g.T.Decode.format) c.in_err-count.ensures.gives)
 
 pub returns-in_err-count-clause-past : goal.returns-in_err-count-clause-past
 returns-in_err-count-clause-past g c =
     let p = err_from_is_err_and c.from_residual.result c.from_residual.ensures.1 in
-    rw (p.1, g.met.T.Error.Refusal.keeps_causes _ p.0 p.2) (chosen_stopped (number_at w32) (λ n. values_at g.T.Decode.format.read n) NoNeed NoOverrun (λ n. NeedsCounted g.T.Decode.format n) OverrunsCount _ _ (counted_at g.T.Decode.format.read) (counted_chosen g.T.Decode.format) c.in_err-count.ensures.past)
+    rw (p.1, g.met.T.Error.DecodeError.keeps_causes _ p.0 p.2) (chosen_stopped (number_at w32) (λ n. values_at g.T.Decode.format.read n) NoNeed NoOverrun (λ n. NeedsCounted g.T.Decode.format n) OverrunsCount _ _ (counted_at g.T.Decode.format.read) (counted_chosen g.T.Decode.format) c.in_err-count.ensures.past)
 
 pub returns-in_err-values_from-clause-gives : goal.returns-in_err-values_from-clause-gives
 returns-in_err-values_from-clause-gives g c =
@@ -31,7 +31,7 @@ returns-in_err-values_from-clause-later g c = later_then _ _ _ c.in_ok-count.ens
 pub returns-in_err-values_from-clause-past : goal.returns-in_err-values_from-clause-past
 returns-in_err-values_from-clause-past g c =
     let p = err_from_is_err_and c.from_residual-in_err-values_from.result c.from_residual-in_err-values_from.ensures.1 in
-    rw (p.1, p.2) (counted_stopped g.T.Decode.format _ _ _ c.in_ok-count.ensures.gives g.T.Error.Refusal.cause _ c.in_err-values_from.ensures.past)
+    rw (p.1, p.2) (counted_stopped g.T.Decode.format _ _ _ c.in_ok-count.ensures.gives g.T.Error.DecodeError.cause _ c.in_err-values_from.ensures.past)
 
 pub returns-clause-gives : goal.returns-clause-gives
 returns-clause-gives g c = counted_reads g.T.Decode.format _ _ _ c.in_ok-count.ensures.gives _ _ _ _ _ refl c.in_ok-values_from.ensures.gives

@@ -9,7 +9,7 @@ use crate::encoding;
 use crate::error::Error;
 
 /// An error type of a reading call: each of its errors has a cause.
-pub trait Refusal: From<encoding::Error> + Drop {
+pub trait DecodeError: From<encoding::Error> + Drop {
     /// Why it was rejected.
     ghost cause: { Self → Cause };
 
@@ -17,13 +17,13 @@ pub trait Refusal: From<encoding::Error> + Drop {
     ghost keeps_causes: { (x : narrow.Error) (e : Self) → Self.from_gives x e → cause e ≡ encoding_cause x };
 }
 
-impl Refusal for encoding::Error {
+impl DecodeError for encoding::Error {
     ghost cause = { encoding_cause };
 
     ghost keeps_causes = { λ x e given. ap encoding_cause given };
 }
 
-impl Refusal for Error {
+impl DecodeError for Error {
     ghost cause = { wide_cause };
 
     ghost keeps_causes = { λ x e given. ap wide_cause given ∙ same_cause x };
