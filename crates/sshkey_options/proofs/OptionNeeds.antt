@@ -1,5 +1,5 @@
 -- Where the reading of options asks for memory: the string of the first name stands there.
-use Rattle.std.proofs.Common.{◌≡◌, ◌⊎◌, inl, inr, ◌≤◌, ◌+◌, ℕ, zero, suc, Option, List, [], ◌∷◌, length, IsOk, Result, Ok, Err, refl, arith}
+use Rattle.std.proofs.Common.{◌≡◌, ◌⊎◌, inl, inr, ◌≤◌, ◌<◌, ◌+◌, ℕ, zero, suc, Option, List, [], ◌∷◌, length, IsOk, Result, Ok, Err, refl, arith}
 use Rattle.std.specs.Prelude.{IsOkAnd}
 use Rattle.std.specs.Int.{w32}
 use Rattle.std.proofs.lemmas.Bool.{cases_lt}
@@ -8,7 +8,7 @@ use Rattle.sshkey_model.specs.Reading.{Fault, Length, number_at, string_at}
 use Rattle.sshkey_model.specs.Texts.{text_at}
 use Rattle.sshkey_base.specs.Causes.{Cause, NoMemory, Faulty}
 use Rattle.sshkey_base.specs.Lengths.{text_lengths, to_end_lengths}
-use Rattle.sshkey_base.specs.Needs.{HasString}
+use Rattle.sshkey_base.specs.Needs.{HasString, NeedsString}
 use Rattle.sshkey_base.specs.Reading.{Reads, to_end}
 use Rattle.sshkey_base.specs.Source.{IsSound, Later, Source}
 use Rattle.sshkey_base.specs.Stops.{OverrunsList, OverrunsString, OverrunsWithin, RanOut, Stopped}
@@ -53,9 +53,17 @@ text_stands b m ok = go (number_at w32 b) refl
 pub text_read : {X : Type 0} (means : X → List ℕ) (s t : Source) (x : X) → Reads means text_at s x t → HasString s.left s.missing
 text_read means s t x r = text_stands s.left s.missing (is_ok (text_at s.left) (means x, t.left) r.value)
 
+-- A string that needs memory stands there.
+pub needed_stands : (b : List ℕ) (m : ℕ) → NeedsString b m → HasString b m
+needed_stands b m needed = go (number_at w32 b) needed
+  where
+    go : (r : Result (ℕ × List ℕ) Fault) → IsOkAnd r (λ x. (0 < x.0) × (x.0 ≤ length x.1 + m)) → IsOkAnd r (λ x. x.0 ≤ length x.1 + m)
+    go (Ok x) n = n.1
+    go (Err e) n = absurd n
+
 -- What an option needs, its name stands for.
 name_stands : (b : List ℕ) (m : ℕ) → NeedsOption b m → HasString b m
-name_stands b m (inl name) = name
+name_stands b m (inl name) = needed_stands b m name
 name_stands b m (inr value) = text_stands b m (ok_of _ (text_at b) value)
 
 -- Nothing was read yet, or the string of the first name stands there.

@@ -6,7 +6,7 @@ use Rattle.sshkey_model.specs.Texts.{text_at}
 use Rattle.sshkey_model.proofs.CombinedReaders.{bind_assoc}
 use Rattle.sshkey_base.specs.Causes.{Cause, Faulty}
 use Rattle.sshkey_base.specs.Lengths.{text_lengths, boxed_lengths}
-use Rattle.sshkey_base.specs.Needs.{HasString}
+use Rattle.sshkey_base.specs.Needs.{HasString, NeedsString}
 use Rattle.sshkey_base.specs.Reading.{Reads}
 use Rattle.sshkey_base.specs.Source.{Source}
 use Rattle.sshkey_base.specs.Stops.{OverrunsString, AreLengths, RanOut, Stopped, StopsBy, StopsToEnd}
@@ -42,12 +42,12 @@ module _ (before : Option (List ℕ)) where
   option_parts_read = record { same = λ b. simp (bind_assoc, with_rest) }
 
   -- the name is refused
-  pub name_stopped : (c : Cause) (s : Source) → Stopped c text_at HasString OverrunsString s → Stopped c (option_behind before) NeedsOption OverrunsOption s
-  name_stopped c s h = mapped_stopped _ NeedsOption OverrunsOption c s _ _ option_parts_read (stopped_first HasString OverrunsString text_at (λ _. HasString) (λ _. OverrunsValue) (λ _. option_box_at) c s h)
+  pub name_stopped : (c : Cause) (s : Source) → Stopped c text_at NeedsString OverrunsString s → Stopped c (option_behind before) NeedsOption OverrunsOption s
+  name_stopped c s h = mapped_stopped _ NeedsOption OverrunsOption c s _ _ option_parts_read (stopped_first NeedsString OverrunsString text_at (λ _. HasString) (λ _. OverrunsValue) (λ _. option_box_at) c s h)
 
   -- the value is refused
   pub value_stopped : {X : Type 0} (means : X → List ℕ) (c : Cause) (s t : Source) (x : X) → Reads means text_at s x t → Stopped c option_box_at HasString OverrunsValue t → Stopped c (option_behind before) NeedsOption OverrunsOption s
-  value_stopped means c s t x name h = mapped_stopped _ NeedsOption OverrunsOption c s _ _ option_parts_read (stopped_later HasString OverrunsString text_at (λ _. HasString) (λ _. OverrunsValue) (λ _. option_box_at) means c s t x text_lengths name h)
+  value_stopped means c s t x name h = mapped_stopped _ NeedsOption OverrunsOption c s _ _ option_parts_read (stopped_later NeedsString OverrunsString text_at (λ _. HasString) (λ _. OverrunsValue) (λ _. option_box_at) means c s t x text_lengths name h)
 
   -- the name may not follow
   pub order_stopped : {X Y : Type 0} (means : X → List ℕ) (holds : Y → List ℕ) (c : Cause) (s t u : Source) (x : X) (y : Y) → Reads means text_at s x t → Reads holds option_box_at t y u → may_follow before (means x) ≡ false → Stopped c (option_behind before) NeedsOption OverrunsOption s

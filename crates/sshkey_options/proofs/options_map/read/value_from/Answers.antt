@@ -3,7 +3,7 @@ use Rattle.std.specs.Prelude.{string_bytes}
 use Rattle.sshkey_base.specs.Source.{announced_len}
 use Rattle.sshkey_model.specs.Texts.{text_at}
 use Rattle.sshkey_base.specs.Causes.{encoding_cause}
-use Rattle.sshkey_base.specs.Needs.{HasString}
+use Rattle.sshkey_base.specs.Needs.{NeedsString}
 use Rattle.sshkey_base.specs.Stops.{OverrunsString}
 use Rattle.sshkey_options.proofs.OptionStops.{stops_to_end}
 use Rattle.sshkey_options.proofs.OptionValues.{value_read, value_none}
@@ -18,4 +18,4 @@ returns-clause-gives g c =
     value_read string_bytes encoding_cause _ _ _ some c.decode.ensures.gives
 
 pub returns-clause-past : goal.returns-clause-past
-returns-clause-past g c = stops_to_end encoding_cause text_at HasString OverrunsString _ _ c.decode.ensures.past
+returns-clause-past g c = stops_to_end encoding_cause text_at NeedsString OverrunsString _ _ c.decode.ensures.past
