@@ -20,7 +20,7 @@ use Rattle.sshkey_keys_ref.specs.declared.key_data_ref.KeyDataRef.{KeyDataRef}
 use Rattle.sshkey_keys_ref.specs.declared.signature_ref.SignatureRef.{SignatureRef}
 use Rattle.sshkey_cert_ref.specs.OptionLists.{SpellsOptionString}
 use Rattle.sshkey_format.specs.Slices.{found_or}
-use Rattle.sshkey_to_be_signed.specs.ToBeSignedFormats.{BehindKey, behind_key}
+use Rattle.sshkey_to_be_signed.specs.ToBeSignedFormats.{Grant, Window, grant_format, window_format}
 
 abbrev OptionsAsSpelled : Type 0
 OptionsAsSpelled = List CertificateOption × List Nesting
@@ -52,6 +52,7 @@ no_signature = record { algorithm = Dsa; blob = [] }
 abbrev pub spelled_signature_of : SignatureRef → Signature
 spelled_signature_of r = found_or no_signature (whole signature_at (signature_bytes r))
 
--- the fields behind the key, as a certificate has them
-abbrev pub behind_key_format : Format (BehindKey OptionsAsSpelled (Key × Head))
-behind_key_format = behind_key spelled_options_format spelled_key_format
+-- the serial number, the type, the key id and the principals; the two times; the options; the reserved bytes and the key
+-- that signs
+abbrev pub behind_key_format : Format (Grant × (Window × ((OptionsAsSpelled × OptionsAsSpelled) × (List ℕ × (Key × Head)))))
+behind_key_format = grant_format then window_format then (spelled_options_format then spelled_options_format) then string_format then boxed_key_format

@@ -15,23 +15,24 @@ use sshkey_base::Result;
 use sshkey_format::{ReadFrom, Then, Wide};
 use sshkey_keys_ref::take_body;
 use sshkey_options::{CertType, EndTime, UnixTime};
-use sshkey_to_be_signed::BehindKey;
 
 /// The name and the nonce.
 type Opening<'a> = Then<CertificateName<'a>, Wide<&'a [u8]>>;
 
-/// All fields between the key and the signature, as parts of the slice.
-type Lent<'a> = BehindKey<
-    Wide<u64>,
-    Field<CertType>,
-    Wide<&'a str>,
-    Wide<TextsRef<'a>>,
-    Field<UnixTime>,
-    Field<EndTime>,
-    OptionsRef<'a>,
-    Wide<&'a [u8]>,
-    KeyInString<'a>,
->;
+/// The serial number, the type, the key id, and the principals.
+type Grant<'a> = Then<Then<Wide<u64>, Field<CertType>>, Then<Wide<&'a str>, Wide<TextsRef<'a>>>>;
+
+/// The two times.
+type Window = Then<Field<UnixTime>, Field<EndTime>>;
+
+/// The critical options and the extensions.
+type Limits<'a> = Then<OptionsRef<'a>, OptionsRef<'a>>;
+
+/// The reserved bytes, and the key that signed.
+type Authority<'a> = Then<Wide<&'a [u8]>, KeyInString<'a>>;
+
+/// All fields between the key and the signature.
+type BehindKey<'a> = Then<Grant<'a>, Then<Window, Then<Limits<'a>, Authority<'a>>>>;
 
 /// All fields before the signature, and what stands after them.
 pub(crate) fn split_parts<'a>(bytes: &'a [u8]) -> Result<(Parts<'a>, &'a [u8])>
@@ -39,7 +40,7 @@ pub(crate) fn split_parts<'a>(bytes: &'a [u8]) -> Result<(Parts<'a>, &'a [u8])>
 {
     let ((name, nonce, key), behind_subject) = split_subject(bytes)?;
     let mut rest = behind_subject;
-    let Then(grant, Then(window, Then(limits, authority))) = Lent::<'a>::read_from(&mut rest)?;
+    let Then(grant, Then(window, Then(limits, authority))) = BehindKey::<'a>::read_from(&mut rest)?;
     let Then(Then(serial, cert_type), Then(key_id, valid_principals)) = grant;
     let parts = Parts {
         name,

@@ -70,28 +70,31 @@ Window = ℕ × ℕ
 abbrev pub window_format : Format Window
 window_format = time_format then end_format
 
--- All that stands behind the key: these, the critical options and the extensions, and the reserved bytes and the key that
--- signs; the options and that key in one of their formats.
-abbrev pub BehindKey : Type 0 → Type 0 → Type 0
-BehindKey O K = Grant × (Window × ((O × O) × (List ℕ × K)))
+abbrev Limits : Type 0
+Limits = List CertificateOption × List CertificateOption
 
-abbrev pub behind_key : {O K : Type 0} → Format O → Format K → Format (BehindKey O K)
-behind_key options signature_key = grant_format then window_format then (options then options) then string_format then boxed signature_key
+-- the critical options and the extensions
+abbrev pub limits_format : Format Limits
+limits_format = options_format then options_format
 
-abbrev Options : Type 0
-Options = List CertificateOption
+abbrev Authority : Type 0
+Authority = List ℕ × Key
+
+-- the reserved bytes and the key that signs
+abbrev pub authority_format : Format Authority
+authority_format = string_format then boxed key_format
 
 abbrev Fields : Type 0
-Fields = (List ℕ × Key) × BehindKey Options Key
+Fields = ((List ℕ × Key) × Grant) × (Window × (Limits × Authority))
 
 abbrev pub fields_format : Format Fields
-fields_format = subject_format then behind_key options_format key_format
+fields_format = (subject_format then grant_format) then (window_format then (limits_format then authority_format))
 
-abbrev fields : List ℕ × Key → Grant → Window → Options × Options → List ℕ × Key → SignedFields
+abbrev fields : List ℕ × Key → Grant → Window → Limits → Authority → SignedFields
 fields s g w l a = record { nonce = s.0; key = s.1; serial = g.0.0; certificate_type = g.0.1; key_id = g.1.0; valid_principals = g.1.1; valid_after = w.0; valid_before = w.1; critical_options = l.0; extensions = l.1; reserved = a.0; signature_key = a.1 }
 
 abbrev to_be_signed_of_parts : Fields → Result SignedFields Fault
-to_be_signed_of_parts x = Ok (fields x.0 x.1.0 x.1.1.0 x.1.1.1.0 x.1.1.1.1)
+to_be_signed_of_parts x = Ok (fields x.0.0 x.0.1 x.1.0 x.1.1.0 x.1.1.1)
 
 pub to_be_signed_parts_read : IsMapped to_be_signed_value_at to_be_signed_of_parts fields_format.read
 unfolding subject_at to_be_signed_value_at signed_fields_at options_value_at behind_at

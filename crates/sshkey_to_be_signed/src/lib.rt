@@ -4,4 +4,4 @@
 pub mod laws;
 mod to_be_signed;
 
-pub use to_be_signed::{BehindKey, ToBeSigned};
+pub use to_be_signed::ToBeSigned;

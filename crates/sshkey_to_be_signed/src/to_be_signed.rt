@@ -6,7 +6,6 @@ ghost use Rattle.sshkey_keys.specs.Blobs.{MakesBlob};
 ghost use Rattle.sshkey_to_be_signed.specs.ToBeSignedFormats.{to_be_signed_format};
 
 mod copy;
-mod order;
 mod subject;
 mod write;
 
@@ -18,8 +17,6 @@ use sshkey_keys::KeyData;
 use sshkey_options::{CertType, EndTime, OptionsMap, UnixTime};
 use std::alloc::Global;
 use subject::Subject;
-
-pub use order::BehindKey;
 
 /// All of a certificate but its signature and its comment (PROTOCOL.certkeys).
 #[derive(Debug, Drop, PartialEq, Eq, PartialOrd, Ord)]
@@ -85,19 +82,14 @@ impl Decode for ToBeSigned {
     ghost format = { to_be_signed_format };
 
     fn decode<R: Reader>(alloc: Global, reader: &mut R) -> Result<ToBeSigned> {
-        type Owned = BehindKey<
-            Wide<u64>,
-            CertType,
-            Wide<Text>,
-            Wide<Vec<String>>,
-            UnixTime,
-            EndTime,
-            OptionsMap,
-            Wide<Bytes>,
-            Boxed<KeyData>,
-        >;
-        let Then(subject, behind_key) = Then::<Subject, Owned>::decode(alloc, reader)?;
-        let Then(grant, Then(window, Then(limits, authority))) = behind_key;
+        type Grant = Then<Then<Wide<u64>, CertType>, Then<Wide<Text>, Wide<Vec<String>>>>;
+        type Window = Then<UnixTime, EndTime>;
+        type Limits = Then<OptionsMap, OptionsMap>;
+        type Authority = Then<Wide<Bytes>, Boxed<KeyData>>;
+        type Fields = Then<Then<Subject, Grant>, Then<Window, Then<Limits, Authority>>>;
+        let Then(Then(subject, grant), Then(window, Then(limits, authority))) = Fields::decode(
+            alloc, reader,
+        )?;
         let Subject { nonce, key } = subject;
         let Then(Then(Wide(serial), cert_type), Then(Wide(key_id), Wide(valid_principals))) = grant;
         let Then(valid_after, valid_before) = window;
