@@ -139,7 +139,9 @@ pub(crate) fn bytes_from<R: Reader>(
         return Err(Error::Length);
     }
     if len == 0 {
-        return Ok(Bytes { bytes: Vec::new(alloc) });
+        return Ok(Bytes {
+            bytes: Vec::new(alloc),
+        });
     }
     if let Some(front) = reader.ahead(len) {
         let mut bytes = Vec::with_capacity(alloc, len.saturating_add(spare))?;

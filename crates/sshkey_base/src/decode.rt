@@ -11,9 +11,9 @@ ghost use Rattle.sshkey_base.specs.Nested.{nested_source};
 ghost use Rattle.sshkey_base.specs.Needs.{Asks, NeedsBoxed, NoNeed};
 ghost use Rattle.sshkey_base.specs.Source.{Later};
 
+use crate::decode_error::DecodeError;
 use crate::encoding;
 use crate::reader::{NestedReader, Reader, array_from};
-use crate::decode_error::DecodeError;
 use std::alloc::Global;
 
 /// A value that bytes spell.
