@@ -1,10 +1,8 @@
 -- What calls of an iterator over entries gave, in order.
-use Rattle.std.proofs.Common.{◌≡◌, ◌⊎◌, ℕ, List, [], ◌∷◌, ◌++◌, length, None, sym, ap, subst, ◌∙◌, append_assoc, arith}
-use Rattle.std.proofs.lemmas.List.{length-append}
-use Rattle.std.proofs.Math.Seq.{get_or-append_seam}
+use Rattle.std.proofs.Common.{◌≡◌, ◌⊎◌, ℕ, List, [], ◌∷◌, ◌++◌, None, inl, sym, ap, subst, ◌∙◌, append_assoc}
 use Rattle.std.specs.List.{AllZip}
 use Rattle.std.specs.Iterator.{Yields}
-use Rattle.sshkey_files.specs.Answers.{NeedsSome, YieldsAnswers}
+use Rattle.sshkey_files.specs.Answers.{AreEntries, NeedsFirst, YieldsAnswers}
 
 module _ {X : Type 0} (R : List ℕ → X → Type 0) where
   zip_push : (all : List (List ℕ)) (xs : List X) (entry : List ℕ) (x : X) → AllZip R all xs → R entry x → AllZip R (all ++ (entry ∷ [])) (xs ++ (x ∷ []))
@@ -29,9 +27,9 @@ module _ {X : Type 0} (R : List ℕ → X → Type 0) where
       let step = steps.1 in
       subst (λ (l : List (List ℕ)). AllZip R l (x ∷ xs)) (sym step.1) (step.2, all_answered steps.0 end after xs steps.2 none)
 
--- the first of the lines that are left has a value or needs memory
-pub needed_there : {Y : Type 0} (IsEntry : List ℕ → Y → Type 0) (Needs : List ℕ → Type 0) (all before left rest : List (List ℕ)) (line : List ℕ) → all ≡ before ++ left → left ≡ line ∷ rest
-    → ((y : Y) × IsEntry line y) ⊎ Needs line → NeedsSome IsEntry Needs all
-needed_there IsEntry Needs all before left rest line e first need =
-    subst (NeedsSome IsEntry Needs) (sym (e ∙ ap (λ (l : List (List ℕ)). before ++ l) first))
-    (length before, line, omega (arith, length-append before (line ∷ rest)), get_or-append_seam before line rest line, need)
+-- Lines were read, so that the first has a value; or none was, and the next has a value or needs memory.
+pub needed_first : {X Y : Type 0} (means : X → Y) (IsEntry : List ℕ → Y → Type 0) (Needs : List ℕ → Type 0) (all before left rest : List (List ℕ)) (xs : List X) (line : List ℕ) → all ≡ before ++ left → AreEntries means IsEntry before xs → left ≡ line ∷ rest
+    → ((y : Y) × IsEntry line y) ⊎ Needs line → NeedsFirst IsEntry Needs all
+needed_first means IsEntry Needs all [] left rest xs line e read next need = subst (NeedsFirst IsEntry Needs) (sym (e ∙ next)) need
+needed_first means IsEntry Needs all (first ∷ before) left rest [] line e read next need = absurd read
+needed_first means IsEntry Needs all (first ∷ before) left rest (x ∷ xs) line e read next need = subst (NeedsFirst IsEntry Needs) (sym e) (inl (means x, read.0))

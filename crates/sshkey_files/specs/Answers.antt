@@ -1,6 +1,6 @@
 -- What a reader of entries answers.
 use Rattle.std.specs.Prelude.{◌≡◌, ◌≢◌, ◌⊎◌, ℕ, List, [], ◌∷◌, ◌++◌, Option, Some, None, Result, Ok, Err, Vec}
-use Rattle.std.specs.List.{AllZip, Any}
+use Rattle.std.specs.List.{AllZip}
 use Rattle.sshkey_base.specs.Causes.{cause, NoMemory}
 use Rattle.sshkey_base.specs.Faults.{IsMachineFault}
 use Rattle.sshkey_base.specs.declared.error.Error.{Error}
@@ -65,11 +65,12 @@ ReadsFile means IsEntry HasFault (Err e) = IsMachineFault e ⊎ ((text : List �
 
 -- ---- memory
 
--- One of the lines has a value, which is kept, or needs memory itself.
-abbrev pub NeedsSome : {Y : Type 0} → (List ℕ → Y → Type 0) → (List ℕ → Type 0) → List (List ℕ) → Type 0
-NeedsSome {Y} IsEntry Needs = Any (λ line. ((y : Y) × IsEntry line y) ⊎ Needs line)
+-- The first line has a value, which is kept, or needs memory itself. No other line counts: what stands behind a line without a value is not read.
+abbrev pub NeedsFirst : {Y : Type 0} → (List ℕ → Y → Type 0) → (List ℕ → Type 0) → List (List ℕ) → Type 0
+NeedsFirst IsEntry Needs [] = ⊥
+NeedsFirst {Y} IsEntry Needs (line ∷ lines) = ((y : Y) × IsEntry line y) ⊎ Needs line
 
--- Memory was refused only where one of them does.
+-- Memory was refused only where it does.
 abbrev pub AsksEntries : {X Y : Type 0} → (List ℕ → Y → Type 0) → (List ℕ → Type 0) → List (List ℕ) → Result X Error → Type 0
 AsksEntries IsEntry Needs all (Ok x) = Unit {0}
-AsksEntries IsEntry Needs all (Err e) = cause e ≡ NoMemory → NeedsSome IsEntry Needs all
+AsksEntries IsEntry Needs all (Err e) = cause e ≡ NoMemory → NeedsFirst IsEntry Needs all

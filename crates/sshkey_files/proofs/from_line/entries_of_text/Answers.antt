@@ -1,6 +1,6 @@
 use Rattle.std.proofs.Common.{ap, inl, inr, ◌∙◌, ◌++◌, List, ℕ}
 use Rattle.std.proofs.lemmas.Result.{err_from_is_err_and}
-use Rattle.sshkey_files.proofs.AnswerLists.{answered_more, needed_there}
+use Rattle.sshkey_files.proofs.AnswerLists.{answered_more, needed_first}
 use Rattle.sshkey_files.proofs.from_line.entries_of_text.Goals as goal
 
 pub loop-line-preserved : goal.loop-line-preserved
@@ -27,10 +27,10 @@ pub returns-in_err-from_line-clause-asks : goal.returns-in_err-from_line-clause-
 returns-in_err-from_line-clause-asks g c =
     let was = c.loop-line.invariant.2 in
     let p = err_from_is_err_and c.from_residual.result c.from_residual.ensures.1 in
-    rw (p.1, p.2) (λ memory. needed_there g.E.FromLine.IsEntry g.E.FromLine.Needs _ was.0 c.loop-line.line-iterator c.next.new.self c.in-Some.line.now was.1 c.in-Some.ensures.steps (inr (c.in_err-from_line.ensures.asks memory)))
+    rw (p.1, p.2) (λ memory. needed_first g.E.FromLine.means g.E.FromLine.IsEntry g.E.FromLine.Needs _ was.0 c.loop-line.line-iterator c.next.new.self c.loop-line.found.items c.in-Some.line.now was.1 was.2 c.in-Some.ensures.steps (inr (c.in_err-from_line.ensures.asks memory)))
 
 pub returns-in_err-push-clause-asks : goal.returns-in_err-push-clause-asks
 returns-in_err-push-clause-asks g c =
     let was = c.loop-line.invariant.2 in
     let p = err_from_is_err_and c.from_residual-in_err-push.result c.from_residual-in_err-push.ensures.1 in
-    rw (p.1, p.2) (λ memory. needed_there g.E.FromLine.IsEntry g.E.FromLine.Needs _ was.0 c.loop-line.line-iterator c.next.new.self c.in-Some.line.now was.1 c.in-Some.ensures.steps (inl (g.E.FromLine.means c.in_ok-from_line.field-0, c.in_ok-from_line.ensures.reads)))
+    rw (p.1, p.2) (λ memory. needed_first g.E.FromLine.means g.E.FromLine.IsEntry g.E.FromLine.Needs _ was.0 c.loop-line.line-iterator c.next.new.self c.loop-line.found.items c.in-Some.line.now was.1 was.2 c.in-Some.ensures.steps (inl (g.E.FromLine.means c.in_ok-from_line.field-0, c.in_ok-from_line.ensures.reads)))
