@@ -12,7 +12,7 @@ use Rattle.sshkey_keys.specs.Keys.{SpellsKey}
 use Rattle.sshkey_public.specs.LineNeeds.{HasComment, NeedsValue}
 use Rattle.sshkey_cert.specs.CertificateFormats.{certificate_format}
 use Rattle.sshkey_cert.specs.CertificateReaders.{SpellsCertificate}
-use Rattle.sshkey_calls.specs.KeyLines.{Content, Holds, IsLaidOut, NeedsLine, NumbersKeyFault, Reads, TellsLineFault, content_of}
+use Rattle.sshkey_calls.specs.KeyLines.{Content, Holds, IsLaidOut, NeedsLine, Reads, TellsLineFault, content_of}
 use Rattle.sshkey_calls.specs.Rooms.{Fills}
 use Rattle.sshkey_calls.specs.declared.line.Line.{Line}
 
