@@ -28,12 +28,13 @@
  *
  * In return no call keeps a pointer or hands one out, and there is no state: threads may call at
  * once. No call writes more than `room_length` bytes to a room. All that a call tells lies in the
- * room, and a part of it is a place and a number of bytes. Where the room is too short, the call
- * returns SSHKEY_ROOM, leaves the room as it was, and sets `length` to the number of bytes that are
- * needed, so a room of 0 bytes asks for that number; do not rely on the other fields of `*answer`
- * then. (The text of a fingerprint has a fixed length, so its calls set none.) Every other return
- * value but SSHKEY_DONE leaves the room, `*answer` and `*length` as they were. `*signer` is written
- * with SSHKEY_DONE alone.
+ * room, from its front on, one part behind the other in the order in which the answer names them,
+ * and a part is a place and a number of bytes. Where the room is too short, the call returns
+ * SSHKEY_ROOM, leaves the room as it was, and sets `length` to the number of bytes that are needed,
+ * so a room of 0 bytes asks for that number; do not rely on the other fields of `*answer` then.
+ * (The text of a fingerprint has a fixed length, so its calls set none.) Every other return value
+ * but SSHKEY_DONE leaves the room, `*answer` and `*length` as they were. `*signer` is written with
+ * SSHKEY_DONE alone.
  */
 #ifndef SSHKEY_H
 #define SSHKEY_H
@@ -61,9 +62,9 @@ enum {
                         options, a text of known_hosts or a host's name; nothing is said of the
                         rest. sshkey_read_line returns 11 for such a line */
 
-  /* 10 to 29: the bytes are no certificate, key or signature, or the line is none; the first fault
-   * from the left. For logs: what a call promises is which answers are not SSHKEY_DONE, and lines
-   * with one fault may answer different numbers */
+  /* 10 to 29: the bytes are no certificate, key or signature, which is the first fault from the
+   * left; or the line is none, which is a fault that it has. For logs: lines with one fault may
+   * answer different numbers */
   SSHKEY_BASE64 = 10,             /* a word of a line is no Base64, or not the one of its bytes */
   SSHKEY_CHARACTER_ENCODING = 11, /* a text is not UTF-8, or has a character that no name has */
   SSHKEY_LABEL = 12,              /* a name that is none of those that may stand there */
@@ -194,7 +195,9 @@ enum { SSHKEY_LINE_KEY = 1, SSHKEY_LINE_CERTIFICATE = 2 };
  * in a file of authorities: sshkey_authorized_entry reads those, with an empty `front`.
  *
  * SSHKEY_DONE exactly if the line is that of a key or of a certificate (memory and room aside);
- * else 10 to 29, and 11 for a line that is not UTF-8. A room of the line's length is enough. */
+ * else 11 for a line that is not UTF-8, and from 10 to 29 a fault that it has as the line of a key,
+ * but where that is SSHKEY_LABEL, as the line of a certificate. A room of the line's length is
+ * enough. */
 uint32_t sshkey_read_line(const uint8_t *line, size_t line_length, uint8_t *room,
                           size_t room_length, sshkey_line *answer);
 
@@ -247,7 +250,9 @@ uint32_t sshkey_certificate_fields(const uint8_t *certificate, size_t certificat
 
 /* ---- what a certificate lists ---------------------------------------------------------------- */
 
-/* Where parts of a certificate stand in its bytes, without the length before them. */
+/* Where parts of a certificate stand in its bytes, in this order, each behind its length of four
+ * bytes. Between principals and critical options stands the window, and before the authority a
+ * reserved string. */
 typedef struct {
   sshkey_part key_id;           /* a text, for logs */
   sshkey_part principals;       /* strings: sshkey_next_string goes over them */
@@ -261,7 +266,8 @@ typedef struct {
 uint32_t sshkey_certificate_parts(const uint8_t *certificate, size_t certificate_length,
                                   sshkey_parts *answer);
 
-/* Where the name and the value of an option stand, and the place of the next one. */
+/* Where the name and the value of an option stand, and the place of the next one. The name stands
+ * behind its length of four bytes, and the next one begins where the value ends. */
 typedef struct {
   sshkey_part name;
   sshkey_part value; /* of no bytes where the option has none */

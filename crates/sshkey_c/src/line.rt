@@ -1,7 +1,8 @@
 //! Lines of key files and of certificate files.
 
 ghost use Rattle.std.specs.Prelude.{◌≡◌};
-ghost use Rattle.sshkey_calls.specs.KeyLines.{Holds, NeedsLine, Reads};
+ghost use Rattle.std.specs.Str.{IsUtf8};
+ghost use Rattle.sshkey_calls.specs.KeyLines.{Holds, NeedsLine, Reads, TellsLineFault};
 
 use sshkey_calls::{Line, read_line};
 use std::alloc::Global;
@@ -15,6 +16,8 @@ pub extern "C" fn sshkey_read_line(
     answer: &mut Line,
 ) -> u32
     ensures reads { Reads (Holds line.now) result answer.old answer.new room.old room.new }
+    ensures fault { IsUtf8 line.now → TellsLineFault line.now result }
+    ensures text { (IsUtf8 line.now → ⊥) → result ≡ 11 }
     ensures memory { result ≡ 1 → NeedsLine line.now }
 {
     read_line(alloc, line, room, answer)

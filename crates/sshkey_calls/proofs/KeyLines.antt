@@ -1,6 +1,5 @@
 -- What a line holds, and stands in the room.
-use Rattle.std.proofs.Common.{◌≡◌, ◌≢◌, ◌<◌, ◌+◌, ℕ, ◌⊎◌, List, ◌++◌, length, inl, inr, take, drop, Bool, true, false, refl, sym, ap, ◌∙◌, subst, arith, append_assoc, length-append}
-use Rattle.std.proofs.Math.Seq.{take-append_seam, drop-append_seam}
+use Rattle.std.proofs.Common.{◌≡◌, ◌≢◌, ◌<◌, ℕ, ◌⊎◌, List, ◌++◌, length, inl, inr, drop, Bool, true, false, refl, sym, ap, ◌∙◌, subst, arith}
 use Rattle.base64.specs.GeneralPurpose.{IsBytes}
 use Rattle.sshkey_model.specs.Certificates.{Certificate}
 use Rattle.sshkey_model.specs.Keys.{Key}
@@ -13,49 +12,27 @@ use Rattle.sshkey_keys.specs.Keys.{SpellsKey}
 use Rattle.sshkey_public.specs.LineNeeds.{HasComment, NeedsValue}
 use Rattle.sshkey_cert.specs.CertificateFormats.{certificate_format}
 use Rattle.sshkey_cert.specs.CertificateReaders.{SpellsCertificate}
-use Rattle.sshkey_calls.specs.KeyLines.{Content, Holds, IsContent, IsLaidOutLine, NeedsLine, Reads, content_of}
+use Rattle.sshkey_calls.specs.KeyLines.{Content, Holds, IsLaidOut, NeedsLine, Reads, TellsLineFault, content_of}
 use Rattle.sshkey_calls.specs.Rooms.{Fills}
 use Rattle.sshkey_calls.specs.declared.line.Line.{Line}
 
 -- ---- in the room
 
-module _ (a b behind : List ℕ) where
-  front_part : take (length a) ((a ++ b) ++ behind) ≡ a
-  front_part = rw append_assoc (take-append_seam a _)
-
-  back_part : take (length b) (drop (length a) ((a ++ b) ++ behind)) ≡ b
-  back_part = simp (append_assoc, drop-append_seam, take-append_seam)
-
-is_content : (x : Content) (content behind before after : List ℕ) (line : Line) → IsLaidOutLine x content line → after ≡ content ++ behind → drop (length content) before ≡ behind → IsContent x line before after
-is_content x content behind before after line laid is rest = record {
-  kind = laid.kind;
-  blob = rw (is, laid.content, laid.blob.0, laid.blob.1) (front_part x.blob x.comment behind);
-  comment = rw (is, laid.content, laid.comment.0, laid.comment.1) (back_part x.blob x.comment behind);
-  within = (omega (arith, whole, laid.blob), omega (arith, whole, laid.comment));
-  length = laid.length;
-  behind = rw (all, is) (drop-append_seam content behind ∙ sym rest);
-}
-  where
-    all : line.length ≡ length content
-    all = omega (arith, laid.length, ap length laid.content, length-append x.blob x.comment)
-
-    whole : length after ≡ length x.blob + length x.comment + length behind
-    whole = omega (arith, ap length is, length-append content behind, ap length laid.content, length-append x.blob x.comment)
-
 -- A blob, and a comment that was added behind it.
-pub laid : (kind : ℕ) (blob comment before content : List ℕ) (line : Line) → before ≡ blob → content ≡ before ++ comment → line.kind ≡ kind → line.blob.start ≡ 0 → line.blob.length ≡ length before → line.comment.start ≡ length before → line.comment.length ≡ length comment → line.length ≡ length content → IsLaidOutLine (content_of kind blob comment) content line
-laid kind blob comment before content line is added same at_front blob_length behind comment_length all = record {
-  content = added ∙ ap (λ (x : List ℕ). x ++ comment) is;
-  kind = same;
-  blob = (at_front, blob_length ∙ ap length is);
-  comment = (behind ∙ ap length is, comment_length);
-  length = omega (arith, all, ap length added, length-append before comment, ap length is);
-}
+pub laid : (kind : ℕ) (blob comment before content : List ℕ) (line : Line) → before ≡ blob → content ≡ before ++ comment → line.kind ≡ kind → line.blob.start ≡ 0 → line.blob.length ≡ length before → line.comment.start ≡ length before → line.comment.length ≡ length comment → line.length ≡ length content → IsLaidOut (content_of kind blob comment) content line
+laid kind blob comment before content line is added same at_front blob_length behind comment_length all =
+    let content_is : content ≡ blob ++ comment = added ∙ ap (λ (x : List ℕ). x ++ comment) is in
+    (content_is, record {
+      kind = same;
+      blob = (at_front, blob_length ∙ ap length is);
+      comment = (behind ∙ ap length is, comment_length);
+      length = all ∙ ap length content_is;
+    })
 
 -- The room was filled, or is too short.
-pub told : (x : Content) (content before after : List ℕ) (filled : Bool) (was line : Line) (n : ℕ) → IsLaidOutLine x content line → Fills content before filled after → (filled ≡ true → n ≡ 0) → (filled ≡ false → n ≡ 2) → Reads (λ y. y ≡ x) n was line before after
+pub told : (x : Content) (content before after : List ℕ) (filled : Bool) (was line : Line) (n : ℕ) → IsLaidOut x content line → Fills content before filled after → (filled ≡ true → n ≡ 0) → (filled ≡ false → n ≡ 2) → Reads (λ y. y ≡ x) n was line before after
 told x content before after true was line n laid filled done short = record {
-  read = λ _. (x, refl, is_content x content (drop (length content) before) before after line laid filled refl);
+  read = λ _. (x, refl, record { content = subst (λ (c : List ℕ). after ≡ c ++ drop (length c) before) laid.0 filled; placed = laid.1 });
   short = λ two. absurd (omega (arith, done refl, two));
   none = λ not_zero _ _ _ _. not_zero (done refl);
   fault = λ not_zero _ _. absurd (not_zero (done refl));
@@ -63,7 +40,7 @@ told x content before after true was line n laid filled done short = record {
 }
 told x content before after false was line n laid filled done short = record {
   read = λ zero_. absurd (omega (arith, short refl, zero_));
-  short = λ _. (x, refl, record { needed = laid.length; short = omega (arith, ap length laid.content, length-append x.blob x.comment, laid.length, filled.1); stays = filled.0 });
+  short = λ _. (x, refl, record { needed = laid.1.length; short = subst (λ (c : List ℕ). length before < length c) laid.0 filled.1; stays = filled.0 });
   none = λ _ _ not_two _ _. not_two (short refl);
   fault = λ _ _ not_two. absurd (not_two (short refl));
   stays = λ _ not_two. absurd (not_two (short refl));
@@ -168,3 +145,15 @@ needs_certificate text (inr has) = needs_certificate_line text has.value has.com
 pub memory_of : (of_key of_certificate n : ℕ) → 9 < of_key → (n ≡ of_key) ⊎ (n ≡ of_certificate) → n ≡ 1 → of_certificate ≡ 1
 memory_of of_key of_certificate n big (inl key) one = absurd (omega (arith, big, key, one))
 memory_of of_key of_certificate n big (inr certificate) one = sym certificate ∙ one
+
+-- ---- its fault
+
+-- A line that holds something has none.
+pub no_fault : (text : List ℕ) (x : Content) (n : ℕ) (was line : Line) (before after : List ℕ) → Holds text x → Reads (Holds text) n was line before after → TellsLineFault text n
+no_fault text x n was line before after holds reads not_zero not_one not_two = absurd (reads.none not_zero not_one not_two x holds)
+
+pub key_has_none : (text : List ℕ) (k : Key) (comment : List ℕ) (n : ℕ) (was answer : Line) (before after : List ℕ) → IsLineOf key_name SpellsKey text k comment → Tells text 1 comment n was answer before after → TellsLineFault text n
+key_has_none text k comment n was answer before after line tells = no_fault text (content_of 1 line.blob comment) n was answer before after (inl (refl, (k, line.spelled, line.line))) (reads_key text k comment n was answer before after line tells)
+
+pub certificate_has_none : (text : List ℕ) (c : Certificate) (comment : List ℕ) (n : ℕ) (was answer : Line) (before after : List ℕ) → IsLineOf name_of_certificate SpellsCertificate text c comment → Tells text 2 comment n was answer before after → TellsLineFault text n
+certificate_has_none text c comment n was answer before after line tells = no_fault text (content_of 2 line.blob comment) n was answer before after (inr (refl, (c, line.spelled, line.line))) (reads_certificate text c comment n was answer before after line tells)

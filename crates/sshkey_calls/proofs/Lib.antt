@@ -1,5 +1,4 @@
 pub mod Kept
-pub mod Laid
 pub mod Strings
 pub mod Questions
 pub mod Digests

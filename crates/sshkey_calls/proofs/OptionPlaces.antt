@@ -39,6 +39,7 @@ module _ (b : List ℕ) (place : ℕ) (answer : OptionParts) where
   ends e = record {
     found = λ z. absurd (cc z);
     within = λ z. absurd (cc z);
+    placed = λ z. absurd (cc z);
     end_ = (λ _. e, λ _. refl);
     none = λ _. nothing_behind b place (omega (arith, e));
     others = λ _ other. absurd (other refl);
@@ -49,6 +50,7 @@ module _ (b : List ℕ) (place : ℕ) (answer : OptionParts) where
   is_past h = record {
     found = λ z. absurd (cc z);
     within = λ z. absurd (cc z);
+    placed = λ z. absurd (cc z);
     end_ = (λ e. absurd (cc e), λ e. absurd (omega (arith, e, h)));
     none = λ _. nothing_behind b place (omega (arith, h));
     others = λ _ _. refl;
@@ -59,6 +61,7 @@ module _ (b : List ℕ) (place : ℕ) (answer : OptionParts) where
   none_there apart none = record {
     found = λ z. absurd (cc z);
     within = λ z. absurd (cc z);
+    placed = λ z. absurd (cc z);
     end_ = (λ e. absurd (cc e), λ e. absurd (apart e));
     none = λ _. none;
     others = λ _ _. refl;
@@ -124,6 +127,7 @@ module _ (b : List ℕ) (place : ℕ) (name value behind : List ℕ) (h : Begins
     finds was apart = record {
       found = λ _. rw (name_is, value_is, next_is) h;
       within = λ _. (name_within, omega (arith, short_enough, ap length value_cut, length-append before_value (value ++ behind), length-append value behind), omega (arith));
+      placed = λ _. (refl, omega (arith, short_enough));
       end_ = (λ e. absurd (cc e), λ e. absurd (apart e));
       none = λ some. absurd (some refl);
       others = λ some. absurd (some refl);

@@ -10,6 +10,7 @@ use Rattle.sshkey_model.specs.Parts.{each, flat, number}
 use Rattle.sshkey_model.specs.Signatures.{signature}
 use Rattle.sshkey_model.specs.Texts.{string}
 use Rattle.sshkey_model.proofs.CombinedReaders.{wide32, wide64}
+use Rattle.sshkey_calls.specs.Lists.{beginning}
 use Rattle.sshkey_calls.specs.declared.part.Part.{Part}
 
 -- the bytes in a string
@@ -22,9 +23,6 @@ regroup : (n m b s t k p v w c e r a g : List ℕ) → (n ++ (m ++ (b ++ (s ++ (
 regroup n m b s t k p v w c e r a g = simp (append_assoc)
 
 module _ (c : Certificate) (s : CertificateChoices) where
-  pub front : List ℕ
-  front = flat (certificate_algorithm (key_algorithm c.signed.key)) ++ (flat (string c.signed.nonce) ++ (flat (body c.signed.key) ++ (flat (number w64 c.signed.serial) ++ flat (certificate_type c.signed.certificate_type))))
-
   pub window : List ℕ
   window = flat (number w64 c.signed.valid_after) ++ flat (number w64 c.signed.valid_before)
 
@@ -32,12 +30,12 @@ module _ (c : Certificate) (s : CertificateChoices) where
   unfolding window flat
   window_length = omega (arith, length-append (to_be_bytes w64 c.signed.valid_after) (to_be_bytes w64 c.signed.valid_before), wide64.len c.signed.valid_after, wide64.len c.signed.valid_before)
 
-  pub joined : flat (certificate c s) ≡ (((((((front ++ boxed c.signed.key_id) ++ boxed (flat (each string c.signed.valid_principals))) ++ window) ++ boxed (flat (each_option c.signed.critical_options s.critical_options))) ++ boxed (flat (each_option c.signed.extensions s.extensions))) ++ boxed c.signed.reserved) ++ boxed (flat (key c.signed.signature_key s.signature_key))) ++ boxed (flat (signature c.signature))
-  unfolding front window flat
+  pub joined : flat (certificate c s) ≡ (((((((flat (beginning c) ++ boxed c.signed.key_id) ++ boxed (flat (each string c.signed.valid_principals))) ++ window) ++ boxed (flat (each_option c.signed.critical_options s.critical_options))) ++ boxed (flat (each_option c.signed.extensions s.extensions))) ++ boxed c.signed.reserved) ++ boxed (flat (key c.signed.signature_key s.signature_key))) ++ boxed (flat (signature c.signature))
+  unfolding window flat
   joined = regroup (flat (certificate_algorithm (key_algorithm c.signed.key))) (flat (string c.signed.nonce)) (flat (body c.signed.key)) (flat (number w64 c.signed.serial)) (flat (certificate_type c.signed.certificate_type)) (boxed c.signed.key_id) (boxed (flat (each string c.signed.valid_principals))) (flat (number w64 c.signed.valid_after)) (flat (number w64 c.signed.valid_before)) (boxed (flat (each_option c.signed.critical_options s.critical_options))) (boxed (flat (each_option c.signed.extensions s.extensions))) (boxed c.signed.reserved) (boxed (flat (key c.signed.signature_key s.signature_key))) (boxed (flat (signature c.signature)))
 
   -- the same of bytes that are those of its parts
-  pub laid_out : (b k p o e r a g : List ℕ) → b ≡ flat (certificate c s) → k ≡ c.signed.key_id → p ≡ flat (each string c.signed.valid_principals) → o ≡ flat (each_option c.signed.critical_options s.critical_options) → e ≡ flat (each_option c.signed.extensions s.extensions) → r ≡ c.signed.reserved → a ≡ flat (key c.signed.signature_key s.signature_key) → g ≡ flat (signature c.signature) → b ≡ (((((((front ++ boxed k) ++ boxed p) ++ window) ++ boxed o) ++ boxed e) ++ boxed r) ++ boxed a) ++ boxed g
+  pub laid_out : (b k p o e r a g : List ℕ) → b ≡ flat (certificate c s) → k ≡ c.signed.key_id → p ≡ flat (each string c.signed.valid_principals) → o ≡ flat (each_option c.signed.critical_options s.critical_options) → e ≡ flat (each_option c.signed.extensions s.extensions) → r ≡ c.signed.reserved → a ≡ flat (key c.signed.signature_key s.signature_key) → g ≡ flat (signature c.signature) → b ≡ (((((((flat (beginning c) ++ boxed k) ++ boxed p) ++ window) ++ boxed o) ++ boxed e) ++ boxed r) ++ boxed a) ++ boxed g
   laid_out b k p o e r a g is ek ep eo ee er ea eg = rw (ek, ep, eo, ee, er, ea, eg) (is ∙ joined)
 
 -- ---- the string that ends there
@@ -62,6 +60,9 @@ module _ (b x s y : List ℕ) (end : ℕ) (is : b ≡ (x ++ boxed s) ++ y) (ends
   -- where it begins, with its length
   pub before : (end - length s) - 4 ≡ length x
   before = omega (arith, starts, length-append x (to_be_bytes w32 (length s)), wide32.len (length s))
+
+  pub starts_behind : end - length s ≡ length x + 4
+  starts_behind = omega (arith, starts, length-append x (to_be_bytes w32 (length s)), wide32.len (length s))
 
   pub rest : b ≡ x ++ (boxed s ++ y)
   rest = is ∙ append_assoc x (boxed s) y
@@ -166,3 +167,53 @@ module _ (b f k p w c e r a g : List ℕ) (is : b ≡ (((((((f ++ boxed k) ++ bo
 
   pub key_id_is : Has at_principals k
   key_id_is = (content b f k _ at_principals is_key_id principals_at, within b f k _ at_principals is_key_id principals_at)
+
+  -- ---- in order
+
+  abbrev start_key_id : ℕ
+  start_key_id = at_principals - length k
+
+  abbrev start_principals : ℕ
+  start_principals = (at_critical - 16) - length p
+
+  abbrev start_critical : ℕ
+  start_critical = at_extensions - length c
+
+  abbrev start_extensions : ℕ
+  start_extensions = at_reserved - length e
+
+  abbrev start_authority : ℕ
+  start_authority = at_signature - length a
+
+  boxed_length : (s : List ℕ) → length (boxed s) ≡ 4 + length s
+  boxed_length s = omega (arith, length-append (to_be_bytes w32 (length s)) s, wide32.len (length s))
+
+  key_id_starts : start_key_id ≡ length f + 4
+  key_id_starts = starts_behind b f k _ at_principals is_key_id principals_at
+
+  principals_start : start_principals ≡ length to_key_id + 4
+  principals_start = starts_behind b to_key_id p _ (at_critical - 16) is_principals window_at
+
+  critical_start : start_critical ≡ length to_window + 4
+  critical_start = starts_behind b to_window c _ at_extensions is_critical extensions_at
+
+  extensions_start : start_extensions ≡ length to_critical + 4
+  extensions_start = starts_behind b to_critical e _ at_reserved is_extensions reserved_at
+
+  authority_starts : start_authority ≡ length to_reserved + 4
+  authority_starts = starts_behind b to_reserved a _ at_signature is_authority signature_at
+
+  pub key_id_placed : start_key_id ≡ length f + 4
+  key_id_placed = key_id_starts
+
+  pub principals_placed : start_principals ≡ start_key_id + length k + 4
+  principals_placed = omega (arith, key_id_starts, principals_start, length-append f (boxed k), boxed_length k)
+
+  pub critical_placed : start_critical ≡ start_principals + length p + 16 + 4
+  critical_placed = omega (arith, principals_start, critical_start, length-append to_key_id (boxed p), boxed_length p, length-append to_principals w, sixteen)
+
+  pub extensions_placed : start_extensions ≡ start_critical + length c + 4
+  extensions_placed = omega (arith, critical_start, extensions_start, length-append to_window (boxed c), boxed_length c)
+
+  pub authority_placed : start_authority ≡ start_extensions + length e + 4 + length r + 4
+  authority_placed = omega (arith, extensions_start, authority_starts, length-append to_critical (boxed e), boxed_length e, length-append to_extensions (boxed r), boxed_length r)

@@ -1,51 +1,24 @@
 -- Questions that stand in the room.
-use Rattle.std.proofs.Common.{◌≡◌, ◌≢◌, ◌<◌, ◌+◌, ℕ, List, ◌++◌, length, drop, Bool, true, false, Option, Some, None, option_map, refl, sym, ap, ◌∙◌, arith, length-append}
-use Rattle.sshkey_model.specs.Keys.{normal_key}
-use Rattle.sshkey_model.specs.Parts.{flat}
+use Rattle.std.proofs.Common.{◌≡◌, ◌≢◌, ◌<◌, ℕ, List, ◌++◌, length, drop, Bool, true, false, Option, Some, None, option_map, refl, sym, ap, subst, ◌∙◌, arith}
 use Rattle.sshkey_model.specs.Verification as model
-use Rattle.sshkey_calls.specs.Questions.{GivesQuestion, IsAnswer, IsLaidOut, room_for}
-use Rattle.std.proofs.Math.Seq.{drop-append_seam}
+use Rattle.sshkey_calls.specs.Questions.{GivesQuestion, IsLaidOut}
 use Rattle.sshkey_calls.specs.Rooms.{Fills}
 use Rattle.sshkey_calls.specs.declared.question.Question.{Question}
-use Rattle.sshkey_calls.proofs.Laid.{first_part, second_part, third_part}
-
-pub is_answer : (q : model.Question) (content behind before after : List ℕ) (answer : Question) → IsLaidOut q content answer → after ≡ content ++ behind → drop (length content) before ≡ behind → IsAnswer q answer before after
-is_answer q content behind before after answer laid is rest = record {
-  algorithm = laid.algorithm;
-  key = rw (is, laid.content, laid.key.0, laid.key.1) (first_part (flat (normal_key q.key)) q.message q.blob behind);
-  message = rw (is, laid.content, laid.message.0, laid.message.1) (second_part (flat (normal_key q.key)) q.message q.blob behind);
-  signature = rw (is, laid.content, laid.signature.0, laid.signature.1) (third_part (flat (normal_key q.key)) q.message q.blob behind);
-  within = (omega (arith, whole, laid.key), omega (arith, whole, laid.message), omega (arith, whole, laid.signature));
-  length = laid.length;
-  behind = rw (all, is) (drop-append_seam content behind ∙ sym rest);
-}
-  where
-    all : answer.length ≡ length content
-    all = omega (arith, laid.length, ap length laid.content, length-append (flat (normal_key q.key)) (q.message ++ q.blob), length-append q.message q.blob)
-
-    whole : length after ≡ room_for q + length behind
-    whole = omega (arith, ap length is, length-append content behind, ap length laid.content, length-append (flat (normal_key q.key)) (q.message ++ q.blob), length-append q.message q.blob)
 
 -- The room was filled, or is too short.
 pub answers : (q : model.Question) (content before after : List ℕ) (filled : Bool) (was answer : Question) (n : ℕ) → IsLaidOut q content answer → Fills content before filled after → (filled ≡ true → n ≡ 0) → (filled ≡ false → n ≡ 2) → GivesQuestion (λ x. x ≡ q) n was answer before after
 answers q content before after true was answer n laid filled done short = record {
-  asked = λ _. (q, refl, is_answer q content (drop (length content) before) before after answer laid filled refl);
+  asked = λ _. (q, refl, record { content = subst (λ (c : List ℕ). after ≡ c ++ drop (length c) before) laid.0 filled; placed = laid.1 });
   short = λ two. absurd (omega (arith, done refl, two));
   none = λ not_zero _ _ _ _. not_zero (done refl);
   stays = λ not_zero _. absurd (not_zero (done refl));
 }
 answers q content before after false was answer n laid filled done short = record {
   asked = λ zero_. absurd (omega (arith, short refl, zero_));
-  short = λ _. (q, refl, record { needed = laid.length; short = too_short; stays = filled.0 });
+  short = λ _. (q, refl, record { needed = laid.1.length; short = subst (λ (c : List ℕ). length before < length c) laid.0 filled.1; stays = filled.0 });
   none = λ _ _ not_two _ _. not_two (short refl);
   stays = λ _ not_two. absurd (not_two (short refl));
 }
-  where
-    whole_length : length content ≡ room_for q
-    whole_length = rw laid.content (omega (arith, length-append (flat (normal_key q.key)) (q.message ++ q.blob), length-append q.message q.blob))
-
-    too_short : length before < room_for q
-    too_short = omega (arith, whole_length, filled.1)
 
 -- What holds of the one question that was raised holds where it is raised.
 pub raised : {Raised Other : model.Question → Type 0} (n : ℕ) (was answer : Question) (before after : List ℕ) → ((q : model.Question) → Raised q → Other q) → ((q : model.Question) → Other q → Raised q) → GivesQuestion Raised n was answer before after → GivesQuestion Other n was answer before after

@@ -1,12 +1,16 @@
 -- What is answered of a line of a key file or of a certificate file.
-use Rattle.std.specs.Prelude.{◌≡◌, ◌≢◌, ◌⊎◌, ℕ, ◌<◌, ◌+◌, List, ◌++◌, length, drop}
+use Rattle.std.specs.Prelude.{◌≡◌, ◌≢◌, ◌⊎◌, ℕ, ◌<◌, ◌==◌, if◌then◌else◌, List, ◌++◌, length, drop}
+use Rattle.sshkey_base.specs.declared.error.Error.{Error}
 use Rattle.sshkey_model.specs.Lines.{IsLine, key_name, name_of_certificate}
+use Rattle.sshkey_model.specs.Reading.{whole}
 use Rattle.sshkey_keys.specs.KeyFormats.{key_format}
 use Rattle.sshkey_keys.specs.Keys.{SpellsKey}
+use Rattle.sshkey_public.specs.LineFaults.{HasFaultOfLine}
 use Rattle.sshkey_public.specs.LineNeeds.{NeedsValue}
 use Rattle.sshkey_cert.specs.CertificateFormats.{certificate_format}
 use Rattle.sshkey_cert.specs.CertificateReaders.{SpellsCertificate}
-use Rattle.sshkey_calls.specs.Rooms.{bytes_of, IsWithin}
+use Rattle.sshkey_calls.specs.Numbers.{error_number}
+use Rattle.sshkey_calls.specs.Rooms.{IsPlaced}
 use Rattle.sshkey_calls.specs.declared.line.Line.{Line}
 
 -- What a line holds: 1 for a key or 2 for a certificate, its bytes, and the comment.
@@ -30,28 +34,32 @@ Holds text x = ((x.kind ≡ 1) × IsLineWith key_name SpellsKey text x) ⊎ ((x.
 abbrev pub NeedsLine : List ℕ → Type 0
 NeedsLine text = NeedsValue key_format.needs text ⊎ (NeedsValue certificate_format.needs text ⊎ ((x : Content) × Holds text x))
 
--- The answer is the content: each part of the room that it names has that field of it, together they take that many bytes, and what stands behind these is as it was.
-pub record IsContent (x : Content) (line : Line) (before room : List ℕ) : Type 0 where
-  pub kind : line.kind ≡ x.kind
-  pub blob : bytes_of line.blob room ≡ x.blob
-  pub comment : bytes_of line.comment room ≡ x.comment
-  pub within : IsWithin line.blob room × IsWithin line.comment room
-  pub length : line.length ≡ length x.blob + length x.comment
-  pub behind : drop line.length room ≡ drop line.length before
+-- ---- in the room
 
--- The room is too short for blob and comment, and stays as it was; the answer says how much is needed.
+-- the blob, and behind it the comment
+abbrev pub line_bytes : Content → List ℕ
+line_bytes x = x.blob ++ x.comment
+
+-- The answer says where each of them is, how many bytes they take, and what the blob is.
+pub record ArePlaced (x : Content) (line : Line) : Type 0 where
+  pub kind : line.kind ≡ x.kind
+  pub blob : IsPlaced 0 x.blob line.blob
+  pub comment : IsPlaced (length x.blob) x.comment line.comment
+  pub length : line.length ≡ length (line_bytes x)
+
+abbrev pub IsLaidOut : Content → List ℕ → Line → Type 0
+IsLaidOut x content line = (content ≡ line_bytes x) × ArePlaced x line
+
+-- They stand at the front of the room, and nothing else changed.
+pub record IsContent (x : Content) (line : Line) (before after : List ℕ) : Type 0 where
+  pub content : after ≡ line_bytes x ++ drop (length (line_bytes x)) before
+  pub placed : ArePlaced x line
+
+-- The room is too short for them, and stays as it was; the answer says how much is needed.
 pub record IsTooLong (x : Content) (line : Line) (before after : List ℕ) : Type 0 where
-  pub needed : line.length ≡ length x.blob + length x.comment
-  pub short : length before < line.length
+  pub needed : line.length ≡ length (line_bytes x)
+  pub short : length before < length (line_bytes x)
   pub stays : after ≡ before
-
--- The room's content is the blob and the comment behind it, and the answer says where each is.
-pub record IsLaidOutLine (x : Content) (room : List ℕ) (line : Line) : Type 0 where
-  pub content : room ≡ x.blob ++ x.comment
-  pub kind : line.kind ≡ x.kind
-  pub blob : (line.blob.start ≡ 0) × (line.blob.length ≡ length x.blob)
-  pub comment : (line.comment.start ≡ length x.blob) × (line.comment.length ≡ length x.comment)
-  pub length : line.length ≡ length x.blob + length x.comment
 
 -- What a call answers that looks for the one content that `Wanted` tells: 0 with it, 1 for memory, which says nothing, 2 where there is one, and the room is too short for it; and from 10 to 29 where there is none. But for 0 and 2, answer and room stay as they were.
 pub record Reads (Wanted : Content → Type 0) (n : ℕ) (was line : Line) (before after : List ℕ) : Type 0 where
@@ -60,3 +68,21 @@ pub record Reads (Wanted : Content → Type 0) (n : ℕ) (was line : Line) (befo
   pub none : n ≢ 0 → n ≢ 1 → n ≢ 2 → (x : Content) → Wanted x → ⊥
   pub fault : n ≢ 0 → n ≢ 1 → n ≢ 2 → (9 < n) × (n < 30)
   pub stays : n ≢ 0 → n ≢ 2 → (line ≡ was) × (after ≡ before)
+
+-- ---- what is wrong with a line of neither
+
+-- the number is that of a fault that the text has as the line of a key
+abbrev pub NumbersKeyFault : List ℕ → ℕ → Type 0
+NumbersKeyFault text n = (e : Error) × HasFaultOfLine (whole key_format.read) key_name SpellsKey text e × (n ≡ error_number e)
+
+-- or as the line of a certificate
+abbrev pub NumbersCertificateFault : List ℕ → ℕ → Type 0
+NumbersCertificateFault text n = (e : Error) × HasFaultOfLine (whole certificate_format.read) name_of_certificate SpellsCertificate text e × (n ≡ error_number e)
+
+-- the fault as a key's line, but where that is 12, for a name that no key has, the one as a certificate's
+abbrev pub fault_of_either : ℕ → ℕ → ℕ
+fault_of_either of_key of_certificate = if of_key == 12 then of_certificate else of_key
+
+-- Every number but 0, 1 and 2 is that of such a fault.
+abbrev pub TellsLineFault : List ℕ → ℕ → Type 0
+TellsLineFault text n = n ≢ 0 → n ≢ 1 → n ≢ 2 → (of_key : ℕ) × (of_certificate : ℕ) × NumbersKeyFault text of_key × NumbersCertificateFault text of_certificate × (n ≡ fault_of_either of_key of_certificate)

@@ -1,25 +1,51 @@
 -- Where the parts of a certificate stand in its bytes (PROTOCOL.certkeys).
-use Rattle.std.specs.Prelude.{◌≡◌, ◌≢◌, ℕ, List}
+use Rattle.std.specs.Int.{w64}
+use Rattle.std.specs.Prelude.{◌≡◌, ◌≢◌, ◌+◌, ℕ, List, length}
 use Rattle.sshkey_cert.specs.CertificateReaders.{SpellsCertificate}
 use Rattle.sshkey_cert_ref.specs.OptionLists.{SpellsEachOption}
 use Rattle.sshkey_cert_ref.specs.TextLists.{SpellsEachText}
 use Rattle.sshkey_keys.specs.Keys.{SpellsKey}
-use Rattle.sshkey_model.specs.Certificates.{Certificate}
+use Rattle.sshkey_model.specs.CertificateNames.{certificate_algorithm}
+use Rattle.sshkey_model.specs.Certificates.{Certificate, certificate_type}
+use Rattle.sshkey_model.specs.Keys.{body, key_algorithm}
 use Rattle.sshkey_model.specs.Options.{CertificateOption, Nesting}
+use Rattle.sshkey_model.specs.Parts.{Parts, ◌&◌, flat, number}
+use Rattle.sshkey_model.specs.Texts.{string}
 use Rattle.sshkey_calls.specs.Rooms.{IsWithin, bytes_of}
 use Rattle.sshkey_calls.specs.declared.lists.CertificateParts.{CertificateParts}
+use Rattle.sshkey_calls.specs.declared.part.Part.{Part}
 
 -- the bytes spell the options, one behind the other, empty values in either way
 abbrev pub SpellsOptionList : List CertificateOption → List ℕ → Type 0
 SpellsOptionList os bytes = (nestings : List Nesting) × SpellsEachOption (os, nestings) bytes
 
--- Each part has that field of the certificate.
+-- all that a certificate begins with, before its key id
+abbrev pub beginning : Certificate → Parts
+beginning c = certificate_algorithm (key_algorithm c.signed.key)
+    & string c.signed.nonce
+    & body c.signed.key
+    & number w64 c.signed.serial
+    & certificate_type c.signed.certificate_type
+
+abbrev pub end_of : Part → ℕ
+end_of part = part.start + part.length
+
+-- Each part stands behind its length, which has four bytes: the key id behind all that the certificate begins with, the principals behind the key id, the critical options behind these and the window of sixteen bytes, the extensions behind them, and the authority's key behind these and the reserved string.
+pub record ArePlaced (c : Certificate) (p : CertificateParts) : Type 0 where
+  pub key_id : p.key_id.start ≡ length (flat (beginning c)) + 4
+  pub principals : p.principals.start ≡ end_of p.key_id + 4
+  pub critical_options : p.critical_options.start ≡ end_of p.principals + 16 + 4
+  pub extensions : p.extensions.start ≡ end_of p.critical_options + 4
+  pub authority : p.authority.start ≡ end_of p.extensions + 4 + length c.signed.reserved + 4
+
+-- Each part has that field of the certificate, and stands in its place.
 pub record ArePartsOf (c : Certificate) (bytes : List ℕ) (p : CertificateParts) : Type 0 where
   pub key_id : bytes_of p.key_id bytes ≡ c.signed.key_id
   pub principals : SpellsEachText c.signed.valid_principals (bytes_of p.principals bytes)
   pub critical_options : SpellsOptionList c.signed.critical_options (bytes_of p.critical_options bytes)
   pub extensions : SpellsOptionList c.signed.extensions (bytes_of p.extensions bytes)
   pub authority : SpellsKey c.signed.signature_key (bytes_of p.authority bytes)
+  pub placed : ArePlaced c p
   pub within : IsWithin p.key_id bytes × IsWithin p.principals bytes × IsWithin p.critical_options bytes × IsWithin p.extensions bytes × IsWithin p.authority bytes
 
 -- 0 and the parts of the certificate that the bytes spell, and every other number where they spell none.

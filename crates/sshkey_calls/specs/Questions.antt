@@ -7,7 +7,7 @@ use Rattle.sshkey_model.specs.Verification as model
 use Rattle.sshkey_cert.specs.CertificateReaders.{SpellsCertificate}
 use Rattle.sshkey_cert.specs.Questions.{certificate_question}
 use Rattle.sshkey_calls.specs.Numbers.{algorithm_number}
-use Rattle.sshkey_calls.specs.Rooms.{bytes_of, IsWithin}
+use Rattle.sshkey_calls.specs.Rooms.{IsPlaced}
 use Rattle.sshkey_calls.specs.declared.question.Question.{Question}
 
 -- the bytes spell a certificate that raises the question
@@ -18,34 +18,33 @@ RaisedBy bytes q = (c : Certificate) × SpellsCertificate c bytes × (certificat
 abbrev pub TellsNone : List ℕ → ℕ → Type 0
 TellsNone bytes n = (c : Certificate) → SpellsCertificate c bytes → certificate_question c ≡ None → n ≢ 1 → n ≡ 40
 
--- so much room it takes
-abbrev pub room_for : model.Question → ℕ
-room_for q = length (flat (normal_key q.key)) + length q.message + length q.blob
+-- ---- in the room
 
--- The answer is the question: each part of the room that it names has that field of it, together they take that many bytes, and what stands behind these is as it was.
-pub record IsAnswer (q : model.Question) (answer : Question) (before room : List ℕ) : Type 0 where
+-- its parts, one behind the other
+abbrev pub question_bytes : model.Question → List ℕ
+question_bytes q = flat (normal_key q.key) ++ (q.message ++ q.blob)
+
+-- The answer says where each of them is, how many bytes they take, and the algorithm.
+pub record ArePlaced (q : model.Question) (answer : Question) : Type 0 where
   pub algorithm : answer.algorithm ≡ algorithm_number q.algorithm
-  pub key : bytes_of answer.key room ≡ flat (normal_key q.key)
-  pub message : bytes_of answer.message room ≡ q.message
-  pub signature : bytes_of answer.signature room ≡ q.blob
-  pub within : IsWithin answer.key room × IsWithin answer.message room × IsWithin answer.signature room
-  pub length : answer.length ≡ room_for q
-  pub behind : drop answer.length room ≡ drop answer.length before
+  pub key : IsPlaced 0 (flat (normal_key q.key)) answer.key
+  pub message : IsPlaced (length (flat (normal_key q.key))) q.message answer.message
+  pub signature : IsPlaced (length (flat (normal_key q.key)) + length q.message) q.blob answer.signature
+  pub length : answer.length ≡ length (question_bytes q)
 
--- The room is too short for the question, and stays as it was; the answer says how much is needed.
+abbrev pub IsLaidOut : model.Question → List ℕ → Question → Type 0
+IsLaidOut q content answer = (content ≡ question_bytes q) × ArePlaced q answer
+
+-- The parts stand at the front of the room, and nothing else changed.
+pub record IsAnswer (q : model.Question) (answer : Question) (before after : List ℕ) : Type 0 where
+  pub content : after ≡ question_bytes q ++ drop (length (question_bytes q)) before
+  pub placed : ArePlaced q answer
+
+-- The room is too short for them, and stays as it was; the answer says how much is needed.
 pub record IsTooShort (q : model.Question) (answer : Question) (before after : List ℕ) : Type 0 where
-  pub needed : answer.length ≡ room_for q
-  pub short : length before < room_for q
+  pub needed : answer.length ≡ length (question_bytes q)
+  pub short : length before < length (question_bytes q)
   pub stays : after ≡ before
-
--- The content of the room is the parts of the question, one behind the other, and the answer says where each is.
-pub record IsLaidOut (q : model.Question) (room : List ℕ) (answer : Question) : Type 0 where
-  pub content : room ≡ flat (normal_key q.key) ++ (q.message ++ q.blob)
-  pub algorithm : answer.algorithm ≡ algorithm_number q.algorithm
-  pub key : (answer.key.start ≡ 0) × (answer.key.length ≡ length (flat (normal_key q.key)))
-  pub message : (answer.message.start ≡ length (flat (normal_key q.key))) × (answer.message.length ≡ length q.message)
-  pub signature : (answer.signature.start ≡ length (flat (normal_key q.key)) + length q.message) × (answer.signature.length ≡ length q.blob)
-  pub length : answer.length ≡ room_for q
 
 -- What a call answers that looks for the one question that `Raised` tells: 0 with the question, 1 for memory, which says nothing, 2 where there is a question, and the room is too short for it; and every other number where there is none. But for 0 and 2, answer and room stay as they were.
 pub record GivesQuestion (Raised : model.Question → Type 0) (n : ℕ) (was answer : Question) (before after : List ℕ) : Type 0 where

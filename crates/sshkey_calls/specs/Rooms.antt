@@ -10,6 +10,10 @@ bytes_of part room = take part.length (drop part.start room)
 abbrev pub IsWithin : Part → List ℕ → Type 0
 IsWithin part bytes = part.start + part.length ≤ length bytes
 
+-- it begins there, and is as long as these bytes
+abbrev pub IsPlaced : ℕ → List ℕ → Part → Type 0
+IsPlaced start bytes part = (part.start ≡ start) × (part.length ≡ length bytes)
+
 -- The content stands at the front of the room, and nothing else changed; or nothing did, for it is longer than the room.
 abbrev pub Fills : List ℕ → List ℕ → Bool → List ℕ → Type 0
 Fills content before true after = after ≡ content ++ drop (length content) before

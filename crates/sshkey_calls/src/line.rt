@@ -1,10 +1,11 @@
 //! Lines of key files and of certificate files.
 
-ghost use Rattle.std.specs.Prelude.{◌≡◌, ◌⊎◌, ◌<◌, ◌++◌, IfOk, List, ℕ};
+ghost use Rattle.std.specs.Prelude.{◌≡◌, ◌≢◌, ◌⊎◌, ◌<◌, ◌++◌, IfOk, List, ℕ};
+ghost use Rattle.std.specs.Str.{IsUtf8};
 ghost use Rattle.base64.specs.GeneralPurpose.{IsBytes};
 ghost use Rattle.sshkey_keys.specs.Keys.{SpellsKey};
 ghost use Rattle.sshkey_model.specs.Lines.{IsCut, IsLine, IsNoLine, IsWithout, after_space, key_name, space};
-ghost use Rattle.sshkey_calls.specs.KeyLines.{Holds, IsLaidOutLine, NeedsLine, Reads, content_of};
+ghost use Rattle.sshkey_calls.specs.KeyLines.{Holds, IsLaidOut, NeedsLine, NumbersKeyFault, Reads, TellsLineFault, content_of, fault_of_either};
 
 use crate::number::{DONE, MEMORY, ROOM, error_number};
 use crate::part::{Part, add, write_to};
@@ -52,6 +53,8 @@ const LABEL: u32 = 12;
 /// A line end within the line is part of the comment.
 pub fn read_line(alloc: Global, line: &[u8], room: &mut [u8], answer: &mut Line) -> u32
     ensures reads { Reads (Holds line.now) result answer.old answer.new room.old room.new }
+    ensures fault { IsUtf8 line.now → TellsLineFault line.now result }
+    ensures text { (IsUtf8 line.now → ⊥) → result ≡ 11 }
     ensures memory { result ≡ 1 → NeedsLine line.now }
 {
     match str::from_utf8(line) {
@@ -63,6 +66,7 @@ pub fn read_line(alloc: Global, line: &[u8], room: &mut [u8], answer: &mut Line)
 /// The same of a text.
 fn read_text(alloc: Global, text: &str, room: &mut [u8], answer: &mut Line) -> u32
     ensures reads { Reads (Holds text.now) result answer.old answer.new room.old room.new }
+    ensures fault { TellsLineFault text.now result }
     ensures memory { result ≡ 1 → NeedsLine text.now }
 {
     match sshkey_public::read_line::<KeyData>(alloc, text) {
@@ -88,6 +92,7 @@ fn read_certificate(
     requires none { IsNoLine key_name SpellsKey text.now }
     requires fault { (9 < key_fault) × (key_fault < 30) }
     ensures reads { Reads (Holds text.now) result answer.old answer.new room.old room.new }
+    ensures fault { NumbersKeyFault text.now key_fault → TellsLineFault text.now result }
     ensures memory { result ≡ 1 → NeedsLine text.now }
 {
     match sshkey_public::read_line::<Certificate>(alloc, text) {
@@ -100,6 +105,7 @@ fn read_certificate(
 /// none of a key.
 fn fault_of(of_key: u32, of_certificate: u32) -> u32
     ensures either { (result ≡ of_key) ⊎ (result ≡ of_certificate) }
+    ensures number { of_certificate ≢ 1 → result ≡ fault_of_either of_key of_certificate }
     ensures memory { of_certificate ≡ 1 → result ≡ 1 }
 {
     if of_key == LABEL || of_certificate == MEMORY {
@@ -134,7 +140,7 @@ fn tell(
 /// The blob of a line and the comment behind it, and where they are.
 fn laid_out(alloc: Global, text: &str, comment: &str, kind: u32) -> Result<(Vec<u8>, Line)>
     ensures { (first blob : List ℕ) → IsLine text.now first blob comment.now → IsBytes blob
-        → IfOk result (λ laid. IsLaidOutLine (content_of kind blob comment.now)
+        → IfOk result (λ laid. IsLaidOut (content_of kind blob comment.now)
         laid.0.items laid.1) }
 {
     let mut content = blob_in(alloc, text)?;

@@ -4,7 +4,7 @@ use Rattle.std.proofs.Math.ListN.{drop_of_length-le}
 use Rattle.std.proofs.Math.Seq.{drop-cons, drop-append-add, drop-append_seam, take-append_seam}
 use Rattle.std.proofs.lemmas.Bool.{cases_lt, not-true}
 use Rattle.std.proofs.lemmas.List.{take_all, get_or-take, length-take-le}
-use Rattle.std.proofs.lemmas.List.Elements.{All-from_get_or}
+use Rattle.std.proofs.lemmas.List.Elements.{All-cons, All-from_get_or, All-nil}
 use Rattle.std.proofs.lemmas.List.Quantifiers.{position-Some}
 use Rattle.std.proofs.lemmas.List.Splits.{slice_split_none, slice_split_at, length-slice_split}
 use Rattle.std.proofs.lemmas.List.Sums.{fails_before_first}
@@ -38,13 +38,27 @@ skipped text n is =
 pub skipped_all : (text : List ℕ) → None ≡ position (λ c. not (is_blank c)) text → [] ≡ without_blanks text
 skipped_all text is = sym (skips_all text text refl is)
 
--- what is skipped stands before what is left
-by_blank : (c : ℕ) (text : List ℕ) (b : Bool) → is_blank c ≡ b → (blanks : List ℕ) × (text ≡ blanks ++ without_blanks text) → (blanks : List ℕ) × (c ∷ text ≡ blanks ++ without_blanks (c ∷ text))
-by_blank c text true e more = (c ∷ more.0, ap (λ (l : List ℕ). c ∷ l) more.1 ∙ ap (λ (l : List ℕ). c ∷ (more.0 ++ l)) (sym (blank_skipped c text e)))
-by_blank c text false e more = ([], sym (other_stays c text e))
+-- spaces and tabs alone
+pub record AreBlanks (blanks : List ℕ) : Type 0 where
+  pub skipped : without_blanks blanks ≡ []
+  pub one_line : All (λ c. is_line_end c ≡ false) blanks
 
-pub front_blanks : (text : List ℕ) → (blanks : List ℕ) × (text ≡ blanks ++ without_blanks text)
-front_blanks [] = ([], sym nothing_stays)
+no_blanks : AreBlanks []
+no_blanks = record { skipped = nothing_stays; one_line = All-nil (λ c. is_line_end c ≡ false) }
+
+no_end : (c : ℕ) → is_blank c ≡ true → is_line_end c ≡ false
+no_end c e = grind (arith, tests)
+
+more_blanks : (c : ℕ) (blanks : List ℕ) → is_blank c ≡ true → AreBlanks blanks → AreBlanks (c ∷ blanks)
+more_blanks c blanks e are = record { skipped = blank_skipped c blanks e ∙ are.skipped; one_line = All-cons (λ c. is_line_end c ≡ false) c blanks (no_end c e) are.one_line }
+
+-- what is skipped stands before what is left
+by_blank : (c : ℕ) (text : List ℕ) (b : Bool) → is_blank c ≡ b → (blanks : List ℕ) × (text ≡ blanks ++ without_blanks text) × AreBlanks blanks → (blanks : List ℕ) × (c ∷ text ≡ blanks ++ without_blanks (c ∷ text)) × AreBlanks blanks
+by_blank c text true e more = (c ∷ more.0, ap (λ (l : List ℕ). c ∷ l) more.1 ∙ ap (λ (l : List ℕ). c ∷ (more.0 ++ l)) (sym (blank_skipped c text e)), more_blanks c more.0 e more.2)
+by_blank c text false e more = ([], sym (other_stays c text e), no_blanks)
+
+pub front_blanks : (text : List ℕ) → (blanks : List ℕ) × (text ≡ blanks ++ without_blanks text) × AreBlanks blanks
+front_blanks [] = ([], sym nothing_stays, no_blanks)
 front_blanks (c ∷ text) = by_blank c text (is_blank c) refl (front_blanks text)
 
 -- ---- the first line
@@ -82,9 +96,9 @@ stripped_by l true e =
     inr (last_part l (some_by l last) last ∙ ap (λ (x : List ℕ). x ++ (13 ∷ [])) (sym (ap (λ (b : Bool). cond b (take (length l - 1) l) l) e)))
 
 -- the line feed, and a carriage return before it
-ended : (front behind line : List ℕ) → line ≡ strip_carriage_return front → (strip_carriage_return front ≡ front) ⊎ (front ≡ strip_carriage_return front ++ (13 ∷ [])) → (end : List ℕ) × (front ++ (10 ∷ behind) ≡ line ++ (end ++ behind)) × IsLineEnd end behind
-ended front behind line is (inl same) = (10 ∷ [], ap (λ (l : List ℕ). l ++ (10 ∷ behind)) (sym (is ∙ same)), inr (inl refl))
-ended front behind line is (inr more) = (13 ∷ 10 ∷ [], ap (λ (l : List ℕ). l ++ (10 ∷ behind)) (more ∙ ap (λ (l : List ℕ). l ++ (13 ∷ [])) (sym is)) ∙ append_assoc line (13 ∷ []) (10 ∷ behind), inr (inr refl))
+ended : (front line : List ℕ) → line ≡ strip_carriage_return front → (strip_carriage_return front ≡ front) ⊎ (front ≡ strip_carriage_return front ++ (13 ∷ [])) → (end : List ℕ) × ((behind : List ℕ) → front ++ (10 ∷ behind) ≡ line ++ (end ++ behind)) × ((end ≡ 10 ∷ []) ⊎ (end ≡ 13 ∷ 10 ∷ []))
+ended front line is (inl same) = (10 ∷ [], λ behind. ap (λ (l : List ℕ). l ++ (10 ∷ behind)) (sym (is ∙ same)), inl refl)
+ended front line is (inr more) = (13 ∷ 10 ∷ [], λ behind. ap (λ (l : List ℕ). l ++ (10 ∷ behind)) (more ∙ ap (λ (l : List ℕ). l ++ (13 ∷ [])) (sym is)) ∙ append_assoc line (13 ∷ []) (10 ∷ behind), inr refl)
 
 pub cut_at : (text line behind : List ℕ) (n : ℕ) → Some n ≡ position is_line_end text → line ≡ strip_carriage_return (take n text) → behind ≡ drop (n + 1) text → CutsLine text line behind
 cut_at text line behind n at is rest =
@@ -95,12 +109,13 @@ cut_at text line behind n at is rest =
     let whole : text ≡ take n text ++ (10 ∷ behind) = sym (take-append-drop n text) ∙ ap (λ (r : List ℕ). take n text ++ r) from in
     let size : length (take n text) ≡ n = length-take-le n text (omega (arith, place.0)) in
     let none : All (λ c. is_line_end c ≡ false) (take n text) = All-from_get_or (λ c. is_line_end c ≡ false) (take n text) 0 (λ i l. ap is_line_end (get_or-take n text i 0 (omega (arith, l, size))) ∙ place.2 i (omega (arith, l, size))) in
-    let end = ended (take n text) behind line is (stripped_by (take n text) (eqb (slice_index (take n text) (length (take n text) - 1)) 13) refl) in
+    let end = ended (take n text) line is (stripped_by (take n text) (eqb (slice_index (take n text) (length (take n text) - 1)) 13) refl) in
     record {
       end = end.0;
-      is = whole ∙ end.1;
-      ends = end.2;
+      is = whole ∙ end.1 behind;
+      ends = inr end.2;
       first = ap lines whole ∙ line_before (take n text) behind none ∙ ap (λ (l : List ℕ). l ∷ lines behind) (sym is);
+      any_behind = λ _ x. ap lines (sym (end.1 x)) ∙ line_before (take n text) x none ∙ ap (λ (l : List ℕ). l ∷ lines x) (sym is);
     }
 
 no_place : (p : ℕ → Bool) (xs : List ℕ) → None ≡ position p xs → (k : ℕ) → k < length xs → p (get_or xs k 0) ≡ false
@@ -115,18 +130,19 @@ cut_last text some is = record {
   is = sym (append-nil text);
   ends = inl (refl, refl);
   first = last_line text some (All-from_get_or (λ c. is_line_end c ≡ false) text 0 (no_place is_line_end text is));
+  any_behind = λ ended _. absurd (omega (arith, ended));
 }
 
 -- ---- filled lines
 
-step : (text line behind filled : List ℕ) (b : Bool) → CutsLine text line behind → filled ≡ without_blanks line → is_filled filled ≡ b → filled_lines text ≡ cond b (filled ∷ filled_lines behind) (filled_lines behind)
-step text line behind filled b cut is e =
-    ap (λ (all : List (List ℕ)). filter is_filled (map without_blanks all)) cut.first
+step : (text line behind filled : List ℕ) (b : Bool) → lines text ≡ line ∷ lines behind → filled ≡ without_blanks line → is_filled filled ≡ b → filled_lines text ≡ cond b (filled ∷ filled_lines behind) (filled_lines behind)
+step text line behind filled b first is e =
+    ap (λ (all : List (List ℕ)). filter is_filled (map without_blanks all)) first
     ∙ ap (λ (l : List ℕ). cond (is_filled l) (l ∷ filled_lines behind) (filled_lines behind)) (sym is)
     ∙ ap (λ (t : Bool). cond t (filled ∷ filled_lines behind) (filled_lines behind)) e
 
 pub passed : (text line behind filled : List ℕ) → CutsLine text line behind → filled ≡ without_blanks line → is_filled filled ≡ false → filled_lines text ≡ filled_lines behind
-passed text line behind filled cut is e = step text line behind filled false cut is e
+passed text line behind filled cut is e = step text line behind filled false cut.first is e
 
 pub fewer : (text line behind : List ℕ) → CutsLine text line behind → length (lines behind) < length (lines text)
 fewer text line behind cut = omega (arith, ap length cut.first)
@@ -146,14 +162,30 @@ end_skipped end behind (inl none) = ap (λ (l : List ℕ). filled_lines (l ++ be
 end_skipped end behind (inr (inl feed)) = ap (λ (l : List ℕ). filled_lines (l ++ behind)) feed ∙ unfilled [] behind (All-from_get_or (λ c. is_line_end c ≡ false) [] 0 (λ i l. absurd (omega (arith, l)))) refl
 end_skipped end behind (inr (inr both)) = ap (λ (l : List ℕ). filled_lines (l ++ behind)) both ∙ unfilled (13 ∷ []) behind (All-from_get_or (λ c. is_line_end c ≡ false) (13 ∷ []) 0 only_return) refl
 
+-- nor are blanks
+only_blanks : (blanks : List ℕ) → AreBlanks blanks → filled_lines blanks ≡ []
+only_blanks [] are = refl
+only_blanks (c ∷ blanks) are =
+    ap (λ (all : List (List ℕ)). filter is_filled (map without_blanks all)) (last_line (c ∷ blanks) (omega arith) are.one_line)
+    ∙ ap (λ (l : List ℕ). filter is_filled (l ∷ [])) are.skipped
+
+-- a line with others behind it has an end
+has_end : (end behind : List ℕ) → IsLineEnd end behind → 0 < length behind → 0 < length end
+has_end end behind (inl none) more = absurd (omega (arith, more, ap length none.1))
+has_end end behind (inr (inl feed)) more = omega (arith, ap length feed)
+has_end end behind (inr (inr both)) more = omega (arith, ap length both)
+
 -- ---- where it is
 
--- what is left stands behind what was passed, and has the lines that are asked for
+-- what is left stands behind what was passed, which has none of the lines that are asked for, and has all of these
 pub record IsLeft (text : List ℕ) (place : ℕ) (left : List ℕ) : Type 0 where
   pub before : List ℕ
   pub is : text ≡ before ++ left
   pub later : 0 < length left → place ≤ length before
   pub same : filled_lines (drop place text) ≡ filled_lines left
+  pub over : List ℕ
+  pub from_place : before ≡ take place text ++ over
+  pub nothing : 0 < length left → (x : List ℕ) → filled_lines (over ++ x) ≡ filled_lines x
 
 pub left_first : (text left : List ℕ) (place : ℕ) → left ≡ drop place text → IsLeft text place left
 left_first text left place is = record {
@@ -161,6 +193,9 @@ left_first text left place is = record {
   is = sym (take-append-drop place text) ∙ ap (λ (l : List ℕ). take place text ++ l) (sym is);
   later = λ some. omega (arith, some, ap length is, length-drop place text, ap length (take-append-drop place text), length-append (take place text) (drop place text));
   same = ap filled_lines (sym is);
+  over = [];
+  from_place = sym (append-nil (take place text));
+  nothing = λ _ _. refl;
 }
 
 pub left_next : (text left line behind filled : List ℕ) (place : ℕ) → 0 < length left → IsLeft text place left → CutsLine left line behind → filled ≡ without_blanks line → is_filled filled ≡ false → IsLeft text place behind
@@ -169,6 +204,13 @@ left_next text left line behind filled place some was cut is none = record {
   is = was.is ∙ ap (λ (l : List ℕ). was.before ++ l) (cut.is ∙ sym (append_assoc line cut.end behind)) ∙ sym (append_assoc was.before (line ++ cut.end) behind);
   later = λ _. omega (arith, was.later some, length-append was.before (line ++ cut.end));
   same = was.same ∙ passed left line behind filled cut is none;
+  over = was.over ++ (line ++ cut.end);
+  from_place = ap (λ (l : List ℕ). l ++ (line ++ cut.end)) was.from_place ∙ append_assoc (take place text) was.over (line ++ cut.end);
+  nothing = λ more x.
+      ap filled_lines (append_assoc was.over (line ++ cut.end) x)
+      ∙ was.nothing some ((line ++ cut.end) ++ x)
+      ∙ ap filled_lines (append_assoc line cut.end x)
+      ∙ step (line ++ (cut.end ++ x)) line x filled false (cut.any_behind (has_end cut.end behind cut.ends more) x) is none;
 }
 
 module _ (text left line behind filled : List ℕ) (place : ℕ) (some : 0 < length left) (was : IsLeft text place left) (cut : CutsLine left line behind) (is : filled ≡ without_blanks line) where
@@ -201,10 +243,38 @@ module _ (text left line behind filled : List ℕ) (place : ℕ) (some : 0 < len
   rest : drop (((length text - length left) + (length line - length filled)) + length filled) text ≡ cut.end ++ behind
   rest = rw start_is (subst (λ (t : List ℕ). drop (length (was.before ++ blanks) + length filled) t ≡ cut.end ++ behind) (sym text_is) (simp (drop-append-add, drop-append_seam)))
 
+  -- what was passed from the place on, and the blanks
+  passed_is : text ≡ take place text ++ ((was.over ++ blanks) ++ (filled ++ (cut.end ++ behind)))
+  passed_is =
+      text_is ∙ ap (λ (l : List ℕ). (l ++ blanks) ++ (filled ++ (cut.end ++ behind))) was.from_place
+      ∙ ap (λ (l : List ℕ). l ++ (filled ++ (cut.end ++ behind))) (append_assoc (take place text) was.over blanks)
+      ∙ append_assoc (take place text) (was.over ++ blanks) (filled ++ (cut.end ++ behind))
+
+  place_is : length (take place text) ≡ place
+  place_is = length-take-le place text (omega (arith, was.later some, ap length was.is, length-append was.before left))
+
+  dropped : drop place text ≡ (was.over ++ blanks) ++ (filled ++ (cut.end ++ behind))
+  dropped =
+      ap (λ (n : ℕ). drop n text) (sym place_is)
+      ∙ ap (λ (l : List ℕ). drop (length (take place text)) l) passed_is
+      ∙ drop-append_seam (take place text) ((was.over ++ blanks) ++ (filled ++ (cut.end ++ behind)))
+
+  count : ((length text - length left) + (length line - length filled)) - place ≡ length (was.over ++ blanks)
+  count = omega (arith, start_is, place_is, ap length was.from_place, length-append (take place text) was.over, length-append was.before blanks, length-append was.over blanks)
+
+  none_before : filled_lines (take (((length text - length left) + (length line - length filled)) - place) (drop place text)) ≡ []
+  none_before =
+      ap (λ (n : ℕ). filled_lines (take n (drop place text))) count
+      ∙ ap (λ (l : List ℕ). filled_lines (take (length (was.over ++ blanks)) l)) dropped
+      ∙ ap filled_lines (take-append_seam (was.over ++ blanks) (filled ++ (cut.end ++ behind)))
+      ∙ was.nothing some blanks
+      ∙ only_blanks blanks (front_blanks line).2
+
   pub finds : (part : Part) → is_filled filled ≡ true → FindsLine text place 0 part (record { start = (length text - length left) + (length line - length filled); length = length filled })
   finds part full = record {
-    found = λ _. was.same ∙ step left line behind filled true cut is full ∙ (λ i. sym content i ∷ sym (ap filled_lines rest ∙ end_skipped cut.end behind cut.ends) i);
+    found = λ _. was.same ∙ step left line behind filled true cut.first is full ∙ (λ i. sym content i ∷ sym (ap filled_lines rest ∙ end_skipped cut.end behind cut.ends) i);
     within = λ _. (omega (arith, start_is, was.later some, length-append was.before blanks), omega (arith, left_size, filled_size, line_size));
+    first = λ _. none_before;
     none = λ other. absurd (other refl);
     stays = λ other. absurd (other refl);
   }

@@ -8,7 +8,7 @@ use Rattle.sshkey_files.specs.KnownHosts.{CertAuthority, KnownHost, Marker, Revo
 use Rattle.sshkey_model.specs.Keys.{Key, normal_key}
 use Rattle.sshkey_model.specs.Parts.{flat}
 use Rattle.sshkey_calls.specs.Numbers.{error_number}
-use Rattle.sshkey_calls.specs.declared.part.Part.{Part}
+use Rattle.sshkey_calls.specs.Rooms.{IsPlaced}
 use Rattle.sshkey_file_calls.specs.declared.entries.EntryParts.{EntryParts}
 
 -- what is told of an entry: what stands before the key, the key's normal form, the comment, and the marker's number
@@ -37,10 +37,6 @@ of_known_host h = entry_text (hosts_text h.hosts) h.key h.comment (marker_number
 -- the parts, one behind the other
 abbrev pub content_of : EntryText → List ℕ
 content_of x = x.front ++ (x.key ++ x.comment)
-
--- The part begins there, and is as long as these bytes.
-abbrev pub IsPlaced : ℕ → List ℕ → Part → Type 0
-IsPlaced start bytes part = (part.start ≡ start) × (part.length ≡ length bytes)
 
 -- The answer says where each of them is, and how many bytes they take.
 pub record ArePlaced (x : EntryText) (answer : EntryParts) : Type 0 where

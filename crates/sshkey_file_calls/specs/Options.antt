@@ -5,7 +5,7 @@ use Rattle.sshkey_authorized_keys.specs.declared.openssh_option.OpenSshOption.{O
 use Rattle.sshkey_base.specs.declared.error.Error.{Error}
 use Rattle.sshkey_base.specs.declared.error.Error.TheVariants.{FormatEncoding}
 use Rattle.sshkey_files.specs.OptionItems.{AreKeyOptions, HasKeyOptions, KeyOption}
-use Rattle.sshkey_file_calls.specs.Entries.{IsPlaced}
+use Rattle.sshkey_calls.specs.Rooms.{IsPlaced}
 use Rattle.sshkey_file_calls.specs.declared.options.OptionParts.{OptionParts}
 
 -- the option that so many stand before; or there are no more than so many

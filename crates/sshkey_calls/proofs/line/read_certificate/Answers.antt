@@ -4,7 +4,7 @@ use Rattle.sshkey_model.specs.Lines.{IsLineOf, name_of_certificate}
 use Rattle.sshkey_cert.specs.CertificateReaders.{SpellsCertificate}
 use Rattle.sshkey_cert.specs.CertificateValues.{certificate_of}
 use Rattle.sshkey_calls.proofs.Kept.{only_memory}
-use Rattle.sshkey_calls.proofs.KeyLines.{fault_told, memory_of, needs_certificate, needs_certificate_line, reads_certificate}
+use Rattle.sshkey_calls.proofs.KeyLines.{certificate_has_none, fault_told, memory_of, needs_certificate, needs_certificate_line, reads_certificate}
 use Rattle.sshkey_calls.proofs.line.read_certificate.Goals as goal
 
 pub returns-in-Ok-clause-reads : goal.returns-in-Ok-clause-reads
@@ -27,3 +27,11 @@ pub returns-in-Err-clause-memory : goal.returns-in-Err-clause-memory
 returns-in-Err-clause-memory c one =
     let out = memory_of c.args.key_fault c.error_number.result _ c.requires.fault.0 c.fault_of.ensures.either one in
     needs_certificate c.args.text.now (c.in-Err.ensures.asks (only_memory (cause c.in-Err.error) _ c.error_number.ensures.range out))
+
+pub returns-in-Ok-clause-fault : goal.returns-in-Ok-clause-fault
+returns-in-Ok-clause-fault c _ =
+    let line : IsLineOf name_of_certificate SpellsCertificate c.args.text.now (certificate_of c.in-Ok.read.0) c.as_str.result.now = rw c.as_str.ensures.value c.in-Ok.ensures.reads in
+    certificate_has_none c.args.text.now (certificate_of c.in-Ok.read.0) c.as_str.result.now _ _ _ _ _ line c.tell.ensures
+
+pub returns-in-Err-clause-fault : goal.returns-in-Err-clause-fault
+returns-in-Err-clause-fault c key _ not_one _ = (c.args.key_fault, c.error_number.result, key, (c.in-Err.error, c.in-Err.ensures.fault (λ memory. not_one (c.fault_of.ensures.memory (c.error_number.ensures.memory memory))), c.error_number.ensures.number), c.fault_of.ensures.number (λ one. not_one (c.fault_of.ensures.memory one)))

@@ -3,7 +3,7 @@ use Rattle.sshkey_base.specs.Causes.{cause}
 use Rattle.sshkey_model.specs.Lines.{IsLineOf, key_name}
 use Rattle.sshkey_keys.specs.Keys.{SpellsKey, key_of}
 use Rattle.sshkey_calls.proofs.Kept.{only_memory}
-use Rattle.sshkey_calls.proofs.KeyLines.{needs_key, needs_key_line, no_memory, reads_key}
+use Rattle.sshkey_calls.proofs.KeyLines.{key_has_none, needs_key, needs_key_line, no_memory, reads_key}
 use Rattle.sshkey_calls.proofs.line.read_text.Goals as goal
 
 pub returns-in-Ok-clause-reads : goal.returns-in-Ok-clause-reads
@@ -27,3 +27,11 @@ returns-then-fault-eq-MEMORY-clause-reads c = no_memory _ _ _ _ _ (refl, refl) r
 
 pub returns-then-fault-eq-MEMORY-clause-memory : goal.returns-then-fault-eq-MEMORY-clause-memory
 returns-then-fault-eq-MEMORY-clause-memory c _ = needs_key c.args.text.now (c.in-Err.ensures.asks (only_memory (cause c.in-Err.error) _ c.error_number-fault.ensures.range c.if-fault-eq-MEMORY.true))
+
+pub returns-in-Ok-clause-fault : goal.returns-in-Ok-clause-fault
+returns-in-Ok-clause-fault c =
+    let line : IsLineOf key_name SpellsKey c.args.text.now (key_of c.in-Ok.read.0) c.as_str.result.now = rw c.as_str.ensures.value c.in-Ok.ensures.reads in
+    key_has_none c.args.text.now (key_of c.in-Ok.read.0) c.as_str.result.now _ _ _ _ _ line c.tell.ensures
+
+pub returns-else-fault-eq-MEMORY-clause-fault : goal.returns-else-fault-eq-MEMORY-clause-fault
+returns-else-fault-eq-MEMORY-clause-fault c = c.read_certificate.ensures.fault (c.in-Err.error, c.in-Err.ensures.fault (λ memory. c.if-fault-eq-MEMORY.false (c.error_number-fault.ensures.memory memory)), c.error_number-fault.ensures.number)
