@@ -30,8 +30,10 @@ static slice take(slice *from) {
   return string;
 }
 
+/* The number of an mpint; null where it is not positive: no key and no signature has such a one. */
 static BIGNUM *number(slice digits) {
-  return digits.length > INT_MAX ? NULL : BN_bin2bn(digits.bytes, (int)digits.length, NULL);
+  if (digits.length == 0 || digits.length > INT_MAX || digits.bytes[0] & 0x80) return NULL;
+  return BN_bin2bn(digits.bytes, (int)digits.length, NULL);
 }
 
 static EVP_PKEY *key_of(const char *type, OSSL_PARAM_BLD *parts) {
