@@ -11,7 +11,8 @@ exactly if sshsig_question gives a question, your verification of it says yes, a
 namespace.
 
 Each call says what it raises: Refused, which is a ValueError, for bytes that are not what they have to be, and MemoryError, of
-which nothing follows about them. TypeError is raised by all: for a text in place of bytes, and for a number that is not whole.
+which nothing follows about them. All raise TypeError for a text in place of bytes and for a number that is not whole, and
+UnicodeEncodeError, a ValueError too, for a text that UTF-8 can't write.
 
 The library is the file that SSHKEY_LIBRARY names in the environment, or else out/libsshkey.so in the folder examples (`make`
 there builds it), or else the system's. Calls from several threads at once are fine.
