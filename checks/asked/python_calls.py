@@ -4,7 +4,7 @@ import dataclasses
 import inspect
 import typing
 
-from lib.harness import ssh_keygen, string
+from lib.harness import string
 
 from .certificate_calls import CASES, blob_in, certificate_of, fields_in, shown_under
 
