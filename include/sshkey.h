@@ -149,7 +149,9 @@ typedef struct {
  *
  * Numbers in strings are mpints (RFC 4251, section 5): two's complement, big-endian. Those of a DSA
  * or RSA key may be zero (no bytes) or negative (the first bit is set): no such key is valid, so
- * your verification says no. r and s of an ECDSA signature are positive. */
+ * your verification says no. r and s of an ECDSA signature are positive. A point need not lie on
+ * its curve, and may be compressed, which OpenSSH does not read: say no to one that does not begin
+ * with 04, or else a key has two fingerprints. */
 enum {
   /* with SHA-1; behind the name p, q, g, y; signature: r and s, unsigned, 20 bytes each */
   SSHKEY_ASK_DSA = 1,

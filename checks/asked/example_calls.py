@@ -25,7 +25,7 @@ def check_certificates(count, built, maker, kind, middle):
     cases = [(f"the second {word!r}", good, word, line, status) for word, status in SECONDS]
     cases += [
         ("all is valid", good, str(middle), line, VALID), ("two lines", good, str(middle), line * 2, VALID),
-        ("no line", good, str(middle), "", VALID), ("one line of two", good, str(middle), line + "ssh-ed25519 AAAA\n", INVALID),
+        ("no line", good, str(middle), "", UNTOLD), ("one line of two", good, str(middle), line + "ssh-ed25519 AAAA\n", INVALID),
         ("no line end", good, str(middle), kind.line, VALID), ("no authority", empty, str(middle), line, INVALID),
         ("a folder of authorities", maker.folder, str(middle), line, UNTOLD),
         ("no such file", maker.path("none"), str(middle), line, UNTOLD), ("a line that is no key", wrong, str(middle), line, UNTOLD),

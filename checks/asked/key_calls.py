@@ -4,7 +4,8 @@ import hashlib
 import math
 import zlib
 
-from cryptography.hazmat.primitives.asymmetric import rsa
+from cryptography.hazmat.primitives import hashes, serialization
+from cryptography.hazmat.primitives.asymmetric import ec, rsa, utils
 from lib.harness import new_key, ssh_keygen, string, take
 from lib.signatures import mpint
 
@@ -297,6 +298,24 @@ def check_signature_numbers(asked, sshkey, message, key):
         count.check(f"an ECDSA signature, a number {name}", answer == str(int(sshkey.Status.CRYPTO)), answer)
 
 
+def check_points(asked, sshkey, check, maker):
+    """An ECDSA key whose point is compressed (SEC 1, section 2.3.3) signs nothing: ssh-keygen reads no such key."""
+    name, message = b"ecdsa-sha2-nistp256", b"what was signed"
+    private = ec.generate_private_key(ec.SECP256R1())
+    numbers = utils.decode_dss_signature(private.sign(message, ec.ECDSA(hashes.SHA256())))
+    signature = string(name) + string(b"".join(map(mpint, numbers)))
+    forms = serialization.PublicFormat.UncompressedPoint, serialization.PublicFormat.CompressedPoint
+    points = [private.public_key().public_bytes(serialization.Encoding.X962, it) for it in forms]
+    keys = [string(name) + string(b"nistp256") + string(it) for it in points]
+    said = asked.answers("points of a key", [f"is-{question_of(key, message, signature)}" for key in keys])
+    for key, answer, is_one in zip(keys, said, (True, False)):
+        by_python = check.is_signature(sshkey.signature_question(key, message, signature))
+        path = maker.write("point.pub", f"{name.decode()} {encoded(key)}\n")
+        is_read = ssh_keygen("-l", "-f", path, check=False).returncode == 0
+        same = answer == f"0 {int(is_one)}" and by_python == is_read == is_one
+        asked.count.check(f"an ECDSA key whose point is {'whole' if is_one else 'compressed'}", same, answer, by_python, is_read)
+
+
 def unsigned(number):
     """The number as no mpint has it: without the byte that says that it is positive."""
     return string(number.to_bytes((number.bit_length() + 7) // 8, "big"))
@@ -404,6 +423,7 @@ def check_key_calls(count, built, sshkey, check, maker, kinds, hostile):
     check_signatures(asked, sshkey, check, maker, kinds)
     check_signature_parts(asked, sshkey, keys)
     check_numbers(asked, sshkey, check, maker)
+    check_points(asked, sshkey, check, maker)
     check_normal(asked, sshkey, maker, keys)
     check_normal_certificates(asked, sshkey, maker)
     check_hostile_forms(asked, sshkey, hostile)

@@ -5,7 +5,9 @@
  * AUTHORITIES is a file of public keys, a line each as ssh-keygen writes it (sshd's
  * TrustedUserCAKeys may have more spaces and tabs), PRINCIPAL a name, or - for any, and SECOND the
  * time as seconds since 1970, or else it is now. Each line of the input has a line of the answer.
- * The status is 0 if all are valid, 1 if not, and 2 where it can't tell. */
+ * The status is 0 if all are valid, 1 if not, and 2 where it can't tell: so also where there is no
+ * certificate. A valid one may be for a host, or for nobody by name, and - is no name that a client
+ * may choose: principals.c logs users in. */
 #include <errno.h>
 #include <stdbool.h>
 #include <stdio.h>
@@ -70,14 +72,19 @@ static int judge_input(uint64_t second, const char *principal, authorities by) {
   char *line = NULL;
   size_t room = 0;
   int status = VALID;
+  bool is_empty = true;
   for (ssize_t length; status != UNTOLD && (length = getline(&line, &room, stdin)) >= 0;) {
     int said = judge_line(line, (size_t)length, second, principal, by);
     if (said > status) status = said;
+    is_empty = false;
   }
   /* getline says of a fault and of refused memory what it says of the end */
   bool is_read = status == UNTOLD || (feof(stdin) && !ferror(stdin));
   if (!is_read || fflush(stdout) || ferror(stdout)) {
     perror("check_certificate");
+    status = UNTOLD;
+  } else if (is_empty) {
+    fputs("check_certificate: no certificate was given\n", stderr);
     status = UNTOLD;
   }
   free(line);

@@ -5,7 +5,8 @@
     check.py signature SIGNERS NAMESPACE FILE <FILE.sig
 
 AUTHORITIES and SIGNERS are files of public keys, a line each. The first answers of each line of its input, as the example in C
-does. The status is 0 if all is valid, 1 if not, and 2 where it can't tell.
+does. The status is 0 if all is valid, 1 if not, and 2 where it can't tell: so also where there is no certificate. A valid
+certificate may be for a host, or for nobody by name: who logs users in calls `validate_user`.
 """
 from __future__ import annotations
 
@@ -72,6 +73,8 @@ def verify(question: sshkey.Question) -> None:
         key.verify(question.signature, question.message)
     elif question.algorithm in ECDSA:
         curve, digest = ECDSA[question.algorithm]
+        if parts[1][:1] != b"\x04":  # OpenSSH reads no compressed point, so a key has one fingerprint
+            raise ValueError("a point is compressed")
         key = ec.EllipticCurvePublicKey.from_encoded_point(curve, parts[1])
         r, s = map(number, sshkey.strings(question.signature))
         key.verify(utils.encode_dss_signature(r, s), question.message, ec.ECDSA(digest))
@@ -176,12 +179,13 @@ def certificates(authorities: str, principal: str, second: str | None = None) ->
     now = int(time.time()) if second is None else second_of(second)
     # the bytes that stand in the command line, also where they are not UTF-8
     whom = None if principal == "-" else os.fsencode(principal)
-    by, are_valid = fingerprints(authorities), True
+    by, statuses = fingerprints(authorities), []
     for line in sys.stdin.buffer:
-        status = judge_line(line, now, whom, by)
-        print(said(status))
-        are_valid &= status == Status.DONE
-    return not are_valid
+        statuses.append(judge_line(line, now, whom, by))
+        print(said(statuses[-1]))
+    if not statuses:
+        raise ValueError("no certificate was given")
+    return any(it != Status.DONE for it in statuses)
 
 
 def signature(signers: str, namespace: str, file: str) -> bool:

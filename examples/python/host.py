@@ -6,7 +6,7 @@
 The input has a line for each key, as public key files have; `ssh-keyscan -p PORT HOST | cut -d' ' -f2-` shows those of a host. The
 answer to each is a word: revoked, unreadable, trusted, changed or unknown, and the first of these that one of the files gives.
 Where all say unknown of another port than 22, it is what they say of port 22, about which ssh(1) asks too.
-The status is 0 if all are trusted, 1 if not, and 2 where it can't tell.
+The status is 0 if all are trusted, 1 if not, and 2 where it can't tell: so also where there is no key.
 """
 from __future__ import annotations
 
@@ -49,6 +49,8 @@ def main() -> int:
         for line in sys.stdin.buffer:
             verdicts.append(judge(texts, host, int(port), base64.b64decode(line.split()[1], validate=True)))
             print(WORDS[verdicts[-1]], flush=True)
+        if not verdicts:
+            raise ValueError("no key was given")
     except (OSError, ValueError, IndexError, MemoryError) as error:
         print(f"host.py: {error}", file=sys.stderr)
         sys.stdout = None  # or else Python writes what is left, and its status is that of this
