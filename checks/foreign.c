@@ -8,8 +8,9 @@
  *     key BYTES                              the fingerprint, and its text
  *     strings BYTES                          the strings that the bytes are, from each place
  *     rooms BYTES                            certificate with each room that is too short
- *     layout                                 sizes and offsets of structs
+ *     layout                                 sizes and offsets of structs, and SSHKEY_FOREVER
  *     names                                  the version, and numbers of answers with their names
+ *     meanings                               the words of judge.h for each of these numbers
  *
  * and those of asked/key_calls.h, asked/certificate_calls.h, asked/entry_calls.h,
  * asked/login_calls.h and asked/memory_calls.h.
@@ -267,6 +268,7 @@ static void ask_layout(void) {
   OFFSET(sshkey_entry_option_parts, value);
   OFFSET(sshkey_entry_option_parts, length);
   OFFSET(sshkey_entry_option_parts, has_value);
+  printf(" SSHKEY_FOREVER=%" PRIu64, SSHKEY_FOREVER);
 }
 
 /* Of each number that may be an answer, and of some that are none. */
@@ -277,16 +279,27 @@ static void ask_names(void) {
   printf(",%" PRIu32 " %s", UINT32_MAX, sshkey_answer_name(UINT32_MAX));
 }
 
+static void ask_meanings(void) {
+  for (uint32_t answer = 0; answer < 200; answer++)
+    printf("%s%s", answer ? "," : "", meaning(answer));
+}
+
+/* Answers a question about the header and what is written by hand; 0 where it is none. */
+static int ask_about_names(const char *what) {
+  if (!strcmp(what, "names"))
+    ask_names();
+  else if (!strcmp(what, "meanings"))
+    ask_meanings();
+  else if (!strcmp(what, "layout"))
+    ask_layout();
+  else
+    return 0;
+  return 1;
+}
+
 static void ask(char **words) {
   const char *what = words[0];
-  if (!strcmp(what, "names")) {
-    ask_names();
-    return;
-  }
-  if (!strcmp(what, "layout")) {
-    ask_layout();
-    return;
-  }
+  if (ask_about_names(what)) return;
   if (!strcmp(what, "memory") || !strcmp(what, "user")) {
     (what[0] == 'm' ? ask_memory : ask_user)(words);
     return;
@@ -299,6 +312,8 @@ static void ask(char **words) {
     ask_rooms(first);
   } else if (!strcmp(what, "fields")) {
     ask_fields(first);
+  } else if (!strcmp(what, "authority")) {
+    ask_authority(first);
   } else if (!strcmp(what, "strings")) {
     ask_strings(first);
   } else if (!strcmp(what, "key")) {

@@ -10,7 +10,8 @@
  *      what you found, or what is wrong with it first.
  *
  * An SSH signature (`ssh-keygen -Y sign`) needs no third step: it is valid exactly if
- * sshkey_sshsig_question answers SSHKEY_DONE and your verification says yes.
+ * sshkey_sshsig_question answers SSHKEY_DONE, your verification says yes, and the signer's key is
+ * one that you trust for that namespace.
  *
  * What you owe, which nothing checks:
  *
@@ -42,8 +43,7 @@
 #include <stddef.h>
 #include <stdint.h>
 
-/* The version of this header and of the library; 0 before the first release. SSHKEY_VERSION is an
- * answer. */
+/* The version of this header and of the library; 0 before the first release. */
 #define SSHKEY_LIBRARY_VERSION "0"
 
 #ifdef __cplusplus
@@ -80,7 +80,7 @@ enum {
   SSHKEY_TIME = 19,               /* a time above 2^63 - 1 in the certificate */
   SSHKEY_NAMESPACE = 20,          /* an empty namespace in the SSH signature */
   SSHKEY_PUBLIC_KEY = 21,         /* never returned: a fault of private keys */
-  SSHKEY_VERSION = 22,            /* an SSH signature of a version above 1 */
+  SSHKEY_UNSUPPORTED_VERSION = 22, /* an SSH signature of a version above 1 */
   SSHKEY_OTHER_FAULT = 23,        /* never returned */
 
   /* 30 to 34: what is wrong with a certificate that is not valid; the first of these */
@@ -114,7 +114,7 @@ static inline const char *sshkey_answer_name(uint32_t answer) {
     SSHKEY_NAMED(LABEL); SSHKEY_NAMED(LENGTH); SSHKEY_NAMED(TRAILING_DATA);
     SSHKEY_NAMED(FORMAT); SSHKEY_NAMED(ALGORITHM_UNKNOWN); SSHKEY_NAMED(CRYPTO);
     SSHKEY_NAMED(ECDSA); SSHKEY_NAMED(TIME); SSHKEY_NAMED(NAMESPACE);
-    SSHKEY_NAMED(PUBLIC_KEY); SSHKEY_NAMED(VERSION); SSHKEY_NAMED(OTHER_FAULT);
+    SSHKEY_NAMED(PUBLIC_KEY); SSHKEY_NAMED(UNSUPPORTED_VERSION); SSHKEY_NAMED(OTHER_FAULT);
     SSHKEY_NAMED(NOT_SIGNED); SSHKEY_NAMED(UNTRUSTED_AUTHORITY); SSHKEY_NAMED(INVALID_TIME);
     SSHKEY_NAMED(OUT_OF_WINDOW); SSHKEY_NAMED(UNLISTED_PRINCIPAL);
     SSHKEY_NAMED(UNSUPPORTED); SSHKEY_NAMED(OTHER_NAMESPACE);
@@ -146,10 +146,15 @@ typedef struct {
 
 /* How a signature is made. A key's blob (RFC 4253, section 6.6) is strings, one behind the other:
  * four bytes of length, big-endian, and so many bytes. The first is the name of the key's type. So
- * are the signatures of ECDSA. sshkey_next_string goes over them. Numbers are big-endian, and may
- * have a 0 in front. */
+ * are the signatures of ECDSA. sshkey_next_string goes over them.
+ *
+ * Numbers in strings are mpints (RFC 4251, section 5): two's complement, big-endian. Those of a DSA
+ * or RSA key may be zero (no bytes) or negative (the first bit is set): no such key is valid, so
+ * your verification says no. r and s of an ECDSA signature are positive. A point need not lie on
+ * its curve, and may be compressed, which OpenSSH does not read: say no to one that does not begin
+ * with 04, or else a key has two fingerprints. */
 enum {
-  /* with SHA-1; behind the name p, q, g, y; signature: r and s, 20 bytes each */
+  /* with SHA-1; behind the name p, q, g, y; signature: r and s, unsigned, 20 bytes each */
   SSHKEY_ASK_DSA = 1,
   /* ECDSA; behind the name the curve's name, and the point as in SEC 1; signature: two strings, r
    * and s */
@@ -158,7 +163,7 @@ enum {
   SSHKEY_ASK_P521 = 4, /* with SHA-512 */
   /* behind the name the key, 32 bytes; signature: 64 bytes */
   SSHKEY_ASK_ED25519 = 5,
-  /* PKCS#1 v1.5; behind the name e and n; signature: a number */
+  /* PKCS#1 v1.5; behind the name e and n; signature: an unsigned number, any bytes */
   SSHKEY_ASK_RSA_SHA256 = 6, /* with SHA-256 */
   SSHKEY_ASK_RSA_SHA512 = 7  /* with SHA-512 */
 };
@@ -166,7 +171,8 @@ enum {
 /* What has to be verified: that `signature` is one of `message` under `key`, made as `algorithm`
  * says. A security key's question is already the one about the plain key within and about what the
  * device signed (PROTOCOL.u2f): 32 bytes of digest, a byte of flags, four of the counter, and 32 of
- * digest. Whether somebody touched it (flag 1) or was verified (flag 4) is yours to judge. */
+ * digest. Whether somebody touched it (bit 0x01 of message[32]) or was verified (bit 0x04) is yours
+ * to judge. */
 typedef struct {
   sshkey_part key;
   sshkey_part message;
@@ -233,12 +239,18 @@ uint32_t sshkey_certificate_validate_for(const uint8_t *certificate, size_t cert
                                          size_t principal_length, const sshkey_sha256 *authorities,
                                          size_t authority_count, uint32_t is_verified);
 
+/* Whom a certificate is for. */
+enum { SSHKEY_USER = 1, SSHKEY_HOST = 2 };
+
+/* The end of a window that has none. */
+#define SSHKEY_FOREVER UINT64_MAX
+
 /* What a policy asks of a certificate. */
 typedef struct {
   uint64_t serial;
   uint64_t valid_after;          /* the first second of its window */
-  uint64_t valid_before;         /* the first second behind its window; 2^64 - 1 if it has no end */
-  uint32_t certificate_type;     /* 1 for users, 2 for hosts */
+  uint64_t valid_before;         /* the first second behind its window, or SSHKEY_FOREVER */
+  uint32_t certificate_type;     /* SSHKEY_USER or SSHKEY_HOST */
   uint32_t lists_principals;     /* 0 where it lists none, and so allows everybody; else 1 */
   uint32_t has_critical_options; /* 0 where it has none; else 1: refuse it unless you know each */
 } sshkey_fields;
@@ -306,8 +318,8 @@ typedef struct {
   sshkey_span authority;        /* the blob of the key that is to sign */
   uint64_t serial;
   uint64_t valid_after;      /* the first second of its window, since 1970 */
-  uint64_t valid_before;     /* the first second behind its window; 2^64 - 1 for no end */
-  uint32_t certificate_type; /* 1 for users, 2 for hosts */
+  uint64_t valid_before;     /* the first second behind its window, or SSHKEY_FOREVER */
+  uint32_t certificate_type; /* SSHKEY_USER or SSHKEY_HOST */
   uint32_t all_principals;   /* 1 where it lists no principals, and so allows everybody; else 0 */
 } sshkey_draft;
 
@@ -316,7 +328,7 @@ typedef struct {
  * string of the algorithm's name, and the string of what it makes.
  *
  * SSHKEY_DONE exactly if the draft tells a certificate, memory and room aside. Else what is wrong,
- * in this order: SSHKEY_FORMAT for a type that is neither 1 nor 2, SSHKEY_TIME for a time above
+ * in this order: SSHKEY_FORMAT for another certificate_type, SSHKEY_TIME for a time above
  * 2^63 - 1, SSHKEY_EMPTY_WINDOW, SSHKEY_PRINCIPALS; then 10 to 29 for a key, a text or a list that
  * is none. A key to be certified that has a private-use name is rejected: SSHKEY_LABEL. */
 uint32_t sshkey_certificate_to_be_signed(const sshkey_draft *draft, uint8_t *room,
@@ -423,13 +435,16 @@ uint32_t sshkey_next_string(const uint8_t *bytes, size_t length, size_t place, s
  * answer.length: all lines take time in proportion to the text. Takes no memory. */
 uint32_t sshkey_next_line(const uint8_t *text, size_t length, size_t place, sshkey_part *answer);
 
+/* What stands before an entry of known_hosts: nothing, @cert-authority or @revoked. */
+enum { SSHKEY_MARKER_NONE = 0, SSHKEY_MARKER_CERT_AUTHORITY = 1, SSHKEY_MARKER_REVOKED = 2 };
+
 /* An entry of a line: where its parts stand in the room. */
 typedef struct {
   sshkey_part front;   /* the options as they stand in the line, or the hosts */
   sshkey_part key;     /* the key's blob in its normal form, of which fingerprints are digests */
   sshkey_part comment; /* all that follows */
   size_t length;       /* how many bytes of the room these take */
-  uint32_t marker;     /* of known_hosts: 1 for @cert-authority, 2 for @revoked, 0 for none */
+  uint32_t marker;     /* SSHKEY_MARKER_*; of authorized_keys always SSHKEY_MARKER_NONE */
 } sshkey_entry;
 
 /* The entry of a line of authorized_keys, as sshd reads it. SSHKEY_DONE exactly if the line is one

@@ -85,7 +85,7 @@ def check_lists(count, built, sshkey, maker):
     for (name, number, blob, shown), answer in zip(made, by_c):
         found = sshkey.certificate_contents(blob)
         same = [found.key_id] == [it[1:-1] for it in shown_under(shown, "Key ID")]
-        same &= found.principals == shown_under(shown, "Principals")
+        same &= list(found.principals) == shown_under(shown, "Principals")
         same &= [shown_option(*it) for it in found.critical_options.items()] == shown_under(shown, "Critical Options")
         same &= [shown_option(*it) for it in found.extensions.items()] == shown_under(shown, "Extensions")
         same &= found.key == blob_in(maker, f"listed{number}") and found.authority == blob_in(maker, f"lister{number}")
@@ -216,7 +216,8 @@ def check_making(count, built, sshkey, maker):
 
 
 def made_by_python(sshkey, fields, sign):
-    principals = None if fields["all_principals"] else [it.decode() for it in sshkey.strings(fields["principals"])]
+    listed = [it.decode() for it in sshkey.strings(fields["principals"])]
+    principals = sshkey.ALL_PRINCIPALS if fields["all_principals"] else listed
     return sshkey.make_certificate(
         fields["key"], fields["authority"], sign, principals=principals, certificate_type=fields["certificate_type"],
         key_id=fields["key_id"].decode(), serial=fields["serial"], valid_after=fields["valid_after"],

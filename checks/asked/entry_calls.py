@@ -310,6 +310,8 @@ def check_example(count, folder, hosts):
     one = run([sys.executable, script, "h.example", "22", path], input=f"{keys['ED25519']}\n")
     trusted = one.returncode == 0 and one.stdout == "trusted\n"
     count.check("and ends with 0 where all is trusted", trusted, one.stdout, one.stderr)
+    none = run([sys.executable, script, "h.example", "22", path], input="")
+    count.check("and with 2 where there is no key", none.returncode == 2 and none.stderr and not none.stdout, none.stdout, none.stderr)
 
 
 def check_entry_calls(count, built, sshkey):

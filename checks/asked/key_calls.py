@@ -1,9 +1,13 @@
 """Lines, SHA-512 fingerprints, signatures under a key and normal forms, for checks/foreign."""
 import base64
 import hashlib
+import math
 import zlib
 
+from cryptography.hazmat.primitives import hashes, serialization
+from cryptography.hazmat.primitives.asymmetric import ec, rsa, utils
 from lib.harness import new_key, ssh_keygen, string, take
+from lib.signatures import mpint
 
 from .linked import run
 
@@ -243,6 +247,80 @@ def check_signature_parts(asked, sshkey, keys):
         asked.count.check(f"key and signature: {name}", found == answer.split()[0] == wanted, found, answer, wanted)
 
 
+# ---- numbers that are not positive
+
+
+def signed_by_hand(message):
+    """The numbers of an RSA key of 2,048 bits, the first byte of each being 80 or more, and what it makes of the message by SHA-256
+    (RFC 8017, sections 8.2 and 9.2)."""
+    numbers = rsa.generate_private_key(65537, 2048).private_numbers()
+    order = (numbers.p - 1) * (numbers.q - 1)
+    exponent = next(it for it in range(0x800001, 0x810000, 2) if math.gcd(it, order) == 1)
+    digest = bytes.fromhex("3031300d060960864801650304020105000420") + hashlib.sha256(message).digest()
+    padded = b"\0\1" + b"\xff" * (256 - 3 - len(digest)) + b"\0" + digest
+    modulus = numbers.p * numbers.q
+    made = pow(int.from_bytes(padded, "big"), pow(exponent, -1, order), modulus)
+    return exponent, modulus, string(b"rsa-sha2-256") + string(made.to_bytes(256, "big"))
+
+
+def check_numbers(asked, sshkey, check, maker):
+    """An RSA key whose numbers are zero or negative (RFC 4251, section 5) signs nothing."""
+    message = b"what was signed"
+    exponent, modulus, signature = signed_by_hand(message)
+    positive, negative = [tuple(it(number) for number in (exponent, modulus)) for it in (mpint, unsigned)]
+    cases = [
+        ("as it is", positive, True), ("a negative modulus", (positive[0], negative[1]), False),
+        ("a negative exponent", (negative[0], positive[1]), False), ("both negative", negative, False),
+        ("no modulus", (positive[0], string(b"")), False), ("no exponent", (string(b""), positive[1]), False),
+    ]  # fmt: skip
+    keys = [string(b"ssh-rsa") + b"".join(numbers) for _, numbers, _ in cases]
+    said = asked.answers("numbers of a key", [f"is-{question_of(key, message, signature)}" for key in keys])
+    read = set()
+    for (name, _, is_one), key, answer in zip(cases, keys, said):
+        by_python = check.is_signature(sshkey.signature_question(key, message, signature))
+        same = answer == f"0 {int(is_one)}" and by_python == is_one
+        asked.count.check(f"an RSA key whose numbers are made by hand: {name}", same, answer, by_python)
+        path = maker.write("numbers.pub", f"ssh-rsa {encoded(key)}\n")
+        read |= {name} if ssh_keygen("-l", "-f", path, check=False).returncode == 0 else set()
+    asked.count.check("ssh-keygen reads no negative ones", "as it is" in read and not any("negative" in it for it in read), read)
+    check_signature_numbers(asked, sshkey, message, blob_of(maker.read("kind1.pub")))
+
+
+def check_signature_numbers(asked, sshkey, message, key):
+    one = mpint(1)
+    numbers = {"zero": string(b""), "negative": string(b"\xff"), "of 32 bytes, negative": string(b"\x80" * 32)}
+    signatures = [(name, it) for name, number in numbers.items() for it in (number + one, one + number)]
+    blobs = [string(b"ecdsa-sha2-nistp256") + string(it) for it in (one + one, *(it for _, it in signatures))]
+    said = asked.answers("numbers of a signature", [question_of(key, message, it) for it in blobs])
+    count = asked.count
+    count.check("an ECDSA signature with positive numbers is asked about", said[0].startswith("0 "), said[0])
+    for (name, _), answer in zip(signatures, said[1:]):
+        count.check(f"an ECDSA signature, a number {name}", answer == str(int(sshkey.Status.CRYPTO)), answer)
+
+
+def check_points(asked, sshkey, check, maker):
+    """An ECDSA key whose point is compressed (SEC 1, section 2.3.3) signs nothing: ssh-keygen reads no such key."""
+    name, message = b"ecdsa-sha2-nistp256", b"what was signed"
+    private = ec.generate_private_key(ec.SECP256R1())
+    numbers = utils.decode_dss_signature(private.sign(message, ec.ECDSA(hashes.SHA256())))
+    signature = string(name) + string(b"".join(map(mpint, numbers)))
+    forms = serialization.PublicFormat.UncompressedPoint, serialization.PublicFormat.CompressedPoint
+    points = [private.public_key().public_bytes(serialization.Encoding.X962, it) for it in forms]
+    keys = [string(name) + string(b"nistp256") + string(it) for it in points]
+    said = asked.answers("points of a key", [f"is-{question_of(key, message, signature)}" for key in keys])
+    for key, answer, is_one in zip(keys, said, (True, False)):
+        by_python = check.is_signature(sshkey.signature_question(key, message, signature))
+        path = maker.write("point.pub", f"{name.decode()} {encoded(key)}\n")
+        is_read = ssh_keygen("-l", "-f", path, check=False).returncode == 0
+        same = answer == f"0 {int(is_one)}" and by_python == is_read == is_one
+        asked.count.check(f"an ECDSA key whose point is {'whole' if is_one else 'compressed'}", same, answer, by_python, is_read)
+
+
+def unsigned(number):
+    """The number as no mpint has it: without the byte that says that it is positive."""
+    return string(number.to_bytes((number.bit_length() + 7) // 8, "big"))
+
+
 # ---- normal forms
 
 
@@ -344,6 +422,8 @@ def check_key_calls(count, built, sshkey, check, maker, kinds, hostile):
     check_sha512(asked, sshkey, maker, keys)
     check_signatures(asked, sshkey, check, maker, kinds)
     check_signature_parts(asked, sshkey, keys)
+    check_numbers(asked, sshkey, check, maker)
+    check_points(asked, sshkey, check, maker)
     check_normal(asked, sshkey, maker, keys)
     check_normal_certificates(asked, sshkey, maker)
     check_hostile_forms(asked, sshkey, hostile)

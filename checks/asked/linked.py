@@ -45,10 +45,18 @@ def declared():
         return set(re.findall(r"^uint32_t (sshkey_\w+)\(", file.read(), re.M))
 
 
-def numbers(prefix):
-    """The constants of the header whose names begin so, without that beginning."""
+def enumerations():
+    """The names and numbers of each enum of the header."""
     with open(HEADER, encoding="ascii") as file:
-        return {name: int(value) for name, value in re.findall(rf"^  {prefix}_(\w+) = (\d+)", file.read(), re.M)}
+        found = re.findall(r"^enum \{(.*?)\};", file.read(), re.M | re.S)
+    return [{name: int(number) for name, number in re.findall(r"\b(SSHKEY_\w+) = (\d+)", it)} for it in found]
+
+
+def enumerations_of(sshkey):
+    """The same of the Python module."""
+    prefixes = {"": sshkey.Status, "ASK_": sshkey.Algorithm, "MARKER_": sshkey.Marker}
+    named = [*prefixes.items(), ("", sshkey.CertificateType), ("LINE_", sshkey._library.LineKind)]
+    return [{f"SSHKEY_{prefix}{it.name}": int(it) for it in members} for prefix, members in named]
 
 
 def exported():
@@ -82,16 +90,17 @@ def check_symbols(count, built, sshkey):
     taken = symbols(library, "--undefined-only") - TAKEN
     taken = {it for it in taken if not it.startswith(("_ITM_", "__gmon_start__"))}
     count.check("and takes memory and copying of the C library, and nothing else", not taken, taken)
-    count.check("the Python module has all calls", set(sshkey.CALLS) == calls, set(sshkey.CALLS) ^ calls)
-    names = {it.name: int(it) for it in sshkey.Status}, {it.name: int(it) for it in sshkey.Algorithm}
-    wanted = {name: it for name, it in numbers("SSHKEY").items() if not name.startswith("ASK_")}, numbers("SSHKEY_ASK")
-    count.check("and all numbers of the header", names == wanted, names, wanted)
+    taken = set(sshkey._library.CALLS)
+    count.check("the Python module has all calls", taken == calls, taken ^ calls)
+    found, wanted = (sorted(it, key=str) for it in (enumerations_of(sshkey), enumerations()))
+    count.check("and all numbers of the header", found == wanted and all(wanted), found, wanted)
 
 
 def check_names(count, built):
     """Answers have the names of the header, no other number has one, and the version is that of pkg-config and of CHANGELOG.md."""
     version, *said = run([f"{built.plain}/foreign"], input="names\n").stdout.rstrip("\n").split(",")
-    named = {number: name for name, number in numbers("SSHKEY").items() if not name.startswith(("ASK_", "LINE_"))}
+    answers = next(it for it in enumerations() if "SSHKEY_DONE" in it)
+    named = {number: name.removeprefix("SSHKEY_") for name, number in answers.items()}
     wanted = [f"{it} {named.get(it, 'no answer')}" for it in (*range(200), 2**32 - 1)]
     count.check(f"{len(named)} answers have their names", said == wanted, set(said) ^ set(wanted))
     with open(f"{ROOT}/CHANGELOG.md", encoding="utf-8") as file:
@@ -103,12 +112,12 @@ def check_names(count, built):
 
 
 def check_layout(count, built, sshkey):
-    wanted = {}
-    structs = {"sshkey_part": sshkey.Part, "sshkey_sha256": sshkey.Sha256, "sshkey_question": sshkey.Asked}
-    structs.update(sshkey_sha512=sshkey.Sha512, sshkey_line=sshkey.ReadLine, sshkey_fields=sshkey.Fields)
-    structs.update(sshkey_parts=sshkey.Parts, sshkey_certificate_option_parts=sshkey.OptionParts)
-    structs.update(sshkey_span=sshkey.Span, sshkey_draft=sshkey.Draft)
-    structs.update(sshkey_entry=sshkey.Entry, sshkey_entry_option_parts=sshkey.EntryOption)
+    wanted, library = {"SSHKEY_FOREVER": sshkey.FOREVER}, sshkey._library
+    structs = {"sshkey_part": library.Part, "sshkey_sha256": library.Sha256, "sshkey_question": library.Question}
+    structs.update(sshkey_sha512=library.Sha512, sshkey_line=library.Line, sshkey_fields=library.Fields)
+    structs.update(sshkey_parts=library.Parts, sshkey_certificate_option_parts=library.CertificateOption)
+    structs.update(sshkey_span=library.Span, sshkey_draft=library.Draft)
+    structs.update(sshkey_entry=library.Entry, sshkey_entry_option_parts=library.EntryOption)
     for name, struct in structs.items():
         wanted[name] = ctypes.sizeof(struct)
         wanted.update({f"{name}.{field}": getattr(struct, field).offset for field, _ in struct._fields_})

@@ -6,8 +6,8 @@
 #ifndef LOGIN_CALLS_H
 #define LOGIN_CALLS_H
 
-static int is_met(const uint8_t *name, size_t name_length, const uint8_t *value,
-                  size_t value_length, void *given) {
+static bool is_met(const uint8_t *name, size_t name_length, const uint8_t *value,
+                   size_t value_length, void *given) {
   const blob *known = given;
   (void)value;
   return name_length == known->length && !memcmp(name, known->bytes, name_length) && value_length;

@@ -31,7 +31,7 @@ def cases(maker, window):
         ("its user", good, own, middle, "alice", by, "DONE"), ("the other user", good, own, middle, "bob", by, "DONE"),
         ("one of two authorities", good, own, middle, "alice", strange + by, "DONE"),
         ("another user", good, own, middle, "eve", by, "UNLISTED_PRINCIPAL"),
-        ("no user", good, own, middle, "", by, "UNLISTED_PRINCIPAL"),
+        ("no user", good, own, middle, "", by, "UNLISTED_PRINCIPAL"), ("a user that is no text", good, own, middle, b"\xff", by, "TEXT"),
         ("another authority", good, own, middle, "alice", strange, "UNTRUSTED_AUTHORITY"),
         ("no authority", good, own, middle, "alice", b"", "UNTRUSTED_AUTHORITY"),
         ("too early", good, own, 1, "alice", by, "OUT_OF_WINDOW"),
@@ -68,7 +68,7 @@ def check_users(count, built, modules, maker, window):
     asked = list(cases(maker, window))
     lines = ""
     for _, blob, key, second, user, by, known, _ in asked:
-        words = (user.encode(), by, known.encode())
+        words = (user.encode() if isinstance(user, str) else user, by, known.encode())
         lines += " ".join(["user", blob.hex(), key.hex(), str(second), *(it.hex() or "-" for it in words)]) + "\n"
     ran = run([f"{built.sanitized}/foreign"], input=lines)
     said = ran.stdout.splitlines()
@@ -96,7 +96,7 @@ PAGE = """\
 #include <time.h>
 #include "judge.h"
 #include "verify.h"
-int is_in_networks(void *client, const uint8_t *value, size_t length);
+bool is_in_networks(void *client, const uint8_t *value, size_t length);
 uint32_t two_calls(const uint8_t *certificate, size_t length, const sshkey_sha256 *authorities, size_t authority_count);
 is_met_option *met(void);
 static void let_in(void) {{ puts("let in"); }}
@@ -105,7 +105,7 @@ size_t authority_length = strlen(authority_line), length = strlen(line);
 {0}}}
 {1}
 is_met_option *met(void) {{ return is_met; }}
-int is_in_networks(void *client, const uint8_t *value, size_t length) {{ return client && value && length; }}
+bool is_in_networks(void *client, const uint8_t *value, size_t length) {{ return client && value && length; }}
 uint32_t two_calls(const uint8_t *certificate, size_t length, const sshkey_sha256 *authorities, size_t authority_count) {{
 {2}return answer; }}
 int main(int count, char **words) {{

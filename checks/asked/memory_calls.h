@@ -7,7 +7,12 @@
  * answers are SSHKEY_MEMORY where one of them is refused, and where it and all behind it are. There
  * are 7 spans and 5 numbers. A call may do without one request, and then answers and writes what it
  * does with all. What is wrong stands in front: another answer, memory that is kept, and a call
- * behind that answers otherwise than the first one. */
+ * behind that answers otherwise than the first one.
+ *
+ *     authority LINE
+ *
+ * has the answer of add_authority of examples/c/judge.h, and its answers where each of its requests
+ * but those by calloc is refused. */
 #ifndef MEMORY_CALLS_H
 #define MEMORY_CALLS_H
 
@@ -168,6 +173,26 @@ static void ask_memory(char **words) {
   printf("%" PRIu32 " %zu %zu %zu", answer, made, once, all);
   for (int at = 0; at < SPANS; at++) free(it.spans[at].bytes);
   free(it.room.bytes);
+}
+
+/* What add_authority answers where the request of that number is refused; 0 for none. */
+static uint32_t add_refusing(blob line, size_t number) {
+  authorities to = {NULL, 0};
+  requests.is_on = 1;
+  requests.made = requests.held = 0;
+  requests.first_refused = requests.last_refused = number;
+  uint32_t answer = add_authority(&to, (const char *)line.bytes, line.length);
+  requests.is_on = 0;
+  if (to.count != (answer == SSHKEY_DONE)) printf("another number of authorities ");
+  free(to.keys);
+  return answer;
+}
+
+static void ask_authority(blob line) {
+  printf("%" PRIu32, add_refusing(line, 0));
+  size_t made = requests.made;
+  for (size_t number = 1; number <= made; number++)
+    printf(" %" PRIu32, add_refusing(line, number));
 }
 
 #undef BYTES

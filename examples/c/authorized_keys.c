@@ -11,6 +11,7 @@
  * options and the certificate. A line with a zero byte is left out, which sshd would not read to
  * its end. The status is 0, also where there is no such line, and 1 where it can't tell: then sshd
  * lets nobody in, whatever was printed. */
+#include <stdbool.h>
 #include <stdio.h>
 #include <stdlib.h>
 #include <string.h>
@@ -24,7 +25,7 @@
 /* What the client offers: a key, or a certificate, of which it is the key that signed. */
 typedef struct {
   sshkey_sha256 digest;
-  int is_authority;
+  bool is_authority;
 } offered;
 
 static uint32_t read_offered(const char *type, const char *base64, offered *answer) {
@@ -48,11 +49,12 @@ static uint32_t read_offered(const char *type, const char *base64, offered *answ
   return status;
 }
 
-/* Whether the options of an entry are a list, and cert-authority is one of them exactly if it is
- * wanted. The room is as long as they are. */
-static uint32_t are_for(const uint8_t *options, size_t length, int is_authority, uint8_t *room) {
+/* SSHKEY_DONE where the options of an entry are a list, and cert-authority is one of them exactly
+ * if it is wanted. The room is as long as they are. */
+static uint32_t judge_options(const uint8_t *options, size_t length, bool is_authority,
+                              uint8_t *room) {
   static const char name[] = "cert-authority";
-  int has_name = 0;
+  bool has_name = false;
   for (size_t number = 0; number <= MOST_OPTIONS; number++) {
     sshkey_entry_option_parts option;
     memset(&option, 0, sizeof option);
@@ -65,8 +67,8 @@ static uint32_t are_for(const uint8_t *options, size_t length, int is_authority,
   return SSHKEY_FORMAT;
 }
 
-/* Whether the line is one for what is offered: SSHKEY_DONE, or why not. */
-static uint32_t is_for(const uint8_t *line, size_t length, const offered *wanted) {
+/* SSHKEY_DONE where the line is one for what is offered, or why not. */
+static uint32_t judge_line(const uint8_t *line, size_t length, const offered *wanted) {
   sshkey_entry entry;
   sshkey_sha256 digest = {{0}};
   memset(&entry, 0, sizeof entry);
@@ -80,30 +82,30 @@ static uint32_t is_for(const uint8_t *line, size_t length, const offered *wanted
   if (answer == SSHKEY_DONE && memcmp(&digest, &wanted->digest, sizeof digest))
     answer = SSHKEY_END;
   if (answer == SSHKEY_DONE)
-    answer = are_for(room + entry.front.start, entry.front.length, wanted->is_authority,
-                     room + length + 1);
+    answer = judge_options(room + entry.front.start, entry.front.length, wanted->is_authority,
+                           room + length + 1);
   free(room);
   return answer;
 }
 
 /* Prints the lines of the text; false where that fails. */
-static int print_lines(blob text, const offered *wanted) {
+static bool print_lines(blob text, const offered *wanted) {
   sshkey_part part = {0, 0};
   for (size_t place = 0;
        sshkey_next_line(text.bytes, text.length, place, &part) == SSHKEY_DONE;
        place = part.start + part.length) {
     const uint8_t *line = text.bytes + part.start;
-    uint32_t answer = is_for(line, part.length, wanted);
-    if (answer == SSHKEY_MEMORY) return 0;
+    uint32_t answer = judge_line(line, part.length, wanted);
+    if (answer == SSHKEY_MEMORY) return false;
     if (answer != SSHKEY_DONE) continue;
     fwrite(line, 1, part.length, stdout);
     putchar('\n');
   }
-  return fflush(stdout) == 0;
+  return fflush(stdout) == 0 && !ferror(stdout);
 }
 
 int main(int count, char **words) {
-  offered wanted = {{{0}}, 0};
+  offered wanted = {{{0}}, false};
   blob text = {NULL, 0};
   if (count != 5) {
     fprintf(stderr, "usage: authorized_keys FILE USER TYPE KEY\n");

@@ -5,36 +5,53 @@
  * AUTHORITIES is a file of public keys, a line each as ssh-keygen writes it (sshd's
  * TrustedUserCAKeys may have more spaces and tabs), PRINCIPAL a name, or - for any, and SECOND the
  * time as seconds since 1970, or else it is now. Each line of the input has a line of the answer.
- * The status is 0 if all are valid, 1 if not, and 2 where it can't tell. */
+ * The status is 0 if all are valid, 1 if not, and 2 where it can't tell: so also where there is no
+ * certificate. A valid one may be for a host, or for nobody by name, and - is no name that a client
+ * may choose: principals.c logs users in. */
+#include <errno.h>
+#include <stdbool.h>
 #include <stdio.h>
 #include <stdlib.h>
 #include <string.h>
 
 #include "judge.h"
 
-/* Reads the authorities; false, with a word to standard error, where a line is no key. */
-static int read_authorities(const char *path, authorities *to) {
-  FILE *file = fopen(path, "r");
-  char *line = NULL;
-  size_t room = 0, number = 0;
-  int good = 1;
-  if (!file) {
+enum { VALID = 0, INVALID = 1, UNTOLD = 2 };
+
+/* Adds the authorities of a file; false, with a word to standard error, where it can't be read or a
+ * line is no key. */
+static bool read_authorities(const char *path, authorities *to) {
+  blob text = {NULL, 0};
+  sshkey_part line = {0, 0};
+  uint32_t answer = SSHKEY_DONE;
+  if (!read_file(path, &text)) {
     perror(path);
-    return 0;
+    return false;
   }
-  for (ssize_t length; good && (length = getline(&line, &room, file)) >= 0;) {
-    size_t blanks = strspn(line, " \t\r\n");
-    number++;
-    if (line[blanks] && line[blanks] != '#')
-      good = add_authority(to, line + blanks, (size_t)length - blanks);
+  for (size_t place = 0;
+       answer == SSHKEY_DONE &&
+       sshkey_next_line(text.bytes, text.length, place, &line) == SSHKEY_DONE;
+       place = line.start + line.length)
+    answer = add_authority(to, (const char *)text.bytes + line.start, line.length);
+  if (answer != SSHKEY_DONE) {
+    size_t number = 1;
+    for (size_t at = 0; at < line.start; at++) number += text.bytes[at] == '\n';
+    fprintf(stderr, "%s:%zu: %s%s\n", path, number, answer == SSHKEY_MEMORY ? "" : "no key: ",
+            meaning(answer));
   }
-  free(line);
-  fclose(file);
-  if (!good) fprintf(stderr, "%s:%zu: no key\n", path, number);
-  return good;
+  free(text.bytes);
+  return answer == SSHKEY_DONE;
 }
 
-/* Judges the certificate of a line, and says so. Returns 0, 1 or 2, as the program does. */
+/* The number of the digits; false where there is another character, none, or too many. */
+static bool read_second(const char *word, uint64_t *answer) {
+  char *end = NULL;
+  errno = 0;
+  *answer = strtoull(word, &end, 10);
+  return word[0] >= '0' && word[0] <= '9' && *end == 0 && errno == 0;
+}
+
+/* Judges the certificate of a line, says so, and returns the program's status. */
 static int judge_line(const char *line, size_t length, uint64_t second, const char *principal,
                       authorities by) {
   blob certificate;
@@ -47,25 +64,46 @@ static int judge_line(const char *line, size_t length, uint64_t second, const ch
     puts("valid");
   else
     printf("refused: %s (%u)\n", meaning(answer), answer);
-  return answer == SSHKEY_DONE ? 0 : answer == SSHKEY_MEMORY ? 2 : 1;
+  return answer == SSHKEY_DONE ? VALID : answer == SSHKEY_MEMORY ? UNTOLD : INVALID;
+}
+
+/* The same of all lines of the input. */
+static int judge_input(uint64_t second, const char *principal, authorities by) {
+  char *line = NULL;
+  size_t room = 0;
+  int status = VALID;
+  bool is_empty = true;
+  for (ssize_t length; status != UNTOLD && (length = getline(&line, &room, stdin)) >= 0;) {
+    int said = judge_line(line, (size_t)length, second, principal, by);
+    if (said > status) status = said;
+    is_empty = false;
+  }
+  /* getline says of a fault and of refused memory what it says of the end */
+  bool is_read = status == UNTOLD || (feof(stdin) && !ferror(stdin));
+  if (!is_read || fflush(stdout) || ferror(stdout)) {
+    perror("check_certificate");
+    status = UNTOLD;
+  } else if (is_empty) {
+    fputs("check_certificate: no certificate was given\n", stderr);
+    status = UNTOLD;
+  }
+  free(line);
+  return status;
 }
 
 int main(int count, char **words) {
+  authorities by = {NULL, 0};
+  uint64_t second = (uint64_t)time(NULL);
   if (count < 3 || count > 4) {
     fprintf(stderr, "usage: check_certificate AUTHORITIES PRINCIPAL|- [SECOND] <CERTIFICATES\n");
-    return 2;
+    return UNTOLD;
   }
-  authorities by = {NULL, 0};
+  if (count > 3 && !read_second(words[3], &second)) {
+    fprintf(stderr, "check_certificate: %s is no second\n", words[3]);
+    return UNTOLD;
+  }
   const char *principal = strcmp(words[2], "-") ? words[2] : NULL;
-  uint64_t second = count > 3 ? strtoull(words[3], NULL, 10) : (uint64_t)time(NULL);
-  int status = read_authorities(words[1], &by) ? 0 : 2;
-  char *line = NULL;
-  size_t room = 0;
-  for (ssize_t length; status != 2 && (length = getline(&line, &room, stdin)) >= 0;) {
-    int said = judge_line(line, (size_t)length, second, principal, by);
-    if (said > status) status = said;
-  }
-  free(line);
+  int status = read_authorities(words[1], &by) ? judge_input(second, principal, by) : UNTOLD;
   free(by.keys);
   return status;
 }

@@ -33,10 +33,10 @@ uint32_t read_words(const char *type, const char *base64, uint32_t kind, blob *a
   return status;
 }
 
-int read_file(const char *path, blob *answer) {
+bool read_file(const char *path, blob *answer) {
   FILE *file = fopen(path, "rb");
   blob text = {NULL, 0};
-  int good = file != NULL;
+  bool good = file != NULL;
   for (size_t room = 0, read = 1; good && read;) {
     if (text.length == room) {
       uint8_t *more = realloc(text.bytes, room = 2 * room + 4096);
@@ -55,18 +55,19 @@ int read_file(const char *path, blob *answer) {
   return good;
 }
 
-int add_authority(authorities *to, const char *line, size_t length) {
+uint32_t add_authority(authorities *to, const char *line, size_t length) {
   blob key;
   sshkey_sha256 digest = {{0}};
-  if (read_line(line, length, SSHKEY_LINE_KEY, &key) != SSHKEY_DONE) return 0;
-  uint32_t answer = sshkey_fingerprint(key.bytes, key.length, &digest);
+  uint32_t answer = read_line(line, length, SSHKEY_LINE_KEY, &key);
+  if (answer != SSHKEY_DONE) return answer;
+  answer = sshkey_fingerprint(key.bytes, key.length, &digest);
   free(key.bytes);
-  if (answer != SSHKEY_DONE) return 0;
+  if (answer != SSHKEY_DONE) return answer;
   sshkey_sha256 *more = realloc(to->keys, (to->count + 1) * sizeof *more);
-  if (!more) return 0;
+  if (!more) return SSHKEY_MEMORY;
   more[to->count++] = digest;
   to->keys = more;
-  return 1;
+  return SSHKEY_DONE;
 }
 
 uint32_t judge(blob certificate, uint64_t unix_timestamp, const char *principal, authorities by) {
@@ -93,8 +94,8 @@ uint32_t judge(blob certificate, uint64_t unix_timestamp, const char *principal,
                                          strlen(principal), keys, by.count, is_verified);
 }
 
-/* Whether each critical option is met. */
-static uint32_t are_options_met(blob certificate, const login *asked) {
+/* SSHKEY_DONE where each critical option is met. */
+static uint32_t judge_options(blob certificate, const login *asked) {
   sshkey_parts parts;
   sshkey_certificate_option_parts option;
   memset(&parts, 0, sizeof parts);
@@ -113,8 +114,9 @@ static uint32_t are_options_met(blob certificate, const login *asked) {
   return answer == SSHKEY_END ? SSHKEY_DONE : answer;
 }
 
-/* Whether the key is the certificate's own: the digests of their normal forms are the same. */
-static uint32_t is_own_key(blob certificate, blob key) {
+/* SSHKEY_DONE where the key is the certificate's own: the digests of their normal forms are the
+ * same. */
+static uint32_t judge_key(blob certificate, blob key) {
   sshkey_sha256 own = {{0}}, held = {{0}};
   size_t length = 0;
   /* a room as long as the certificate is enough */
@@ -139,10 +141,10 @@ uint32_t validate_user(blob certificate, const login *asked) {
   if (answer == SSHKEY_DONE)
     answer = sshkey_certificate_fields(certificate.bytes, certificate.length, &fields);
   if (answer != SSHKEY_DONE) return answer;
-  if (fields.certificate_type != 1) return JUDGE_NOT_FOR_USERS;
+  if (fields.certificate_type != SSHKEY_USER) return JUDGE_NOT_FOR_USERS;
   if (!fields.lists_principals) return JUDGE_NOBODY_LISTED;
-  answer = are_options_met(certificate, asked);
-  return answer == SSHKEY_DONE ? is_own_key(certificate, asked->key) : answer;
+  answer = judge_options(certificate, asked);
+  return answer == SSHKEY_DONE ? judge_key(certificate, asked->key) : answer;
 }
 
 const char *meaning(uint32_t answer) {
@@ -150,6 +152,7 @@ const char *meaning(uint32_t answer) {
   case SSHKEY_DONE: return "valid";
   case SSHKEY_MEMORY: return "no memory";
   case SSHKEY_ROOM: return "the room is too short";
+  case SSHKEY_TEXT: return "a principal that is not UTF-8";
   case SSHKEY_BASE64: return "not Base64";
   case SSHKEY_CHARACTER_ENCODING: return "a text that is not UTF-8";
   case SSHKEY_LABEL: return "a name that may not stand there";
@@ -160,6 +163,8 @@ const char *meaning(uint32_t answer) {
   case SSHKEY_INVALID_TIME: return "a time too late to be one";
   case SSHKEY_OUT_OF_WINDOW: return "not valid at that time";
   case SSHKEY_UNLISTED_PRINCIPAL: return "another principal";
+  case SSHKEY_UNSUPPORTED: return "key and signature do not go together";
+  case SSHKEY_OTHER_NAMESPACE: return "another namespace";
   case JUDGE_NOT_FOR_USERS: return "not for users";
   case JUDGE_NOBODY_LISTED: return "no principals";
   case JUDGE_UNMET_OPTION: return "a critical option that is not known or not met";

@@ -2,6 +2,7 @@
  * libcrypto between them; and what the programs here read. */
 #ifndef JUDGE_H
 #define JUDGE_H
+#include <stdbool.h>
 #include <stddef.h>
 #include <stdint.h>
 #include <time.h>
@@ -26,18 +27,18 @@ uint32_t read_line(const char *line, size_t length, uint32_t kind, blob *answer)
 uint32_t read_words(const char *type, const char *base64, uint32_t kind, blob *answer);
 
 /* Reads a file; false where it can't, and errno says why. */
-int read_file(const char *path, blob *answer);
+bool read_file(const char *path, blob *answer);
 
-/* Adds the key of the line to the authorities; false where it is the line of none. */
-int add_authority(authorities *to, const char *line, size_t length);
+/* Adds the key of the line to the authorities: SSHKEY_DONE, or why not. */
+uint32_t add_authority(authorities *to, const char *line, size_t length);
 
 /* Whether the certificate is valid: SSHKEY_DONE, or what is wrong first. The principal may be null,
  * and then any is meant. */
 uint32_t judge(blob certificate, uint64_t unix_timestamp, const char *principal, authorities by);
 
 /* Whether a critical option of that name is known, and met at this login. */
-typedef int is_met_option(const uint8_t *name, size_t name_length, const uint8_t *value,
-                          size_t value_length, void *given);
+typedef bool is_met_option(const uint8_t *name, size_t name_length, const uint8_t *value,
+                           size_t value_length, void *given);
 
 /* A login by a certificate. */
 typedef struct {

@@ -11,6 +11,7 @@
  * the user, and is one for users that lists principals: then the name is printed, which is the
  * principal that sshd looks for. Else nothing is printed on standard output, standard error says
  * why, and the status is 1. What the options of the certificate say, sshd itself judges. */
+#include <stdbool.h>
 #include <stdio.h>
 #include <stdlib.h>
 #include <string.h>
@@ -18,39 +19,80 @@
 #include "judge.h"
 
 /* Whether the list, whose names are apart by commas, has the user. */
-static int has_user(const char *list, size_t length, const char *user) {
+static bool has_user(const char *list, size_t length, const char *user) {
   size_t wanted = strlen(user);
   for (const char *end = list + length; wanted && list < end;) {
     const char *comma = memchr(list, ',', (size_t)(end - list));
     size_t name = (size_t)((comma ? comma : end) - list);
-    if (name == wanted && !memcmp(list, user, name)) return 1;
+    if (name == wanted && !memcmp(list, user, name)) return true;
     list += name + 1;
   }
-  return 0;
+  return false;
 }
 
-/* Reads the authorities of the user; false where a line of the user has no key. */
-static int read_authorities(FILE *file, const char *user, authorities *to) {
-  char *line = NULL;
-  size_t room = 0;
-  int good = 1;
-  while (good && getline(&line, &room, file) >= 0) {
-    size_t length = strcspn(line, " \t\r\n");
-    const char *rest = line + length + strspn(line + length, " \t\r\n");
-    if (line[0] == '#' || !has_user(line, length, user)) continue;
-    good = add_authority(to, rest, strlen(rest));
+/* How many bytes from that place on are blanks, or are none. */
+static size_t run_of(bool are_blanks, const char *line, size_t length, size_t place) {
+  size_t at = place;
+  while (at < length && (line[at] == ' ' || line[at] == '\t') == are_blanks) at++;
+  return at - place;
+}
+
+/* Adds the authority of a line if the line has the user: SSHKEY_DONE, or why it has no key. */
+static uint32_t read_authority(const char *line, size_t length, const char *user,
+                               authorities *to) {
+  size_t list = run_of(false, line, length, 0);
+  size_t key = list + run_of(true, line, length, list);
+  if (!has_user(line, list, user)) return SSHKEY_DONE;
+  return add_authority(to, line + key, length - key);
+}
+
+/* Reads the authorities of the user; false, with a word to standard error, where it can't. */
+static bool read_authorities(const char *path, const char *user, authorities *to) {
+  blob text = {NULL, 0};
+  sshkey_part line = {0, 0};
+  uint32_t answer = SSHKEY_DONE;
+  if (!read_file(path, &text)) {
+    perror(path);
+    return false;
   }
-  free(line);
-  return good;
+  for (size_t place = 0;
+       answer == SSHKEY_DONE &&
+       sshkey_next_line(text.bytes, text.length, place, &line) == SSHKEY_DONE;
+       place = line.start + line.length)
+    answer = read_authority((const char *)text.bytes + line.start, line.length, user, to);
+  if (answer == SSHKEY_MEMORY)
+    fprintf(stderr, "principals: %s\n", meaning(answer));
+  else if (answer != SSHKEY_DONE)
+    fprintf(stderr, "principals: a line of %s has no key: %s\n", user, meaning(answer));
+  free(text.bytes);
+  return answer == SSHKEY_DONE;
 }
 
 /* Whether it is a certificate for users that lists principals: one that lists none allows all. */
-static int is_for_listed_users(blob certificate) {
+static bool is_for_listed_users(blob certificate) {
   sshkey_fields fields;
   memset(&fields, 0, sizeof fields);
   return sshkey_certificate_fields(sshkey_bytes(certificate.bytes), certificate.length, &fields) ==
              SSHKEY_DONE &&
-         fields.certificate_type == 1 && fields.lists_principals;
+         fields.certificate_type == SSHKEY_USER && fields.lists_principals;
+}
+
+/* Prints the user where the certificate lets that user in; false, with a word to standard error,
+ * where it does not, or where that fails. */
+static bool let_in(blob certificate, const char *user, authorities by) {
+  if (!is_for_listed_users(certificate)) {
+    fprintf(stderr, "principals: the certificate is not one for users that are listed\n");
+    return false;
+  }
+  uint32_t answer = judge(certificate, (uint64_t)time(NULL), user, by);
+  if (answer != SSHKEY_DONE) {
+    fprintf(stderr, "principals: %s is not let in: %s (%u)\n", user, meaning(answer), answer);
+    return false;
+  }
+  printf("%s\n", user);
+  if (fflush(stdout) == 0 && !ferror(stdout)) return true;
+  perror("principals");
+  return false;
 }
 
 int main(int count, char **words) {
@@ -61,27 +103,16 @@ int main(int count, char **words) {
   const char *user = words[2];
   authorities by = {NULL, 0};
   blob certificate = {NULL, 0};
-  int status = 1;
-  FILE *file = fopen(words[1], "r");
-  if (!file) {
-    perror(words[1]);
-  } else if (!read_authorities(file, user, &by)) {
-    fprintf(stderr, "principals: a line of %s has no key\n", user);
-  } else if (read_words(words[3], words[4], SSHKEY_LINE_CERTIFICATE, &certificate) !=
-             SSHKEY_DONE) {
-    fprintf(stderr, "principals: the certificate is none\n");
-  } else if (!is_for_listed_users(certificate)) {
-    fprintf(stderr, "principals: the certificate is not one for users that are listed\n");
-  } else {
-    uint32_t answer = judge(certificate, (uint64_t)time(NULL), user, by);
-    status = answer != SSHKEY_DONE;
-    if (status)
-      fprintf(stderr, "principals: %s is not let in: %s (%u)\n", user, meaning(answer), answer);
+  bool is_let_in = false;
+  if (read_authorities(words[1], user, &by)) {
+    uint32_t answer = read_words(words[3], words[4], SSHKEY_LINE_CERTIFICATE, &certificate);
+    if (answer == SSHKEY_DONE)
+      is_let_in = let_in(certificate, user, by);
     else
-      printf("%s\n", user);
+      fprintf(stderr, "principals: %s offers no certificate: %s\n", user,
+              meaning(answer));
   }
-  if (file) fclose(file);
   free(certificate.bytes);
   free(by.keys);
-  return status;
+  return is_let_in ? 0 : 1;
 }

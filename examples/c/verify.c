@@ -30,8 +30,10 @@ static slice take(slice *from) {
   return string;
 }
 
+/* The number of an mpint; null where it is not positive: no key and no signature has such a one. */
 static BIGNUM *number(slice digits) {
-  return digits.length > INT_MAX ? NULL : BN_bin2bn(digits.bytes, (int)digits.length, NULL);
+  if (digits.length == 0 || digits.length > INT_MAX || digits.bytes[0] & 0x80) return NULL;
+  return BN_bin2bn(digits.bytes, (int)digits.length, NULL);
 }
 
 static EVP_PKEY *key_of(const char *type, OSSL_PARAM_BLD *parts) {
@@ -46,10 +48,11 @@ static EVP_PKEY *key_of(const char *type, OSSL_PARAM_BLD *parts) {
   return key;
 }
 
+/* OpenSSH reads no compressed point, so a key has one fingerprint: its point begins with 04. */
 static EVP_PKEY *ecdsa_key(const char *curve, slice point) {
   OSSL_PARAM_BLD *parts = OSSL_PARAM_BLD_new();
   EVP_PKEY *key = NULL;
-  if (parts && OSSL_PARAM_BLD_push_utf8_string(parts, OSSL_PKEY_PARAM_GROUP_NAME, curve, 0) &&
+  if (parts && point.length > 0 && point.bytes[0] == 4 && OSSL_PARAM_BLD_push_utf8_string(parts, OSSL_PKEY_PARAM_GROUP_NAME, curve, 0) &&
       OSSL_PARAM_BLD_push_octet_string(parts, OSSL_PKEY_PARAM_PUB_KEY, point.bytes, point.length))
     key = key_of("EC", parts);
   OSSL_PARAM_BLD_free(parts);

@@ -5,32 +5,42 @@
     check.py signature SIGNERS NAMESPACE FILE <FILE.sig
 
 AUTHORITIES and SIGNERS are files of public keys, a line each. The first answers of each line of its input, as the example in C
-does. The status is 0 if all is valid, 1 if not, and 2 where it can't tell.
+does. The status is 0 if all is valid, 1 if not, and 2 where it can't tell: so also where there is no certificate. A valid
+certificate may be for a host, or for nobody by name: who logs users in calls `validate_user`.
 """
+from __future__ import annotations
+
 import base64
 import enum
+import os
 import sys
 import time
+from collections.abc import Callable, Collection
+from typing import NoReturn
 
 from cryptography.exceptions import InvalidSignature
 from cryptography.hazmat.primitives import hashes
 from cryptography.hazmat.primitives.asymmetric import ec, ed25519, padding, rsa, utils
 
 import sshkey
-from sshkey import Algorithm, Status
+from sshkey import Algorithm, CertificateType, Status
 
 
 class Refusal(enum.IntEnum):
-    """What is wrong with a certificate that is valid, and logs nobody in: JUDGE_* of the example in C."""
+    """What is wrong with a certificate that is valid, and logs nobody in: JUDGE_* of the example in C. As a Status it has no
+    truth value."""
 
     NOT_FOR_USERS = 100
     NOBODY_LISTED = 101
     UNMET_OPTION = 102
     OTHER_KEY = 103
 
+    def __bool__(self) -> NoReturn:
+        raise TypeError("compare with Status.DONE: a Refusal is no truth value")
+
 
 MEANING = {
-    Status.BASE64: "not Base64",
+    Status.TEXT: "a principal that is not UTF-8", Status.BASE64: "not Base64",
     Status.CHARACTER_ENCODING: "a text that is not UTF-8", Status.LABEL: "a name that may not stand there",
     Status.LENGTH: "a length that passes the bytes", Status.TRAILING_DATA: "bytes behind the end",
     Status.NOT_SIGNED: "not signed", Status.UNTRUSTED_AUTHORITY: "another authority",
@@ -47,11 +57,15 @@ ECDSA = {
 RSA = {Algorithm.RSA_SHA256: hashes.SHA256(), Algorithm.RSA_SHA512: hashes.SHA512()}
 
 
-def number(digits):
-    return int.from_bytes(digits, "big")
+def number(digits: bytes) -> int:
+    """The number of an mpint. Raises ValueError where it is not positive: no key and no signature has such a one."""
+    value = int.from_bytes(digits, "big", signed=True)
+    if value <= 0:
+        raise ValueError("a number is not positive")
+    return value
 
 
-def verify(question):
+def verify(question: sshkey.Question) -> None:
     """Raises InvalidSignature, or ValueError where the key is none, unless the signature is one."""
     _, *parts = sshkey.strings(question.key)
     if question.algorithm == Algorithm.ED25519:
@@ -59,6 +73,8 @@ def verify(question):
         key.verify(question.signature, question.message)
     elif question.algorithm in ECDSA:
         curve, digest = ECDSA[question.algorithm]
+        if parts[1][:1] != b"\x04":  # OpenSSH reads no compressed point, so a key has one fingerprint
+            raise ValueError("a point is compressed")
         key = ec.EllipticCurvePublicKey.from_encoded_point(curve, parts[1])
         r, s = map(number, sshkey.strings(question.signature))
         key.verify(utils.encode_dss_signature(r, s), question.message, ec.ECDSA(digest))
@@ -71,7 +87,7 @@ def verify(question):
         raise InvalidSignature
 
 
-def is_signature(question):
+def is_signature(question: sshkey.Question) -> bool:
     try:
         verify(question)
     except (InvalidSignature, ValueError):
@@ -79,8 +95,8 @@ def is_signature(question):
     return True
 
 
-def judge(certificate, now, principal, authorities):
-    """Status.DONE, or what is wrong first."""
+def judge(certificate: bytes, now: int, principal: str | bytes | None, authorities: Collection[bytes]) -> Status:
+    """Status.DONE, or what is wrong first. Where the principal is None, any is meant."""
     try:
         is_verified = is_signature(sshkey.certificate_question(certificate))
     except sshkey.Refused:
@@ -88,7 +104,10 @@ def judge(certificate, now, principal, authorities):
     return sshkey.validate_certificate(certificate, now, authorities, is_verified, principal)
 
 
-def validate_user(certificate, key, now, user, authorities, is_met=lambda name, value: False):
+def validate_user(
+    certificate: bytes, key: bytes, now: int, user: str | bytes, authorities: Collection[bytes],
+    is_met: Callable[[str, str], bool] = lambda name, value: False,
+) -> Status | Refusal:  # fmt: skip
     """Whether the certificate logs the user in at that second: Status.DONE, or what is wrong first, a Status or a Refusal.
 
     `key` is the blob of the key of which the client has proved that it holds it. `is_met` says of a critical option, by its name
@@ -97,7 +116,7 @@ def validate_user(certificate, key, now, user, authorities, is_met=lambda name, 
     if status != Status.DONE:
         return status
     fields, contents = sshkey.certificate_fields(certificate), sshkey.certificate_contents(certificate)
-    if fields.certificate_type != 1:
+    if fields.certificate_type != CertificateType.USER:
         return Refusal.NOT_FOR_USERS
     if not fields.lists_principals:  # it would be for everybody
         return Refusal.NOBODY_LISTED
@@ -109,8 +128,8 @@ def validate_user(certificate, key, now, user, authorities, is_met=lambda name, 
         return refused.status
 
 
-def judge_signature(signature, namespace, message, signers):
-    """Status.DONE, or what is wrong first."""
+def judge_signature(signature: bytes, namespace: str, message: bytes, signers: Collection[bytes]) -> Status:
+    """Status.DONE, or what is wrong first. The signers, by the fingerprints of their keys, are those of that namespace."""
     try:
         question, signer = sshkey.sshsig_question(signature, namespace, message)
     except sshkey.Refused as refused:
@@ -120,11 +139,11 @@ def judge_signature(signature, namespace, message, signers):
     return Status.DONE if signer in signers else Status.UNTRUSTED_AUTHORITY
 
 
-def said(status):
+def said(status: Status | Refusal) -> str:
     return "valid" if status == Status.DONE else f"refused: {MEANING.get(status, 'not in its format')} ({status:d})"
 
 
-def read(line, is_certificate):
+def read(line: str | bytes, is_certificate: bool) -> bytes:
     """The key or the certificate of a line. Raises Refused where it is none."""
     found = sshkey.read_line(line)
     if found.is_certificate != is_certificate:
@@ -132,7 +151,7 @@ def read(line, is_certificate):
     return found.blob
 
 
-def judge_line(line, now, principal, authorities):
+def judge_line(line: str | bytes, now: int, principal: str | bytes | None, authorities: Collection[bytes]) -> Status:
     """Status.DONE, or what is wrong first."""
     try:
         certificate = read(line, is_certificate=True)
@@ -141,24 +160,36 @@ def judge_line(line, now, principal, authorities):
     return judge(certificate, now, principal, authorities)
 
 
-def fingerprints(path):
+def fingerprints(path: str) -> set[bytes]:
     """The fingerprints of the keys in a file."""
     with open(path, "rb") as file:
         lines = [it.lstrip() for it in file]
     return {sshkey.fingerprint(read(it, is_certificate=False)) for it in lines if it and not it.startswith(b"#")}
 
 
-def certificates(authorities, principal, second=None):
-    now = int(second) if second else int(time.time())
-    authorities, are_valid = fingerprints(authorities), True
+def second_of(word: str) -> int:
+    """The number of the digits. Raises ValueError where there is another character, or none."""
+    if not (word.isascii() and word.isdecimal()):
+        raise ValueError(f"{word!r} is no second")
+    return int(word)
+
+
+def certificates(authorities: str, principal: str, second: str | None = None) -> bool:
+    """Whether one is not valid."""
+    now = int(time.time()) if second is None else second_of(second)
+    # the bytes that stand in the command line, also where they are not UTF-8
+    whom = None if principal == "-" else os.fsencode(principal)
+    by, statuses = fingerprints(authorities), []
     for line in sys.stdin.buffer:
-        status = judge_line(line, now, None if principal == "-" else principal, authorities)
-        print(said(status))
-        are_valid &= status == Status.DONE
-    return not are_valid
+        statuses.append(judge_line(line, now, whom, by))
+        print(said(statuses[-1]))
+    if not statuses:
+        raise ValueError("no certificate was given")
+    return any(it != Status.DONE for it in statuses)
 
 
-def signature(signers, namespace, file):
+def signature(signers: str, namespace: str, file: str) -> bool:
+    """Whether it is not valid."""
     armour = sys.stdin.read().split("-----")
     with open(file, "rb") as opened:
         status = judge_signature(base64.b64decode(armour[2]), namespace, opened.read(), fingerprints(signers))
@@ -169,14 +200,17 @@ def signature(signers, namespace, file):
 COMMANDS = {"certificates": certificates, "signature": signature}
 
 
-def main():
+def main() -> int:
     if len(sys.argv) < 4 or sys.argv[1] not in COMMANDS:
         print(__doc__, file=sys.stderr)
         return 2
     try:
-        return int(COMMANDS[sys.argv[1]](*sys.argv[2:]))
+        status = int(COMMANDS[sys.argv[1]](*sys.argv[2:]))
+        sys.stdout.flush()
+        return status
     except (OSError, TypeError, ValueError, IndexError, MemoryError) as error:
         print(f"check.py: {error}", file=sys.stderr)
+        sys.stdout = None  # or else Python writes what is left, and its status is that of this
         return 2
 
 

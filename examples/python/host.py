@@ -6,10 +6,13 @@
 The input has a line for each key, as public key files have; `ssh-keyscan -p PORT HOST | cut -d' ' -f2-` shows those of a host. The
 answer to each is a word: revoked, unreadable, trusted, changed or unknown, and the first of these that one of the files gives.
 Where all say unknown of another port than 22, it is what they say of port 22, about which ssh(1) asks too.
-The status is 0 if all are trusted, 1 if not, and 2 where it can't tell.
+The status is 0 if all are trusted, 1 if not, and 2 where it can't tell: so also where there is no key.
 """
+from __future__ import annotations
+
 import base64
 import sys
+from collections.abc import Collection
 
 import sshkey
 from sshkey import Status
@@ -23,7 +26,7 @@ WORDS = {
 }  # fmt: skip
 
 
-def judge(texts, host, port, key):
+def judge(texts: Collection[bytes], host: str | bytes, port: int, key: bytes) -> Status:
     """The first verdict of those that the texts give, in the order of WORDS; HOST_UNKNOWN where there are no texts."""
     said = {sshkey.host_verdict(text, host, port, key) for text in texts}
     verdict = next((it for it in WORDS if it in said), Status.HOST_UNKNOWN)
@@ -32,7 +35,7 @@ def judge(texts, host, port, key):
     return verdict
 
 
-def main():
+def main() -> int:
     if len(sys.argv) < 4:
         print(__doc__, file=sys.stderr)
         return 2
@@ -45,9 +48,12 @@ def main():
         verdicts = []
         for line in sys.stdin.buffer:
             verdicts.append(judge(texts, host, int(port), base64.b64decode(line.split()[1], validate=True)))
-            print(WORDS[verdicts[-1]])
+            print(WORDS[verdicts[-1]], flush=True)
+        if not verdicts:
+            raise ValueError("no key was given")
     except (OSError, ValueError, IndexError, MemoryError) as error:
         print(f"host.py: {error}", file=sys.stderr)
+        sys.stdout = None  # or else Python writes what is left, and its status is that of this
         return 2
     return int(any(it != Status.DONE for it in verdicts))
 

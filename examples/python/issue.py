@@ -3,27 +3,54 @@
 
     issue.py AUTHORITY KEY.pub KEY-ID SECONDS PRINCIPAL.. >KEY-cert.pub
 
-AUTHORITY is the file of an Ed25519 private key without a passphrase. What is issued is checked before it is printed.
+AUTHORITY is the file of an Ed25519 private key without a passphrase. What is issued is checked before it is printed. The status is
+0 if it is issued, 1 if these tell no certificate, and 2 where a file can't be read or has no such key.
 """
+from __future__ import annotations
+
 import base64
 import sys
 import time
+from collections.abc import Sequence
 
+from cryptography.exceptions import UnsupportedAlgorithm
 from cryptography.hazmat.primitives import serialization
+from cryptography.hazmat.primitives.asymmetric.ed25519 import Ed25519PrivateKey
 
 import check
 import sshkey
 
 
-def issue(authority, key, key_id, seconds, principals):
-    """The blob of the certificate."""
-    with open(authority, "rb") as file:
-        signer = serialization.load_ssh_private_key(file.read(), None)
+def signer_in(path: str) -> Ed25519PrivateKey:
+    """The authority's key. Raises OSError, and ValueError where the file has no such key."""
+    with open(path, "rb") as file:
+        content = file.read()
+    try:
+        signer = serialization.load_ssh_private_key(content, None)
+    except (TypeError, ValueError, UnsupportedAlgorithm) as error:  # TypeError: it has a passphrase
+        raise ValueError(f"{path}: {error}") from error
+    if not isinstance(signer, Ed25519PrivateKey):
+        raise ValueError(f"{path} has no Ed25519 key")
+    return signer
+
+
+def blob_in(path: str) -> bytes:
+    """The blob of the key that is to be certified. Raises OSError, and ValueError where the file has no key."""
+    with open(path, "rb") as file:
+        line = file.read()
+    try:
+        return sshkey.read_line(line).blob
+    except sshkey.Refused as refused:
+        raise ValueError(f"{path} has no key: {refused}") from refused
+
+
+def issue(signer: Ed25519PrivateKey, key: bytes, key_id: str, seconds: int, principals: Sequence[str]) -> bytes:
+    """The blob of the certificate. Raises Refused where these tell none."""
     point = signer.public_key().public_bytes(serialization.Encoding.Raw, serialization.PublicFormat.Raw)
     by = sshkey.string("ssh-ed25519") + sshkey.string(point)
     now = int(time.time())
 
-    def sign(message):
+    def sign(message: bytes) -> bytes:
         return sshkey.string("ssh-ed25519") + sshkey.string(signer.sign(message))
 
     made = sshkey.make_certificate(
@@ -36,20 +63,25 @@ def issue(authority, key, key_id, seconds, principals):
     return made
 
 
-def main(authority, key, key_id, seconds, *principals):
-    with open(key, encoding="utf-8") as file:
-        blob = base64.b64decode(file.read().split()[1], validate=True)
+def main() -> int:
+    if len(sys.argv) < 6:
+        print(__doc__, file=sys.stderr)
+        return 2
+    authority, key, key_id, seconds, *principals = sys.argv[1:]
     try:
-        made = issue(authority, blob, key_id, int(seconds), principals)
+        signer, blob = signer_in(authority), blob_in(key)
+        made = issue(signer, blob, key_id, int(seconds), principals)
+        name = made[4 : 4 + int.from_bytes(made[:4], "big")].decode()
+        print(name, base64.b64encode(made).decode(), key_id, flush=True)
     except sshkey.Refused as refused:
         print(f"issue.py: {refused}", file=sys.stderr)
         return 1
-    name = made[4 : 4 + int.from_bytes(made[:4], "big")].decode()
-    print(name, base64.b64encode(made).decode(), key_id)
+    except (OSError, ValueError, MemoryError) as error:
+        print(f"issue.py: {error}", file=sys.stderr)
+        sys.stdout = None  # or else Python writes what is left, and its status is that of this
+        return 2
     return 0
 
 
 if __name__ == "__main__":
-    if len(sys.argv) < 6:
-        sys.exit(__doc__)
-    sys.exit(main(*sys.argv[1:]))
+    sys.exit(main())

@@ -1,0 +1,124 @@
+"""What the example programs do where they can't tell, for checks/foreign: files that can't be read or have no key, times that are
+none, and what is not written. Whoever asks a program by its status has to hear of it."""
+import os
+import sys
+
+from .linked import EXAMPLES, run
+
+# the status that a program has promised
+VALID, INVALID, UNTOLD = 0, 1, 2
+SECONDS = [
+    ("abc", UNTOLD), ("", UNTOLD), ("-1", UNTOLD), ("+1", UNTOLD), (" 1", UNTOLD), ("1 ", UNTOLD), ("1x", UNTOLD), ("0x1", UNTOLD),
+    ("1_0", UNTOLD), ("18446744073709551616", UNTOLD), ("18446744073709551615", INVALID), ("0", INVALID),
+]  # fmt: skip
+
+
+def python(built, name):
+    """The words that run an example in Python over the library."""
+    return ["/usr/bin/env", f"SSHKEY_LIBRARY={built.plain}/libsshkey.so", sys.executable, os.path.join(EXAMPLES, "python", name)]
+
+
+def check_certificates(count, built, maker, kind, middle):
+    """check_certificate and check.py have the status 2 where they can't tell."""
+    good, line = maker.path(f"{kind.authority}.pub"), f"{kind.line}\n"
+    empty, wrong = maker.write("empty", ""), maker.write("wrong", f"\n# a comment\n{maker.read('user0.pub')}\nssh-ed25519 AAAA\n")
+    cases = [(f"the second {word!r}", good, word, line, status) for word, status in SECONDS]
+    cases += [
+        ("all is valid", good, str(middle), line, VALID), ("two lines", good, str(middle), line * 2, VALID),
+        ("no line", good, str(middle), "", UNTOLD), ("one line of two", good, str(middle), line + "ssh-ed25519 AAAA\n", INVALID),
+        ("no line end", good, str(middle), kind.line, VALID), ("no authority", empty, str(middle), line, INVALID),
+        ("a folder of authorities", maker.folder, str(middle), line, UNTOLD),
+        ("no such file", maker.path("none"), str(middle), line, UNTOLD), ("a line that is no key", wrong, str(middle), line, UNTOLD),
+    ]  # fmt: skip
+    programs = {
+        "check_certificate": [f"{built.plain}/check_certificate"], "with sanitizers": [f"{built.sanitized}/check_certificate"],
+        "check.py": [*python(built, "check.py"), "certificates"],
+    }  # fmt: skip
+    for program, words in programs.items():
+        for name, authorities, second, given, wanted in cases:
+            ran = run([*words, authorities, "alice", second], input=given)
+            told = bool(ran.stderr) == (wanted == UNTOLD) and (wanted != UNTOLD or ran.stderr.count("\n") == 1 and not ran.stdout)
+            count.check(f"{program}: {name}", ran.returncode == wanted and told, ran.returncode, ran.stdout, ran.stderr[-500:])
+        with open("/dev/full", "wb") as full:
+            ran = run([*words, good, "alice", str(middle)], input=line, capture_output=False, stdout=full, stderr=-1)
+        count.check(f"{program}: nothing is written", ran.returncode == UNTOLD and ran.stderr, ran.returncode, ran.stderr)
+    ran = run([f"{built.plain}/check_certificate", wrong, "alice"], input=line)
+    count.check("check_certificate names the line that is no key", f"{wrong}:4: no key" in ran.stderr, ran.stderr)
+    folder = os.open(maker.folder, os.O_RDONLY)
+    for program in ("check_certificate", "with sanitizers"):
+        ran = run([*programs[program], good, "alice", str(middle)], stdin=folder)
+        count.check(f"{program}: a folder on standard input", ran.returncode == UNTOLD and ran.stderr, ran.returncode, ran.stderr)
+    os.close(folder)
+
+
+def check_helpers(count, built, maker, kind):
+    """principals and authorized_keys end with 1 where they can't tell, and principals prints nothing then."""
+    key, now = " ".join(maker.read(f"{kind.authority}.pub").split()[:2]), ["-V", "-5m:+5m"]
+    offered = maker.certificate(kind.authority, "user0", "-n", "alice", *now).split()[:2]
+    good = maker.write("helped", f"# authorities\r\n  bob,alice\t {key} a comment\r\nbob ssh-ed25519 AAAA\n")
+    wrong = maker.write("wrong", f"alice {key}\nalice ssh-ed25519 AAAA\n")
+    own = maker.write("own", f"{maker.read('user0.pub')}\n")
+    for out in (built.plain, built.sanitized):
+        name = os.path.basename(out)
+        for case, words, wanted in (
+            ("the user", [good, "alice", *offered], (0, "alice\n")), ("another user", [good, "eve", *offered], (1, "")),
+            ("a user whose line has no key", [good, "bob", *offered], (1, "")), ("no user", [good, "", *offered], (1, "")),
+            ("a beginning of a user", [good, "alic", *offered], (1, "")), ("a line that is no key", [wrong, "alice", *offered], (1, "")),
+            ("a folder", [maker.folder, "alice", *offered], (1, "")), ("no such file", [maker.path("none"), "alice", *offered], (1, "")),
+            ("no certificate", [good, "alice", *maker.read("user0.pub").split()[:2]], (1, "")),
+        ):  # fmt: skip
+            ran = run([f"{out}/principals", *words])
+            same = (ran.returncode, ran.stdout) == wanted and bool(ran.stderr) == (wanted[0] == 1)
+            count.check(f"principals, {name}: {case}", same, ran.returncode, ran.stdout, ran.stderr)
+        for program, words in (("principals", [good, "alice", *offered]), ("authorized_keys", [own, "alice", *maker.read("own").split()[:2]])):
+            with open("/dev/full", "wb") as full:
+                ran = run([f"{out}/{program}", *words], capture_output=False, stdout=full, stderr=-1)
+            count.check(f"{program}, {name}: nothing is written", ran.returncode == 1 and ran.stderr, ran.returncode, ran.stderr)
+
+
+def check_issuing(count, built, maker):
+    """issue.py says in a line what is wrong, and ends with 2."""
+    maker.key("rsa-issuer", "rsa -b 2048")
+    run(["ssh-keygen", "-q", "-t", "ed25519", "-N", "a passphrase", "-f", maker.path("locked")])
+    good, key = maker.path("issuer"), maker.path("holder.pub")
+    for case, words in (
+        ("an authority of RSA", [maker.path("rsa-issuer"), key, "id", "60"]), ("one with a passphrase", [maker.path("locked"), key, "id", "60"]),
+        ("no such authority", [maker.path("none"), key, "id", "60"]), ("a public key as the authority", [key, key, "id", "60"]),
+        ("no such key", [good, maker.path("none"), "id", "60"]), ("a private key as the key", [good, good, "id", "60"]),
+        ("a folder as the key", [good, maker.folder, "id", "60"]), ("no number of seconds", [good, key, "id", "an hour"]),
+        ("an end that is no time", [good, key, "id", str(1 << 64)]),
+    ):  # fmt: skip
+        ran = run([*python(built, "issue.py"), *words, "alice"])
+        told = ran.stderr.startswith("issue.py: ") and ran.stderr.count("\n") == 1 and not ran.stdout
+        count.check(f"issue.py: {case}", ran.returncode == UNTOLD and told, ran.returncode, ran.stdout, ran.stderr)
+    ran = run(python(built, "issue.py"))
+    count.check("issue.py shows how it is called", ran.returncode == UNTOLD and "issue.py AUTHORITY" in ran.stderr, ran.stderr)
+
+
+def check_meanings(count, built, check):
+    """The words for answers are the same in C and in Python."""
+    said = run([f"{built.plain}/foreign"], input="meanings\n").stdout.rstrip("\n").split(",")
+    wanted = {0: "valid", 1: "no memory", 2: "the room is too short", **{int(it): words for it, words in check.MEANING.items()}}
+    found = dict(enumerate(said))
+    count.check("answers have the same words in C and in Python", found == {it: wanted.get(it, "not in its format") for it in range(200)}, found)
+    count.check("also where a principal is no text", found[4] == "a principal that is not UTF-8", found[4])
+
+
+def check_authorities(count, built, kind):
+    """add_authority tells refused memory from a line that is no key."""
+    line = kind.maker.read(f"{kind.authority}.pub").encode()
+    asked = [("a key", line, 0), ("no key", line[:20], 13), ("a certificate", kind.line.encode(), 12)]
+    ran = run([f"{built.sanitized}/foreign"], input="".join(f"authority {it.hex()}\n" for _, it, _ in asked))
+    for (name, _, wanted), answer in zip(asked, ran.stdout.splitlines()):
+        first, *refused = map(int, answer.split())
+        same = first == wanted and set(refused) <= {1, wanted} and (wanted or refused[-1:] == [1])
+        count.check(f"an authority, {name}, where each request for memory is refused", same, answer)
+    count.check("authorities are added without a fault", ran.returncode == 0, ran.stderr[-2000:])
+
+
+def check_example_calls(count, built, check, maker, kind, middle):
+    check_certificates(count, built, maker, kind, middle)
+    check_helpers(count, built, maker, kind)
+    check_issuing(count, built, maker)
+    check_meanings(count, built, check)
+    check_authorities(count, built, kind)

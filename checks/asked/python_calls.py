@@ -1,0 +1,146 @@
+"""What the Python module takes and gives, for checks/foreign: what has no truth value, what is no list of names, what nobody
+changes, and the two calls that make a certificate."""
+import dataclasses
+import inspect
+import typing
+
+from lib.harness import string
+
+from .certificate_calls import CASES, blob_in, certificate_of, fields_in, shown_under
+
+# an entry of authorized_keys, its options and these one by one
+ENTRY = b'no-pty,command="ls -l" ssh-ed25519 '
+LISTED = [(b"no-pty", None), (b"command", b"ls -l")]
+
+
+def raised(call, *given, **named):
+    """The type of what a call raises and its words, or None."""
+    try:
+        call(*given, **named)
+    except Exception as error:  # pylint: disable=broad-exception-caught
+        return type(error).__name__, str(error)
+    return None
+
+
+def check_truth(count, sshkey, check):
+    """0 is the one number that is good, so that whoever took these for truth values would let in exactly the others."""
+    for members in (sshkey.Status, check.Refusal):
+        wanted = ("TypeError", f"compare with Status.DONE: a {members.__name__} is no truth value")
+        for name, taken in (("if", bool), ("not", lambda it: not it), ("all", lambda it: all([it]))):
+            wrong = [it.name for it in members if raised(taken, it) != wanted]
+            count.check(f"`{name}` of a {members.__name__} raises", not wrong, *wrong)
+
+
+def check_principals(count, sshkey, key, authority):
+    """One name is no list of names, and neither is None."""
+    wanted = ("TypeError", "principals is a list of names")
+    for one in ("alice", b"alice", bytearray(b"alice"), memoryview(b"alice"), "", None):
+        found = raised(sshkey.certificate_to_be_signed, key, authority, principals=one)
+        made = raised(sshkey.make_certificate, key, authority, lambda message: b"", principals=one)
+        count.check(f"the principals {one!r:.24} are no list", found == made == wanted, found, made)
+    found = raised(sshkey.certificate_to_be_signed, key, authority)
+    count.check("principals have to be given", found is not None and found[0] == "TypeError", found)
+    found = raised(sshkey.certificate_to_be_signed, key, authority, principals=[])
+    count.check("an empty list of principals is refused", found == ("Refused", "principals"), found)
+    for names in (["alice", "bob"], ("alice", "bob"), iter(["alice", "bob"])):
+        made = sshkey.certificate_to_be_signed(key, authority, principals=names)
+        count.check(f"a {type(names).__name__} of principals is listed", string(string(b"alice") + string(b"bob")) in made)
+
+
+def check_numbers(count, sshkey, key, authority, certificate):
+    """What is no number, or does not fit its field."""
+    for name, value, wanted in (
+        ("serial", -1, "ValueError"), ("serial", 1 << 64, "ValueError"), ("valid_after", 1.5, "TypeError"),
+        ("valid_before", "1", "TypeError"), ("certificate_type", 1 << 32, "ValueError"), ("certificate_type", 3, "Refused"),
+    ):  # fmt: skip
+        found = raised(sshkey.certificate_to_be_signed, key, authority, principals=["alice"], **{name: value})
+        count.check(f"the {name} {value!r} raises {wanted}", found is not None and found[0] == wanted, found)
+    for now, by, wanted in (
+        (1.5, [], "TypeError"), (-1, [], "ValueError"), (1 << 64, [], "ValueError"), (0, [bytes(31)], "ValueError"),
+        (0, bytes(32), "TypeError"), (0, [32 * "a"], "TypeError"),
+    ):  # fmt: skip
+        found = raised(sshkey.validate_certificate, certificate, now, by, True)
+        count.check(f"validation at {now} by {by!r:.20} raises {wanted}", found is not None and found[0] == wanted, found)
+    for port, wanted in ((-1, "ValueError"), (65536, "ValueError"), (22.0, "TypeError")):
+        found = raised(sshkey.host_verdict, b"", "host", port, key)
+        count.check(f"the port {port} raises {wanted}", found is not None and found[0] == wanted, found)
+    found = raised(sshkey.certificate_question, "a text")
+    count.check("a text is no certificate", found is not None and found[0] == "TypeError", found)
+
+
+def check_values(count, sshkey, maker):
+    """What is read of a certificate has the types that it says, and stays as it is."""
+    blob, _ = certificate_of(maker, "lister0", "listed0", [*CASES["all options"], "-z", "7"])
+    contents, fields = sshkey.certificate_contents(blob), sshkey.certificate_fields(blob)
+    user, host = sshkey.CertificateType.USER, sshkey.CertificateType.HOST
+    wanted = sshkey.CertificateFields(7, 0, sshkey.FOREVER, user, True, True)
+    same = fields == wanted and all(type(it) is bool for it in (fields.lists_principals, fields.has_critical_options))
+    count.check("the fields of a certificate are numbers, a type and truth values", same and fields.certificate_type is user, fields)
+    listed, _ = certificate_of(maker, "lister0", "listed0", ["-h"])
+    fields = sshkey.certificate_fields(listed)
+    same = fields.certificate_type is host and fields.lists_principals is False and fields.has_critical_options is False
+    count.check("and of one for hosts that lists nobody", same, fields)
+    count.check("principals are a tuple", contents.principals == ("alice",), contents.principals)
+    for name in ("critical_options", "extensions"):
+        of = getattr(contents, name)
+        found = raised(of.__class__.__getitem__, of, "none"), hasattr(of, "__setitem__"), hasattr(of, "update")
+        count.check(f"nobody changes {name}", len(of) > 2 and found[1:] == (False, False) and found[0][0] == "KeyError", found)
+    for value in (contents, fields):
+        name = dataclasses.fields(value)[0].name
+        found = raised(setattr, value, name, None)
+        count.check(f"nor a field of {type(value).__name__}", found is not None and found[0] == "FrozenInstanceError", found)
+
+
+def check_lists(count, sshkey):
+    """Lists, whose faults are told at the call."""
+    lines = sshkey.entry_lines(b"# none\n" + ENTRY + b"\n")
+    count.check("the lines of a text are a list", lines == [ENTRY] and type(lines) is list, lines)
+    count.check("the options of an entry are a list", sshkey.entry_options(b'no-pty,command="ls -l"') == LISTED)
+    count.check("no options are an empty list", sshkey.entry_options(b"") == [])
+    found = raised(sshkey.entry_options, b"no-pty,a b")
+    count.check("what is no list of options is refused at the call", found == ("Refused", "format"), found)
+
+
+def check_two_calls(count, sshkey, maker):
+    """certificate_to_be_signed gives what ssh-keygen signs, and with its signature the certificate is that of ssh-keygen; for
+    everybody too."""
+    for name in ("plain", "nobody listed", "two listed", "a host", "a window"):
+        blob, shown = certificate_of(maker, "lister0", "listed0", CASES[name])
+        fields = fields_in(blob)
+        principals = shown_under(shown, "Principals") or sshkey.ALL_PRINCIPALS
+        made = sshkey.certificate_to_be_signed(
+            blob_in(maker, "listed0"), blob_in(maker, "lister0"), principals=principals, key_id=fields["key_id"].decode(),
+            certificate_type=sshkey.CertificateType(fields["certificate_type"]), serial=fields["serial"],
+            valid_after=fields["valid_after"], valid_before=fields["valid_before"], nonce=fields["nonce"],
+            extensions={it: "" for it in shown_under(shown, "Extensions")},
+        )  # fmt: skip
+        joined = sshkey.join_certificate(made, fields["signature"])
+        count.check(f"what is to be signed is what ssh-keygen signs, in Python: {name}", joined == blob, made.hex(), blob.hex())
+    words = [inspect.signature(it).parameters for it in (sshkey.certificate_to_be_signed, sshkey.make_certificate)]
+    given, made = ({name: (it.default, it.annotation) for name, it in of.items() if name != "sign"} for of in words)
+    count.check("make_certificate takes what certificate_to_be_signed takes", given == made, given, made)
+
+
+def check_names(count, sshkey):
+    """What the module shows is public, and each call has types and says what it does."""
+    shown = {it for it in dir(sshkey) if not it.startswith("_")}
+    count.check("__all__ has each public name", shown == set(sshkey.__all__), shown ^ set(sshkey.__all__))
+    calls = [it for it in map(sshkey.__dict__.get, sshkey.__all__) if inspect.isfunction(it)]
+    untyped = [it.__name__ for it in calls if set(typing.get_type_hints(it)) != {*inspect.signature(it).parameters, "return"}]
+    count.check(f"each of {len(calls)} calls has types", len(calls) > 20 and not untyped, untyped)
+    undocumented = [it for it in sshkey.__all__ if not getattr(sshkey, it).__doc__]
+    count.check("and a page", not undocumented, undocumented)
+
+
+def check_python(count, modules, maker):
+    """Over the keys and certificates of certificate_calls."""
+    sshkey, check = modules
+    key, authority = blob_in(maker, "listed0"), blob_in(maker, "lister0")
+    certificate, _ = certificate_of(maker, "lister0", "listed0", CASES["plain"])
+    check_truth(count, sshkey, check)
+    check_principals(count, sshkey, key, authority)
+    check_numbers(count, sshkey, key, authority, certificate)
+    check_values(count, sshkey, maker)
+    check_lists(count, sshkey)
+    check_two_calls(count, sshkey, maker)
+    check_names(count, sshkey)

@@ -1,0 +1,69 @@
+"""Certificates, signatures, keys, authorized_keys and known_hosts of OpenSSH, by the proved library that include/sshkey.h declares.
+
+Cryptography is yours. A certificate takes two calls, with your verification between them:
+
+    question = sshkey.certificate_question(certificate)
+    is_verified = is_signature(question)  # yours: True or False
+    status = sshkey.validate_certificate(certificate, now, authorities, is_verified, principal="alice")
+
+It is valid exactly if `status == Status.DONE`; any other says what is wrong first. An SSH signature takes one call: it is valid
+exactly if sshsig_question gives a question, your verification of it says yes, and the signer is one that you trust for that
+namespace.
+
+Each call says what it raises: Refused, which is a ValueError, for bytes that are not what they have to be, and MemoryError, of
+which nothing follows about them. All raise TypeError for a text in place of bytes and for a number that is not whole, and
+UnicodeEncodeError, a ValueError too, for a text that UTF-8 can't write.
+
+The library is the file that SSHKEY_LIBRARY names in the environment, or else out/libsshkey.so in the folder examples (`make`
+there builds it), or else the system's. Calls from several threads at once are fine.
+"""
+from ._certificates import (
+    certificate_contents,
+    certificate_fields,
+    certificate_question,
+    certificate_to_be_signed,
+    join_certificate,
+    make_certificate,
+    options,
+    validate_certificate,
+)
+from ._files import authority_verdict, authorized_entry, entry_lines, entry_options, host_verdict, known_host
+from ._keys import (
+    fingerprint,
+    fingerprint_sha512,
+    fingerprint_sha512_text,
+    fingerprint_text,
+    normal_certificate,
+    normal_key,
+    normal_signature,
+    normal_sshsig,
+    read_line,
+    signature_question,
+    sshsig_question,
+    string,
+    strings,
+)
+from ._values import (
+    ALL_PRINCIPALS,
+    FOREVER,
+    Algorithm,
+    AuthorizedEntry,
+    CertificateFields,
+    CertificateType,
+    Contents,
+    KnownHost,
+    Line,
+    Marker,
+    Question,
+    Refused,
+    Status,
+)
+
+__all__ = [
+    "ALL_PRINCIPALS", "FOREVER", "Algorithm", "AuthorizedEntry", "CertificateFields", "CertificateType", "Contents", "KnownHost",
+    "Line", "Marker", "Question", "Refused", "Status", "authority_verdict", "authorized_entry", "certificate_contents",
+    "certificate_fields", "certificate_question", "certificate_to_be_signed", "entry_lines", "entry_options", "fingerprint",
+    "fingerprint_sha512", "fingerprint_sha512_text", "fingerprint_text", "host_verdict", "join_certificate", "known_host",
+    "make_certificate", "normal_certificate", "normal_key", "normal_signature", "normal_sshsig", "options", "read_line",
+    "signature_question", "sshsig_question", "string", "strings", "validate_certificate",
+]  # fmt: skip
