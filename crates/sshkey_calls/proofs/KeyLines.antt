@@ -21,13 +21,15 @@ use Rattle.sshkey_calls.specs.declared.line.Line.{Line}
 -- A blob, and a comment that was added behind it.
 pub laid : (kind : ℕ) (blob comment before content : List ℕ) (line : Line) → before ≡ blob → content ≡ before ++ comment → line.kind ≡ kind → line.blob.start ≡ 0 → line.blob.length ≡ length before → line.comment.start ≡ length before → line.comment.length ≡ length comment → line.length ≡ length content → IsLaidOut (content_of kind blob comment) content line
 laid kind blob comment before content line is added same at_front blob_length behind comment_length all =
-    let content_is : content ≡ blob ++ comment = added ∙ ap (λ (x : List ℕ). x ++ comment) is in
-    (content_is, record {
-      kind = same;
-      blob = (at_front, blob_length ∙ ap length is);
-      comment = (behind ∙ ap length is, comment_length);
-      length = all ∙ ap length content_is;
-    })
+    let content_is : content ≡ blob ++ comment = added ∙ ap (λ (x : List ℕ). x ++ comment) is in (
+      content_is,
+      record {
+        kind = same;
+        blob = (at_front, blob_length ∙ ap length is);
+        comment = (behind ∙ ap length is, comment_length);
+        length = all ∙ ap length content_is;
+      },
+    )
 
 -- The room was filled, or is too short.
 pub told : (x : Content) (content before after : List ℕ) (filled : Bool) (was line : Line) (n : ℕ) → IsLaidOut x content line → Fills content before filled after → (filled ≡ true → n ≡ 0) → (filled ≡ false → n ≡ 2) → Reads (λ y. y ≡ x) n was line before after
