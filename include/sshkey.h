@@ -457,8 +457,9 @@ typedef struct {
 uint32_t sshkey_authorized_entry(const uint8_t *line, size_t line_length, uint8_t *room,
                                  size_t room_length, sshkey_entry *answer);
 
-/* The same of a line of known_hosts, as ssh reads it. A line that is refused may be a revocation:
- * to judge a host's key, ask sshkey_host_verdict about the whole text. */
+/* The same of a line of known_hosts, as ssh reads it; one with a zero byte is refused. A line that
+ * is refused may be a revocation: to judge a host's key, ask sshkey_host_verdict about the whole
+ * text. */
 uint32_t sshkey_known_host(const uint8_t *line, size_t line_length, uint8_t *room,
                            size_t room_length, sshkey_entry *answer);
 
@@ -485,11 +486,11 @@ uint32_t sshkey_nth_option(const uint8_t *options, size_t options_length, size_t
  * are hashed there, is computed here.
  *
  * SSHKEY_DONE exactly if the key is trusted: an entry for the host has it, none revokes it, and no
- * line that is no entry could be one for the host (SSHKEY_MEMORY aside). Else 50 to 53, 10 to 29
- * for bytes that are no key, or SSHKEY_TEXT where the text or the host is not UTF-8. Ask it of each
- * file, and refuse what one of them calls revoked or unreadable. For a port other than 22, where
- * the answer is SSHKEY_HOST_UNKNOWN, ssh(1) asks about port 22 too. Of authorities nothing is
- * said. */
+ * line that is no entry could be one for the host (SSHKEY_MEMORY aside), as each with a zero byte
+ * could. Else 50 to 53, 10 to 29 for bytes that are no key, or SSHKEY_TEXT where the text or the
+ * host is not UTF-8. Ask it of each file, and refuse what one of them calls revoked or unreadable.
+ * For a port other than 22, where the answer is SSHKEY_HOST_UNKNOWN, ssh(1) asks about port 22 too.
+ * Of authorities nothing is said. */
 uint32_t sshkey_host_verdict(const uint8_t *known_hosts, size_t known_hosts_length,
                              const uint8_t *host, size_t host_length, uint16_t port,
                              const uint8_t *key, size_t key_length);

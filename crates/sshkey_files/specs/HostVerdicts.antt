@@ -2,6 +2,7 @@
 use Rattle.std.specs.Prelude.{◌≡◌, ℕ, List, [], ◌∷◌, ◌++◌, Option, Some, None}
 use Rattle.std.specs.List.{Any}
 use Rattle.sshkey_model.specs.Keys.{Key}
+use Rattle.sshkey_model.specs.Lines.{IsWithout}
 use Rattle.sshkey_files.specs.Entries.{IsNoEntry}
 use Rattle.sshkey_files.specs.Fields.{without_blanks, IsField, EndsField}
 use Rattle.sshkey_files.specs.HostNames.{AreFor}
@@ -16,8 +17,9 @@ pub record Lists (hmac : List ℕ → List ℕ → List ℕ) (name : List ℕ) (
   pub key_is : entry.key ≡ key
   pub is_for : AreFor hmac name entry.hosts
 
--- Hosts stand in the line, behind a marker or none, and they are not for the name.
+-- Hosts stand in the line, behind a marker or none, and they are not for the name. No byte is 0, where ssh takes the hosts to end.
 pub record IsForOthers (hmac : List ℕ → List ℕ → List ℕ) (name line : List ℕ) : Type 0 where
+  pub no_zero : IsWithout 0 line
   pub marker : Option Marker
   pub hosts_part : List ℕ
   pub behind : List ℕ

@@ -1,5 +1,6 @@
 -- The lines of authorized_keys and known_hosts as OpenSSH reads them (sshd(8), "AUTHORIZED_KEYS FILE FORMAT" and "SSH_KNOWN_HOSTS FILE FORMAT"): a line that begins with a `#` is a comment, and fields are separated by spaces or tabs, of which some may stand in front.
 use Rattle.std.specs.Prelude.{◌≡◌, ◌≢◌, ◌⊎◌, ℕ, List, [], ◌++◌, length, slice_index, Option, Some, None}
+use Rattle.sshkey_model.specs.Lines.{IsWithout}
 use Rattle.sshkey_files.specs.AuthorizedKeys.{AuthorizedKey}
 use Rattle.sshkey_files.specs.Entries.{hash}
 use Rattle.sshkey_files.specs.Fields.{without_blanks, IsField, EndsField, AreKeyFields, AreNoKeyFields}
@@ -32,8 +33,9 @@ abbrev pub IsMarkedLine : Option Marker → List ℕ → List ℕ → Type 0
 IsMarkedLine None text rest = (text ≡ rest) × (slice_index text 0 ≢ at_sign)
 IsMarkedLine (Some m) text rest = (behind : List ℕ) × (text ≡ marker_text m ++ behind) × EndsField behind × (rest ≡ without_blanks behind) × (slice_index rest 0 ≢ at_sign)
 
--- a marker or none, hosts, and a key's fields
+-- A marker or none, hosts, and a key's fields. No byte is 0, where ssh takes the hosts to end.
 pub record IsHostLine (line : List ℕ) (h : KnownHost) : Type 0 where
+  pub no_zero : IsWithout 0 line
   pub hosts_part : List ℕ
   pub behind_hosts : List ℕ
   pub no_comment : slice_index (without_blanks line) 0 ≢ hash

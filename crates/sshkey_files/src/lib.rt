@@ -18,4 +18,6 @@ pub use filled_lines::FilledLines;
 pub use from_line::{FromLine, entries_of_file, entries_of_text};
 pub use key_fields::read_key_fields;
 pub use pattern::{LetterCase, matches_pattern};
-pub use pattern_list::{is_named_by, is_refused_by, matches_pattern_list, split_pattern};
+pub use pattern_list::{
+    is_named_by, is_refused_by, is_short_pattern, matches_pattern_list, split_pattern,
+};

@@ -23,7 +23,7 @@ pub fn matches_pattern_list(text: &str, list: &str, letter_case: LetterCase) -> 
     let mut rest = list;
     'patterns: while !rest.is_empty() {
         let (pattern, more) = split_pattern(rest);
-        if !is_short(pattern) || is_refused_by(text, pattern, letter_case) {
+        if !is_short_pattern(pattern) || is_refused_by(text, pattern, letter_case) {
             return false;
         }
         is_named |= is_named_by(text, pattern, letter_case);
@@ -77,8 +77,9 @@ fn unmarked(pattern: &[u8]) -> &[u8]
     }
 }
 
-/// Whether OpenSSH reads a pattern of that length.
-fn is_short(pattern: &str) -> bool
+/// Whether the pattern, one of a list, has fewer than 1,023 bytes, a `!` in front aside: OpenSSH
+/// takes a list with a longer one for nobody's. Does not allocate.
+pub fn is_short_pattern(pattern: &str) -> bool
     ensures { IsTrue result ↔ IsShort pattern.now }
 {
     unmarked(pattern.as_bytes()).len() < TOO_LONG

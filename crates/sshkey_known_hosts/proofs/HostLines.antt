@@ -4,6 +4,7 @@ use Rattle.std.proofs.lemmas.Bool.{not-true}
 use Rattle.sshkey_base.specs.Causes.{cause, NoMemory}
 use Rattle.sshkey_base.specs.declared.error.Error.{Error}
 use Rattle.sshkey_base.specs.declared.error.Error.TheVariants.{FormatEncoding}
+use Rattle.sshkey_model.specs.Lines.{IsWithout}
 use Rattle.sshkey_model.proofs.LineTests.{each}
 use Rattle.sshkey_files.specs.Entries.{hash, IsNoEntry}
 use Rattle.sshkey_files.specs.Fields.{without_blanks, IsField, EndsField, AreKeyFields, AreNoKeyFields}
@@ -76,22 +77,25 @@ marker_fault text none = record {
 
 -- ---- a line
 
+pub zero_fault : (line : List ℕ) → (IsWithout 0 line → ⊥) → HasLineFault line FormatEncoding
+zero_fault line zero = record { zero = λ _. refl; comment = λ _. refl; text = λ without. absurd (zero without) }
+
 module _ (line text : List ℕ) (is : text ≡ without_blanks line) where
   pub comment_read : slice_index text 0 ≡ hash → IsNoEntry IsHostLine line
   comment_read here h k = k.no_comment (ap (λ (t : List ℕ). slice_index t 0) (sym is) ∙ here)
 
   pub comment_fault : slice_index text 0 ≡ hash → HasLineFault line FormatEncoding
-  comment_fault here = record { comment = λ _. refl; text = λ other. absurd (other (ap (λ (t : List ℕ). slice_index t 0) (sym is) ∙ here)) }
+  comment_fault here = record { zero = λ _. refl; comment = λ _. refl; text = λ _ other. absurd (other (ap (λ (t : List ℕ). slice_index t 0) (sym is) ∙ here)) }
 
   pub no_marker_read : ((m : Option Marker) (rest : List ℕ) → IsMarkedLine m text rest → ⊥) → IsNoEntry IsHostLine line
   no_marker_read none h k = none h.marker (k.hosts_part ++ k.behind_hosts) (subst (λ (t : List ℕ). IsMarkedLine h.marker t (k.hosts_part ++ k.behind_hosts)) (sym is) k.marked)
 
-  module _ (no_comment : slice_index text 0 ≢ hash) where
+  module _ (no_zero : IsWithout 0 line) (no_comment : slice_index text 0 ≢ hash) where
     not_comment : slice_index (without_blanks line) 0 ≢ hash
     not_comment here = no_comment (ap (λ (t : List ℕ). slice_index t 0) is ∙ here)
 
     pub text_fault : (e : Error) → HasTextFault text e → HasLineFault line e
-    text_fault e fault = record { comment = λ here. absurd (not_comment here); text = λ _. subst (λ (t : List ℕ). HasTextFault t e) is fault }
+    text_fault e fault = record { zero = λ zero. absurd (zero no_zero); comment = λ here. absurd (not_comment here); text = λ _ _. subst (λ (t : List ℕ). HasTextFault t e) is fault }
 
     module _ (m : Option Marker) (unmarked hosts rest fields : List ℕ) (is_marked : IsMarkedLine m text unmarked) (cut : CutsField unmarked hosts rest) (skips : fields ≡ without_blanks rest) where
       parts : (h : KnownHost) (k : IsHostLine line h) → (hosts ≡ k.hosts_part) × (rest ≡ k.behind_hosts)
@@ -108,6 +112,7 @@ module _ (line text : List ℕ) (is : text ≡ without_blanks line) where
       line_needs some = record {
         hosts = hosts;
         rest = rest;
+        no_zero = no_zero;
         no_comment = not_comment;
         field = record {
           marker = m;
@@ -120,6 +125,7 @@ module _ (line text : List ℕ) (is : text ≡ without_blanks line) where
 
       pub line_read : (h : KnownHost) → m ≡ h.marker → IsHosts hosts h.hosts → AreKeyFields fields h.key h.comment → IsHostLine line h
       line_read h same are key = record {
+        no_zero = no_zero;
         hosts_part = hosts;
         behind_hosts = rest;
         no_comment = not_comment;
@@ -135,6 +141,7 @@ pub entry_needs : (line : List ℕ) (h : KnownHost) → IsHostLine line h → Ne
 entry_needs line h k = record {
   hosts = k.hosts_part;
   rest = k.behind_hosts;
+  no_zero = k.no_zero;
   no_comment = k.no_comment;
   field = record { marker = h.marker; marked = k.marked; one_word = k.one_word; ends = k.hosts_end };
   some = have_parts k.hosts_part h.hosts k.hosts;

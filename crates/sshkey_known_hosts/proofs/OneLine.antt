@@ -1,7 +1,5 @@
 -- When hosts and an entry are written as one line.
-use Rattle.std.proofs.Common.{◌≡◌, ℕ, zero, suc, ◌<◌, ◌+◌, List, [], ◌∷◌, ◌++◌, Option, None, Some, get_or, length, refl, sym, subst, ◌∙◌, arith, inl, inr}
-use Rattle.std.proofs.lemmas.Bool.{cases_lt}
-use Rattle.std.proofs.lemmas.List.{get_or_default}
+use Rattle.std.proofs.Common.{◌≡◌, ℕ, zero, suc, List, [], ◌∷◌, ◌++◌, Option, None, Some, refl, arith}
 use Rattle.std.specs.List.{All, join_with_byte}
 use Rattle.base64.specs.Engines.{standard}
 use Rattle.base64.specs.GeneralPurpose.{encode_of}
@@ -43,15 +41,6 @@ so_joined (p ∷ []) h = with_first p [] h (λ k d l. absurd (omega arith))
 so_joined (p ∷ q ∷ ps) h =
     let rest = join_with_byte comma (q ∷ ps) in
     with_first p (q ∷ ps) (one_line_front p (comma ∷ rest) h) (so_joined (q ∷ ps) (one_line_rest (comma ∷ []) rest (one_line_rest p (comma ∷ rest) h)))
-
--- one text more
-pub one_more : (texts : List (List ℕ)) (i : ℕ) (text : List ℕ) → i < length texts → get_or texts i text ≡ text → IsOneLine text → ((k : ℕ) (d : List ℕ) → k < i → IsOneLine (get_or texts k d)) → (k : ℕ) (d : List ℕ) → k < i + 1 → IsOneLine (get_or texts k d)
-one_more texts i text lt is one before k d l = elim (cases_lt k i) [
-  | inl less ↦ before k d less
-  | inr same ↦
-      let e : k ≡ i = omega (arith, l, same) in
-      subst (λ (n : ℕ). IsOneLine (get_or texts n d)) (sym e) (subst IsOneLine (sym (get_or_default texts i d text lt ∙ is)) one)
-]
 
 word : (b : List ℕ) → IsOneLine (encode_of standard b)
 word b = (word_lacks line_feed refl refl refl b, word_lacks carriage_return refl refl refl b)

@@ -1,5 +1,6 @@
 -- Whether hosts that are for others stand in a line.
 use Rattle.std.proofs.Common.{◌≡◌, ℕ, List, ◌++◌, Option, refl, sym, subst}
+use Rattle.sshkey_model.specs.Lines.{IsWithout}
 use Rattle.sshkey_files.specs.Entries.{IsNoEntry}
 use Rattle.sshkey_files.specs.Fields.{without_blanks}
 use Rattle.sshkey_files.specs.HostNames.{AreFor}
@@ -28,8 +29,9 @@ module _ (hmac : List ℕ → List ℕ → List ℕ) (name line text : List ℕ)
     pub without_hosts : IsNoEntry IsHosts hosts → IsForOthers hmac name line → ⊥
     without_hosts none f = none f.hosts (are_read f)
 
-    pub for_others : (h : Hosts) → IsHosts hosts h → (AreFor hmac name h → ⊥) → IsForOthers hmac name line
-    for_others h are never = record {
+    pub for_others : IsWithout 0 line → (h : Hosts) → IsHosts hosts h → (AreFor hmac name h → ⊥) → IsForOthers hmac name line
+    for_others no_zero h are never = record {
+      no_zero = no_zero;
       marker = m;
       hosts_part = hosts;
       behind = rest;

@@ -3,6 +3,7 @@ use Rattle.std.specs.Prelude.{◌≡◌, ◌≢◌, ℕ, List, ◌++◌, slice_i
 use Rattle.sshkey_base.specs.Causes.{cause, NoMemory}
 use Rattle.sshkey_base.specs.declared.error.Error.{Error}
 use Rattle.sshkey_base.specs.declared.error.Error.TheVariants.{FormatEncoding}
+use Rattle.sshkey_model.specs.Lines.{IsWithout}
 use Rattle.sshkey_files.specs.Answers.{ReadsEntry, RefusesFor}
 use Rattle.sshkey_files.specs.Entries.{hash, IsNoEntry}
 use Rattle.sshkey_files.specs.Fields.{without_blanks, IsField, EndsField}
@@ -34,17 +35,19 @@ pub record HasTextFault (text : List ℕ) (e : Error) : Type 0 where
   pub no_hosts : (hosts rest : List ℕ) → HasHostsField text hosts rest → IsNoEntry IsHosts hosts → RefusesHosts hosts e
   pub no_key : (hosts rest : List ℕ) (h : Hosts) → HasHostsField text hosts rest → IsHosts hosts h → HasKeyFault (without_blanks rest) e
 
--- `FormatEncoding` of a comment.
+-- `FormatEncoding` of a line with a zero byte, and of a comment.
 pub record HasLineFault (line : List ℕ) (e : Error) : Type 0 where
+  pub zero : ¬ IsWithout 0 line → e ≡ FormatEncoding
   pub comment : slice_index (without_blanks line) 0 ≡ hash → e ≡ FormatEncoding
-  pub text : slice_index (without_blanks line) 0 ≢ hash → HasTextFault (without_blanks line) e
+  pub text : IsWithout 0 line → slice_index (without_blanks line) 0 ≢ hash → HasTextFault (without_blanks line) e
 
 -- ---- memory
 
--- Reading the line needs memory: it is no comment, and parts of hosts stand in it, behind a marker or none.
+-- Reading the line needs memory: it has no zero byte and is no comment, and parts of hosts stand in it, behind a marker or none.
 pub record NeedsHostLine (line : List ℕ) : Type 0 where
   pub hosts : List ℕ
   pub rest : List ℕ
+  pub no_zero : IsWithout 0 line
   pub no_comment : slice_index (without_blanks line) 0 ≢ hash
   pub field : HasHostsField (without_blanks line) hosts rest
   pub some : HasNoParts hosts → ⊥

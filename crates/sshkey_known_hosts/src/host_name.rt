@@ -2,13 +2,13 @@
 
 ghost use Rattle.std.specs.Prelude.{◌≡◌, ◌↔◌, IsTrue, IfOk, IfErr, string_bytes};
 ghost use Rattle.std.specs.Char.{to_ascii_lowercase};
-ghost use Rattle.std.specs.List.{Any};
+ghost use Rattle.std.specs.List.{All, Any};
 ghost use Rattle.sshkey_base.specs.declared.error.Error.TheVariants as wide;
-ghost use Rattle.sshkey_files.specs.HostNames.{known_name};
-ghost use Rattle.sshkey_files.specs.Patterns.{IsNamed, Names, Refuses};
+ghost use Rattle.sshkey_files.specs.HostNames.{AreForName, BeginWithBar, known_name};
+ghost use Rattle.sshkey_files.specs.Patterns.{IsShort, Names, Refuses};
 
 use sshkey_base::{Result, Text};
-use sshkey_files::{LetterCase, is_named_by, is_refused_by};
+use sshkey_files::{LetterCase, is_named_by, is_refused_by, is_short_pattern};
 use std::alloc::Global;
 
 /// The port at which a host is known by its bare name.
@@ -49,9 +49,35 @@ fn some_names(patterns: &[Text], name: &str) -> bool
     false
 }
 
-/// Whether a pattern names it, and no negated one rejects it.
-pub(crate) fn are_named(patterns: &[Text], name: &str) -> bool
-    ensures { IsTrue result ↔ IsNamed to_ascii_lowercase name.now patterns.now }
+/// Whether OpenSSH reads patterns of these lengths.
+fn are_short(patterns: &[Text]) -> bool
+    ensures { IsTrue result ↔ All IsShort patterns.now }
 {
+    for pattern in patterns {
+        if !is_short_pattern(pattern.as_str()) {
+            return false;
+        }
+    }
+    true
+}
+
+/// Whether OpenSSH takes them for a hash.
+fn begin_with_bar(patterns: &[Text]) -> bool
+    ensures { IsTrue result ↔ BeginWithBar patterns.now }
+{
+    match patterns {
+        [first, ..] => first.as_str().starts_with('|'),
+        [] => false,
+    }
+}
+
+/// Whether a pattern names it, and no negated one rejects it. No pattern may be too long, and no
+/// bar stand at the front.
+pub(crate) fn are_named(patterns: &[Text], name: &str) -> bool
+    ensures { IsTrue result ↔ AreForName name.now patterns.now }
+{
+    if begin_with_bar(patterns) || !are_short(patterns) {
+        return false;
+    }
     some_names(patterns, name) && !some_refuses(patterns, name)
 }

@@ -121,8 +121,9 @@ impl HostPatterns {
     /// The name that is looked up is the host's in small letters, and at another port than 22 it is
     /// `[host]:port`. In patterns a `*` stands for any characters, a `?` for one, and a letter for
     /// itself in either case: one of them has to match, and none after a `!` (ssh_config(5),
-    /// "PATTERNS"). A hashed name is compared with the HMAC of the name under its salt; one whose
-    /// salt does not have 20 bytes is for no host.
+    /// "PATTERNS"). As in OpenSSH, patterns are for no host where one of them has 1,023 bytes or
+    /// more, the `!` aside, or the first begins with a `|`. A hashed name is compared with the HMAC
+    /// of the name under its salt; one whose salt does not have 20 bytes is for no host.
     ///
     /// Of a host at another port ssh(1) asks, where nothing is known of it, about the bare name as
     /// well: that is port 22 here.

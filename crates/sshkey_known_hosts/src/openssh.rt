@@ -56,12 +56,14 @@ impl Entry {
     /// padded Base64. All the rest is the comment, a `#` too.
     ///
     /// Unless memory runs out, it fails exactly if the line is no such entry: `FormatEncoding`
-    /// where a `#` begins it, for another marker and for a second one; then the errors of
+    /// where a zero byte stands in it, at which OpenSSH takes the hosts to end, where a `#` begins
+    /// it, for another marker and for a second one; then the errors of
     /// `HostPatterns::from_text`, and then `Length` where no Base64 stands after the hosts, or else
     /// the errors of `sshkey_files::read_key_fields`.
     ///
-    /// Memory is taken for the hosts and what follows them: a comment, another marker and hosts that
-    /// are empty or have no `|` after their salt never fail with `Memory`.
+    /// Memory is taken for the hosts and what follows them: a line with a zero byte, a comment,
+    /// another marker and hosts that are empty or have no `|` after their salt never fail with
+    /// `Memory`.
     ///
     /// A line that is rejected says nothing of its hosts: treat an `Err` as no verdict on any host,
     /// and do not pass over it.
@@ -70,6 +72,9 @@ impl Entry {
         ensures fault { RefusesFor HasLineFault line.now result }
         ensures asks { IfErr result (λ e. cause e ≡ NoMemory → NeedsHostLine line.now) }
     {
+        if line.contains('\0') {
+            return Err(Error::FormatEncoding);
+        }
         let text = skip_blanks(line);
         if is_comment(text) {
             return Err(Error::FormatEncoding);

@@ -99,12 +99,15 @@ fn entry_verdict<H: HmacSha1>(entry: &Entry, name: &str, key: &KeyData, hmac: &H
     marked_verdict(entry.marker(), same)
 }
 
-/// Whether hosts stand in a line that are not for the name.
+/// Whether hosts stand in a line without a zero byte that are not for the name.
 fn is_for_others<H: HmacSha1>(alloc: Global, line: &str, name: &str, hmac: &H) -> Result<bool>
     ensures answer { IfOk result (λ yes. IsTrue yes ↔
         IsForOthers (H.hmac hmac.now) name.now line.now) }
     ensures memory { IfErr result (λ e. e ≡ wide.Memory) }
 {
+    if line.contains('\0') {
+        return Ok(false);
+    }
     let Ok((_, unmarked)) = split_marker_field(skip_blanks(line)) else {
         return Ok(false);
     };
@@ -154,8 +157,9 @@ pub(crate) fn has_lines(text: &str) -> bool
 /// `Revoked` comes before all: whatever other lines say, an entry `@revoked` with this key for the
 /// host decides. Then a line that is no entry and could be for the host makes the answer
 /// `Unreadable`, since it could be a revocation: only where hosts stand in it that are not for this
-/// host it is passed over. Then an entry for the host with this key makes it `Trusted`, or else one
-/// with another key `Changed`, and else it is `Unknown`. Of authorities nothing is said here.
+/// host it is passed over, and never where a zero byte stands in it, at which ssh takes the hosts
+/// to end. Then an entry for the host with this key makes it `Trusted`, or else one with another
+/// key `Changed`, and else it is `Unknown`. Of authorities nothing is said here.
 ///
 /// `HostPatterns::matches` says which entries are for a host at a port. Fails only when out of
 /// memory, and never of a text that is empty or has comments alone.
