@@ -2,10 +2,14 @@
 signature of the content in the namespace."""
 import os
 
-from lib.signatures import TYPES, armoured, told_of_file, unarmoured
+from lib.harness import string, take
+from lib.signatures import TYPES, armoured, signed_data, told_of_file, unarmoured
+from lib.signatures import signed as by_key
 
 NAMESPACE = "git"
 CONTENT = b"object 0123\ntype commit\ntag v1\n\na tag\n"
+# in front of the fields of a signature, with its version (PROTOCOL.sshsig)
+MAGIC = b"SSHSIG\0\0\0\1"
 BROKEN = "ssh-ed25519 AAAA"
 
 # the lines of the keys, what is asked otherwise than it was signed, and the answer
@@ -17,6 +21,7 @@ CASES = [
     ("other content", ["{key} the key"], {"content": CONTENT + b"."}, "nobody"),
     ("another namespace", ["{key} the key"], {"namespace": "file"}, "nobody"),
     ("a byte of the signature is another", ["{key} the key"], {"flipped": True}, "nobody"),
+    ("a reserved byte", ["{key} the key"], {"reserved": b"x"}, "nobody"),
     ("behind comments", ["# {other} no key", "", "  # neither", "{key} the key"], {}, "signed by the key"),
     ("behind a line that is none", [BROKEN, "{key} the key"], {}, "signed by the key"),
     ("in a comment", ["# {key} the key"], {}, "nobody"),
@@ -38,7 +43,7 @@ def deploys(maker):
         for case, lines, changes, wanted in CASES:
             # each case has a signature of its own, so that what was told before plays no part
             content = CONTENT + f"{kind}: {case}".encode()
-            blob = signed(maker, name, content, flipped=changes.get("flipped"))
+            blob = signed(maker, name, content, changes.get("flipped"), changes.get("reserved"))
             asked = changes.get("content", content), changes.get("namespace", NAMESPACE)
             lines = [line.format(**keys) for line in lines]
             text = "".join(line + "\n" for line in lines).encode()
@@ -53,14 +58,19 @@ def bare(line):
     return " ".join(line.split(" ")[:2])
 
 
-def signed(maker, name, content, flipped):
-    """What stands in the armour of a signature by that key, its last byte another one where that is asked for."""
+def signed(maker, name, content, flipped, reserved):
+    """What stands in the armour of a signature by that key, its last byte another one where that is asked for, or with reserved
+    bytes, which it is over (PROTOCOL.sshsig)."""
     path = maker.path("content")
     with open(path, "wb") as file:
         file.write(content)
     maker.run("-Y", "sign", "-q", "-f", maker.path(name), "-n", NAMESPACE, path)
     blob = unarmoured(maker.read("content.sig"))
     os.remove(path + ".sig")
+    if reserved:
+        key = take(blob[len(MAGIC) :])[0]
+        made = by_key(maker.path(name), bare(maker.read(f"{name}.pub")), signed_data(NAMESPACE.encode(), reserved, b"sha512", content))
+        return MAGIC + b"".join(map(string, (key, NAMESPACE.encode(), reserved, b"sha512", made)))
     return blob[:-1] + bytes([blob[-1] ^ 1]) if flipped else blob
 
 

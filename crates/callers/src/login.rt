@@ -39,6 +39,9 @@ fn shown(alloc: Global, grant: &Grant) -> std::result::Result<String, AllocError
     if grant.verify_required {
         text.push_str(" verify-required")?;
     }
+    if grant.touch_required {
+        text.push_str(" touch-required")?;
+    }
     for (name, value) in grant.extensions.iter() {
         text.push(' ')?;
         text.push_str(name)?;

@@ -53,6 +53,13 @@ no_entry accepts namespace content text f e none (Ok (Some comment)) never = abs
 no_entry accepts namespace content text f e none (Ok None) other = λ comment signer. none (other_cause e other) signer.entry signer.line
 no_entry accepts namespace content text f e none (Err d) memory = memory.1
 
+-- what is not said to be reserved is nothing
+pub none_reserved : (bytes : List ℕ) (has : Bool) → (IsTrue has ↔ bytes ≢ []) → has ≡ false → bytes ≡ []
+none_reserved [] has judged without = refl
+none_reserved (x ∷ bytes) has judged without =
+    let yes : has ≡ true = judged.1 (λ none. absurd cc) in
+    absurd cc
+
 -- ---- all lines
 
 -- a line that is no signer is passed over

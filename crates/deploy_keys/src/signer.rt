@@ -1,6 +1,6 @@
 //! Which of the keys signed?
 
-ghost use Rattle.std.specs.Prelude.{◌≡◌, ◌↔◌, ℕ, List, IfErr, IfOk, IsTrue, string_bytes};
+ghost use Rattle.std.specs.Prelude.{◌≡◌, ◌≢◌, ◌↔◌, ℕ, List, [], IfErr, IfOk, IsTrue, string_bytes};
 ghost use Rattle.ssh_key.specs.authorized_keys.OpenSshEntries.{openssh_entry_of};
 ghost use Rattle.ssh_key.specs.entries.Fields.{filled_lines};
 ghost use Rattle.ssh_key.specs.entries.OpenSshLines.{IsAuthorizedLine};
@@ -21,9 +21,10 @@ use std::alloc::Global;
 ///
 /// `keys` is read as sshd(8) reads authorized_keys. A line that is no entry, or one with options, is
 /// passed over: no deploy key stands there. `signature` is what stands in the armour of
-/// `ssh-keygen -Y sign`, decoded. Unless memory runs out, it fails exactly if these bytes spell no
-/// SSH signature, with the refusal of `SshSig::from_bytes`. Where they spell none, `Memory` means
-/// that an allocation for what stands in front of their fault failed: a length that they only state
+/// `ssh-keygen -Y sign`, decoded. Nobody has made one with reserved bytes: ssh-keygen verifies each
+/// as if there were none. Unless memory runs out, it fails exactly if the bytes spell no SSH
+/// signature, with the refusal of `SshSig::from_bytes`. Where they spell none, `Memory` means that
+/// an allocation for what stands in front of their fault failed: a length that they only state
 /// allocates nothing.
 pub fn find_signer<V: RawVerifier>(
     alloc: Global,
@@ -112,12 +113,22 @@ fn signer_at_entry<V: RawVerifier>(
     if !entry.options().is_empty() {
         return Ok(None);
     }
+    if has_reserved(signature) {
+        return Ok(None);
+    }
     let signed = has_signed(alloc, entry, namespace, content, signature, verifier)?;
     if !signed {
         return Ok(None);
     }
     let text = copied(alloc, entry.public_key().comment())?;
     Ok(Some(text))
+}
+
+/// Whether bytes stand in the field that is reserved. ssh-keygen verifies none of these.
+fn has_reserved(signature: &SshSig) -> bool
+    ensures { IsTrue result ↔ ((ssh_signature_of signature.now).reserved ≢ []) }
+{
+    !signature.reserved().is_empty()
 }
 
 /// The text in memory of its own.

@@ -18,7 +18,7 @@ use Rattle.ssh_key.specs.types.Error.{Error}
 use Rattle.ssh_key.specs.types.Error.TheVariants.{Memory}
 use Rattle.ssh_key.specs.types.Fingerprint as code
 use Rattle.ssh_key.proofs.Acceptance.{other_cause}
-use Rattle.login_policy.specs.KnownOptions.{IsKnown}
+use Rattle.login_policy.specs.KnownOptions.{IsEmptyIfFlag, IsKnown}
 use Rattle.login_policy.specs.Logins.{GrantsExactly, IsGrantOf, IsLogin, LetsIn, NeedsMemory, NotValid, Refuses}
 use Rattle.login_policy.specs.declared.grant.Grant.{Grant}
 
@@ -29,9 +29,9 @@ listed (n ∷ names) c user is some (inl none) = absurd cc
 listed (n ∷ names) c user is some (inr among) = among
 
 -- the validation decides
-pub lets_in : {Y : Type 0} (accepts : Question → Bool) (given : List code.Fingerprint) (t : ℕ) (user : List ℕ) (offered : Key) (c : Certificate) (names : List (String Y)) → c.signed.certificate_type ≡ User → c.signed.key ≡ offered → All IsKnown c.signed.critical_options → map string_bytes names ≡ c.signed.valid_principals → (length names == 0) ≡ false → (r : Result (Unit {0}) Error) → JudgesFor accepts given t user c r → AcceptsExactly (LetsIn accepts (fingerprints_of given) t user offered c) r
-lets_in accepts given t user offered c names users own known is some (Ok u) valid = record { for_users = users; own_key = own; known = known; listed = listed names c user is some valid.allowed; valid = valid.valid }
-lets_in accepts given t user offered c names users own known is some (Err e) judged = λ other lets. (judged other).0 (record { valid = lets.valid; allowed = inr lets.listed })
+pub lets_in : {Y : Type 0} (accepts : Question → Bool) (given : List code.Fingerprint) (t : ℕ) (user : List ℕ) (offered : Key) (c : Certificate) (names : List (String Y)) → c.signed.certificate_type ≡ User → c.signed.key ≡ offered → All IsKnown c.signed.critical_options → All IsEmptyIfFlag c.signed.extensions → map string_bytes names ≡ c.signed.valid_principals → (length names == 0) ≡ false → (r : Result (Unit {0}) Error) → JudgesFor accepts given t user c r → AcceptsExactly (LetsIn accepts (fingerprints_of given) t user offered c) r
+lets_in accepts given t user offered c names users own known flags is some (Ok u) valid = record { for_users = users; own_key = own; known = known; flags = flags; listed = listed names c user is some valid.allowed; valid = valid.valid }
+lets_in accepts given t user offered c names users own known flags is some (Err e) judged = λ other lets. (judged other).0 (record { valid = lets.valid; allowed = inr lets.listed })
 
 -- ---- why it is refused
 
@@ -45,9 +45,9 @@ somebody : {Y : Type 0} (names : List (String Y)) (listed : List (List ℕ)) →
 somebody [] listed is some = absurd cc
 somebody (n ∷ names) listed is some = λ none. absurd cc
 
-pub not_valid : {Y : Type 0} (accepts : Question → Bool) (given : List code.Fingerprint) (t : ℕ) (user : List ℕ) (offered : Key) (c : Certificate) (names : List (String Y)) → c.signed.certificate_type ≡ User → c.signed.key ≡ offered → All IsKnown c.signed.critical_options → map string_bytes names ≡ c.signed.valid_principals → (length names == 0) ≡ false → (r : Result (Unit {0}) Error) → JudgesFor accepts given t user c r → IfErr r (λ e. e ≢ Memory → Refuses accepts (fingerprints_of given) t user offered c e)
-not_valid accepts given t user offered c names users own known is some (Ok u) valid = tt
-not_valid accepts given t user offered c names users own known is some (Err e) judged = λ other. NotValid users own known (somebody names _ is some) e (judged other).1
+pub not_valid : {Y : Type 0} (accepts : Question → Bool) (given : List code.Fingerprint) (t : ℕ) (user : List ℕ) (offered : Key) (c : Certificate) (names : List (String Y)) → c.signed.certificate_type ≡ User → c.signed.key ≡ offered → All IsKnown c.signed.critical_options → All IsEmptyIfFlag c.signed.extensions → map string_bytes names ≡ c.signed.valid_principals → (length names == 0) ≡ false → (r : Result (Unit {0}) Error) → JudgesFor accepts given t user c r → IfErr r (λ e. e ≢ Memory → Refuses accepts (fingerprints_of given) t user offered c e)
+not_valid accepts given t user offered c names users own known flags is some (Ok u) valid = tt
+not_valid accepts given t user offered c names users own known flags is some (Err e) judged = λ other. NotValid users own known flags (somebody names _ is some) e (judged other).1
 
 pub only_memory : {T : Type 0} (P : Error → Type 0) (r : Result T Error) → IfErr r (λ e. e ≡ Memory) → IfErr r (λ e. e ≢ Memory → P e)
 only_memory P (Ok x) memory = tt

@@ -1,5 +1,6 @@
--- The critical options for users that the policy knows (PROTOCOL.certkeys).
-use Rattle.std.specs.Prelude.{ℕ, List, [], ◌∷◌, Contains, codes}
+-- The options of user certificates that the policy knows, and the values that sshd(8) reads of them (PROTOCOL.certkeys).
+use Rattle.std.specs.Prelude.{◌≡◌, ◌≢◌, ℕ, List, [], ◌∷◌, Contains, codes}
+use Rattle.ssh_key.specs.model.Lines.{IsWithout}
 use Rattle.ssh_key.specs.model.Options.{CertificateOption}
 
 abbrev pub force_command : List ℕ
@@ -11,6 +12,24 @@ source_address = codes "source-address"
 abbrev pub verify_required : List ℕ
 verify_required = codes "verify-required"
 
--- one of the three
-abbrev pub IsKnown : CertificateOption → Type 0
-IsKnown o = Contains (force_command ∷ source_address ∷ verify_required ∷ []) o.name
+abbrev pub no_touch_required : List ℕ
+no_touch_required = codes "no-touch-required"
+
+-- a command or a list of addresses
+pub record IsArgument (value : List ℕ) : Type 0 where
+  pub some : value ≢ []
+  pub no_zero : IsWithout 0 value
+
+-- one of two with an argument, or the flag, in which nothing stands
+pub data IsKnown (o : CertificateOption) : Type 0 where
+  Command : o.name ≡ force_command → IsArgument o.value → IsKnown o
+  Addresses : o.name ≡ source_address → IsArgument o.value → IsKnown o
+  Verification : o.name ≡ verify_required → o.value ≡ [] → IsKnown o
+
+-- The extensions that are flags.
+abbrev pub flags : List (List ℕ)
+flags = codes "permit-X11-forwarding" ∷ codes "permit-agent-forwarding" ∷ codes "permit-port-forwarding" ∷ codes "permit-pty" ∷ codes "permit-user-rc" ∷ no_touch_required ∷ []
+
+-- Nothing stands in a flag. Any other extension is to be ignored.
+abbrev pub IsEmptyIfFlag : CertificateOption → Type 0
+IsEmptyIfFlag o = Contains flags o.name → o.value ≡ []

@@ -1,5 +1,5 @@
 -- Who may log in with a certificate, and what the login is bound to (PROTOCOL.certkeys; sshd_config(5), TrustedUserCAKeys).
-use Rattle.std.specs.Prelude.{◌≡◌, ◌≢◌, ◌⊎◌, ℕ, List, [], Bool, All, Contains, Some, Result, Ok, Err, is_some, option_map, string_bytes}
+use Rattle.std.specs.Prelude.{◌≡◌, ◌≢◌, ◌⊎◌, ℕ, List, [], Bool, not, All, Contains, Some, Result, Ok, Err, is_some, option_map, string_bytes}
 use Rattle.ssh_key.specs.cert.CertificateFormats.{certificate_format}
 use Rattle.ssh_key.specs.cert.CertificateReaders.{SpellsCertificate}
 use Rattle.ssh_key.specs.cert.Validity.{refusal_error}
@@ -17,15 +17,16 @@ use Rattle.ssh_key.specs.types.Error.{Error}
 use Rattle.ssh_key.specs.types.Error.TheVariants.{CertificateFieldInvalid, Memory}
 use Rattle.ssh_key.specs.types.certificate.Field.{Field}
 use Rattle.ssh_key.specs.types.certificate.Field.TheVariants as field
-use Rattle.login_policy.specs.KnownOptions.{IsKnown}
+use Rattle.login_policy.specs.KnownOptions.{IsEmptyIfFlag, IsKnown}
 use Rattle.login_policy.specs.KnownOptions as options
 use Rattle.login_policy.specs.declared.grant.Grant.{Grant}
 
--- The certificate lets the user in who holds the offered key: it is for users, of that very key, lists the user, has only critical options that are known, and is valid at that time by one of the authorities.
+-- The certificate lets the user in who holds the offered key: it is for users, of that very key, lists the user, has only critical options that are known, nothing in a flag, and is valid at that time by one of the authorities.
 pub record LetsIn (accepts : Question → Bool) (authorities : List Fingerprint) (t : ℕ) (user : List ℕ) (offered : Key) (c : Certificate) : Type 0 where
   pub for_users : c.signed.certificate_type ≡ User
   pub own_key : c.signed.key ≡ offered
   pub known : All IsKnown c.signed.critical_options
+  pub flags : All IsEmptyIfFlag c.signed.extensions
   pub listed : Contains c.signed.valid_principals user
   pub valid : IsValid accepts authorities t c
 
@@ -34,6 +35,7 @@ pub record IsGrantOf (c : Certificate) (g : Grant) : Type 0 where
   pub force_command : option_map string_bytes g.force_command ≡ value_of options.force_command c.signed.critical_options
   pub source_address : option_map string_bytes g.source_address ≡ value_of options.source_address c.signed.critical_options
   pub verify_required : g.verify_required ≡ is_some (value_of options.verify_required c.signed.critical_options)
+  pub touch_required : g.touch_required ≡ not (is_some (value_of options.no_touch_required c.signed.extensions))
   pub extensions : options_of g.extensions ≡ c.signed.extensions
 
 -- The text is the line of a certificate that lets the user in.
@@ -62,8 +64,9 @@ pub data Refuses (accepts : Question → Bool) (authorities : List Fingerprint) 
   ForHosts : c.signed.certificate_type ≢ User → Refuses accepts authorities t user offered c (invalid field.CertType)
   OtherKey : c.signed.certificate_type ≡ User → c.signed.key ≢ offered → Refuses accepts authorities t user offered c (invalid field.PublicKey)
   UnknownOption : c.signed.certificate_type ≡ User → c.signed.key ≡ offered → (All IsKnown c.signed.critical_options → ⊥) → Refuses accepts authorities t user offered c (invalid field.CriticalOptions)
-  NobodyListed : c.signed.certificate_type ≡ User → c.signed.key ≡ offered → All IsKnown c.signed.critical_options → c.signed.valid_principals ≡ [] → Refuses accepts authorities t user offered c (invalid field.ValidPrincipals)
-  NotValid : c.signed.certificate_type ≡ User → c.signed.key ≡ offered → All IsKnown c.signed.critical_options → c.signed.valid_principals ≢ [] → (e : Error) → option_map refusal_error (first_refusal_for accepts authorities t user c) ≡ Some e → Refuses accepts authorities t user offered c e
+  DataInFlag : c.signed.certificate_type ≡ User → c.signed.key ≡ offered → All IsKnown c.signed.critical_options → (All IsEmptyIfFlag c.signed.extensions → ⊥) → Refuses accepts authorities t user offered c (invalid field.Extensions)
+  NobodyListed : c.signed.certificate_type ≡ User → c.signed.key ≡ offered → All IsKnown c.signed.critical_options → All IsEmptyIfFlag c.signed.extensions → c.signed.valid_principals ≡ [] → Refuses accepts authorities t user offered c (invalid field.ValidPrincipals)
+  NotValid : c.signed.certificate_type ≡ User → c.signed.key ≡ offered → All IsKnown c.signed.critical_options → All IsEmptyIfFlag c.signed.extensions → c.signed.valid_principals ≢ [] → (e : Error) → option_map refusal_error (first_refusal_for accepts authorities t user c) ≡ Some e → Refuses accepts authorities t user offered c e
 
 -- The text is the line of no certificate, or of one that is refused for that.
 abbrev pub RefusesLine : (Question → Bool) → List Fingerprint → ℕ → List ℕ → Key → List ℕ → Error → Type 0

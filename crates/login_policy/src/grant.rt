@@ -5,7 +5,7 @@ ghost use Rattle.ssh_key.specs.cert.CertificateValues.{certificate_of};
 ghost use Rattle.ssh_key.specs.types.Error.TheVariants.{Memory};
 ghost use Rattle.login_policy.specs.Logins.{IsGrantOf};
 
-use crate::options::{FORCE_COMMAND, SOURCE_ADDRESS, VERIFY_REQUIRED};
+use crate::options::{FORCE_COMMAND, NO_TOUCH_REQUIRED, SOURCE_ADDRESS, VERIFY_REQUIRED};
 use ssh_key::certificate::OptionsMap;
 use ssh_key::{Certificate, Result};
 use std::alloc::Global;
@@ -13,12 +13,21 @@ use std::alloc::Global;
 /// What a certificate binds a login to, and what it permits (PROTOCOL.certkeys).
 #[derive(Debug, Drop)]
 pub struct Grant {
-    /// The one command that may run, whatever the client asks for.
+    /// The one command that may run, whatever the client asks for. It is never empty.
     pub force_command: Option<String>,
-    /// The addresses that the login may come from.
+    /// The addresses that the login may come from, never empty: addresses and networks in CIDR
+    /// notation, with commas between. Refuse the login for a list that is malformed, also where an
+    /// address in it matches, as sshd(8) does.
     pub source_address: Option<String>,
-    /// Whether a security key has to have verified its user.
+    /// Whether a security key has to have verified its user: the bit 0x04 in the flags of its
+    /// signature, where those of `touch_required` are. Refuse a signature without it.
     pub verify_required: bool,
+    /// Whether somebody has to have touched a security key: always, but with the extension
+    /// `no-touch-required`. Then refuse the client's signature for the login if the bit 0x01 of its
+    /// flags is not set. These are the fifth byte from the end of `Signature::as_bytes`, before the
+    /// counter, and byte 32 of the message that the verifier is asked about (PROTOCOL.u2f). Nothing
+    /// here looks at them, and a key that is none of a device has none.
+    pub touch_required: bool,
     /// What is permitted besides. An extension that is not known is to be ignored.
     pub extensions: OptionsMap,
 }
@@ -35,6 +44,7 @@ pub(crate) fn grant_of(alloc: Global, certificate: &Certificate) -> Result<Grant
         force_command,
         source_address,
         verify_required: options.contains_key(VERIFY_REQUIRED),
+        touch_required: !certificate.extensions().contains_key(NO_TOUCH_REQUIRED),
         extensions: certificate.extensions().try_clone(alloc)?,
     })
 }

@@ -11,7 +11,7 @@ ghost use Rattle.ssh_key.specs.types.Error.TheVariants.{Memory};
 ghost use Rattle.login_policy.specs.Logins.{GrantsExactly, LetsIn, NeedsMemory, Refuses, RefusesLine};
 
 use crate::grant::{Grant, grant_of};
-use crate::options::are_known;
+use crate::options::{are_flags_empty, are_known};
 use ssh_key::certificate::Field;
 use ssh_key::laws::{compared_keys, lines};
 use ssh_key::public::KeyData;
@@ -20,18 +20,20 @@ use std::alloc::Global;
 
 /// Lets a user in who holds the offered key, if the line has a certificate for users of just that
 /// key, which lists the user's name, is valid at that time by one of the authorities with these
-/// fingerprints, and has only critical options that are known here: `force-command`,
-/// `source-address` and `verify-required` (PROTOCOL.certkeys).
+/// fingerprints, and has options that sshd(8) reads: of critical ones only `force-command` and
+/// `source-address`, not empty and without a zero byte, and `verify-required`, and no data in it or
+/// in the extensions that are flags, as `permit-pty` (PROTOCOL.certkeys).
 ///
 /// Out of memory aside, it refuses all others with the first of these: the errors of
 /// `Certificate::from_openssh`; `CertificateFieldInvalid` with `CertType` for a certificate for
 /// hosts, with `PublicKey` for one of another key, with `CriticalOptions` where an option is not
-/// known, and with `ValidPrincipals` if it lists no principal (such a certificate lets nobody in:
-/// sshd_config(5), `TrustedUserCAKeys`); the errors of `Certificate::validate_principal_at`. Where
-/// the line is no certificate's, `Memory` means what it means of `Certificate::from_openssh`.
+/// known or sshd reads no such value, with `Extensions` where data stand in a flag, and with
+/// `ValidPrincipals` if it lists no principal (such a certificate lets nobody in: sshd_config(5),
+/// `TrustedUserCAKeys`); the errors of `Certificate::validate_principal_at`. Where the line is no
+/// certificate's, `Memory` means what it means of `Certificate::from_openssh`.
 ///
 /// Whoever calls it has asked the client for a signature under the offered key, and does what the
-/// grant says.
+/// grant says, the flags in a security key's signature included.
 pub fn log_in<V: RawVerifier>(
     alloc: Global,
     line: &str,
@@ -89,6 +91,9 @@ fn check<V: RawVerifier>(
     }
     if !are_known(certificate.critical_options()) {
         return Err(Error::CertificateFieldInvalid(Field::CriticalOptions));
+    }
+    if !are_flags_empty(certificate.extensions()) {
+        return Err(Error::CertificateFieldInvalid(Field::Extensions));
     }
     if certificate.valid_principals().is_empty() {
         return Err(Error::CertificateFieldInvalid(Field::ValidPrincipals));

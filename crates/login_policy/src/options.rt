@@ -1,8 +1,9 @@
-//! The critical options that the policy knows.
+//! The options that the policy knows, and the values that sshd(8) reads of them.
 
-ghost use Rattle.std.specs.Prelude.{◌↔◌, IsTrue, All};
+ghost use Rattle.std.specs.Prelude.{◌≡◌, ◌↔◌, [], IsTrue, All, bytes_eq, map};
+ghost use Rattle.std.specs.List.{list_any};
 ghost use Rattle.ssh_key.specs.options.OptionMaps.{options_of};
-ghost use Rattle.login_policy.specs.KnownOptions.{IsKnown};
+ghost use Rattle.login_policy.specs.KnownOptions.{IsArgument, IsEmptyIfFlag, IsKnown, flags};
 
 use ssh_key::certificate::OptionsMap;
 
@@ -15,9 +16,95 @@ pub(crate) const SOURCE_ADDRESS: &str = "source-address";
 /// That a security key has to have verified its user.
 pub(crate) const VERIFY_REQUIRED: &str = "verify-required";
 
-/// Whether each of the options is one that the policy knows. Does not allocate.
+/// That nobody has to have touched a security key.
+pub(crate) const NO_TOUCH_REQUIRED: &str = "no-touch-required";
+
+/// Whether the policy knows each of the critical options, and its value is one that sshd reads.
+/// Does not allocate.
 pub(crate) fn are_known(options: &OptionsMap) -> bool
     ensures { IsTrue result ↔ All IsKnown (options_of options.now) }
 {
-    options.names_are_among(&[FORCE_COMMAND, SOURCE_ADDRESS, VERIFY_REQUIRED])
+    for (name, value) in options.iter() {
+        if !is_known(name, value) {
+            return false;
+        }
+    }
+    true
+}
+
+/// Whether nothing stands in the extensions that are flags. Does not allocate.
+pub(crate) fn are_flags_empty(extensions: &OptionsMap) -> bool
+    ensures { IsTrue result ↔ All IsEmptyIfFlag (options_of extensions.now) }
+{
+    for (name, value) in extensions.iter() {
+        if !is_empty_if_flag(name, value) {
+            return false;
+        }
+    }
+    true
+}
+
+/// Whether the policy knows a critical option of that name, and sshd reads the value.
+fn is_known(name: &str, value: &str) -> bool
+    ensures { IsTrue result ↔ IsKnown (record { name = name.now; value = value.now }) }
+{
+    if is_same(name, FORCE_COMMAND) {
+        return is_argument(value);
+    }
+    if is_same(name, SOURCE_ADDRESS) {
+        return is_argument(value);
+    }
+    if is_same(name, VERIFY_REQUIRED) {
+        return value.is_empty();
+    }
+    false
+}
+
+/// Whether it can be a command or a list of addresses: neither is empty, and sshd reads no byte 0.
+fn is_argument(value: &str) -> bool
+    ensures { IsTrue result ↔ IsArgument value.now }
+{
+    !value.is_empty() && !value.contains('\0')
+}
+
+/// Whether nothing stands in the value, if the name is that of a flag.
+fn is_empty_if_flag(name: &str, value: &str) -> bool
+    ensures { IsTrue result
+        ↔ IsEmptyIfFlag (record { name = name.now; value = value.now }) }
+{
+    if is_flag(name) {
+        return value.is_empty();
+    }
+    true
+}
+
+/// Whether it is an extension of which sshd reads the name alone.
+fn is_flag(name: &str) -> bool
+    ensures { result ≡ list_any (bytes_eq name.now) flags }
+{
+    is_among(
+        name,
+        &[
+            "permit-X11-forwarding",
+            "permit-agent-forwarding",
+            "permit-port-forwarding",
+            "permit-pty",
+            "permit-user-rc",
+            NO_TOUCH_REQUIRED,
+        ],
+    )
+}
+
+/// Whether the name is one of these.
+fn is_among(name: &str, names: &[&str]) -> bool
+    ensures { result ≡ list_any (bytes_eq name.now) (map (λ n. n.now) names.now) }
+{
+    names.iter().any(|other| name == *other)
+}
+
+/// Whether both are the same text.
+fn is_same(text: &str, other: &str) -> bool
+    ensures { IsTrue result ↔ (text.now ≡ other.now) }
+{
+    text == other
 }

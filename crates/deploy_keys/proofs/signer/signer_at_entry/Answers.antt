@@ -1,12 +1,16 @@
 use Rattle.std.proofs.Common.{◌≡◌, ◌∙◌, true, ap, sym}
 use Rattle.std.proofs.lemmas.Result.{err_from_is_err_and}
 use Rattle.ssh_key.specs.public.PublicKeys.{comment_of}
+use Rattle.deploy_keys.proofs.Signers.{none_reserved}
 use Rattle.deploy_keys.proofs.signer.signer_at_entry.Goals as goal
 
 pub returns-then-not-is_empty : goal.returns-then-not-is_empty
 returns-then-not-is_empty g c = λ key signed.
     let yes : c.is_empty.result ≡ true = c.is_empty.ensures.1 (c.options.ensures ∙ signed.alone) in
     absurd cc
+
+pub returns-then-has_reserved : goal.returns-then-has_reserved
+returns-then-has_reserved g c = λ key signed. c.has_reserved.ensures.0 c.if-has_reserved.true signed.nothing_reserved
 
 pub returns-in_err-signed : goal.returns-in_err-signed
 returns-in_err-signed g c =
@@ -27,6 +31,7 @@ pub returns : goal.returns
 returns g c = λ key. (
   record {
     alone = sym c.options.ensures ∙ c.is_empty.ensures.0 c.if-not-is_empty.false;
+    nothing_reserved = none_reserved _ _ c.has_reserved.ensures c.if-has_reserved.false;
     verified = (c.in_ok-signed.ensures.answer key).0 c.if-not-signed.false;
   },
   c.in_ok-text.ensures.value ∙ c.comment.ensures ∙ ap comment_of c.public_key.ensures,

@@ -1,6 +1,5 @@
 use Rattle.std.proofs.Common.{inl, inr}
 use Rattle.std.proofs.lemmas.Result.{err_from_is_err_and}
-use Rattle.ssh_key.specs.cert.CertificateValues.{certificate_of, comment_of}
 use Rattle.ssh_key.proofs.Acceptance.{other_cause}
 use Rattle.login_policy.proofs.Logins.{granted, needed, no_login, no_other, of_a_line, only_memory}
 use Rattle.login_policy.proofs.login.log_in.Goals as goal

@@ -1,0 +1,125 @@
+"""Certificates for logins with options that ssh-keygen writes for nobody, and logins by security keys without a device, for
+checks/callers. A real sshd says of each whether it lets the user in, and why not."""
+import base64
+import os
+import shlex
+import subprocess
+import time
+
+from lib.harness import string, take
+from lib.signatures import signed
+
+from .security_key_agent import Agent
+from .security_key_calls import TOUCHED, VERIFIED, SecurityKey
+
+CRITICAL, EXTENSIONS = ("refused: certificate field invalid: " + it for it in ("critical options", "extensions"))
+INVALID = "refused: certificate validation failed"
+FLAGS = [
+    "no-touch-required", "permit-X11-forwarding", "permit-agent-forwarding", "permit-port-forwarding", "permit-pty", "permit-user-rc",
+]  # fmt: skip
+DATA, ADDRESSES, UNREAD = "corrupt (extra data)", "source-address contents invalid", 'parse "{}"'
+# what sshd says where it lets the user in
+LET_IN = "Accepted publickey"
+# names, the critical options and the extensions with their data, what the program answers, and what sshd says
+CASES = [
+    ("an empty command", {"force-command": b""}, {}, CRITICAL, UNREAD.format("force-command")),
+    ("empty addresses", {"source-address": b""}, {}, CRITICAL, UNREAD.format("source-address")),
+    ("a zero byte in a command", {"force-command": string(b"a\0b")}, {}, CRITICAL, UNREAD.format("force-command")),
+    ("a zero byte in addresses", {"source-address": string(b"a\0b")}, {}, CRITICAL, UNREAD.format("source-address")),
+    ("data in verify-required", {"verify-required": string(b"1")}, {}, CRITICAL, DATA),
+    ("an empty string in verify-required", {"verify-required": string(b"")}, {}, INVALID, DATA),
+    *((f"data in {it}", {}, {it: string(b"1")}, EXTENSIONS, DATA) for it in FLAGS),
+    ("an empty string in a flag", {}, {"permit-pty": string(b"")}, INVALID, DATA),
+    ("a flag", {}, {"permit-pty": b""}, "ok touch-required permit-pty=", LET_IN),
+    ("data in an extension that is not known", {}, {"x@example.com": string(b"1")}, "ok touch-required x@example.com=1", LET_IN),
+    # stricter here
+    ("an empty string as a command", {"force-command": string(b"")}, {}, CRITICAL, LET_IN),
+    ("a zero byte behind a command", {"force-command": string(b"true\0")}, {}, CRITICAL, LET_IN),
+    # the caller's to refuse
+    ("addresses that are none", {"source-address": string(b"nowhere")}, {}, "ok source-address=nowhere touch-required", ADDRESSES),
+    ("addresses, one of them none", {"source-address": string(b"0.0.0.0/0,x")}, {}, "ok source-address=0.0.0.0/0,x touch-required", ADDRESSES),
+]  # fmt: skip
+# by a security key: names, ssh-keygen's words, the flags that the key signs with, and what the program answers
+BY_DEVICE = [
+    ("touched", [], TOUCHED, "ok touch-required"),
+    ("untouched", [], 0, "ok touch-required"),
+    ("verified, but untouched", [], VERIFIED, "ok touch-required"),
+    ("untouched, which is let be", ["-O", "no-touch-required"], 0, "ok no-touch-required="),
+    ("not verified", ["-O", "verify-required"], TOUCHED, "ok verify-required touch-required"),
+    ("verified", ["-O", "verify-required"], TOUCHED | VERIFIED, "ok verify-required touch-required"),
+    ("verified, and untouched", ["-O", "verify-required", "-O", "no-touch-required"], VERIFIED, "ok verify-required no-touch-required="),
+]  # fmt: skip
+
+
+def pairs(options):
+    return string(b"".join(string(name.encode()) + string(data) for name, data in options.items()))
+
+
+def certificate(maker, authority, key, user, critical, extensions):
+    """The line of a certificate for users with these options, valid now, as it is put together here (PROTOCOL.certkeys)."""
+    signer, now = maker.read(f"{authority}.pub"), int(time.time())
+    fields = [string(b"ssh-ed25519-cert-v01@openssh.com"), string(os.urandom(16)), take(base64.b64decode(key.split()[1]))[1]]
+    fields += [(1).to_bytes(8, "big"), (1).to_bytes(4, "big"), string(b"id"), string(string(user.encode()))]
+    fields += [(now - 300).to_bytes(8, "big"), (now + 300).to_bytes(8, "big"), pairs(critical), pairs(extensions), string(b"")]
+    message = b"".join([*fields, string(base64.b64decode(signer.split()[1]))])
+    blob = message + string(signed(maker.path(authority), signer, message))
+    return f"ssh-ed25519-cert-v01@openssh.com {base64.b64encode(blob).decode()}"
+
+
+def said(maker, sshd, user, key, line, agent="none"):
+    """What sshd writes of a login by that key, which the agent may have, and that certificate."""
+    log, shown = maker.path("option.log"), maker.path("option-cert.pub")
+    with open(shown, "w", encoding="ascii") as file:
+        file.write(line + "\n")
+    if os.path.exists(log):
+        os.remove(log)
+    proxy = f"{sshd} -i -f {shlex.quote(maker.path('config'))} -E {shlex.quote(log)}"
+    words = ["ssh", "-F", "none", "-T", "-o", f"ProxyCommand={proxy}", "-o", f"IdentityFile={maker.path(key)}"]
+    for option in (
+        "StrictHostKeyChecking=no", "UserKnownHostsFile=/dev/null", "BatchMode=yes", "IdentitiesOnly=yes", f"IdentityAgent={agent}",
+        "LogLevel=ERROR", f"CertificateFile={shown}",
+    ):  # fmt: skip
+        words += ["-o", option]
+    quiet = {"stdin": subprocess.DEVNULL, "stdout": subprocess.DEVNULL, "stderr": subprocess.DEVNULL}
+    subprocess.run([*words, f"{user}@host", "true"], **quiet, timeout=60, check=False)
+    with open(log, encoding="utf-8", errors="replace") as file:
+        return file.read()
+
+
+def compared(wanted, log, is_as_wanted):
+    """The answer that is wanted, or what sshd wrote instead."""
+    return wanted if is_as_wanted else f"{wanted}, and sshd writes {log}"
+
+
+def login_options(maker, sshd, user, authority, told_of_certificate):
+    """Names, lines and answers: the configuration that trusts the authority stands in the folder."""
+    trusted = maker.fingerprint(authority)
+
+    def question(name, key, line, answer):
+        asked = ["login", user, str(int(time.time())), key, line, trusted]
+        return f"login of sshd: {name}", [told_of_certificate(line)], "\t".join(asked), answer
+
+    key = maker.read("user.pub")
+    for name, critical, extensions, wanted, says in CASES:
+        line = certificate(maker, authority, key, user, critical, extensions)
+        log = said(maker, sshd, user, "user", line)
+        is_same = says in log and (says == LET_IN) == (LET_IN in log)
+        yield question(name, key, line, compared(wanted, log, is_same))
+    for kind in ("Ed25519", "ECDSA P-256"):
+        yield from (question(*it) for it in by_device(maker, sshd, user, authority, kind))
+
+
+def by_device(maker, sshd, user, authority, kind):
+    """The same by a security key. sshd lets the user in exactly where the flags of the signature are what the grant asks for."""
+    device = SecurityKey(kind, b"ssh:")
+    with open(maker.path("device.pub"), "w", encoding="ascii") as file:
+        file.write(device.line() + "\n")
+    for number, (name, words, flags, wanted) in enumerate(BY_DEVICE):
+        line = maker.certificate(authority, "device", "-n", user, "-V", "-5m:+5m", "-O", "clear", *words)
+        agent = Agent(maker.path(f"{kind[:2]}{number}.agent"), device, flags)
+        log = said(maker, sshd, user, "device", line, agent.path)
+        agent.shutdown()
+        agent.server_close()
+        asks = TOUCHED * (" touch-required" in wanted) | VERIFIED * (" verify-required" in wanted)
+        is_met = flags & asks == asks
+        yield f"by a security key ({kind}), {name}", device.line(), line, compared(wanted, log, (LET_IN in log) == is_met)
