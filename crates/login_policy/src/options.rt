@@ -1,6 +1,6 @@
 //! The options that the policy knows, and the values that sshd(8) reads of them.
 
-ghost use Rattle.std.specs.Prelude.{◌≡◌, ◌↔◌, [], IsTrue, All, bytes_eq, map};
+ghost use Rattle.std.specs.Prelude.{◌≡◌, ◌↔◌, IsTrue, All, bytes_eq, map};
 ghost use Rattle.std.specs.List.{list_any};
 ghost use Rattle.ssh_key.specs.options.OptionMaps.{options_of};
 ghost use Rattle.login_policy.specs.KnownOptions.{IsArgument, IsEmptyIfFlag, IsKnown, flags};
