@@ -17,9 +17,9 @@ Decides P all left = All P all ↔ All P left
 
 pub passed : (P : CertificateOption → Type 0) (all left rest : List CertificateOption) (o : CertificateOption) → Decides P all left → left ≡ o ∷ rest → P o → Decides P all rest
 passed P all left rest o decides is holds = (
-    λ each. All-tail P o rest (subst (λ (os : List CertificateOption). All P os) is (decides.0 each)),
-    λ others. decides.1 (subst (λ (os : List CertificateOption). All P os) (sym is) (All-cons P o rest holds others)),
-  )
+  λ each. All-tail P o rest (subst (λ (os : List CertificateOption). All P os) is (decides.0 each)),
+  λ others. decides.1 (subst (λ (os : List CertificateOption). All P os) (sym is) (All-cons P o rest holds others)),
+)
 
 pub stopped : (P : CertificateOption → Type 0) (all left rest : List CertificateOption) (o : CertificateOption) → Decides P all left → left ≡ o ∷ rest → (P o → ⊥) → All P all → ⊥
 stopped P all left rest o decides is fails each = fails (All-head P o rest (subst (λ (os : List CertificateOption). All P os) is (decides.0 each)))
@@ -56,28 +56,44 @@ no_addresses : source_address ≡ verify_required → ⊥
 no_addresses = differ source_address verify_required refl
 
 pub command : (o : CertificateOption) (r : Bool) → o.name ≡ force_command → (IsTrue r ↔ IsArgument o.value) → IsTrue r ↔ IsKnown o
-command o r is judged = (λ yes. Command is (judged.0 yes), λ known. judged.1 (elim known [
-    Command same given ↦ given
+command o r is judged = (
+  λ yes. Command is (judged.0 yes),
+  λ known. judged.1 (elim known [
+    | Command same given ↦ given
     | Addresses same given ↦ given
-    | Verification same nothing ↦ absurd (no_command (sym is ∙ same)) ]))
+    | Verification same nothing ↦ absurd (no_command (sym is ∙ same))
+  ]),
+)
 
 pub addresses : (o : CertificateOption) (r : Bool) → o.name ≡ source_address → (IsTrue r ↔ IsArgument o.value) → IsTrue r ↔ IsKnown o
-addresses o r is judged = (λ yes. Addresses is (judged.0 yes), λ known. judged.1 (elim known [
-    Command same given ↦ given
+addresses o r is judged = (
+  λ yes. Addresses is (judged.0 yes),
+  λ known. judged.1 (elim known [
+    | Command same given ↦ given
     | Addresses same given ↦ given
-    | Verification same nothing ↦ absurd (no_addresses (sym is ∙ same)) ]))
+    | Verification same nothing ↦ absurd (no_addresses (sym is ∙ same))
+  ]),
+)
 
 pub verification : (o : CertificateOption) (r : Bool) → o.name ≡ verify_required → (IsTrue r ↔ (o.value ≡ [])) → IsTrue r ↔ IsKnown o
-verification o r is judged = (λ yes. Verification is (judged.0 yes), λ known. judged.1 (elim known [
-    Command same given ↦ absurd (no_command (sym same ∙ is))
+verification o r is judged = (
+  λ yes. Verification is (judged.0 yes),
+  λ known. judged.1 (elim known [
+    | Command same given ↦ absurd (no_command (sym same ∙ is))
     | Addresses same given ↦ absurd (no_addresses (sym same ∙ is))
-    | Verification same nothing ↦ nothing ]))
+    | Verification same nothing ↦ nothing
+  ]),
+)
 
 pub unknown : (o : CertificateOption) → (o.name ≡ force_command → ⊥) → (o.name ≡ source_address → ⊥) → (o.name ≡ verify_required → ⊥) → IsTrue false ↔ IsKnown o
-unknown o first second third = (λ yes. absurd cc, λ known. absurd (elim known [
-    Command same given ↦ first same
+unknown o first second third = (
+  λ yes. absurd cc,
+  λ known. absurd (elim known [
+    | Command same given ↦ first same
     | Addresses same given ↦ second same
-    | Verification same nothing ↦ third same ]))
+    | Verification same nothing ↦ third same
+  ]),
+)
 
 -- ---- flags
 
