@@ -232,8 +232,8 @@ uint32_t sshkey_certificate_validate(const uint8_t *certificate, size_t certific
 
 /* The same, and the certificate lists the principal, or no principal at all; where it does not,
  * SSHKEY_UNLISTED_PRINCIPAL, which is looked at last. SSHKEY_TEXT for a principal that is not
- * UTF-8, whatever the certificate is. A certificate that lists none allows everybody here, while
- * sshd refuses it for a user. */
+ * UTF-8, whatever the certificate is. A certificate that lists none allows everybody here; for a
+ * user sshd refuses it by TrustedUserCAKeys, and by a line cert-authority sshd 9.2 takes it. */
 uint32_t sshkey_certificate_validate_for(const uint8_t *certificate, size_t certificate_length,
                                          uint64_t unix_timestamp, const uint8_t *principal,
                                          size_t principal_length, const sshkey_sha256 *authorities,

@@ -69,8 +69,9 @@ def signed(maker, name, content, flipped, reserved):
     os.remove(path + ".sig")
     if reserved:
         key = take(blob[len(MAGIC) :])[0]
-        made = by_key(maker.path(name), bare(maker.read(f"{name}.pub")), signed_data(NAMESPACE.encode(), reserved, b"sha512", content))
-        return MAGIC + b"".join(map(string, (key, NAMESPACE.encode(), reserved, b"sha512", made)))
+        namespace, name_of_hash, line = NAMESPACE.encode(), b"sha512", bare(maker.read(f"{name}.pub"))
+        made = by_key(maker.path(name), line, signed_data(namespace, reserved, name_of_hash, content))
+        return MAGIC + b"".join(map(string, (key, namespace, reserved, name_of_hash, made)))
     return blob[:-1] + bytes([blob[-1] ^ 1]) if flipped else blob
 
 

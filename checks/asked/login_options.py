@@ -18,6 +18,8 @@ FLAGS = [
     "no-touch-required", "permit-X11-forwarding", "permit-agent-forwarding", "permit-port-forwarding", "permit-pty", "permit-user-rc",
 ]  # fmt: skip
 DATA, ADDRESSES, UNREAD = "corrupt (extra data)", "source-address contents invalid", 'parse "{}"'
+# how many principals OpenSSH reads
+MOST = 256
 # what sshd says where it lets the user in
 LET_IN = "Accepted publickey"
 # names, the critical options and the extensions with their data, what the program answers, and what sshd says
@@ -32,7 +34,7 @@ CASES = [
     ("an empty string in a flag", {}, {"permit-pty": string(b"")}, INVALID, DATA),
     ("a flag", {}, {"permit-pty": b""}, "ok touch-required permit-pty=", LET_IN),
     ("data in an extension that is not known", {}, {"x@example.com": string(b"1")}, "ok touch-required x@example.com=1", LET_IN),
-    # stricter here
+    # stricter here: an empty value is refused in either spelling
     ("an empty string as a command", {"force-command": string(b"")}, {}, CRITICAL, LET_IN),
     ("a zero byte behind a command", {"force-command": string(b"true\0")}, {}, CRITICAL, LET_IN),
     # the caller's to refuse
@@ -55,11 +57,11 @@ def pairs(options):
     return string(b"".join(string(name.encode()) + string(data) for name, data in options.items()))
 
 
-def certificate(maker, authority, key, user, critical, extensions):
-    """The line of a certificate for users with these options, valid now, as it is put together here (PROTOCOL.certkeys)."""
+def certificate(maker, authority, key, users, critical, extensions):
+    """The line of a certificate for these users with these options, valid now, put together here (PROTOCOL.certkeys)."""
     signer, now = maker.read(f"{authority}.pub"), int(time.time())
     fields = [string(b"ssh-ed25519-cert-v01@openssh.com"), string(os.urandom(16)), take(base64.b64decode(key.split()[1]))[1]]
-    fields += [(1).to_bytes(8, "big"), (1).to_bytes(4, "big"), string(b"id"), string(string(user.encode()))]
+    fields += [(1).to_bytes(8, "big"), (1).to_bytes(4, "big"), string(b"id"), string(users)]
     fields += [(now - 300).to_bytes(8, "big"), (now + 300).to_bytes(8, "big"), pairs(critical), pairs(extensions), string(b"")]
     message = b"".join([*fields, string(base64.b64decode(signer.split()[1]))])
     blob = message + string(signed(maker.path(authority), signer, message))
@@ -87,8 +89,8 @@ def said(maker, sshd, user, key, line, agent="none"):
 
 
 def compared(wanted, log, is_as_wanted):
-    """The answer that is wanted, or what sshd wrote instead."""
-    return wanted if is_as_wanted else f"{wanted}, and sshd writes {log}"
+    """The answer that is wanted, or what OpenSSH wrote instead."""
+    return wanted if is_as_wanted else f"{wanted}, and OpenSSH writes {log}"
 
 
 def login_options(maker, sshd, user, authority, told_of_certificate):
@@ -101,16 +103,20 @@ def login_options(maker, sshd, user, authority, told_of_certificate):
 
     key = maker.read("user.pub")
     for name, critical, extensions, wanted, says in CASES:
-        line = certificate(maker, authority, key, user, critical, extensions)
+        line = certificate(maker, authority, key, string(user.encode()), critical, extensions)
         log = said(maker, sshd, user, "user", line)
         is_same = says in log and (says == LET_IN) == (LET_IN in log)
         yield question(name, key, line, compared(wanted, log, is_same))
+    for number, status in ((MOST, 0), (MOST + 1, 1)):
+        line = certificate(maker, authority, key, string(user.encode()) * number, {}, {})
+        shown = maker.run("-L", "-f", "-", input=f"{line}\n".encode(), check=False)
+        yield question(f"{number} principals", key, line, compared("ok touch-required", shown, shown.returncode == status))
     for kind in ("Ed25519", "ECDSA P-256"):
         yield from (question(*it) for it in by_device(maker, sshd, user, authority, kind))
 
 
 def by_device(maker, sshd, user, authority, kind):
-    """The same by a security key. sshd lets the user in exactly where the flags of the signature are what the grant asks for."""
+    """The same by a security key. sshd lets the user in exactly where the signature's flags are what the grant asks for."""
     device = SecurityKey(kind, b"ssh:")
     with open(maker.path("device.pub"), "w", encoding="ascii") as file:
         file.write(device.line() + "\n")

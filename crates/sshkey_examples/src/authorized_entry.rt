@@ -21,7 +21,10 @@ use std::alloc::Global;
 /// when out of memory.
 ///
 /// Whoever calls it has asked the client for a signature under the offered key, and does what the
-/// options of the entry say: an option that is not known refuses the login.
+/// options of the entry say: an option that is not known refuses the login. So does a security
+/// key's signature whose flags lack the bit 0x01, that somebody touched it, unless the option
+/// `no-touch-required` stands there, or 0x04, that it verified its user, where `verify-required`
+/// does; the flags are the fifth byte from the end of `Signature::as_bytes`.
 pub fn entry_for(alloc: Global, text: &str, offered: &KeyData) -> Result<Option<OpenSshEntry>>
     requires { IsKey (key_of offered.now) }
     ensures found { IfOk result (FindsEntry (filled_lines text.now) (key_of offered.now)) }
