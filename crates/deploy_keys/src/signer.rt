@@ -21,8 +21,8 @@ use std::alloc::Global;
 ///
 /// `keys` is read as sshd(8) reads authorized_keys. A line that is no entry, or one with options, is
 /// passed over: no deploy key stands there. `signature` is what stands in the armour of
-/// `ssh-keygen -Y sign`, decoded. Nobody has made one with reserved bytes: ssh-keygen verifies each
-/// as if there were none. Unless memory runs out, it fails exactly if the bytes spell no SSH
+/// `ssh-keygen -Y sign`, decoded. One with reserved bytes counts for nobody: ssh-keygen verifies it
+/// as if these were empty. Unless memory runs out, it fails exactly if the bytes spell no SSH
 /// signature, with the refusal of `SshSig::from_bytes`. Where they spell none, `Memory` means that
 /// an allocation for what stands in front of their fault failed: a length that they only state
 /// allocates nothing.
@@ -124,7 +124,7 @@ fn signer_at_entry<V: RawVerifier>(
     Ok(Some(text))
 }
 
-/// Whether bytes stand in the field that is reserved. ssh-keygen verifies none of these.
+/// Whether bytes stand in the field that is reserved, which ssh-keygen takes to be empty.
 fn has_reserved(signature: &SshSig) -> bool
     ensures { IsTrue result ↔ ((ssh_signature_of signature.now).reserved ≢ []) }
 {
