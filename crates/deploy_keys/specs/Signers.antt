@@ -14,7 +14,7 @@ use Rattle.ssh_key.specs.sshsig.SshSignatureReaders.{SpellsSshSignature, ssh_sig
 use Rattle.ssh_key.specs.types.Error.{Error}
 use Rattle.ssh_key.specs.types.Error.TheVariants.{Memory}
 
--- The entry has no options, and the signature of the content is verified under its key and in the namespace, with nothing reserved (ssh-keygen verifies no other).
+-- The entry has no options, and the signature of the content is verified under its key and in the namespace, with nothing reserved (ssh-keygen takes that field to be empty).
 pub record HasSigned (accepts : Question → Bool) (namespace content : List ℕ) (f : SshSignature) (a : AuthorizedKey) : Type 0 where
   pub alone : a.options ≡ []
   pub nothing_reserved : f.reserved ≡ []
