@@ -172,7 +172,8 @@ enum {
  * says. A security key's question is already the one about the plain key within and about what the
  * device signed (PROTOCOL.u2f): 32 bytes of digest, a byte of flags, four of the counter, and 32 of
  * digest. Whether somebody touched it (bit 0x01 of message[32]) or was verified (bit 0x04) is yours
- * to judge. */
+ * to judge, of the client's signature and only where the key that was given has a name sk-..: in
+ * the message of another key that byte is the client's data. */
 typedef struct {
   sshkey_part key;
   sshkey_part message;
@@ -476,8 +477,9 @@ typedef struct {
  * SSHKEY_END if they have no more, SSHKEY_FORMAT if they are no list of options, also behind the
  * option that is asked for, and SSHKEY_TEXT for bytes that are not UTF-8. A room of the options'
  * length is enough. A `front` of no bytes has no options. Each call reads all of them, so do not go
- * on for ever: refuse an entry with an option that you do not know, and one that names an option
- * twice, but for environment, permitlisten and permitopen, which may come more than once. */
+ * on for ever: refuse an entry with an option that you do not know, one that names an option twice,
+ * but for environment, permitlisten and permitopen, which may come more than once, and one that has
+ * no value where sshd wants one, as command alone, or has one where it wants none. */
 uint32_t sshkey_nth_option(const uint8_t *options, size_t options_length, size_t number,
                            uint8_t *room, size_t room_length, sshkey_entry_option_parts *answer);
 
