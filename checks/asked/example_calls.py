@@ -116,15 +116,17 @@ def is_untold(ran, script):
 def check_closed(count, built, maker):
     """Where the library can't be loaded, or input or output is closed, the programs in Python can't tell."""
     paths = {"key": maker.path("holder.pub"), "issuer": maker.path("issuer")}
+    inputs = {"check.py certificates": maker.read("holder-cert.pub"), "check.py signature": armoured(maker.signature("holder", "x"))}
+    inputs["host.py"] = maker.read("holder.pub")
     for name, (script, *words) in PROGRAMS.items():
-        words = [it.format(**paths) for it in words]
+        words, given = [it.format(**paths) for it in words], inputs.get(name, "")
         _, _, *program = python(built, script)
         for case, library in (("no library", maker.path("none")), ("another library", "libc.so.6"), ("a text for a library", paths["key"])):
-            ran = run([*program, *words], input="", env={**os.environ, "SSHKEY_LIBRARY": library})
+            ran = run([*program, *words], input=given, env={**os.environ, "SSHKEY_LIBRARY": library})
             count.check(f"{name}: {case}", is_untold(ran, script), ran.returncode, ran.stdout, ran.stderr)
         # issue.py has no input
         for case, closing in (("input", "<&-"), ("output", ">&-"))[script == "issue.py" :]:
-            ran = run(["/bin/sh", "-c", f'exec "$@" {closing}', "sh", *python(built, script), *words], input="")
+            ran = run(["/bin/sh", "-c", f'exec "$@" {closing}', "sh", *python(built, script), *words], input=given)
             count.check(f"{name}: standard {case} is closed", is_untold(ran, script), ran.returncode, ran.stdout, ran.stderr)
 
 
@@ -170,17 +172,26 @@ def check_host_words(count, built, maker):
 
 
 def check_copies(count, built, maker):
-    """A package that stands elsewhere takes no library of the folders above it."""
-    environment = {name: value for name, value in os.environ.items() if name != "SSHKEY_LIBRARY"}
+    """A package that stands elsewhere takes no library of the folders above it, and a link to the one of the sources theirs."""
+
+    def loaded(folder):
+        words = [sys.executable, "-c", "import os, sshkey; print(os.path.realpath(sshkey._library.LIBRARY._name))"]
+        kept = {name: value for name, value in os.environ.items() if name != "SSHKEY_LIBRARY"}
+        return run(words, env={**kept, "PYTHONPATH": folder})
+
     for top, inner, is_taken in (("examples", "python", True), ("site", "python", False), ("examples", "site", False)):
         above = f"{maker.folder}/copied-{inner}/{top}"
         shutil.copytree(f"{EXAMPLES}/python/sshkey", f"{above}/{inner}/sshkey", ignore=shutil.ignore_patterns("__pycache__"))
         os.mkdir(f"{above}/out")
         shutil.copy(f"{built.plain}/libsshkey.so", f"{above}/out")
-        words = [sys.executable, "-c", "import os, sshkey; print(os.path.realpath(sshkey._library.LIBRARY._name))"]
-        ran = run(words, env={**environment, "PYTHONPATH": f"{above}/{inner}"})
+        ran = loaded(f"{above}/{inner}")
         taken = ran.stdout.strip() == os.path.realpath(f"{above}/out/libsshkey.so")
         count.check(f"a package in {top}/{inner}: the library above is taken: {is_taken}", taken == is_taken, ran.stdout, ran.stderr[-500:])
+    os.makedirs(f"{maker.folder}/linked-python/elsewhere")
+    sources = f"{maker.folder}/copied-python/examples"
+    os.symlink(f"{sources}/python/sshkey", f"{maker.folder}/linked-python/elsewhere/sshkey")
+    ran = loaded(f"{maker.folder}/linked-python/elsewhere")
+    count.check("a link takes that of the sources", ran.stdout.strip() == os.path.realpath(f"{sources}/out/libsshkey.so"), ran.stdout, ran.stderr)
 
 
 def check_meanings(count, built, check):

@@ -150,9 +150,11 @@ def check_texts(count, sshkey, key, authority):
 def check_refused(count, sshkey):
     """What is raised goes from one process to another."""
     refused = sshkey.Refused(sshkey.Status.LENGTH)
-    for name, other in (("pickled", pickle.loads(pickle.dumps(refused))), ("copied", copy.copy(refused))):
+    for name, made in (("pickled", lambda: pickle.loads(pickle.dumps(refused))), ("copied", lambda: copy.copy(refused))):
+        found = raised(made)
+        other = made() if found is None else refused
         same = type(other) is sshkey.Refused and other.status is sshkey.Status.LENGTH and str(other) == str(refused)
-        count.check(f"Refused may be {name}", same, repr(other))
+        count.check(f"Refused may be {name}", same and other is not refused, repr(other), found)
 
 
 def check_unsupported(count, check):

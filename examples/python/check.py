@@ -61,7 +61,8 @@ MEANING = {
 }  # fmt: skip
 # the extensions in which nothing may stand (PROTOCOL.certkeys)
 FLAGS = {
-    "no-touch-required", "permit-X11-forwarding", "permit-agent-forwarding", "permit-port-forwarding", "permit-pty", "permit-user-rc",
+    "no-touch-required", "permit-X11-forwarding", "permit-agent-forwarding", "permit-port-forwarding", "permit-pty",
+    "permit-user-rc",
 }  # fmt: skip
 ECDSA = {
     Algorithm.P256: (ec.SECP256R1(), hashes.SHA256()), Algorithm.P384: (ec.SECP384R1(), hashes.SHA384()),

@@ -108,7 +108,7 @@ class Length(ctypes.Structure):
     _fields_ = [("length", ctypes.c_size_t)]
 
 
-HERE = os.path.dirname(os.path.abspath(__file__))
+HERE = os.path.dirname(os.path.realpath(__file__))
 # where the sources have what is built; a copy of the package elsewhere has nothing there
 BUILT = os.path.join(HERE, "..", "..", "out", "libsshkey.so")
 IS_IN_SOURCES = HERE.split(os.sep)[-3:-1] == ["examples", "python"]
