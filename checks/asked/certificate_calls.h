@@ -100,7 +100,8 @@ static void ask_draft(char **words) {
   blob spans[7];
   for (int at = 0; at < 7; at++) spans[at] = bytes_of(words[1 + at]);
 #define SPAN(at) {spans[at].bytes, spans[at].length}
-  sshkey_draft draft = {SPAN(0), SPAN(1), SPAN(2), SPAN(3), SPAN(4), SPAN(5), SPAN(6), 0, 0, 0, 0, 0};
+  sshkey_draft draft = {SPAN(0), SPAN(1), SPAN(2), SPAN(3), SPAN(4), SPAN(5), SPAN(6),
+                        0,       0,       0,       0,       0};
   draft.serial = strtoull(words[8], NULL, 10);
   draft.valid_after = strtoull(words[9], NULL, 10);
   draft.valid_before = strtoull(words[10], NULL, 10);

@@ -298,3 +298,12 @@ def check_issued(count, built, sshkey, check, maker, is_verified):
     count.check("and ssh-keygen takes it", is_verified(maker.folder, "issued", signature, "text", "alice", second, allowed))
     none = run([*words, "holder's key", "0", "alice"], env=environment)
     count.check("issue.py issues none for no second", none.returncode == 1 and "empty window" in none.stderr, none.stderr)
+
+
+def check_certificate_calls(count, built, modules, maker, is_verified, cases):
+    sshkey, check = modules
+    check_lists(count, built, sshkey, maker)
+    check_options(count, built, sshkey, maker)
+    check_making(count, built, sshkey, maker)
+    check_issued(count, built, sshkey, check, maker, is_verified)
+    check_hostile_lists(count, built, sshkey, cases)

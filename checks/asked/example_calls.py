@@ -1,7 +1,10 @@
 """What the example programs do where they can't tell, for checks/foreign: files that can't be read or have no key, times that are
 none, and what is not written. Whoever asks a program by its status has to hear of it."""
 import os
+import shutil
 import sys
+
+from lib.signatures import armoured
 
 from .linked import EXAMPLES, run
 
@@ -87,12 +90,108 @@ def check_issuing(count, built, maker):
         ("no such key", [good, maker.path("none"), "id", "60"]), ("a private key as the key", [good, good, "id", "60"]),
         ("a folder as the key", [good, maker.folder, "id", "60"]), ("no number of seconds", [good, key, "id", "an hour"]),
         ("an end that is no time", [good, key, "id", str(1 << 64)]),
+        ("a certificate as the key", [good, maker.path("user0-cert.pub"), "id", "60"]),
+        *((f"the seconds {it!r}", [good, key, "id", it]) for it in ("1_0", "+60", " 60", "60 ", "-60", "", "\u0661", "6e1")),
+        *((f"the key id {it!r}", [good, key, it, "60"]) for it in ("a\nb", "a\rb", "a\tb", "\x1b[2J", "a\u2028b", "\udcff")),
     ):  # fmt: skip
         ran = run([*python(built, "issue.py"), *words, "alice"])
         told = ran.stderr.startswith("issue.py: ") and ran.stderr.count("\n") == 1 and not ran.stdout
         count.check(f"issue.py: {case}", ran.returncode == UNTOLD and told, ran.returncode, ran.stdout, ran.stderr)
     ran = run(python(built, "issue.py"))
     count.check("issue.py shows how it is called", ran.returncode == UNTOLD and "issue.py AUTHORITY" in ran.stderr, ran.stderr)
+
+
+PROGRAMS = {
+    "check.py certificates": ["check.py", "certificates", "{key}", "alice"],
+    "check.py signature": ["check.py", "signature", "{key}", "file", "{key}"],
+    "host.py": ["host.py", "h.example", "22", "{key}"], "issue.py": ["issue.py", "{issuer}", "{key}", "id", "60", "alice"],
+}  # fmt: skip
+
+
+def is_untold(ran, script):
+    """Whether it ended with 2 and one line that says why."""
+    return ran.returncode == UNTOLD and ran.stderr.startswith(f"{script}: ") and ran.stderr.count("\n") == 1 and not ran.stdout
+
+
+def check_closed(count, built, maker):
+    """Where the library can't be loaded, or input or output is closed, the programs in Python can't tell."""
+    paths = {"key": maker.path("holder.pub"), "issuer": maker.path("issuer")}
+    inputs = {"check.py certificates": maker.read("holder-cert.pub"), "check.py signature": armoured(maker.signature("holder", "x"))}
+    inputs["host.py"] = maker.read("holder.pub")
+    for name, (script, *words) in PROGRAMS.items():
+        words, given = [it.format(**paths) for it in words], inputs.get(name, "")
+        _, _, *program = python(built, script)
+        for case, library in (("no library", maker.path("none")), ("another library", "libc.so.6"), ("a text for a library", paths["key"])):
+            ran = run([*program, *words], input=given, env={**os.environ, "SSHKEY_LIBRARY": library})
+            count.check(f"{name}: {case}", is_untold(ran, script), ran.returncode, ran.stdout, ran.stderr)
+        # issue.py has no input
+        for case, closing in (("input", "<&-"), ("output", ">&-"))[script == "issue.py" :]:
+            ran = run(["/bin/sh", "-c", f'exec "$@" {closing}', "sh", *python(built, script), *words], input=given)
+            count.check(f"{name}: standard {case} is closed", is_untold(ran, script), ran.returncode, ran.stdout, ran.stderr)
+
+
+def check_armour(count, built, maker):
+    """check.py reads an armour where `ssh-keygen -Y verify` does."""
+    signed = maker.write("armour.txt", "a text")
+    good, strange = (armoured(maker.signature("holder", it)) for it in ("a text", "another text"))
+    allowed = maker.write("armour.allowed", f"alice {maker.read('holder.pub')}")
+    words = [*python(built, "check.py"), "signature", maker.path("holder.pub"), "file", signed]
+    asked = ["ssh-keygen", "-Y", "verify", "-n", "file", "-I", "alice", "-f", allowed]
+    ends, (head, *body, tail) = good.rindex("-----END"), good.splitlines()
+    for case, text, wanted in (
+        ("as it is", good, VALID), ("in one line", f"{head}\n{''.join(body)}\n{tail}\n", VALID), ("of another text", strange, INVALID),
+        ("another name", good.replace("SSH SIGNATURE", "PGP THING"), UNTOLD), ("no end", good[:ends], UNTOLD),
+        ("another name at its end", good.replace("END SSH", "END PGP"), UNTOLD),
+        ("a public key's name", good.replace("SSH SIGNATURE", "SSH PUBLIC KEY"), UNTOLD),
+        ("a character that is none of Base64", good[: ends - 9] + "*" + good[ends - 9 :], UNTOLD),
+        ("one of another alphabet", good[: ends - 9] + "_" + good[ends - 9 :], UNTOLD),
+        ("no armour", "".join(good.splitlines(True)[1:-1]), UNTOLD), ("nothing", "", UNTOLD), ("a text before", "x" + good, UNTOLD),
+    ):  # fmt: skip
+        ran = run(words, input=text)
+        judged = run([*asked, "-s", maker.write("armour.sig", text)], input="a text")
+        same = is_untold(ran, "check.py") if wanted == UNTOLD else ran.returncode == wanted and not ran.stderr
+        same = same and (judged.returncode == 0) == (wanted == VALID)
+        count.check(f"check.py, an armour: {case}", same, ran.returncode, ran.stdout, ran.stderr, f"ssh-keygen: {judged.returncode}")
+
+
+def check_host_words(count, built, maker):
+    """host.py takes a port of digits, and a line whose name is that of its key."""
+    line = maker.read("holder.pub")
+    blob = line.split()[1]
+    known = maker.write("known", f"h.example {line}\n")
+    cases = [("the key", "22", f"{line}\n", VALID), ("the key without a comment", "22", f"ssh-ed25519 {blob}\n", VALID)]
+    cases += [(f"the port {it!r}", it, f"{line}\n", UNTOLD) for it in ("2_2", "+22", " 22", "22 ", "-1", "", "65536", "ssh", "\u0662\u0662")]
+    cases += [
+        ("another name", "22", f"ssh-rsa {blob}\n", UNTOLD), ("no name", "22", f"{blob}\n", UNTOLD), ("an empty line", "22", "\n", UNTOLD),
+        ("a certificate", "22", maker.read("user0-cert.pub") + "\n", UNTOLD), ("half a key", "22", f"ssh-ed25519 {blob[:40]}\n", UNTOLD),
+    ]  # fmt: skip
+    for case, port, given, wanted in cases:
+        ran = run([*python(built, "host.py"), "h.example", port, known], input=given)
+        same = is_untold(ran, "host.py") if wanted == UNTOLD else (ran.returncode, ran.stdout, ran.stderr) == (wanted, "trusted\n", "")
+        count.check(f"host.py: {case}", same, ran.returncode, ran.stdout, ran.stderr)
+
+
+def check_copies(count, built, maker):
+    """A package that stands elsewhere takes no library of the folders above it, and a link to the one of the sources theirs."""
+
+    def loaded(folder):
+        words = [sys.executable, "-c", "import os, sshkey; print(os.path.realpath(sshkey._library.LIBRARY._name))"]
+        kept = {name: value for name, value in os.environ.items() if name != "SSHKEY_LIBRARY"}
+        return run(words, env={**kept, "PYTHONPATH": folder})
+
+    for top, inner, is_taken in (("examples", "python", True), ("site", "python", False), ("examples", "site", False)):
+        above = f"{maker.folder}/copied-{inner}/{top}"
+        shutil.copytree(f"{EXAMPLES}/python/sshkey", f"{above}/{inner}/sshkey", ignore=shutil.ignore_patterns("__pycache__"))
+        os.mkdir(f"{above}/out")
+        shutil.copy(f"{built.plain}/libsshkey.so", f"{above}/out")
+        ran = loaded(f"{above}/{inner}")
+        taken = ran.stdout.strip() == os.path.realpath(f"{above}/out/libsshkey.so")
+        count.check(f"a package in {top}/{inner}: the library above is taken: {is_taken}", taken == is_taken, ran.stdout, ran.stderr[-500:])
+    os.makedirs(f"{maker.folder}/linked-python/elsewhere")
+    sources = f"{maker.folder}/copied-python/examples"
+    os.symlink(f"{sources}/python/sshkey", f"{maker.folder}/linked-python/elsewhere/sshkey")
+    ran = loaded(f"{maker.folder}/linked-python/elsewhere")
+    count.check("a link takes that of the sources", ran.stdout.strip() == os.path.realpath(f"{sources}/out/libsshkey.so"), ran.stdout, ran.stderr)
 
 
 def check_meanings(count, built, check):
@@ -120,5 +219,9 @@ def check_example_calls(count, built, check, maker, kind, middle):
     check_certificates(count, built, maker, kind, middle)
     check_helpers(count, built, maker, kind)
     check_issuing(count, built, maker)
+    check_closed(count, built, maker)
+    check_armour(count, built, maker)
+    check_host_words(count, built, maker)
+    check_copies(count, built, maker)
     check_meanings(count, built, check)
     check_authorities(count, built, kind)

@@ -136,3 +136,11 @@ def check_package(count, built, folder):
     made = run(["cc", "-std=c11", "-o", path, f"{path}.c", *words.stdout.split()])
     ran = run([path], env={**os.environ, "LD_LIBRARY_PATH": built.plain}) if made.returncode == 0 else made
     count.check("pkg-config finds the library", ran.returncode == 0, words.stderr, made.stderr, ran.returncode)
+
+
+def check_linked(count, built, sshkey, folder):
+    check_header(count, folder)
+    check_symbols(count, built, sshkey)
+    check_layout(count, built, sshkey)
+    check_package(count, built, folder)
+    check_names(count, built)

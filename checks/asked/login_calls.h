@@ -19,9 +19,9 @@ static void ask_user(char **words) {
   char *name = calloc(1, user.length + 1);
   if (!name) exit(3);
   memcpy(name, user.bytes, user.length);
-  login asked = {name, key, strtoull(words[3], NULL, 10),
-                 {(sshkey_sha256 *)keys.bytes, keys.length / sizeof(sshkey_sha256)},
-                 known.length ? is_met : NULL, &known};
+  login_request asked = {name, key, strtoull(words[3], NULL, 10),
+                         {(sshkey_sha256 *)keys.bytes, keys.length / sizeof(sshkey_sha256)},
+                         known.length ? is_met : NULL, &known};
   uint32_t answer = validate_user(certificate, &asked);
   printf("%" PRIu32 " %s", answer, meaning(answer));
   blob made[] = {certificate, key, user, keys, known};

@@ -8,8 +8,9 @@ import time
 from lib.harness import ROOT, string
 
 from .linked import EXAMPLES, SANITIZED, C, run
+from .login_options import FLAGS, certificate
 
-REFUSALS = {"NOT_FOR_USERS": 100, "NOBODY_LISTED": 101, "UNMET_OPTION": 102, "OTHER_KEY": 103}
+REFUSALS = {"NOT_FOR_USERS": 100, "NOBODY_LISTED": 101, "UNMET_OPTION": 102, "OTHER_KEY": 103, "FLAG_DATA": 104}
 SOURCE, COMMAND = "source-address=192.0.2.0/24", "force-command=true"
 
 
@@ -57,6 +58,33 @@ def cases(maker, window):
         yield name, blob, own, middle, "alice", by, known, wanted
 
 
+def extensions(maker, window):
+    """The same with extensions. sshd refuses data in those of which it reads the name alone (checks/callers asks it)."""
+    middle, words = window
+    own, other = (blob_in(maker.read(f"user{it}.pub")) for it in (0, 1))
+    by = hashlib.sha256(blob_in(maker.read("authority0.pub"))).digest()
+
+    def made(*more):
+        pairs = [word for it in ("clear", *more) for word in ("-O", it)]
+        return blob_in(maker.certificate("authority0", "user0", *words, "-n", "alice", *pairs))
+
+    data = made("extension:permit-pty=1")
+    for name, blob, key, wanted in (
+        *((f"data in {it}", made(f"extension:{it}=1"), own, "FLAG_DATA") for it in FLAGS),
+        ("each flag", made(*(f"extension:{it}" for it in FLAGS)), own, "DONE"),
+        ("data in one of two flags", made("permit-pty", "extension:permit-user-rc=1"), own, "FLAG_DATA"),
+        ("data in a flag, and another key", data, other, "FLAG_DATA"),
+        ("data in a flag, and an option", made("extension:permit-pty=1", COMMAND), own, "UNMET_OPTION"),
+        ("data in an extension that is not known", made("extension:x@example.com=1"), own, "DONE"),
+        ("data in a flag with other capitals", made("extension:permit-PTY=1"), own, "DONE"),
+        ("data in a beginning of a flag", made("extension:permit-pt=1"), own, "DONE"),
+        ("data in more than a flag", made("extension:permit-pty2=1"), own, "DONE"),
+    ):  # fmt: skip
+        yield name, blob, key, middle, "alice", by, "", wanted
+    line = certificate(maker, "authority0", maker.read("user0.pub"), string(b"alice"), {}, {"permit-pty": string(b"")})
+    yield "an empty string in a flag", blob_in(line), own, int(time.time()), "alice", by, "", "NOT_SIGNED"
+
+
 def turned(blob):
     """With a bit turned in the first principal's last letter, so that it is not signed."""
     at = blob.index(string(b"alice")) + 8
@@ -65,7 +93,7 @@ def turned(blob):
 
 def check_users(count, built, modules, maker, window):
     sshkey, check = modules
-    asked = list(cases(maker, window))
+    asked = [*cases(maker, window), *extensions(maker, window)]
     lines = ""
     for _, blob, key, second, user, by, known, _ in asked:
         words = (user.encode() if isinstance(user, str) else user, by, known.encode())
@@ -94,6 +122,7 @@ PAGE = """\
 #include <stdlib.h>
 #include <string.h>
 #include <time.h>
+#include <utmp.h>
 #include "judge.h"
 #include "verify.h"
 bool is_in_networks(void *client, const uint8_t *value, size_t length);

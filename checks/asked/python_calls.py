@@ -1,9 +1,12 @@
 """What the Python module takes and gives, for checks/foreign: what has no truth value, what is no list of names, what nobody
 changes, and the two calls that make a certificate."""
+import copy
 import dataclasses
 import inspect
+import pickle
 import typing
 
+from cryptography.exceptions import UnsupportedAlgorithm
 from lib.harness import string
 
 from .certificate_calls import CASES, blob_in, certificate_of, fields_in, shown_under
@@ -128,8 +131,43 @@ def check_names(count, sshkey):
     calls = [it for it in map(sshkey.__dict__.get, sshkey.__all__) if inspect.isfunction(it)]
     untyped = [it.__name__ for it in calls if set(typing.get_type_hints(it)) != {*inspect.signature(it).parameters, "return"}]
     count.check(f"each of {len(calls)} calls has types", len(calls) > 20 and not untyped, untyped)
-    undocumented = [it for it in sshkey.__all__ if not getattr(sshkey, it).__doc__]
+    # a Union has no page
+    undocumented = [it for it in sshkey.__all__ if it != "BytesLike" and not getattr(sshkey, it).__doc__]
     count.check("and a page", not undocumented, undocumented)
+
+
+def check_texts(count, sshkey, key, authority):
+    """Bytes are no text of a certificate that is made, and two options have two names."""
+    for name, value in (("key_id", b"id"), ("critical_options", {b"a": ""}), ("extensions", {b"a": ""}), ("key_id", None)):
+        found = raised(sshkey.certificate_to_be_signed, key, authority, principals=["alice"], **{name: value})
+        count.check(f"the {name} {value!r} raises TypeError", found is not None and found[0] == "TypeError", found)
+    one, other = (string(it) + string(string(b"1")) for it in (b"a", b"b"))
+    count.check("two options of two names", sshkey.options(one + other) == {"a": "1", "b": "1"})
+    found = raised(sshkey.options, one + other + one)
+    count.check("two options of one name raise ValueError", found == ("ValueError", "two options have the name 'a'"), found)
+
+
+def check_refused(count, sshkey):
+    """What is raised goes from one process to another."""
+    refused = sshkey.Refused(sshkey.Status.LENGTH)
+    for name, made in (("pickled", lambda: pickle.loads(pickle.dumps(refused))), ("copied", lambda: copy.copy(refused))):
+        found = raised(made)
+        other = made() if found is None else refused
+        same = type(other) is sshkey.Refused and other.status is sshkey.Status.LENGTH and str(other) == str(refused)
+        count.check(f"Refused may be {name}", same and other is not refused, repr(other), found)
+
+
+def check_unsupported(count, check):
+    """A build of OpenSSL may lack a curve or a digest: then a signature is none."""
+
+    def verify(question):
+        raise UnsupportedAlgorithm(f"{question} is not supported")
+
+    kept, check.verify = check.verify, verify
+    found = raised(check.is_signature, None)
+    said = check.is_signature(None) if found is None else None
+    check.verify = kept
+    count.check("what is not supported is no signature", said is False, found)
 
 
 def check_python(count, modules, maker):
@@ -142,5 +180,8 @@ def check_python(count, modules, maker):
     check_numbers(count, sshkey, key, authority, certificate)
     check_values(count, sshkey, maker)
     check_lists(count, sshkey)
+    check_texts(count, sshkey, key, authority)
+    check_refused(count, sshkey)
+    check_unsupported(count, check)
     check_two_calls(count, sshkey, maker)
     check_names(count, sshkey)

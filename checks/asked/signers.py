@@ -203,11 +203,7 @@ def says(maker, text, blob, message, who, namespace, at):
 
 def signers(maker):
     """Names, lines and answers."""
-    keys = {"who": WHO, "key": maker.key("signer"), "other": maker.key("another-signer")}
-    keys["tabbed"] = keys["key"].replace(" ", " \t ")
-    keys["word"] = keys["key"].split(" ")[1]
-    keys["bare"] = "ssh-ed25519 " + keys["word"]
-    message = b"a commit\n"
+    keys, message = keys_of(maker), b"a commit\n"
     made = made_by(maker, "signer", message)
     of_made = told_of_file(made, message)
 
@@ -231,6 +227,21 @@ def signers(maker):
     yield case("nobody is asked for", "* {key}\n", OK, who="")
     yield case("two days later", '{who} valid-before="20240102" {key}\n', NO, at=NOON + 2 * 86400)
     yield case("two days before", '{who} valid-after="20240101" {key}\n', NO, at=NOON - 2 * 86400)
+    yield from others(maker, keys, message, made, case)
+
+
+def keys_of(maker):
+    """What the texts name."""
+    keys = {"who": WHO, "key": maker.key("signer"), "other": maker.key("another-signer")}
+    keys["tabbed"] = keys["key"].replace(" ", " \t ")
+    keys["word"] = keys["key"].split(" ")[1]
+    keys["bare"] = "ssh-ed25519 " + keys["word"]
+    return keys
+
+
+def others(maker, keys, message, made, case):
+    """The same of other signatures than the one that is made first."""
+    text = "{who} {key}\n"
     for number, kind in enumerate(TYPES):
         name = f"signer{number}"
         keys["by"] = maker.key(name, kind)

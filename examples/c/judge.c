@@ -94,24 +94,48 @@ uint32_t judge(blob certificate, uint64_t unix_timestamp, const char *principal,
                                          strlen(principal), keys, by.count, is_verified);
 }
 
-/* SSHKEY_DONE where each critical option is met. */
-static uint32_t judge_options(blob certificate, const login *asked) {
-  sshkey_parts parts;
+/* SSHKEY_DONE where each option of the list is met, or else that number. */
+static uint32_t judge_list(const uint8_t *options, size_t length, is_met_option *is_met,
+                           void *given, uint32_t unmet) {
   sshkey_certificate_option_parts option;
-  memset(&parts, 0, sizeof parts);
+  uint32_t answer;
+  size_t place = 0;
   memset(&option, 0, sizeof option);
-  uint32_t answer = sshkey_certificate_parts(certificate.bytes, certificate.length, &parts);
-  if (answer != SSHKEY_DONE) return answer;
-  const uint8_t *options = certificate.bytes + parts.critical_options.start;
-  size_t length = parts.critical_options.length, place = 0;
   while ((answer = sshkey_next_option(options, length, place, &option)) == SSHKEY_DONE) {
-    if (!asked->is_met ||
-        !asked->is_met(options + option.name.start, option.name.length,
-                       options + option.value.start, option.value.length, asked->given))
-      return JUDGE_UNMET_OPTION;
+    if (!is_met || !is_met(options + option.name.start, option.name.length,
+                           options + option.value.start, option.value.length, given))
+      return unmet;
     place = option.next;
   }
   return answer == SSHKEY_END ? SSHKEY_DONE : answer;
+}
+
+/* Whether nothing stands in the extension, if it is a flag (PROTOCOL.certkeys). */
+static bool is_empty_if_flag(const uint8_t *name, size_t name_length, const uint8_t *value,
+                             size_t value_length, void *given) {
+  static const char *const flags[] = {"no-touch-required",       "permit-X11-forwarding",
+                                      "permit-agent-forwarding", "permit-port-forwarding",
+                                      "permit-pty",              "permit-user-rc"};
+  (void)value;
+  (void)given;
+  for (size_t at = 0; at < sizeof flags / sizeof *flags; at++)
+    if (strlen(flags[at]) == name_length && !memcmp(name, flags[at], name_length))
+      return value_length == 0;
+  return true;
+}
+
+/* SSHKEY_DONE where each critical option is met, and sshd reads the extensions. */
+static uint32_t judge_options(blob certificate, const login_request *asked) {
+  sshkey_parts parts;
+  memset(&parts, 0, sizeof parts);
+  uint32_t answer = sshkey_certificate_parts(certificate.bytes, certificate.length, &parts);
+  if (answer != SSHKEY_DONE) return answer;
+  sshkey_part critical = parts.critical_options, extensions = parts.extensions;
+  answer = judge_list(certificate.bytes + critical.start, critical.length, asked->is_met,
+                      asked->given, JUDGE_UNMET_OPTION);
+  if (answer != SSHKEY_DONE) return answer;
+  return judge_list(certificate.bytes + extensions.start, extensions.length, is_empty_if_flag,
+                    NULL, JUDGE_FLAG_DATA);
 }
 
 /* SSHKEY_DONE where the key is the certificate's own: the digests of their normal forms are the
@@ -132,7 +156,7 @@ static uint32_t judge_key(blob certificate, blob key) {
   return answer;
 }
 
-uint32_t validate_user(blob certificate, const login *asked) {
+uint32_t validate_user(blob certificate, const login_request *asked) {
   sshkey_fields fields;
   memset(&fields, 0, sizeof fields);
   /* judge takes no principal for any */
@@ -169,6 +193,7 @@ const char *meaning(uint32_t answer) {
   case JUDGE_NOBODY_LISTED: return "no principals";
   case JUDGE_UNMET_OPTION: return "a critical option that is not known or not met";
   case JUDGE_OTHER_KEY: return "another key";
+  case JUDGE_FLAG_DATA: return "data in an extension that is a flag";
   default: return "not in its format";
   }
 }

@@ -48,7 +48,7 @@ typedef struct {
   authorities by;          /* who may certify users */
   is_met_option *is_met;   /* may be null: then each critical option is one that is not known */
   void *given;             /* what is_met gets */
-} login;
+} login_request;
 
 /* What is wrong with a certificate that is valid, and logs nobody in; beside the answers of
  * sshkey.h. */
@@ -56,12 +56,14 @@ enum {
   JUDGE_NOT_FOR_USERS = 100,  /* it is one for hosts */
   JUDGE_NOBODY_LISTED = 101,  /* it lists no principals, and would be for everybody */
   JUDGE_UNMET_OPTION = 102,   /* a critical option is not known, or not met */
-  JUDGE_OTHER_KEY = 103       /* it is one of another key than the client holds */
+  JUDGE_OTHER_KEY = 103,      /* it is one of another key than the client holds */
+  JUDGE_FLAG_DATA = 104       /* data stand in an extension that is a flag */
 };
 
 /* Whether the certificate logs the user in: SSHKEY_DONE, or what is wrong first, a number of
- * SSHKEY_* or of JUDGE_*. Whether it is revoked is not looked at. */
-uint32_t validate_user(blob certificate, const login *asked);
+ * SSHKEY_* or of JUDGE_*. Whether it is revoked, whether somebody touched a security key, and what
+ * its extensions say is not looked at (docs/FOREIGN.md). */
+uint32_t validate_user(blob certificate, const login_request *asked);
 
 /* What an answer means, in words. */
 const char *meaning(uint32_t answer);

@@ -52,7 +52,8 @@ static EVP_PKEY *key_of(const char *type, OSSL_PARAM_BLD *parts) {
 static EVP_PKEY *ecdsa_key(const char *curve, slice point) {
   OSSL_PARAM_BLD *parts = OSSL_PARAM_BLD_new();
   EVP_PKEY *key = NULL;
-  if (parts && point.length > 0 && point.bytes[0] == 4 && OSSL_PARAM_BLD_push_utf8_string(parts, OSSL_PKEY_PARAM_GROUP_NAME, curve, 0) &&
+  if (parts && point.length > 0 && point.bytes[0] == 4 &&
+      OSSL_PARAM_BLD_push_utf8_string(parts, OSSL_PKEY_PARAM_GROUP_NAME, curve, 0) &&
       OSSL_PARAM_BLD_push_octet_string(parts, OSSL_PKEY_PARAM_PUB_KEY, point.bytes, point.length))
     key = key_of("EC", parts);
   OSSL_PARAM_BLD_free(parts);

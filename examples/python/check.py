@@ -6,7 +6,8 @@
 
 AUTHORITIES and SIGNERS are files of public keys, a line each. The first answers of each line of its input, as the example in C
 does. The status is 0 if all is valid, 1 if not, and 2 where it can't tell: so also where there is no certificate. A valid
-certificate may be for a host, or for nobody by name: who logs users in calls `validate_user`.
+certificate may be for a host, or for nobody by name, and - is no name that a client may choose: who logs users in calls
+`validate_user`.
 """
 from __future__ import annotations
 
@@ -18,12 +19,18 @@ import time
 from collections.abc import Callable, Collection
 from typing import NoReturn
 
-from cryptography.exceptions import InvalidSignature
+from cryptography.exceptions import InvalidSignature, UnsupportedAlgorithm
 from cryptography.hazmat.primitives import hashes
 from cryptography.hazmat.primitives.asymmetric import ec, ed25519, padding, rsa, utils
 
-import sshkey
-from sshkey import Algorithm, CertificateType, Status
+try:
+    import sshkey
+    from sshkey import Algorithm, CertificateType, Status
+except (AttributeError, OSError) as fault:  # the library is not there, or is another
+    if __name__ != "__main__":
+        raise
+    print(f"check.py: {fault}", file=sys.stderr)
+    sys.exit(2)
 
 
 class Refusal(enum.IntEnum):
@@ -34,6 +41,7 @@ class Refusal(enum.IntEnum):
     NOBODY_LISTED = 101
     UNMET_OPTION = 102
     OTHER_KEY = 103
+    FLAG_DATA = 104
 
     def __bool__(self) -> NoReturn:
         raise TypeError("compare with Status.DONE: a Refusal is no truth value")
@@ -47,8 +55,14 @@ MEANING = {
     Status.INVALID_TIME: "a time too late to be one", Status.OUT_OF_WINDOW: "not valid at that time",
     Status.UNLISTED_PRINCIPAL: "another principal",
     Refusal.NOT_FOR_USERS: "not for users", Refusal.NOBODY_LISTED: "no principals", Refusal.OTHER_KEY: "another key",
-    Refusal.UNMET_OPTION: "a critical option that is not known or not met", Status.OTHER_NAMESPACE: "another namespace",
+    Refusal.UNMET_OPTION: "a critical option that is not known or not met",
+    Refusal.FLAG_DATA: "data in an extension that is a flag", Status.OTHER_NAMESPACE: "another namespace",
     Status.UNSUPPORTED: "key and signature do not go together",
+}  # fmt: skip
+# the extensions in which nothing may stand (PROTOCOL.certkeys)
+FLAGS = {
+    "no-touch-required", "permit-X11-forwarding", "permit-agent-forwarding", "permit-port-forwarding", "permit-pty",
+    "permit-user-rc",
 }  # fmt: skip
 ECDSA = {
     Algorithm.P256: (ec.SECP256R1(), hashes.SHA256()), Algorithm.P384: (ec.SECP384R1(), hashes.SHA384()),
@@ -90,7 +104,7 @@ def verify(question: sshkey.Question) -> None:
 def is_signature(question: sshkey.Question) -> bool:
     try:
         verify(question)
-    except (InvalidSignature, ValueError):
+    except (InvalidSignature, UnsupportedAlgorithm, ValueError):
         return False
     return True
 
@@ -111,7 +125,8 @@ def validate_user(
     """Whether the certificate logs the user in at that second: Status.DONE, or what is wrong first, a Status or a Refusal.
 
     `key` is the blob of the key of which the client has proved that it holds it. `is_met` says of a critical option, by its name
-    and value, whether it is known and met at this login. Whether the certificate is revoked is not looked at."""
+    and value, whether it is known and met at this login. Whether the certificate is revoked, whether somebody touched a security
+    key, and what its extensions say is not looked at (docs/FOREIGN.md)."""
     status = judge(certificate, now, user or "", authorities)
     if status != Status.DONE:
         return status
@@ -122,6 +137,8 @@ def validate_user(
         return Refusal.NOBODY_LISTED
     if not all(is_met(name, value) for name, value in contents.critical_options.items()):
         return Refusal.UNMET_OPTION
+    if any(contents.extensions.get(it) for it in FLAGS):
+        return Refusal.FLAG_DATA
     try:
         return Status.DONE if sshkey.normal_key(key) == contents.key else Refusal.OTHER_KEY
     except sshkey.Refused as refused:
@@ -188,11 +205,19 @@ def certificates(authorities: str, principal: str, second: str | None = None) ->
     return any(it != Status.DONE for it in statuses)
 
 
+def unarmoured(text: str) -> bytes:
+    """The bytes of an SSH signature in its armour. Raises ValueError where there is none."""
+    parts = text.split("-----")
+    if parts[:2] + parts[3:4] != ["", "BEGIN SSH SIGNATURE", "END SSH SIGNATURE"]:
+        raise ValueError("no SSH signature was given")
+    return base64.b64decode("".join(parts[2].split()), validate=True)
+
+
 def signature(signers: str, namespace: str, file: str) -> bool:
     """Whether it is not valid."""
-    armour = sys.stdin.read().split("-----")
+    given = unarmoured(sys.stdin.read())
     with open(file, "rb") as opened:
-        status = judge_signature(base64.b64decode(armour[2]), namespace, opened.read(), fingerprints(signers))
+        status = judge_signature(given, namespace, opened.read(), fingerprints(signers))
     print(said(status))
     return status != Status.DONE
 
@@ -205,10 +230,12 @@ def main() -> int:
         print(__doc__, file=sys.stderr)
         return 2
     try:
+        if sys.stdin is None or sys.stdout is None:
+            raise OSError("standard input or output is closed")
         status = int(COMMANDS[sys.argv[1]](*sys.argv[2:]))
         sys.stdout.flush()
         return status
-    except (OSError, TypeError, ValueError, IndexError, MemoryError) as error:
+    except (OSError, TypeError, ValueError, MemoryError) as error:
         print(f"check.py: {error}", file=sys.stderr)
         sys.stdout = None  # or else Python writes what is left, and its status is that of this
         return 2

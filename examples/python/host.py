@@ -10,12 +10,17 @@ The status is 0 if all are trusted, 1 if not, and 2 where it can't tell: so also
 """
 from __future__ import annotations
 
-import base64
 import sys
 from collections.abc import Collection
 
-import sshkey
-from sshkey import Status
+try:
+    import sshkey
+    from sshkey import Status
+except (AttributeError, OSError) as fault:  # the library is not there, or is another
+    if __name__ != "__main__":
+        raise
+    print(f"host.py: {fault}", file=sys.stderr)
+    sys.exit(2)
 
 # the port at which a host is known by its plain name
 STANDARD_PORT = 22
@@ -35,23 +40,37 @@ def judge(texts: Collection[bytes], host: str | bytes, port: int, key: bytes) ->
     return verdict
 
 
+def port_of(word: str) -> int:
+    """The number of the digits. Raises ValueError where there is another character, or none."""
+    if not (word.isascii() and word.isdecimal()):
+        raise ValueError(f"{word!r} is no port")
+    return int(word)
+
+
+def verdicts_on(host: str, port: int, paths: Collection[str]) -> list[Status]:
+    """The verdict on each key of the input, which it prints. Raises ValueError where a line has no key."""
+    texts, verdicts = [], []
+    for path in paths:
+        with open(path, "rb") as file:
+            texts.append(file.read())
+    for line in sys.stdin.buffer:
+        verdicts.append(judge(texts, host, port, sshkey.read_line(line).blob))
+        print(WORDS[verdicts[-1]], flush=True)
+    if not verdicts:
+        raise ValueError("no key was given")
+    return verdicts
+
+
 def main() -> int:
     if len(sys.argv) < 4:
         print(__doc__, file=sys.stderr)
         return 2
     host, port, *paths = sys.argv[1:]
     try:
-        texts = []
-        for path in paths:
-            with open(path, "rb") as file:
-                texts.append(file.read())
-        verdicts = []
-        for line in sys.stdin.buffer:
-            verdicts.append(judge(texts, host, int(port), base64.b64decode(line.split()[1], validate=True)))
-            print(WORDS[verdicts[-1]], flush=True)
-        if not verdicts:
-            raise ValueError("no key was given")
-    except (OSError, ValueError, IndexError, MemoryError) as error:
+        if sys.stdin is None or sys.stdout is None:
+            raise OSError("standard input or output is closed")
+        verdicts = verdicts_on(host, port_of(port), paths)
+    except (OSError, ValueError, MemoryError) as error:
         print(f"host.py: {error}", file=sys.stderr)
         sys.stdout = None  # or else Python writes what is left, and its status is that of this
         return 2

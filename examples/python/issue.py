@@ -4,7 +4,8 @@
     issue.py AUTHORITY KEY.pub KEY-ID SECONDS PRINCIPAL.. >KEY-cert.pub
 
 AUTHORITY is the file of an Ed25519 private key without a passphrase. What is issued is checked before it is printed. The status is
-0 if it is issued, 1 if these tell no certificate, and 2 where a file can't be read or has no such key.
+0 if it is issued, 1 if these tell no certificate, and 2 where a file can't be read or has no such key, SECONDS is no number, or
+KEY-ID has a character that can't be printed.
 """
 from __future__ import annotations
 
@@ -17,8 +18,14 @@ from cryptography.exceptions import UnsupportedAlgorithm
 from cryptography.hazmat.primitives import serialization
 from cryptography.hazmat.primitives.asymmetric.ed25519 import Ed25519PrivateKey
 
-import check
-import sshkey
+try:
+    import check
+    import sshkey
+except (AttributeError, OSError) as fault:  # the library is not there, or is another
+    if __name__ != "__main__":
+        raise
+    print(f"issue.py: {fault}", file=sys.stderr)
+    sys.exit(2)
 
 
 def signer_in(path: str) -> Ed25519PrivateKey:
@@ -39,13 +46,16 @@ def blob_in(path: str) -> bytes:
     with open(path, "rb") as file:
         line = file.read()
     try:
-        return sshkey.read_line(line).blob
+        return check.read(line, is_certificate=False)
     except sshkey.Refused as refused:
         raise ValueError(f"{path} has no key: {refused}") from refused
 
 
 def issue(signer: Ed25519PrivateKey, key: bytes, key_id: str, seconds: int, principals: Sequence[str]) -> bytes:
-    """The blob of the certificate. Raises Refused where these tell none."""
+    """The blob of the certificate. Raises Refused where these tell none, and ValueError for a key id that is not printable: it
+    stands in a line."""
+    if not key_id.isprintable():
+        raise ValueError(f"the key id {key_id!r} is not printable")
     point = signer.public_key().public_bytes(serialization.Encoding.Raw, serialization.PublicFormat.Raw)
     by = sshkey.string("ssh-ed25519") + sshkey.string(point)
     now = int(time.time())
@@ -69,8 +79,10 @@ def main() -> int:
         return 2
     authority, key, key_id, seconds, *principals = sys.argv[1:]
     try:
+        if sys.stdout is None:
+            raise OSError("standard output is closed")
         signer, blob = signer_in(authority), blob_in(key)
-        made = issue(signer, blob, key_id, int(seconds), principals)
+        made = issue(signer, blob, key_id, check.second_of(seconds), principals)
         name = made[4 : 4 + int.from_bytes(made[:4], "big")].decode()
         print(name, base64.b64encode(made).decode(), key_id, flush=True)
     except sshkey.Refused as refused:

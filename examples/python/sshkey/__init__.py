@@ -15,7 +15,8 @@ which nothing follows about them. All raise TypeError for a text in place of byt
 UnicodeEncodeError, a ValueError too, for a text that UTF-8 can't write.
 
 The library is the file that SSHKEY_LIBRARY names in the environment, or else out/libsshkey.so in the folder examples (`make`
-there builds it), or else the system's. Calls from several threads at once are fine.
+there builds it), or else the system's. Whoever sets SSHKEY_LIBRARY has his code run, so clear it in a helper that keeps its
+caller's environment. Calls from several threads at once are fine.
 """
 from ._certificates import (
     certificate_contents,
@@ -47,7 +48,9 @@ from ._values import (
     ALL_PRINCIPALS,
     FOREVER,
     Algorithm,
+    AllPrincipals,
     AuthorizedEntry,
+    BytesLike,
     CertificateFields,
     CertificateType,
     Contents,
@@ -60,10 +63,11 @@ from ._values import (
 )
 
 __all__ = [
-    "ALL_PRINCIPALS", "FOREVER", "Algorithm", "AuthorizedEntry", "CertificateFields", "CertificateType", "Contents", "KnownHost",
-    "Line", "Marker", "Question", "Refused", "Status", "authority_verdict", "authorized_entry", "certificate_contents",
-    "certificate_fields", "certificate_question", "certificate_to_be_signed", "entry_lines", "entry_options", "fingerprint",
-    "fingerprint_sha512", "fingerprint_sha512_text", "fingerprint_text", "host_verdict", "join_certificate", "known_host",
-    "make_certificate", "normal_certificate", "normal_key", "normal_signature", "normal_sshsig", "options", "read_line",
-    "signature_question", "sshsig_question", "string", "strings", "validate_certificate",
+    "ALL_PRINCIPALS", "FOREVER", "Algorithm", "AllPrincipals", "AuthorizedEntry", "BytesLike", "CertificateFields",
+    "CertificateType", "Contents", "KnownHost", "Line", "Marker", "Question", "Refused", "Status", "authority_verdict",
+    "authorized_entry", "certificate_contents", "certificate_fields", "certificate_question", "certificate_to_be_signed",
+    "entry_lines", "entry_options", "fingerprint", "fingerprint_sha512", "fingerprint_sha512_text", "fingerprint_text",
+    "host_verdict", "join_certificate", "known_host", "make_certificate", "normal_certificate", "normal_key", "normal_signature",
+    "normal_sshsig", "options", "read_line", "signature_question", "sshsig_question", "string", "strings",
+    "validate_certificate",
 ]  # fmt: skip

@@ -25,9 +25,9 @@ def validate_certificate(
     principal: str | BytesLike | None = None,
 ) -> Status:  # fmt: skip
     """Status.DONE exactly if the certificate is valid at that second, which has to be at most 2^63 - 1, for one of the
-    authorities, which are fingerprints of 32 bytes, and for the principal if one is given; else what is wrong first.
-    `is_verified` is what your verification said of the question of this very certificate, True or False, and False where it
-    raised none; anything but True is a no.
+    authorities, which are fingerprints of 32 bytes, and for the principal if one is given; else what is wrong first. None asks
+    about no principal: never pass a user that may be None. `is_verified` is what your verification said of the question of this
+    very certificate, True or False, and False where it raised none; anything but True is a no.
 
     Raises ValueError for a second that is not from 0 to 2^64 - 1 and for a fingerprint of another length, and MemoryError."""
     second = number_of(now, 64)
@@ -55,14 +55,18 @@ def certificate_fields(certificate: BytesLike) -> CertificateFields:
 
 def options(blob: BytesLike) -> dict[str, str]:
     """The names and values of the critical options or of the extensions that the bytes are. Raises Refused where they are none,
-    and UnicodeDecodeError, which is a ValueError, where one is not UTF-8: in a certificate all are."""
-    found, place, option = {}, 0, CertificateOption()
+    UnicodeDecodeError, which is a ValueError, where one is not UTF-8, and ValueError where two have one name: in a certificate all
+    are UTF-8, and each has a name of its own."""
+    found: dict[str, str] = {}
+    place, option = 0, CertificateOption()
     data, length = bytes_of(blob)
     while (status := LIBRARY.sshkey_next_option(data, length, place, ctypes.byref(option))) != Status.END:
         done(status)
         place = option.next
-        name, value = parts_of(data, option.name, option.value)
-        found[name.decode()] = value.decode()
+        name, value = (it.decode() for it in parts_of(data, option.name, option.value))
+        if name in found:
+            raise ValueError(f"two options have the name {name!r}")
+        found[name] = value
     return found
 
 
@@ -83,9 +87,16 @@ def certificate_contents(certificate: BytesLike) -> Contents:
 # ---- how a certificate is made
 
 
+def _text(text: str) -> bytes:
+    """The bytes of a text. Raises TypeError where it is none."""
+    if not isinstance(text, str):
+        raise TypeError(f"{text!r} is no text")
+    return text.encode()
+
+
 def _listed(values: Mapping[str, str] | None) -> bytes:
     """Names and values of options as a certificate lists them: by rising names."""
-    given = sorted((name.encode(), value) for name, value in (values or {}).items())
+    given = sorted((_text(name), value) for name, value in (values or {}).items())
     return b"".join(string(name) + string(string(value) if value else b"") for name, value in given)
 
 
@@ -114,7 +125,7 @@ def certificate_to_be_signed(
     Raises ValueError for a number that does not fit its field, TypeError for a single name or None in place of the list, and
     MemoryError."""
     texts = {
-        "key": key, "nonce": os.urandom(32) if nonce is None else nonce, "key_id": key_id.encode(), "authority": authority,
+        "key": key, "nonce": os.urandom(32) if nonce is None else nonce, "key_id": _text(key_id), "authority": authority,
         "principals": _joined(principals), "critical_options": _listed(critical_options), "extensions": _listed(extensions),
     }  # fmt: skip
     copies = {name: bytes_of(text) for name, text in texts.items()}

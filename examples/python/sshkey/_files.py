@@ -28,8 +28,10 @@ def _entry(call: Callable[..., int], line: BytesLike) -> tuple[int, tuple[bytes,
 
 
 def authorized_entry(line: BytesLike) -> AuthorizedEntry:
-    """The entry of a line of authorized_keys, as sshd reads it. Raises Refused where the line is none, and MemoryError. Which
-    options there may be is yours to judge."""
+    """The entry of a line of authorized_keys, as sshd reads it. Raises Refused where the line is none, and MemoryError.
+
+    Which options there may be is yours to judge. Let nobody in by an entry with the option cert-authority who only has that key,
+    and refuse a line with a zero byte, where sshd ends it."""
     return AuthorizedEntry(*_entry(LIBRARY.sshkey_authorized_entry, line)[1])
 
 
@@ -41,8 +43,10 @@ def known_host(line: BytesLike) -> KnownHost:
 
 
 def entry_options(text: BytesLike) -> list[tuple[bytes, bytes | None]]:
-    """The options of an entry of authorized_keys: of each its name, and its value or None. Refuse an entry with one that you do
-    not know, or that comes twice. Each takes time for the whole text, so bound the length of lines that others write.
+    """The options of an entry of authorized_keys: of each its name, and its value or None. Compare names without case. Refuse
+    an entry with an option that you do not know, one that comes twice (but for environment, permitlisten and permitopen), and one
+    without a value that needs one, as `command` alone. Each takes time for the whole text, so bound the length of lines that
+    others write.
 
     Raises Refused where the text is no list of options, and MemoryError."""
     found: list[tuple[bytes, bytes | None]] = []

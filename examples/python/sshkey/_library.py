@@ -108,8 +108,10 @@ class Length(ctypes.Structure):
     _fields_ = [("length", ctypes.c_size_t)]
 
 
-HERE = os.path.dirname(os.path.abspath(__file__))
+HERE = os.path.dirname(os.path.realpath(__file__))
+# where the sources have what is built; a copy of the package elsewhere has nothing there
 BUILT = os.path.join(HERE, "..", "..", "out", "libsshkey.so")
+IS_IN_SOURCES = HERE.split(os.sep)[-3:-1] == ["examples", "python"]
 # bytes that are only read: a pointer and a length
 BYTES = (ctypes.c_char_p, ctypes.c_size_t)
 # bytes, and a place in them
@@ -152,7 +154,8 @@ CALLS = {
 
 
 def _loaded() -> ctypes.CDLL:
-    path = os.environ.get("SSHKEY_LIBRARY") or (BUILT if os.path.exists(BUILT) else find_library("sshkey"))
+    built = BUILT if IS_IN_SOURCES and os.path.exists(BUILT) else None
+    path = os.environ.get("SSHKEY_LIBRARY") or built or find_library("sshkey")
     if not path:
         raise OSError("libsshkey.so is not built: run make in the folder examples")
     library = ctypes.CDLL(path)

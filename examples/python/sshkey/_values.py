@@ -97,6 +97,9 @@ class Refused(ValueError):
         self.status = Status(status)
         super().__init__(self.status.name.lower().replace("_", " "))
 
+    def __reduce__(self) -> tuple[type[Refused], tuple[Status]]:
+        return type(self), (self.status,)
+
 
 @dataclass(frozen=True)
 class Question:
