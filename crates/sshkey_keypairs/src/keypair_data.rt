@@ -2,7 +2,7 @@
 
 ghost use Rattle.std.specs.Prelude.{◌≡◌, ◌^◌, true, false, Option, Some, None, Err, IfOk, IfErr, IfSome, IsOk, IsTrue, ◌||◌};
 ghost use Rattle.sshkey_base.specs.Causes.{cause};
-ghost use Rattle.sshkey_base.specs.Names.{algorithm_of, curve_of};
+ghost use Rattle.sshkey_base.specs.Names.{IsFixed, algorithm_of, curve_of};
 ghost use Rattle.sshkey_base.specs.Needs.{Asks};
 ghost use Rattle.sshkey_base.specs.Source.{Later};
 ghost use Rattle.sshkey_keys.specs.KeyKinds.{is_ecdsa, is_ed25519};
@@ -12,7 +12,7 @@ ghost use Rattle.sshkey_model.specs.Keys.{IsKey, unhashed};
 ghost use Rattle.sshkey_model.specs.Names.{Dsa, Ecdsa, Ed25519, Rsa, SkEcdsa, SkEd25519 as AlgorithmSkEd25519, Other, algorithm_name};
 ghost use Rattle.sshkey_keypairs.specs.Keypairs.{pair_fields, pair_of, keypair_parts, public_of, stored_algorithm, checkint_of, GivesPair, GivesModelPair, StopsPair, StopsModelPair};
 ghost use Rattle.sshkey_keypairs.specs.KeypairFormats.{NeedsPair};
-ghost use Rattle.sshkey_keypairs.specs.PairKinds.{is_encrypted, is_opaque};
+ghost use Rattle.sshkey_keypairs.specs.PairKinds.{is_encrypted};
 
 mod from;
 mod kinds;
@@ -137,13 +137,13 @@ impl KeypairData {
     }
 
     /// The algorithm; that of a pair under a private-use name is the one that stands beside its
-    /// public key. Fails with `Encrypted` for an encrypted pair; else rejected only when out of
-    /// memory, and only under a private-use name.
+    /// public key. Fails with `Encrypted` for an encrypted pair; else only when out of memory, and
+    /// only under a private-use name.
     pub fn algorithm(&self, alloc: Global) -> Result<Algorithm>
         ensures value { IfOk result (λ a. stored_algorithm self.now ≡ Some (algorithm_of a)) }
         ensures encrypted { is_encrypted self.now ≡ true → result ≡ Err Error.Encrypted }
         ensures refused { is_encrypted self.now ≡ false → IfErr result (λ e. e ≡ Error.Memory) }
-        ensures fixed { is_encrypted self.now ≡ false → is_opaque self.now ≡ false → IsOk result }
+        ensures fixed { IfSome (stored_algorithm self.now) (λ a. IsFixed a → IsOk result) }
     {
         Ok(match self {
             KeypairData::Dsa(_) => Algorithm::Dsa,

@@ -31,14 +31,14 @@ fn answer<W: Write>(alloc: Global, outcome: &Result<String, Error>, output: &mut
 /// Answers the words and the input on the output, and says by a status how it went.
 ///
 /// 2 for words that are no command, after a line that says how the program is used; nothing of the
-/// input is read then. 1 after `rejected:` and the reason, where the input is not UTF-8 or is a
+/// input is read then. 1 after `refused:` and the reason, where the input is not UTF-8 or is a
 /// line of no key, for `cert` of no certificate; where memory or the input failed; and where the
 /// output failed, which then holds only a beginning of what is shown. Else 0, after the SHA-256
 /// fingerprint of the key for `fingerprint`, for `art` after its random art under the header that
 /// follows the word, for `normal` after the line that is written of the key and its comment, and
 /// for `cert` after the fields of the certificate, a line each, and where a principal follows the
 /// word, a line that says whether the certificate allows it. For `keys` and `hosts` the text of
-/// each entry of the file is written, or `rejected:` and why the entry is none, and the status is 1
+/// each entry of the file is written, or `refused:` and why the entry is none, and the status is 1
 /// if one of them was rejected; where memory runs out, the lines of the entries before stand, and
 /// after them the line that says so. These lines are kept until they have 65,536 bytes, and written
 /// then, so the calls of `write` are few. Each line has a line end, and a reason is one line. A
