@@ -118,12 +118,17 @@ def check_closed(count, built, maker):
     paths = {"key": maker.path("holder.pub"), "issuer": maker.path("issuer")}
     inputs = {"check.py certificates": maker.read("holder-cert.pub"), "check.py signature": armoured(maker.signature("holder", "x"))}
     inputs["host.py"] = maker.read("holder.pub")
+    os.makedirs(maker.path("lacking"), exist_ok=True)
+    maker.write("lacking/cryptography.py", "raise ImportError('there is no cryptography')\n")
     for name, (script, *words) in PROGRAMS.items():
         words, given = [it.format(**paths) for it in words], inputs.get(name, "")
         _, _, *program = python(built, script)
         for case, library in (("no library", maker.path("none")), ("another library", "libc.so.6"), ("a text for a library", paths["key"])):
             ran = run([*program, *words], input=given, env={**os.environ, "SSHKEY_LIBRARY": library})
             count.check(f"{name}: {case}", is_untold(ran, script), ran.returncode, ran.stdout, ran.stderr)
+        if script != "host.py":
+            ran = run([*python(built, script), *words], input=given, env={**os.environ, "PYTHONPATH": maker.path("lacking")})
+            count.check(f"{name}: no package cryptography", is_untold(ran, script), ran.returncode, ran.stdout, ran.stderr)
         # issue.py has no input
         for case, closing in (("input", "<&-"), ("output", ">&-"))[script == "issue.py" :]:
             ran = run(["/bin/sh", "-c", f'exec "$@" {closing}', "sh", *python(built, script), *words], input=given)

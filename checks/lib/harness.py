@@ -1,7 +1,9 @@
 """What the checks of built programs share: how they count, what they make with ssh-keygen, and how they ask the table."""
+import base64
 import os
 import struct
 import subprocess
+import sys
 
 ROOT = os.path.dirname(os.path.dirname(os.path.dirname(os.path.abspath(__file__))))
 # the built program that answers lines of questions
@@ -36,6 +38,11 @@ def take(data):
     return data[4 : 4 + length], data[4 + length :]
 
 
+def unarmoured(text):
+    """The bytes in a text of Base64 between a first and a last line."""
+    return base64.b64decode("".join(text.splitlines()[1:-1]))
+
+
 def ssh_keygen(*words, **how):
     """A run of ssh-keygen, which has to succeed unless check=False is given."""
     return subprocess.run(["ssh-keygen", *words], **{"check": True, "capture_output": True, "stdin": subprocess.DEVNULL, **how})
@@ -60,7 +67,10 @@ def spelled(text):
 
 
 def answers_of(program, questions):
-    """What the program answers to each of the questions that it answers."""
+    """What the program answers to each of the questions that it answers. Ends the check where the program fails."""
     lines = "".join(f"{it}\n" for it in questions)
     run = subprocess.run([program], input=lines, capture_output=True, encoding="utf-8", check=False)
-    return dict(it.split(" = ", 1) for it in run.stdout.splitlines() if " = " in it)
+    if run.returncode:
+        sys.exit(f"{run.stderr[-2000:]}\n{program} ended with {run.returncode}")
+    # a comment may hold what splitlines takes for the end of a line
+    return dict(it.split(" = ", 1) for it in run.stdout.split("\n") if " = " in it)

@@ -19,14 +19,14 @@ import time
 from collections.abc import Callable, Collection
 from typing import NoReturn
 
-from cryptography.exceptions import InvalidSignature, UnsupportedAlgorithm
-from cryptography.hazmat.primitives import hashes
-from cryptography.hazmat.primitives.asymmetric import ec, ed25519, padding, rsa, utils
-
 try:
+    from cryptography.exceptions import InvalidSignature, UnsupportedAlgorithm
+    from cryptography.hazmat.primitives import hashes
+    from cryptography.hazmat.primitives.asymmetric import ec, ed25519, padding, rsa, utils
+
     import sshkey
     from sshkey import Algorithm, CertificateType, Status
-except (AttributeError, OSError) as fault:  # the library is not there, or is another
+except (AttributeError, ImportError, OSError) as fault:  # a library is not there, or is another
     if __name__ != "__main__":
         raise
     print(f"check.py: {fault}", file=sys.stderr)

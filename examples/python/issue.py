@@ -14,14 +14,14 @@ import sys
 import time
 from collections.abc import Sequence
 
-from cryptography.exceptions import UnsupportedAlgorithm
-from cryptography.hazmat.primitives import serialization
-from cryptography.hazmat.primitives.asymmetric.ed25519 import Ed25519PrivateKey
-
 try:
+    from cryptography.exceptions import UnsupportedAlgorithm
+    from cryptography.hazmat.primitives import serialization
+    from cryptography.hazmat.primitives.asymmetric.ed25519 import Ed25519PrivateKey
+
     import check
     import sshkey
-except (AttributeError, OSError) as fault:  # the library is not there, or is another
+except (AttributeError, ImportError, OSError) as fault:  # a library is not there, or is another
     if __name__ != "__main__":
         raise
     print(f"issue.py: {fault}", file=sys.stderr)
