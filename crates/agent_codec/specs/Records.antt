@@ -1,9 +1,8 @@
 -- What the messages of an SSH agent hold (draft-miller-ssh-agent, section 4): values, how they are written, and their formats.
 use Rattle.std.proofs.Common.{◌≡◌, ℕ, List, Option, Result, Ok, Err, true, false, refl}
 use Rattle.std.specs.Int.{w32}
-use Rattle.ssh_key.specs.base.Formats.{Format, number32_format, string_format, text_format}
+use Rattle.ssh_key.specs.base.Formats.{Format, number32_format, string_format}
 use Rattle.ssh_key.specs.base.Leaves.{SpellsNumber32, SpellsString, number32_normal, string_normal}
-use Rattle.ssh_key.specs.base.Texts.{SpellsText, text_normal}
 use Rattle.ssh_key.specs.format.Behind.{SpellsBoth}
 use Rattle.ssh_key.specs.format.Terms.{◌then◌, IsMapped, tested}
 use Rattle.ssh_key.specs.keypairs.KeypairFormats.{keypair_format}
@@ -14,7 +13,7 @@ use Rattle.ssh_key.specs.keypairs.PairKinds.{is_encrypted}
 use Rattle.ssh_key.specs.model.KeyPairs.{KeyPair}
 use Rattle.ssh_key.specs.model.Parts.{Parts, number, ◌&◌, flat, Fits}
 use Rattle.ssh_key.specs.model.Reading.{Fault}
-use Rattle.ssh_key.specs.model.Texts.{string, IsText}
+use Rattle.ssh_key.specs.model.Texts.{string}
 use Rattle.ssh_key.specs.types.Error.{Error}
 use Rattle.ssh_key.specs.types.Error.TheVariants.{Encrypted}
 use Rattle.ssh_key.specs.types.private.KeypairData.{KeypairData}
@@ -39,7 +38,7 @@ abbrev pub identity_of_parts : List ℕ × List ℕ → Result Identity Fault
 identity_of_parts a = Ok (record { key = a.0; comment = a.1 })
 
 abbrev pub identity_format : Format Identity
-identity_format = tested identity_of_parts (string_format then text_format)
+identity_format = tested identity_of_parts (string_format then string_format)
 
 -- ---- what is to be signed: the blob of the key, the message and the flags (section 4.5)
 
@@ -85,27 +84,27 @@ abbrev pub addition_of_parts : Option KeyPair × List ℕ → Result Addition Fa
 addition_of_parts a = Ok (record { pair = a.0; comment = a.1 })
 
 abbrev pub addition_format : Format Addition
-addition_format = tested addition_of_parts (keypair_format then text_format)
+addition_format = tested addition_of_parts (keypair_format then string_format)
 
--- The pair is one that its format has, and the comment is a text.
+-- The pair is one that its format has.
 abbrev pub IsWellFormedAddition : code_addition.Addition → Type 0
-IsWellFormedAddition a = IsWellFormedPair (pair_of a.keypair) × IsText a.comment
+IsWellFormedAddition a = IsWellFormedPair (pair_of a.keypair)
 
 -- ---- what is proved of them
 
-pub identity_parts_read : IsMapped identity_format.read identity_of_parts (string_format then text_format).read
+pub identity_parts_read : IsMapped identity_format.read identity_of_parts (string_format then string_format).read
 identity_parts_read = record { same = λ b. refl }
 
 pub sign_request_parts_read : IsMapped sign_request_format.read sign_request_of_parts (string_format then string_format then number32_format).read
 sign_request_parts_read = record { same = λ b. refl }
 
-pub addition_parts_read : IsMapped addition_format.read addition_of_parts (keypair_format then text_format).read
+pub addition_parts_read : IsMapped addition_format.read addition_of_parts (keypair_format then string_format).read
 addition_parts_read = record { same = λ b. refl }
 
-pub identity_normal : (i : Identity) → IsText i.comment → Fits (identity i) → identity_format.Spells i (flat (identity i))
-identity_normal i is fits = record {
+pub identity_normal : (i : Identity) → Fits (identity i) → identity_format.Spells i (flat (identity i))
+identity_normal i fits = record {
   inner = (i.key, i.comment);
-  spelled = both_spelled SpellsString SpellsText i.key i.comment (string i.key) (string i.comment) (string_normal i.key tt) (text_normal i.comment is) fits;
+  spelled = both_spelled SpellsString SpellsString i.key i.comment (string i.key) (string i.comment) (string_normal i.key tt) (string_normal i.comment tt) fits;
   makes = refl;
 }
 
@@ -119,6 +118,6 @@ sign_request_normal r fits = record {
 pub addition_normal : (a : code_addition.Addition) → IsWellFormedAddition a → Fits (addition a) → addition_format.Spells (addition_of a) (flat (addition a))
 addition_normal a is fits = record {
   inner = (pair_of a.keypair, a.comment);
-  spelled = both_spelled SpellsKeypair SpellsText (pair_of a.keypair) a.comment (keypair_parts a.keypair) (string a.comment) (keypair_normal a.keypair is.0) (text_normal a.comment is.1) fits;
+  spelled = both_spelled SpellsKeypair SpellsString (pair_of a.keypair) a.comment (keypair_parts a.keypair) (string a.comment) (keypair_normal a.keypair is) (string_normal a.comment tt) fits;
   makes = refl;
 }

@@ -96,7 +96,7 @@ request_format = framed kind_from body
 pub constrained_read : IsMapped constrained_body.read (λ a. Ok (AddConstrained a.0 a.1)) (both_at addition_format.read constraints.read)
 constrained_read = record { same = λ b. refl }
 
--- What is added is no encrypted pair, and what is said in words is UTF-8.
+-- What is added is a pair of its format, and the names of constraints are UTF-8.
 abbrev pub IsWellFormed : code.Request → Type 0
 IsWellFormed variants.RequestIdentities = Unit {0}
 IsWellFormed (variants.SignRequest r) = Unit {0}

@@ -1,5 +1,5 @@
 -- Responses of an agent (draft-miller-ssh-agent, section 4), their numbers (section 5.1), and how they stand in a frame.
-use Rattle.std.proofs.Common.{◌≡◌, ◌<◌, ◌+◌, ℕ, List, length, map, Option, Some, None, Result, Ok, Err, refl, arith}
+use Rattle.std.proofs.Common.{◌≡◌, ◌<◌, ◌+◌, ℕ, List, [], ◌∷◌, length, map, Option, Some, None, Result, Ok, Err, refl, arith}
 use Rattle.std.specs.Prelude.{◌==◌, if◌then◌else◌}
 use Rattle.std.specs.Int.{w8}
 use Rattle.std.specs.List.{AllByRecursion}
@@ -13,7 +13,7 @@ use Rattle.ssh_key.specs.keys.Signatures.{signature_of}
 use Rattle.ssh_key.specs.model.Parts.{Parts, box, bytes, flat, Fits, number, ◌&◌}
 use Rattle.ssh_key.specs.model.Reading.{Fault, FormatEncoding}
 use Rattle.ssh_key.specs.model.Signatures.{Signature, IsSignature, signature}
-use Rattle.ssh_key.specs.model.Texts.{string, IsText}
+use Rattle.ssh_key.specs.model.Texts.{string}
 use Rattle.ssh_key.specs.types.Signature as code_signature
 use Rattle.ssh_key.proofs.Writing.{length_both, length_box}
 use Rattle.agent_codec.specs.Parts.{after_number, frame_spelled, framed, message, nothing_format, number_alone}
@@ -87,11 +87,11 @@ response_format = framed kind_from body
 
 -- ---- what is proved of it
 
--- The signature is one of its algorithm, and the comments are texts.
+-- The signature is one of its algorithm.
 abbrev pub IsWellFormed : code.Response → Type 0
 IsWellFormed variants.Failure = Unit {0}
 IsWellFormed variants.Success = Unit {0}
-IsWellFormed (variants.IdentitiesAnswer keys) = AllByRecursion (λ i. IsText i.comment) keys.items
+IsWellFormed (variants.IdentitiesAnswer keys) = Unit {0}
 IsWellFormed (variants.SignResponse g) = IsSignature (signature_of g)
 
 -- a key has bytes
@@ -101,8 +101,12 @@ shows i =
     let first : length (flat (string i.key)) ≡ 4 + length (flat (bytes i.key)) = length_box (bytes i.key) in
     omega (arith, all, first)
 
-answer_normal : (keys : List code_identity.Identity) → AllByRecursion (λ i. IsText i.comment) keys → Fits (answer keys) → (counted_format identity_format).Spells (map identity_of keys) (flat (answer keys))
-answer_normal keys all fits = counted_normal identity_of (λ i. identity (identity_of i)) (λ i. IsText i.comment) identity_format.Spells (λ i is f. identity_normal (identity_of i) is f) shows keys all fits
+all_alike : (keys : List code_identity.Identity) → AllByRecursion (λ _. Unit {0}) keys
+all_alike [] = tt
+all_alike (i ∷ keys) = (tt, all_alike keys)
+
+answer_normal : (keys : List code_identity.Identity) → Fits (answer keys) → (counted_format identity_format).Spells (map identity_of keys) (flat (answer keys))
+answer_normal keys fits = counted_normal identity_of (λ i. identity (identity_of i)) (λ _. Unit {0}) identity_format.Spells (λ i is f. identity_normal (identity_of i) f) shows keys (all_alike keys) fits
 
 abbrev SpellsBody : ResponseKind → Response → List ℕ → Type 0
 SpellsBody k = (body k).Spells
@@ -110,7 +114,7 @@ SpellsBody k = (body k).Spells
 message_normal : (r : code.Response) → IsWellFormed r → Fits (response r) → (message kind_from body).Spells (response_of r) (flat (response r))
 message_normal variants.Failure is fits = number_alone kind_from SpellsBody 5 kinds.Failure Failure refl (refl, refl) fits
 message_normal variants.Success is fits = number_alone kind_from SpellsBody 6 kinds.Success Success refl (refl, refl) fits
-message_normal (variants.IdentitiesAnswer keys) is fits = after_number kind_from SpellsBody 12 kinds.IdentitiesAnswer (Identities (map identity_of keys.items)) (answer keys.items) refl (λ f. record { inner = map identity_of keys.items; spelled = answer_normal keys.items is f; makes = refl }) fits
+message_normal (variants.IdentitiesAnswer keys) is fits = after_number kind_from SpellsBody 12 kinds.IdentitiesAnswer (Identities (map identity_of keys.items)) (answer keys.items) refl (λ f. record { inner = map identity_of keys.items; spelled = answer_normal keys.items f; makes = refl }) fits
 message_normal (variants.SignResponse g) is fits = after_number kind_from SpellsBody 14 kinds.SignResponse (Signed (signature_of g)) (signed g) refl (λ f. record { inner = signature_of g; spelled = frame_spelled SpellsSignature (signature_of g) (signature (signature_of g)) (signature_normal (signature_of g) is) f; makes = refl }) fits
 
 pub response_normal : (r : code.Response) → IsWellFormed r → Fits (box (response r)) → response_format.Spells (response_of r) (flat (box (response r)))

@@ -4,7 +4,7 @@ ghost use Rattle.std.specs.Prelude.{◌≡◌, ◌+◌, ◌^◌, false};
 ghost use Rattle.ssh_key.specs.keypairs.PairKinds.{is_encrypted};
 
 use ssh_key::encoding::{
-    Decode, Encode, NormalForm, Reader, Text, Then, Wide, Writer, both_len, encode_both,
+    Bytes, Decode, Encode, NormalForm, Reader, Then, Wide, Writer, both_len, encode_both,
 };
 use ssh_key::private::KeypairData;
 use ssh_key::{Error, Result, encoding};
@@ -14,8 +14,8 @@ use std::alloc::Global;
 /// an encrypted one.
 pub struct Addition {
     keypair: KeypairData,
-    /// What the user calls it.
-    pub comment: Text,
+    /// What the user calls it. It need not be UTF-8.
+    pub comment: Bytes,
     pub ghost form: { is_encrypted keypair ≡ false },
 }
 
@@ -33,7 +33,7 @@ impl Addition {
 
     /// The pair and what the user calls it. Fails with `Encrypted` exactly for an encrypted pair:
     /// an agent is given a pair, and no ciphertext.
-    pub fn new(keypair: KeypairData, comment: Text) -> Result<Addition>
+    pub fn new(keypair: KeypairData, comment: Bytes) -> Result<Addition>
         ensures { MakesAddition keypair comment result }
     {
         if keypair.is_encrypted() {
@@ -51,8 +51,12 @@ impl Addition {
     }
 }
 
-/// The pair after its name, and a string. An encrypted pair is never read, and a pair with a
-/// certificate is none: its name fails with `Label`.
+/// The pair after its name, and a string. An encrypted pair is never read.
+///
+/// What ssh-add(1) sends of a key with a certificate is no pair of the key. Of an ECDSA key it is read
+/// as a pair under the certificate's name, so an agent answers `Response::Failure` where
+/// `Algorithm::from_fixed_certificate_name` knows that name; of other keys strings are left over, and
+/// reading the request fails.
 #[tactic(auto, using(ssh_key::proofs::Mapped::mapped, crate::specs::Records::addition_parts_read))]
 impl Decode for Addition {
     ghost use Rattle.agent_codec.specs.Records as model;
@@ -67,7 +71,7 @@ impl Decode for Addition {
     ghost format = { addition_format };
 
     fn decode<R: Reader>(alloc: Global, reader: &mut R) -> Result<Addition> {
-        let Then(keypair, Wide(comment)) = Then::<KeypairData, Wide<Text>>::decode(alloc, reader)?;
+        let Then(keypair, Wide(comment)) = Then::<KeypairData, Wide<Bytes>>::decode(alloc, reader)?;
         Ok(Addition { keypair, comment })
     }
 }
@@ -88,7 +92,7 @@ impl Encode for Addition {
     }
 }
 
-/// The pair is one that its format has, and the comment is UTF-8.
+/// The pair is one that its format has.
 impl NormalForm for Addition {
     ghost use Rattle.agent_codec.specs.Records.{IsWellFormedAddition, addition_normal};
 

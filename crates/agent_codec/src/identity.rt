@@ -1,13 +1,11 @@
 //! A key that an agent holds.
 
 ghost use Rattle.std.specs.Prelude.{◌+◌, ◌*◌, ◌^◌};
-ghost use Rattle.ssh_key.specs.model.Texts.{IsText};
 ghost use Rattle.agent_codec.specs.Records as model;
 ghost use Rattle.agent_codec.specs.Records.{identity, identity_format, identity_normal, identity_of};
 
 use ssh_key::encoding::{
-    Bytes, Decode, Encode, Error, NormalForm, Reader, Result, Text, Then, Writer, both_len,
-    encode_both,
+    Bytes, Decode, Encode, Error, NormalForm, Reader, Result, Then, Writer, both_len, encode_both,
 };
 use std::alloc::Global;
 
@@ -17,11 +15,11 @@ pub struct Identity {
     /// The blob of the key or of its certificate: `KeyOrCertificate::from_bytes` reads either. It
     /// is kept as bytes, since a key of a kind that nobody knows here is no fault of the answer.
     pub key: Bytes,
-    /// What the user calls it.
-    pub comment: Text,
+    /// What the user calls it. OpenSSH lists a key whatever its comment is, so it need not be UTF-8.
+    pub comment: Bytes,
 }
 
-/// Two strings. Fails with `CharacterEncoding` for a comment that is not UTF-8.
+/// Two strings.
 #[tactic(auto, using(ssh_key::proofs::Mapped::mapped, crate::specs::Records::identity_parts_read))]
 impl Decode for Identity {
     type Error = Error;
@@ -33,7 +31,7 @@ impl Decode for Identity {
     ghost format = { identity_format };
 
     fn decode<R: Reader>(alloc: Global, reader: &mut R) -> Result<Identity> {
-        let Then(key, comment) = Then::<Bytes, Text>::decode(alloc, reader)?;
+        let Then(key, comment) = Then::<Bytes, Bytes>::decode(alloc, reader)?;
         Ok(Identity { key, comment })
     }
 }
@@ -53,7 +51,7 @@ impl Encode for Identity {
 }
 
 impl NormalForm for Identity {
-    ghost IsWellFormed = { λ i. IsText i.comment };
+    ghost IsWellFormed = { λ _. Unit {0} };
 
-    ghost normal_spells = { λ i. identity_normal (identity_of i) };
+    ghost normal_spells = { λ i _. identity_normal (identity_of i) };
 }

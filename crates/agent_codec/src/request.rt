@@ -46,7 +46,8 @@ pub enum Request {
     AddIdentityConstrained {
         /// The key.
         addition: Addition,
-        /// What limits its use. An agent refuses the key where it does not know one of them.
+        /// What limits its use. An agent refuses the key where it does not know one of them, and
+        /// OpenSSH's also where one is told twice.
         constraints: Vec<Constraint>,
     },
 }
@@ -105,7 +106,7 @@ impl Encode for Request {
     }
 }
 
-/// What is added is no encrypted pair, and comments and names are UTF-8.
+/// What is added is no encrypted pair, and names are UTF-8.
 impl NormalForm for Request {
     ghost IsWellFormed = { IsWellFormed };
 

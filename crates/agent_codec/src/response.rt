@@ -84,7 +84,7 @@ impl Encode for Response {
     }
 }
 
-/// The signature has the form that its algorithm asks for, and the comments are UTF-8.
+/// The signature has the form that its algorithm asks for.
 impl NormalForm for Response {
     ghost IsWellFormed = { IsWellFormed };
 

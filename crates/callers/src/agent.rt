@@ -60,7 +60,7 @@ fn shown_identities(alloc: Global, identities: &[Identity]) -> Result<String> {
     let mut text = String::from_str(alloc, "identities")?;
     for identity in identities {
         push_bytes(alloc, &mut text, identity.key.as_slice())?;
-        push_bytes(alloc, &mut text, identity.comment.as_str().as_bytes())?;
+        push_bytes(alloc, &mut text, identity.comment.as_slice())?;
     }
     Ok(text)
 }
