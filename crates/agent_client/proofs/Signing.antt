@@ -8,7 +8,7 @@ use Rattle.ssh_key.specs.model.Parts.{Parts, box, flat, BoxesFit}
 use Rattle.ssh_key.specs.model.Signatures.{Signature}
 use Rattle.ssh_key.specs.model.Verification.{Question, IsAccepted}
 use Rattle.ssh_key.specs.types.Error.{Error}
-use Rattle.ssh_key.specs.types.Error.TheVariants.{Memory}
+use Rattle.ssh_key.specs.types.Error.TheVariants.{Crypto, Memory}
 use Rattle.ssh_key.specs.types.Signature as code_signature
 use Rattle.ssh_key.specs.types.encoding.Error as encoding
 use Rattle.ssh_key.specs.types.encoding.Error.TheVariants.{Length, Memory as NoRoom}
@@ -17,7 +17,7 @@ use Rattle.ssh_key.proofs.Writing.{boxes_short}
 use Rattle.agent_codec.specs.Requests.{to_sign}
 use Rattle.agent_codec.specs.Responses as model
 use Rattle.agent_codec.specs.Responses.{given_of, response_format, response_of}
-use Rattle.agent_client.specs.Signing.{GetsNone, GetsSignature, IsAnswered, IsRefusalOf, ReadsSignature, RefusesToSign, SpellsAnswer, signing_request}
+use Rattle.agent_client.specs.Signing.{Counts, GetsNone, GetsSignature, IsAnswered, IsAskedFor, IsRefusalOf, ReadsSignature, RefusesToSign, SpellsAnswer, signing_request}
 use Rattle.agent_codec.specs.declared.response.Response as code
 use Rattle.agent_codec.specs.declared.response.Response.TheVariants as variants
 
@@ -91,13 +91,17 @@ module _ (answers : List ℕ → Result (List ℕ) Error → Type 0) (request : 
           not (subst Counts is_g counts)
 
 module _ (answers : List ℕ → Result (List ℕ) Error → Type 0) (accepts : Question → Bool) (key : Key) (flags : ℕ) (message : List ℕ) where
-  abbrev Counts : Signature → Type 0
-  Counts = IsAccepted accepts key message
+  abbrev Kept : Signature → Type 0
+  Kept = Counts accepts key flags message
 
   pub refused_none : (e refusal : Error) → (e ≢ Memory → GetsNone answers (signing_request key flags message) (λ _. Unit {0})) → IsRefusalOf e refusal → RefusesToSign answers accepts key flags message refusal
   refused_none e refusal h (inl memory) = inl memory.1
-  refused_none e refusal h (inr other) = inr (other.1, none_counts answers (signing_request key flags message) Counts (h other.0))
+  refused_none e refusal h (inr other) = inr (other.1, none_counts answers (signing_request key flags message) Kept (h other.0))
 
-  pub refused_one : (g : Signature) (e refusal : Error) → IsAnswered answers (signing_request key flags message) g → (e ≢ Memory → Counts g → ⊥) → IsRefusalOf e refusal → RefusesToSign answers accepts key flags message refusal
+  pub refused_one : (g : Signature) (e refusal : Error) → IsAnswered answers (signing_request key flags message) g → (e ≢ Memory → IsAccepted accepts key message g → ⊥) → IsRefusalOf e refusal → RefusesToSign answers accepts key flags message refusal
   refused_one g e refusal given h (inl memory) = inl memory.1
-  refused_one g e refusal given h (inr other) = inr (other.1, one_refused answers (signing_request key flags message) Counts g given (h other.0))
+  refused_one g e refusal given h (inr other) = inr (other.1, one_refused answers (signing_request key flags message) Kept g given (λ counts. h other.0 counts.1))
+
+  -- one by another hash
+  pub other_hash : (g : Signature) → IsAnswered answers (signing_request key flags message) g → (IsAskedFor flags g.algorithm → ⊥) → RefusesToSign answers accepts key flags message Crypto
+  other_hash g given not = inr (refl, one_refused answers (signing_request key flags message) Kept g given (λ counts. not counts.0))

@@ -1,8 +1,9 @@
 -- What an agent is asked for a signature, and what it answers (draft-miller-ssh-agent, section 4.5).
-use Rattle.std.proofs.Common.{◌≡◌, ◌⊎◌, ℕ, List, Bool, Result, Ok, Err}
+use Rattle.std.proofs.Common.{◌≡◌, ◌⊎◌, ℕ, List, Bool, Some, Result, Ok, Err}
 use Rattle.std.specs.Prelude.{◌≢◌, Vec}
 use Rattle.ssh_key.specs.keys.Signatures.{signature_of}
 use Rattle.ssh_key.specs.model.Keys.{Key, normal_key}
+use Rattle.ssh_key.specs.model.Names.{Algorithm, Rsa, Sha256, Sha512}
 use Rattle.ssh_key.specs.model.Parts.{Parts, box, flat, BoxesFit}
 use Rattle.ssh_key.specs.model.Signatures.{Signature}
 use Rattle.ssh_key.specs.model.Verification.{Question, IsAccepted}
@@ -53,9 +54,17 @@ module _ (answers : List ℕ → Result (List ℕ) Error → Type 0) (request : 
   GetsSignature (Ok g) = IsAnswered (signature_of g)
   GetsSignature (Err e) = e ≢ Memory → GetsNone (λ _. Unit {0})
 
--- For which messages a key in an agent refuses to sign, and with which error: the agent has no signature that is accepted.
+-- With the flag 2 no signature by RSA is one of SHA-512, and with 4 none of SHA-256 (section 4.5.1).
+abbrev pub IsAskedFor : ℕ → Algorithm → Type 0
+IsAskedFor flags a = (flags ≡ 2 → a ≢ Rsa (Some Sha512)) × (flags ≡ 4 → a ≢ Rsa (Some Sha256))
+
+-- The signature counts: it is by the hash that was asked for, and accepted.
+abbrev pub Counts : (Question → Bool) → Key → ℕ → List ℕ → Signature → Type 0
+Counts accepts key flags message g = IsAskedFor flags g.algorithm × IsAccepted accepts key message g
+
+-- For which messages a key in an agent refuses to sign, and with which error: the agent has no signature that counts.
 abbrev pub RefusesToSign : (List ℕ → Result (List ℕ) Error → Type 0) → (Question → Bool) → Key → ℕ → List ℕ → Error → Type 0
-RefusesToSign answers accepts key flags message e = (e ≡ Memory) ⊎ ((e ≡ Crypto) × GetsNone answers (signing_request key flags message) (IsAccepted accepts key message))
+RefusesToSign answers accepts key flags message e = (e ≡ Memory) ⊎ ((e ≡ Crypto) × GetsNone answers (signing_request key flags message) (Counts accepts key flags message))
 
 -- `Memory` stays, and any other error is `Crypto`.
 abbrev pub IsRefusalOf : Error → Error → Type 0

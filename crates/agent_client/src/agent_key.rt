@@ -1,18 +1,19 @@
 //! A signing key in an agent.
 
-ghost use Rattle.std.specs.Prelude.{◌≡◌, ◌≢◌, ℕ, List, Result, IfErr, IfOk};
+ghost use Rattle.std.specs.Prelude.{◌≡◌, ◌≢◌, ◌↔◌, ℕ, List, Result, IfErr, IfOk, IsTrue};
+ghost use Rattle.ssh_key.specs.base.Names.{algorithm_of};
 ghost use Rattle.ssh_key.specs.keys.Keys.{key_of};
 ghost use Rattle.ssh_key.specs.keys.Signatures.{signature_of};
 ghost use Rattle.ssh_key.specs.model.Parts.{flat, BoxesFit};
 ghost use Rattle.ssh_key.specs.model.Verification.{IsAccepted};
 ghost use Rattle.ssh_key.specs.types.Error.{Error};
 ghost use Rattle.ssh_key.specs.types.Error.TheVariants.{Memory};
-ghost use Rattle.agent_client.specs.Signing.{GetsSignature, IsAnswered, IsRefusalOf, ReadsSignature, RefusesToSign, handed, signing_request};
+ghost use Rattle.agent_client.specs.Signing.{GetsSignature, IsAnswered, IsAskedFor, IsRefusalOf, ReadsSignature, RefusesToSign, handed, signing_request};
 
 use agent_codec::{Request, Response, SignRequest};
 use ssh_key::encoding::{Bytes, decode_whole, encode_vec};
 use ssh_key::public::KeyData;
-use ssh_key::{Error, RawVerifier, Result, Signature, SigningKey};
+use ssh_key::{Algorithm, Error, HashAlg, RawVerifier, Result, Signature, SigningKey};
 use std::alloc::Global;
 
 /// An agent that can be asked: its socket, or what stands for it.
@@ -36,7 +37,7 @@ pub trait Agent {
 pub struct AgentKey<'a, A, V> {
     /// The public key.
     pub key: KeyData,
-    /// The flags of the request: which hash an RSA key takes.
+    /// The flags of the request: 2 asks an RSA key for SHA-256, 4 for SHA-512.
     pub flags: u32,
     /// The agent.
     pub agent: &'a A,
@@ -97,6 +98,27 @@ fn signature_from(alloc: Global, answer: &[u8]) -> Result<Signature>
     }
 }
 
+/// Whether the signature is by the hash that the flags ask an RSA key for.
+fn is_asked_for(flags: u32, algorithm: &Algorithm) -> bool
+    ensures { IsTrue result ↔ IsAskedFor flags (algorithm_of algorithm.now) }
+{
+    match flags {
+        2 => !matches!(
+            algorithm,
+            Algorithm::Rsa {
+                hash: Some(HashAlg::Sha512)
+            }
+        ),
+        4 => !matches!(
+            algorithm,
+            Algorithm::Rsa {
+                hash: Some(HashAlg::Sha256)
+            }
+        ),
+        _ => true,
+    }
+}
+
 /// `Memory` as it is, and `Crypto` for any other error.
 fn refusal_of(error: Error) -> Error
     ensures { IsRefusalOf error result }
@@ -128,10 +150,11 @@ impl<A: Agent, V: RawVerifier> SigningKey for AgentKey<'_, A, V> {
         &self.key
     }
 
-    /// Asks the agent for a signature of the message, and returns it if the verifier accepts it.
+    /// Asks the agent for a signature of the message, and returns it if it is by the hash that the
+    /// flags ask for and the verifier accepts it.
     ///
-    /// Fails with `Crypto` where the agent answers none that the verifier accepts, or a string of
-    /// the request is too long, and else only when out of memory.
+    /// Fails with `Crypto` where the agent answers no such one, or a string of the request is too
+    /// long, and else only when out of memory.
     fn try_sign(&self, alloc: Global, message: &[u8]) -> Result<Signature>
         requires { A.permits self.now.agent.now
             (flat (signing_request (key_of self.now.key) self.now.flags message.now)) }
@@ -141,11 +164,16 @@ impl<A: Agent, V: RawVerifier> SigningKey for AgentKey<'_, A, V> {
             (V.accepts self.now.verifier.now) (key_of self.now.key) self.now.flags message.now) }
         ensures answered { IfOk result (λ g. IsAnswered (A.answers self.now.agent.now)
             (signing_request (key_of self.now.key) self.now.flags message.now) (signature_of g)) }
+        ensures hashed { IfOk result
+            (λ g. IsAskedFor self.now.flags (signature_of g).algorithm) }
     {
         let signature = match self.ask(alloc, message) {
             Ok(signature) => signature,
             Err(error) => return Err(refusal_of(error)),
         };
+        if !is_asked_for(self.flags, signature.algorithm()) {
+            return Err(Error::Crypto);
+        }
         match self.key.verify(alloc, message, &signature, self.verifier) {
             Ok(()) => Ok(signature),
             Err(error) => Err(refusal_of(error)),
