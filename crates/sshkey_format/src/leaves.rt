@@ -107,7 +107,7 @@ impl<'a> ReadFrom<&'a [u8]> for &'a str {
     }
 }
 
-/// The next `len` bytes. Fails with `Length` if fewer are left, and then leaves the slice as it was.
+/// The next `len` bytes. Fails with `Length` if fewer are left; the slice is then as it was.
 pub fn bytes_from<'a>(len: usize, bytes: &mut &'a [u8]) -> Result<&'a [u8]>
     ensures gives { GivesAlways (λ b. b.now) encoding_cause (bytes_at len)
         (all_of bytes.old.now) result (all_of bytes.new.now) }
