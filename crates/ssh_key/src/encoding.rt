@@ -5,6 +5,6 @@ pub use sshkey_base::{
     Bytes, Decode, DecodeError, Encode, Label, LabelError, NestedReader, NormalForm, Reader,
     ShortBytes, SliceWriter, Text, Writer, array_from, both_len, decode_boxed, decode_front,
     decode_whole, each_len, encode_both, encode_each, encode_list, encode_string, encode_vec,
-    length_from, list_len, string_len, u32_of,
+    erase_slice, length_from, list_len, string_len, u32_of,
 };
 pub use sshkey_format::{Boxed, Counted, Then, Wide, counted_len, decode_each, encode_counted};

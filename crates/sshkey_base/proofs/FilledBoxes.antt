@@ -1,31 +1,18 @@
 -- How a call stops that reads a string to its end, by how the call stops that reads what fills it.
-use Rattle.std.proofs.Common.{◌≡◌, ◌≢◌, ◌⊎◌, inl, inr, ◌≤◌, ◌<◌, ◌+◌, ◌-◌, ℕ, List, IsOk, length, take, Result, Ok, Err, refl, arith}
+use Rattle.std.proofs.Common.{◌≡◌, ◌⊎◌, inl, inr, ◌≤◌, ◌<◌, ◌+◌, ◌-◌, ℕ, List, IsOk, length, take, Result, Ok, Err, refl, arith}
 use Rattle.std.proofs.lemmas.Bool.{cases_lt, lt-ltb}
-use Rattle.std.proofs.lemmas.List.{length-append}
 use denote.Ref.{MutBor}
 use denote.Param.Members.{Once}
 use Rattle.sshkey_base.specs.Causes.{Cause, NoMemory, Faulty, encoding_cause}
-use Rattle.sshkey_base.specs.Needs.{NeedsBoxed, HasByte, HasString}
+use Rattle.sshkey_base.specs.Needs.{NeedsBoxed, HasString}
 use Rattle.sshkey_base.specs.Nested.{AsksBy, Calls, Prefixed, ReadsBy}
-use Rattle.sshkey_base.specs.Source.{Source, Later, announced_len, part}
+use Rattle.sshkey_base.specs.Source.{Source, part}
 use Rattle.sshkey_base.specs.Stops.{AreLengths, OverrunsBoxed, RanOut, Stopped, StopsBy, StopsPast, StopsToEnd}
 use Rattle.sshkey_model.specs.Reading.{Front, Length, box_at, whole}
 use Rattle.sshkey_base.specs.declared.encoding.Error.{Error}
 use Rattle.sshkey_base.specs.declared.encoding.Error.TheVariants as encoding
 use Rattle.sshkey_base.proofs.Boxes.{prefixed_stops_to_end}
 use Rattle.sshkey_base.proofs.Stopping.{not_taken}
-
--- Where bytes are left, there were some before.
-pub later_some : (s t : Source) → Later s t → announced_len t ≢ 0 → HasByte s.left s.missing
-later_some s t later some =
-    let all : length s.left ≡ length later.passed + length t.left = rw later.left (length-append later.passed t.left) in
-    let same = later.missing in
-    omega (arith, all, same, some)
-
--- So memory ran out for a value.
-pub ran_some : (c : Cause) (s : Source) → HasByte s.left s.missing → (c ≡ Faulty Length) ⊎ (c ≡ NoMemory) → (c ≡ Faulty Length) ⊎ RanOut c HasByte s
-ran_some c s some (inl is) = inl is
-ran_some c s some (inr memory) = inr (record { memory = memory; needed = some })
 
 module _ {F N T E Y : Type 0} (call : Once F (MutBor N × Unit {0}) (Result T E × (MutBor N × Unit {0}))) (source : N → Source) (from_gives : Error → E → Type 0) (cause : E → Cause) (f : F) (means : T → Y) (read : Front Y) (keeps : (x : Error) (e : E) → from_gives x e → cause e ≡ encoding_cause x) (needs overruns : List ℕ → ℕ → Type 0) (lengths : AreLengths read overruns) (by : ReadsBy call source cause f means read) (asks : AsksBy call source cause f needs) (stops : (p q : MutBor N) (r : Result T E) → call.post f (p, tt) (r, (q, tt)) → StopsPast cause needs overruns (source p.now) r) where
   to_end_stops : (p q : MutBor N) (r : Result T E) → call.post f (p, tt) (r, (q, tt)) → StopsToEnd cause overruns (source p.now) r

@@ -23,6 +23,7 @@ pub mod WholeStrings
 pub mod Judging
 pub mod WrittenLists
 pub mod ReadLists
+pub mod FirstValues
 pub mod MappedBoxes
 pub mod Measured
 pub mod ShortStrings

@@ -1,15 +1,14 @@
 -- A loop that reads values up to the end of a source.
-use Rattle.std.proofs.Common.{◌≡◌, ◌≢◌, ◌⊎◌, inl, inr, IsOk, ◌≤◌, ◌<◌, ◌+◌, ℕ, zero, suc, Option, None, Some, List, [], ◌∷◌, ◌++◌, append-nil, append_assoc, length, Result, Ok, Err, refl, sym, ap, ◌∙◌, arith}
+use Rattle.std.proofs.Common.{◌≡◌, ◌≢◌, inl, inr, ◌≤◌, ◌<◌, ◌+◌, ℕ, zero, suc, Option, None, Some, List, [], ◌∷◌, ◌++◌, append-nil, append_assoc, length, Result, Ok, Err, refl, sym, ap, ◌∙◌, arith}
 use Rattle.std.proofs.lemmas.List.{nil_from_length, length-append}
 use Rattle.std.proofs.lemmas.Result.{err_from_is_err_and}
-use Rattle.sshkey_model.specs.Reading.{Fault, Length, ◌>>=◌, Front, Whole, whole, box_at, list_within, list_whole}
+use Rattle.sshkey_model.specs.Reading.{Fault, ◌>>=◌, Front, Whole, whole, box_at, list_within, list_whole}
 use Rattle.sshkey_model.specs.Parts.{Parts, flat}
 use Rattle.sshkey_model.proofs.CombinedReaders.{ReadsFront}
-use Rattle.sshkey_base.specs.Causes.{Cause, NoMemory, Faulty}
+use Rattle.sshkey_base.specs.Causes.{Cause}
 use Rattle.sshkey_base.specs.Source.{Source, announced_len}
 use Rattle.sshkey_base.specs.Reading.{Reads, IsRefused, Gives, to_end}
-use Rattle.sshkey_base.specs.Stops.{OverrunsWithin, OverrunsList, AreLengths, Stopped}
-use Rattle.std.specs.Prelude.{IsOkAnd}
+use Rattle.sshkey_base.specs.Stops.{OverrunsWithin, OverrunsList, AreLengths}
 
 module _ {A : Type 0} (item : Option A → Front A) where
   first_step : (n : ℕ) (before : Option A) (b : List ℕ) → 0 < length b → list_within item (suc n) before b ≡ (item before b >>= λ x. list_within item n (Some x.0) x.1 >>= λ xs. Ok (x.0 ∷ xs))
@@ -94,23 +93,6 @@ module _ {A : Type 0} (item : Option A → Front A) (over : List ℕ → ℕ →
       next zero (c ∷ b) is w = absurd w
       next (suc n) (c ∷ b) is (inl w) = let e = lengths before (c ∷ b) t.missing w in let v = h.value in absurd (cc (is, e, v))
       next (suc n) (c ∷ b) is (inr w) = (n, rw (is, h.value, ← h.missing) at w)
-
-  -- a value is refused
-  pub list_stopped : (c : Cause) (needs : List ℕ → ℕ → Type 0) (s t : Source) (before : Option A) → StillOverruns s before t → Stopped c (item before) needs over t → OverrunsList item over s.left s.missing → (c ≡ Faulty Length) ⊎ (c ≡ NoMemory)
-  list_stopped c needs s t before still h o = go (still o).0 t.left refl (still o).1
-    where
-      go : (n : ℕ) (b : List ℕ) → b ≡ t.left → OverrunsWithin item over n before b t.missing → (c ≡ Faulty Length) ⊎ (c ≡ NoMemory)
-      go n [] is w = absurd w
-      go zero (d ∷ b) is w = absurd w
-      go (suc n) (d ∷ b) is (inl w) = elim (h.past (rw is at w)) [
-        | inl length ↦ inl length
-        | inr m ↦ inr m.memory
-      ]
-      go (suc n) (d ∷ b) is (inr w) = inr (h.takes (taken (item before t.left) (rw is at w))).memory
-        where
-          taken : (r : Result (A × List ℕ) Fault) → IsOkAnd r (λ x. OverrunsWithin item over n (Some x.0) x.1 t.missing) → IsOk r
-          taken (Ok x) w = refl
-          taken (Err e) w = absurd w
 
 -- a value that has bytes leaves less
 pub leaves_less : {A : Type 0} {Is : A → Type 0} {spell : A → Parts} {read : Front A} → ReadsFront Is spell read → ((x : A) → 0 < length (flat (spell x))) → (b : List ℕ) (x : A) (rest : List ℕ) → read b ≡ Ok (x, rest) → length rest < length b

@@ -8,14 +8,14 @@ use Rattle.sshkey_model.specs.Reading.{Front, Whole, whole, bytes_at, number_at,
 use Rattle.sshkey_model.specs.Grammar.{IsGrammar, Spells, Checks}
 use Rattle.sshkey_base.specs.Causes.{Cause}
 use Rattle.sshkey_base.specs.Source.{Source}
-use Rattle.sshkey_base.specs.Needs.{NoNeed, NeedsBoxed, NeedsString, HasByte}
+use Rattle.sshkey_base.specs.Needs.{NoNeed, NeedsBoxed, NeedsString}
 use Rattle.sshkey_base.specs.Stops.{NoOverrun, OverrunsString, OverrunsBoxed, OverrunsList, AreLengths, StopsBy}
 use Rattle.sshkey_base.specs.Lengths.{no_lengths, string_lengths, box_lengths, short_lengths, text_lengths, mpint_lengths, label_lengths, texts_lengths}
 use Rattle.sshkey_base.specs.Leaves.{SpellsByte, SpellsNumber32, SpellsNumber64, SpellsString, SpellsArray, SpellsMpint, byte_grammar, number32_grammar, number64_grammar, string_grammar, array_grammar, mpint_grammar}
 use Rattle.sshkey_base.specs.Labels.{label_at, label_grammar}
 use Rattle.sshkey_base.specs.ShortStrings.{SpellsShort, short_at, short_grammar}
 use Rattle.sshkey_base.specs.Texts.{SpellsText, text_grammar}
-use Rattle.sshkey_base.specs.TextLists.{SpellsTexts, texts_grammar}
+use Rattle.sshkey_base.specs.TextLists.{NeedsTexts, SpellsTexts, texts_grammar}
 
 pub record Format (A : Type 0) : Type 1 where
   -- the bytes are a spelling of the value
@@ -67,7 +67,7 @@ mpint_format = record { Spells = SpellsMpint; read = mpint_at; needs = NeedsStri
 
 -- texts up to the end of a string
 abbrev pub texts_format : Format (List (List ℕ))
-texts_format = record { Spells = SpellsTexts; read = texts_at; needs = NeedsBoxed HasByte; overruns = OverrunsBoxed (OverrunsList (λ before. text_at) OverrunsString); grammar = texts_grammar; lengths = texts_lengths }
+texts_format = record { Spells = SpellsTexts; read = texts_at; needs = NeedsBoxed NeedsTexts; overruns = OverrunsBoxed (OverrunsList (λ before. text_at) OverrunsString); grammar = texts_grammar; lengths = texts_lengths }
 
 -- a name, of which `needs` says where its value keeps memory
 abbrev pub label_format : {N : Type 0} {Is : N → Type 0} {name : N → List ℕ} {named : Whole N} → (List ℕ → ℕ → Type 0) → Checks Any bytes Is (λ n. bytes (name n)) named → Format N

@@ -1,5 +1,5 @@
 -- What memory may be asked for by a reading call.
-use Rattle.std.specs.Prelude.{◌≡◌, ◌≤◌, ◌<◌, ◌+◌, ◌-◌, ℕ, List, length, take, IsOkAnd, Result, Ok, Err, ◌⊎◌}
+use Rattle.std.specs.Prelude.{◌≡◌, ◌≤◌, ◌<◌, ◌+◌, ◌-◌, ℕ, List, length, take, IsOk, IsOkAnd, Result, Ok, Err, ◌⊎◌}
 use Rattle.std.specs.Int.{w32}
 use Rattle.sshkey_model.specs.Reading.{Front, number_at}
 use Rattle.sshkey_base.specs.Causes.{Cause, NoMemory}
@@ -23,10 +23,6 @@ NeedsBytes n b m = (0 < n) × (n ≤ length b + m)
 abbrev pub NeedsString : List ℕ → ℕ → Type 0
 NeedsString b m = IsOkAnd (number_at w32 b) (λ x. NeedsBytes x.0 x.1 m)
 
--- A byte is left: so values up to the end have a first one.
-abbrev pub HasByte : List ℕ → ℕ → Type 0
-HasByte b m = 0 < length b + m
-
 -- What the first value needs, or the second behind it, which may depend on the first.
 abbrev pub NeedsThen : {A : Type 0} → (List ℕ → ℕ → Type 0) → Front A → (A → List ℕ → ℕ → Type 0) → List ℕ → ℕ → Type 0
 NeedsThen first read second b m = first b m ⊎ IsOkAnd (read b) (λ x. second x.0 x.1 m)
@@ -34,6 +30,10 @@ NeedsThen first read second b m = first b m ⊎ IsOkAnd (read b) (λ x. second x
 -- The same of a second that needs the same whatever the first is.
 abbrev pub NeedsBoth : {A : Type 0} → (List ℕ → ℕ → Type 0) → Front A → (List ℕ → ℕ → Type 0) → List ℕ → ℕ → Type 0
 NeedsBoth first read second = NeedsThen first read (λ x. second)
+
+-- Of values up to the end, the first needs memory, or stands there.
+abbrev pub NeedsFirst : {A : Type 0} → (List ℕ → ℕ → Type 0) → Front A → List ℕ → ℕ → Type 0
+NeedsFirst needs read b m = needs b m ⊎ IsOk (read b)
 
 -- A box stands at the front that is no longer than was announced, and the value in it needs memory.
 abbrev pub NeedsBoxed : (List ℕ → ℕ → Type 0) → List ℕ → ℕ → Type 0

@@ -7,6 +7,7 @@ use Rattle.sshkey_model.specs.Texts.{texts, texts_at, text_at, IsText}
 use Rattle.sshkey_model.specs.Grammar.{IsGrammar, Spells}
 use Rattle.sshkey_model.proofs.Grammars.{grammar}
 use Rattle.sshkey_model.proofs.TextReaders.{texts_reads}
+use Rattle.sshkey_base.specs.Needs.{NeedsFirst, NeedsString}
 use Rattle.sshkey_base.specs.Texts.{is_text}
 
 -- the texts that the strings hold
@@ -16,6 +17,10 @@ texts_of v = map string_bytes v.items
 -- texts up to the end
 abbrev pub text_list_at : Whole (List (List ℕ))
 text_list_at = list_whole (λ before. text_at)
+
+-- The first text has bytes, or stands there.
+abbrev pub NeedsTexts : List ℕ → ℕ → Type 0
+NeedsTexts = NeedsFirst NeedsString text_at
 
 abbrev pub SpellsTexts : List (List ℕ) → List ℕ → Type 0
 SpellsTexts = Spells (AllByRecursion IsText) texts

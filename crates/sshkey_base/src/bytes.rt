@@ -30,7 +30,7 @@ impl Model for Bytes {
 }
 
 impl Bytes {
-    /// The bytes of the vector. Does not allocate.
+    /// The bytes of the vector. Does not allocate; no contract says that they stay in its memory.
     pub fn new(bytes: Vec<u8>) -> Bytes
         ensures { result ≡ bytes.items }
     {
@@ -81,6 +81,9 @@ impl Bytes {
 
     /// Writes zeros over the bytes, and returns the memory that held them. If that memory is
     /// dropped unread, a compiler may omit the writes. Does not allocate.
+    ///
+    /// The contract says that as many zeros are returned, and not in which memory: that
+    /// [`erase_slice`] says.
     pub fn erase(self) -> Vec<u8>
         ensures { result.items ≡ replicate (length self) 0 }
     {
@@ -95,6 +98,14 @@ impl Bytes {
     {
         self.bytes
     }
+}
+
+/// Writes zeros over the bytes, where they lie. If they are dropped unread, a compiler may omit the
+/// writes. Does not allocate.
+pub fn erase_slice(bytes: &mut [u8])
+    ensures { bytes.new ≡ replicate (length bytes.old) 0 }
+{
+    bytes.fill(0);
 }
 
 /// A length of four bytes, and the bytes (RFC 4251, section 5).

@@ -6,12 +6,12 @@ ghost use Rattle.sshkey_model.specs.Texts.{texts, text_at, texts_at};
 ghost use Rattle.sshkey_base.specs.Causes.{encoding_cause};
 ghost use Rattle.sshkey_base.specs.Formats.{Stops, texts_format};
 ghost use Rattle.sshkey_base.specs.Nested.{nested_source};
-ghost use Rattle.sshkey_base.specs.Needs.{Asks, NeedsBoxed, HasByte};
+ghost use Rattle.sshkey_base.specs.Needs.{Asks, NeedsBoxed};
 ghost use Rattle.sshkey_base.specs.Reading.{Decodes, to_end};
 ghost use Rattle.sshkey_base.specs.Source.{Later};
 ghost use Rattle.sshkey_base.specs.Stops.{OverrunsList, OverrunsString, StopsPast};
 ghost use Rattle.sshkey_base.specs.Sink.{Encodes, Measures, MeasuresBoxed};
-ghost use Rattle.sshkey_base.specs.TextLists.{texts_of, text_list_at, texts_normal};
+ghost use Rattle.sshkey_base.specs.TextLists.{NeedsTexts, texts_of, text_list_at, texts_normal};
 
 use crate::decode::Decode;
 use crate::encode::{Encode, u32_of};
@@ -75,8 +75,8 @@ pub fn encode_list<T: Encode, W: Writer>(values: &[T], writer: &mut W) -> Result
 fn texts_from<R: Reader>(alloc: Global, reader: &mut R) -> Result<Vec<String>>
     ensures gives { Decodes texts_of (to_end text_list_at) R.source reader.old result reader.new }
     ensures later { Later (R.source reader.old) (R.source reader.new) }
-    ensures asks { Asks encoding_cause HasByte (R.source reader.old) result }
-    ensures past { StopsPast encoding_cause HasByte
+    ensures asks { Asks encoding_cause NeedsTexts (R.source reader.old) result }
+    ensures past { StopsPast encoding_cause NeedsTexts
         (OverrunsList (λ before. text_at) OverrunsString) (R.source reader.old) result }
 {
     let mut texts = Vec::new(alloc);
@@ -90,8 +90,8 @@ fn texts_from<R: Reader>(alloc: Global, reader: &mut R) -> Result<Vec<String>>
 /// PROTOCOL.certkeys): a length of four bytes, and strings up to the end of that part.
 ///
 /// A length larger than the remaining input fails with `Length`, and nothing is allocated for it;
-/// so does the length of a text that passes the list. A text that is not UTF-8
-/// fails with `CharacterEncoding`.
+/// so does the length of a text that passes the list. A text that is not UTF-8 fails with
+/// `CharacterEncoding`. Fails with `Memory` only where the first string stands whole in the list.
 #[tactic(auto, using(crate::proofs::Boxes::boxes))]
 impl Decode for Vec<String> {
     type Error = Error;
@@ -105,7 +105,7 @@ impl Decode for Vec<String> {
     fn decode<R: Reader>(alloc: Global, reader: &mut R) -> Result<Vec<String>>
         ensures gives { Decodes texts_of texts_at R.source reader.old result reader.new }
         ensures later { Later (R.source reader.old) (R.source reader.new) }
-        ensures asks { Asks encoding_cause (NeedsBoxed HasByte)
+        ensures asks { Asks encoding_cause (NeedsBoxed NeedsTexts)
             (R.source reader.old) result }
         ensures past { Stops encoding_cause texts_format (R.source reader.old) result }
     {
@@ -115,9 +115,9 @@ impl Decode for Vec<String> {
                     (nested_source R.source) part.old result part.new }
                 ensures later { Later (nested_source R.source part.old)
                     (nested_source R.source part.new) }
-                ensures asks { Asks encoding_cause HasByte
+                ensures asks { Asks encoding_cause NeedsTexts
                     (nested_source R.source part.old) result }
-                ensures past { StopsPast encoding_cause HasByte
+                ensures past { StopsPast encoding_cause NeedsTexts
                     (OverrunsList (λ before. text_at) OverrunsString)
                     (nested_source R.source part.old) result }
             { texts_from(alloc, part) },

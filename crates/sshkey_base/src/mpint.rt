@@ -124,6 +124,8 @@ impl Mpint {
 
     /// Writes zeros over the bytes, and returns the memory that held them. If that memory is
     /// dropped unread, a compiler may omit the writes. Does not allocate.
+    ///
+    /// The contract says that as many zeros are returned, and not in which memory.
     pub fn erase(self) -> Vec<u8>
         ensures { result.items ≡ replicate (length (mpint_of self)) 0 }
     {

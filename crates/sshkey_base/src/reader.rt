@@ -1,6 +1,6 @@
 //! Readers of the wire encoding.
 
-ghost use Rattle.std.specs.Prelude.{◌≡◌, ◌≤◌, ◌↔◌, IfSome, IsTrue, Ok, Err, cond, eqb, length};
+ghost use Rattle.std.specs.Prelude.{◌≡◌, ◌≤◌, ◌↔◌, IfSome, IsSome, IsTrue, Ok, Err, cond, eqb, length};
 ghost use Rattle.std.specs.Int.{w32};
 ghost use Rattle.sshkey_model.specs.Reading.{bytes_at, number_at};
 ghost use Rattle.sshkey_base.specs.Nested.{PassesBy, Prefixed, PastIs, nested_source};
@@ -28,7 +28,7 @@ pub trait Reader: Sized {
         ensures later { Later (source self.old) (source self.new) };
 
     /// The next `len` bytes where they lie in memory. `None` where fewer are left, and always from
-    /// a reader that does not hold its bytes.
+    /// a reader that does not hold its bytes. That a reader lends any is promised of a slice alone.
     fn ahead(&self, len: usize) -> Option<&[u8]>
         ensures lent { IfSome result (λ bytes. Reads (λ x. x) (bytes_at len)
             (source self.now) bytes.now (behind len (source self.now))) }
@@ -136,8 +136,14 @@ impl Reader for &[u8] {
         Ok(())
     }
 
+    /// The next `len` bytes, wherever so many are left.
     #[inline(always)]
-    fn ahead(&self, len: usize) -> Option<&[u8]> {
+    fn ahead(&self, len: usize) -> Option<&[u8]>
+        ensures lent { IfSome result (λ bytes. Reads (λ x. x) (bytes_at len)
+            (all_of self.now.now) bytes.now (behind len (all_of self.now.now))) }
+        ensures within { IfSome result (λ _. len ≤ length self.now.now) }
+        ensures lends { len ≤ length self.now.now → IsSome result }
+    {
         first(*self, len)
     }
 
@@ -159,6 +165,7 @@ fn first(bytes: &[u8], len: usize) -> Option<&[u8]>
     ensures lent { IfSome result (λ front. Reads (λ x. x) (bytes_at len)
         (all_of bytes.now) front.now (behind len (all_of bytes.now))) }
     ensures within { IfSome result (λ _. len ≤ length bytes.now) }
+    ensures lends { len ≤ length bytes.now → IsSome result }
 {
     if bytes.len() < len {
         return None;

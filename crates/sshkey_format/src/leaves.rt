@@ -1,7 +1,7 @@
 //! Numbers of fixed width and strings of fixed length, from any reader, and strings that are parts
 //! of a slice (RFC 4251, section 5).
 
-ghost use Rattle.std.specs.Prelude.{ℕ, List};
+ghost use Rattle.std.specs.Prelude.{◌≡◌, ℕ, List, IfErr};
 ghost use Rattle.sshkey_base.specs.Causes.{encoding_cause};
 ghost use Rattle.sshkey_base.specs.Formats.{array_format, number32_format, number64_format, string_format, text_format};
 ghost use Rattle.sshkey_base.specs.Nested.{nested_source};
@@ -107,10 +107,11 @@ impl<'a> ReadFrom<&'a [u8]> for &'a str {
     }
 }
 
-/// The next `len` bytes. Fails with `Length` if fewer are left.
+/// The next `len` bytes. Fails with `Length` if fewer are left; the slice is then as it was.
 pub fn bytes_from<'a>(len: usize, bytes: &mut &'a [u8]) -> Result<&'a [u8]>
-    ensures { GivesAlways (λ b. b.now) encoding_cause (bytes_at len)
+    ensures gives { GivesAlways (λ b. b.now) encoding_cause (bytes_at len)
         (all_of bytes.old.now) result (all_of bytes.new.now) }
+    ensures unchanged { IfErr result (λ _. bytes.new ≡ bytes.old) }
 {
     let (front, rest) = split_bytes(len, *bytes)?;
     *bytes = rest;

@@ -2,6 +2,7 @@
 
 ghost use Rattle.sshkey_base.specs.Formats.{Format};
 ghost use Rattle.sshkey_base.specs.Reading.{GivesAlways};
+ghost use Rattle.sshkey_base.specs.Source.{Later};
 
 use sshkey_base::{DecodeError, Reader};
 
@@ -27,8 +28,9 @@ pub trait ReadFrom<R: Reader>: Sized {
     ///
     /// It is what the plain reader gives of the bytes that are left, and where the plain reader
     /// rejects them, a sound source is rejected with its fault. Does not allocate. After an error
-    /// some of the remaining bytes may have been consumed.
+    /// some of the remaining bytes may have been consumed; nothing else has changed.
     fn read_from(reader: &mut R) -> Result<Self, Self::Error>
-        ensures { GivesAlways means Self.Error.cause format.read
-            (R.source reader.old) result (R.source reader.new) };
+        ensures gives { GivesAlways means Self.Error.cause format.read
+            (R.source reader.old) result (R.source reader.new) }
+        ensures later { Later (R.source reader.old) (R.source reader.new) };
 }

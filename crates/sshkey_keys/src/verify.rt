@@ -15,8 +15,8 @@ use sshkey_base::{Algorithm, Error, Result};
 use std::alloc::Global;
 
 impl KeyData {
-    /// Verifies a signature of the message under this key: calls the verifier once, with what
-    /// `question` returns.
+    /// Verifies a signature of the message under this key by what the verifier answers to the one
+    /// question that `question` returns. How many times it is asked is not promised.
     ///
     /// Unless memory runs out, the verifier's included, `Ok` exactly if the verifier is called and
     /// returns true. Fails with `AlgorithmUnsupported` and the key's algorithm for a key under a

@@ -5,6 +5,7 @@ ghost use Rattle.sshkey_base.specs.Answers.{AnswersAlways};
 ghost use Rattle.sshkey_base.specs.Causes.{cause};
 ghost use Rattle.sshkey_base.specs.Labels.{label_at};
 ghost use Rattle.sshkey_base.specs.Names.{curve_of};
+ghost use Rattle.sshkey_base.specs.Source.{Later, all_of};
 ghost use Rattle.sshkey_model.specs.Keys.{Key};
 ghost use Rattle.sshkey_model.specs.Names.{curve_from};
 ghost use Rattle.sshkey_model.specs.Points.{point_from, p256_point_from};
@@ -104,7 +105,8 @@ impl<'a> ReadFrom<&'a [u8]> for Ed25519Ref {
 /// The name of a curve.
 #[tactic(auto, using(sshkey_format::proofs::Walking::walking), unfolding(sshkey_base::specs::Labels::label_at))]
 fn take_curve<'a>(bytes: &mut &'a [u8]) -> Result<EcdsaCurve>
-    ensures { Takes curve_of cause (label_at curve_from) bytes.old.now result bytes.new.now }
+    ensures gives { Takes curve_of cause (label_at curve_from) bytes.old.now result bytes.new.now }
+    ensures later { Later (all_of bytes.old.now) (all_of bytes.new.now) }
 {
     let string = <&'a [u8]>::read_from(bytes)?;
     curve_in(string)
@@ -148,8 +150,9 @@ impl<'a> ReadFrom<&'a [u8]> for EcdsaRef {
 /// A point string of any of the curves.
 #[tactic(auto, using(sshkey_format::proofs::Walking::walking))]
 fn take_point<'a>(bytes: &mut &'a [u8]) -> Result<EcdsaPublicKey>
-    ensures { Takes ecdsa_of cause (checked_at point_from string_at)
+    ensures gives { Takes ecdsa_of cause (checked_at point_from string_at)
         bytes.old.now result bytes.new.now }
+    ensures later { Later (all_of bytes.old.now) (all_of bytes.new.now) }
 {
     let string = <&'a [u8]>::read_from(bytes)?;
     point_of(string)
@@ -198,8 +201,9 @@ impl<'a> ReadFrom<&'a [u8]> for SkEcdsaRef<'a> {
 /// A point string of P-256.
 #[tactic(auto, using(sshkey_format::proofs::Walking::walking))]
 fn take_p256_point<'a>(bytes: &mut &'a [u8]) -> Result<EcdsaNistP256PublicKey>
-    ensures { Takes point_of cause (checked_at p256_point_from string_at)
+    ensures gives { Takes point_of cause (checked_at p256_point_from string_at)
         bytes.old.now result bytes.new.now }
+    ensures later { Later (all_of bytes.old.now) (all_of bytes.new.now) }
 {
     let string = <&'a [u8]>::read_from(bytes)?;
     p256_point_of(string)

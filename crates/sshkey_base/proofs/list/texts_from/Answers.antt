@@ -1,4 +1,4 @@
-use Rattle.std.proofs.Common.{◌≡◌, ◌≢◌, ◌∷◌, [], ◌++◌, map, Some, ap, ◌∙◌, arith}
+use Rattle.std.proofs.Common.{◌≡◌, ◌≢◌, ◌∷◌, [], ◌++◌, map, Some, inr, ap, ◌∙◌, arith}
 use Rattle.std.proofs.lemmas.List.{map-append}
 use Rattle.std.proofs.lemmas.Result.{err_from_is_err_and}
 use Rattle.std.specs.Prelude.{string_bytes}
@@ -7,11 +7,11 @@ use Rattle.sshkey_model.specs.Texts.{text_at}
 use Rattle.sshkey_model.proofs.TextReaders.{text_reads, box_shows}
 use Rattle.sshkey_base.specs.Source.{announced_len}
 use Rattle.sshkey_base.specs.TextLists.{texts_of}
-use Rattle.sshkey_base.proofs.ReadLists.{collects_more, collects_refused, collects_end, leaves_less, overruns_more, list_stopped}
+use Rattle.sshkey_base.proofs.FirstValues.{first_asks, first_stopped, still_begun}
+use Rattle.sshkey_base.proofs.ReadLists.{collects_more, collects_refused, collects_end, leaves_less, overruns_more}
 use Rattle.sshkey_base.specs.Lengths.{text_lengths}
 use Rattle.sshkey_base.specs.Needs.{NeedsString}
 use Rattle.sshkey_base.specs.Stops.{OverrunsString}
-use Rattle.sshkey_base.proofs.FilledBoxes.{later_some, ran_some}
 use Rattle.sshkey_base.proofs.Places.{later_then}
 use Rattle.sshkey_base.proofs.list.texts_from.Goals as goal
 
@@ -33,7 +33,7 @@ reads-preserved g c =
     let r = c.in_ok-decode.ensures.gives in
     let less = leaves_less text_reads (λ t. box_shows (bytes t)) _ _ _ r.value in
     let all : map string_bytes c.push.new.self.items ≡ map string_bytes c.reads.texts.items ++ string_bytes c.in_ok-decode.field-0 ∷ [] = ap (λ (xs : _). map string_bytes xs) c.in_ok-push.ensures.items ∙ map-append string_bytes _ _ in
-    ((Some (string_bytes c.in_ok-decode.field-0), rw all (collects_more (λ _. text_at) string_bytes _ _ _ _ _ _ c.reads.invariant.0.1 r less), overruns_more (λ _. text_at) OverrunsString (λ _. text_lengths) string_bytes (g.R.Reader.source c.args.reader.now) _ _ _ _ c.reads.invariant.0.2 r), later_then _ _ _ c.reads.invariant.1 c.in_ok-decode.ensures.later)
+    ((Some (string_bytes c.in_ok-decode.field-0), rw all (collects_more (λ _. text_at) string_bytes _ _ _ _ _ _ c.reads.invariant.0.1 r less), overruns_more (λ _. text_at) OverrunsString (λ _. text_lengths) string_bytes (g.R.Reader.source c.args.reader.now) _ _ _ _ c.reads.invariant.0.2 r), inr (still_begun text_at _ _ c.reads.invariant.1 string_bytes _ _ r), later_then _ _ _ c.reads.invariant.2 c.in_ok-decode.ensures.later)
 
 pub returns-clause-gives : goal.returns-clause-gives
 returns-clause-gives g c = collects_end (λ _. text_at) texts_of _ _ _ _ c.reads.invariant.0.1 (c.is_finished.ensures.0 c.reads-test.false)
@@ -41,11 +41,9 @@ returns-clause-gives g c = collects_end (λ _. text_at) texts_of _ _ _ _ c.reads
 pub returns-in_err-decode-clause-asks : goal.returns-in_err-decode-clause-asks
 returns-in_err-decode-clause-asks g c =
     let p = err_from_is_err_and c.from_residual.result c.from_residual.ensures.1 in
-    let some : announced_len (g.R.Reader.source c.reads.reader) ≢ 0 = (λ none. let t = c.is_finished.ensures.1 none in cc) in
-    rw (p.1, p.2) (λ memory sound. later_some _ _ c.reads.invariant.1 some)
+    rw (p.1, p.2) (first_asks text_at _ _ c.reads.invariant.1 NeedsString _ c.reads.invariant.2.missing c.in_err-decode.ensures.asks)
 
 pub returns-in_err-decode-clause-past : goal.returns-in_err-decode-clause-past
 returns-in_err-decode-clause-past g c =
     let p = err_from_is_err_and c.from_residual.result c.from_residual.ensures.1 in
-    let some : announced_len (g.R.Reader.source c.reads.reader) ≢ 0 = (λ none. let t = c.is_finished.ensures.1 none in cc) in
-    rw (p.1, p.2) (λ over. ran_some _ _ (later_some _ _ c.reads.invariant.1 some) (list_stopped (λ _. text_at) OverrunsString (λ _. text_lengths) _ NeedsString (g.R.Reader.source c.args.reader.now) _ _ c.reads.invariant.0.2 c.in_err-decode.ensures.past over))
+    rw (p.1, p.2) (first_stopped text_at _ _ c.reads.invariant.1 NeedsString OverrunsString text_lengths _ _ c.reads.invariant.0.2 c.in_err-decode.ensures.past)

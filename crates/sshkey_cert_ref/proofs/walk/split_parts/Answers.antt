@@ -20,7 +20,7 @@ pub returns-in_err-grant : goal.returns-in_err-grant
 unfolding fields_at
 returns-in_err-grant c =
     let p = err_from_is_err_and c.from_residual-in_err-grant.result c.from_residual-in_err-grant.ensures.1 in
-    rw (p.1, p.2, ← fields_are c.args.bytes.now, c.in_ok-name.ensures.2) (refuses_first 0 _ (behind_key_format.read c.in_ok-name.behind_subject.now) _ c.in_err-grant.ensures)
+    rw (p.1, p.2, ← fields_are c.args.bytes.now, c.in_ok-name.ensures.2) (refuses_first 0 _ (behind_key_format.read c.in_ok-name.behind_subject.now) _ c.in_err-grant.ensures.gives)
 
 pub returns : goal.returns
 unfolding fields_at
@@ -35,5 +35,5 @@ returns c =
         record { critical_options = critical.1; extensions = extensions.1; signature_key = signer.1 },
       ),
       record { name = subject.1.name; nonce = subject.1.nonce; key = subject.1.key; serial = refl; cert_type = refl; key_id = refl; valid_principals = refl; valid_after = refl; valid_before = refl; critical_options = refl; extensions = refl; reserved = refl; signature_key = key_is g.1.1.1.1.0 },
-      sym (fields_are c.args.bytes.now) ∙ rw (subject.2, c.in_ok-grant.ensures.value) refl,
+      sym (fields_are c.args.bytes.now) ∙ rw (subject.2, c.in_ok-grant.ensures.gives.value) refl,
     )

@@ -15,14 +15,14 @@ pub returns-in_err-opening : goal.returns-in_err-opening
 unfolding subject_at
 returns-in_err-opening c =
     let p = err_from_is_err_and c.from_residual.result c.from_residual.ensures.1 in
-    rw (p.1, p.2) (refuses_first 0 _ (both_at certificate_algorithm_at string_at c.args.bytes.now) _ c.in_err-opening.ensures)
+    rw (p.1, p.2) (refuses_first 0 _ (both_at certificate_algorithm_at string_at c.args.bytes.now) _ c.in_err-opening.ensures.gives)
 
 pub returns-in_err-key : goal.returns-in_err-key
 unfolding subject_at
 returns-in_err-key c =
     let p = err_from_is_err_and c.from_residual-in_err-key.result c.from_residual-in_err-key.ensures.1 in
     let name = c.in_ok-opening.field-0.0 in
-    rw (p.1, p.2, c.in_ok-opening.ensures.value) (refuses_first 0 _ (body_at (certified_in name.name.now) _) _ (refused_body _ _ _ _ (known Dsa (certified_from name.name.now) name.form) c.in_err-key.ensures.front))
+    rw (p.1, p.2, c.in_ok-opening.ensures.gives.value) (refuses_first 0 _ (body_at (certified_in name.name.now) _) _ (refused_body _ _ _ _ (known Dsa (certified_from name.name.now) name.form) c.in_err-key.ensures.front))
 
 pub returns : goal.returns
 unfolding subject_at
@@ -31,4 +31,4 @@ returns c =
     let named = known Dsa (certified_from opening.0.name.now) opening.0.form in
     let front = c.in_ok-key.ensures.front in
     let key = certified_body _ _ _ _ _ named front.taken in
-    ((opening.1.0.now, front.key), record { name = named_key _ _ _ _ _ named key; nonce = refl; key = key_bytes _ _ _ _ _ key front.all }, rw (c.in_ok-opening.ensures.value, key) refl)
+    ((opening.1.0.now, front.key), record { name = named_key _ _ _ _ _ named key; nonce = refl; key = key_bytes _ _ _ _ _ key front.all }, rw (c.in_ok-opening.ensures.gives.value, key) refl)

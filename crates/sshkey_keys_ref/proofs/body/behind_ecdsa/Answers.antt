@@ -5,4 +5,4 @@ use Rattle.sshkey_keys_ref.proofs.body.behind_ecdsa.Goals as goal
 
 pub returns : goal.returns
 unfolding ecdsa_at
-returns c = (ecdsa_key_of c.in_ok-key.field-0.0, rw (c.in_ok-key.ensures.value, ← c.is_on.ensures, c.if-not-is_on.false) refl)
+returns c = (ecdsa_key_of c.in_ok-key.field-0.0, rw (c.in_ok-key.ensures.gives.value, ← c.is_on.ensures, c.if-not-is_on.false) refl)

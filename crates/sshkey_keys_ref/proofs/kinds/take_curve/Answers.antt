@@ -6,6 +6,6 @@ use Rattle.sshkey_model.specs.Reading.{string_at}
 use Rattle.sshkey_format.proofs.Walking.{judged_always}
 use Rattle.sshkey_keys_ref.proofs.kinds.take_curve.Goals as goal
 
-pub returns : goal.returns
+pub returns-clause-gives : goal.returns-clause-gives
 unfolding label_at
-returns c = judged_always (λ b. b.now) curve_of cause string_at curve_from _ _ _ _ c.in_ok-string.ensures c.curve_in.ensures
+returns-clause-gives c = judged_always (λ b. b.now) curve_of cause string_at curve_from _ _ _ _ c.in_ok-string.ensures.gives c.curve_in.ensures

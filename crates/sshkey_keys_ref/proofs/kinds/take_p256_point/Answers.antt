@@ -5,5 +5,5 @@ use Rattle.sshkey_kinds.specs.EcPoint.{point_of}
 use Rattle.sshkey_format.proofs.Walking.{judged_always}
 use Rattle.sshkey_keys_ref.proofs.kinds.take_p256_point.Goals as goal
 
-pub returns : goal.returns
-returns c = judged_always (λ b. b.now) (point_of {n = 65}) cause string_at p256_point_from _ _ _ _ c.in_ok-string.ensures c.p256_point_of.ensures
+pub returns-clause-gives : goal.returns-clause-gives
+returns-clause-gives c = judged_always (λ b. b.now) (point_of {n = 65}) cause string_at p256_point_from _ _ _ _ c.in_ok-string.ensures.gives c.p256_point_of.ensures

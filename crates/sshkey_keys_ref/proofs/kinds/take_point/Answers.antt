@@ -5,5 +5,5 @@ use Rattle.sshkey_kinds.specs.EcdsaPublicKey.{ecdsa_of}
 use Rattle.sshkey_format.proofs.Walking.{judged_always}
 use Rattle.sshkey_keys_ref.proofs.kinds.take_point.Goals as goal
 
-pub returns : goal.returns
-returns c = judged_always (λ b. b.now) ecdsa_of cause string_at point_from _ _ _ _ c.in_ok-string.ensures c.point_of.ensures
+pub returns-clause-gives : goal.returns-clause-gives
+returns-clause-gives c = judged_always (λ b. b.now) ecdsa_of cause string_at point_from _ _ _ _ c.in_ok-string.ensures.gives c.point_of.ensures

@@ -8,4 +8,4 @@ use Rattle.sshkey_keys_ref.proofs.name_ref.take_name.Goals as goal
 
 pub returns : goal.returns
 unfolding label_at
-returns c = judged_always (λ b. b.now) named_of cause string_at algorithm_from _ _ _ _ c.in_ok-string.ensures c.name_in.ensures
+returns c = judged_always (λ b. b.now) named_of cause string_at algorithm_from _ _ _ _ c.in_ok-string.ensures.gives c.name_in.ensures

@@ -5,6 +5,6 @@ use Rattle.sshkey_format.proofs.Walking.{judged_always}
 use Rattle.sshkey_cert_ref.specs.Spelled.{certified_in}
 use Rattle.sshkey_cert_ref.proofs.certificate_name.CertificateNameReadFromRefSliceU8.read_from.Goals as goal
 
-pub returns : goal.returns
+pub returns-clause-gives : goal.returns-clause-gives
 unfolding certificate_algorithm_at
-returns c = judged_always (λ b. b.now) (λ n. certified_in n.name.now) cause string_at certified_from _ _ _ _ c.in_ok-string.ensures c.name_in.ensures
+returns-clause-gives c = judged_always (λ b. b.now) (λ n. certified_in n.name.now) cause string_at certified_from _ _ _ _ c.in_ok-string.ensures.gives c.name_in.ensures

@@ -10,21 +10,21 @@ use Rattle.sshkey_cert_ref.proofs.Boxed.{kept_key}
 use Rattle.sshkey_cert_ref.proofs.BoxedBytes.{box_bytes, no_string, in_string}
 use Rattle.sshkey_cert_ref.proofs.leaves.KeyInStringReadFromRefSliceU8.read_from.Goals as goal
 
-pub returns-in_err-string : goal.returns-in_err-string
-returns-in_err-string c =
+pub returns-in_err-string-clause-gives : goal.returns-in_err-string-clause-gives
+returns-in_err-string-clause-gives c =
     let p = err_from_is_err_and c.from_residual.result c.from_residual.ensures.1 in
     let b = c.args.reader.now.now in
-    rw (p.1, p.2) (no_string (box_at (whole key_at)) (whole key_at) b (box_bytes (whole key_at) b) _ _ (same_cause c.in_err-string.field-0.0) c.in_err-string.ensures)
+    rw (p.1, p.2) (no_string (box_at (whole key_at)) (whole key_at) b (box_bytes (whole key_at) b) _ _ (same_cause c.in_err-string.field-0.0) c.in_err-string.ensures.gives)
 
-pub returns-in_err-from_bytes : goal.returns-in_err-from_bytes
-returns-in_err-from_bytes c =
+pub returns-in_err-from_bytes-clause-gives : goal.returns-in_err-from_bytes-clause-gives
+returns-in_err-from_bytes-clause-gives c =
     let p = err_from_is_err_and c.from_residual-in_err-from_bytes.result c.from_residual-in_err-from_bytes.ensures.1 in
     let b = c.args.reader.now.now in
-    rw (p.1, p.2) (in_string (box_at (whole key_at)) (whole key_at) b (box_bytes (whole key_at) b) spelled_key_of cause _ _ (Err _) c.in_ok-string.ensures (kept_key cause _ (Err _) c.in_err-from_bytes.ensures.keeps))
+    rw (p.1, p.2) (in_string (box_at (whole key_at)) (whole key_at) b (box_bytes (whole key_at) b) spelled_key_of cause _ _ (Err _) c.in_ok-string.ensures.gives (kept_key cause _ (Err _) c.in_err-from_bytes.ensures.keeps))
 
-pub returns : goal.returns
-returns c =
+pub returns-clause-gives : goal.returns-clause-gives
+returns-clause-gives c =
     let b = c.args.reader.now.now in
     let x = c.in_ok-from_bytes.field-0 in
     let is = answers_ok spelled_key_of cause (whole key_at c.in_ok-string.string.now) x (kept_key cause _ (Ok x) c.in_ok-from_bytes.ensures.keeps) in
-    in_string (box_at (whole key_at)) (whole key_at) b (box_bytes (whole key_at) b) (λ (k : KeyInString). spelled_key_of k.0) cause _ _ (Ok _) c.in_ok-string.ensures (rw is refl)
+    in_string (box_at (whole key_at)) (whole key_at) b (box_bytes (whole key_at) b) (λ (k : KeyInString). spelled_key_of k.0) cause _ _ (Ok _) c.in_ok-string.ensures.gives (rw is refl)

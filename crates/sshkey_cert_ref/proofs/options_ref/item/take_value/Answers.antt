@@ -11,9 +11,9 @@ pub returns-in_err-string : goal.returns-in_err-string
 returns-in_err-string c =
     let p = err_from_is_err_and c.from_residual.result c.from_residual.ensures.1 in
     let b = c.args.bytes.now.now in
-    rw (p.1, p.2) (no_string (box_at option_value_from) option_value_from b (box_bytes option_value_from b) _ _ refl c.in_err-string.ensures)
+    rw (p.1, p.2) (no_string (box_at option_value_from) option_value_from b (box_bytes option_value_from b) _ _ refl c.in_err-string.ensures.gives)
 
 pub returns : goal.returns
 returns c =
     let b = c.args.bytes.now.now in
-    in_string (box_at option_value_from) option_value_from b (box_bytes option_value_from b) value_pair_of encoding_cause _ _ c.value_from.result c.in_ok-string.ensures c.value_from.ensures
+    in_string (box_at option_value_from) option_value_from b (box_bytes option_value_from b) value_pair_of encoding_cause _ _ c.value_from.result c.in_ok-string.ensures.gives c.value_from.ensures
