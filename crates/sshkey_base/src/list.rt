@@ -49,8 +49,8 @@ pub fn encode_each<T: Encode, W: Writer>(values: &[T], writer: &mut W) -> Result
 
 /// How many bytes a list has: a length of four bytes, and the values, one after the other.
 ///
-/// Fails with `Length` exactly if the values exceed 2^32 - 1 bytes, or a string in one of them does.
-/// Does not allocate.
+/// Fails with `Length` exactly if the values exceed 2^32 - 1 bytes, or a string in one of them
+/// does. Does not allocate.
 pub fn list_len<T: Encode>(values: &[T]) -> Result<usize>
     ensures measures { Measures (box (each T.normal values.now)) result }
     ensures short { IfOk result (λ n. n < 2 ^ 32 + 4) }

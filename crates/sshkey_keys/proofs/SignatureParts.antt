@@ -1,14 +1,19 @@
 -- What stands behind the name of an algorithm.
-use Rattle.std.proofs.Common.{◌≡◌, ℕ, true, false, Some, None, List, Result, Ok, Err, refl}
+use Rattle.std.proofs.Common.{◌≡◌, inl, inr, ℕ, true, false, Some, None, List, [], Result, Ok, Err, IsOk, refl}
 use Rattle.sshkey_model.specs.Parts.{bytes, ◌&◌}
-use Rattle.sshkey_model.specs.Reading.{Fault, ◌>>=◌, string_at, checked_at}
+use Rattle.sshkey_model.specs.Reading.{Fault, ◌>>=◌, number_at, bytes_at, string_at, checked_at}
 use Rattle.sshkey_model.specs.Texts.{string}
 use Rattle.sshkey_model.specs.Names.{Algorithm}
-use Rattle.sshkey_model.specs.Signatures.{IsSignatureBlob, signature_blob, signature_blob_at, trailed_at, without_trailer, trailer}
+use Rattle.sshkey_model.specs.Signatures.{IsSignatureBlob, signature_blob, signature_blob_at, trailed_at, without_trailer, trailer, ecdsa_blob_from, component_at}
 use Rattle.sshkey_model.proofs.SignatureReaders.{signature_blob_reads}
+use Rattle.sshkey_base.specs.declared.error.Error.{Error}
+use Rattle.sshkey_base.specs.Causes.{cause}
+use Rattle.sshkey_base.specs.Needs.{Asks, NeedsString}
+use Rattle.sshkey_base.specs.Source.{Source}
+use Rattle.sshkey_base.specs.Stops.{OverrunsString, RanOut, StopsBy}
 use Rattle.sshkey_format.specs.Terms.{IsMapped}
 use Rattle.sshkey_keys.specs.KeyFormats.{signature_under, signature_with}
-use Rattle.sshkey_keys.specs.SignatureForms.{has_trailer, string_from}
+use Rattle.sshkey_keys.specs.SignatureForms.{NeedsTrailed, has_trailer, string_from}
 
 -- ---- reading
 
@@ -32,6 +37,36 @@ pub trailed_is : (a : Algorithm) (b : List ℕ) → has_trailer a ≡ true → t
 trailed_is Algorithm.SkEcdsa b e = refl
 trailed_is Algorithm.SkEd25519 b e = refl
 trailed_is _ b e = absurd cc
+
+-- a string of no bytes is refused where a trailer stands behind it
+none_before : (a : Algorithm) → has_trailer a ≡ true → IsOk (string_from a []) → ⊥
+unfolding ecdsa_blob_from component_at string_at number_at bytes_at
+none_before Algorithm.SkEcdsa trailed ok = cc
+none_before Algorithm.SkEd25519 trailed ok = cc
+none_before _ trailed ok = cc
+
+-- so there memory is needed only for the bytes of the string
+module _ (a : Algorithm) (trailed : has_trailer a ≡ true) where
+  needs_string : (b : List ℕ) (m : ℕ) → NeedsTrailed (string_from a) b m → NeedsString b m
+  needs_string b m (inl needed) = needed
+  needs_string b m (inr empty) = absurd (none_before a trailed empty.1)
+
+  pub blob_asks : {X : Type 0} (s : Source) (r : Result X Error) → Asks cause (NeedsTrailed (string_from a)) s r → Asks cause NeedsString s r
+  blob_asks s (Ok x) h = tt
+  blob_asks s (Err e) h = λ memory sound. needs_string _ _ (h memory sound)
+
+  pub blob_stops : {X : Type 0} (s : Source) (r : Result X Error) → StopsBy cause (trailed_at (string_from a)) (NeedsTrailed (string_from a)) OverrunsString s r → StopsBy cause (signature_blob_at a) NeedsString OverrunsString s r
+  blob_stops s (Ok x) h = tt
+  blob_stops s (Err e) h = record {
+    takes = λ ok. more (h.takes (rw (trailed_is a s.left trailed) ok));
+    past = λ o. elim (h.past o) [
+      | inl is ↦ inl is
+      | inr m ↦ inr (more m)
+    ];
+  }
+    where
+      more : RanOut (cause e) (NeedsTrailed (string_from a)) s → RanOut (cause e) NeedsString s
+      more m = record { memory = m.memory; needed = needs_string _ _ m.needed }
 
 -- what is read is well-formed
 pub read_formed : (a : Algorithm) (b blob rest : List ℕ) → signature_blob_at a b ≡ Ok (blob, rest) → IsSignatureBlob a blob

@@ -14,7 +14,7 @@ use Rattle.sshkey_base.specs.Formats.{Format, label_format, string_format}
 use Rattle.sshkey_base.specs.Labels.{label_at}
 use Rattle.sshkey_base.specs.Lengths.{checked_lengths, string_lengths}
 use Rattle.sshkey_base.specs.NameNeeds.{NeedsAlgorithm}
-use Rattle.sshkey_base.specs.Needs.{HasString}
+use Rattle.sshkey_base.specs.Needs.{NeedsString}
 use Rattle.sshkey_base.specs.Stops.{OverrunsString, AreLengths}
 use Rattle.sshkey_format.specs.Terms.{IsChosen, chosen_of, tested}
 use Rattle.sshkey_kinds.specs.Bodies.{SpellsBody, ed25519_body_at}
@@ -90,7 +90,7 @@ blob_lengths names.SkEd25519 = trailed_lengths (sized_from 64)
 blob_lengths (names.Other name) = checked_lengths some_from string_lengths
 
 abbrev pub blob_format : Algorithm → Format (List ℕ)
-blob_format a = record { Spells = Spells (IsSignatureBlob a) (signature_blob a); read = signature_blob_at a; needs = HasString; overruns = OverrunsString; grammar = grammar (signature_blob_reads a); lengths = blob_lengths a }
+blob_format a = record { Spells = Spells (IsSignatureBlob a) (signature_blob a); read = signature_blob_at a; needs = NeedsString; overruns = OverrunsString; grammar = grammar (signature_blob_reads a); lengths = blob_lengths a }
 
 -- the signature under that name
 abbrev pub signature_with : Algorithm → List ℕ → Result Signature Fault

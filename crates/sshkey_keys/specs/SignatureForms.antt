@@ -1,10 +1,11 @@
 -- Which bytes are those of a signature, and why others are not.
-use Rattle.std.specs.Prelude.{ℕ, suc, List, length, ◌++◌, Bool, true, false, Option, Some, None, Result, Ok, Err, nat_lt, ◌==◌, if◌then◌else◌}
+use Rattle.std.specs.Prelude.{ℕ, suc, List, [], length, ◌++◌, Bool, true, false, Option, Some, None, Result, Ok, Err, IsOk, ◌⊎◌, nat_lt, ◌==◌, if◌then◌else◌}
 use Rattle.sshkey_model.specs.Reading.{Fault, Length, Crypto, ◌>>=◌, Whole, string_at}
 use Rattle.sshkey_model.specs.Names.{Nistp256, Algorithm}
 use Rattle.sshkey_model.specs.Mpints.{mpint_from, positive_part}
 use Rattle.sshkey_model.specs.Points.{field_size}
 use Rattle.sshkey_model.specs.Signatures.{Signature, without_trailer, ecdsa_blob_from, sized_from, some_from, none_from}
+use Rattle.sshkey_base.specs.Needs.{HasString, NeedsString}
 use Rattle.sshkey_format.specs.Slices.{is_taken}
 
 -- Flags and a counter stand behind the string.
@@ -35,6 +36,10 @@ trailed_from judge b = if nat_lt (length b) 5 then Err Length else (judge (witho
 -- the string that is judged, and then the trailer
 abbrev pub joined_from : Whole (List ℕ) → List ℕ → Whole (List ℕ)
 joined_from judge trailer b = judge b >>= λ string. Ok (string ++ trailer)
+
+-- Memory is needed for a string of one byte or more, and for the trailer alone where a string of none may stand before it.
+abbrev pub NeedsTrailed : Whole (List ℕ) → List ℕ → ℕ → Type 0
+NeedsTrailed judge b m = NeedsString b m ⊎ (HasString b m × IsOk (judge []))
 
 abbrev pub blob_from : Algorithm → Whole (List ℕ)
 blob_from a b = if has_trailer a then trailed_from (string_from a) b else string_from a b

@@ -13,7 +13,7 @@ use Rattle.sshkey_base.specs.Causes.{Cause, Faulty}
 use Rattle.sshkey_base.specs.Formats.{Format, number32_format, label_format}
 use Rattle.sshkey_base.specs.Labels.{label_at}
 use Rattle.sshkey_base.specs.Lengths.{no_lengths}
-use Rattle.sshkey_base.specs.Needs.{NoNeed, HasString, NeedsBoxed, NeedsThen}
+use Rattle.sshkey_base.specs.Needs.{NoNeed, HasString, NeedsString, NeedsBoxed, NeedsThen}
 use Rattle.sshkey_base.specs.Source.{Source}
 use Rattle.sshkey_base.specs.Stops.{NoOverrun, OverrunsString, OverrunsThen, RanOut}
 use Rattle.sshkey_format.specs.Behind.{behind_at}
@@ -70,11 +70,11 @@ opening_parts_read = record { same = λ b. simp bind_assoc }
 
 -- ---- where memory is needed
 
--- what the part of a key that is not encrypted needs, or the ciphertext
+-- what the part of a key that is not encrypted needs, or a ciphertext of one byte or more
 abbrev pub NeedsContent : Cipher → Kdf → Key → List ℕ → ℕ → Type 0
 NeedsContent NoCipher NoKdf public = NeedsBoxed (NeedsPadded (NeedsInner public))
 NeedsContent NoCipher (Bcrypt o) public = NoNeed
-NeedsContent c k public = HasString
+NeedsContent c k public = NeedsString
 
 -- what stands before the private part, or that part
 abbrev pub NeedsPrivateKey : List ℕ → ℕ → Type 0

@@ -128,9 +128,9 @@ impl PrivateKey {
     /// `KeypairData`, `PublicKey` where the pair has another public half, `Length` for eight bytes
     /// or more after the comment, `FormatEncoding` for other padding, `Crypto` for a ciphertext
     /// that is not whole blocks, and `Error::TrailingData` with the number of bytes after an
-    /// encrypted key. Of a source with a fault, a stated length of the opening, or of the private part, that
-    /// passes all that was announced is `Length`, unless memory ran out for a value before it; how
-    /// else it is rejected is open.
+    /// encrypted key. Of a source with a fault, a stated length of the opening, or of the private
+    /// part, that passes all that was announced is `Length`, unless memory ran out for a value
+    /// before it; how else it is rejected is open.
     pub fn decode<R: Reader>(alloc: Global, reader: &mut R) -> Result<PrivateKey>
         ensures gives { Gives private_of cause private_value_at
             (R.source reader.old) result (R.source reader.new) }

@@ -35,8 +35,8 @@ impl<T: Decode + Drop> Decode for Counted<T> {
     }
 }
 
-/// So many values. Fails with `Length` where more are wanted than bytes are left, or than bytes were
-/// read for them.
+/// So many values. Fails with `Length` where more are wanted than bytes are left, or than bytes
+/// were read for them.
 fn values_from<T: Decode + Drop, R: Reader>(
     alloc: Global,
     reader: &mut R,

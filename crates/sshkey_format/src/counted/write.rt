@@ -6,8 +6,9 @@ ghost use Rattle.sshkey_format.specs.Counted.{counted};
 use sshkey_base::encoding::Result;
 use sshkey_base::{Encode, Writer, each_len, encode_each, u32_of};
 
-/// How many bytes a counted list has. Fails with `Length` exactly if a string can't hold it, a string in
-/// one of the values is too long, or the values are more than 2^32 - 1. Does not allocate.
+/// How many bytes a counted list has. Fails with `Length` exactly if a string can't hold it, a
+/// string in one of the values is too long, or the values are more than 2^32 - 1. Does not
+/// allocate.
 pub fn counted_len<T: Encode>(values: &[T]) -> Result<u32>
     ensures { MeasuresBoxed (counted T.normal values.now) result }
 {

@@ -6,14 +6,14 @@ ghost use Rattle.sshkey_base.specs.Answers.{Answers, AnswersAlways};
 ghost use Rattle.sshkey_base.specs.Causes.{cause};
 ghost use Rattle.sshkey_base.specs.Formats.{Stops};
 ghost use Rattle.sshkey_base.specs.Names.{algorithm_of};
-ghost use Rattle.sshkey_base.specs.Needs.{Asks, HasString};
+ghost use Rattle.sshkey_base.specs.Needs.{Asks, NeedsString};
 ghost use Rattle.sshkey_base.specs.Source.{Later, all_of};
 ghost use Rattle.sshkey_base.specs.Stops.{OverrunsString, StopsBy};
 ghost use Rattle.sshkey_base.specs.Sink.{Encodes, Measures};
 ghost use Rattle.sshkey_model.specs.Reading.{checked_at, string_at, whole};
 ghost use Rattle.sshkey_model.specs.Signatures.{Signature as TheSignature, IsSignature, signature, signature_blob, signature_blob_at, signature_at, trailed_at};
 ghost use Rattle.sshkey_keys.specs.Blobs.{ReadsFrontOf, MakesBlob};
-ghost use Rattle.sshkey_keys.specs.SignatureForms.{joined_from, string_from};
+ghost use Rattle.sshkey_keys.specs.SignatureForms.{NeedsTrailed, joined_from, string_from};
 ghost use Rattle.sshkey_keys.specs.KeyFormats.{blob_format, signature_format, signature_under};
 ghost use Rattle.sshkey_keys.specs.SignatureReaders.{SpellsSignature, signature_normal};
 ghost use Rattle.sshkey_keys.specs.Signatures.{signature_of};
@@ -109,7 +109,7 @@ fn decode_blob<R: Reader>(alloc: Global, reader: &mut R, algorithm: &Algorithm) 
     ensures gives { DecodesWide (λ b. b) (signature_blob_at (algorithm_of algorithm.now))
         R.source reader.old result reader.new }
     ensures later { Later (R.source reader.old) (R.source reader.new) }
-    ensures asks { Asks cause HasString (R.source reader.old) result }
+    ensures asks { Asks cause NeedsString (R.source reader.old) result }
     ensures past { Stops cause (blob_format (algorithm_of algorithm.now))
         (R.source reader.old) result }
 {
@@ -127,9 +127,9 @@ fn decode_string<R: Reader>(alloc: Global, reader: &mut R, algorithm: &Algorithm
         (checked_at (string_from (algorithm_of algorithm.now)) string_at)
         (R.source reader.old) result (R.source reader.new) }
     ensures later { Later (R.source reader.old) (R.source reader.new) }
-    ensures asks { Asks cause HasString (R.source reader.old) result }
+    ensures asks { Asks cause NeedsString (R.source reader.old) result }
     ensures past { StopsBy cause (checked_at (string_from (algorithm_of algorithm.now)) string_at)
-        HasString OverrunsString (R.source reader.old) result }
+        NeedsString OverrunsString (R.source reader.old) result }
 {
     let bytes = Bytes::decode(alloc, reader)?;
     checked(algorithm, bytes)
@@ -150,9 +150,11 @@ fn decode_trailed<R: Reader>(alloc: Global, reader: &mut R, algorithm: &Algorith
     ensures gives { Gives (λ b. b) cause (trailed_at (string_from (algorithm_of algorithm.now)))
         (R.source reader.old) result (R.source reader.new) }
     ensures later { Later (R.source reader.old) (R.source reader.new) }
-    ensures asks { Asks cause HasString (R.source reader.old) result }
+    ensures asks { Asks cause (NeedsTrailed (string_from (algorithm_of algorithm.now)))
+        (R.source reader.old) result }
     ensures past { StopsBy cause (trailed_at (string_from (algorithm_of algorithm.now)))
-        HasString OverrunsString (R.source reader.old) result }
+        (NeedsTrailed (string_from (algorithm_of algorithm.now))) OverrunsString
+        (R.source reader.old) result }
 {
     let bytes = Bytes::decode_with_spare(alloc, reader, TRAILER_LEN)?;
     let trailer = array_from::<5, R>(reader)?;

@@ -2,7 +2,7 @@
 
 ghost use Rattle.std.specs.Prelude.{◌≡◌, ◌%◌, [], false, true, length, suc, Some, option_map, IfOk};
 ghost use Rattle.sshkey_base.specs.Causes.{cause};
-ghost use Rattle.sshkey_base.specs.Needs.{Asks, NeedsBoxed, HasString};
+ghost use Rattle.sshkey_base.specs.Needs.{Asks, HasString, NeedsBoxed, NeedsString};
 ghost use Rattle.sshkey_base.specs.Reading.{Gives, GivesWhole};
 ghost use Rattle.sshkey_base.specs.Source.{Later, all_of};
 ghost use Rattle.sshkey_base.specs.Stops.{OverrunsString, StopsPast};
@@ -137,7 +137,7 @@ fn encrypted_from<R: Reader>(alloc: Global, reader: &mut R, opening: Opening) ->
         (last_encrypted_at (cipher_of opening.cipher) (kdf_of opening.kdf) (key_of opening.public))
         (R.source reader.old) result (R.source reader.new) }
     ensures later { Later (R.source reader.old) (R.source reader.new) }
-    ensures asks { Asks cause HasString (R.source reader.old) result }
+    ensures asks { Asks cause NeedsString (R.source reader.old) result }
     ensures past { StopsPast cause HasString OverrunsString (R.source reader.old) result }
     ensures comment { IfOk result (λ k. comment_of (outer_of k) ≡ []) }
 {
@@ -169,7 +169,7 @@ fn last_sealed_from<R: Reader>(
         (last_encrypted_at (cipher_of cipher) k public)
         (R.source reader.old) result (R.source reader.new) }
     ensures later { Later (R.source reader.old) (R.source reader.new) }
-    ensures asks { Asks cause HasString (R.source reader.old) result }
+    ensures asks { Asks cause NeedsString (R.source reader.old) result }
     ensures past { StopsPast cause HasString OverrunsString (R.source reader.old) result }
     ensures whole { IfOk result (λ p. length p.0.items % block_size (cipher_of cipher) ≡ 0) }
     ensures size { IfOk result (λ p. length (tag_bytes p.1) ≡ tag_size (cipher_of cipher)) }
@@ -192,7 +192,7 @@ fn sealed_from<R: Reader>(
     ensures gives { Gives (λ p. (p.0.items, tag_bytes p.1)) cause
         (sealed_at (cipher_of cipher)) (R.source reader.old) result (R.source reader.new) }
     ensures later { Later (R.source reader.old) (R.source reader.new) }
-    ensures asks { Asks cause HasString (R.source reader.old) result }
+    ensures asks { Asks cause NeedsString (R.source reader.old) result }
     ensures past { StopsPast cause HasString OverrunsString (R.source reader.old) result }
     ensures whole { IfOk result (λ p. length p.0.items % block_size (cipher_of cipher) ≡ 0) }
     ensures size { IfOk result (λ p. length (tag_bytes p.1) ≡ tag_size (cipher_of cipher)) }

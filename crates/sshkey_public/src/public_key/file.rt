@@ -17,8 +17,8 @@ impl PublicKey {
     /// was read before, with `Io(InvalidData)` if it is not UTF-8, with `Io(Other)` if its end is
     /// not met in 2^32 reads, and else as `from_openssh` does.
     ///
-    /// Of a file of many lines this reads the first as the key, and keeps the others as its comment:
-    /// `is_one_line` tells. `AuthorizedKeys` and `KnownHosts` read files of many lines.
+    /// Of a file of many lines this reads the first as the key, and keeps the others as its
+    /// comment: `is_one_line` tells. `AuthorizedKeys` and `KnownHosts` read files of many lines.
     pub fn read_openssh_file<R: Files>(rt: &R, alloc: Global, path: &str) -> Result<PublicKey>
         ensures { IfOk result IsOfSomeLine }
     {

@@ -2,7 +2,7 @@ use Rattle.sshkey_base.specs.Names.{algorithm_of}
 use Rattle.sshkey_base.proofs.Places.{later_then}
 use Rattle.sshkey_format.proofs.Stopping.{widened_stops}
 use Rattle.sshkey_keys.specs.SignatureForms.{string_from}
-use Rattle.sshkey_keys.proofs.TrailedBlobs.{trailer_stopped, string_asks, both_stops}
+use Rattle.sshkey_keys.proofs.TrailedBlobs.{trailer_stopped, both_asks, both_stops}
 use Rattle.sshkey_keys.proofs.signature.wire.decode_trailed.Goals as goal
 
 pub returns-in_err-trailer-clause-later : goal.returns-in_err-trailer-clause-later
@@ -15,7 +15,7 @@ pub returns-clause-later : goal.returns-clause-later
 returns-clause-later g c = later_then _ _ _ c.in_ok-bytes.ensures.later c.in_ok-trailer.ensures.later
 
 pub returns-clause-asks : goal.returns-clause-asks
-returns-clause-asks g c = string_asks _ _ _ _ c.in_ok-bytes.ensures.gives
+returns-clause-asks g c = both_asks (string_from (algorithm_of c.args.algorithm.now)) _ _ _ _ _ _ c.in_ok-bytes.ensures.gives c.in_ok-trailer.ensures.gives c.joined.ensures
 
 pub returns-clause-past : goal.returns-clause-past
 returns-clause-past g c = both_stops (string_from (algorithm_of c.args.algorithm.now)) _ _ _ _ _ _ c.in_ok-bytes.ensures.gives c.in_ok-trailer.ensures.gives c.joined.ensures
