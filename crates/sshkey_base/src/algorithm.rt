@@ -66,7 +66,7 @@ impl Algorithm {
         ensures refused { algorithm_from name.now ≡ Err fault.Label →
             result ≡ Err (Error.Encoding encoding.Label) }
     {
-        match Algorithm::fixed(name) {
+        match Algorithm::from_fixed_name(name) {
             Some(algorithm) => Ok(algorithm),
             None => Ok(Algorithm::Other(AlgorithmName::new(alloc, name)?)),
         }
@@ -75,7 +75,7 @@ impl Algorithm {
     /// The algorithm with that fixed name; `None` for any other text. Does not allocate.
     #[tactic(auto, unfolding(sshkey_model::specs::Names::named))]
     #[inline(always)]
-    pub fn fixed(name: &str) -> Option<Algorithm>
+    pub fn from_fixed_name(name: &str) -> Option<Algorithm>
         ensures { option_map algorithm_of result ≡ named algorithm_name algorithms name.now }
     {
         let algorithm = match name {
@@ -99,7 +99,7 @@ impl Algorithm {
     pub fn check(name: &str) -> Result<()>
         ensures { Judges cause (algorithm_from name.now) result }
     {
-        match Algorithm::fixed(name) {
+        match Algorithm::from_fixed_name(name) {
             Some(_) => Ok(()),
             None => AlgorithmName::check(name),
         }
@@ -211,9 +211,9 @@ impl Label for Algorithm {
             IsOk result }
         ensures refused { algorithm_from name.now ≡ Err fault.Label → result ≡ Err encoding.Label }
     {
-        match Algorithm::fixed(name) {
+        match Algorithm::from_fixed_name(name) {
             Some(algorithm) => Ok(algorithm),
-            None => Ok(Algorithm::Other(AlgorithmName::checked(alloc, name)?)),
+            None => Ok(Algorithm::Other(AlgorithmName::from_text(alloc, name)?)),
         }
     }
 

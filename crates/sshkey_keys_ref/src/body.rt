@@ -52,7 +52,7 @@ pub fn skip_body<'a>(certificate_name: &str, bytes: &'a [u8]) -> Result<&'a [u8]
 fn behind_certified<'a>(name: &str, bytes: &'a [u8]) -> Result<&'a [u8]>
     ensures { Skips cause (certified_body_at name.now) bytes.now result }
 {
-    match Algorithm::fixed_certificate(name) {
+    match Algorithm::from_fixed_certificate_name(name) {
         Some(algorithm) => behind_kind(&algorithm, bytes),
         None => {
             Algorithm::check_certificate(name)?;

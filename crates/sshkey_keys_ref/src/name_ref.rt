@@ -43,7 +43,7 @@ fn name_in(string: &[u8]) -> Result<NameRef<'_>>
 fn name_of(text: &str) -> Result<NameRef<'_>>
     ensures { AnswersAlways named_of cause (algorithm_from text.now) result }
 {
-    match Algorithm::fixed(text) {
+    match Algorithm::from_fixed_name(text) {
         Some(algorithm) => Ok(NameRef::Fixed(algorithm)),
         None => {
             Algorithm::check(text)?;

@@ -42,7 +42,7 @@ impl Algorithm {
         ensures refused { certified_from name.now ≡ Err fault.Label →
             result ≡ Err (Error.Encoding encoding.Label) }
     {
-        match Algorithm::fixed_certificate(name) {
+        match Algorithm::from_fixed_certificate_name(name) {
             Some(algorithm) => Ok(algorithm),
             None => {
                 let name = AlgorithmName::from_certificate_type(alloc, name)?;
@@ -54,7 +54,7 @@ impl Algorithm {
     /// The algorithm with that fixed name in a certificate (PROTOCOL.certkeys), an RSA algorithm
     /// without a hash; `None` for any other text. Does not allocate.
     #[tactic(auto, unfolding(sshkey_model::specs::Names::named))]
-    pub fn fixed_certificate(name: &str) -> Option<Algorithm>
+    pub fn from_fixed_certificate_name(name: &str) -> Option<Algorithm>
         ensures { option_map algorithm_of result ≡ named certificate_name certified name.now }
     {
         let algorithm = match name {
@@ -77,7 +77,7 @@ impl Algorithm {
     pub fn check_certificate(name: &str) -> Result<()>
         ensures { Judges cause (certified_from name.now) result }
     {
-        match Algorithm::fixed_certificate(name) {
+        match Algorithm::from_fixed_certificate_name(name) {
             Some(_) => Ok(()),
             None => AlgorithmName::check_certificate_type(name),
         }

@@ -65,11 +65,11 @@ impl AlgorithmName {
         ensures refused { is_own_name text.now ≡ false →
             result ≡ Err (Error.Encoding encoding.Label) }
     {
-        Ok(AlgorithmName::checked(alloc, text)?)
+        Ok(AlgorithmName::from_text(alloc, text)?)
     }
 
     /// The same, with an error of the encoding.
-    pub(crate) fn checked(alloc: Global, text: &str) -> encoding::Result<AlgorithmName>
+    pub(crate) fn from_text(alloc: Global, text: &str) -> encoding::Result<AlgorithmName>
         ensures gives { LooksUp (λ name. name) own_name_from text.now result }
         ensures refused { is_own_name text.now ≡ false → result ≡ Err encoding.Label }
     {

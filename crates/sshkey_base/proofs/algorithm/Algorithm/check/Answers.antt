@@ -5,7 +5,7 @@ use Rattle.sshkey_base.proofs.algorithm.Algorithm.check.Goals as goal
 use Rattle.sshkey_base.proofs.algorithm.Algorithm.check.Goals.{in-Some, in-None}
 
 pub returns : goal.returns
-returns c = elim c.match-fixed.branch [
-  | in-Some w ↦ rw (w.result-is, ← c.fixed.ensures, w.in-Some.is) refl
-  | in-None w ↦ rw w.result-is (own_judged cause c.args.name.now _ (rw w.in-None.is at (sym c.fixed.ensures)) w.check.ensures)
+returns c = elim c.match-from_fixed_name.branch [
+  | in-Some w ↦ rw (w.result-is, ← c.from_fixed_name.ensures, w.in-Some.is) refl
+  | in-None w ↦ rw w.result-is (own_judged cause c.args.name.now _ (rw w.in-None.is at (sym c.from_fixed_name.ensures)) w.check.ensures)
 ]

@@ -5,7 +5,7 @@ use Rattle.sshkey_base.proofs.algorithm.Algorithm.check_certificate.Goals as goa
 use Rattle.sshkey_base.proofs.algorithm.Algorithm.check_certificate.Goals.{in-Some, in-None}
 
 pub returns : goal.returns
-returns c = elim c.match-fixed_certificate.branch [
-  | in-Some w ↦ rw (w.result-is, ← c.fixed_certificate.ensures, w.in-Some.is) refl
-  | in-None w ↦ rw w.result-is (certified_judged cause c.args.name.now _ (rw w.in-None.is at (sym c.fixed_certificate.ensures)) w.check_certificate_type.ensures)
+returns c = elim c.match-from_fixed_certificate_name.branch [
+  | in-Some w ↦ rw (w.result-is, ← c.from_fixed_certificate_name.ensures, w.in-Some.is) refl
+  | in-None w ↦ rw w.result-is (certified_judged cause c.args.name.now _ (rw w.in-None.is at (sym c.from_fixed_certificate_name.ensures)) w.check_certificate_type.ensures)
 ]

@@ -1,7 +1,7 @@
 use Rattle.std.proofs.Common.{sym}
 use Rattle.sshkey_model.specs.Names.{algorithm_name, algorithms}
 use Rattle.sshkey_base.proofs.OtherNames.{named-none}
-use Rattle.sshkey_base.proofs.algorithm.Algorithm.fixed.Goals as goal
+use Rattle.sshkey_base.proofs.algorithm.Algorithm.from_fixed_name.Goals as goal
 
 pub returns-in_default : goal.returns-in_default
 returns-in_default c =
