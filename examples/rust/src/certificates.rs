@@ -90,7 +90,7 @@ pub fn validate_certificate(
         Principal::Any => unsafe {
             raw::sshkey_certificate_validate(given, length, now, keys, count, verified)
         },
-        // SAFETY: likewise.
+        // SAFETY: as above, and the name's length is beside its pointer.
         Principal::Named(name) => unsafe {
             raw::sshkey_certificate_validate_for(
                 given,
