@@ -2,68 +2,59 @@
 docs/FOREIGN.md shows of them, and what the program has beside check.py."""
 import os
 import re
-import shutil
 
 from lib.harness import ROOT
 
-from .binding_calls import Asker
-from .bindings import Program, is_untold
+from .bindings import is_untold
 from .example_calls import INVALID, VALID
 from .linked import EXAMPLES, run
 from .login_calls import blocks
 
 PACKAGE = os.path.join(EXAMPLES, "rust")
+CHECK, ASKER = f"{PACKAGE}/src/bin/check.rs", f"{ROOT}/checks/asked/rust/asker.rs"
 CARGO = ["--offline", "--locked"]
 
 
-class Built:
+class Rust:
     """What cargo and rustc build in a folder, with the library and the verifier of the examples in C, which stand in `out`."""
 
     def __init__(self, folder, out):
-        self.target, self.out = f"{folder}/rust", out
+        self.folder, self.target, self.out = folder, f"{folder}/rust", out
         names = {"SSHKEY_LIB_DIR": out, "CARGO_TARGET_DIR": self.target, "RUSTFLAGS": "-D warnings", "RUSTDOCFLAGS": "-D warnings"}
         self.environment = {**os.environ, **names}
 
     def cargo(self, *words):
         return run(["cargo", *words], cwd=PACKAGE, env=self.environment)
 
-    def compiled(self, source, program):
-        """A run of rustc over a program beside the package, which takes what the program check takes."""
-        library = f"{self.target}/debug/libsshkey.rlib"
-        parts = [f"{self.out}/verify.o", f"{self.out}/libsshkey.a", "-lcrypto"]
-        linked = [word for it in parts for word in ("-C", f"link-arg={it}")]
-        return run(["rustc", "--edition", "2021", "-D", "warnings", "--extern", f"sshkey={library}", *linked, "-o", program, source])
+    def built(self, count, source, name, library=None):
+        """A program over the package, linked with the library in that folder, by rustc."""
+        path, folder = f"{self.folder}/{name.replace(' ', '-')}", library or self.out
+        parts = [f"{self.out}/verify.o", f"{folder}/libsshkey.a", "-lcrypto"]
+        linked = ["-L", f"native={folder}", *(word for it in parts for word in ("-C", f"link-arg={it}"))]
+        package = f"sshkey={self.target}/debug/libsshkey.rlib"
+        made = run(["rustc", "--edition", "2021", "-D", "warnings", "--extern", package, *linked, "-o", path, source])
+        count.check(f"Rust: {name} is built", made.returncode == 0, made.stderr[-3000:])
+        return path
 
-    @property
-    def program(self):
-        return Program("Rust", [f"{self.target}/debug/check"])
+    def check_sources(self, count):
+        """The package and its program are built without a warning, and its own tests pass."""
+        made = run(["make", "-C", EXAMPLES, f"OUT={self.out}", f"{self.out}/verify.o"])
+        count.check("Rust: the verifier in C is built", made.returncode == 0, made.stderr[-3000:])
+        made = self.cargo("build", *CARGO)
+        count.check("Rust: the package and its program are built", made.returncode == 0, made.stderr[-3000:])
+        tested = self.cargo("test", *CARGO)
+        passed = sum(map(int, re.findall(r"^test result: ok\. (\d+) passed", tested.stdout, re.M)))
+        same = tested.returncode == 0 and passed
+        count.check(f"Rust: {passed} tests of the package pass", same, tested.stdout[-2000:], tested.stderr[-2000:])
 
-    @property
-    def asker(self):
-        return Asker("Rust", [f"{self.target}/asker"])
-
-
-def has(command):
-    """Whether cargo has the command: Debian's package `cargo` has neither fmt nor clippy."""
-    return run(["cargo", command, "--version"]).returncode == 0
-
-
-def check_built(count, built):
-    """The package, the program and the asker are built without a warning, and the package's own tests pass."""
-    made = built.cargo("build", *CARGO)
-    count.check("Rust: the package and its program are built", made.returncode == 0, made.stderr[-3000:])
-    asker = f"{ROOT}/checks/asked/rust/asker.rs"
-    made = built.compiled(asker, f"{built.target}/asker")
-    count.check("Rust: the program that answers questions is built", made.returncode == 0, made.stderr[-3000:])
-    tested = built.cargo("test", *CARGO)
-    passed = sum(map(int, re.findall(r"^test result: ok\. (\d+) passed", tested.stdout, re.M)))
-    count.check(f"Rust: {passed} tests of the package pass", tested.returncode == 0 and passed, tested.stdout[-2000:], tested.stderr[-2000:])
-    if has("fmt"):
-        said = [built.cargo("fmt", "--check"), run(["rustfmt", "--edition", "2021", "--check", asker])]
-        count.check("Rust: the sources are as rustfmt writes them", not any(it.returncode for it in said), *(it.stdout[:2000] for it in said))
-    if has("clippy"):
-        said = built.cargo("clippy", *CARGO, "--all-targets", "--", "-D", "warnings")
-        count.check("Rust: clippy has nothing to say", said.returncode == 0, said.stderr[-3000:])
+    def check_style(self, count):
+        """What rustfmt and clippy say where they are: Debian's package `cargo` has neither."""
+        if run(["cargo", "fmt", "--version"]).returncode == 0:
+            said = [self.cargo("fmt", "--check"), run(["rustfmt", "--edition", "2021", "--check", ASKER])]
+            count.check("Rust: rustfmt has nothing to change", not any(it.returncode for it in said), *(it.stdout[:2000] for it in said))
+        if run(["cargo", "clippy", "--version"]).returncode == 0:
+            said = self.cargo("clippy", *CARGO, "--all-targets", "--", "-D", "warnings")
+            count.check("Rust: clippy has nothing to say", said.returncode == 0, said.stderr[-3000:])
 
 
 # ---- the command `user`, which check.py has not
@@ -117,12 +108,11 @@ fn main() {{
 """
 
 
-def check_page(count, built, made):
+def check_page(count, rust, made):
     """The lines that docs/FOREIGN.md shows compile, and let the user in, and no other."""
     maker, code = made.maker, blocks("rust")
-    text = PAGE.format(path=f"{PACKAGE}/src/bin/check.rs", code="".join(code[:1]))
-    page = built.compiled(maker.write("page.rs", text), maker.path("page"))
-    count.check("Rust: the lines of docs/FOREIGN.md compile", len(code) == 1 and page.returncode == 0, page.stderr[-3000:])
+    count.check("Rust: docs/FOREIGN.md shows lines", len(code) == 1, code)
+    page = rust.built(count, maker.write("page.rs", PAGE.format(path=CHECK, code="".join(code[:1]))), "page of FOREIGN.md")
     authority, own, other = (maker.read(f"{it}.pub") for it in ("authority0", "user0", "user1"))
     good, strange = (maker.certificate("authority0", "user0", *made.foreign.WINDOW, "-n", it) for it in ("alice", "eve"))
     for name, words, wanted in (
@@ -130,10 +120,6 @@ def check_page(count, built, made):
         ("another user's", (authority, strange, own), "refused: another principal (34)"),
         ("another key", (authority, good, other), "refused: another key (103)"),
     ):  # fmt: skip
-        ran = run([maker.path("page"), *words, str(made.middle)]) if page.returncode == 0 else page
+        ran = run([page, *words, str(made.middle)])
         said = [*ran.stdout.splitlines(), *ran.stderr.splitlines()]
         count.check(f"Rust: the lines of docs/FOREIGN.md: {name}", said == [wanted], said)
-
-
-def is_there():
-    return shutil.which("cargo") is not None

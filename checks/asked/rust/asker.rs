@@ -204,6 +204,11 @@ fn strings(bytes: &[u8]) -> Answer {
 
 // ---- entries
 
+fn lines(text: &[u8]) -> Answer {
+    let found: Result<Vec<_>, _> = sshkey::entry_lines(text).map(|it| it.map(word)).collect();
+    words(found?)
+}
+
 fn entry(line: &[u8]) -> Answer {
     let found = sshkey::authorized_entry(line)?;
     words([
@@ -272,7 +277,7 @@ fn answer(question: &str) -> Answer {
         ("lists", [blob]) => lists(blob),
         ("certificate-options", [bytes]) => words(pairs("", sshkey::certificate_options(bytes))?),
         ("strings", [bytes]) => strings(bytes),
-        ("lines", [bytes]) => words(sshkey::entry_lines(bytes).map(word)),
+        ("lines", [bytes]) => lines(bytes),
         ("key", [blob]) => key(blob),
         ("line", [bytes]) => line(bytes),
         ("normal", _) => normal(given[0], &data(given[1])),

@@ -15,12 +15,13 @@ pub struct EntryLines<'a> {
 
 /// The lines of a text of authorized_keys or known_hosts that may be entries: those that are
 /// neither empty nor a comment, without the spaces and tabs at their front and without their ends.
+/// No item fails.
 pub fn entry_lines(text: &[u8]) -> EntryLines<'_> {
     EntryLines { text, place: 0 }
 }
 
 impl<'a> Iterator for EntryLines<'a> {
-    type Item = &'a [u8];
+    type Item = Result<&'a [u8], Status>;
 
     fn next(&mut self) -> Option<Self::Item> {
         let (text, length) = (self.text.as_ptr(), self.text.len());
@@ -28,10 +29,17 @@ impl<'a> Iterator for EntryLines<'a> {
         // SAFETY: pointer and length are those of one slice, which is lent for longer than the
         // call, and `part` is a local variable that nothing else refers to.
         let answer = unsafe { raw::sshkey_next_line(text, length, self.place, &mut part) };
-        // what is not done is the end
-        Status::of(answer).ok()?;
-        self.place = part.end();
-        Some(part.of(self.text))
+        match Status::of(answer) {
+            Ok(()) => {
+                self.place = part.end();
+                Some(Ok(part.of(self.text)))
+            }
+            Err(Status::END) => None,
+            Err(status) => {
+                self.place = length;
+                Some(Err(status))
+            }
+        }
     }
 }
 

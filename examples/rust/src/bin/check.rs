@@ -191,20 +191,30 @@ fn of_file(path: &Path, fault: impl fmt::Display) -> Untold {
     format!("{}: {fault}", path.display()).into()
 }
 
+/// The fault of a file, of which a line is no key, or of which that can't be told.
+fn no_key(path: &Path, status: Status) -> Untold {
+    let front = if status == Status::MEMORY {
+        ""
+    } else {
+        "no key: "
+    };
+    of_file(path, format_args!("{front}{}", meaning(status)))
+}
+
 /// The fingerprints of the keys in a file. Fails where it can't be read, and where a line is no
 /// key.
 fn fingerprints(path: &Path) -> Result<Vec<Sha256>, Untold> {
     let text = fs::read(path).map_err(|fault| of_file(path, fault))?;
     sshkey::entry_lines(&text)
-        .map(|line| sshkey::fingerprint(&read(line, false)?))
+        .map(|line| sshkey::fingerprint(&read(line?, false)?))
         .collect::<Result<_, Status>>()
-        .map_err(|status| of_file(path, format_args!("a line is no key: {}", meaning(status))))
+        .map_err(|status| no_key(path, status))
 }
 
 /// The key of a file that has one. Fails where it can't be read, and where it has none.
 fn key_of(path: &Path) -> Result<Vec<u8>, Untold> {
     let line = fs::read(path).map_err(|fault| of_file(path, fault))?;
-    read(&line, false).map_err(|status| of_file(path, meaning(status)))
+    read(&line, false).map_err(|status| no_key(path, status))
 }
 
 /// The second of the digits, or else now. Fails where there is another character, or none.
