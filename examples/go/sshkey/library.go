@@ -96,5 +96,5 @@ func form(length int, call func(room *C.uint8_t, roomLength C.size_t, length *C.
 // partOf is that part of the bytes, to which nothing can be appended in place.
 func partOf(data []byte, part C.sshkey_part) []byte {
 	end := part.start + part.length
-	return data[part.start:end:end]
+	return data[:len(data):len(data)][part.start:end:end]
 }
