@@ -347,3 +347,28 @@ def check_binding(count, asker, made):
     check_keys(judge)
     check_lines(judge)
     check_entries(judge)
+
+
+# ---- libraries that answer one number
+
+
+def check_stub(count, asker, made, number):
+    """An asker that is linked with a library that answers each call with that number answers it too: what is refused, and what no
+    header knows, is never taken for done, and no room is asked for twice in vain."""
+    blob, key = made.kinds[0].blob.hex(), made.foreign.blob_of(made.maker.read("user0.pub")).hex()
+    by, name = "00" * 32, b"alice".hex()
+    questions = [
+        f"certificate {blob}", f"signature {key} 00 {key}", f"sshsig {key} {name} 00", f"is-signature {key} 00 {key}",
+        f"validate {blob} 7 * {by} 1", f"validate {blob} 7 {name} {by} 1", f"fields {blob}", f"lists {blob}",
+        f"certificate-options {blob}", f"strings {blob}", f"key {key}", f"line {name}", f"normal key {key}",
+        f"normal certificate {blob}", f"normal sshsig {key}", f"normal signature {key}", f"join {blob} {key}", f"entry {name}",
+        f"host {name}", f"options {name}", f"draft {key} 00 {name} - - - {key} 0 0 9 1 1", f"verdict {name} {name} 22 {key}",
+        f"user {blob} {key} 7 {name} {by} -",
+    ]  # fmt: skip
+    ran = run(asker.words, input="".join(f"{it}\n" for it in questions), timeout=60)
+    words = made.check.MEANING.get(number, {1: "no memory", 2: "the room is too short"}.get(number, "not in its format"))
+    # lists that are asked for string by string are refused there
+    wanted = [str(number)] * (len(questions) - 2) + [f"{number} {number}", f"refused: {words} ({number})"]
+    wrong = [it for it in zip(questions, ran.stdout.splitlines(), wanted) if it[1] != it[2]]
+    same = ran.returncode == 0 and len(ran.stdout.splitlines()) == len(questions) and not wrong
+    count.check(f"{asker.language}: where each call answers {number}, that is answered", same, *wrong[:5], ran.stderr[-2000:])

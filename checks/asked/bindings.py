@@ -308,3 +308,18 @@ def check_program(count, program, made):
     check_armour(count, program, made)
     check_weak(count, program, made)
     check_streams(count, program, made)
+
+
+def check_program_without_memory(count, program, made):
+    """A program that is linked with a library that is refused memory at each call can't tell."""
+    kind = made.kinds[0]
+    text = armoured(made.maker.signature("user0", "text"))
+    empty = made.maker.write("empty", "")
+    for name, words, given in (
+        ("a certificate", ["certificates", made.path_of(kind), "alice", "7"], f"{kind.line}\n"),
+        ("a certificate, and no authority", ["certificates", empty, "alice", "7"], f"{kind.line}\n"),
+        ("a signature", ["signature", made.path_of(kind), "file", made.path_of(kind)], text),
+        ("a signature, and no signer", ["signature", empty, "file", made.path_of(kind)], text),
+    ):  # fmt: skip
+        ran = program.run(*words, input=given)
+        count.check(f"{program.language}: without memory, {name}", is_untold(program, ran), ran)

@@ -20,6 +20,7 @@ class Rust:
 
     def __init__(self, folder, out):
         self.folder, self.target, self.out = folder, f"{folder}/rust", out
+        self.program = f"{self.target}/debug/check"
         names = {"SSHKEY_LIB_DIR": out, "CARGO_TARGET_DIR": self.target, "RUSTFLAGS": "-D warnings", "RUSTDOCFLAGS": "-D warnings"}
         self.environment = {**os.environ, **names}
 
@@ -28,7 +29,7 @@ class Rust:
 
     def built(self, count, source, name, library=None):
         """A program over the package, linked with the library in that folder, by rustc."""
-        path, folder = f"{self.folder}/{name.replace(' ', '-')}", library or self.out
+        path, folder = f"{self.folder}/rust-{name.replace(' ', '-')}", library or self.out
         parts = [f"{self.out}/verify.o", f"{folder}/libsshkey.a", "-lcrypto"]
         linked = ["-L", f"native={folder}", *(word for it in parts for word in ("-C", f"link-arg={it}"))]
         package = f"sshkey={self.target}/debug/libsshkey.rlib"
@@ -57,7 +58,7 @@ class Rust:
             count.check("Rust: clippy has nothing to say", said.returncode == 0, said.stderr[-3000:])
 
 
-# ---- the command `user`, which check.py has not
+# ---- the command `user`, which check.py does not have
 
 
 def check_user(count, program, made):
@@ -89,37 +90,46 @@ def check_user(count, program, made):
 
 PAGE = """\
 use check::verify::verifies;
-use check::{{validate_user, Login}};
+use check::{{line_for, validate_user, Login}};
 #[allow(dead_code)]
-#[path = "{path}"]
+#[path = "{0}"]
 mod check;
 fn let_in() {{
     println!("let in");
 }}
 fn log_in(authority_line: &str, line: &str, key: &[u8], now: u64) -> Result<(), sshkey::Status> {{
-{code}
+{1}
     Ok(())
+}}
+fn two_calls(certificate: &[u8], authority: sshkey::Sha256, now: u64) -> Result<(), sshkey::Status> {{
+    let (authorities, is_signature) = ([authority], verifies);
+{2}
+    valid
 }}
 fn main() {{
     let words: Vec<String> = std::env::args().collect();
-    let key = sshkey::read_line(&words[3]).unwrap().blob;
-    log_in(&words[1], &words[2], &key, words[4].parse().unwrap()).unwrap();
+    let blob = |at: usize| sshkey::read_line(&words[at]).unwrap().blob;
+    let now = words[4].parse().unwrap();
+    log_in(&words[1], &words[2], &blob(3), now).unwrap();
+    let valid = two_calls(&blob(2), sshkey::fingerprint(&blob(1)).unwrap(), now);
+    println!("{{}}", line_for(valid.map_err(Into::into)));
 }}
 """
 
 
-def check_page(count, rust, made):
-    """The lines that docs/FOREIGN.md shows compile, and let the user in, and no other."""
-    maker, code = made.maker, blocks("rust")
-    count.check("Rust: docs/FOREIGN.md shows lines", len(code) == 1, code)
-    page = rust.built(count, maker.write("page.rs", PAGE.format(path=CHECK, code="".join(code[:1]))), "page of FOREIGN.md")
+def check_rust_page(count, rust, made):
+    """The lines in Rust that docs/FOREIGN.md shows compile, and let the user in, and no other."""
+    maker, code, second = made.maker, blocks("rust"), str(made.middle)
+    count.check("docs/FOREIGN.md shows lines in Rust", len(code) == 2, code)
+    page = rust.built(count, maker.write("page.rs", PAGE.format(CHECK, *code[:2])), "page of FOREIGN.md")
     authority, own, other = (maker.read(f"{it}.pub") for it in ("authority0", "user0", "user1"))
     good, strange = (maker.certificate("authority0", "user0", *made.foreign.WINDOW, "-n", it) for it in ("alice", "eve"))
+    refused = "refused: another principal (34)"
     for name, words, wanted in (
-        ("its user", (authority, good, own), "let in"),
-        ("another user's", (authority, strange, own), "refused: another principal (34)"),
-        ("another key", (authority, good, other), "refused: another key (103)"),
+        ("its user", (authority, good, own), ["let in", "valid"]), ("another user's", (authority, strange, own), [refused, refused]),
+        ("another key", (authority, good, other), ["valid", "refused: another key (103)"]),
+        ("no certificate", (authority, own, own), ["refused: a name that may not stand there (12)"] * 2),
     ):  # fmt: skip
-        ran = run([page, *words, str(made.middle)])
+        ran = run([page, *words, second])
         said = [*ran.stdout.splitlines(), *ran.stderr.splitlines()]
-        count.check(f"Rust: the lines of docs/FOREIGN.md: {name}", said == [wanted], said)
+        count.check(f"the Rust of docs/FOREIGN.md: {name}", said == wanted, said)
