@@ -101,7 +101,7 @@ fn log_in(authority_line: &str, line: &str, key: &[u8], now: u64) -> Result<(), 
 {1}
     Ok(())
 }}
-fn two_calls(certificate: &[u8], authority: sshkey::Sha256, now: u64) -> Result<(), sshkey::Status> {{
+fn two_calls(certificate: Vec<u8>, authority: sshkey::Sha256, now: u64) -> Result<(), sshkey::Status> {{
     let (authorities, is_signature) = ([authority], verifies);
 {2}
     valid
@@ -111,7 +111,7 @@ fn main() {{
     let blob = |at: usize| sshkey::read_line(&words[at]).unwrap().blob;
     let now = words[4].parse().unwrap();
     log_in(&words[1], &words[2], &blob(3), now).unwrap();
-    let valid = two_calls(&blob(2), sshkey::fingerprint(&blob(1)).unwrap(), now);
+    let valid = two_calls(blob(2), sshkey::fingerprint(&blob(1)).unwrap(), now);
     println!("{{}}", line_for(valid.map_err(Into::into)));
 }}
 """

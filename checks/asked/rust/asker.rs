@@ -152,14 +152,17 @@ fn draft(given: &[&str]) -> Answer {
     };
     let (critical_options, extensions) = (options(&spans[4])?, options(&spans[5])?);
     let made = sshkey::certificate_to_be_signed(&Draft {
-        certificate_type: CertificateType::try_from(numbers[3] as u32)?,
+        key: &spans[0],
+        nonce: &spans[1],
         key_id: text(&spans[2])?,
+        principals: listed,
+        critical_options: &critical_options,
+        extensions: &extensions,
+        authority: &spans[6],
         serial: numbers[0],
         valid_after: numbers[1],
         valid_before: numbers[2],
-        critical_options: &critical_options,
-        extensions: &extensions,
-        ..Draft::new(&spans[0], &spans[6], &spans[1], listed)
+        certificate_type: CertificateType::try_from(numbers[3] as u32)?,
     })?;
     words([word(made)])
 }

@@ -41,7 +41,7 @@ impl TryFrom<u32> for CertificateType {
 pub enum Principal<'a> {
     /// No principal is asked about: a valid certificate may be for anybody.
     Any,
-    /// The one of that name. An empty name is one that no certificate of ssh-keygen lists.
+    /// The one of that name.
     Named(&'a [u8]),
 }
 
@@ -203,6 +203,7 @@ fn text(bytes: &[u8]) -> Result<&str, Status> {
 
 /// The principals of a certificate, lent of its bytes.
 #[derive(Clone, Debug)]
+#[must_use = "an iterator asks nothing until it is asked"]
 pub struct Principals<'a>(Strings<'a>);
 
 impl<'a> Iterator for Principals<'a> {
@@ -226,6 +227,7 @@ pub struct CertificateOption<'a> {
 
 /// The critical options or the extensions that some bytes are, lent of these.
 #[derive(Clone, Debug)]
+#[must_use = "an iterator asks nothing until it is asked"]
 pub struct CertificateOptions<'a> {
     bytes: &'a [u8],
     place: usize,

@@ -1,6 +1,6 @@
 //! How a certificate is made: two calls, with the signature between them.
 
-use crate::certificates::{CertificateType, FOREVER};
+use crate::certificates::CertificateType;
 use crate::raw;
 use crate::rooms::written;
 use crate::status::Status;
@@ -18,7 +18,8 @@ pub enum Listed<'a> {
     Names(&'a [&'a str]),
 }
 
-/// What a certificate is to say. [`Draft::new`] fills what is seldom asked for.
+/// What a certificate is to say. [`Draft::default`] tells none: it is refused until a key, an
+/// authority, a nonce, principals and an end of its window are written.
 #[derive(Clone, Copy, Debug)]
 pub struct Draft<'a> {
     /// The blob of the key that is certified.
@@ -37,7 +38,7 @@ pub struct Draft<'a> {
     pub serial: u64,
     /// The first second of its window, since 1970.
     pub valid_after: u64,
-    /// The first second behind its window, or [`FOREVER`].
+    /// The first second behind its window, or [`FOREVER`](crate::FOREVER).
     pub valid_before: u64,
     /// Names and values of what whoever accepts it has to know and to meet.
     pub critical_options: &'a [(&'a str, &'a str)],
@@ -45,25 +46,19 @@ pub struct Draft<'a> {
     pub extensions: &'a [(&'a str, &'a str)],
 }
 
-impl<'a> Draft<'a> {
-    /// A draft for users, without a key id, a serial number, an end and options.
-    #[must_use]
-    pub fn new(
-        key: &'a [u8],
-        authority: &'a [u8],
-        nonce: &'a [u8],
-        principals: Listed<'a>,
-    ) -> Draft<'a> {
+impl Default for Draft<'_> {
+    /// For users, but for none of them, and at no time.
+    fn default() -> Self {
         Draft {
-            key,
-            authority,
-            nonce,
-            principals,
+            key: &[],
+            authority: &[],
+            nonce: &[],
+            principals: Listed::Names(&[]),
             certificate_type: CertificateType::User,
             key_id: "",
             serial: 0,
             valid_after: 0,
-            valid_before: FOREVER,
+            valid_before: 0,
             critical_options: &[],
             extensions: &[],
         }

@@ -8,6 +8,7 @@ use crate::status::Status;
 
 /// The lines of a text that may be entries, lent of it.
 #[derive(Clone, Debug)]
+#[must_use = "an iterator asks nothing until it is asked"]
 pub struct EntryLines<'a> {
     text: &'a [u8],
     place: usize,
@@ -140,6 +141,7 @@ pub struct EntryOption {
 /// The options of an entry, of which each takes time for the whole text: bound the length of lines
 /// that others write.
 #[derive(Clone, Debug)]
+#[must_use = "an iterator asks nothing until it is asked"]
 pub struct EntryOptions<'a> {
     text: &'a [u8],
     number: Option<usize>,

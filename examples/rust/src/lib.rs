@@ -21,6 +21,9 @@
 //! # assert_eq!(judge("ssh-ed25519", 0, &[]), Err(Status::LENGTH));
 //! ```
 //!
+//! The library is libsshkey.a of the folder that SSHKEY_LIB_DIR names when this crate is built, or
+//! else of examples/out, where `make` in the folder examples puts it.
+//!
 //! Each function says what it fails with: a [`Status`], of which [`Status::MEMORY`] says nothing
 //! of the input. What is lent of the input stands in it, and nothing is kept of it. Calls from
 //! several threads at once are fine. A part that lay outside its bytes, which no call answers, as

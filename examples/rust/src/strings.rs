@@ -7,6 +7,7 @@ use crate::status::Status;
 
 /// The strings, one behind the other, that some bytes are; lent of these.
 #[derive(Clone, Debug)]
+#[must_use = "an iterator asks nothing until it is asked"]
 pub struct Strings<'a> {
     bytes: &'a [u8],
     place: usize,

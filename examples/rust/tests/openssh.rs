@@ -131,13 +131,17 @@ fn certificates_are_made_as_ssh_keygen_makes_them() {
     let nonce = sshkey::strings(&made).nth(1).unwrap().unwrap();
     let question = sshkey::certificate_question(&made).unwrap();
     let draft = Draft {
+        key: &key,
+        authority: &by,
+        nonce,
+        principals: Listed::Names(&["alice", "bob"]),
         key_id: "alice's laptop",
         serial: 7,
         valid_after: FIRST,
         valid_before: END,
         critical_options: &[("source-address", "192.0.2.0/24")],
         extensions: &[("permit-pty", "")],
-        ..Draft::new(&key, &by, nonce, Listed::Names(&["alice", "bob"]))
+        ..Draft::default()
     };
     let found = sshkey::make_certificate(&draft, |message| {
         assert_eq!(message, question.message());
