@@ -413,16 +413,13 @@ fn answer(words: &[OsString]) -> Option<Result<bool, Untold>> {
 
 fn main() -> ExitCode {
     let words: Vec<OsString> = env::args_os().skip(1).collect();
-    match answer(&words) {
-        Some(Ok(true)) => ExitCode::SUCCESS,
-        Some(Ok(false)) => ExitCode::from(1),
-        Some(Err(fault)) => {
-            eprintln!("check: {fault}");
-            ExitCode::from(2)
-        }
-        None => {
-            eprint!("{USAGE}");
-            ExitCode::from(2)
-        }
-    }
+    let told = match answer(&words) {
+        Some(Ok(true)) => return ExitCode::SUCCESS,
+        Some(Ok(false)) => return ExitCode::from(1),
+        Some(Err(fault)) => writeln!(io::stderr(), "check: {fault}"),
+        None => write!(io::stderr(), "{USAGE}"),
+    };
+    // the status says it, too
+    drop(told);
+    ExitCode::from(2)
 }
