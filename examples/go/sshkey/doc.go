@@ -23,8 +23,8 @@
 //
 // # The library
 //
-// In this tree the package links examples/out/libsshkey.a, which `make -C examples` builds. With the
-// build tag sshkey_installed it links what pkg-config calls sshkey (`make -C examples install`). It
-// takes cgo, on Linux on x86-64. That the library answers rightly is proved; this package is
-// written by hand and tested (checks/bindings).
+// In this tree the package links examples/out/libsshkey.a, which `make -C examples` builds. With
+// the build tag sshkey_installed it links what pkg-config calls sshkey (`make -C examples
+// install`). It takes cgo, on Linux on x86-64. That the library answers rightly is proved; this
+// package is written by hand and tested (checks/bindings).
 package sshkey
