@@ -21,10 +21,10 @@ type answer func(words []string) ([]string, error)
 
 var answers = map[string]answer{
 	"certificate": certificate, "signature": signature, "sshsig": sshsig,
-	"is-signature": isSignature, "validate": validate, "user": user, "fields": fields, "lists": lists,
-	"certificate-options": certificateOptions, "strings": stringsOf, "key": key, "line": line,
-	"normal": normal, "draft": draft, "join": join,
-	"lines": lines, "entry": entry, "host": host, "options": options,
+	"is-signature": isSignature, "validate": validate, "user": user, "fields": fields,
+	"lists": lists, "certificate-options": certificateOptions, "strings": stringsOf, "key": key,
+	"line": line, "normal": normal, "draft": draft, "join": join, "lines": lines, "entry": entry,
+	"host": host, "options": options,
 }
 
 func main() {
