@@ -13,6 +13,7 @@
 // sshkey.ErrOutOfWindow)). [ErrMemory] says nothing of what was asked: the library was refused
 // memory, and the call may be made again. With an error the other results are zero values, and a
 // zero [SHA256] is the fingerprint of no key. Where Go itself runs out of memory the program ends.
+// No compiler sees a call whose error is dropped: have a linter look for such, as errcheck does.
 //
 // # Memory
 //

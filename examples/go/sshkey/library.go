@@ -1,6 +1,5 @@
 package sshkey
 
-// #cgo CFLAGS: -std=c11
 // #cgo !sshkey_installed CFLAGS: -I${SRCDIR}/../../../include
 // #cgo !sshkey_installed LDFLAGS: -L${SRCDIR}/../../out -l:libsshkey.a
 // #cgo sshkey_installed pkg-config: sshkey
