@@ -147,6 +147,9 @@ def armour_cases(good, strange):
         ("a character that is none of Base64", good[: ends - 9] + "*" + good[ends - 9 :], UNTOLD),
         ("one of another alphabet", good[: ends - 9] + "_" + good[ends - 9 :], UNTOLD),
         ("no armour", "".join(good.splitlines(True)[1:-1]), UNTOLD), ("nothing", "", UNTOLD), ("a text before", "x" + good, UNTOLD),
+        ("a text behind", good + "x\n", VALID), ("no line end", good.removesuffix("\n"), VALID),
+        *((f"a character {it!r} within", good[: ends - 9] + it + good[ends - 9 :], VALID) for it in " \t\v\f\n"),
+        *((f"a character {it!r} within", good[: ends - 9] + it + good[ends - 9 :], UNTOLD) for it in "=\x1c\x85\xa0"),
     ]  # fmt: skip
 
 

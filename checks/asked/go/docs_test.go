@@ -9,11 +9,13 @@ import (
 	"testing"
 )
 
-// Each exported name of the packages has a doc comment that begins with it, or with what it is among.
+// Each exported name of the packages has a doc comment that begins with it, or with what it is
+// among.
 func TestDocs(t *testing.T) {
 	for _, folder := range []string{"sshkey", "judge"} {
 		isOurs := func(file fs.FileInfo) bool { return !strings.HasSuffix(file.Name(), "_test.go") }
-		packages, err := parser.ParseDir(token.NewFileSet(), "../../../examples/go/"+folder, isOurs, parser.ParseComments)
+		at, files := "../../../examples/go/"+folder, token.NewFileSet()
+		packages, err := parser.ParseDir(files, at, isOurs, parser.ParseComments)
 		if err != nil {
 			t.Fatal(err)
 		}
@@ -29,7 +31,8 @@ func TestDocs(t *testing.T) {
 	}
 }
 
-// undocumented reports the exported names of a declaration without a page, and gives how many it has.
+// undocumented reports the exported names of a declaration without a page, and gives how many it
+// has.
 func undocumented(t *testing.T, declared ast.Decl) int {
 	switch of := declared.(type) {
 	case *ast.FuncDecl:

@@ -41,7 +41,8 @@ func stringsOf(words []string) ([]string, error) {
 	return wordsOf(found), err
 }
 
-// draft is what is to be signed of the draft whose lists stand in the words as a certificate has them.
+// draft is what is to be signed of the draft whose lists stand in the words as a certificate has
+// them.
 func draft(words []string) ([]string, error) {
 	principals, err := sshkey.Strings(data(words[3]))
 	if err != nil {
@@ -56,8 +57,9 @@ func draft(words []string) ([]string, error) {
 		return nil, err
 	}
 	draft := sshkey.Draft{
-		Key: data(words[0]), Nonce: data(words[1]), KeyID: text(words[2]), CriticalOptions: critical,
-		Extensions: extensions, Authority: data(words[6]), Serial: number(words[7]),
+		Key: data(words[0]), Nonce: data(words[1]), KeyID: text(words[2]),
+		CriticalOptions: critical, Extensions: extensions,
+		Authority: data(words[6]), Serial: number(words[7]),
 		ValidAfter: sshkey.Second(number(words[8])), ValidBefore: sshkey.Second(number(words[9])),
 		Type: sshkey.CertificateType(number(words[10])), AllPrincipals: words[11] == "1",
 	}
@@ -91,8 +93,8 @@ func line(words []string) ([]string, error) {
 
 func normal(words []string) ([]string, error) {
 	call := map[string]func([]byte) ([]byte, error){
-		"key": sshkey.NormalKey, "certificate": sshkey.NormalCertificate, "sshsig": sshkey.NormalSSHSig,
-		"signature": sshkey.NormalSignature,
+		"key": sshkey.NormalKey, "certificate": sshkey.NormalCertificate,
+		"sshsig": sshkey.NormalSSHSig, "signature": sshkey.NormalSignature,
 	}[words[0]]
 	made, err := call(data(words[1]))
 	return []string{word(made)}, err

@@ -20,11 +20,11 @@ import (
 type answer func(words []string) ([]string, error)
 
 var answers = map[string]answer{
-	"certificate": certificate, "signature": signature, "sshsig": sshsig, "is-signature": isSignature,
-	"validate": validate, "user": user, "fields": fields, "lists": lists,
-	"certificate-options": certificateOptions, "strings": stringsOf, "key": key, "line": line,
-	"normal": normal, "draft": draft, "join": join,
-	"lines": lines, "entry": entry, "host": host, "options": options,
+	"certificate": certificate, "signature": signature, "sshsig": sshsig,
+	"is-signature": isSignature, "validate": validate, "user": user, "fields": fields,
+	"lists": lists, "certificate-options": certificateOptions, "strings": stringsOf, "key": key,
+	"line": line, "normal": normal, "draft": draft, "join": join, "lines": lines, "entry": entry,
+	"host": host, "options": options,
 }
 
 func main() {
@@ -126,8 +126,8 @@ func at(word string) time.Time {
 // ---- questions
 
 func asked(question sshkey.Question, err error) ([]string, error) {
-	algorithm := strconv.FormatUint(uint64(question.Algorithm), 10)
-	return []string{algorithm, word(question.Key), word(question.Message), word(question.Signature)}, err
+	parts := wordsOf([][]byte{question.Key, question.Message, question.Signature})
+	return append([]string{strconv.FormatUint(uint64(question.Algorithm), 10)}, parts...), err
 }
 
 func certificate(words []string) ([]string, error) {
@@ -161,8 +161,9 @@ func validate(words []string) ([]string, error) {
 func user(words []string) ([]string, error) {
 	known := text(words[5])
 	err := judge.ValidateUser(data(words[0]), judge.Login{
-		Key: data(words[1]), Now: at(words[2]), User: text(words[3]), Authorities: digests(words[4]),
-		IsMet: func(name, value string) bool { return name == known && value != "" },
+		Key: data(words[1]), Now: at(words[2]), User: text(words[3]),
+		Authorities: digests(words[4]),
+		IsMet:       func(name, value string) bool { return name == known && value != "" },
 	})
 	return []string{judge.Said(err)}, nil
 }

@@ -8,6 +8,7 @@ import (
 	"fmt"
 	"io"
 	"os"
+	"strconv"
 	"strings"
 	"time"
 	"unicode/utf8"
@@ -55,65 +56,74 @@ func fingerprints(path string) ([]sshkey.SHA256, error) {
 
 // judgeLine gives nil where the line is that of a certificate that is valid, else what is wrong
 // first. Where the principal is -, any is meant.
-func judgeLine(line string, now time.Time, principal string, authorities []sshkey.SHA256) error {
+func judgeLine(line string, now time.Time, principal string, by []sshkey.SHA256) error {
 	certificate, err := read(line, true)
 	if err != nil {
 		return err
 	}
 	if principal == "-" {
-		return sshkey.ValidateCertificate(certificate, now, authorities, judge.IsSignature)
+		return sshkey.ValidateCertificate(certificate, now, by, judge.IsSignature)
 	}
-	return sshkey.ValidateCertificateFor(certificate, now, principal, authorities, judge.IsSignature)
+	return sshkey.ValidateCertificateFor(certificate, now, principal, by, judge.IsSignature)
+}
+
+// timeOf is that of the second in the words, or now where they have none. Above 2^63 - 1 it is one
+// before 1970, and no time to a certificate either.
+func timeOf(words []string) (time.Time, error) {
+	if len(words) == 0 {
+		return time.Now(), nil
+	}
+	number, err := strconv.ParseUint(words[0], 10, 64)
+	if err != nil {
+		return time.Time{}, fmt.Errorf("%q is no second", words[0])
+	}
+	return time.Unix(int64(number), 0), nil
 }
 
 func certificates(words []string, given io.Reader) ([]string, bool, error) {
-	now := time.Now()
 	if len(words) > 3 {
 		return nil, false, errUsage
 	}
-	if len(words) == 3 {
-		number, err := second(words[2])
-		if err != nil {
-			return nil, false, err
-		}
-		// above 2^63 - 1 this is a time before 1970, and no time to a certificate either
-		now = time.Unix(int64(number), 0)
+	now, err := timeOf(words[2:])
+	if err != nil {
+		return nil, false, err
 	}
 	authorities, err := fingerprints(words[0])
 	if err != nil {
 		return nil, false, err
 	}
-	lines, isValid, input := []string{}, true, bufio.NewReader(given)
-	for {
-		line, end := input.ReadString('\n')
-		if end != nil && end != io.EOF {
-			return nil, false, end
+	lines, isValid := []string{}, true
+	for input, isEnd := bufio.NewReader(given), false; !isEnd; {
+		line, err := input.ReadString('\n')
+		isEnd = err == io.EOF
+		if err != nil && !isEnd {
+			return nil, false, err
 		}
-		if line != "" {
-			err := judgeLine(line, now, words[1], authorities)
-			if errors.Is(err, sshkey.ErrMemory) {
-				return nil, false, err
-			}
-			lines, isValid = append(lines, judge.Said(err)+"\n"), isValid && err == nil
-		}
-		if end == nil {
+		if line == "" {
 			continue
 		}
-		if len(lines) == 0 {
-			return nil, false, errors.New("no certificate was given")
+		err = judgeLine(line, now, words[1], authorities)
+		if errors.Is(err, sshkey.ErrMemory) {
+			return nil, false, err
 		}
-		return lines, isValid, nil
+		lines, isValid = append(lines, judge.Said(err)+"\n"), isValid && err == nil
 	}
+	if len(lines) == 0 {
+		return nil, false, errors.New("no certificate was given")
+	}
+	return lines, isValid, nil
 }
 
 // unarmoured is the bytes of an SSH signature in its armour.
 func unarmoured(text string) ([]byte, error) {
 	parts := strings.Split(text, "-----")
-	if len(parts) < 4 || parts[0] != "" || parts[1] != "BEGIN SSH SIGNATURE" || parts[3] != "END SSH SIGNATURE" {
+	ends := []string{"", "BEGIN SSH SIGNATURE", "END SSH SIGNATURE"}
+	if len(parts) < 4 || parts[0] != ends[0] || parts[1] != ends[1] || parts[3] != ends[2] {
 		return nil, errors.New("no SSH signature was given")
 	}
-	digits := strings.NewReplacer(" ", "", "\t", "", "\n", "", "\v", "", "\f", "", "\r", "").Replace(parts[2])
-	return base64.StdEncoding.DecodeString(digits)
+	isSpace := func(it rune) bool { return strings.ContainsRune(" \t\n\v\f\r", it) }
+	rows := strings.FieldsFunc(parts[2], isSpace)
+	return base64.StdEncoding.DecodeString(strings.Join(rows, ""))
 }
 
 func signature(words []string, given io.Reader) ([]string, bool, error) {

@@ -5,8 +5,8 @@
 //
 // AUTHORITIES and SIGNERS are files of public keys, a line each. The first answers of each line of
 // its input. The status is 0 if all is valid, 1 if not, and 2 where it can't tell: so also where
-// there is no certificate. A valid certificate may be for a host, or for nobody by name, and - is no
-// name that a client may choose: who logs users in calls judge.ValidateUser.
+// there is no certificate. A valid certificate may be for a host, or for nobody by name, and - is
+// no name that a client may choose: who logs users in calls judge.ValidateUser.
 package main
 
 // extern int streams_are_open;
@@ -17,7 +17,6 @@ import (
 	"fmt"
 	"io"
 	"os"
-	"strconv"
 	"strings"
 )
 
@@ -39,6 +38,8 @@ const (
 // command does what the words say, on the input. It gives the lines to print, and whether all is
 // valid; it fails where it can't tell.
 type command func(words []string, given io.Reader) (lines []string, isValid bool, err error)
+
+var commands = map[string]command{"certificates": certificates, "signature": signature}
 
 var errUsage = errors.New("no such command")
 
@@ -68,21 +69,12 @@ func answer(words []string) ([]string, bool, error) {
 	if len(words) < 3 {
 		return nil, false, errUsage
 	}
-	command, isOne := map[string]command{"certificates": certificates, "signature": signature}[words[0]]
+	call, isOne := commands[words[0]]
 	if !isOne {
 		return nil, false, errUsage
 	}
 	if C.streams_are_open == 0 {
 		return nil, false, errors.New("standard input or output is closed")
 	}
-	return command(words[1:], os.Stdin)
-}
-
-// second is the number of the digits.
-func second(word string) (uint64, error) {
-	number, err := strconv.ParseUint(word, 10, 64)
-	if err != nil {
-		return 0, fmt.Errorf("%q is no second", word)
-	}
-	return number, nil
+	return call(words[1:], os.Stdin)
 }

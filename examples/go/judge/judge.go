@@ -20,8 +20,8 @@ type Login struct {
 	// Authorities are the fingerprints of the keys that may sign certificates of users.
 	Authorities []sshkey.SHA256
 	// IsMet says of a critical option, by its name and value, whether it is known and met at this
-	// login. Where it is nil, none is. sshd refuses a force-command or a source-address that is empty
-	// or has a zero byte, a source-address that is no list of networks, and a value of
+	// login. Where it is nil, none is. sshd refuses a force-command or a source-address that is
+	// empty or has a zero byte, a source-address that is no list of networks, and a value of
 	// verify-required: say no to all of these.
 	IsMet func(name, value string) bool
 }
@@ -33,15 +33,17 @@ var flags = []string{
 }
 
 // ValidateUser gives nil exactly if the certificate, given as its blob, logs the user in; else what
-// is wrong first: a sshkey.Status or a Refusal. It fails with sshkey.ErrMemory, which says nothing of
-// the certificate.
+// is wrong first: a sshkey.Status or a Refusal. It fails with sshkey.ErrMemory, which says nothing
+// of the certificate.
 //
 // Whether the certificate is revoked, whether somebody touched a security key, and what its
 // extensions say is not looked at (docs/FOREIGN.md).
 func ValidateUser(certificate []byte, login Login) error {
 	// nobody changes it between the calls
 	certificate = append([]byte(nil), certificate...)
-	err := sshkey.ValidateCertificateFor(certificate, login.Now, login.User, login.Authorities, IsSignature)
+	err := sshkey.ValidateCertificateFor(
+		certificate, login.Now, login.User, login.Authorities, IsSignature,
+	)
 	if err != nil {
 		return err
 	}
@@ -96,7 +98,9 @@ func judgeKey(own, held []byte) error {
 // (`ssh-keygen -Y sign`) of the message in that namespace by one of the signers, which are the
 // fingerprints of the keys that may sign for that namespace; else what is wrong first, a
 // sshkey.Status. It fails with sshkey.ErrMemory, which says nothing of the signature.
-func ValidateSSHSig(signature []byte, namespace string, message []byte, signers []sshkey.SHA256) error {
+func ValidateSSHSig(
+	signature []byte, namespace string, message []byte, signers []sshkey.SHA256,
+) error {
 	question, signer, err := sshkey.SSHSigQuestion(signature, namespace, message)
 	if err != nil {
 		return err

@@ -14,8 +14,8 @@ import (
 	"rafendilo.example/go/sshkey"
 )
 
-// leastBits and mostBits are those of an RSA key that counts: a shorter one is too weak, and OpenSSH
-// reads no longer one, of which each verification would take minutes.
+// leastBits and mostBits are those of an RSA key that counts: a shorter one is too weak, and
+// OpenSSH reads no longer one, of which each verification would take minutes.
 const leastBits, mostBits = 2048, 16384
 
 var curves = map[sshkey.Algorithm]struct {
@@ -27,10 +27,10 @@ var curves = map[sshkey.Algorithm]struct {
 	sshkey.P521: {elliptic.P521(), crypto.SHA512},
 }
 
-// IsSignature says whether the question's signature is one: a sshkey.Verifier. It says no to what is
-// too weak to count: DSA, and RSA keys of fewer than 2,048 bits; to a number of a key that is zero or
-// negative, and to a point that does not begin with 04, which OpenSSH does not read; and to what
-// crypto/rsa does not take: an exponent above 2^31 - 1, which no tool makes.
+// IsSignature says whether the question's signature is one: a sshkey.Verifier. It says no to what
+// is too weak to count: DSA, and RSA keys of fewer than 2,048 bits; to a number of a key that is
+// zero or negative, and to a point that does not begin with 04, which OpenSSH does not read; and to
+// what crypto/rsa does not take: an exponent above 2^31 - 1, which no tool makes.
 func IsSignature(question sshkey.Question) bool {
 	parts, err := sshkey.Strings(question.Key)
 	if err != nil {
@@ -99,5 +99,6 @@ func isRSA(exponent, modulus []byte, hash crypto.Hash, question sshkey.Question)
 		return false
 	}
 	key := rsa.PublicKey{N: n, E: int(e.Int64())}
-	return rsa.VerifyPKCS1v15(&key, hash, digestOf(hash, question.Message), question.Signature) == nil
+	digest := digestOf(hash, question.Message)
+	return rsa.VerifyPKCS1v15(&key, hash, digest, question.Signature) == nil
 }

@@ -8,39 +8,42 @@ import (
 	"unicode/utf8"
 )
 
-// CertificateQuestion gives what has to be verified of a certificate, given as its blob, as ReadLine
-// gives it. It fails with a Status for bytes that are none, with ErrUnsupported where key and
-// signature do not go together, and with ErrMemory. ValidateCertificate asks it itself.
+// CertificateQuestion gives what has to be verified of a certificate, given as its blob, as
+// ReadLine gives it. It fails with a Status for bytes that are none, with ErrUnsupported where key
+// and signature do not go together, and with ErrMemory. ValidateCertificate asks it itself.
 func CertificateQuestion(certificate []byte) (Question, error) {
 	return questionOf(inputOf(certificate))
 }
 
 func questionOf(in input) (Question, error) {
-	return question(2*len(in)+256, func(room *C.uint8_t, length C.size_t, answer *C.sshkey_question) C.uint32_t {
-		return C.sshkey_certificate_question(in.pointer(), in.length(), room, length, answer)
+	return question(2*len(in)+256, func(to room, answer *C.sshkey_question) C.uint32_t {
+		return C.sshkey_certificate_question(in.pointer(), in.length(), to.at, to.length, answer)
 	})
 }
 
-// ValidateCertificate gives nil exactly if the certificate, given as its blob, is valid at that time
-// for one of the authorities, which are the fingerprints of their keys; else what is wrong first.
-// The verifier is asked about this very certificate, once, and not at all where the certificate
-// raises no question.
+// ValidateCertificate gives nil exactly if the certificate, given as its blob, is valid at that
+// time for one of the authorities, which are the fingerprints of their keys; else what is wrong
+// first. The verifier is asked about this very certificate, once, and not at all where the
+// certificate raises no question.
 //
 // Nothing is said here of whom the certificate is for: of its type, its principals, its critical
 // options, and whether it is revoked. judge.ValidateUser asks what a login asks.
-func ValidateCertificate(certificate []byte, now time.Time, authorities []SHA256, verify Verifier) error {
+func ValidateCertificate(
+	certificate []byte, now time.Time, authorities []SHA256, verify Verifier,
+) error {
 	in, by := inputOf(certificate), digestsOf(authorities)
 	isVerified, err := verified(in, verify)
 	if err != nil {
 		return err
 	}
-	return errorOf(C.sshkey_certificate_validate(in.pointer(), in.length(), C.uint64_t(SecondOf(now)),
+	second := C.uint64_t(SecondOf(now))
+	return errorOf(C.sshkey_certificate_validate(in.pointer(), in.length(), second,
 		by.pointer(), by.count(), isVerified))
 }
 
 // ValidateCertificateFor does the same, and gives ErrUnlistedPrincipal last, for a certificate that
-// lists principals, and not this one. A certificate that lists none is for everybody, also for "". It
-// fails with ErrText for a principal that is not UTF-8.
+// lists principals, and not this one. A certificate that lists none is for everybody, also for "".
+// It fails with ErrText for a principal that is not UTF-8.
 func ValidateCertificateFor(
 	certificate []byte, now time.Time, principal string, authorities []SHA256, verify Verifier,
 ) error {
@@ -49,7 +52,8 @@ func ValidateCertificateFor(
 	if err != nil {
 		return err
 	}
-	return errorOf(C.sshkey_certificate_validate_for(in.pointer(), in.length(), C.uint64_t(SecondOf(now)),
+	second := C.uint64_t(SecondOf(now))
+	return errorOf(C.sshkey_certificate_validate_for(in.pointer(), in.length(), second,
 		whom.pointer(), whom.length(), by.pointer(), by.count(), isVerified))
 }
 
@@ -84,8 +88,8 @@ func CertificateFields(certificate []byte) (Fields, error) {
 	}, nil
 }
 
-// CertificateContents gives what a certificate lists, valid or not. It fails with a Status for bytes
-// that are none, and with ErrMemory.
+// CertificateContents gives what a certificate lists, valid or not. It fails with a Status for
+// bytes that are none, and with ErrMemory.
 func CertificateContents(certificate []byte) (Contents, error) {
 	var parts C.sshkey_parts
 	in := inputOf(certificate)
@@ -119,8 +123,8 @@ func CertificateContents(certificate []byte) (Contents, error) {
 }
 
 func certificateKey(in input) ([]byte, error) {
-	return form(len(in), func(room *C.uint8_t, roomLength C.size_t, length *C.size_t) C.uint32_t {
-		return C.sshkey_certificate_key(in.pointer(), in.length(), room, roomLength, length)
+	return form(len(in), func(to room, length *C.size_t) C.uint32_t {
+		return C.sshkey_certificate_key(in.pointer(), in.length(), to.at, to.length, length)
 	})
 }
 

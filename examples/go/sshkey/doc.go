@@ -13,6 +13,7 @@
 // sshkey.ErrOutOfWindow)). [ErrMemory] says nothing of what was asked: the library was refused
 // memory, and the call may be made again. With an error the other results are zero values, and a
 // zero [SHA256] is the fingerprint of no key. Where Go itself runs out of memory the program ends.
+// No compiler sees a call whose error is dropped: have a linter look for such, as errcheck does.
 //
 // # Memory
 //
@@ -23,8 +24,8 @@
 //
 // # The library
 //
-// In this tree the package links examples/out/libsshkey.a, which `make -C examples` builds. With the
-// build tag sshkey_installed it links what pkg-config calls sshkey (`make -C examples install`). It
-// takes cgo, on Linux on x86-64. That the library answers rightly is proved; this package is
-// written by hand and tested (checks/bindings).
+// In this tree the package links examples/out/libsshkey.a, which `make -C examples` builds. With
+// the build tag sshkey_installed it links what pkg-config calls sshkey (`make -C examples
+// install`). It takes cgo, on Linux on x86-64. That the library answers rightly is proved; this
+// package is written by hand and tested (checks/bindings).
 package sshkey

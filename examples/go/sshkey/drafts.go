@@ -4,7 +4,8 @@ package sshkey
 //
 // enum { SPANS = 7 };
 //
-// // A draft whose spans lie in the bytes, one behind the other: Go hands no pointer to pointers over.
+// // A draft whose spans lie in the bytes, one behind the other: Go hands over no pointers to
+// // pointers.
 // static uint32_t to_be_signed(const uint8_t *bytes, const size_t *lengths, sshkey_draft draft,
 //                              uint8_t *room, size_t room_length, size_t *length) {
 //   sshkey_span *spans[SPANS] = {&draft.key, &draft.nonce, &draft.key_id, &draft.principals,
@@ -62,8 +63,8 @@ func (draft *Draft) ToBeSigned() ([]byte, error) {
 	if draft.AllPrincipals {
 		numbers.all_principals = 1
 	}
-	return form(1024, func(room *C.uint8_t, roomLength C.size_t, length *C.size_t) C.uint32_t {
-		return C.to_be_signed(bytes.pointer(), &lengths[0], numbers, room, roomLength, length)
+	return form(1024, func(to room, length *C.size_t) C.uint32_t {
+		return C.to_be_signed(bytes.pointer(), &lengths[0], numbers, to.at, to.length, length)
 	})
 }
 
@@ -105,7 +106,8 @@ func (draft *Draft) nonce() ([]byte, error) {
 	return made, err
 }
 
-// listed is options as a certificate lists them: by rising names, and a value in a string of its own.
+// listed is options as a certificate lists them: by rising names, and a value in a string of its
+// own.
 func listed(options map[string]string) ([]byte, error) {
 	names := make([]string, 0, len(options))
 	for name := range options {
@@ -132,12 +134,13 @@ func listed(options map[string]string) ([]byte, error) {
 }
 
 // JoinCertificate gives the certificate that the signature's blob (RFC 4253, section 6.6) makes of
-// the bytes that were signed. It fails with a Status where that is none, and with ErrMemory. Whether
-// the signature is one of the authority is not asked here.
+// the bytes that were signed. It fails with a Status where that is none, and with ErrMemory.
+// Whether the signature is one of the authority is not asked here.
 func JoinCertificate(toBeSigned, signature []byte) ([]byte, error) {
 	in, by := inputOf(toBeSigned), inputOf(signature)
-	return form(len(in)+len(by)+4, func(room *C.uint8_t, roomLength C.size_t, length *C.size_t) C.uint32_t {
-		return C.sshkey_certificate_make(in.pointer(), in.length(), by.pointer(), by.length(), room, roomLength, length)
+	return form(len(in)+len(by)+4, func(to room, length *C.size_t) C.uint32_t {
+		return C.sshkey_certificate_make(in.pointer(), in.length(), by.pointer(), by.length(),
+			to.at, to.length, length)
 	})
 }
 

@@ -1,6 +1,5 @@
 package sshkey
 
-// #cgo CFLAGS: -std=c11
 // #cgo !sshkey_installed CFLAGS: -I${SRCDIR}/../../../include
 // #cgo !sshkey_installed LDFLAGS: -L${SRCDIR}/../../out -l:libsshkey.a
 // #cgo sshkey_installed pkg-config: sshkey
@@ -63,34 +62,40 @@ func have(status C.uint32_t) {
 	}
 }
 
-// writer is a call that writes to a room. It gives what the call returns, and how many bytes it says
-// that it wrote or needs.
-type writer func(room *C.uint8_t, roomLength C.size_t) (status C.uint32_t, length C.size_t)
+// room is where a call writes to.
+type room struct {
+	at     *C.uint8_t
+	length C.size_t
+}
+
+// writer is a call that writes to a room. It gives what the call returns, and how many bytes it
+// says that it wrote or needs.
+type writer func(to room) (status C.uint32_t, length C.size_t)
 
 // written is the room that a call has written to, which has that length at first and then the one
 // that is needed. It fails with what the call returns.
 func written(length int, call writer) ([]byte, error) {
 	for {
-		room := make([]byte, length, length+1)
-		status, needed := call(input(room).pointer(), C.size_t(length))
+		data := make([]byte, length, length+1)
+		status, needed := call(room{input(data).pointer(), C.size_t(length)})
 		if status != C.SSHKEY_ROOM || needed <= C.size_t(length) {
-			return room, errorOf(status)
+			return data, errorOf(status)
 		}
 		length = int(needed)
 	}
 }
 
 // form is what a call writes to the front of a room, and nothing else.
-func form(length int, call func(room *C.uint8_t, roomLength C.size_t, length *C.size_t) C.uint32_t) ([]byte, error) {
+func form(length int, call func(to room, length *C.size_t) C.uint32_t) ([]byte, error) {
 	var answer C.size_t
-	room, err := written(length, func(room *C.uint8_t, roomLength C.size_t) (C.uint32_t, C.size_t) {
-		status := call(room, roomLength, &answer)
+	data, err := written(length, func(to room) (C.uint32_t, C.size_t) {
+		status := call(to, &answer)
 		return status, answer
 	})
 	if err != nil {
 		return nil, err
 	}
-	return room[:answer:answer], nil
+	return data[:answer:answer], nil
 }
 
 // partOf is that part of the bytes, to which nothing can be appended in place.

@@ -53,7 +53,8 @@ func same(t *testing.T, what string, found, wanted any) {
 // The key of RFC 8032, section 7.1, test 2, as a line of ssh-keygen has it.
 const (
 	point   = "3d4017c3e843895a92b70aa74d1b7ebc9c982ccf2ec4968cc0cd55f12af4660c"
-	keyLine = "ssh-ed25519 AAAAC3NzaC1lZDI1NTE5AAAAID1AF8PoQ4lakrcKp00bfrycmCzPLsSWjMDNVfEq9GYM two words"
+	keyLine = "ssh-ed25519 " +
+		"AAAAC3NzaC1lZDI1NTE5AAAAID1AF8PoQ4lakrcKp00bfrycmCzPLsSWjMDNVfEq9GYM two words"
 )
 
 func TestReadLine(t *testing.T) {
@@ -68,7 +69,8 @@ func TestReadLine(t *testing.T) {
 	same(t, "error", err, nil)
 	same(t, "joined", joined, line.Blob)
 	for given, wanted := range map[string]error{
-		"": sshkey.ErrLength, "ssh-ed25519 !!!!": sshkey.ErrBase64, keyLine + "\xff": sshkey.ErrCharacterEncoding,
+		"": sshkey.ErrLength, "ssh-ed25519 !!!!": sshkey.ErrBase64,
+		keyLine + "\xff": sshkey.ErrCharacterEncoding,
 		strings.Replace(keyLine, "ssh-ed25519", "ssh-rsa", 1): sshkey.ErrAlgorithmUnknown,
 	} {
 		line, err := sshkey.ReadLine(given)
@@ -85,7 +87,8 @@ func TestFingerprint(t *testing.T) {
 	long, err := sshkey.FingerprintSHA512(line.Blob)
 	same(t, "error", err, nil)
 	same(t, "SHA-512", long.String(),
-		"SHA512:rw/fAkRkG53LKf8uOmPBwgKcQNezLKyrz2bCez2FFgCTGMhL5HU2heL/9qpsZwQ3NAqkuOAKYChwDA2EknQZJQ")
+		"SHA512:rw/fAkRkG53LKf8uOmPBwgKcQNezLKyrz2bCez2FFgCTGMhL5HU2heL"+
+			"/9qpsZwQ3NAqkuOAKYChwDA2EknQZJQ")
 	for _, none := range [][]byte{nil, {}, {0}, line.Blob[1:]} {
 		short, err := sshkey.Fingerprint(none)
 		same(t, "no key", err, sshkey.ErrLength)
@@ -129,7 +132,8 @@ func TestValidateCertificate(t *testing.T) {
 	certificate := blob(t, "user-cert.pub")
 	authority, _ := sshkey.Fingerprint(blob(t, "authority.pub"))
 	by := []sshkey.SHA256{{}, authority}
-	middle := time.Date(2024, 1, 15, 0, 0, 0, 0, time.UTC)
+	first, end := time.Unix(1704067200, 0), time.Unix(1706745600, 0)
+	middle := first.Add(end.Sub(first) / 2)
 	yes := func(question sshkey.Question) bool { return question.Algorithm == sshkey.Ed25519 }
 	no := func(sshkey.Question) bool { return false }
 	for _, it := range []struct {
@@ -143,40 +147,61 @@ func TestValidateCertificate(t *testing.T) {
 		{"another principal", "eve", middle, by, yes, sshkey.ErrUnlistedPrincipal},
 		{"nobody", "", middle, by, yes, sshkey.ErrUnlistedPrincipal},
 		{"no text", "\xff", middle, by, yes, sshkey.ErrText},
-		{"before", "alice", time.Date(2023, 12, 31, 23, 59, 59, 0, time.UTC), by, yes, sshkey.ErrOutOfWindow},
-		{"the last nanosecond", "alice", time.Date(2024, 1, 31, 23, 59, 59, 999999999, time.UTC), by, yes, nil},
-		{"behind", "alice", time.Date(2024, 2, 1, 0, 0, 0, 0, time.UTC), by, yes, sshkey.ErrOutOfWindow},
+		{"before", "alice", first.Add(-1), by, yes, sshkey.ErrOutOfWindow},
+		{"the first second", "alice", first, by, yes, nil},
+		{"the last nanosecond", "alice", end.Add(-1), by, yes, nil},
+		{"behind", "alice", end, by, yes, sshkey.ErrOutOfWindow},
 		{"no time", "alice", time.Time{}, by, yes, sshkey.ErrInvalidTime},
 		{"no authority", "alice", middle, nil, yes, sshkey.ErrUntrustedAuthority},
 		{"no fingerprint", "alice", middle, by[:1], yes, sshkey.ErrUntrustedAuthority},
 		{"not verified", "alice", middle, by, no, sshkey.ErrNotSigned},
 		{"no verifier", "alice", middle, by, nil, sshkey.ErrNotSigned},
 	} {
-		same(t, it.what, sshkey.ValidateCertificateFor(certificate, it.now, it.whom, it.by, it.verify), it.wanted)
+		err := sshkey.ValidateCertificateFor(certificate, it.now, it.whom, it.by, it.verify)
+		same(t, it.what, err, it.wanted)
 		if it.whom == "alice" {
-			same(t, it.what, sshkey.ValidateCertificate(certificate, it.now, it.by, it.verify), it.wanted)
+			err = sshkey.ValidateCertificate(certificate, it.now, it.by, it.verify)
+			same(t, it.what, err, it.wanted)
 		}
 	}
-	// a verifier that changes what was given changes nothing
-	turn := func(sshkey.Question) bool { certificate[60] ^= 1; return true }
-	same(t, "the bytes that were given", sshkey.ValidateCertificate(certificate, middle, by, turn), nil)
-	same(t, "the turned ones", sshkey.ValidateCertificate(certificate, middle, by, no), sshkey.ErrNotSigned)
+}
+
+// A verifier that changes what was given changes nothing.
+func TestVerifierTurns(t *testing.T) {
+	certificate, now := blob(t, "user-cert.pub"), time.Unix(1704067200, 0)
+	authority, _ := sshkey.Fingerprint(blob(t, "authority.pub"))
+	by := []sshkey.SHA256{authority}
+	turn := func(sshkey.Question) bool {
+		certificate[4], by[0] = 0, sshkey.SHA256{}
+		return true
+	}
+	same(t, "what was given", sshkey.ValidateCertificate(certificate, now, by, turn), nil)
+	same(t, "the turned bytes", sshkey.ValidateCertificate(certificate, now, by, turn) != nil, true)
+}
+
+// draftOf is a draft of what the certificate of ssh-keygen says.
+func draftOf(t *testing.T, certificate []byte) sshkey.Draft {
+	t.Helper()
+	contents, err := sshkey.CertificateContents(certificate)
+	same(t, "error", err, nil)
+	fields, err := sshkey.CertificateFields(certificate)
+	same(t, "error", err, nil)
+	// the nonce stands behind the name (PROTOCOL.certkeys)
+	parts, err := sshkey.Strings(certificate[:4+40+4+32])
+	same(t, "error", err, nil)
+	return sshkey.Draft{
+		Key: contents.Key, Authority: contents.Authority, Type: fields.Type,
+		KeyID: contents.KeyID, Serial: fields.Serial, Principals: contents.Principals,
+		ValidAfter: fields.ValidAfter, ValidBefore: fields.ValidBefore,
+		CriticalOptions: contents.CriticalOptions, Extensions: contents.Extensions, Nonce: parts[1],
+	}
 }
 
 func TestMakeCertificate(t *testing.T) {
 	wanted := blob(t, "user-cert.pub")
-	contents, _ := sshkey.CertificateContents(wanted)
-	fields, _ := sshkey.CertificateFields(wanted)
-	// the nonce and the signature stand behind the name and at the end (PROTOCOL.certkeys)
-	parts, err := sshkey.Strings(wanted[:4+40+4+32])
-	same(t, "error", err, nil)
 	question, err := sshkey.CertificateQuestion(wanted)
 	same(t, "error", err, nil)
-	draft := sshkey.Draft{
-		Key: contents.Key, Authority: contents.Authority, Type: sshkey.User, KeyID: contents.KeyID, Serial: 7,
-		Principals: contents.Principals, ValidAfter: fields.ValidAfter, ValidBefore: fields.ValidBefore,
-		CriticalOptions: contents.CriticalOptions, Extensions: contents.Extensions, Nonce: parts[1],
-	}
+	draft := draftOf(t, wanted)
 	sign := func(message []byte) ([]byte, error) {
 		same(t, "what is to be signed", message, question.Message)
 		return sshkey.JoinStrings([]byte("ssh-ed25519"), question.Signature)
@@ -184,22 +209,6 @@ func TestMakeCertificate(t *testing.T) {
 	made, err := sshkey.MakeCertificate(draft, sign)
 	same(t, "error", err, nil)
 	same(t, "the certificate of ssh-keygen", made, wanted)
-	for what, it := range map[string]struct {
-		change func(*sshkey.Draft)
-		wanted error
-	}{
-		"no principals":   {func(it *sshkey.Draft) { it.Principals = nil }, sshkey.ErrPrincipals},
-		"some and all":    {func(it *sshkey.Draft) { it.AllPrincipals = true }, sshkey.ErrPrincipals},
-		"no end":          {func(it *sshkey.Draft) { it.ValidBefore = 0 }, sshkey.ErrEmptyWindow},
-		"an end too soon": {func(it *sshkey.Draft) { it.ValidBefore = sshkey.SecondOf(time.Time{}) }, sshkey.ErrTime},
-		"no type":         {func(it *sshkey.Draft) { it.Type = 0 }, sshkey.ErrFormat},
-		"no key":          {func(it *sshkey.Draft) { it.Key = nil }, sshkey.ErrLength},
-	} {
-		other := draft
-		it.change(&other)
-		_, err := other.ToBeSigned()
-		same(t, what, err, it.wanted)
-	}
 	refused := errors.New("no")
 	_, err = sshkey.MakeCertificate(draft, func([]byte) ([]byte, error) { return nil, refused })
 	same(t, "what the signer says", err, refused)
@@ -207,6 +216,27 @@ func TestMakeCertificate(t *testing.T) {
 	one, _ := draft.ToBeSigned()
 	other, _ := draft.ToBeSigned()
 	same(t, "two nonces are one", bytes.Equal(one, other), false)
+}
+
+func TestDraft(t *testing.T) {
+	draft := draftOf(t, blob(t, "user-cert.pub"))
+	before := sshkey.SecondOf(time.Unix(-1, 0))
+	for what, it := range map[string]struct {
+		change func(*sshkey.Draft)
+		wanted error
+	}{
+		"no principals": {func(it *sshkey.Draft) { it.Principals = nil }, sshkey.ErrPrincipals},
+		"some and all":  {func(it *sshkey.Draft) { it.AllPrincipals = true }, sshkey.ErrPrincipals},
+		"no end":        {func(it *sshkey.Draft) { it.ValidBefore = 0 }, sshkey.ErrEmptyWindow},
+		"before 1970":   {func(it *sshkey.Draft) { it.ValidBefore = before }, sshkey.ErrTime},
+		"no type":       {func(it *sshkey.Draft) { it.Type = 0 }, sshkey.ErrFormat},
+		"no key":        {func(it *sshkey.Draft) { it.Key = nil }, sshkey.ErrLength},
+	} {
+		other := draft
+		it.change(&other)
+		_, err := other.ToBeSigned()
+		same(t, what, err, it.wanted)
+	}
 }
 
 func TestSecond(t *testing.T) {
@@ -231,7 +261,8 @@ func TestEntries(t *testing.T) {
 	})
 	options, err := sshkey.EntryOptions(entry.Options)
 	same(t, "error", err, nil)
-	same(t, "options", options, []sshkey.EntryOption{{Name: "no-pty"}, {"command", `say "a"`, true}})
+	wanted := []sshkey.EntryOption{{Name: "no-pty"}, {"command", `say "a"`, true}}
+	same(t, "options", options, wanted)
 	options, err = sshkey.EntryOptions("")
 	same(t, "error", err, nil)
 	same(t, "no options", len(options), 0)
@@ -244,19 +275,36 @@ func TestEntries(t *testing.T) {
 func TestVerdicts(t *testing.T) {
 	known := read(t, "known_hosts")
 	host, revoked, authority := blob(t, "user.pub"), blob(t, "signer.pub"), blob(t, "authority.pub")
-	same(t, "the key", sshkey.HostVerdict(known, "H.example", 22, host), nil)
-	same(t, "at another port", sshkey.HostVerdict(known, "h.example", 2222, host), nil)
-	same(t, "at a port that no line has", sshkey.HostVerdict(known, "h.example", 2223, host), sshkey.ErrHostUnknown)
-	same(t, "revoked", sshkey.HostVerdict(known, "h.example", 22, revoked), sshkey.ErrHostRevoked)
-	same(t, "changed", sshkey.HostVerdict(known, "h.example", 22, authority), sshkey.ErrHostChanged)
-	same(t, "unknown", sshkey.HostVerdict(known, "x.org", 22, host), sshkey.ErrHostUnknown)
-	same(t, "unreadable", sshkey.HostVerdict(known+"h.example ssh-ed25519 AAAA\n", "h.example", 22, host), sshkey.ErrHostUnreadable)
-	same(t, "with its port", sshkey.HostVerdict(known, "h.example:22", 22, host), sshkey.ErrHostUnknown)
-	same(t, "an authority", sshkey.AuthorityVerdict(known, "a.example", 22, authority), nil)
-	same(t, "no authority", sshkey.AuthorityVerdict(known, "a.example", 22, host), sshkey.ErrHostUnknown)
+	for _, it := range []struct {
+		what, host string
+		port       uint16
+		key        []byte
+		wanted     error
+	}{
+		{"the key", "H.example", 22, host, nil},
+		{"at another port", "h.example", 2222, host, nil},
+		{"at a port that no line has", "h.example", 2223, host, sshkey.ErrHostUnknown},
+		{"revoked", "h.example", 22, revoked, sshkey.ErrHostRevoked},
+		{"changed", "h.example", 22, authority, sshkey.ErrHostChanged},
+		{"another host", "x.org", 22, host, sshkey.ErrHostUnknown},
+		{"with its port", "h.example:22", 22, host, sshkey.ErrHostUnknown},
+		{"no key", "h.example", 22, nil, sshkey.ErrLength},
+		{"no text", "\xff", 22, host, sshkey.ErrText},
+	} {
+		same(t, it.what, sshkey.HostVerdict(known, it.host, it.port, it.key), it.wanted)
+	}
+	more := known + "h.example ssh-ed25519 AAAA\n"
+	err := sshkey.HostVerdict(more, "h.example", 22, host)
+	same(t, "a line that is none", err, sshkey.ErrHostUnreadable)
+	err = sshkey.AuthorityVerdict(known, "a.example", 22, authority)
+	same(t, "an authority", err, nil)
+	err = sshkey.AuthorityVerdict(known, "a.example", 22, host)
+	same(t, "no authority", err, sshkey.ErrHostUnknown)
 	entry, err := sshkey.KnownHost(sshkey.EntryLines(known)[2])
 	same(t, "error", err, nil)
-	same(t, "entry", entry, sshkey.HostEntry{Marker: sshkey.Revoked, Hosts: "h.example", Key: revoked})
+	same(t, "marker", entry.Marker, sshkey.Revoked)
+	same(t, "hosts", entry.Hosts, "h.example")
+	same(t, "key", entry.Key, revoked)
 }
 
 func TestStatus(t *testing.T) {
@@ -265,7 +313,8 @@ func TestStatus(t *testing.T) {
 	same(t, "no answer", sshkey.Status(200).Error(), "sshkey: no answer (200)")
 }
 
-// What a call gives shares no bytes with what it was given, and appending to a part changes no other.
+// What a call gives shares no bytes with what it was given, and appending to a part changes no
+// other.
 func TestCopies(t *testing.T) {
 	certificate := blob(t, "user-cert.pub")
 	kept := append([]byte(nil), certificate...)

@@ -33,8 +33,8 @@ const (
 	ErrCharacterEncoding Status = C.SSHKEY_CHARACTER_ENCODING
 	// ErrLabel is for a name that is none of those that may stand there.
 	ErrLabel Status = C.SSHKEY_LABEL
-	// ErrLength is for a stated length that passes the bytes or is not the one wanted, for a word of
-	// a line that is missing, and for what is too long for a string.
+	// ErrLength is for a stated length that passes the bytes or is not the one wanted, for a word
+	// of a line that is missing, and for what is too long for a string.
 	ErrLength Status = C.SSHKEY_LENGTH
 	// ErrTrailingData is for bytes behind the end.
 	ErrTrailingData Status = C.SSHKEY_TRAILING_DATA
@@ -56,7 +56,8 @@ const (
 	ErrUnsupportedVersion Status = C.SSHKEY_UNSUPPORTED_VERSION
 )
 
-// What is wrong first with a certificate that is not valid, and why nothing is asked of a signature.
+// What is wrong first with a certificate that is not valid, and why nothing is asked of a
+// signature.
 const (
 	// ErrNotSigned is for a certificate that the verifier did not take.
 	ErrNotSigned Status = C.SSHKEY_NOT_SIGNED

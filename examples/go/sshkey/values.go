@@ -8,9 +8,9 @@ import (
 	"time"
 )
 
-// Algorithm is how a signature is made. Beside each stands what is in [Question.Key] behind the name
-// of its type, and what [Question.Signature] is; numbers are two's complement, big-endian, and those
-// of a key may be zero or negative, which none of a key is: a verifier says no then.
+// Algorithm is how a signature is made. Beside each stands what is in [Question.Key] behind the
+// name of its type, and what [Question.Signature] is; numbers are two's complement, big-endian, and
+// those of a key may be zero or negative: there is no such key, so a verifier says no.
 type Algorithm uint32
 
 const (
@@ -31,9 +31,9 @@ const (
 	RSASHA512 Algorithm = C.SSHKEY_ASK_RSA_SHA512
 )
 
-// Question is what has to be verified: that Signature is one of Message under Key, made as Algorithm
-// says. Key is a blob, which [Strings] takes apart; for a security key it is the plain key within,
-// and Message is what the device signed.
+// Question is what has to be verified: that Signature is one of Message under Key, made as
+// Algorithm says. Key is a blob, which [Strings] takes apart; for a security key it is the plain
+// key within, and Message is what the device signed.
 type Question struct {
 	Algorithm               Algorithm
 	Key, Message, Signature []byte
