@@ -52,7 +52,8 @@ class Rust:
         """What rustfmt and clippy say where they are: Debian's package `cargo` has neither."""
         if run(["cargo", "fmt", "--version"]).returncode == 0:
             said = [self.cargo("fmt", "--check"), run(["rustfmt", "--edition", "2021", "--check", ASKER])]
-            count.check("Rust: rustfmt has nothing to change", not any(it.returncode for it in said), *(it.stdout[:2000] for it in said))
+            same = not any(it.returncode for it in said)
+            count.check("Rust: rustfmt has nothing to change", same, *(it.stdout[:2000] for it in said))
         if run(["cargo", "clippy", "--version"]).returncode == 0:
             said = self.cargo("clippy", *CARGO, "--all-targets", "--", "-D", "warnings")
             count.check("Rust: clippy has nothing to say", said.returncode == 0, said.stderr[-3000:])
@@ -65,10 +66,14 @@ def check_user(count, program, made):
     """`validate_user` by the command line; binding_calls asks it of more."""
     maker, second = made.maker, str(made.middle)
     by, own, other = (maker.path(f"{it}.pub") for it in ("authority0", "user0", "user1"))
-    good, strange = (maker.certificate("authority0", "user0", *made.foreign.WINDOW, "-n", it) + "\n" for it in ("alice", "eve"))
-    source = maker.certificate("authority0", "user0", *made.foreign.WINDOW, "-n", "alice", "-O", "source-address=192.0.2.0/24") + "\n"
+
+    def certified(*words):
+        return maker.certificate("authority0", "user0", *made.foreign.WINDOW, "-n", *words) + "\n"
+
+    good, strange, source = certified("alice"), certified("eve"), certified("alice", "-O", "source-address=192.0.2.0/24")
     for name, words, given, wanted in (
-        ("its user", [by, "alice", own, second], good, "valid"), ("two lines", [by, "alice", own, second], good * 2, "valid\nvalid"),
+        ("its user", [by, "alice", own, second], good, "valid"),
+        ("two lines", [by, "alice", own, second], good * 2, "valid\nvalid"),
         ("another user's", [by, "alice", own, second], strange, "refused: another principal (34)"),
         ("no user", [by, "", own, second], good, "refused: another principal (34)"),
         ("a user that is -", [by, "-", own, second], good, "refused: another principal (34)"),
@@ -81,7 +86,10 @@ def check_user(count, program, made):
         status = INVALID if "refused" in wanted else VALID
         same = (ran.returncode, ran.stdout, ran.stderr) == (status, f"{wanted}\n", "")
         count.check(f"Rust, user: {name}", same, ran)
-    for name, key in (("no such key", maker.path("none")), ("a folder as the key", made.folder), ("a certificate as the key", maker.path("user0-cert.pub"))):
+    for name, key in (
+        ("no such key", maker.path("none")), ("a folder as the key", made.folder),
+        ("a certificate as the key", maker.path("user0-cert.pub")),
+    ):  # fmt: skip
         ran = program.run("user", by, "alice", key, second, input=good)
         count.check(f"Rust, user: {name}", is_untold(program, ran), ran)
 
@@ -126,7 +134,8 @@ def check_rust_page(count, rust, made):
     good, strange = (maker.certificate("authority0", "user0", *made.foreign.WINDOW, "-n", it) for it in ("alice", "eve"))
     refused = "refused: another principal (34)"
     for name, words, wanted in (
-        ("its user", (authority, good, own), ["let in", "valid"]), ("another user's", (authority, strange, own), [refused, refused]),
+        ("its user", (authority, good, own), ["let in", "valid"]),
+        ("another user's", (authority, strange, own), [refused, refused]),
         ("another key", (authority, good, other), ["valid", "refused: another key (103)"]),
         ("no certificate", (authority, own, own), ["refused: a name that may not stand there (12)"] * 2),
     ):  # fmt: skip

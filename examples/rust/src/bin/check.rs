@@ -242,10 +242,9 @@ fn unarmoured(text: &str) -> Result<Vec<u8>, Untold> {
 
 /// The bytes that the Base64 between white space stands for, if it is the one of them.
 fn decoded(base64: &str) -> Option<Vec<u8>> {
-    let digits: Vec<u8> = base64
-        .bytes()
-        .filter(|it| !it.is_ascii_whitespace())
-        .collect();
+    // with the vertical tab, which ssh-keygen passes over, too
+    let is_space = |it: u8| it.is_ascii_whitespace() || it == b'\x0b';
+    let digits: Vec<u8> = base64.bytes().filter(|it| !is_space(*it)).collect();
     let padded = digits.iter().rev().take_while(|it| **it == b'=').count();
     if digits.len() % 4 != 0 || padded > 2 {
         return None;
