@@ -5,14 +5,19 @@ import re
 
 from lib.harness import ROOT
 
+from .binding_calls import Asker, Judge, draft_of
 from .bindings import is_untold
+from .certificate_calls import fields_in
 from .example_calls import INVALID, VALID
+from .key_calls import signed_by
 from .linked import EXAMPLES, run
 from .login_calls import blocks
 
 PACKAGE = os.path.join(EXAMPLES, "rust")
 CHECK, ASKER = f"{PACKAGE}/src/bin/check.rs", f"{ROOT}/checks/asked/rust/asker.rs"
 CARGO = ["--offline", "--locked"]
+# of a line of authorized_keys
+OPTIONS = b'no-pty,command="say \\"yes\\""'
 
 
 class Rust:
@@ -57,6 +62,30 @@ class Rust:
         if run(["cargo", "clippy", "--version"]).returncode == 0:
             said = self.cargo("clippy", *CARGO, "--all-targets", "--", "-D", "warnings")
             count.check("Rust: clippy has nothing to say", said.returncode == 0, said.stderr[-3000:])
+
+
+def check_under_valgrind(count, asker, made):
+    """Each call of the package under valgrind: of a key and a certificate of each kind, and with the last byte missing."""
+    judge = Judge(count, Asker("Rust under valgrind", [*made.foreign.VALGRIND, *asker.words]), made)
+    file, text, alice, eve, name = (it.hex() for it in (b"file", b"text", b"alice", b"eve", b"h.example"))
+    questions = [draft_of(fields_in(made.kinds[0].blob))]
+    for number, kind in enumerate(made.kinds):
+        blob, line = kind.blob.hex(), made.maker.read(f"user{number}.pub").encode()
+        key, message, signature = (it.hex() for it in signed_by(made.maker, f"user{number}"))
+        sshsig, signed = made.maker.signature(f"user{number}", "text").hex(), made.sshkey.certificate_question(kind.blob).message
+        by = made.sshkey.fingerprint(made.sshkey.certificate_contents(kind.blob).authority).hex()
+        entry, host = ((it + line).hex() for it in (OPTIONS + b" ", b"h.example "))
+        questions += [f"{it} {blob}" for it in ("certificate", "fields", "lists", "strings", "normal certificate")]
+        questions += [f"{it} {key}" for it in ("key", "normal key")]
+        questions += [f"{it} {key} {message} {signature}" for it in ("signature", "is-signature")]
+        questions += [f"sshsig {sshsig} {file} {text}", f"normal sshsig {sshsig}", f"normal signature {signature}"]
+        questions += [f"validate {blob} {made.middle} {it} {by} 1" for it in ("*", alice, eve)]
+        questions += [f"user {blob} {key} {made.middle} {alice} {by} -"]
+        questions += [f"join {signed.hex()} {kind.blob[len(signed) + 4 :].hex()}", f"line {line.hex()}"]
+        questions += [f"entry {entry}", f"host {host}", f"lines {host}0a23{host}", f"options {OPTIONS.hex()}"]
+        questions += [f"verdict {host} {name} {port} {key}" for port in (22, 23)]
+    questions += [it[:-2] for it in questions if len(it.split()[-1]) > 8]
+    judge.ask("questions", questions)
 
 
 # ---- the command `user`, which check.py does not have
