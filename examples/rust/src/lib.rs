@@ -26,8 +26,9 @@
 //!
 //! Each function says what it fails with: a [`Status`], of which [`Status::MEMORY`] says nothing
 //! of the input. What is lent of the input stands in it, and nothing is kept of it. Calls from
-//! several threads at once are fine. A part that lay outside its bytes, which no call answers, as
-//! is proved, would be a panic.
+//! several threads at once are fine; make none from a signal handler, or from the forked child of
+//! a process with threads. A part that lay outside its bytes, which no call answers, as is proved,
+//! would be a panic.
 #![deny(unsafe_op_in_unsafe_fn, missing_docs)]
 
 mod certificates;
