@@ -16,6 +16,9 @@ from .login_calls import blocks
 PACKAGE = os.path.join(EXAMPLES, "rust")
 CHECK, ASKER = f"{PACKAGE}/src/bin/check.rs", f"{ROOT}/checks/asked/rust/asker.rs"
 CARGO = ["--offline", "--locked"]
+# each unsafe block is one call, and says why it is right; an older clippy does not know that of one call
+UNSAFE = ["-D", "clippy::undocumented_unsafe_blocks", "-D", "clippy::multiple_unsafe_ops_per_block"]
+LINTS = ["-D", "warnings", "-A", "unknown_lints", *UNSAFE]
 # of a line of authorized_keys
 OPTIONS = b'no-pty,command="say \\"yes\\""'
 
@@ -60,7 +63,7 @@ class Rust:
             same = not any(it.returncode for it in said)
             count.check("Rust: rustfmt has nothing to change", same, *(it.stdout[:2000] for it in said))
         if run(["cargo", "clippy", "--version"]).returncode == 0:
-            said = self.cargo("clippy", *CARGO, "--all-targets", "--", "-D", "warnings")
+            said = self.cargo("clippy", *CARGO, "--all-targets", "--", *LINTS)
             count.check("Rust: clippy has nothing to say", said.returncode == 0, said.stderr[-3000:])
 
 

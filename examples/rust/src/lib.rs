@@ -5,7 +5,7 @@
 //! yours answers it.
 //!
 //! ```
-//! use sshkey::{Principal, Question, Sha256, Status};
+//! use sshkey::{Question, Sha256, Status};
 //!
 //! /// Whether the signature is one of the message under the key, by your library.
 //! fn is_signature(question: &Question) -> bool {
