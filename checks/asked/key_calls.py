@@ -309,8 +309,8 @@ def points_of_keys(message):
     name, private = b"ecdsa-sha2-nistp256", ec.generate_private_key(ec.SECP256R1())
     numbers = utils.decode_dss_signature(private.sign(message, ec.ECDSA(hashes.SHA256())))
     signature = string(name) + string(b"".join(map(mpint, numbers)))
-    for form, is_one in (("UncompressedPoint", True), ("CompressedPoint", False)):
-        point = private.public_key().public_bytes(serialization.Encoding.X962, serialization.PublicFormat[form])
+    for form, is_one in ((serialization.PublicFormat.UncompressedPoint, True), (serialization.PublicFormat.CompressedPoint, False)):
+        point = private.public_key().public_bytes(serialization.Encoding.X962, form)
         yield string(name) + string(b"nistp256") + string(point), signature, is_one
 
 

@@ -69,8 +69,9 @@ func TestReadLine(t *testing.T) {
 	same(t, "error", err, nil)
 	same(t, "joined", joined, line.Blob)
 	for given, wanted := range map[string]error{
-		"": sshkey.ErrLength, "ssh-ed25519 !!!!": sshkey.ErrBase64,
+		"":               sshkey.ErrLength,
 		keyLine + "\xff": sshkey.ErrCharacterEncoding,
+		strings.Replace(keyLine, "GYM", "GY!", 1):             sshkey.ErrBase64,
 		strings.Replace(keyLine, "ssh-ed25519", "ssh-rsa", 1): sshkey.ErrAlgorithmUnknown,
 	} {
 		line, err := sshkey.ReadLine(given)
