@@ -76,7 +76,7 @@ fn validate(given: &[&str]) -> Answer {
     };
     let principal = name.as_deref().map_or(Principal::Any, Principal::Named);
     let (blob, second, yes) = (data(given[0]), number(given[1]), given[4] == "1");
-    let answer = sshkey::validate_certificate(&blob, second, principal, &digests(given[3]), yes);
+    let answer = sshkey::judge_certificate(&blob, second, principal, &digests(given[3]), |_| yes);
     Ok(number_of(answer))
 }
 
