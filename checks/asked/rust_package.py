@@ -137,11 +137,13 @@ mod check;
 fn let_in() {{
     println!("let in");
 }}
-fn log_in(authority_line: &str, line: &str, key: &[u8], now: u64) -> Result<(), sshkey::Status> {{
+fn log_in(authority_line: &str, line: &str, key: &[u8], unix_timestamp: u64) -> Result<(), sshkey::Status> {{
 {1}
     Ok(())
 }}
-fn two_calls(certificate: Vec<u8>, authority: sshkey::Sha256, now: u64) -> Result<(), sshkey::Status> {{
+fn two_calls(
+    certificate: Vec<u8>, authority: sshkey::Sha256, unix_timestamp: u64
+) -> Result<(), sshkey::Status> {{
     let (authorities, is_signature) = ([authority], verifies);
 {2}
     valid
@@ -149,9 +151,9 @@ fn two_calls(certificate: Vec<u8>, authority: sshkey::Sha256, now: u64) -> Resul
 fn main() {{
     let words: Vec<String> = std::env::args().collect();
     let blob = |at: usize| sshkey::read_line(&words[at]).unwrap().blob;
-    let now = words[4].parse().unwrap();
-    log_in(&words[1], &words[2], &blob(3), now).unwrap();
-    let valid = two_calls(blob(2), sshkey::fingerprint(&blob(1)).unwrap(), now);
+    let second = words[4].parse().unwrap();
+    log_in(&words[1], &words[2], &blob(3), second).unwrap();
+    let valid = two_calls(blob(2), sshkey::fingerprint(&blob(1)).unwrap(), second);
     println!("{{}}", line_for(valid.map_err(Into::into)));
 }}
 """

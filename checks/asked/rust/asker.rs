@@ -86,7 +86,7 @@ fn user(given: &[&str]) -> Answer {
     let login = check::Login {
         user: &user,
         key: &key,
-        now: number(given[2]),
+        unix_timestamp: number(given[2]),
         authorities: &by,
     };
     let is_met = |name: &str, value: &str| name.as_bytes() == known && !value.is_empty();

@@ -65,8 +65,8 @@ pub fn certificate_question(certificate: &[u8]) -> Result<Question, Status> {
     })
 }
 
-/// Whether a certificate, given as its blob, is valid at that second for one of the authorities,
-/// which are fingerprints of their keys, and for the principal. `is_verified` is what your
+/// Whether a certificate, given as its blob, is valid at that second since 1970 for one of the
+/// authorities, which are fingerprints of their keys, and for the principal. `is_verified` is what your
 /// verification said of the question of this very certificate, and false where it raised none.
 /// [`judge_certificate`] asks both at once.
 ///
@@ -76,7 +76,7 @@ pub fn certificate_question(certificate: &[u8]) -> Result<Question, Status> {
 /// its options ask, is yours to judge.
 pub fn validate_certificate(
     certificate: &[u8],
-    now: u64,
+    unix_timestamp: u64,
     principal: Principal<'_>,
     authorities: &[Sha256],
     is_verified: bool,
@@ -88,14 +88,14 @@ pub fn validate_certificate(
         // SAFETY: each pointer has the length of its slice beside it, and the slices are lent for
         // longer than the call, which writes nothing.
         Principal::Any => unsafe {
-            raw::sshkey_certificate_validate(given, length, now, keys, count, verified)
+            raw::sshkey_certificate_validate(given, length, unix_timestamp, keys, count, verified)
         },
         // SAFETY: as above, and the name's length is beside its pointer.
         Principal::Named(name) => unsafe {
             raw::sshkey_certificate_validate_for(
                 given,
                 length,
-                now,
+                unix_timestamp,
                 name.as_ptr(),
                 name.len(),
                 keys,
@@ -107,10 +107,11 @@ pub fn validate_certificate(
 }
 
 /// The two calls in one: [`certificate_question`], which `verify` answers with your cryptography,
-/// and [`validate_certificate`] of the same bytes. Fails as the latter does.
+/// and [`validate_certificate`] of the same bytes, which are lent meanwhile, so that nobody changes
+/// them. Fails as the latter does.
 pub fn judge_certificate(
     certificate: &[u8],
-    now: u64,
+    unix_timestamp: u64,
     principal: Principal<'_>,
     authorities: &[Sha256],
     verify: impl FnOnce(&Question) -> bool,
@@ -120,7 +121,13 @@ pub fn judge_certificate(
         Err(Status::MEMORY) => return Err(Status::MEMORY),
         Err(_) => false,
     };
-    validate_certificate(certificate, now, principal, authorities, is_verified)
+    validate_certificate(
+        certificate,
+        unix_timestamp,
+        principal,
+        authorities,
+        is_verified,
+    )
 }
 
 /// What a policy asks of a certificate.

@@ -14,9 +14,9 @@
 //! }
 //!
 //! /// Whether the line of a certificate is valid for alice.
-//! fn judge(line: &str, now: u64, authorities: &[Sha256]) -> Result<(), Status> {
+//! fn judge(line: &str, second: u64, authorities: &[Sha256]) -> Result<(), Status> {
 //!     let certificate = sshkey::read_line(line)?.blob;
-//!     sshkey::judge_certificate(&certificate, now, "alice".into(), authorities, is_signature)
+//!     sshkey::judge_certificate(&certificate, second, "alice".into(), authorities, is_signature)
 //! }
 //! # assert_eq!(judge("ssh-ed25519", 0, &[]), Err(Status::LENGTH));
 //! ```

@@ -127,7 +127,7 @@ pub(crate) struct Login<'a> {
     /// The blob of the key of which the client has proved that it holds it.
     pub(crate) key: &'a [u8],
     /// When that is, in seconds since 1970.
-    pub(crate) now: u64,
+    pub(crate) unix_timestamp: u64,
     /// Who may certify users, by the fingerprints of their keys.
     pub(crate) authorities: &'a [Sha256],
 }
@@ -142,8 +142,8 @@ pub(crate) fn validate_user(
     verify: impl FnOnce(&Question) -> bool,
     is_met: impl Fn(&str, &str) -> bool,
 ) -> Result<(), Refusal> {
-    let user = Principal::Named(login.user);
-    sshkey::judge_certificate(certificate, login.now, user, login.authorities, verify)?;
+    let (second, user) = (login.unix_timestamp, Principal::Named(login.user));
+    sshkey::judge_certificate(certificate, second, user, login.authorities, verify)?;
     let fields = sshkey::certificate_fields(certificate)?;
     let contents = sshkey::certificate_contents(certificate)?;
     if fields.certificate_type != CertificateType::User {
@@ -354,7 +354,7 @@ fn user(words: [&OsStr; 3], second: u64, options: &[OsString]) -> Result<bool, U
     let login = Login {
         user: user.as_bytes(),
         key: &key,
-        now: second,
+        unix_timestamp: second,
         authorities: &by,
     };
     let is_met = |name: &str, value: &str| !value.is_empty() && options.iter().any(|it| it == name);
