@@ -68,6 +68,16 @@ fn asked(question: &Question, signer: Option<Sha256>) -> Answer {
     )
 }
 
+fn sshsig(signature: &[u8], namespace: &[u8], message: &[u8]) -> Answer {
+    let (question, signer) = sshkey::sshsig_question(signature, namespace, message)?;
+    asked(&question, Some(signer))
+}
+
+fn is_signature(key: &[u8], message: &[u8], signature: &[u8]) -> Answer {
+    let question = sshkey::signature_question(key, message, signature)?;
+    words([u8::from(check::verify::verifies(&question)).to_string()])
+}
+
 fn validate(given: &[&str]) -> Answer {
     let name = if given[2] == "*" {
         None
@@ -266,14 +276,8 @@ fn answer(question: &str) -> Answer {
         ("signature", [key, message, signature]) => {
             asked(&sshkey::signature_question(key, message, signature)?, None)
         }
-        ("sshsig", [signature, namespace, message]) => {
-            let (question, signer) = sshkey::sshsig_question(signature, namespace, message)?;
-            asked(&question, Some(signer))
-        }
-        ("is-signature", [key, message, signature]) => {
-            let question = sshkey::signature_question(key, message, signature)?;
-            words([u8::from(check::verify::verifies(&question)).to_string()])
-        }
+        ("sshsig", [signature, namespace, message]) => sshsig(signature, namespace, message),
+        ("is-signature", [key, message, signature]) => is_signature(key, message, signature),
         ("validate", _) => validate(given),
         ("user", _) => user(given),
         ("fields", [blob]) => fields(blob),

@@ -152,30 +152,50 @@ fn certificates_are_made_as_ssh_keygen_makes_them() {
         .concat())
     });
     assert_eq!(found, Ok::<_, Status>(made.clone()));
-    let nobody = Draft {
-        principals: Listed::Names(&[]),
-        ..draft
-    };
-    assert_eq!(
-        sshkey::certificate_to_be_signed(&nobody),
-        Err(Status::PRINCIPALS)
-    );
-    let never = Draft {
-        valid_before: FIRST,
-        ..draft
-    };
-    assert_eq!(
-        sshkey::certificate_to_be_signed(&never),
-        Err(Status::EMPTY_WINDOW)
-    );
-    // it is longer than the room that the call gets at first
-    let long = "x".repeat(5000);
-    let others = Draft {
-        key_id: &long,
+}
+
+#[test]
+fn drafts_are_refused_where_something_is_left_out() {
+    let (key, by) = (blob(ALICE), blob(AUTHORITY));
+    let refusal = |draft| sshkey::certificate_to_be_signed(&draft).unwrap_err();
+    let draft = Draft {
+        key: &key,
+        authority: &by,
+        nonce: &[0; 32],
         principals: Listed::Everybody,
-        ..draft
+        valid_before: END,
+        ..Draft::default()
     };
-    assert!(sshkey::certificate_to_be_signed(&others).unwrap().len() > 5000);
+    let principals = Listed::Names(&[]);
+    assert_eq!(
+        refusal(Draft {
+            principals,
+            ..draft
+        }),
+        Status::PRINCIPALS
+    );
+    assert_eq!(
+        refusal(Draft {
+            valid_before: 0,
+            ..draft
+        }),
+        Status::EMPTY_WINDOW
+    );
+    assert_eq!(refusal(Draft { key: &[], ..draft }), Status::LENGTH);
+    assert_eq!(
+        refusal(Draft {
+            authority: &[],
+            ..draft
+        }),
+        Status::LENGTH
+    );
+    // a key id that is longer than the room that the call gets at first
+    let key_id = &"x".repeat(5000)[..];
+    let long = sshkey::certificate_to_be_signed(&Draft { key_id, ..draft }).unwrap();
+    assert_eq!(
+        long.len(),
+        sshkey::certificate_to_be_signed(&draft).unwrap().len() + 5000
+    );
 }
 
 #[test]
