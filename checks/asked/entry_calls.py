@@ -248,9 +248,9 @@ def authority_in(folder, hosts, text, name, port, key, verdict):
     return "DONE" if ("CA", key) in found else "HOST_UNKNOWN"
 
 
-def host_cases(draw, folder, hosts):
+def host_cases(draw, folder, hosts, files=FILES):
     """Names, texts, hosts, ports and keys, and the names of what is wanted of a host's key and of an authority's."""
-    keys, hosts.FILES = hosts.made(folder), FILES
+    keys, hosts.FILES = hosts.made(folder), files
     types = {line: name for name, line in keys.items()}
     for question, shown, wanted in hosts.of_files(draw, folder, keys):
         text, name, port, key = map(bytes_of, question.removeprefix("host-verdict ").split(" , "))

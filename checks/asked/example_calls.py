@@ -21,18 +21,24 @@ def python(built, name):
     return ["/usr/bin/env", f"SSHKEY_LIBRARY={built.plain}/libsshkey.so", sys.executable, os.path.join(EXAMPLES, "python", name)]
 
 
-def check_certificates(count, built, maker, kind, middle):
-    """check_certificate and check.py have the status 2 where they can't tell."""
+def certificate_cases(maker, kind, middle):
+    """Names, files of authorities, seconds, what is given of the certificate of that kind, and the status."""
     good, line = maker.path(f"{kind.authority}.pub"), f"{kind.line}\n"
     empty, wrong = maker.write("empty", ""), maker.write("wrong", f"\n# a comment\n{maker.read('user0.pub')}\nssh-ed25519 AAAA\n")
-    cases = [(f"the second {word!r}", good, word, line, status) for word, status in SECONDS]
-    cases += [
+    yield from ((f"the second {word!r}", good, word, line, status) for word, status in SECONDS)
+    yield from [
         ("all is valid", good, str(middle), line, VALID), ("two lines", good, str(middle), line * 2, VALID),
         ("no line", good, str(middle), "", UNTOLD), ("one line of two", good, str(middle), line + "ssh-ed25519 AAAA\n", INVALID),
         ("no line end", good, str(middle), kind.line, VALID), ("no authority", empty, str(middle), line, INVALID),
         ("a folder of authorities", maker.folder, str(middle), line, UNTOLD),
         ("no such file", maker.path("none"), str(middle), line, UNTOLD), ("a line that is no key", wrong, str(middle), line, UNTOLD),
     ]  # fmt: skip
+
+
+def check_certificates(count, built, maker, kind, middle):
+    """check_certificate and check.py have the status 2 where they can't tell."""
+    good, line, wrong = maker.path(f"{kind.authority}.pub"), f"{kind.line}\n", maker.path("wrong")
+    cases = list(certificate_cases(maker, kind, middle))
     programs = {
         "check_certificate": [f"{built.plain}/check_certificate"], "with sanitizers": [f"{built.sanitized}/check_certificate"],
         "check.py": [*python(built, "check.py"), "certificates"],
@@ -135,15 +141,10 @@ def check_closed(count, built, maker):
             count.check(f"{name}: standard {case} is closed", is_untold(ran, script), ran.returncode, ran.stdout, ran.stderr)
 
 
-def check_armour(count, built, maker):
-    """check.py reads an armour where `ssh-keygen -Y verify` does."""
-    signed = maker.write("armour.txt", "a text")
-    good, strange = (armoured(maker.signature("holder", it)) for it in ("a text", "another text"))
-    allowed = maker.write("armour.allowed", f"alice {maker.read('holder.pub')}")
-    words = [*python(built, "check.py"), "signature", maker.path("holder.pub"), "file", signed]
-    asked = ["ssh-keygen", "-Y", "verify", "-n", "file", "-I", "alice", "-f", allowed]
+def armour_cases(good, strange):
+    """Names, texts that are made of the armour of a signature, or are that of another text, and the status."""
     ends, (head, *body, tail) = good.rindex("-----END"), good.splitlines()
-    for case, text, wanted in (
+    yield from [
         ("as it is", good, VALID), ("in one line", f"{head}\n{''.join(body)}\n{tail}\n", VALID), ("of another text", strange, INVALID),
         ("another name", good.replace("SSH SIGNATURE", "PGP THING"), UNTOLD), ("no end", good[:ends], UNTOLD),
         ("another name at its end", good.replace("END SSH", "END PGP"), UNTOLD),
@@ -151,7 +152,20 @@ def check_armour(count, built, maker):
         ("a character that is none of Base64", good[: ends - 9] + "*" + good[ends - 9 :], UNTOLD),
         ("one of another alphabet", good[: ends - 9] + "_" + good[ends - 9 :], UNTOLD),
         ("no armour", "".join(good.splitlines(True)[1:-1]), UNTOLD), ("nothing", "", UNTOLD), ("a text before", "x" + good, UNTOLD),
-    ):  # fmt: skip
+        ("a text behind", good + "x\n", VALID), ("no line end", good.removesuffix("\n"), VALID),
+        *((f"a character {it!r} within", good[: ends - 9] + it + good[ends - 9 :], VALID) for it in " \t\v\f\n"),
+        *((f"a character {it!r} within", good[: ends - 9] + it + good[ends - 9 :], UNTOLD) for it in "=\x1c\x85\xa0"),
+    ]  # fmt: skip
+
+
+def check_armour(count, built, maker):
+    """check.py reads an armour where `ssh-keygen -Y verify` does."""
+    signed = maker.write("armour.txt", "a text")
+    good, strange = (armoured(maker.signature("holder", it)) for it in ("a text", "another text"))
+    allowed = maker.write("armour.allowed", f"alice {maker.read('holder.pub')}")
+    words = [*python(built, "check.py"), "signature", maker.path("holder.pub"), "file", signed]
+    asked = ["ssh-keygen", "-Y", "verify", "-n", "file", "-I", "alice", "-f", allowed]
+    for case, text, wanted in armour_cases(good, strange):
         ran = run(words, input=text)
         judged = run([*asked, "-s", maker.write("armour.sig", text)], input="a text")
         same = is_untold(ran, "check.py") if wanted == UNTOLD else ran.returncode == wanted and not ran.stderr

@@ -263,16 +263,21 @@ def signed_by_hand(message):
     return exponent, modulus, string(b"rsa-sha2-256") + string(made.to_bytes(256, "big"))
 
 
-def check_numbers(asked, sshkey, check, maker):
-    """An RSA key whose numbers are zero or negative (RFC 4251, section 5) signs nothing."""
-    message = b"what was signed"
-    exponent, modulus, signature = signed_by_hand(message)
+def numbers_of_keys(exponent, modulus):
+    """Names, the numbers of an RSA key as its blob has them, and whether what it signs counts."""
     positive, negative = [tuple(it(number) for number in (exponent, modulus)) for it in (mpint, unsigned)]
-    cases = [
+    return [
         ("as it is", positive, True), ("a negative modulus", (positive[0], negative[1]), False),
         ("a negative exponent", (negative[0], positive[1]), False), ("both negative", negative, False),
         ("no modulus", (positive[0], string(b"")), False), ("no exponent", (string(b""), positive[1]), False),
     ]  # fmt: skip
+
+
+def check_numbers(asked, sshkey, check, maker):
+    """An RSA key whose numbers are zero or negative (RFC 4251, section 5) signs nothing."""
+    message = b"what was signed"
+    exponent, modulus, signature = signed_by_hand(message)
+    cases = numbers_of_keys(exponent, modulus)
     keys = [string(b"ssh-rsa") + b"".join(numbers) for _, numbers, _ in cases]
     said = asked.answers("numbers of a key", [f"is-{question_of(key, message, signature)}" for key in keys])
     read = set()
@@ -298,19 +303,25 @@ def check_signature_numbers(asked, sshkey, message, key):
         count.check(f"an ECDSA signature, a number {name}", answer == str(int(sshkey.Status.CRYPTO)), answer)
 
 
-def check_points(asked, sshkey, check, maker):
-    """An ECDSA key whose point is compressed (SEC 1, section 2.3.3) signs nothing: ssh-keygen reads no such key."""
-    name, message = b"ecdsa-sha2-nistp256", b"what was signed"
-    private = ec.generate_private_key(ec.SECP256R1())
+def points_of_keys(message):
+    """ECDSA keys whose point is whole and compressed (SEC 1, section 2.3.3), a signature of the message by both, and whether it
+    counts."""
+    name, private = b"ecdsa-sha2-nistp256", ec.generate_private_key(ec.SECP256R1())
     numbers = utils.decode_dss_signature(private.sign(message, ec.ECDSA(hashes.SHA256())))
     signature = string(name) + string(b"".join(map(mpint, numbers)))
-    forms = serialization.PublicFormat.UncompressedPoint, serialization.PublicFormat.CompressedPoint
-    points = [private.public_key().public_bytes(serialization.Encoding.X962, it) for it in forms]
-    keys = [string(name) + string(b"nistp256") + string(it) for it in points]
-    said = asked.answers("points of a key", [f"is-{question_of(key, message, signature)}" for key in keys])
-    for key, answer, is_one in zip(keys, said, (True, False)):
+    for form, is_one in ((serialization.PublicFormat.UncompressedPoint, True), (serialization.PublicFormat.CompressedPoint, False)):
+        point = private.public_key().public_bytes(serialization.Encoding.X962, form)
+        yield string(name) + string(b"nistp256") + string(point), signature, is_one
+
+
+def check_points(asked, sshkey, check, maker):
+    """An ECDSA key whose point is compressed signs nothing: ssh-keygen reads no such key."""
+    message = b"what was signed"
+    cases = list(points_of_keys(message))
+    said = asked.answers("points of a key", [f"is-{question_of(key, message, it)}" for key, it, _ in cases])
+    for (key, signature, is_one), answer in zip(cases, said):
         by_python = check.is_signature(sshkey.signature_question(key, message, signature))
-        path = maker.write("point.pub", f"{name.decode()} {encoded(key)}\n")
+        path = maker.write("point.pub", f"{take(key)[0].decode()} {encoded(key)}\n")
         is_read = ssh_keygen("-l", "-f", path, check=False).returncode == 0
         same = answer == f"0 {int(is_one)}" and by_python == is_read == is_one
         asked.count.check(f"an ECDSA key whose point is {'whole' if is_one else 'compressed'}", same, answer, by_python, is_read)

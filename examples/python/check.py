@@ -210,7 +210,8 @@ def unarmoured(text: str) -> bytes:
     parts = text.split("-----")
     if parts[:2] + parts[3:4] != ["", "BEGIN SSH SIGNATURE", "END SSH SIGNATURE"]:
         raise ValueError("no SSH signature was given")
-    return base64.b64decode("".join(parts[2].split()), validate=True)
+    # bytes are split at the white space that is ASCII, a text also at other, which ssh-keygen does not take
+    return base64.b64decode(b"".join(parts[2].encode().split()), validate=True)
 
 
 def signature(signers: str, namespace: str, file: str) -> bool:

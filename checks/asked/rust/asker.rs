@@ -1,0 +1,311 @@
+//! Answers questions about the calls of the Rust package in examples/rust, and by the functions of
+//! its program `check`: a line of the input a line of the answer, as checks/asked/binding_calls.py
+//! says.
+
+use std::io::{self, BufRead};
+
+use sshkey::{CertificateType, Draft, Listed, Principal, Question, Sha256, Status};
+
+#[allow(dead_code)]
+#[path = "../../../examples/rust/src/bin/check.rs"]
+mod check;
+
+type Answer = Result<String, Status>;
+
+// ---- words
+
+fn data(word: &str) -> Vec<u8> {
+    let digits = if word == "-" { "" } else { word };
+    let pairs = (0..digits.len()).step_by(2).map(|at| &digits[at..at + 2]);
+    pairs
+        .map(|it| u8::from_str_radix(it, 16).expect("a word of hexadecimal digits"))
+        .collect()
+}
+
+fn word(data: impl AsRef<[u8]>) -> String {
+    let data = data.as_ref();
+    if data.is_empty() {
+        return "-".into();
+    }
+    data.iter().map(|it| format!("{it:02x}")).collect()
+}
+
+fn number(word: &str) -> u64 {
+    word.parse().expect("a number")
+}
+
+fn digests(word: &str) -> Vec<Sha256> {
+    let digest = |it: &[u8]| Sha256 {
+        bytes: it.try_into().expect("32 bytes"),
+    };
+    data(word).chunks(32).map(digest).collect()
+}
+
+/// The words behind 0.
+fn words<I: IntoIterator<Item = String>>(found: I) -> Answer {
+    Ok(std::iter::once("0".into())
+        .chain(found)
+        .collect::<Vec<_>>()
+        .join(" "))
+}
+
+fn number_of(answer: Result<(), Status>) -> String {
+    answer
+        .map_or_else(|status| status.number(), |()| 0)
+        .to_string()
+}
+
+// ---- questions
+
+fn asked(question: &Question, signer: Option<Sha256>) -> Answer {
+    let parts = [question.key(), question.message(), question.signature()].map(word);
+    let number = (question.algorithm() as u32).to_string();
+    words(
+        [number]
+            .into_iter()
+            .chain(parts)
+            .chain(signer.map(|it| word(it.bytes))),
+    )
+}
+
+fn sshsig(signature: &[u8], namespace: &[u8], message: &[u8]) -> Answer {
+    let (question, signer) = sshkey::sshsig_question(signature, namespace, message)?;
+    asked(&question, Some(signer))
+}
+
+fn is_signature(key: &[u8], message: &[u8], signature: &[u8]) -> Answer {
+    let question = sshkey::signature_question(key, message, signature)?;
+    words([u8::from(check::verify::verifies(&question)).to_string()])
+}
+
+fn validate(given: &[&str]) -> Answer {
+    let name = if given[2] == "*" {
+        None
+    } else {
+        Some(data(given[2]))
+    };
+    let principal = name.as_deref().map_or(Principal::Any, Principal::Named);
+    let (blob, second, yes) = (data(given[0]), number(given[1]), given[4] == "1");
+    let answer = sshkey::judge_certificate(&blob, second, principal, &digests(given[3]), |_| yes);
+    Ok(number_of(answer))
+}
+
+fn user(given: &[&str]) -> Answer {
+    let (key, user, known) = (data(given[1]), data(given[3]), data(given[5]));
+    let by = digests(given[4]);
+    let login = check::Login {
+        user: &user,
+        key: &key,
+        unix_timestamp: number(given[2]),
+        authorities: &by,
+    };
+    let is_met = |name: &str, value: &str| name.as_bytes() == known && !value.is_empty();
+    let verifies = check::verify::verifies;
+    let answer = check::validate_user(&data(given[0]), &login, verifies, is_met);
+    Ok(check::line_for(answer))
+}
+
+// ---- certificates
+
+fn fields(blob: &[u8]) -> Answer {
+    let found = sshkey::certificate_fields(blob)?;
+    let numbers = [
+        found.serial,
+        found.valid_after,
+        found.valid_before,
+        found.certificate_type as u64,
+        found.lists_principals.into(),
+        found.has_critical_options.into(),
+    ];
+    words(numbers.map(|it| it.to_string()))
+}
+
+fn pairs(front: &str, options: sshkey::CertificateOptions<'_>) -> Result<Vec<String>, Status> {
+    let by_name = options.by_name()?;
+    Ok(by_name
+        .iter()
+        .map(|(name, value)| format!("{front}{}={}", word(name), word(value)))
+        .collect())
+}
+
+fn lists(blob: &[u8]) -> Answer {
+    let found = sshkey::certificate_contents(blob)?;
+    let key = sshkey::certificate_key(blob)?;
+    let mut listed = vec![word(found.key_id), word(key), word(found.authority)];
+    for name in found.principals {
+        listed.push(format!("principal={}", word(name?)));
+    }
+    listed.extend(pairs("critical=", found.critical_options)?);
+    listed.extend(pairs("extension=", found.extensions)?);
+    words(listed)
+}
+
+fn text(bytes: &[u8]) -> Result<&str, Status> {
+    std::str::from_utf8(bytes).map_err(|_| Status::CHARACTER_ENCODING)
+}
+
+fn draft(given: &[&str]) -> Answer {
+    let spans: Vec<Vec<u8>> = given[..7].iter().map(|it| data(it)).collect();
+    let numbers: Vec<u64> = given[7..].iter().map(|it| number(it)).collect();
+    let names: Result<Vec<_>, _> = sshkey::strings(&spans[3]).map(|it| text(it?)).collect();
+    let names = names?;
+    let listed = if numbers[4] == 1 {
+        Listed::Everybody
+    } else {
+        Listed::Names(&names)
+    };
+    let options = |span| -> Result<Vec<(&str, &str)>, Status> {
+        Ok(sshkey::certificate_options(span)
+            .by_name()?
+            .into_iter()
+            .collect())
+    };
+    let (critical_options, extensions) = (options(&spans[4])?, options(&spans[5])?);
+    let made = sshkey::certificate_to_be_signed(&Draft {
+        key: &spans[0],
+        nonce: &spans[1],
+        key_id: text(&spans[2])?,
+        principals: listed,
+        critical_options: &critical_options,
+        extensions: &extensions,
+        authority: &spans[6],
+        serial: numbers[0],
+        valid_after: numbers[1],
+        valid_before: numbers[2],
+        certificate_type: CertificateType::try_from(numbers[3] as u32)?,
+    })?;
+    words([word(made)])
+}
+
+// ---- keys and lines
+
+fn key(blob: &[u8]) -> Answer {
+    let (short, long) = (
+        sshkey::fingerprint(blob)?,
+        sshkey::fingerprint_sha512(blob)?,
+    );
+    words([
+        word(short.bytes),
+        short.to_string(),
+        word(long.bytes),
+        long.to_string(),
+    ])
+}
+
+fn line(bytes: &[u8]) -> Answer {
+    let found = sshkey::read_line(bytes)?;
+    words([
+        u8::from(found.is_certificate).to_string(),
+        word(found.blob),
+        word(found.comment),
+    ])
+}
+
+fn normal(kind: &str, blob: &[u8]) -> Answer {
+    words([word(match kind {
+        "key" => sshkey::normal_key(blob),
+        "certificate" => sshkey::normal_certificate(blob),
+        "sshsig" => sshkey::normal_sshsig(blob),
+        _ => sshkey::normal_signature(blob),
+    }?)])
+}
+
+fn strings(bytes: &[u8]) -> Answer {
+    let found: Result<Vec<_>, _> = sshkey::strings(bytes).map(|it| it.map(word)).collect();
+    words(found?)
+}
+
+// ---- entries
+
+fn lines(text: &[u8]) -> Answer {
+    let found: Result<Vec<_>, _> = sshkey::entry_lines(text).map(|it| it.map(word)).collect();
+    words(found?)
+}
+
+fn entry(line: &[u8]) -> Answer {
+    let found = sshkey::authorized_entry(line)?;
+    words([
+        "0".into(),
+        word(found.options),
+        word(found.key),
+        word(found.comment),
+    ])
+}
+
+fn host(line: &[u8]) -> Answer {
+    let found = sshkey::known_host(line)?;
+    let marker = (found.marker as u32).to_string();
+    words([
+        marker,
+        word(found.hosts),
+        word(found.key),
+        word(found.comment),
+    ])
+}
+
+fn options(bytes: &[u8]) -> Answer {
+    let shown = |it: sshkey::EntryOption| match it.value {
+        None => word(it.name),
+        Some(value) => format!("{}={}", word(it.name), word(value)),
+    };
+    let found: Result<Vec<_>, _> = sshkey::entry_options(bytes)
+        .map(|it| it.map(shown))
+        .collect();
+    words(found?)
+}
+
+fn verdict(given: &[&str]) -> Answer {
+    let (known_hosts, host, key) = (data(given[0]), data(given[1]), data(given[3]));
+    let port = given[2].parse().expect("a port");
+    let of_host = number_of(sshkey::host_verdict(&known_hosts, &host, port, &key));
+    Ok(format!(
+        "{of_host} {}",
+        number_of(sshkey::authority_verdict(&known_hosts, &host, port, &key))
+    ))
+}
+
+fn answer(question: &str) -> Answer {
+    let parts: Vec<&str> = question.split(' ').collect();
+    let given = &parts[1..];
+    let bytes: Vec<Vec<u8>> = match parts[0] {
+        "validate" | "user" | "draft" | "verdict" | "normal" => Vec::new(),
+        _ => given.iter().map(|it| data(it)).collect(),
+    };
+    match (parts[0], &bytes[..]) {
+        ("certificate", [blob]) => asked(&sshkey::certificate_question(blob)?, None),
+        ("signature", [key, message, signature]) => {
+            asked(&sshkey::signature_question(key, message, signature)?, None)
+        }
+        ("sshsig", [signature, namespace, message]) => sshsig(signature, namespace, message),
+        ("is-signature", [key, message, signature]) => is_signature(key, message, signature),
+        ("validate", _) => validate(given),
+        ("user", _) => user(given),
+        ("fields", [blob]) => fields(blob),
+        ("lists", [blob]) => lists(blob),
+        ("certificate-options", [bytes]) => words(pairs("", sshkey::certificate_options(bytes))?),
+        ("strings", [bytes]) => strings(bytes),
+        ("lines", [bytes]) => lines(bytes),
+        ("key", [blob]) => key(blob),
+        ("line", [bytes]) => line(bytes),
+        ("normal", _) => normal(given[0], &data(given[1])),
+        ("draft", _) => draft(given),
+        ("join", [signed, signature]) => {
+            words([word(sshkey::join_certificate(signed, signature)?)])
+        }
+        ("entry", [bytes]) => entry(bytes),
+        ("host", [bytes]) => host(bytes),
+        ("options", [bytes]) => options(bytes),
+        ("verdict", _) => verdict(given),
+        _ => panic!("no question: {question}"),
+    }
+}
+
+fn main() {
+    for line in io::stdin().lock().lines() {
+        let line = line.expect("a line");
+        println!(
+            "{}",
+            answer(&line).unwrap_or_else(|status| status.number().to_string())
+        );
+    }
+}

@@ -1,0 +1,178 @@
+"""The package in Rust of examples/rust, and its program check, for checks/bindings: how they are built, their own tests, what
+docs/FOREIGN.md shows of them, and what the program has beside check.py."""
+import os
+import re
+
+from lib.harness import ROOT
+
+from .binding_calls import Asker, Judge, draft_of
+from .bindings import is_untold
+from .certificate_calls import fields_in
+from .example_calls import INVALID, VALID
+from .key_calls import signed_by
+from .linked import EXAMPLES, run
+from .login_calls import blocks
+
+PACKAGE = os.path.join(EXAMPLES, "rust")
+CHECK, ASKER = f"{PACKAGE}/src/bin/check.rs", f"{ROOT}/checks/asked/rust/asker.rs"
+CARGO = ["--offline", "--locked"]
+# each unsafe block is one call, and says why it is right; an older clippy does not know that of one call
+UNSAFE = ["-D", "clippy::undocumented_unsafe_blocks", "-D", "clippy::multiple_unsafe_ops_per_block"]
+LINTS = ["-D", "warnings", "-A", "unknown_lints", *UNSAFE]
+# of a line of authorized_keys
+OPTIONS = b'no-pty,command="say \\"yes\\""'
+
+
+class Rust:
+    """What cargo and rustc build in a folder, with the library and the verifier of the examples in C, which stand in `out`."""
+
+    def __init__(self, folder, out):
+        self.folder, self.target, self.out = folder, f"{folder}/rust", out
+        self.program = f"{self.target}/debug/check"
+        names = {"SSHKEY_LIB_DIR": out, "CARGO_TARGET_DIR": self.target, "RUSTFLAGS": "-D warnings", "RUSTDOCFLAGS": "-D warnings"}
+        self.environment = {**os.environ, **names}
+
+    def cargo(self, *words):
+        return run(["cargo", *words], cwd=PACKAGE, env=self.environment)
+
+    def built(self, count, source, name, library=None):
+        """A program over the package, linked with the library in that folder, by rustc."""
+        path, folder = f"{self.folder}/rust-{name.replace(' ', '-')}", library or self.out
+        parts = [f"{self.out}/verify.o", f"{folder}/libsshkey.a", "-lcrypto"]
+        linked = ["-L", f"native={folder}", *(word for it in parts for word in ("-C", f"link-arg={it}"))]
+        package = f"sshkey={self.target}/debug/libsshkey.rlib"
+        made = run(["rustc", "--edition", "2021", "-D", "warnings", "--extern", package, *linked, "-o", path, source])
+        count.check(f"Rust: {name} is built", made.returncode == 0, made.stderr[-3000:])
+        return path
+
+    def check_sources(self, count):
+        """The package and its program are built without a warning, and its own tests pass."""
+        made = run(["make", "-C", EXAMPLES, f"OUT={self.out}", f"{self.out}/verify.o"])
+        count.check("Rust: the verifier in C is built", made.returncode == 0, made.stderr[-3000:])
+        made = self.cargo("build", *CARGO)
+        count.check("Rust: the package and its program are built", made.returncode == 0, made.stderr[-3000:])
+        tested = self.cargo("test", *CARGO)
+        passed = sum(map(int, re.findall(r"^test result: ok\. (\d+) passed", tested.stdout, re.M)))
+        same = tested.returncode == 0 and passed
+        count.check(f"Rust: {passed} tests of the package pass", same, tested.stdout[-2000:], tested.stderr[-2000:])
+
+    def check_style(self, count):
+        """What rustfmt and clippy say where they are: Debian's package `cargo` has neither."""
+        if run(["cargo", "fmt", "--version"]).returncode == 0:
+            said = [self.cargo("fmt", "--check"), run(["rustfmt", "--edition", "2021", "--check", ASKER])]
+            same = not any(it.returncode for it in said)
+            count.check("Rust: rustfmt has nothing to change", same, *(it.stdout[:2000] for it in said))
+        if run(["cargo", "clippy", "--version"]).returncode == 0:
+            said = self.cargo("clippy", *CARGO, "--all-targets", "--", *LINTS)
+            count.check("Rust: clippy has nothing to say", said.returncode == 0, said.stderr[-3000:])
+
+
+def check_under_valgrind(count, asker, made):
+    """Each call of the package under valgrind: of a key and a certificate of each kind, and with the last byte missing."""
+    judge = Judge(count, Asker("Rust under valgrind", [*made.foreign.VALGRIND, *asker.words]), made)
+    file, text, alice, eve, name = (it.hex() for it in (b"file", b"text", b"alice", b"eve", b"h.example"))
+    questions = [draft_of(fields_in(made.kinds[0].blob))]
+    for number, kind in enumerate(made.kinds):
+        blob, line = kind.blob.hex(), made.maker.read(f"user{number}.pub").encode()
+        key, message, signature = (it.hex() for it in signed_by(made.maker, f"user{number}"))
+        sshsig, signed = made.maker.signature(f"user{number}", "text").hex(), made.sshkey.certificate_question(kind.blob).message
+        by = made.sshkey.fingerprint(made.sshkey.certificate_contents(kind.blob).authority).hex()
+        entry, host = ((it + line).hex() for it in (OPTIONS + b" ", b"h.example "))
+        questions += [f"{it} {blob}" for it in ("certificate", "fields", "lists", "strings", "normal certificate")]
+        questions += [f"{it} {key}" for it in ("key", "normal key")]
+        questions += [f"{it} {key} {message} {signature}" for it in ("signature", "is-signature")]
+        questions += [f"sshsig {sshsig} {file} {text}", f"normal sshsig {sshsig}", f"normal signature {signature}"]
+        questions += [f"validate {blob} {made.middle} {it} {by} 1" for it in ("*", alice, eve)]
+        questions += [f"user {blob} {key} {made.middle} {alice} {by} -"]
+        questions += [f"join {signed.hex()} {kind.blob[len(signed) + 4 :].hex()}", f"line {line.hex()}"]
+        questions += [f"entry {entry}", f"host {host}", f"lines {host}0a23{host}", f"options {OPTIONS.hex()}"]
+        questions += [f"verdict {host} {name} {port} {key}" for port in (22, 23)]
+    questions += [it[:-2] for it in questions if len(it.split()[-1]) > 8]
+    judge.ask("questions", questions)
+
+
+# ---- the command `user`, which check.py does not have
+
+
+def check_user(count, program, made):
+    """`validate_user` by the command line; binding_calls asks it of more."""
+    maker, second = made.maker, str(made.middle)
+    by, own, other = (maker.path(f"{it}.pub") for it in ("authority0", "user0", "user1"))
+
+    def certified(*words):
+        return maker.certificate("authority0", "user0", *made.foreign.WINDOW, "-n", *words) + "\n"
+
+    good, strange, source = certified("alice"), certified("eve"), certified("alice", "-O", "source-address=192.0.2.0/24")
+    for name, words, given, wanted in (
+        ("its user", [by, "alice", own, second], good, "valid"),
+        ("two lines", [by, "alice", own, second], good * 2, "valid\nvalid"),
+        ("another user's", [by, "alice", own, second], strange, "refused: another principal (34)"),
+        ("no user", [by, "", own, second], good, "refused: another principal (34)"),
+        ("a user that is -", [by, "-", own, second], good, "refused: another principal (34)"),
+        ("another key", [by, "alice", other, second], good, "refused: another key (103)"),
+        ("an option", [by, "alice", own, second], source, "refused: a critical option that is not known or not met (102)"),
+        ("an option that is met", [by, "alice", own, second, "force-command", "source-address"], source, "valid"),
+        ("now", [by, "alice", own], good, "refused: not valid at that time (33)"),
+    ):  # fmt: skip
+        ran = program.run("user", *words, input=given)
+        status = INVALID if "refused" in wanted else VALID
+        same = (ran.returncode, ran.stdout, ran.stderr) == (status, f"{wanted}\n", "")
+        count.check(f"Rust, user: {name}", same, ran)
+    for name, key in (
+        ("no such key", maker.path("none")), ("a folder as the key", made.folder),
+        ("a certificate as the key", maker.path("user0-cert.pub")),
+    ):  # fmt: skip
+        ran = program.run("user", by, "alice", key, second, input=good)
+        count.check(f"Rust, user: {name}", is_untold(program, ran), ran)
+
+
+# ---- what docs/FOREIGN.md shows
+
+PAGE = """\
+use check::verify::verifies;
+use check::{{line_for, validate_user, Login}};
+#[allow(dead_code)]
+#[path = "{0}"]
+mod check;
+fn let_in() {{
+    println!("let in");
+}}
+fn log_in(authority_line: &str, line: &str, key: &[u8], unix_timestamp: u64) -> Result<(), sshkey::Status> {{
+{1}
+    Ok(())
+}}
+fn two_calls(
+    certificate: Vec<u8>, authority: sshkey::Sha256, unix_timestamp: u64
+) -> Result<(), sshkey::Status> {{
+    let (authorities, is_signature) = ([authority], verifies);
+{2}
+    valid
+}}
+fn main() {{
+    let words: Vec<String> = std::env::args().collect();
+    let blob = |at: usize| sshkey::read_line(&words[at]).unwrap().blob;
+    let second = words[4].parse().unwrap();
+    log_in(&words[1], &words[2], &blob(3), second).unwrap();
+    let valid = two_calls(blob(2), sshkey::fingerprint(&blob(1)).unwrap(), second);
+    println!("{{}}", line_for(valid.map_err(Into::into)));
+}}
+"""
+
+
+def check_rust_page(count, rust, made):
+    """The lines in Rust that docs/FOREIGN.md shows compile, and let the user in, and no other."""
+    maker, code, second = made.maker, blocks("rust"), str(made.middle)
+    count.check("docs/FOREIGN.md shows lines in Rust", len(code) == 2, code)
+    page = rust.built(count, maker.write("page.rs", PAGE.format(CHECK, *code[:2])), "page of FOREIGN.md")
+    authority, own, other = (maker.read(f"{it}.pub") for it in ("authority0", "user0", "user1"))
+    good, strange = (maker.certificate("authority0", "user0", *made.foreign.WINDOW, "-n", it) for it in ("alice", "eve"))
+    refused = "refused: another principal (34)"
+    for name, words, wanted in (
+        ("its user", (authority, good, own), ["let in", "valid"]),
+        ("another user's", (authority, strange, own), [refused, refused]),
+        ("another key", (authority, good, other), ["valid", "refused: another key (103)"]),
+        ("no certificate", (authority, own, own), ["refused: a name that may not stand there (12)"] * 2),
+    ):  # fmt: skip
+        ran = run([page, *words, second])
+        said = [*ran.stdout.splitlines(), *ran.stderr.splitlines()]
+        count.check(f"the Rust of docs/FOREIGN.md: {name}", said == wanted, said)

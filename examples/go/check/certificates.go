@@ -1,0 +1,157 @@
+package main
+
+import (
+	"bufio"
+	"bytes"
+	"encoding/base64"
+	"errors"
+	"fmt"
+	"io"
+	"os"
+	"strconv"
+	"strings"
+	"time"
+	"unicode/utf8"
+
+	"rafendilo.example/go/judge"
+	"rafendilo.example/go/sshkey"
+)
+
+// read is the key or the certificate of a line.
+func read(line string, isCertificate bool) ([]byte, error) {
+	found, err := sshkey.ReadLine(line)
+	if err != nil {
+		return nil, err
+	}
+	if found.IsCertificate != isCertificate {
+		return nil, sshkey.ErrLabel
+	}
+	return found.Blob, nil
+}
+
+// fingerprints is those of the keys in a file.
+func fingerprints(path string) ([]sshkey.SHA256, error) {
+	text, err := os.ReadFile(path)
+	if err != nil {
+		return nil, err
+	}
+	var found []sshkey.SHA256
+	for at, whole := range bytes.Split(text, []byte("\n")) {
+		line := strings.TrimLeft(string(whole), " \t\r\v\f")
+		if line == "" || line[0] == '#' {
+			continue
+		}
+		key, err := read(line, false)
+		if err != nil {
+			return nil, fmt.Errorf("%s:%d: no key: %w", path, at+1, err)
+		}
+		digest, err := sshkey.Fingerprint(key)
+		if err != nil {
+			return nil, fmt.Errorf("%s:%d: no key: %w", path, at+1, err)
+		}
+		found = append(found, digest)
+	}
+	return found, nil
+}
+
+// judgeLine gives nil where the line is that of a certificate that is valid, else what is wrong
+// first. Where the principal is -, any is meant.
+func judgeLine(line string, now time.Time, principal string, by []sshkey.SHA256) error {
+	certificate, err := read(line, true)
+	if err != nil {
+		return err
+	}
+	if principal == "-" {
+		return sshkey.ValidateCertificate(certificate, now, by, judge.IsSignature)
+	}
+	return sshkey.ValidateCertificateFor(certificate, now, principal, by, judge.IsSignature)
+}
+
+// timeOf is that of the second in the words, or now where they have none. Above 2^63 - 1 it is one
+// before 1970, and no time to a certificate either.
+func timeOf(words []string) (time.Time, error) {
+	if len(words) == 0 {
+		return time.Now(), nil
+	}
+	number, err := strconv.ParseUint(words[0], 10, 64)
+	if err != nil {
+		return time.Time{}, fmt.Errorf("%q is no second", words[0])
+	}
+	return time.Unix(int64(number), 0), nil
+}
+
+func certificates(words []string, given io.Reader) ([]string, bool, error) {
+	if len(words) > 3 {
+		return nil, false, errUsage
+	}
+	now, err := timeOf(words[2:])
+	if err != nil {
+		return nil, false, err
+	}
+	authorities, err := fingerprints(words[0])
+	if err != nil {
+		return nil, false, err
+	}
+	lines, isValid := []string{}, true
+	for input, isEnd := bufio.NewReader(given), false; !isEnd; {
+		line, err := input.ReadString('\n')
+		isEnd = err == io.EOF
+		if err != nil && !isEnd {
+			return nil, false, err
+		}
+		if line == "" {
+			continue
+		}
+		err = judgeLine(line, now, words[1], authorities)
+		if errors.Is(err, sshkey.ErrMemory) {
+			return nil, false, err
+		}
+		lines, isValid = append(lines, judge.Said(err)+"\n"), isValid && err == nil
+	}
+	if len(lines) == 0 {
+		return nil, false, errors.New("no certificate was given")
+	}
+	return lines, isValid, nil
+}
+
+// unarmoured is the bytes of an SSH signature in its armour.
+func unarmoured(text string) ([]byte, error) {
+	parts := strings.Split(text, "-----")
+	ends := []string{"", "BEGIN SSH SIGNATURE", "END SSH SIGNATURE"}
+	if len(parts) < 4 || parts[0] != ends[0] || parts[1] != ends[1] || parts[3] != ends[2] {
+		return nil, errors.New("no SSH signature was given")
+	}
+	isSpace := func(it rune) bool { return strings.ContainsRune(" \t\n\v\f\r", it) }
+	rows := strings.FieldsFunc(parts[2], isSpace)
+	return base64.StdEncoding.DecodeString(strings.Join(rows, ""))
+}
+
+func signature(words []string, given io.Reader) ([]string, bool, error) {
+	if len(words) != 3 {
+		return nil, false, errUsage
+	}
+	if !utf8.ValidString(words[1]) {
+		return nil, false, errors.New("the namespace is not UTF-8")
+	}
+	text, err := io.ReadAll(given)
+	if err != nil {
+		return nil, false, err
+	}
+	bare, err := unarmoured(string(text))
+	if err != nil {
+		return nil, false, err
+	}
+	message, err := os.ReadFile(words[2])
+	if err != nil {
+		return nil, false, err
+	}
+	signers, err := fingerprints(words[0])
+	if err != nil {
+		return nil, false, err
+	}
+	err = judge.ValidateSSHSig(bare, words[1], message, signers)
+	if errors.Is(err, sshkey.ErrMemory) {
+		return nil, false, err
+	}
+	return []string{judge.Said(err) + "\n"}, err == nil, nil
+}

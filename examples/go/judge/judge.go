@@ -1,0 +1,117 @@
+// Package judge says whether certificates log users in and whether SSH signatures are valid, with
+// Go's standard library for cryptography and package sshkey for the rest. It is there to be copied,
+// and equal to check.py of the examples in Python.
+package judge
+
+import (
+	"time"
+
+	"rafendilo.example/go/sshkey"
+)
+
+// Login is what a login asks of a certificate. What is left out lets nobody in.
+type Login struct {
+	// User is the name of the user, which the certificate has to list.
+	User string
+	// Key is the blob of the key of which the client has proved that it holds it.
+	Key []byte
+	// Now is the time at which the certificate has to be valid.
+	Now time.Time
+	// Authorities are the fingerprints of the keys that may sign certificates of users.
+	Authorities []sshkey.SHA256
+	// IsMet says of a critical option, by its name and value, whether it is known and met at this
+	// login. Where it is nil, none is. sshd refuses a force-command or a source-address that is
+	// empty or has a zero byte, a source-address that is no list of networks, and a value of
+	// verify-required: say no to all of these.
+	IsMet func(name, value string) bool
+}
+
+// flags is the extensions in which nothing may stand (PROTOCOL.certkeys).
+var flags = []string{
+	"no-touch-required", "permit-X11-forwarding", "permit-agent-forwarding",
+	"permit-port-forwarding", "permit-pty", "permit-user-rc",
+}
+
+// ValidateUser gives nil exactly if the certificate, given as its blob, logs the user in; else what
+// is wrong first: a sshkey.Status or a Refusal. It fails with sshkey.ErrMemory, which says nothing
+// of the certificate.
+//
+// Whether the certificate is revoked, whether somebody touched a security key, and what its
+// extensions say is not looked at (docs/FOREIGN.md).
+func ValidateUser(certificate []byte, login Login) error {
+	// nobody changes it between the calls
+	certificate = append([]byte(nil), certificate...)
+	err := sshkey.ValidateCertificateFor(
+		certificate, login.Now, login.User, login.Authorities, IsSignature,
+	)
+	if err != nil {
+		return err
+	}
+	fields, err := sshkey.CertificateFields(certificate)
+	if err != nil {
+		return err
+	}
+	if fields.Type != sshkey.User {
+		return ErrNotForUsers
+	}
+	if !fields.ListsPrincipals { // it would be for everybody
+		return ErrNobodyListed
+	}
+	contents, err := sshkey.CertificateContents(certificate)
+	if err != nil {
+		return err
+	}
+	if err := judgeOptions(contents, login.IsMet); err != nil {
+		return err
+	}
+	return judgeKey(contents.Key, login.Key)
+}
+
+// judgeOptions gives nil where each critical option is met and sshd reads the extensions.
+func judgeOptions(contents sshkey.Contents, isMet func(name, value string) bool) error {
+	for name, value := range contents.CriticalOptions {
+		if isMet == nil || !isMet(name, value) {
+			return ErrUnmetOption
+		}
+	}
+	for _, name := range flags {
+		if contents.Extensions[name] != "" {
+			return ErrFlagData
+		}
+	}
+	return nil
+}
+
+// judgeKey gives nil where the key that is held is the certificate's own.
+func judgeKey(own, held []byte) error {
+	normal, err := sshkey.NormalKey(held)
+	if err != nil {
+		return err
+	}
+	if string(normal) != string(own) {
+		return ErrOtherKey
+	}
+	return nil
+}
+
+// ValidateSSHSig gives nil exactly if the bytes, as they stand in the armour, are an SSH signature
+// (`ssh-keygen -Y sign`) of the message in that namespace by one of the signers, which are the
+// fingerprints of the keys that may sign for that namespace; else what is wrong first, a
+// sshkey.Status. It fails with sshkey.ErrMemory, which says nothing of the signature.
+func ValidateSSHSig(
+	signature []byte, namespace string, message []byte, signers []sshkey.SHA256,
+) error {
+	question, signer, err := sshkey.SSHSigQuestion(signature, namespace, message)
+	if err != nil {
+		return err
+	}
+	if !IsSignature(question) {
+		return sshkey.ErrNotSigned
+	}
+	for _, one := range signers {
+		if one == signer {
+			return nil
+		}
+	}
+	return sshkey.ErrUntrustedAuthority
+}

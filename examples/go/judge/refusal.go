@@ -1,0 +1,82 @@
+package judge
+
+import (
+	"errors"
+	"fmt"
+
+	"rafendilo.example/go/sshkey"
+)
+
+// Refusal is what is wrong with a certificate that is valid and logs nobody in. It is an error, and
+// there is none that says yes; its numbers are those of the example in C (JUDGE_*).
+type Refusal uint32
+
+const (
+	// ErrNotForUsers is for a certificate of a host.
+	ErrNotForUsers Refusal = 100 + iota
+	// ErrNobodyListed is for one without principals, which is for everybody.
+	ErrNobodyListed
+	// ErrUnmetOption is for one with a critical option that is not known or not met.
+	ErrUnmetOption
+	// ErrOtherKey is for one of another key than the client's.
+	ErrOtherKey
+	// ErrFlagData is for one with data in an extension that is a flag.
+	ErrFlagData
+)
+
+// Error is what is wrong, in words, and the number.
+func (refusal Refusal) Error() string {
+	return "judge: " + Said(refusal)
+}
+
+var meanings = map[error]string{
+	sshkey.ErrMemory:             "no memory",
+	sshkey.ErrText:               "a principal that is not UTF-8",
+	sshkey.ErrBase64:             "not Base64",
+	sshkey.ErrCharacterEncoding:  "a text that is not UTF-8",
+	sshkey.ErrLabel:              "a name that may not stand there",
+	sshkey.ErrLength:             "a length that passes the bytes",
+	sshkey.ErrTrailingData:       "bytes behind the end",
+	sshkey.ErrNotSigned:          "not signed",
+	sshkey.ErrUntrustedAuthority: "another authority",
+	sshkey.ErrInvalidTime:        "a time too late to be one",
+	sshkey.ErrOutOfWindow:        "not valid at that time",
+	sshkey.ErrUnlistedPrincipal:  "another principal",
+	sshkey.ErrUnsupported:        "key and signature do not go together",
+	sshkey.ErrOtherNamespace:     "another namespace",
+	ErrNotForUsers:               "not for users",
+	ErrNobodyListed:              "no principals",
+	ErrUnmetOption:               "a critical option that is not known or not met",
+	ErrOtherKey:                  "another key",
+	ErrFlagData:                  "data in an extension that is a flag",
+}
+
+// Said is what check.py prints of an answer: "valid" for nil, else what it means in words and its
+// number. Of an error that is no answer it is what that says.
+func Said(err error) string {
+	if err == nil {
+		return "valid"
+	}
+	number, isAnswer := numberOf(err)
+	if !isAnswer {
+		return fmt.Sprintf("refused: %v", err)
+	}
+	words, isKnown := meanings[number]
+	if !isKnown {
+		words = "not in its format"
+	}
+	return fmt.Sprintf("refused: %s (%d)", words, number)
+}
+
+// numberOf is the Status or the Refusal in the error.
+func numberOf(err error) (error, bool) {
+	var status sshkey.Status
+	if errors.As(err, &status) {
+		return status, true
+	}
+	var refusal Refusal
+	if errors.As(err, &refusal) {
+		return refusal, true
+	}
+	return nil, false
+}

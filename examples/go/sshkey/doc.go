@@ -1,0 +1,31 @@
+// Package sshkey reads and makes SSH keys, certificates and signatures, and lines of
+// authorized_keys and known_hosts, by the proved library that include/sshkey.h declares.
+//
+// Cryptography is the caller's: a [Verifier] says whether a signature is one. The package judge
+// beside this one has such a function over Go's standard library, and ValidateUser, which says
+// whether a certificate logs a user in. Who logs users in calls that: a certificate that
+// [ValidateCertificate] finds valid may be for a host, or for nobody by name.
+//
+// # Errors
+//
+// Only a nil error is success. Each error of the library is a [Status], and there is no Status that
+// says yes, so none can be taken for one: compare with [errors.Is] (errors.Is(err,
+// sshkey.ErrOutOfWindow)). [ErrMemory] says nothing of what was asked: the library was refused
+// memory, and the call may be made again. With an error the other results are zero values, and a
+// zero [SHA256] is the fingerprint of no key. Where Go itself runs out of memory the program ends.
+// No compiler sees a call whose error is dropped: have a linter look for such, as errcheck does.
+//
+// # Memory
+//
+// What a call is given it copies before the library sees it, so that nobody changes it in between,
+// and it keeps no pointer. Slices and maps that it gives are the caller's own: they share no bytes
+// with what was given, and appending to one changes no other. Calls from several goroutines at once
+// are fine.
+//
+// # The library
+//
+// In this tree the package links examples/out/libsshkey.a, which `make -C examples` builds. With
+// the build tag sshkey_installed it links what pkg-config calls sshkey (`make -C examples
+// install`). It takes cgo, on Linux on x86-64. That the library answers rightly is proved; this
+// package is written by hand and tested (checks/bindings).
+package sshkey

@@ -1,0 +1,124 @@
+package sshkey
+
+// #include "sshkey.h"
+import "C"
+
+// EntryLines gives the lines of a text of authorized_keys or known_hosts that may be entries: those
+// that are neither empty nor a comment, without the spaces and tabs at their front and without
+// their ends. Do not use bufio.Scanner, which stops at a long line.
+func EntryLines(text string) []string {
+	var part C.sshkey_part
+	in, found := inputOf(text), []string{}
+	for place := C.size_t(0); ; place = part.start + part.length {
+		status := C.sshkey_next_line(in.pointer(), in.length(), place, &part)
+		if status == C.SSHKEY_END {
+			return found
+		}
+		have(status)
+		found = append(found, string(partOf(in, part)))
+	}
+}
+
+// entry is the entry that a call reads of a line, and its marker.
+func entry(
+	in input, call func(to room, answer *C.sshkey_entry) C.uint32_t,
+) (HostEntry, error) {
+	var answer C.sshkey_entry
+	data, err := written(len(in), func(to room) (C.uint32_t, C.size_t) {
+		status := call(to, &answer)
+		return status, answer.length
+	})
+	if err != nil {
+		return HostEntry{}, err
+	}
+	return HostEntry{
+		Marker:  Marker(answer.marker),
+		Hosts:   string(partOf(data, answer.front)),
+		Key:     partOf(data, answer.key),
+		Comment: string(partOf(data, answer.comment)),
+	}, nil
+}
+
+// AuthorizedEntry gives the entry of a line of authorized_keys, as sshd reads it. It fails with a
+// Status where the line is none, and with ErrMemory.
+//
+// Which options there may be is the caller's to judge (EntryOptions). Let nobody in by an entry
+// with the option cert-authority who only has that key, and refuse a line with a zero byte, where
+// sshd ends it.
+func AuthorizedEntry(line string) (Entry, error) {
+	in := inputOf(line)
+	found, err := entry(in, func(to room, answer *C.sshkey_entry) C.uint32_t {
+		return C.sshkey_authorized_entry(in.pointer(), in.length(), to.at, to.length, answer)
+	})
+	return Entry{Options: found.Hosts, Key: found.Key, Comment: found.Comment}, err
+}
+
+// KnownHost gives the entry of a line of known_hosts, as ssh reads it. It fails with a Status where
+// the line is none, which may be a revocation, and with ErrMemory: to judge the key of a host, ask
+// HostVerdict about the whole text.
+func KnownHost(line string) (HostEntry, error) {
+	in := inputOf(line)
+	return entry(in, func(to room, answer *C.sshkey_entry) C.uint32_t {
+		return C.sshkey_known_host(in.pointer(), in.length(), to.at, to.length, answer)
+	})
+}
+
+// EntryOptions gives the options of an entry of authorized_keys, of none where the text is empty.
+// It fails with ErrFormat where the text is no list of options, with ErrText where it is not UTF-8,
+// and with ErrMemory.
+//
+// Refuse an entry with an option that you do not know, one that comes twice (but for environment,
+// permitlisten and permitopen), and one without a value that needs one, as command alone. Each
+// takes time for the whole text, so bound the length of lines that others write.
+func EntryOptions(text string) ([]EntryOption, error) {
+	in, found := inputOf(text), []EntryOption{}
+	for {
+		option, err := nthOption(in, len(found))
+		if err == Status(C.SSHKEY_END) {
+			return found, nil
+		}
+		if err != nil {
+			return nil, err
+		}
+		found = append(found, option)
+	}
+}
+
+func nthOption(in input, number int) (EntryOption, error) {
+	var answer C.sshkey_entry_option_parts
+	data, err := written(len(in), func(to room) (C.uint32_t, C.size_t) {
+		status := C.sshkey_nth_option(in.pointer(), in.length(), C.size_t(number),
+			to.at, to.length, &answer)
+		return status, answer.length
+	})
+	if err != nil {
+		return EntryOption{}, err
+	}
+	return EntryOption{
+		Name:     string(partOf(data, answer.name)),
+		Value:    string(partOf(data, answer.value)),
+		HasValue: answer.has_value != 0,
+	}, nil
+}
+
+// HostVerdict gives nil exactly if a text of known_hosts trusts the key, given as its blob, for a
+// host at a port; ErrHostRevoked, ErrHostUnreadable, ErrHostChanged or ErrHostUnknown for what it
+// says else. The host is a name or an address alone, without a port and without brackets:
+// net.SplitHostPort takes apart what a dialer has. For a port other than 22, where the answer is
+// ErrHostUnknown, ssh(1) asks about port 22 too. It fails with a Status for bytes that are no key,
+// with ErrText where text or host are not UTF-8, and with ErrMemory.
+func HostVerdict(knownHosts, host string, port uint16, key []byte) error {
+	in, whom, by := inputOf(knownHosts), inputOf(host), inputOf(key)
+	return errorOf(C.sshkey_host_verdict(in.pointer(), in.length(),
+		whom.pointer(), whom.length(), C.uint16_t(port), by.pointer(), by.length()))
+}
+
+// AuthorityVerdict gives the same of the key of an authority that signed a certificate of the host:
+// nil exactly if an entry @cert-authority for the host has the key, and neither is it revoked nor a
+// line that may be the host's unreadable; ErrHostUnknown where no such entry has it. The
+// certificate itself is for ValidateCertificateFor to judge. It fails as HostVerdict does.
+func AuthorityVerdict(knownHosts, host string, port uint16, key []byte) error {
+	in, whom, by := inputOf(knownHosts), inputOf(host), inputOf(key)
+	return errorOf(C.sshkey_authority_verdict(in.pointer(), in.length(),
+		whom.pointer(), whom.length(), C.uint16_t(port), by.pointer(), by.length()))
+}

@@ -1,0 +1,189 @@
+package sshkey
+
+// #include "sshkey.h"
+import "C"
+
+import (
+	"encoding/binary"
+	"math"
+)
+
+// question is what a call writes, which is given a room of that length at first.
+func question(
+	length int, call func(to room, answer *C.sshkey_question) C.uint32_t,
+) (Question, error) {
+	var answer C.sshkey_question
+	data, err := written(length, func(to room) (C.uint32_t, C.size_t) {
+		status := call(to, &answer)
+		return status, answer.length
+	})
+	if err != nil {
+		return Question{}, err
+	}
+	return Question{
+		Algorithm: Algorithm(answer.algorithm),
+		Key:       partOf(data, answer.key),
+		Message:   partOf(data, answer.message),
+		Signature: partOf(data, answer.signature),
+	}, nil
+}
+
+// ReadLine gives what stands in a line of a file of public keys (id_ed25519.pub) or of certificates
+// (id_ed25519-cert.pub), with or without its end. It fails with a Status where the line is that of
+// neither, and with ErrMemory. Look at IsCertificate where only a key or only a certificate will
+// do.
+func ReadLine(line string) (Line, error) {
+	var answer C.sshkey_line
+	in := inputOf(line)
+	data, err := written(len(in), func(to room) (C.uint32_t, C.size_t) {
+		status := C.sshkey_read_line(in.pointer(), in.length(), to.at, to.length, &answer)
+		return status, answer.length
+	})
+	if err != nil {
+		return Line{}, err
+	}
+	return Line{
+		Blob:          partOf(data, answer.blob),
+		Comment:       string(partOf(data, answer.comment)),
+		IsCertificate: answer.kind == C.SSHKEY_LINE_CERTIFICATE,
+	}, nil
+}
+
+// ---- fingerprints
+
+// Fingerprint gives the SHA-256 fingerprint of a key, given as its blob. It fails with a Status for
+// bytes that are no key, and with ErrMemory.
+func Fingerprint(key []byte) (SHA256, error) {
+	var digest SHA256
+	in := inputOf(key)
+	err := errorOf(C.sshkey_fingerprint(in.pointer(), in.length(), digest.pointer()))
+	return digest, err
+}
+
+// String is the fingerprint as ssh-keygen shows it: "SHA256:" and Base64.
+func (digest SHA256) String() string {
+	text := make(input, C.SSHKEY_FINGERPRINT_TEXT)
+	have(C.sshkey_fingerprint_text(digest.pointer(), text.pointer(), text.length()))
+	return string(text)
+}
+
+// FingerprintSHA512 gives the SHA-512 fingerprint of a key, as Fingerprint does.
+func FingerprintSHA512(key []byte) (SHA512, error) {
+	var digest SHA512
+	in := inputOf(key)
+	err := errorOf(C.sshkey_fingerprint_sha512(in.pointer(), in.length(), digest.pointer()))
+	return digest, err
+}
+
+// String is the fingerprint as ssh-keygen shows it: "SHA512:" and Base64.
+func (digest SHA512) String() string {
+	text := make(input, C.SSHKEY_FINGERPRINT_SHA512_TEXT)
+	have(C.sshkey_fingerprint_sha512_text(digest.pointer(), text.pointer(), text.length()))
+	return string(text)
+}
+
+// ---- signatures
+
+// SignatureQuestion gives what has to be verified of a signature of the message under a key, given
+// as their blobs (RFC 4253, section 6.6): as an agent gives it, or a client at a login. It fails
+// with a Status for bytes that are none, with ErrUnsupported where they do not go together, and
+// with ErrMemory.
+func SignatureQuestion(key, message, signature []byte) (Question, error) {
+	in, of, by := inputOf(key), inputOf(message), inputOf(signature)
+	length := len(in) + len(of) + len(by) + 256
+	return question(length, func(to room, answer *C.sshkey_question) C.uint32_t {
+		return C.sshkey_signature_question(in.pointer(), in.length(), of.pointer(), of.length(),
+			by.pointer(), by.length(), to.at, to.length, answer)
+	})
+}
+
+// SSHSigQuestion gives what has to be verified of an SSH signature (what stands in the armour,
+// Base64 decoded) of the message in that namespace, and the fingerprint of the key that signed:
+// whether that key may sign is the caller's to judge, as judge.ValidateSSHSig does. It fails with a
+// Status for bytes that are none, with ErrOtherNamespace, with ErrUnsupported where key and
+// signature do not go together, and with ErrMemory.
+func SSHSigQuestion(signature []byte, namespace string, message []byte) (Question, SHA256, error) {
+	var signer SHA256
+	in, space, of := inputOf(signature), inputOf(namespace), inputOf(message)
+	asked, err := question(2*len(in)+256, func(to room, answer *C.sshkey_question) C.uint32_t {
+		return C.sshkey_sshsig_question(in.pointer(), in.length(), space.pointer(), space.length(),
+			of.pointer(), of.length(), to.at, to.length, answer, signer.pointer())
+	})
+	return asked, signer, err
+}
+
+// ---- normal forms
+
+// NormalKey gives the normal form of a key, given as its blob: two keys are the same exactly if
+// their forms are. It fails with a Status for bytes that are none, and with ErrMemory.
+func NormalKey(key []byte) ([]byte, error) {
+	in := inputOf(key)
+	return form(len(in), func(to room, length *C.size_t) C.uint32_t {
+		return C.sshkey_key_normal(in.pointer(), in.length(), to.at, to.length, length)
+	})
+}
+
+// NormalCertificate gives the normal form of a certificate, given as its blob. It fails as
+// NormalKey does.
+func NormalCertificate(certificate []byte) ([]byte, error) {
+	in := inputOf(certificate)
+	return form(len(in), func(to room, length *C.size_t) C.uint32_t {
+		return C.sshkey_certificate_normal(in.pointer(), in.length(), to.at, to.length, length)
+	})
+}
+
+// NormalSSHSig gives the normal form of an SSH signature, as SSHSigQuestion takes it. It fails as
+// NormalKey does.
+func NormalSSHSig(signature []byte) ([]byte, error) {
+	in := inputOf(signature)
+	return form(len(in), func(to room, length *C.size_t) C.uint32_t {
+		return C.sshkey_sshsig_normal(in.pointer(), in.length(), to.at, to.length, length)
+	})
+}
+
+// NormalSignature gives the normal form of a signature, as SignatureQuestion takes it, which is the
+// bytes themselves. It fails with a Status for bytes that are none.
+func NormalSignature(signature []byte) ([]byte, error) {
+	in := inputOf(signature)
+	return form(len(in), func(to room, length *C.size_t) C.uint32_t {
+		return C.sshkey_signature_normal(in.pointer(), in.length(), to.at, to.length, length)
+	})
+}
+
+// ---- strings
+
+// Strings gives the contents of the strings (RFC 4251, section 5), one behind the other, that the
+// bytes of a question's key or of an ECDSA signature are. It fails with ErrLength where they are
+// none.
+func Strings(data []byte) ([][]byte, error) {
+	var part C.sshkey_part
+	in, found := inputOf(data), [][]byte{}
+	for place := C.size_t(0); ; place = part.start + part.length {
+		status := C.sshkey_next_string(in.pointer(), in.length(), place, &part)
+		if status == C.SSHKEY_END {
+			return found, nil
+		}
+		if err := errorOf(status); err != nil {
+			return nil, err
+		}
+		found = append(found, partOf(in, part))
+	}
+}
+
+// JoinStrings gives the bytes that have these contents as strings, one behind the other: each
+// behind its length of four bytes. It fails with ErrLength for a content of 2^32 bytes or more.
+func JoinStrings(contents ...[]byte) ([]byte, error) {
+	return joined(contents...)
+}
+
+func joined[T string | []byte](contents ...T) ([]byte, error) {
+	found := []byte{}
+	for _, content := range contents {
+		if uint64(len(content)) > math.MaxUint32 {
+			return nil, ErrLength
+		}
+		found = binary.BigEndian.AppendUint32(found, uint32(len(content)))
+		found = append(found, content...)
+	}
+	return found, nil
+}

@@ -1,0 +1,105 @@
+package sshkey
+
+// #cgo !sshkey_installed CFLAGS: -I${SRCDIR}/../../../include
+// #cgo !sshkey_installed LDFLAGS: -L${SRCDIR}/../../out -l:libsshkey.a
+// #cgo sshkey_installed pkg-config: sshkey
+// #include "sshkey.h"
+import "C"
+
+import "unsafe"
+
+// input is bytes as a call takes them: a copy, with a byte more of room, so that there is something
+// to point to where there are none.
+type input []byte
+
+func inputOf[T string | []byte](data T) input {
+	return append(make(input, 0, len(data)+1), data...)
+}
+
+func (in input) pointer() *C.uint8_t {
+	return (*C.uint8_t)(&in[:1][0])
+}
+
+func (in input) length() C.size_t {
+	return C.size_t(len(in))
+}
+
+// digests is fingerprints as a call takes them, copied likewise.
+type digests []SHA256
+
+func digestsOf(fingerprints []SHA256) digests {
+	return append(make(digests, 0, len(fingerprints)+1), fingerprints...)
+}
+
+func (in digests) pointer() *C.sshkey_sha256 {
+	return in[:1][0].pointer()
+}
+
+func (in digests) count() C.size_t {
+	return C.size_t(len(in))
+}
+
+func (digest *SHA256) pointer() *C.sshkey_sha256 {
+	return (*C.sshkey_sha256)(unsafe.Pointer(digest))
+}
+
+func (digest *SHA512) pointer() *C.sshkey_sha512 {
+	return (*C.sshkey_sha512)(unsafe.Pointer(digest))
+}
+
+// errorOf is nil exactly for SSHKEY_DONE.
+func errorOf(status C.uint32_t) error {
+	if status == C.SSHKEY_DONE {
+		return nil
+	}
+	return Status(status)
+}
+
+// have panics where a call fails that never does: the library is another than the header's.
+func have(status C.uint32_t) {
+	if err := errorOf(status); err != nil {
+		panic(err)
+	}
+}
+
+// room is where a call writes to.
+type room struct {
+	at     *C.uint8_t
+	length C.size_t
+}
+
+// writer is a call that writes to a room. It gives what the call returns, and how many bytes it
+// says that it wrote or needs.
+type writer func(to room) (status C.uint32_t, length C.size_t)
+
+// written is the room that a call has written to, which has that length at first and then the one
+// that is needed. It fails with what the call returns.
+func written(length int, call writer) ([]byte, error) {
+	for {
+		data := make([]byte, length, length+1)
+		status, needed := call(room{input(data).pointer(), C.size_t(length)})
+		if status != C.SSHKEY_ROOM || needed <= C.size_t(length) {
+			return data, errorOf(status)
+		}
+		length = int(needed)
+	}
+}
+
+// form is what a call writes to the front of a room, and nothing else.
+func form(length int, call func(to room, length *C.size_t) C.uint32_t) ([]byte, error) {
+	var answer C.size_t
+	data, err := written(length, func(to room) (C.uint32_t, C.size_t) {
+		status := call(to, &answer)
+		return status, answer
+	})
+	if err != nil {
+		return nil, err
+	}
+	return data[:answer:answer], nil
+}
+
+// partOf is that part of the bytes, to which nothing can be appended in place.
+func partOf(data []byte, part C.sshkey_part) []byte {
+	end := part.start + part.length
+	return data[:len(data):len(data)][part.start:end:end]
+}

@@ -1,0 +1,107 @@
+package sshkey
+
+// #include "sshkey.h"
+import "C"
+
+import (
+	"fmt"
+	"strings"
+)
+
+// Status is why a call refused what it was given, or could not answer. It is an error, and there is
+// none that says yes: what is done is nil. Take it out of an error by [errors.As] to show its
+// number, or compare with [errors.Is].
+type Status uint32
+
+// What is no answer on what was given.
+const (
+	// ErrMemory is no refusal: the library was refused memory, nothing is said of what was given,
+	// and the call may be made again.
+	ErrMemory Status = C.SSHKEY_MEMORY
+	// ErrText is for a principal, a line of authorized_keys or known_hosts, options, a text of
+	// known_hosts or a host's name that is not UTF-8. For such a line ReadLine fails with
+	// ErrCharacterEncoding.
+	ErrText Status = C.SSHKEY_TEXT
+)
+
+// The bytes are no certificate, key or signature, or the line is none: a fault that they have. For
+// logs: lines with one fault may fail with different ones.
+const (
+	// ErrBase64 is for a word of a line that is no Base64, or not the one of its bytes.
+	ErrBase64 Status = C.SSHKEY_BASE64
+	// ErrCharacterEncoding is for a text that is not UTF-8, or has a character that no name has.
+	ErrCharacterEncoding Status = C.SSHKEY_CHARACTER_ENCODING
+	// ErrLabel is for a name that is none of those that may stand there.
+	ErrLabel Status = C.SSHKEY_LABEL
+	// ErrLength is for a stated length that passes the bytes or is not the one wanted, for a word
+	// of a line that is missing, and for what is too long for a string.
+	ErrLength Status = C.SSHKEY_LENGTH
+	// ErrTrailingData is for bytes behind the end.
+	ErrTrailingData Status = C.SSHKEY_TRAILING_DATA
+	// ErrFormat is for a value that does not keep the form of its kind.
+	ErrFormat Status = C.SSHKEY_FORMAT
+	// ErrAlgorithmUnknown is for two names that differ and have to be one, and for a point that
+	// begins with 00 or 05.
+	ErrAlgorithmUnknown Status = C.SSHKEY_ALGORITHM_UNKNOWN
+	// ErrCrypto is for a number in a signature that is not positive, and for a security key on
+	// another curve than P-256.
+	ErrCrypto Status = C.SSHKEY_CRYPTO
+	// ErrECDSA is for what is no encoding of a point.
+	ErrECDSA Status = C.SSHKEY_ECDSA
+	// ErrTime is for a time above 2^63 - 1 in a certificate.
+	ErrTime Status = C.SSHKEY_TIME
+	// ErrNamespace is for an empty namespace in an SSH signature.
+	ErrNamespace Status = C.SSHKEY_NAMESPACE
+	// ErrUnsupportedVersion is for an SSH signature of a version above 1.
+	ErrUnsupportedVersion Status = C.SSHKEY_UNSUPPORTED_VERSION
+)
+
+// What is wrong first with a certificate that is not valid, and why nothing is asked of a
+// signature.
+const (
+	// ErrNotSigned is for a certificate that the verifier did not take.
+	ErrNotSigned Status = C.SSHKEY_NOT_SIGNED
+	// ErrUntrustedAuthority is for one that none of the authorities signed.
+	ErrUntrustedAuthority Status = C.SSHKEY_UNTRUSTED_AUTHORITY
+	// ErrInvalidTime is for a time that is none: before 1970.
+	ErrInvalidTime Status = C.SSHKEY_INVALID_TIME
+	// ErrOutOfWindow is for a certificate that is not yet valid, or no longer.
+	ErrOutOfWindow Status = C.SSHKEY_OUT_OF_WINDOW
+	// ErrUnlistedPrincipal is for one that lists principals, and not this one.
+	ErrUnlistedPrincipal Status = C.SSHKEY_UNLISTED_PRINCIPAL
+	// ErrUnsupported is for a key and a signature that do not go together.
+	ErrUnsupported Status = C.SSHKEY_UNSUPPORTED
+	// ErrOtherNamespace is for an SSH signature that is for another namespace.
+	ErrOtherNamespace Status = C.SSHKEY_OTHER_NAMESPACE
+)
+
+// A draft of a certificate contradicts itself.
+const (
+	// ErrPrincipals is for a draft that lists none and does not say so, or says so and lists some.
+	ErrPrincipals Status = C.SSHKEY_PRINCIPALS
+	// ErrEmptyWindow is for a window that has no second.
+	ErrEmptyWindow Status = C.SSHKEY_EMPTY_WINDOW
+)
+
+// A host's key is not trusted: the first of these that holds.
+const (
+	// ErrHostRevoked is for a key that a line for the host revokes.
+	ErrHostRevoked Status = C.SSHKEY_HOST_REVOKED
+	// ErrHostUnreadable is for a text with a line that is no entry and may be one for the host.
+	ErrHostUnreadable Status = C.SSHKEY_HOST_UNREADABLE
+	// ErrHostChanged is for a host of which a line has another key, and none this one.
+	ErrHostChanged Status = C.SSHKEY_HOST_CHANGED
+	// ErrHostUnknown is for a host that no line without a marker is for.
+	ErrHostUnknown Status = C.SSHKEY_HOST_UNKNOWN
+)
+
+// Name is the name of the number in include/sshkey.h, without SSHKEY_: NOT_SIGNED, for example.
+func (status Status) Name() string {
+	return C.GoString(C.sshkey_answer_name(C.uint32_t(status)))
+}
+
+// Error is the name in words, and the number.
+func (status Status) Error() string {
+	words := strings.ReplaceAll(strings.ToLower(status.Name()), "_", " ")
+	return fmt.Sprintf("sshkey: %s (%d)", words, uint32(status))
+}

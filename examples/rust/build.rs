@@ -1,0 +1,30 @@
+//! Says where libsshkey.a is, which `make` in the folder examples builds: in the folder that
+//! SSHKEY_LIB_DIR names, or else in examples/out. The program `check` takes verify.o of there too,
+//! the cryptography of the examples in C, and libcrypto.
+
+use std::env;
+use std::path::PathBuf;
+
+fn main() {
+    let folder = env::var_os("SSHKEY_LIB_DIR").map_or_else(
+        || PathBuf::from(env!("CARGO_MANIFEST_DIR")).join("../out"),
+        PathBuf::from,
+    );
+    let (library, verifier) = (folder.join("libsshkey.a"), folder.join("verify.o"));
+    println!("cargo:rerun-if-env-changed=SSHKEY_LIB_DIR");
+    println!("cargo:rerun-if-changed={}", library.display());
+    println!("cargo:rerun-if-changed={}", verifier.display());
+    if !library.exists() {
+        println!(
+            "cargo:warning={} is not built: run make in the folder examples",
+            library.display()
+        );
+    }
+    println!("cargo:rustc-link-search=native={}", folder.display());
+    println!("cargo:rustc-link-lib=static:-bundle=sshkey");
+    // the library again, since verify.o takes a call of it, and linkers look only behind a use
+    for part in [verifier, library] {
+        println!("cargo:rustc-link-arg-bin=check={}", part.display());
+    }
+    println!("cargo:rustc-link-arg-bin=check=-lcrypto");
+}

@@ -1,0 +1,72 @@
+//! Digests, which are the fingerprints of keys.
+
+use std::fmt;
+
+use crate::raw;
+use crate::status::Status;
+
+/// How many bytes the texts of fingerprints have.
+const SHA256_TEXT: usize = 50;
+const SHA512_TEXT: usize = 93;
+
+/// A SHA-256 digest. Its text is that of a fingerprint, as ssh-keygen shows it.
+#[repr(C)]
+#[derive(Clone, Copy, Debug, PartialEq, Eq, PartialOrd, Ord, Hash)]
+pub struct Sha256 {
+    /// The digest's bytes.
+    pub bytes: [u8; 32],
+}
+
+/// A SHA-512 digest. Its text is that of a fingerprint, as ssh-keygen shows it.
+#[repr(C)]
+#[derive(Clone, Copy, Debug, PartialEq, Eq, PartialOrd, Ord, Hash)]
+pub struct Sha512 {
+    /// The digest's bytes.
+    pub bytes: [u8; 64],
+}
+
+/// The SHA-256 fingerprint of a key, given as its blob. Fails with a number from 10 to 29 where
+/// the bytes are no key, and with [`Status::MEMORY`].
+pub fn fingerprint(key: &[u8]) -> Result<Sha256, Status> {
+    let mut digest = Sha256 { bytes: [0; 32] };
+    // SAFETY: pointer and length are those of one slice, which is lent for longer than the call,
+    // and `digest` is a local variable that nothing else refers to.
+    Status::of(unsafe { raw::sshkey_fingerprint(key.as_ptr(), key.len(), &mut digest) })?;
+    Ok(digest)
+}
+
+/// The SHA-512 fingerprint of a key, given as its blob. Fails as [`fingerprint`] does.
+pub fn fingerprint_sha512(key: &[u8]) -> Result<Sha512, Status> {
+    let mut digest = Sha512 { bytes: [0; 64] };
+    // SAFETY: pointer and length are those of one slice, which is lent for longer than the call,
+    // and `digest` is a local variable that nothing else refers to.
+    Status::of(unsafe { raw::sshkey_fingerprint_sha512(key.as_ptr(), key.len(), &mut digest) })?;
+    Ok(digest)
+}
+
+/// Writes the text that the call has written to the room, which is ASCII.
+fn show(answer: u32, room: &[u8], formatter: &mut fmt::Formatter<'_>) -> fmt::Result {
+    Status::of(answer).map_err(|_| fmt::Error)?;
+    formatter.pad(std::str::from_utf8(room).map_err(|_| fmt::Error)?)
+}
+
+impl fmt::Display for Sha256 {
+    fn fmt(&self, formatter: &mut fmt::Formatter<'_>) -> fmt::Result {
+        let mut room = [0; SHA256_TEXT];
+        // SAFETY: pointer and length are those of one local array that nothing else refers to,
+        // and `self` is lent for longer than the call.
+        let answer = unsafe { raw::sshkey_fingerprint_text(self, room.as_mut_ptr(), room.len()) };
+        show(answer, &room, formatter)
+    }
+}
+
+impl fmt::Display for Sha512 {
+    fn fmt(&self, formatter: &mut fmt::Formatter<'_>) -> fmt::Result {
+        let mut room = [0; SHA512_TEXT];
+        let (front, length) = (room.as_mut_ptr(), room.len());
+        // SAFETY: pointer and length are those of one local array that nothing else refers to,
+        // and `self` is lent for longer than the call.
+        let answer = unsafe { raw::sshkey_fingerprint_sha512_text(self, front, length) };
+        show(answer, &room, formatter)
+    }
+}

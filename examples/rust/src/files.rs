@@ -1,0 +1,265 @@
+//! Lines of authorized_keys and known_hosts, and what known_hosts says of a key.
+
+use std::iter::FusedIterator;
+
+use crate::raw;
+use crate::rooms::ask;
+use crate::status::Status;
+
+/// The lines of a text that may be entries, lent of it.
+#[derive(Clone, Debug)]
+#[must_use = "an iterator asks nothing until it is asked"]
+pub struct EntryLines<'a> {
+    text: &'a [u8],
+    place: usize,
+}
+
+/// The lines of a text of authorized_keys or known_hosts that may be entries: those that are
+/// neither empty nor a comment, without the spaces and tabs at their front and without their ends.
+/// No item fails.
+pub fn entry_lines(text: &[u8]) -> EntryLines<'_> {
+    EntryLines { text, place: 0 }
+}
+
+impl<'a> Iterator for EntryLines<'a> {
+    type Item = Result<&'a [u8], Status>;
+
+    fn next(&mut self) -> Option<Self::Item> {
+        let (text, length) = (self.text.as_ptr(), self.text.len());
+        let mut part = raw::Part::default();
+        // SAFETY: pointer and length are those of one slice, which is lent for longer than the
+        // call, and `part` is a local variable that nothing else refers to.
+        let answer = unsafe { raw::sshkey_next_line(text, length, self.place, &mut part) };
+        match Status::of(answer) {
+            Ok(()) => {
+                self.place = part.end();
+                Some(Ok(part.of(self.text)))
+            }
+            Err(Status::END) => None,
+            Err(status) => {
+                self.place = length;
+                Some(Err(status))
+            }
+        }
+    }
+}
+
+impl FusedIterator for EntryLines<'_> {}
+
+/// A call that reads the entry of a line: line, room and answer.
+type ReadEntry = unsafe extern "C" fn(*const u8, usize, *mut u8, usize, *mut raw::Entry) -> u32;
+
+/// The room that a call has written, and where the parts of the entry of the line stand there.
+/// Fails as [`ask`] does.
+fn entry(call: ReadEntry, line: &[u8]) -> Result<(Vec<u8>, raw::Entry), Status> {
+    ask(line.len(), |room, answer| {
+        let (front, length) = (room.as_mut_ptr(), room.len());
+        // SAFETY: `call` is one of sshkey.h, which takes these; each pointer has the length of its
+        // slice beside it, the line is lent for longer than the call, and room and answer are each
+        // borrowed by it alone.
+        unsafe { call(line.as_ptr(), line.len(), front, length, answer) }
+    })
+}
+
+/// An entry of authorized_keys.
+#[derive(Clone, Debug, PartialEq, Eq)]
+pub struct AuthorizedEntry {
+    /// The options as they stand in the line; [`entry_options`] takes them apart.
+    pub options: Vec<u8>,
+    /// The key's blob in its normal form.
+    pub key: Vec<u8>,
+    /// All that follows.
+    pub comment: Vec<u8>,
+}
+
+/// The entry of a line of authorized_keys, as sshd reads it. Fails with a number from 10 to 29
+/// where the line is none, with [`Status::TEXT`] where it is not UTF-8, and with
+/// [`Status::MEMORY`].
+///
+/// Which options there may be is yours to judge. Let nobody in by an entry with the option
+/// cert-authority who only has that key, and refuse a line with a zero byte, where sshd ends it.
+pub fn authorized_entry(line: &[u8]) -> Result<AuthorizedEntry, Status> {
+    let (room, found) = entry(raw::sshkey_authorized_entry, line)?;
+    Ok(AuthorizedEntry {
+        options: found.front.of(&room).to_vec(),
+        key: found.key.of(&room).to_vec(),
+        comment: found.comment.of(&room).to_vec(),
+    })
+}
+
+/// What stands before an entry of known_hosts.
+#[derive(Clone, Copy, Debug, PartialEq, Eq, Hash)]
+pub enum Marker {
+    /// Nothing.
+    None = 0,
+    /// `@cert-authority`
+    CertAuthority = 1,
+    /// `@revoked`
+    Revoked = 2,
+}
+
+/// An entry of known_hosts.
+#[derive(Clone, Debug, PartialEq, Eq)]
+pub struct KnownHost {
+    /// What stands before it.
+    pub marker: Marker,
+    /// The hosts as they stand in the line.
+    pub hosts: Vec<u8>,
+    /// The key's blob in its normal form.
+    pub key: Vec<u8>,
+    /// All that follows.
+    pub comment: Vec<u8>,
+}
+
+/// The entry of a line of known_hosts, as ssh reads it. Fails as [`authorized_entry`] does, also
+/// where the line may be a revocation: to judge the key of a host, ask [`host_verdict`] about the
+/// whole text.
+pub fn known_host(line: &[u8]) -> Result<KnownHost, Status> {
+    let (room, found) = entry(raw::sshkey_known_host, line)?;
+    let markers = [Marker::None, Marker::CertAuthority, Marker::Revoked];
+    let marker = markers
+        .iter()
+        .copied()
+        .find(|it| *it as u32 == found.marker);
+    Ok(KnownHost {
+        marker: marker.ok_or(Status::OTHER_FAULT)?,
+        hosts: found.front.of(&room).to_vec(),
+        key: found.key.of(&room).to_vec(),
+        comment: found.comment.of(&room).to_vec(),
+    })
+}
+
+/// An option of an entry of authorized_keys.
+#[derive(Clone, Debug, PartialEq, Eq)]
+pub struct EntryOption {
+    /// Its name as it stands in the line. Compare names without case.
+    pub name: Vec<u8>,
+    /// Its value, if it has one, without its quotes.
+    pub value: Option<Vec<u8>>,
+}
+
+/// The options of an entry, of which each takes time for the whole text: bound the length of lines
+/// that others write.
+#[derive(Clone, Debug)]
+#[must_use = "an iterator asks nothing until it is asked"]
+pub struct EntryOptions<'a> {
+    text: &'a [u8],
+    number: Option<usize>,
+}
+
+/// The options of an entry of authorized_keys. Where the text is no list of options, also behind
+/// its first ones, the only item is [`Status::FORMAT`], or [`Status::TEXT`] where it is not UTF-8;
+/// the last may be [`Status::MEMORY`].
+///
+/// Refuse an entry with an option that you do not know, one that comes twice (but for environment,
+/// permitlisten and permitopen), and one without a value that needs one, as `command` alone.
+pub fn entry_options(text: &[u8]) -> EntryOptions<'_> {
+    EntryOptions {
+        text,
+        number: Some(0),
+    }
+}
+
+impl EntryOptions<'_> {
+    /// The option of that number. Fails with [`Status::END`] where there is none.
+    fn option(&self, number: usize) -> Result<EntryOption, Status> {
+        let (room, found) = ask(
+            self.text.len(),
+            |room, answer: &mut raw::EntryOptionParts| {
+                let (text, length) = (self.text.as_ptr(), self.text.len());
+                let (front, room_length) = (room.as_mut_ptr(), room.len());
+                // SAFETY: each pointer has the length of its slice beside it; the text is lent for
+                // longer than the call, and room and answer are each borrowed by it alone.
+                unsafe { raw::sshkey_nth_option(text, length, number, front, room_length, answer) }
+            },
+        )?;
+        let value = found.value.of(&room);
+        let name = found.name.of(&room).to_vec();
+        Ok(EntryOption {
+            name,
+            value: (found.has_value != 0).then(|| value.to_vec()),
+        })
+    }
+}
+
+impl Iterator for EntryOptions<'_> {
+    type Item = Result<EntryOption, Status>;
+
+    fn next(&mut self) -> Option<Self::Item> {
+        let number = self.number.take()?;
+        match self.option(number) {
+            Err(Status::END) => None,
+            found => {
+                self.number = found.is_ok().then(|| number + 1);
+                Some(found)
+            }
+        }
+    }
+}
+
+impl FusedIterator for EntryOptions<'_> {}
+
+/// A call that judges a key: a text of known_hosts, a host, a port and the key.
+type Judge = unsafe extern "C" fn(*const u8, usize, *const u8, usize, u16, *const u8, usize) -> u32;
+
+fn judged(
+    call: Judge,
+    known_hosts: &[u8],
+    host: &[u8],
+    port: u16,
+    key: &[u8],
+) -> Result<(), Status> {
+    // SAFETY: `call` is one of sshkey.h, which takes these; each pointer has the length of its
+    // slice beside it, and the slices are lent for longer than the call, which writes nothing.
+    Status::of(unsafe {
+        call(
+            known_hosts.as_ptr(),
+            known_hosts.len(),
+            host.as_ptr(),
+            host.len(),
+            port,
+            key.as_ptr(),
+            key.len(),
+        )
+    })
+}
+
+/// Whether a text of known_hosts trusts the key, given as its blob, for a host (a name or an
+/// address, without brackets) at a port. Fails with [`Status::HOST_REVOKED`],
+/// [`Status::HOST_UNREADABLE`], [`Status::HOST_CHANGED`] or [`Status::HOST_UNKNOWN`] for what it
+/// says else, with a number from 10 to 29 where the bytes are no key, with [`Status::TEXT`] where
+/// the text or the host is not UTF-8, and with [`Status::MEMORY`]. For a port other than 22, where
+/// it is `HOST_UNKNOWN`, ssh(1) asks about port 22 too.
+pub fn host_verdict(
+    known_hosts: &[u8],
+    host: impl AsRef<[u8]>,
+    port: u16,
+    key: &[u8],
+) -> Result<(), Status> {
+    judged(
+        raw::sshkey_host_verdict,
+        known_hosts,
+        host.as_ref(),
+        port,
+        key,
+    )
+}
+
+/// The same of the key of an authority that signed a certificate of the host: whether an entry
+/// `@cert-authority` for the host has it, and neither is it revoked nor a line that may be the
+/// host's unreadable. Fails as [`host_verdict`] does, never with [`Status::HOST_CHANGED`], and
+/// with [`Status::HOST_UNKNOWN`] where no such entry has it.
+pub fn authority_verdict(
+    known_hosts: &[u8],
+    host: impl AsRef<[u8]>,
+    port: u16,
+    key: &[u8],
+) -> Result<(), Status> {
+    judged(
+        raw::sshkey_authority_verdict,
+        known_hosts,
+        host.as_ref(),
+        port,
+        key,
+    )
+}

@@ -1,0 +1,166 @@
+//! Lines of keys and certificates, what keys sign, and normal forms.
+
+use crate::digests::Sha256;
+use crate::questions::Question;
+use crate::raw;
+use crate::rooms::{ask, written};
+use crate::status::Status;
+
+/// `SSHKEY_LINE_CERTIFICATE`; that of a key is 1.
+pub(crate) const CERTIFICATE: u32 = 2;
+
+/// What stands in a line of a file of public keys or of certificates.
+#[derive(Clone, Debug, PartialEq, Eq)]
+pub struct Line {
+    /// The blob of the key or of the certificate.
+    pub blob: Vec<u8>,
+    /// What stands behind it, which may be empty.
+    pub comment: String,
+    /// Whether the blob is one of a certificate.
+    pub is_certificate: bool,
+}
+
+/// What stands in a line of a file of public keys (`id_ed25519.pub`) or of certificates
+/// (`id_ed25519-cert.pub`). Fails with a number from 10 to 29 where it is a line of neither, and
+/// with [`Status::MEMORY`].
+pub fn read_line(line: impl AsRef<[u8]>) -> Result<Line, Status> {
+    let line = line.as_ref();
+    let (room, found) = ask(line.len(), |room: &mut [u8], answer: &mut raw::Line| {
+        let (front, length) = (room.as_mut_ptr(), room.len());
+        // SAFETY: each pointer has the length of its slice beside it; line and room are lent for
+        // longer than the call, and room and answer are each borrowed by it alone.
+        unsafe { raw::sshkey_read_line(line.as_ptr(), line.len(), front, length, answer) }
+    })?;
+    let comment = String::from_utf8(found.comment.of(&room).to_vec());
+    Ok(Line {
+        blob: found.blob.of(&room).to_vec(),
+        comment: comment.map_err(|_| Status::CHARACTER_ENCODING)?,
+        is_certificate: found.kind == CERTIFICATE,
+    })
+}
+
+/// What has to be verified of a signature of the message under a key, both given as their blobs
+/// (RFC 4253, section 6.6): as an agent gives it, or a client at a login. Fails with a number from
+/// 10 to 29 where they are none, with [`Status::UNSUPPORTED`] where they do not go together, and
+/// with [`Status::MEMORY`].
+pub fn signature_question(
+    key: &[u8],
+    message: &[u8],
+    signature: &[u8],
+) -> Result<Question, Status> {
+    let enough = [key, message, signature]
+        .iter()
+        .fold(256, |sum: usize, it| sum.saturating_add(it.len()));
+    Question::of_call(enough, |room, answer| {
+        // SAFETY: each pointer has the length of its slice beside it; the slices are lent for
+        // longer than the call, and room and answer are each borrowed by it alone.
+        unsafe {
+            raw::sshkey_signature_question(
+                key.as_ptr(),
+                key.len(),
+                message.as_ptr(),
+                message.len(),
+                signature.as_ptr(),
+                signature.len(),
+                room.as_mut_ptr(),
+                room.len(),
+                answer,
+            )
+        }
+    })
+}
+
+/// What has to be verified of an SSH signature (what stands in its armour, Base64 decoded) of the
+/// message in that namespace, and the fingerprint of the key that signed, which has to be one that
+/// you trust for that namespace: [`judge_sshsig`] asks both. Fails with a number from 10 to 29
+/// where the bytes are none, with [`Status::OTHER_NAMESPACE`], with [`Status::UNSUPPORTED`] where
+/// key and signature do not go together, and with [`Status::MEMORY`].
+pub fn sshsig_question(
+    signature: &[u8],
+    namespace: impl AsRef<[u8]>,
+    message: &[u8],
+) -> Result<(Question, Sha256), Status> {
+    let namespace = namespace.as_ref();
+    let enough = signature.len().saturating_mul(2).saturating_add(256);
+    let mut signer = Sha256 { bytes: [0; 32] };
+    let question = Question::of_call(enough, |room, answer| {
+        // SAFETY: each pointer has the length of its slice beside it; the slices are lent for
+        // longer than the call, and room, answer and signer are each borrowed by it alone.
+        unsafe {
+            raw::sshkey_sshsig_question(
+                signature.as_ptr(),
+                signature.len(),
+                namespace.as_ptr(),
+                namespace.len(),
+                message.as_ptr(),
+                message.len(),
+                room.as_mut_ptr(),
+                room.len(),
+                answer,
+                &mut signer,
+            )
+        }
+    })?;
+    Ok((question, signer))
+}
+
+/// Whether an SSH signature is one of the message in that namespace, by one of the signers, which
+/// are those that you trust for it: `verify` answers its question. Fails as [`sshsig_question`]
+/// does, with [`Status::NOT_SIGNED`] where `verify` says no, and with
+/// [`Status::UNTRUSTED_AUTHORITY`] where another signed.
+pub fn judge_sshsig(
+    signature: &[u8],
+    namespace: impl AsRef<[u8]>,
+    message: &[u8],
+    signers: &[Sha256],
+    verify: impl FnOnce(&Question) -> bool,
+) -> Result<(), Status> {
+    let (question, signer) = sshsig_question(signature, namespace, message)?;
+    if !verify(&question) {
+        return Err(Status::NOT_SIGNED);
+    }
+    if !signers.contains(&signer) {
+        return Err(Status::UNTRUSTED_AUTHORITY);
+    }
+    Ok(())
+}
+
+/// A call that writes what it makes of some bytes to a room: bytes, room, and the length of what
+/// is written.
+pub(crate) type Write = unsafe extern "C" fn(*const u8, usize, *mut u8, usize, *mut usize) -> u32;
+
+/// What a call writes of the bytes, which is never longer than they are. Fails with what the call
+/// answers, and with [`Status::MEMORY`].
+pub(crate) fn written_of(call: Write, bytes: &[u8]) -> Result<Vec<u8>, Status> {
+    written(bytes.len(), |room, length| {
+        let (front, room_length) = (room.as_mut_ptr(), room.len());
+        // SAFETY: `call` is one of sshkey.h, which takes bytes and a room; each pointer has the
+        // length of its slice beside it, the bytes are lent for longer than the call, and room and
+        // length are each borrowed by it alone.
+        unsafe { call(bytes.as_ptr(), bytes.len(), front, room_length, length) }
+    })
+}
+
+/// The normal form of a key, given as its blob: two keys are the same exactly if theirs are. Fails
+/// with a number from 10 to 29 where the bytes are none, and with [`Status::MEMORY`].
+pub fn normal_key(key: &[u8]) -> Result<Vec<u8>, Status> {
+    written_of(raw::sshkey_key_normal, key)
+}
+
+/// The normal form of a certificate, given as its blob. Fails with a number from 10 to 29 where
+/// the bytes are none, and with [`Status::MEMORY`].
+pub fn normal_certificate(certificate: &[u8]) -> Result<Vec<u8>, Status> {
+    written_of(raw::sshkey_certificate_normal, certificate)
+}
+
+/// The normal form of an SSH signature. Fails with a number from 10 to 29 where the bytes are
+/// none, and with [`Status::MEMORY`].
+pub fn normal_sshsig(signature: &[u8]) -> Result<Vec<u8>, Status> {
+    written_of(raw::sshkey_sshsig_normal, signature)
+}
+
+/// The normal form of a signature as [`signature_question`] takes it: the bytes themselves. Fails
+/// with a number from 10 to 29 where they are none.
+pub fn normal_signature(signature: &[u8]) -> Result<Vec<u8>, Status> {
+    written_of(raw::sshkey_signature_normal, signature)
+}

@@ -1,0 +1,63 @@
+//! Certificates, signatures, keys, authorized_keys and known_hosts of OpenSSH, by the proved
+//! library that include/sshkey.h declares. This crate is tested, and not proved.
+//!
+//! Cryptography is yours: a call tells the question that has to be verified, and a function of
+//! yours answers it.
+//!
+//! ```
+//! use sshkey::{Question, Sha256, Status};
+//!
+//! /// Whether the signature is one of the message under the key, by your library.
+//! fn is_signature(question: &Question) -> bool {
+//! #   let _ = question;
+//!     false
+//! }
+//!
+//! /// Whether the line of a certificate is valid for alice.
+//! fn judge(line: &str, second: u64, authorities: &[Sha256]) -> Result<(), Status> {
+//!     let certificate = sshkey::read_line(line)?.blob;
+//!     sshkey::judge_certificate(&certificate, second, "alice".into(), authorities, is_signature)
+//! }
+//! # assert_eq!(judge("ssh-ed25519", 0, &[]), Err(Status::LENGTH));
+//! ```
+//!
+//! The library is libsshkey.a of the folder that SSHKEY_LIB_DIR names when this crate is built, or
+//! else of examples/out, where `make` in the folder examples puts it.
+//!
+//! Each function says what it fails with: a [`Status`], of which [`Status::MEMORY`] says nothing
+//! of the input. What is lent of the input stands in it, and nothing is kept of it. Calls from
+//! several threads at once are fine; make none from a signal handler, or from the forked child of
+//! a process with threads. A part that lay outside its bytes, which no call answers, as is proved,
+//! would be a panic.
+#![deny(unsafe_op_in_unsafe_fn, missing_docs)]
+
+mod certificates;
+mod digests;
+mod drafts;
+mod files;
+mod keys;
+mod questions;
+pub mod raw;
+mod rooms;
+mod status;
+mod strings;
+
+pub use certificates::{
+    certificate_contents, certificate_fields, certificate_key, certificate_options,
+    certificate_question, judge_certificate, validate_certificate, CertificateContents,
+    CertificateFields, CertificateOption, CertificateOptions, CertificateType, Principal,
+    Principals, FOREVER,
+};
+pub use digests::{fingerprint, fingerprint_sha512, Sha256, Sha512};
+pub use drafts::{certificate_to_be_signed, join_certificate, make_certificate, Draft, Listed};
+pub use files::{
+    authority_verdict, authorized_entry, entry_lines, entry_options, host_verdict, known_host,
+    AuthorizedEntry, EntryLines, EntryOption, EntryOptions, KnownHost, Marker,
+};
+pub use keys::{
+    judge_sshsig, normal_certificate, normal_key, normal_signature, normal_sshsig, read_line,
+    signature_question, sshsig_question, Line,
+};
+pub use questions::{Algorithm, Question};
+pub use status::Status;
+pub use strings::{string, strings, Strings};

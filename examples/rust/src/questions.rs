@@ -1,0 +1,93 @@
+//! What has to be verified.
+
+use crate::raw;
+use crate::rooms::ask;
+use crate::status::Status;
+
+/// How a signature is made. The key's blob is strings ([`strings`](crate::strings()) goes over
+/// them), of which the first is the name of its type; numbers in them are mpints, and numbers that
+/// are not positive, or a point that does not begin with 04, have to be refused.
+#[derive(Clone, Copy, Debug, PartialEq, Eq, Hash)]
+#[non_exhaustive]
+pub enum Algorithm {
+    /// With SHA-1. Behind the name p, q, g, y; signature: r and s, unsigned, 20 bytes each.
+    Dsa = 1,
+    /// ECDSA with SHA-256. Behind the name the curve's name, and the point as in SEC 1; signature:
+    /// two strings, r and s.
+    P256 = 2,
+    /// The same with SHA-384.
+    P384 = 3,
+    /// The same with SHA-512.
+    P521 = 4,
+    /// Behind the name the key, 32 bytes; signature: 64 bytes.
+    Ed25519 = 5,
+    /// PKCS#1 v1.5 with SHA-256. Behind the name e and n; signature: an unsigned number.
+    RsaSha256 = 6,
+    /// The same with SHA-512.
+    RsaSha512 = 7,
+}
+
+impl Algorithm {
+    /// The algorithm of that number of sshkey.h, if there is one.
+    pub(crate) fn of(number: u32) -> Option<Algorithm> {
+        use Algorithm::{Dsa, Ed25519, RsaSha256, RsaSha512, P256, P384, P521};
+        let all = [Dsa, P256, P384, P521, Ed25519, RsaSha256, RsaSha512];
+        all.iter().copied().find(|it| *it as u32 == number)
+    }
+}
+
+/// What has to be verified: that the signature is one of the message under the key, made as the
+/// algorithm says. For a security key the key is the plain one within.
+#[derive(Clone, Debug)]
+pub struct Question {
+    algorithm: Algorithm,
+    room: Vec<u8>,
+    answer: raw::Question,
+}
+
+impl Question {
+    /// The question that a call writes, which is given a room of that length. Fails as [`ask`]
+    /// does, and with [`Status::UNSUPPORTED`] for an algorithm that has no name here.
+    pub(crate) fn of_call(
+        length: usize,
+        call: impl FnMut(&mut [u8], &mut raw::Question) -> u32,
+    ) -> Result<Question, Status> {
+        let (room, answer) = ask(length, call)?;
+        let algorithm = Algorithm::of(answer.algorithm).ok_or(Status::UNSUPPORTED)?;
+        Ok(Question {
+            algorithm,
+            room,
+            answer,
+        })
+    }
+
+    /// How the signature is made.
+    #[must_use]
+    pub fn algorithm(&self) -> Algorithm {
+        self.algorithm
+    }
+
+    /// The key's blob.
+    #[must_use]
+    pub fn key(&self) -> &[u8] {
+        self.answer.key.of(&self.room)
+    }
+
+    /// What is signed.
+    #[must_use]
+    pub fn message(&self) -> &[u8] {
+        self.answer.message.of(&self.room)
+    }
+
+    /// The signature.
+    #[must_use]
+    pub fn signature(&self) -> &[u8] {
+        self.answer.signature.of(&self.room)
+    }
+
+    /// The struct of sshkey.h, and the room in which its parts stand, for a verifier in C.
+    #[must_use]
+    pub fn as_raw(&self) -> (&raw::Question, &[u8]) {
+        (&self.answer, &self.room)
+    }
+}
