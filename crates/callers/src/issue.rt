@@ -12,7 +12,16 @@ use std::num::NonZeroU64;
 /// The line of the certificate that an authority gives, or why it gives none: what may be asked for,
 /// the next serial number, the time, the authority's key, what is asked for, and the nonce.
 pub(crate) fn answer(alloc: Global, words: &[&str], told: &Told) -> Result<String> {
-    let [principals, extensions, longest, serial, second, signer, asked @ ..] = words else {
+    let [
+        principals,
+        extensions,
+        longest,
+        serial,
+        second,
+        signer,
+        asked @ ..,
+    ] = words
+    else {
         return Err(NO_LINE);
     };
     let limits = Limits {
@@ -34,13 +43,28 @@ pub(crate) fn answer(alloc: Global, words: &[&str], told: &Told) -> Result<Strin
     };
     let nonce = bytes(alloc, nonce)?;
     authority
-        .issue(alloc, request(alloc, asked)?, number(second)?, nonce, &signer)?
+        .issue(
+            alloc,
+            request(alloc, asked)?,
+            number(second)?,
+            nonce,
+            &signer,
+        )?
         .to_openssh(alloc)
 }
 
 /// What is asked for: the line of a key, the key id, the users, the extensions and the window.
 fn request(alloc: Global, words: &[&str]) -> Result<Request> {
-    let [key, key_id, principals, extensions, valid_after, valid_before, _] = words else {
+    let [
+        key,
+        key_id,
+        principals,
+        extensions,
+        valid_after,
+        valid_before,
+        _,
+    ] = words
+    else {
         return Err(NO_LINE);
     };
     let key = PublicKey::from_openssh(alloc, key)?;
