@@ -313,11 +313,12 @@ typedef struct {
   sshkey_span key;              /* the blob of the key that is certified */
   sshkey_span nonce;            /* random bytes of yours: 16 or 32 */
   sshkey_span key_id;           /* a text, for logs */
-  sshkey_span principals;       /* strings, one behind the other */
+  sshkey_span principals;       /* strings, one behind the other: refuse a zero byte in one, since
+                                   sshd takes the name to end there, and so for another user's */
   sshkey_span critical_options; /* as sshkey_next_option reads them, with rising names */
   sshkey_span extensions;       /* likewise */
   sshkey_span authority;        /* the blob of the key that is to sign */
-  uint64_t serial;
+  uint64_t serial;           /* not 0: to OpenSSH that is none, and no KRL can name it */
   uint64_t valid_after;      /* the first second of its window, since 1970 */
   uint64_t valid_before;     /* the first second behind its window, or SSHKEY_FOREVER */
   uint32_t certificate_type; /* SSHKEY_USER or SSHKEY_HOST */

@@ -289,6 +289,11 @@ def check_issued(count, built, sshkey, check, maker, is_verified):
     shown = ssh_keygen("-L", "-f", maker.path("holder-cert.pub"), text=True, check=False).stdout
     same = shown_under(shown, "Principals") == ["alice", "bob"] and shown_under(shown, "Key ID") == ["\"holder's key\""]
     count.check("ssh-keygen shows what it says", same and shown_under(shown, "Extensions") == ["permit-pty"], shown)
+    number = shown_under(shown, "Serial")[0]
+    maker.write("numbers", f"serial: {number}\n")
+    words = ["-k", "-f", maker.path("krl"), "-s", maker.path("issuer.pub"), maker.path("numbers")]
+    listed = ssh_keygen(*words, text=True, check=False)
+    count.check("ssh-keygen can revoke it by its number", listed.returncode == 0 and 0 < int(number) < 2**63, number, listed.stderr)
     blob, second = base64.b64decode(issued.stdout.split()[1]), int(sshkey.certificate_fields(base64.b64decode(issued.stdout.split()[1])).valid_after)
     by = [sshkey.fingerprint(blob_in(maker, "issuer"))]
     for principal, wanted in (("alice", "DONE"), ("eve", "UNLISTED_PRINCIPAL")):

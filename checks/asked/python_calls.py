@@ -35,12 +35,16 @@ def check_truth(count, sshkey, check):
 
 
 def check_principals(count, sshkey, key, authority):
-    """One name is no list of names, and neither is None."""
+    """One name is no list of names, and neither is None. A name has no zero byte."""
     wanted = ("TypeError", "principals is a list of names")
     for one in ("alice", b"alice", bytearray(b"alice"), memoryview(b"alice"), "", None):
         found = raised(sshkey.certificate_to_be_signed, key, authority, principals=one)
         made = raised(sshkey.make_certificate, key, authority, lambda message: b"", principals=one)
         count.check(f"the principals {one!r:.24} are no list", found == made == wanted, found, made)
+    for one in ("alice\0", "\0", b"al\0ice"):
+        found = raised(sshkey.certificate_to_be_signed, key, authority, principals=["bob", one])
+        wanted = ("ValueError", f"a zero byte stands in the principal {one!r}")
+        count.check(f"the principal {one!r} is refused, which sshd cuts off", found == wanted, found)
     found = raised(sshkey.certificate_to_be_signed, key, authority)
     count.check("principals have to be given", found is not None and found[0] == "TypeError", found)
     found = raised(sshkey.certificate_to_be_signed, key, authority, principals=[])

@@ -1,5 +1,6 @@
 #!/usr/bin/env python3
-"""Issues a certificate of a user's key, valid from now on. The package `cryptography` signs.
+"""Issues a certificate of a user's key, valid from now on, under a random serial number, by which it can be revoked. The package
+`cryptography` signs.
 
     issue.py AUTHORITY KEY.pub KEY-ID SECONDS PRINCIPAL.. >KEY-cert.pub
 
@@ -10,6 +11,7 @@ KEY-ID has a character that can't be printed.
 from __future__ import annotations
 
 import base64
+import secrets
 import sys
 import time
 from collections.abc import Sequence
@@ -64,8 +66,8 @@ def issue(signer: Ed25519PrivateKey, key: bytes, key_id: str, seconds: int, prin
         return sshkey.string("ssh-ed25519") + sshkey.string(signer.sign(message))
 
     made = sshkey.make_certificate(
-        key, by, sign, principals=principals, key_id=key_id, valid_after=now, valid_before=now + seconds,
-        extensions={"permit-pty": ""},
+        key, by, sign, principals=principals, key_id=key_id, serial=1 + secrets.randbelow(2**63 - 1), valid_after=now,
+        valid_before=now + seconds, extensions={"permit-pty": ""},
     )  # fmt: skip
     status = check.judge(made, now, principals[0], [sshkey.fingerprint(by)])
     if status != sshkey.Status.DONE:

@@ -13,7 +13,7 @@ use Rattle.ssh_key.specs.model.Names.{Sha256}
 use Rattle.ssh_key.specs.model.Verification.{Question}
 use Rattle.ssh_key.specs.types.Certificate.{Certificate}
 use Rattle.ssh_key.specs.types.Error.{Error}
-use Rattle.authority.specs.Requests.{CertifiesExactly, fields_for, names_of}
+use Rattle.authority.specs.Requests.{CertifiesExactly, extensions_of, fields_for, names_of}
 use Rattle.authority.specs.declared.request.Request.{Request}
 use Rattle.authority.proofs.Drafts.{draft_for, not_none, signed_fields, some_names, with_names}
 
@@ -35,25 +35,25 @@ names_some : (names : List (List ℕ)) → IsSome (with_names names) → names �
 names_some [] some = absurd cc
 names_some (n ∷ names) some = λ none. absurd cc
 
-pub permitted : (permits : List ℕ → Type 0) (authority : Key) (r : Request) (serial : ℕ) (nonce : List ℕ) (d : Draft) → d ≡ draft_for nonce (key_of r.key) serial (string_bytes r.key_id) (names_of r) r.valid_after r.valid_before → (names_of r ≢ [] → PermitsToSign permits (fields_for r serial nonce authority)) → IsSome d.valid_principals → PermitsToSign permits (drafted d authority)
+pub permitted : (permits : List ℕ → Type 0) (authority : Key) (r : Request) (serial : ℕ) (nonce : List ℕ) (d : Draft) → d ≡ draft_for nonce (key_of r.key) serial (string_bytes r.key_id) (names_of r) (extensions_of r) r.valid_after r.valid_before → (names_of r ≢ [] → PermitsToSign permits (fields_for r serial nonce authority)) → IsSome d.valid_principals → PermitsToSign permits (drafted d authority)
 permitted permits authority r serial nonce d is may some =
     let named = names_some (names_of r) (subst (λ (x : Draft). IsSome x.valid_principals) is some) in
-    subst (λ (x : Draft). PermitsToSign permits (drafted x authority)) (sym is) (subst (PermitsToSign permits) (sym (signed_fields nonce (key_of r.key) serial (string_bytes r.key_id) (names_of r) r.valid_after r.valid_before authority named)) (may named))
+    subst (λ (x : Draft). PermitsToSign permits (drafted x authority)) (sym is) (subst (PermitsToSign permits) (sym (signed_fields nonce (key_of r.key) serial (string_bytes r.key_id) (names_of r) (extensions_of r) r.valid_after r.valid_before authority named)) (may named))
 
 -- ---- signed
 
 no_error : (c : Certificate) → Ok c ≡ Err no_principals → ⊥
 no_error c same = cc
 
-pub certified : (accepts : Question → Bool) (authority : Key) (refuses : List ℕ → Error → Type 0) (r : Request) (serial : ℕ) (nonce : List ℕ) (d : Draft) → d ≡ draft_for nonce (key_of r.key) serial (string_bytes r.key_id) (names_of r) r.valid_after r.valid_before → (result : Result Certificate Error) → (IsNone d.valid_principals → result ≡ Err no_principals) → IfOk result (λ c. IsSignedDraft accepts authority d (certificate_of c)) → IfOk result (λ c. comment_of c ≡ or_default [] d.comment) → IfOk result (λ c. IsValidExactlyIn accepts (fingerprint Sha256 authority) d.valid_after d.valid_before (certificate_of c)) → (IsSome d.valid_principals → IfErr result (RefusesToSign refuses (drafted d authority))) → CertifiesExactly accepts authority refuses r serial nonce result
+pub certified : (accepts : Question → Bool) (authority : Key) (refuses : List ℕ → Error → Type 0) (r : Request) (serial : ℕ) (nonce : List ℕ) (d : Draft) → d ≡ draft_for nonce (key_of r.key) serial (string_bytes r.key_id) (names_of r) (extensions_of r) r.valid_after r.valid_before → (result : Result Certificate Error) → (IsNone d.valid_principals → result ≡ Err no_principals) → IfOk result (λ c. IsSignedDraft accepts authority d (certificate_of c)) → IfOk result (λ c. comment_of c ≡ or_default [] d.comment) → IfOk result (λ c. IsValidExactlyIn accepts (fingerprint Sha256 authority) d.valid_after d.valid_before (certificate_of c)) → (IsSome d.valid_principals → IfErr result (RefusesToSign refuses (drafted d authority))) → CertifiesExactly accepts authority refuses r serial nonce result
 certified accepts authority refuses r serial nonce d is (Ok c) unnamed signed comment valid refused =
     let none = rw is at unnamed in
     let some = not_none (names_of r) (λ nobody. no_error c (none nobody)) in
     record {
-      fields = signed.fields ∙ rw is (signed_fields nonce (key_of r.key) serial (string_bytes r.key_id) (names_of r) r.valid_after r.valid_before authority some);
+      fields = signed.fields ∙ rw is (signed_fields nonce (key_of r.key) serial (string_bytes r.key_id) (names_of r) (extensions_of r) r.valid_after r.valid_before authority some);
       no_comment = rw is at comment;
       valid = rw is at valid;
     }
 certified accepts authority refuses r serial nonce d is (Err e) unnamed signed comment valid refused = λ window some.
     let why = rw is at refused in
-    subst (λ (s : SignedFields). RefusesToSign refuses s e) (signed_fields nonce (key_of r.key) serial (string_bytes r.key_id) (names_of r) r.valid_after r.valid_before authority some) (why (some_names (names_of r) some))
+    subst (λ (s : SignedFields). RefusesToSign refuses s e) (signed_fields nonce (key_of r.key) serial (string_bytes r.key_id) (names_of r) (extensions_of r) r.valid_after r.valid_before authority some) (why (some_names (names_of r) some))

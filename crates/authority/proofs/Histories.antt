@@ -20,3 +20,6 @@ rising from to [] h i j less lt = absurd (omega (arith, lt))
 rising from to (s ∷ ss) h i zero less lt = absurd (omega (arith, less))
 rising from to (s ∷ ss) h zero (suc j) less lt = let r = above (s + 1) to ss h.1 j (omega (arith, lt)) in omega (arith, r)
 rising from to (s ∷ ss) h (suc i) (suc j) less lt = rising (s + 1) to ss h.1 i j (omega (arith, less)) (omega (arith, lt))
+
+pub positive : (from to : ℕ) (given : List ℕ) → 0 < from → IsHistory from given to → (i : ℕ) → i < length given → 0 < slice_index given i
+positive from to given some h i lt = let r = above from to given h i lt in omega (arith, r, some)

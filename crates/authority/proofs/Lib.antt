@@ -1,5 +1,6 @@
 mod Certified
 mod Drafts
+mod Forms
 mod Histories
 mod Lists
 mod Requests

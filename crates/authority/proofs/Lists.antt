@@ -5,6 +5,7 @@ use Rattle.std.specs.List.{list_any, list_all}
 use Rattle.std.proofs.lemmas.List.Folds.{list_all-map}
 use Rattle.std.proofs.lemmas.List.Sums.{AllPass-from_list_all, list_all-from_AllPass}
 use Rattle.std.proofs.lemmas.Slice.Eq.{bytes_eq-Decides}
+use Rattle.authority.specs.Requests.{IsListed, is_listed}
 
 -- a test of each element decides `All`
 pub all_passed : {X : Type 0} (p : X → Bool) (P : X → Type 0) → ((x : X) → (p x ≡ true) ↔ P x) → (xs : List X) → (list_all p xs ≡ true) ↔ All P xs
@@ -37,10 +38,16 @@ found : {Y : Type 0} (name : List ℕ) (x : String Y) (xs : List (String Y)) →
 found name x xs rest (zero, lt, is) = let same : bytes_eq name (string_bytes x) ≡ true = (bytes_eq-Decides _ _).1 (sym is) in rw same refl
 found name x xs rest (suc k, lt, is) = second _ _ (rest (k, omega arith, is))
 
-pub listed : {Y : Type 0} (name : List ℕ) (xs : List (String Y)) → (list_any (λ x. bytes_eq name (string_bytes x)) xs ≡ true) ↔ Contains (map string_bytes xs) name
-listed name [] = (λ e. absurd cc, λ some. absurd (omega (arith, some.1)))
-listed name (x ∷ xs) = (λ e. here_or_behind name x xs (listed name xs).0 (either _ _ e), found name x xs (listed name xs).1)
+pub any_listed : {Y : Type 0} (name : List ℕ) (xs : List (String Y)) → (list_any (λ x. bytes_eq name (string_bytes x)) xs ≡ true) ↔ Contains (map string_bytes xs) name
+any_listed name [] = (λ e. absurd cc, λ some. absurd (omega (arith, some.1)))
+any_listed name (x ∷ xs) = (λ e. here_or_behind name x xs (any_listed name xs).0 (either _ _ e), found name x xs (any_listed name xs).1)
 
 pub some_mapped : {X Y : Type 0} (f : X → Y) (xs : List X) → (length xs == 0) ≡ false → map f xs ≢ []
 some_mapped f [] some = absurd cc
 some_mapped f (x ∷ xs) some = λ none. absurd cc
+
+-- what the test of all names says
+pub each_listed : {Y : Type 0} (names : List (String Y)) (listed : List (String Y)) (answer : Bool) → answer ≡ list_all (λ name. is_listed listed (string_bytes name)) names → (answer ≡ true) ↔ All (IsListed listed) (map string_bytes names)
+each_listed names listed answer is =
+    let both = all_mapped (is_listed listed) (IsListed listed) string_bytes (λ name. any_listed name listed) names in
+    (λ e. both.0 (sym is ∙ e), λ all. is ∙ both.1 all)

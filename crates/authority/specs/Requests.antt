@@ -1,15 +1,19 @@
 -- What an authority certifies.
-use Rattle.std.specs.Prelude.{◌≡◌, ◌≢◌, ◌⊎◌, ℕ, ◌+◌, ◌^◌, ◌<◌, ◌≤◌, List, [], Bool, All, Contains, Result, Ok, Err, None, map, string_bytes, bytes_eq}
+use Rattle.std.specs.Prelude.{◌≡◌, ◌≢◌, ◌⊎◌, ℕ, ◌+◌, ◌^◌, ◌<◌, ◌≤◌, List, [], ◌∷◌, Bool, false, All, Contains, Option, Result, Ok, Err, None, Some, String, map, string_bytes, bytes_eq}
 use Rattle.std.specs.List.{list_any}
+use Rattle.std.specs.NonZero.{non_zero_u64_get}
 use Rattle.ssh_key.specs.builder.Builders.{IsValidExactlyIn, draft_of}
 use Rattle.ssh_key.specs.cert.CertificateValues.{certificate_of, comment_of}
 use Rattle.ssh_key.specs.cert.Signing.{PermitsToSign, RefusesToSign}
+use Rattle.ssh_key.specs.keys.KeyKinds.{is_opaque}
 use Rattle.ssh_key.specs.keys.Keys.{key_of}
 use Rattle.ssh_key.specs.model.Certificates.{SignedFields, User}
-use Rattle.ssh_key.specs.model.Drafts.{Principal, after_steps, bad_window}
+use Rattle.ssh_key.specs.model.Drafts.{Extension, Principal, Step, after_steps, bad_window}
 use Rattle.ssh_key.specs.model.Fingerprints.{fingerprint}
 use Rattle.ssh_key.specs.model.Keys.{Key}
 use Rattle.ssh_key.specs.model.Names.{Sha256}
+use Rattle.ssh_key.specs.model.OptionMaps.{value_of, with_option}
+use Rattle.ssh_key.specs.model.Options.{CertificateOption}
 use Rattle.ssh_key.specs.model.Verification.{Question}
 use Rattle.ssh_key.specs.types.Certificate.{Certificate}
 use Rattle.ssh_key.specs.types.Error.{Error}
@@ -23,35 +27,66 @@ use Rattle.authority.specs.declared.request.Request.{Request}
 
 -- ---- what may be asked for
 
-abbrev pub IsListed : Limits → List ℕ → Type 0
-IsListed limits name = Contains (map string_bytes limits.principals.items) name
+-- The key stands under no private-use name. In certificates such a name may be that of another kind of key, as `ssh-ed25519@openssh.com` is, and then what is signed would certify another key.
+abbrev pub IsCertifiable : Key → Type 0
+IsCertifiable key = is_opaque key ≡ false
+
+abbrev pub IsListed : {Y : Type 0} → List (String Y) → List ℕ → Type 0
+IsListed listed name = Contains (map string_bytes listed) name
 
 -- the test of it
-abbrev pub is_listed : Limits → List ℕ → Bool
-is_listed limits name = list_any (λ it. bytes_eq name (string_bytes it)) limits.principals.items
+abbrev pub is_listed : {Y : Type 0} → List (String Y) → List ℕ → Bool
+is_listed listed name = list_any (λ it. bytes_eq name (string_bytes it)) listed
 
 abbrev pub names_of : Request → List (List ℕ)
 names_of r = map string_bytes r.principals.items
 
 -- There are some users, and each is listed.
 abbrev pub AreAllowed : Limits → Request → Type 0
-AreAllowed limits r = (names_of r ≢ []) × All (IsListed limits) (names_of r)
+AreAllowed limits r = (names_of r ≢ []) × All (IsListed limits.principals.items) (names_of r)
 
--- The window ends at a time, and has a second and at most `longest`.
-abbrev pub HasRoom : Limits → Request → Type 0
-HasRoom limits r = (r.valid_before < 2 ^ 63) × (r.valid_after < r.valid_before) × (r.valid_before ≤ r.valid_after + limits.longest)
+abbrev pub extensions_of : Request → List (List ℕ)
+extensions_of r = map string_bytes r.extensions.items
 
-abbrev pub IsWithin : Limits → Request → Type 0
-IsWithin limits r = AreAllowed limits r × HasRoom limits r
+-- Each extension is listed.
+abbrev pub ArePermitted : Limits → Request → Type 0
+ArePermitted limits r = All (IsListed limits.extensions.items) (extensions_of r)
 
--- The error says what is outside the limits first, the users or the window.
-pub data RefusesRequest (limits : Limits) (r : Request) : Error → Type 0 where
-  OtherUsers : (AreAllowed limits r → ⊥) → RefusesRequest limits r (CertificateFieldInvalid field.ValidPrincipals)
-  OtherWindow : AreAllowed limits r → (HasRoom limits r → ⊥) → RefusesRequest limits r (CertificateFieldInvalid field.ValidBefore)
+-- The window ends at a time, has a second and at most `longest`, is not over at t, and ends at most `longest` seconds later. It may begin before t, and these seconds count too.
+abbrev pub HasRoom : Limits → ℕ → Request → Type 0
+HasRoom limits t r = (r.valid_before < 2 ^ 63) × (r.valid_after < r.valid_before) × (r.valid_before ≤ r.valid_after + limits.longest) × (t < r.valid_before) × (r.valid_before ≤ t + limits.longest)
+
+-- At the second t the request is within the limits.
+pub record IsWithin (limits : Limits) (t : ℕ) (r : Request) : Type 0 where
+  pub key : IsCertifiable (key_of r.key)
+  pub users : AreAllowed limits r
+  pub extensions : ArePermitted limits r
+  pub window : HasRoom limits t r
+
+-- The error says what is outside the limits first: the key, the users, the extensions or the window.
+pub data RefusesRequest (limits : Limits) (t : ℕ) (r : Request) : Error → Type 0 where
+  OtherKey : (IsCertifiable (key_of r.key) → ⊥) → RefusesRequest limits t r (CertificateFieldInvalid field.PublicKey)
+  OtherUsers : IsCertifiable (key_of r.key) → (AreAllowed limits r → ⊥) → RefusesRequest limits t r (CertificateFieldInvalid field.ValidPrincipals)
+  OtherExtensions : IsCertifiable (key_of r.key) → AreAllowed limits r → (ArePermitted limits r → ⊥) → RefusesRequest limits t r (CertificateFieldInvalid field.Extensions)
+  OtherWindow : IsCertifiable (key_of r.key) → AreAllowed limits r → ArePermitted limits r → (HasRoom limits t r → ⊥) → RefusesRequest limits t r (CertificateFieldInvalid field.ValidBefore)
 
 -- ---- what is certified
 
--- a certificate for users of just what was asked for, under that serial number and nonce, without options
+-- an extension without data
+abbrev pub flag : List ℕ → CertificateOption
+flag name = record { name = name; value = [] }
+
+-- that extension with them, unless one of its name is there
+abbrev pub with_flag : Option (List ℕ) → List ℕ → List CertificateOption → List CertificateOption
+with_flag None name os = with_option (flag name) os
+with_flag (Some value) name os = os
+
+-- these and the extensions of the names, each once, in their order
+abbrev pub with_flags : List (List ℕ) → List CertificateOption → List CertificateOption
+with_flags [] os = os
+with_flags (name ∷ names) os = with_flags names (with_flag (value_of name os) name os)
+
+-- a certificate for users of just what was asked for, under that serial number and nonce, without critical options
 abbrev pub fields_for : Request → ℕ → List ℕ → Key → SignedFields
 fields_for r serial nonce authority = record {
   nonce = nonce;
@@ -63,7 +98,7 @@ fields_for r serial nonce authority = record {
   valid_after = r.valid_after;
   valid_before = r.valid_before;
   critical_options = [];
-  extensions = [];
+  extensions = with_flags (extensions_of r) [];
   reserved = [];
   signature_key = authority;
 }
@@ -83,18 +118,31 @@ CertifiesExactly accepts authority refuses r serial nonce (Err e) = bad_window r
 abbrev pub IsLeft : ℕ → Type 0
 IsLeft serial = serial + 1 < 2 ^ 64
 
+-- the serial number of the next certificate
+abbrev pub next_of : Authority → ℕ
+next_of a = non_zero_u64_get a.next_serial
+
 -- What a call may ask the signer to sign: the certificate of the request under the next serial number, where it is within the limits and a number is left.
-abbrev pub MayIssue : {S : Type 0} → (S → List ℕ → Type 0) → (S → KeyData) → S → Authority → Request → List ℕ → Type 0
-MayIssue permits public_of s a r nonce = IsWithin a.limits r → IsLeft a.next_serial → PermitsToSign (permits s) (fields_for r a.next_serial nonce (key_of (public_of s)))
+abbrev pub MayIssue : {S : Type 0} → (S → List ℕ → Type 0) → (S → KeyData) → S → Authority → ℕ → Request → List ℕ → Type 0
+MayIssue permits public_of s a t r nonce = IsWithin a.limits t r → IsLeft (next_of a) → PermitsToSign (permits s) (fields_for r (next_of a) nonce (key_of (public_of s)))
 
 -- Ok is that certificate, of a request within the limits. Else the request is outside them; or it is within, and no serial number is left; or one is, and it is not signed.
-abbrev pub IssuesExactly : (Question → Bool) → Key → (List ℕ → Error → Type 0) → Limits → Request → ℕ → List ℕ → Result Certificate Error → Type 0
-IssuesExactly accepts authority refuses limits r serial nonce (Ok c) = IsWithin limits r × IsCertified accepts authority r serial nonce c
-IssuesExactly accepts authority refuses limits r serial nonce (Err e) = RefusesRequest limits r e ⊎ (IsWithin limits r × ¬ IsLeft serial × (e ≡ CertificateFieldInvalid field.Serial)) ⊎ (IsWithin limits r × IsLeft serial × RefusesToSign refuses (fields_for r serial nonce authority) e)
+abbrev pub IssuesExactly : (Question → Bool) → Key → (List ℕ → Error → Type 0) → Limits → ℕ → Request → ℕ → List ℕ → Result Certificate Error → Type 0
+IssuesExactly accepts authority refuses limits t r serial nonce (Ok c) = IsWithin limits t r × IsCertified accepts authority r serial nonce c
+IssuesExactly accepts authority refuses limits t r serial nonce (Err e) = RefusesRequest limits t r e ⊎ (IsWithin limits t r × ¬ IsLeft serial × (e ≡ CertificateFieldInvalid field.Serial)) ⊎ (IsWithin limits t r × IsLeft serial × RefusesToSign refuses (fields_for r serial nonce authority) e)
 
--- ---- naming the principals
+-- ---- naming principals and extensions
 
 -- The builder is told of each of them, or memory ran out.
 abbrev pub NamesEach : List (List ℕ) → Builder → Result Unit Error → Builder → Type 0
 NamesEach names before (Ok x) after = draft_of after ≡ after_steps (map Principal names) (draft_of before)
 NamesEach names before (Err e) after = e ≡ Memory
+
+-- what a builder is told of an extension
+abbrev pub added : List ℕ → Step
+added name = Extension (flag name)
+
+-- The builder is told of each extension, or memory ran out.
+abbrev pub AddsEach : List (List ℕ) → Builder → Result Unit Error → Builder → Type 0
+AddsEach names before (Ok x) after = draft_of after ≡ after_steps (map added names) (draft_of before)
+AddsEach names before (Err e) after = e ≡ Memory

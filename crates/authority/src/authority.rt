@@ -1,10 +1,12 @@
 //! An authority.
 
-ghost use Rattle.std.specs.Prelude.{◌≡◌, ◌<◌, ◌+◌, ◌⊎◌, ◌↔◌, ◌++◌, ◌∷◌, [], IfErr, OnErr, OnOk, IsTrue, Contains};
+ghost use Rattle.std.specs.Prelude.{◌≡◌, ◌<◌, ◌+◌, ◌⊎◌, ◌↔◌, ◌++◌, ◌∷◌, [], IfErr, IfOk, OnErr, OnOk, IsTrue, Contains};
+ghost use Rattle.ssh_key.specs.cert.CertificateValues.{certificate_of};
 ghost use Rattle.ssh_key.specs.keys.Keys.{key_of};
-ghost use Rattle.ssh_key.specs.types.Error.TheVariants.{Memory};
-ghost use Rattle.authority.specs.Requests.{IsLeft, IssuesExactly, IsWithin, MayIssue};
-ghost use Rattle.authority.specs.Serials.{IsHistory, serial_of};
+ghost use Rattle.ssh_key.specs.model.Certificates.{AreSignedFields};
+ghost use Rattle.ssh_key.specs.model.Keys.{IsKey};
+ghost use Rattle.authority.specs.Requests.{IsLeft, IssuesExactly, IsWithin, MayIssue, next_of};
+ghost use Rattle.authority.specs.Serials.{IsHistory, RefusesSerial, serial_of};
 
 use crate::certify::certify;
 use crate::limits::Limits;
@@ -12,20 +14,22 @@ use crate::request::Request;
 use ssh_key::certificate::Field;
 use ssh_key::{Certificate, Error, Result, SigningKey};
 use std::alloc::Global;
+use std::num::NonZeroU64;
 
 /// An authority: its limits, the serial number of its next certificate, and the numbers of those
 /// that it took back.
 #[derive(Debug, Drop)]
 pub struct Authority {
     limits: Limits,
-    next_serial: u64,
+    next_serial: NonZeroU64,
     revoked: Vec<u64>,
 }
 
 impl Authority {
     /// An authority with these limits that took nothing back, and whose first certificate has that
-    /// serial number. Takes no memory.
-    pub fn new(alloc: Global, limits: Limits, first_serial: u64) -> Authority
+    /// serial number. No certificate has the number 0: to OpenSSH that is none, and a list of
+    /// revoked keys (KRL) can't name it. Takes no memory.
+    pub fn new(alloc: Global, limits: Limits, first_serial: NonZeroU64) -> Authority
         ensures limits { result.limits ≡ limits }
         ensures serial { result.next_serial ≡ first_serial }
         ensures revoked { result.revoked.items ≡ [] }
@@ -37,7 +41,8 @@ impl Authority {
         }
     }
 
-    /// The certificate that is asked for, without a comment, if the request is within the limits.
+    /// The certificate that is asked for, without a comment, if the request is within the limits at
+    /// that time, in seconds since 1970.
     ///
     /// `CertificateFieldInvalid` where it is not, as `Limits::check` has it, or where no serial
     /// number is left (`Field::Serial`), and then nothing is changed. Else the refusals of
@@ -47,40 +52,50 @@ impl Authority {
         &mut self,
         alloc: Global,
         request: Request,
+        unix_timestamp: u64,
         nonce: Vec<u8>,
         signer: &S,
     ) -> Result<Certificate>
-        requires permits { MayIssue S.permits S.public_of signer.now self.old request nonce.items }
+        requires permits { MayIssue S.permits S.public_of signer.now self.old unix_timestamp request
+            nonce.items }
         ensures issued { IssuesExactly (S.Raw.accepts (S.raw_of signer.now))
-            (key_of (S.public_of signer.now)) (S.refuses signer.now) self.old.limits request
-            self.old.next_serial nonce.items result }
-        ensures history { IsHistory self.old.next_serial (serial_of result) self.new.next_serial }
-        ensures used { IsWithin self.old.limits request → IsLeft self.old.next_serial
-            → self.new.next_serial ≡ self.old.next_serial + 1 }
-        ensures unused { ((IsWithin self.old.limits request → ⊥) ⊎ ¬ IsLeft self.old.next_serial)
-            → self.new.next_serial ≡ self.old.next_serial }
+            (key_of (S.public_of signer.now)) (S.refuses signer.now) self.old.limits unix_timestamp
+            request (next_of self.old) nonce.items result }
+        ensures form { IsKey (key_of request.key) → IsKey (key_of (S.public_of signer.now))
+            → IfOk result (λ c. AreSignedFields (certificate_of c).signed) }
+        ensures numbered { IfOk result (λ c. 0 < (certificate_of c).signed.serial) }
+        ensures history { IsHistory (next_of self.old) (serial_of result) (next_of self.new) }
+        ensures used { IsWithin self.old.limits unix_timestamp request → IsLeft (next_of self.old)
+            → next_of self.new ≡ next_of self.old + 1 }
+        ensures unused { ((IsWithin self.old.limits unix_timestamp request → ⊥)
+            ⊎ ¬ IsLeft (next_of self.old)) → next_of self.new ≡ next_of self.old }
         ensures limits { self.new.limits ≡ self.old.limits }
         ensures revoked { self.new.revoked ≡ self.old.revoked }
     {
-        self.limits.check(&request)?;
+        self.limits.check(&request, unix_timestamp)?;
         let serial = self.next_serial;
         let Some(next) = serial.checked_add(1) else {
             return Err(Error::CertificateFieldInvalid(Field::Serial));
         };
         self.next_serial = next;
-        certify(alloc, request, serial, nonce, signer)
+        certify(alloc, request, serial.get(), nonce, signer)
     }
 
-    /// Takes back the certificate of that serial number. Refused only when out of memory, and then
-    /// nothing is changed.
+    /// Takes back the certificate of that serial number. Refuses 0, which no certificate has, with
+    /// `CertificateFieldInvalid(Field::Serial)`, and else only when out of memory; then nothing is
+    /// changed.
     pub fn revoke(&mut self, serial: u64) -> Result<()>
         ensures revoked { OnOk result
             (self.new.revoked.items ≡ self.old.revoked.items ++ serial ∷ []) }
+        ensures numbered { OnOk result (0 < serial) }
         ensures unchanged { OnErr result (self.new.revoked.items ≡ self.old.revoked.items) }
-        ensures memory { IfErr result (λ e. e ≡ Memory) }
+        ensures refused { IfErr result (RefusesSerial serial) }
         ensures limits { self.new.limits ≡ self.old.limits }
         ensures serial { self.new.next_serial ≡ self.old.next_serial }
     {
+        if serial == 0 {
+            return Err(Error::CertificateFieldInvalid(Field::Serial));
+        }
         Ok(self.revoked.push(serial)?)
     }
 

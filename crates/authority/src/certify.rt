@@ -1,14 +1,14 @@
 //! How a request is certified.
 
-ghost use Rattle.std.specs.Prelude.{◌≡◌, ◌≢◌, None, [], map, string_bytes};
+ghost use Rattle.std.specs.Prelude.{◌≡◌, ◌≢◌, ◌∷◌, None, [], map, string_bytes};
 ghost use Rattle.ssh_key.specs.cert.Signing.{PermitsToSign};
 ghost use Rattle.ssh_key.specs.keys.Keys.{key_of};
 ghost use Rattle.ssh_key.specs.model.Drafts.{bad_window};
-ghost use Rattle.authority.specs.Requests.{CertifiesExactly, NamesEach, fields_for, names_of};
+ghost use Rattle.authority.specs.Requests.{AddsEach, CertifiesExactly, NamesEach, fields_for, names_of};
 
 use crate::request::Request;
 use ssh_key::certificate::Builder;
-use ssh_key::{Certificate, Result, SigningKey};
+use ssh_key::{Certificate, Error, Result, SigningKey};
 use std::alloc::Global;
 
 /// The certificate of the request under that serial number.
@@ -29,6 +29,7 @@ pub(crate) fn certify<S: SigningKey>(
         key,
         key_id,
         principals,
+        extensions,
         valid_after,
         valid_before,
     } = request;
@@ -36,6 +37,7 @@ pub(crate) fn certify<S: SigningKey>(
     builder.set_serial(serial)?;
     builder.set_key_id(key_id)?;
     add_principals(&mut builder, principals)?;
+    add_extensions(alloc, &mut builder, extensions)?;
     builder.sign(alloc, signer)
 }
 
@@ -47,4 +49,27 @@ fn add_principals(builder: &mut Builder, principals: Vec<String>) -> Result<()>
         builder.add_valid_principal(principal)?;
     }
     Ok(())
+}
+
+/// Adds the extension of each name, without data, where it is not there. Refused only when out of
+/// memory.
+fn add_extensions(alloc: Global, builder: &mut Builder, names: Vec<String>) -> Result<()>
+    ensures { AddsEach (map string_bytes names.items) builder.old result builder.new }
+{
+    for name in names {
+        add_extension(alloc, builder, name)?;
+    }
+    Ok(())
+}
+
+/// Adds the extension of that name, without data, where it is not there. Refused only when out of
+/// memory.
+fn add_extension(alloc: Global, builder: &mut Builder, name: String) -> Result<()>
+    ensures { AddsEach (string_bytes name ∷ []) builder.old result builder.new }
+{
+    match builder.add_extension(name, String::new(alloc)) {
+        Ok(()) => Ok(()),
+        Err(Error::Memory) => Err(Error::Memory),
+        Err(_) => Ok(()),
+    }
 }

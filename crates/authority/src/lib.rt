@@ -1,4 +1,4 @@
-//! An authority: what it certifies, for how long, under which serial numbers, and what it took back.
+//! An authority: what it certifies, until when, under which serial numbers, and what it took back.
 //!
 //! It names `ssh_key` alone, and is proved from its contracts. Copy it.
 #![tactic(auto)]

@@ -7,10 +7,15 @@ use ssh_key::public::KeyData;
 pub struct Request {
     /// The key that is to be certified.
     pub key: KeyData,
-    /// A text that names whom it is for, for logs.
+    /// A text that names whom it is for, for logs. No `Limits` judge it, so it may have line ends
+    /// and the name of another.
     pub key_id: String,
     /// The users who may log in with it.
     pub principals: Vec<String>,
+    /// What the certificate permits: extensions by their names, as `permit-pty`, which are added
+    /// without data, and each once. A certificate without any permits no terminal and no
+    /// forwarding; `ssh-keygen -s` adds five of itself.
+    pub extensions: Vec<String>,
     /// The first second of the window.
     pub valid_after: u64,
     /// The second behind the window.

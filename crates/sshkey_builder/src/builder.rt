@@ -72,6 +72,10 @@ impl Builder {
     /// Fails with `CertificateFieldInvalid` of the first time that is above 2^63 - 1,
     /// `Field::ValidAfter` or `Field::ValidBefore`, and else of `Field::ValidBefore` if the end is
     /// before the beginning.
+    ///
+    /// Takes a key under a private-use name too. Where that is another kind's name, as
+    /// `ssh-ed25519@openssh.com` is, what is signed is a certificate of that kind's key: refuse such
+    /// keys (`KeyData::is_other`), as `Limits::check` of `authority` does.
     pub fn new(
         alloc: Global,
         nonce: Vec<u8>,
@@ -155,7 +159,7 @@ impl Builder {
     }
 
     /// Sets the serial number. Fails with `CertificateFieldInvalid(Field::Serial)` if it was set.
-    /// Does not allocate.
+    /// Does not allocate. To OpenSSH 0 is none, and a list of revoked keys (KRL) can't name it.
     pub fn serial(&mut self, serial: u64) -> Result<&mut Builder>
         ensures* stays { sem 𝓛 (StaysIfRefused self.entry result) }
         ensures same_reference { IsTheBuilder self.entry result }
@@ -195,6 +199,9 @@ impl Builder {
     }
 
     /// Names one more principal, also after all were made valid. Fails only when out of memory.
+    ///
+    /// Takes any text. sshd takes a name with a zero byte to end there, so that `root` with one
+    /// behind it is root: refuse such names, which ssh-keygen can't make either.
     pub fn valid_principal(&mut self, principal: String) -> Result<&mut Builder>
         ensures* stays { sem 𝓛 (StaysIfRefused self.entry result) }
         ensures same_reference { IsTheBuilder self.entry result }

@@ -106,7 +106,15 @@ def _joined(principals: Iterable[str] | AllPrincipals) -> bytes:
         return b""
     if principals is None or isinstance(principals, (str, bytes, bytearray, memoryview)):
         raise TypeError("principals is a list of names")
-    return b"".join(map(string, principals))
+    return b"".join(map(_name, principals))
+
+
+def _name(principal: str | BytesLike) -> bytes:
+    """The string of a principal. Raises ValueError for one with a zero byte: sshd takes the name to end there."""
+    name = string(principal)
+    if 0 in name[4:]:
+        raise ValueError(f"a zero byte stands in the principal {principal!r}")
+    return name
 
 
 def certificate_to_be_signed(
@@ -119,11 +127,12 @@ def certificate_to_be_signed(
     makes the certificate of them and the signature.
 
     `principals` is a list of names, or ALL_PRINCIPALS for a certificate that is for everybody. The window is the seconds from
-    `valid_after` on and before `valid_before`. Options are names with their values. The nonce is random unless it is given.
+    `valid_after` on and before `valid_before`. Options are names with their values. The nonce is random unless it is given. Give
+    a `serial` of its own to each: to OpenSSH 0 is none, and a list of revoked keys (KRL) can't name it.
 
     Raises Refused where these tell no certificate: PRINCIPALS for an empty list, LABEL for a key that has a private-use name.
-    Raises ValueError for a number that does not fit its field, TypeError for a single name or None in place of the list, and
-    MemoryError."""
+    Raises ValueError for a number that does not fit its field, and for a principal with a zero byte, which sshd takes to end
+    there, and so for another user's; TypeError for a single name or None in place of the list, and MemoryError."""
     texts = {
         "key": key, "nonce": os.urandom(32) if nonce is None else nonce, "key_id": _text(key_id), "authority": authority,
         "principals": _joined(principals), "critical_options": _listed(critical_options), "extensions": _listed(extensions),
@@ -153,8 +162,9 @@ def make_certificate(
     extensions: Mapping[str, str] | None = None, nonce: BytesLike | None = None,
 ) -> bytes:  # fmt: skip
     """The blob of a certificate of the key by the authority: certificate_to_be_signed, which says what it takes and raises, and
-    join_certificate. In between `sign` is called with the bytes that are to be signed, and gives the signature's blob:
-    string("ssh-ed25519") + string(what Ed25519 makes), for example."""
+    join_certificate. Give it a `serial` other than 0, or it can't be revoked by its number. In between `sign` is called with the
+    bytes that are to be signed, and gives the signature's blob: string("ssh-ed25519") + string(what Ed25519 makes), for
+    example."""
     to_be_signed = certificate_to_be_signed(
         key, authority, principals=principals, certificate_type=certificate_type, key_id=key_id, serial=serial,
         valid_after=valid_after, valid_before=valid_before, critical_options=critical_options, extensions=extensions, nonce=nonce,

@@ -21,7 +21,11 @@ use std::alloc::Global;
 
 impl Builder {
     /// Signs what was collected, with the defaults for what was not set: serial number 0, a user,
-    /// an empty key id and an empty comment.
+    /// an empty key id and an empty comment. To OpenSSH 0 is no serial number, by which it can't
+    /// revoke: set another.
+    ///
+    /// A key under a private-use name is not refused. Under that of another kind, as
+    /// `ssh-ed25519@openssh.com`, what is signed is a certificate of that kind's key, as `new` says.
     ///
     /// The certificate is valid, as `validate_at` has it, at each time of its window and at no other,
     /// by the signer's `raw`, for whoever gives the fingerprint of the signer's key and for nobody
