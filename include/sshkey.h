@@ -224,9 +224,10 @@ uint32_t sshkey_certificate_question(const uint8_t *certificate, size_t certific
  *
  * SSHKEY_DONE exactly if the bytes are a certificate that raises a question, `is_verified` is 1,
  * the key that signed is one of the authorities', valid_after <= unix_timestamp < valid_before, and
- * unix_timestamp <= 2^63 - 1 (SSHKEY_MEMORY aside). Else 10 to 29 for bytes that are no
- * certificate, and 30 to 33 for what is wrong first. Its type, its critical options and whether it
- * is revoked are yours to judge. */
+ * unix_timestamp <= 2^63 - 1; SSHKEY_MEMORY aside, which is answered only where the key that signed
+ * is not in its normal form: an RSA key under another name than ssh-rsa. Else 10 to 29 for bytes
+ * that are no certificate, and 30 to 33 for what is wrong first. Its type, its critical options and
+ * whether it is revoked are yours to judge. */
 uint32_t sshkey_certificate_validate(const uint8_t *certificate, size_t certificate_length,
                                      uint64_t unix_timestamp, const sshkey_sha256 *authorities,
                                      size_t authority_count, uint32_t is_verified);

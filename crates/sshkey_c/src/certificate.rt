@@ -10,7 +10,7 @@ ghost use Rattle.sshkey_model.specs.Verification.{Question as TheQuestion};
 ghost use Rattle.sshkey_calls.specs.Fields.{GivesFields};
 ghost use Rattle.sshkey_calls.specs.Numbers.{fault_number};
 ghost use Rattle.sshkey_calls.specs.Questions.{GivesQuestion, RaisedBy, TellsNone};
-ghost use Rattle.sshkey_calls.specs.Validations.{IsGood, IsGoodFor, Says, TellsFirst, TellsFirstFor, Verified, authorities_of};
+ghost use Rattle.sshkey_calls.specs.Validations.{HasRenamedAuthority, IsGood, IsGoodFor, Says, TellsFirst, TellsFirstFor, Verified, authorities_of};
 
 use sshkey_calls::{
     CertificateFields, Question, Sha256Digest, certificate_fields, certificate_question,
@@ -53,7 +53,7 @@ pub extern "C" fn sshkey_certificate_validate(
         result }
     ensures fault { (fault : Fault) → whole certificate_at certificate.now ≡ Err fault
         → result ≡ fault_number fault }
-    ensures memory { result ≡ 1 → SpellsSome SpellsCertificate certificate.now }
+    ensures memory { result ≡ 1 → HasRenamedAuthority certificate.now }
 {
     certificate_validate(alloc, certificate, unix_timestamp, authorities, is_verified)
 }
@@ -79,7 +79,7 @@ pub extern "C" fn sshkey_certificate_validate_for(
     ensures fault { IsUtf8 principal.now → (fault : Fault)
         → whole certificate_at certificate.now ≡ Err fault → result ≡ fault_number fault }
     ensures text { (IsUtf8 principal.now → ⊥) → result ≡ 4 }
-    ensures memory { result ≡ 1 → SpellsSome SpellsCertificate certificate.now }
+    ensures memory { result ≡ 1 → HasRenamedAuthority certificate.now }
 {
     certificate_validate_for(
         alloc,

@@ -22,14 +22,14 @@ pub extern "C" fn sshkey_key_normal(
     alloc: Global,
     key: &[u8],
     room: &mut [u8],
-    len: &mut usize,
+    length: &mut usize,
 ) -> u32
-    ensures normal { Writes (IsNormalKey key.now) result len.old len.new room.old room.new }
+    ensures normal { Writes (IsNormalKey key.now) result length.old length.new room.old room.new }
     ensures fault { (fault : Fault) → whole key_data_at key.now ≡ Err fault
         → result ≡ fault_number fault }
     ensures memory { result ≡ 1 → IsRenamedKey key.now }
 {
-    key_normal(alloc, key, room, len)
+    key_normal(alloc, key, room, length)
 }
 
 /// The normal form of a certificate: `sshkey_calls::certificate_normal`.
@@ -38,15 +38,15 @@ pub extern "C" fn sshkey_certificate_normal(
     alloc: Global,
     certificate: &[u8],
     room: &mut [u8],
-    len: &mut usize,
+    length: &mut usize,
 ) -> u32
     ensures normal { Writes (IsNormalCertificate certificate.now)
-        result len.old len.new room.old room.new }
+        result length.old length.new room.old room.new }
     ensures fault { (fault : Fault) → whole certificate_at certificate.now ≡ Err fault
         → result ≡ fault_number fault }
     ensures memory { result ≡ 1 → SpellsSome SpellsCertificate certificate.now }
 {
-    certificate_normal(alloc, certificate, room, len)
+    certificate_normal(alloc, certificate, room, length)
 }
 
 /// The normal form of an SSH signature: `sshkey_calls::sshsig_normal`.
@@ -55,25 +55,29 @@ pub extern "C" fn sshkey_sshsig_normal(
     alloc: Global,
     signature: &[u8],
     room: &mut [u8],
-    len: &mut usize,
+    length: &mut usize,
 ) -> u32
     ensures normal { Writes (IsNormalSshSignature signature.now)
-        result len.old len.new room.old room.new }
+        result length.old length.new room.old room.new }
     ensures fault { (fault : Fault) → whole ssh_signature_value_at signature.now ≡ Err fault
         → result ≢ 1 → result ≡ fault_number fault }
     ensures memory { result ≡ 1 → NeedsSshSignature signature.now }
 {
-    sshsig_normal(alloc, signature, room, len)
+    sshsig_normal(alloc, signature, room, length)
 }
 
 /// The normal form of a signature: `sshkey_calls::signature_normal`.
 #[unsafe(no_mangle)]
-pub extern "C" fn sshkey_signature_normal(signature: &[u8], room: &mut [u8], len: &mut usize) -> u32
+pub extern "C" fn sshkey_signature_normal(
+    signature: &[u8],
+    room: &mut [u8],
+    length: &mut usize,
+) -> u32
     ensures normal { Writes (IsNormalSignature signature.now)
-        result len.old len.new room.old room.new }
+        result length.old length.new room.old room.new }
     ensures fault { (fault : Fault) → whole signature_at signature.now ≡ Err fault
         → result ≡ fault_number fault }
     ensures memory { result ≢ 1 }
 {
-    signature_normal(signature, room, len)
+    signature_normal(signature, room, length)
 }

@@ -1,5 +1,6 @@
 -- Nothing is wrong with a draft that tells a certificate; and what is wrong first with one that tells none.
 use Rattle.std.proofs.Common.{◌≡◌, ◌≢◌, ◌==◌, ◌↔◌, inl, inr, ◌<◌, ℕ, zero, suc, List, [], ◌∷◌, length, Bool, true, false, cond, nat_lt, Result, Ok, Err, refl, sym, ap, subst, ◌∙◌, arith, lt-ltb}
+use Rattle.std.proofs.Math.Bool.{beq}
 use Rattle.std.proofs.lemmas.Bool.{cases_lt, eqb-true, eqb-false}
 use Rattle.sshkey_model.specs.Certificates.{CertificateType, IsEnd, IsTime, SignedFields, User, Host, is_end, is_time, type_from, type_number}
 use Rattle.std.specs.Str.{is_utf8}
@@ -33,7 +34,7 @@ window_right : (b : Bool) → b ≡ true → ◌≡◌ {A = ℕ} (cond b 0 46) 0
 window_right true e = refl
 window_right false e = absurd (cc e)
 
-choice_right : (x y : Bool) → x ≡ y → ◌≡◌ {A = ℕ} (cond x (cond y 0 45) (cond y 45 0)) 0
+choice_right : (x y : Bool) → x ≡ y → ◌≡◌ {A = ℕ} (cond (beq x y) 0 45) 0
 choice_right true true e = refl
 choice_right true false e = absurd (cc e)
 choice_right false true e = absurd (cc e)

@@ -21,8 +21,8 @@ use Rattle.sshkey_options.specs.OptionReaders.{SpellsOptions, options_grammar}
 use Rattle.sshkey_calls.specs.Drafts.{FitsString, IsToBeSigned, IsWrong, Tells, string_number}
 use Rattle.sshkey_calls.specs.Numbers.{fault_number}
 use Rattle.sshkey_calls.specs.Writing.{Writes}
+use Rattle.sshkey_calls.proofs.Rooms.{told_as}
 use Rattle.sshkey_calls.specs.declared.draft.CertificateDraft.{CertificateDraft}
-use Rattle.sshkey_calls.proofs.Writing.{told_as}
 
 -- ---- what was not found
 

@@ -1,5 +1,5 @@
 -- What a line holds, and stands in the room.
-use Rattle.std.proofs.Common.{◌≡◌, ◌≢◌, ◌<◌, ℕ, ◌⊎◌, List, ◌++◌, length, inl, inr, drop, Bool, true, false, refl, sym, ap, ◌∙◌, subst, arith}
+use Rattle.std.proofs.Common.{◌≡◌, ◌≢◌, ◌<◌, ℕ, ◌⊎◌, List, ◌++◌, length, inl, inr, refl, sym, ap, ◌∙◌, subst, arith}
 use Rattle.base64.specs.GeneralPurpose.{IsBytes}
 use Rattle.sshkey_model.specs.Certificates.{Certificate}
 use Rattle.sshkey_model.specs.Keys.{Key}
@@ -12,14 +12,15 @@ use Rattle.sshkey_keys.specs.Keys.{SpellsKey}
 use Rattle.sshkey_public.specs.LineNeeds.{HasComment, NeedsValue}
 use Rattle.sshkey_cert.specs.CertificateFormats.{certificate_format}
 use Rattle.sshkey_cert.specs.CertificateReaders.{SpellsCertificate}
-use Rattle.sshkey_calls.specs.KeyLines.{Content, Holds, IsLaidOut, NeedsLine, Reads, TellsLineFault, content_of}
-use Rattle.sshkey_calls.specs.Rooms.{Fills}
+use Rattle.sshkey_calls.specs.KeyLines.{ArePlaced, Content, Holds, NeedsLine, Reads, TellsLineFault, content_of, line_bytes}
+use Rattle.sshkey_calls.specs.Rooms.{Gives, IsLaidOut}
+use Rattle.sshkey_calls.proofs.Rooms.{give_one, none_given, no_memory as nothing_said}
 use Rattle.sshkey_calls.specs.declared.line.Line.{Line}
 
 -- ---- in the room
 
 -- A blob, and a comment that was added behind it.
-pub laid : (kind : ℕ) (blob comment before content : List ℕ) (line : Line) → before ≡ blob → content ≡ before ++ comment → line.kind ≡ kind → line.blob.start ≡ 0 → line.blob.length ≡ length before → line.comment.start ≡ length before → line.comment.length ≡ length comment → line.length ≡ length content → IsLaidOut (content_of kind blob comment) content line
+pub laid : (kind : ℕ) (blob comment before content : List ℕ) (line : Line) → before ≡ blob → content ≡ before ++ comment → line.kind ≡ kind → line.blob.start ≡ 0 → line.blob.length ≡ length before → line.comment.start ≡ length before → line.comment.length ≡ length comment → line.length ≡ length content → IsLaidOut line_bytes ArePlaced (content_of kind blob comment) content line
 laid kind blob comment before content line is added same at_front blob_length behind comment_length all =
     let content_is : content ≡ blob ++ comment = added ∙ ap (λ (x : List ℕ). x ++ comment) is in (
       content_is,
@@ -31,52 +32,21 @@ laid kind blob comment before content line is added same at_front blob_length be
       },
     )
 
--- The room was filled, or is too short.
-pub told : (x : Content) (content before after : List ℕ) (filled : Bool) (was line : Line) (n : ℕ) → IsLaidOut x content line → Fills content before filled after → (filled ≡ true → n ≡ 0) → (filled ≡ false → n ≡ 2) → Reads (λ y. y ≡ x) n was line before after
-told x content before after true was line n laid filled done short = record {
-  read = λ _. (x, refl, record { content = subst (λ (c : List ℕ). after ≡ c ++ drop (length c) before) laid.0 filled; placed = laid.1 });
-  short = λ two. absurd (omega (arith, done refl, two));
-  none = λ not_zero _ _ _ _. not_zero (done refl);
-  fault = λ not_zero _ _. absurd (not_zero (done refl));
-  stays = λ not_zero _. absurd (not_zero (done refl));
-}
-told x content before after false was line n laid filled done short = record {
-  read = λ zero_. absurd (omega (arith, short refl, zero_));
-  short = λ _. (x, refl, record { needed = laid.1.length; short = subst (λ (c : List ℕ). length before < length c) laid.0 filled.1; stays = filled.0 });
-  none = λ _ _ not_two _ _. not_two (short refl);
-  fault = λ _ _ not_two. absurd (not_two (short refl));
-  stays = λ _ not_two. absurd (not_two (short refl));
-}
+-- One that is there has no fault.
+pub told : (x : Content) (n : ℕ) (was line : Line) (before after : List ℕ) → Gives (λ y. y ≡ x) line_bytes ArePlaced (λ (a : Line). a.length) n was line before after → Reads (λ y. y ≡ x) n was line before after
+told x n was line before after gives = record { gives = gives; fault = λ not_zero not_one not_two. absurd (gives.none not_zero not_one not_two x refl) }
 
 -- What is read is what is wanted.
 read_one : {Wanted : Content → Type 0} (x : Content) (n : ℕ) (was line : Line) (before after : List ℕ) → Wanted x → Reads (λ y. y ≡ x) n was line before after → Reads Wanted n was line before after
-read_one {Wanted} x n was line before after wanted reads = record {
-  read = λ zero_. let r = reads.read zero_ in (r.0, subst Wanted (sym r.1) wanted, r.2);
-  short = λ two. let r = reads.short two in (r.0, subst Wanted (sym r.1) wanted, r.2);
-  none = λ some not_memory fits _ _. reads.none some not_memory fits x refl;
-  fault = reads.fault;
-  stays = reads.stays;
-}
+read_one x n was line before after wanted reads = record { gives = give_one x n was line before after wanted reads.gives; fault = reads.fault }
 
 -- Nothing is said.
 pub no_memory : {Wanted : Content → Type 0} (n : ℕ) (was line : Line) (before after : List ℕ) → (line ≡ was) × (after ≡ before) → n ≡ 1 → Reads Wanted n was line before after
-no_memory n was line before after same one = record {
-  read = λ zero_. absurd (omega (arith, one, zero_));
-  short = λ two. absurd (omega (arith, one, two));
-  none = λ _ not_one _ _ _. absurd (not_one one);
-  fault = λ _ not_one _. absurd (not_one one);
-  stays = λ _ _. same;
-}
+no_memory n was line before after same one = record { gives = nothing_said n was line before after same one; fault = λ _ not_one _. absurd (not_one one) }
 
 -- There is none.
 pub none_read : {Wanted : Content → Type 0} (n : ℕ) (was line : Line) (before after : List ℕ) → (line ≡ was) × (after ≡ before) → (n ≢ 1 → (9 < n) × (n < 30)) → (n ≢ 1 → (x : Content) → Wanted x → ⊥) → n ≢ 0 → n ≢ 2 → Reads Wanted n was line before after
-none_read n was line before after same range none some apart = record {
-  read = λ zero_. absurd (some zero_);
-  short = λ two. absurd (apart two);
-  none = λ _ not_one _. none not_one;
-  fault = λ _ not_one _. range not_one;
-  stays = λ _ _. same;
-}
+none_read n was line before after same range none some apart = record { gives = none_given n was line before after same some apart none; fault = λ _ not_one _. range not_one }
 
 -- ---- in the line
 
@@ -152,7 +122,7 @@ memory_of of_key of_certificate n big (inr certificate) one = sym certificate �
 
 -- A line that holds something has none.
 pub no_fault : (text : List ℕ) (x : Content) (n : ℕ) (was line : Line) (before after : List ℕ) → Holds text x → Reads (Holds text) n was line before after → TellsLineFault text n
-no_fault text x n was line before after holds reads not_zero not_one not_two = absurd (reads.none not_zero not_one not_two x holds)
+no_fault text x n was line before after holds reads not_zero not_one not_two = absurd (reads.gives.none not_zero not_one not_two x holds)
 
 pub key_has_none : (text : List ℕ) (k : Key) (comment : List ℕ) (n : ℕ) (was answer : Line) (before after : List ℕ) → IsLineOf key_name SpellsKey text k comment → Tells text 1 comment n was answer before after → TellsLineFault text n
 key_has_none text k comment n was answer before after line tells = no_fault text (content_of 1 line.blob comment) n was answer before after (inl (refl, (k, line.spelled, line.line))) (reads_key text k comment n was answer before after line tells)

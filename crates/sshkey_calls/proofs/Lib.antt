@@ -1,4 +1,5 @@
 pub mod Kept
+pub mod Rooms
 pub mod Strings
 pub mod Questions
 pub mod Digests
@@ -10,7 +11,6 @@ pub mod Signatures
 pub mod Options
 pub mod OptionValues
 pub mod OptionPlaces
-pub mod Writing
 pub mod Drafts
 pub mod DraftNumbers
 pub mod Places

@@ -9,8 +9,8 @@ use Rattle.sshkey_keys.specs.Keys.{SpellsKey}
 use Rattle.sshkey_keys.specs.SignatureReaders.{SpellsSignature, signature_grammar}
 use Rattle.sshkey_calls.specs.Signatures.{RaisedUnder}
 use Rattle.sshkey_calls.specs.Questions.{GivesQuestion}
+use Rattle.sshkey_calls.proofs.Rooms.{none_given, told_as}
 use Rattle.sshkey_calls.specs.declared.question.Question.{Question}
-use Rattle.sshkey_calls.proofs.Questions.{none_raised, raised}
 
 module _ (k : Key) (g : Signature) (key message signature : List ℕ) (by : SpellsKey k key) (made : SpellsSignature g signature) where
   one_key : (j : Key) → SpellsKey j key → j ≡ k
@@ -24,10 +24,10 @@ module _ (k : Key) (g : Signature) (key message signature : List ℕ) (by : Spel
   same_question j h other made_other = ap (λ (x : Key). model.question x message h) (one_key j other) ∙ ap (λ (x : Signature). model.question k message x) (one_signature h made_other)
 
   pub asked_under : (n : ℕ) (was answer : Question) (before after : List ℕ) → GivesQuestion (λ q. model.question k message g ≡ Some q) n was answer before after → GivesQuestion (RaisedUnder key message signature) n was answer before after
-  asked_under n was answer before after = raised n was answer before after
+  asked_under n was answer before after = told_as n was answer before after
       (λ q is. record { signer = k; by = by; made = g; spelled = made; raised = is })
       (λ q is. sym (same_question is.signer is.made is.by is.spelled) ∙ is.raised)
 
 -- The bytes spell no key, or no signature.
 pub none_under : (key message signature : List ℕ) (n : ℕ) (was answer : Question) (before after : List ℕ) → (answer ≡ was) × (after ≡ before) → n ≢ 0 → n ≢ 2 → ((k : Key) (g : Signature) → SpellsKey k key → SpellsSignature g signature → ⊥) → GivesQuestion (RaisedUnder key message signature) n was answer before after
-none_under key message signature n was answer before after same some apart none = none_raised n was answer before after same some apart (λ _ q is. none is.signer is.made is.by is.spelled)
+none_under key message signature n was answer before after same some apart none = none_given n was answer before after same some apart (λ _ q is. none is.signer is.made is.by is.spelled)

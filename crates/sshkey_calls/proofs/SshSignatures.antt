@@ -9,8 +9,8 @@ use Rattle.sshkey_sshsig.specs.SshSignatureReaders.{SpellsSshSignature, ssh_sign
 use Rattle.sshkey_calls.specs.Fingerprints.{GivesDigestOf}
 use Rattle.sshkey_calls.specs.Questions.{GivesQuestion}
 use Rattle.sshkey_calls.specs.SshSignatures.{RaisedBySshSignature}
+use Rattle.sshkey_calls.proofs.Rooms.{none_given, told_as}
 use Rattle.sshkey_calls.specs.declared.question.Question.{Question}
-use Rattle.sshkey_calls.proofs.Questions.{none_raised, raised}
 
 pub one_signature : (f g : SshSignature) (bytes : List ℕ) → SpellsSshSignature f bytes → SpellsSshSignature g bytes → f ≡ g
 one_signature f g bytes spelled other = (one_front ssh_signature_grammar f g bytes bytes [] [] spelled other refl).0
@@ -20,12 +20,12 @@ module _ (f : SshSignature) (bytes namespace message : List ℕ) (spelled : Spel
   Raises g q = model.question g.key (signed_by g message) g.signature ≡ Some q
 
   pub asked_by : f.namespace ≡ namespace → GivesQuestion (Raises f) n was answer before after → GivesQuestion (RaisedBySshSignature bytes namespace message) n was answer before after
-  asked_by same = raised n was answer before after
+  asked_by same = told_as n was answer before after
       (λ q is. record { signature = f; spelled = spelled; in_namespace = same; raised = is })
       (λ q is. subst (λ (g : SshSignature). Raises g q) (one_signature is.signature f bytes is.spelled spelled) is.raised)
 
   pub other_namespace : (answer ≡ was) × (after ≡ before) → n ≢ 0 → n ≢ 2 → f.namespace ≢ namespace → GivesQuestion (RaisedBySshSignature bytes namespace message) n was answer before after
-  other_namespace stays some apart other = none_raised n was answer before after stays some apart (λ _ q is. other (ap (λ (g : SshSignature). g.namespace) (one_signature f is.signature bytes spelled is.spelled) ∙ is.in_namespace))
+  other_namespace stays some apart other = none_given n was answer before after stays some apart (λ _ q is. other (ap (λ (g : SshSignature). g.namespace) (one_signature f is.signature bytes spelled is.spelled) ∙ is.in_namespace))
 
   pub in_its_namespace : f.namespace ≡ namespace → (g : SshSignature) → SpellsSshSignature g bytes → g.namespace ≢ namespace → ⊥
   in_its_namespace same g is other = other (ap (λ (x : SshSignature). x.namespace) (one_signature g f bytes is spelled) ∙ same)
@@ -42,4 +42,4 @@ namespace_of_each f bytes namespace g spelled other same = ap (λ (x : SshSignat
 
 -- no bytes spell one
 pub none_asked : (bytes namespace message : List ℕ) (n : ℕ) (was answer : Question) (before after : List ℕ) → (answer ≡ was) × (after ≡ before) → n ≢ 0 → n ≢ 2 → (n ≢ 1 → (g : SshSignature) → SpellsSshSignature g bytes → ⊥) → GivesQuestion (RaisedBySshSignature bytes namespace message) n was answer before after
-none_asked bytes namespace message n was answer before after stays some apart none = none_raised n was answer before after stays some apart (λ not_memory q is. none not_memory is.signature is.spelled)
+none_asked bytes namespace message n was answer before after stays some apart none = none_given n was answer before after stays some apart (λ not_memory q is. none not_memory is.signature is.spelled)

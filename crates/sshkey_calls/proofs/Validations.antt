@@ -1,20 +1,38 @@
 -- Whether a certificate is valid, given what the caller's verification said.
-use Rattle.std.proofs.Common.{◌≡◌, ◌≢◌, ◌↔◌, ℕ, List, [], Bool, Option, Some, None, refl, sym, ap, subst, ◌∙◌, arith}
+use Rattle.std.proofs.Common.{◌≡◌, ◌≢◌, ◌↔◌, ℕ, List, [], ◌∷◌, Bool, true, false, ◌||◌, Option, Some, None, refl, sym, ap, subst, ◌∙◌, arith, bytes_eq}
+use Rattle.std.specs.List.{list_any}
+use Rattle.std.proofs.lemmas.Slice.Eq.{bytes_eq-Decides}
+use Rattle.sshkey_model.specs.Keys.{Dsa, Ecdsa, Ed25519, Head, Key, Plain, Rsa, SkEcdsa, SkEd25519, key}
+use Rattle.sshkey_model.specs.Names.{Algorithm, Sha256}
+use Rattle.sshkey_model.specs.Parts.{flat}
+use Rattle.sshkey_model.specs.Points.{curve_eq}
+use Rattle.sshkey_model.specs.Signatures.{Signature}
 use Rattle.sshkey_model.specs.Certificates.{Certificate}
-use Rattle.sshkey_model.specs.Fingerprints.{Fingerprint}
+use Rattle.sshkey_model.specs.Fingerprints.{Fingerprint, same_fingerprint}
 use Rattle.sshkey_model.specs.Principals.{IsValidFor}
 use Rattle.sshkey_model.specs.Refusals.{Refusal, NotSigned, UntrustedAuthority, InvalidTime, OutOfWindow, UnlistedPrincipal, allows, first_refusal, first_refusal_for, has_trusted_authority, is_signed, is_within, or_else, unless}
 use Rattle.sshkey_model.specs.Certificates.{is_time}
 use Rattle.sshkey_model.specs.Validity.{IsValid}
-use Rattle.sshkey_model.specs.Verification.{Question}
+use Rattle.sshkey_model.specs.Verification.{Question, question, question_under}
 use Rattle.sshkey_model.specs.Verification as model
 use Rattle.sshkey_model.proofs.Grammars.{one_front}
 use Rattle.sshkey_model.proofs.Refusals.{none_where_valid, none_where_wanted}
 use Rattle.sshkey_base.specs.Reading.{NoSpelling}
 use Rattle.sshkey_cert.specs.CertificateReaders.{SpellsCertificate, certificate_grammar}
 use Rattle.sshkey_cert.specs.Questions.{certificate_question}
+use Rattle.sshkey_cert.specs.Validity.{fingerprints_of, refusal_of_authority_or_time}
+use Rattle.sshkey_cert_ref.specs.CertificateRef.{certificate_bytes, certificate_of, choices_of}
+use Rattle.sshkey_cert_ref.specs.declared.certificate_ref.CertificateRef.{CertificateRef}
+use Rattle.sshkey_cert_ref.proofs.Certificates.{spelled_by}
+use Rattle.sshkey_fingerprints.specs.Fingerprints.{digest_of, fingerprint_hash}
+use Rattle.sshkey_fingerprints.specs.declared.fingerprint.Fingerprint as code
+use Rattle.sshkey_fingerprints.specs.declared.fingerprint.Fingerprint.TheVariants as kinds
+use Rattle.sshkey_keys.specs.Fingerprints.{IsFingerprint}
+use Rattle.sshkey_keys.specs.Keys.{SpellsKey}
+use Rattle.sshkey_keys_ref.specs.NormalBytes.{IsRenamed}
 use Rattle.sshkey_calls.specs.Numbers.{refusal_number}
-use Rattle.sshkey_calls.specs.Validations.{IsGood, IsGoodFor, Says, TellsFirst, TellsFirstFor, Verified, is_yes}
+use Rattle.sshkey_calls.specs.Validations.{HasRenamedAuthority, IsGood, IsGoodFor, Says, TellsFirst, TellsFirstFor, Verified, authorities_of, is_yes}
+use Rattle.sshkey_calls.specs.declared.digest.Sha256Digest.{Sha256Digest}
 
 -- the bytes spell one certificate only
 pub one_spelled : (c d : Certificate) (bytes : List ℕ) → SpellsCertificate c bytes → SpellsCertificate d bytes → c ≡ d
@@ -90,3 +108,77 @@ module _ (accepts : Question → Bool) (authorities : List Fingerprint) (t : ℕ
 
   pub none_first_for : (wanted : List ℕ) → TellsFirstFor accepts authorities t wanted bytes n
   none_first_for wanted c spelled _ = absurd (none c spelled)
+
+-- ---- what was not put together
+
+-- Whether there is a question does not hang on the message.
+same_asking : (b : Bool) (a : Algorithm) (k : Key) (m n : List ℕ) (g : Signature) → model.is_yes (λ _. b) (question_under a k m g) ≡ model.is_yes (λ _. b) (question_under a k n g)
+same_asking b Algorithm.Dsa (Dsa k) m n g = refl
+same_asking b Algorithm.Dsa _ m n g = refl
+same_asking b (Algorithm.Ecdsa d) (Ecdsa c point) m n g = go (curve_eq c d) refl
+  where
+    go : (same : Bool) → curve_eq c d ≡ same → model.is_yes (λ _. b) (question_under (Algorithm.Ecdsa d) (Ecdsa c point) m g) ≡ model.is_yes (λ _. b) (question_under (Algorithm.Ecdsa d) (Ecdsa c point) n g)
+    go true e = rw e refl
+    go false e = rw e refl
+same_asking b (Algorithm.Ecdsa d) _ m n g = refl
+same_asking b Algorithm.Ed25519 (Ed25519 k) m n g = refl
+same_asking b Algorithm.Ed25519 _ m n g = refl
+same_asking b (Algorithm.Rsa (Some h)) (Rsa k) m n g = refl
+same_asking b (Algorithm.Rsa (Some h)) _ m n g = refl
+same_asking b (Algorithm.Rsa None) _ m n g = refl
+same_asking b Algorithm.SkEcdsa (SkEcdsa k) m n g = refl
+same_asking b Algorithm.SkEcdsa _ m n g = refl
+same_asking b Algorithm.SkEd25519 (SkEd25519 k) m n g = refl
+same_asking b Algorithm.SkEd25519 _ m n g = refl
+same_asking b (Algorithm.Other name) _ m n g = refl
+
+-- what such a verifier says where it is asked
+said : (b : Bool) (o : Option Question) → o ≢ None → b ≡ model.is_yes (λ _. b) o
+said b None some = absurd (some refl)
+said b (Some q) some = refl
+
+module _ (b : Bool) (c : Certificate) where
+  pub answered_signed : (answer : Bool) → answer ≡ model.is_yes (λ _. b) (question c.signed.signature_key [] c.signature) → answer ≡ is_signed (λ _. b) c
+  answered_signed answer h = h ∙ same_asking b c.signature.algorithm c.signed.signature_key [] _ c.signature
+
+  pub asked_signed : question c.signed.signature_key [] c.signature ≢ None → b ≡ is_signed (λ _. b) c
+  asked_signed h = said b (question c.signed.signature_key [] c.signature) h ∙ same_asking b c.signature.algorithm c.signed.signature_key [] _ c.signature
+
+-- ---- one of the authorities
+
+listed_is : (digest : List ℕ) (given : List Sha256Digest) → list_any (λ d. bytes_eq digest d.bytes) given ≡ list_any (same_fingerprint (record { hash = Sha256; digest = digest })) (authorities_of given)
+listed_is digest [] = refl
+listed_is digest (d ∷ given) = ap (λ (b : Bool). bytes_eq digest d.bytes || b) (listed_is digest given)
+
+-- a fingerprint is one of itself
+own : (f : code.Fingerprint) → fingerprint_hash f ≡ Sha256 → list_any (same_fingerprint (record { hash = Sha256; digest = digest_of f })) (fingerprints_of (f ∷ [])) ≡ true
+own (kinds.Sha256 d) e = rw ((bytes_eq-Decides d d).1 refl) refl
+own (kinds.Sha512 d) e = cc e
+
+module _ (b : Bool) (given : List Sha256Digest) (t : ℕ) (c : Certificate) where
+  after_authority : Option Refusal
+  after_authority = unless (is_time t) InvalidTime (unless (is_within t c) OutOfWindow None)
+
+  pub first_unsigned : is_signed (λ _. b) c ≡ false → Some NotSigned ≡ first_refusal (λ _. b) (authorities_of given) t c
+  first_unsigned none = rw none refl
+
+  module _ (f : code.Fingerprint) (is : IsFingerprint Sha256 c.signed.signature_key f) (signed : is_signed (λ _. b) c ≡ true) where
+    trusted_is : list_any (λ d. bytes_eq (digest_of f) d.bytes) given ≡ has_trusted_authority (authorities_of given) c
+    trusted_is = rw is.digest (listed_is _ given)
+
+    pub first_untrusted : list_any (λ d. bytes_eq (digest_of f) d.bytes) given ≡ false → Some UntrustedAuthority ≡ first_refusal (λ _. b) (authorities_of given) t c
+    first_untrusted none = rw (signed, sym trusted_is ∙ none) refl
+
+    pub first_trusted : list_any (λ d. bytes_eq (digest_of f) d.bytes) given ≡ true → refusal_of_authority_or_time (digest_of f) (c.signed.valid_after, c.signed.valid_before) (f ∷ []) t ≡ first_refusal (λ _. b) (authorities_of given) t c
+    first_trusted some = rw (own f is.by, signed, sym trusted_is ∙ some) refl
+
+-- ---- memory
+
+-- The name of a key that is not in its normal form is another.
+pub renamed : (k : Key) (h : Head) (bytes : List ℕ) → bytes ≡ flat (key k h) → SpellsKey k bytes → IsRenamed bytes → h ≢ Plain
+renamed k h bytes shape spelled is plain = (is k spelled).1 (shape ∙ ap (λ (x : Head). flat (key k x)) plain)
+
+pub renamed_in : (r : CertificateRef) (bytes : List ℕ) → certificate_bytes r ≡ bytes → (choices_of r).signature_key ≢ Plain → HasRenamedAuthority bytes
+renamed_in r bytes same other =
+    let s = spelled_by (certificate_bytes r) r.form in
+    (certificate_of r, record { is = s.is.is; choices = choices_of r; place = s.is.place; fits = s.fits; shape = sym same ∙ s.shape }, other)

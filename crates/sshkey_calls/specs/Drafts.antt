@@ -1,6 +1,7 @@
 -- Which certificate a draft tells (PROTOCOL.certkeys).
 use Rattle.std.specs.Prelude.{◌≡◌, ◌≢◌, ◌⊎◌, ◌↔◌, ◌<◌, ◌^◌, ℕ, List, [], ◌∷◌, ◌++◌, length, nat_lt, ◌==◌, if◌then◌else◌, Result, Ok, Err}
 use Rattle.std.specs.Str.{is_utf8}
+use Rattle.std.proofs.Math.Bool.{beq}
 use Rattle.sshkey_base.specs.TextLists.{SpellsTexts}
 use Rattle.sshkey_cert.specs.CertificateReaders.{SpellsCertificate}
 use Rattle.sshkey_keys.specs.Keys.{SpellsKey, key_data_at}
@@ -79,7 +80,7 @@ draft_fault d = first_of (
     ∷ number_of (time_from d.valid_after)
     ∷ number_of (end_from d.valid_before)
     ∷ (if nat_lt d.valid_after d.valid_before then 0 else 46)
-    ∷ (if length d.principals.now == 0 then (if d.all_principals == 1 then 0 else 45) else (if d.all_principals == 1 then 45 else 0))
+    ∷ (if beq (length d.principals.now == 0) (d.all_principals == 1) then 0 else 45)
     ∷ [])
 
 -- ---- its parts

@@ -4,9 +4,9 @@ use Rattle.sshkey_model.specs.Certificates.{Certificate, type_number}
 use Rattle.sshkey_cert.specs.CertificateReaders.{SpellsCertificate}
 use Rattle.sshkey_calls.specs.declared.fields.CertificateFields.{CertificateFields}
 
--- 0 where this holds, and else 1
-abbrev pub IsNumberUnless : Type 0 → ℕ → Type 0
-IsNumberUnless holds n = (holds → n ≡ 0) × ((holds → ⊥) → n ≡ 1)
+-- 1 where this holds, and else 0
+abbrev pub IsNumberOf : Type 0 → ℕ → Type 0
+IsNumberOf holds n = (holds → n ≡ 1) × ((holds → ⊥) → n ≡ 0)
 
 -- They are those of the certificate.
 pub record AreFieldsOf (c : Certificate) (f : CertificateFields) : Type 0 where
@@ -14,8 +14,8 @@ pub record AreFieldsOf (c : Certificate) (f : CertificateFields) : Type 0 where
   pub valid_after : f.valid_after ≡ c.signed.valid_after
   pub valid_before : f.valid_before ≡ c.signed.valid_before
   pub certificate_type : f.certificate_type ≡ type_number c.signed.certificate_type
-  pub lists_principals : IsNumberUnless (c.signed.valid_principals ≡ []) f.lists_principals
-  pub has_critical_options : IsNumberUnless (c.signed.critical_options ≡ []) f.has_critical_options
+  pub lists_principals : IsNumberOf (c.signed.valid_principals ≢ []) f.lists_principals
+  pub has_critical_options : IsNumberOf (c.signed.critical_options ≢ []) f.has_critical_options
 
 -- 0 and the fields of the certificate that the bytes spell, and every other number where they spell none.
 pub record GivesFields (bytes : List ℕ) (n : ℕ) (f : CertificateFields) : Type 0 where

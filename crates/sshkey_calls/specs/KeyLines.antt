@@ -1,5 +1,5 @@
 -- What is answered of a line of a key file or of a certificate file.
-use Rattle.std.specs.Prelude.{◌≡◌, ◌≢◌, ◌⊎◌, ℕ, ◌<◌, ◌==◌, if◌then◌else◌, List, ◌++◌, length, drop}
+use Rattle.std.specs.Prelude.{◌≡◌, ◌≢◌, ◌⊎◌, ℕ, ◌<◌, ◌==◌, if◌then◌else◌, List, ◌++◌, length}
 use Rattle.sshkey_base.specs.declared.error.Error.{Error}
 use Rattle.sshkey_model.specs.Lines.{IsLine, key_name, name_of_certificate}
 use Rattle.sshkey_model.specs.Reading.{whole}
@@ -10,7 +10,7 @@ use Rattle.sshkey_public.specs.LineNeeds.{NeedsValue}
 use Rattle.sshkey_cert.specs.CertificateFormats.{certificate_format}
 use Rattle.sshkey_cert.specs.CertificateReaders.{SpellsCertificate}
 use Rattle.sshkey_calls.specs.Numbers.{error_number}
-use Rattle.sshkey_calls.specs.Rooms.{IsPlaced}
+use Rattle.sshkey_calls.specs.Rooms.{Gives, IsPlaced}
 use Rattle.sshkey_calls.specs.declared.line.Line.{Line}
 
 -- What a line holds: 1 for a key or 2 for a certificate, its bytes, and the comment.
@@ -47,27 +47,10 @@ pub record ArePlaced (x : Content) (line : Line) : Type 0 where
   pub comment : IsPlaced (length x.blob) x.comment line.comment
   pub length : line.length ≡ length (line_bytes x)
 
-abbrev pub IsLaidOut : Content → List ℕ → Line → Type 0
-IsLaidOut x content line = (content ≡ line_bytes x) × ArePlaced x line
-
--- They stand at the front of the room, and nothing else changed.
-pub record IsContent (x : Content) (line : Line) (before after : List ℕ) : Type 0 where
-  pub content : after ≡ line_bytes x ++ drop (length (line_bytes x)) before
-  pub placed : ArePlaced x line
-
--- The room is too short for them, and stays as it was; the answer says how much is needed.
-pub record IsTooLong (x : Content) (line : Line) (before after : List ℕ) : Type 0 where
-  pub needed : line.length ≡ length (line_bytes x)
-  pub short : length before < length (line_bytes x)
-  pub stays : after ≡ before
-
--- What a call answers that looks for the one content that `Wanted` tells: 0 with it, 1 for memory, which says nothing, 2 where there is one, and the room is too short for it; and from 10 to 29 where there is none. But for 0 and 2, answer and room stay as they were.
+-- What a call answers that looks for the one content that `Wanted` tells. Where there is none, the number is from 10 to 29.
 pub record Reads (Wanted : Content → Type 0) (n : ℕ) (was line : Line) (before after : List ℕ) : Type 0 where
-  pub read : n ≡ 0 → (x : Content) × Wanted x × IsContent x line before after
-  pub short : n ≡ 2 → (x : Content) × Wanted x × IsTooLong x line before after
-  pub none : n ≢ 0 → n ≢ 1 → n ≢ 2 → (x : Content) → Wanted x → ⊥
+  pub gives : Gives Wanted line_bytes ArePlaced (λ (a : Line). a.length) n was line before after
   pub fault : n ≢ 0 → n ≢ 1 → n ≢ 2 → (9 < n) × (n < 30)
-  pub stays : n ≢ 0 → n ≢ 2 → (line ≡ was) × (after ≡ before)
 
 -- ---- what is wrong with a line of neither
 

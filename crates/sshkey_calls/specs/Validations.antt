@@ -1,14 +1,18 @@
 -- Whether a certificate is valid, given what the caller's verification said.
-use Rattle.std.specs.Prelude.{◌≡◌, ◌≢◌, ℕ, List, map, Bool, ◌==◌, Some}
+use Rattle.std.specs.Prelude.{◌≡◌, ◌≢◌, ℕ, List, map, Bool, ◌==◌, Option, Some, option_map, Result, Ok, Err}
 use Rattle.sshkey_model.specs.Certificates.{Certificate}
 use Rattle.sshkey_model.specs.Fingerprints.{Fingerprint}
+use Rattle.sshkey_model.specs.Keys.{Plain}
 use Rattle.sshkey_model.specs.Names.{Sha256}
 use Rattle.sshkey_model.specs.Principals.{IsValidFor}
-use Rattle.sshkey_model.specs.Refusals.{first_refusal, first_refusal_for}
+use Rattle.sshkey_model.specs.Refusals.{Refusal, first_refusal, first_refusal_for}
 use Rattle.sshkey_model.specs.Validity.{IsValid}
 use Rattle.sshkey_model.specs.Verification.{Question}
+use Rattle.sshkey_base.specs.declared.error.Error.{Error}
 use Rattle.sshkey_cert.specs.CertificateReaders.{SpellsCertificate}
 use Rattle.sshkey_cert.specs.Questions.{certificate_question}
+use Rattle.sshkey_cert.specs.Validity.{refusal_of}
+use Rattle.sshkey_cert.specs.declared.certificate.refusal.CertificateRefusal.{CertificateRefusal}
 use Rattle.sshkey_calls.specs.Numbers.{refusal_number}
 use Rattle.sshkey_calls.specs.declared.digest.Sha256Digest.{Sha256Digest}
 
@@ -48,3 +52,12 @@ TellsFirst accepts authorities t bytes n = (c : Certificate) → SpellsCertifica
 -- The same for a principal.
 abbrev pub TellsFirstFor : (Question → Bool) → List Fingerprint → ℕ → List ℕ → List ℕ → ℕ → Type 0
 TellsFirstFor accepts authorities t principal bytes n = (c : Certificate) → SpellsCertificate c bytes → n ≢ 1 → n ≡ refusal_number (first_refusal_for accepts authorities t principal c)
+
+-- It is that refusal, or none; or memory ran out, which may be asked for.
+abbrev pub FindsFirstOr : Type 0 → Option Refusal → Result (Option CertificateRefusal) Error → Type 0
+FindsFirstOr asks first (Ok found) = option_map refusal_of found ≡ first
+FindsFirstOr asks first (Err e) = asks
+
+-- The bytes spell a certificate in which the name of the key that signed is not the one of its normal form: it is an RSA key under the name of one with a hash.
+abbrev pub HasRenamedAuthority : List ℕ → Type 0
+HasRenamedAuthority bytes = (c : Certificate) × (spelled : SpellsCertificate c bytes) × (spelled.choices.signature_key ≢ Plain)

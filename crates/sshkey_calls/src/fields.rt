@@ -5,7 +5,7 @@ ghost use Rattle.sshkey_cert_ref.specs.CertificateRef.{certificate_of};
 ghost use Rattle.sshkey_model.specs.Certificates.{certificate_at, type_number};
 ghost use Rattle.sshkey_model.specs.Reading.{Fault, whole};
 ghost use Rattle.sshkey_options.specs.CertTypes.{type_of};
-ghost use Rattle.sshkey_calls.specs.Fields.{AreFieldsOf, GivesFields, IsNumberUnless};
+ghost use Rattle.sshkey_calls.specs.Fields.{AreFieldsOf, GivesFields, IsNumberOf};
 ghost use Rattle.sshkey_calls.specs.Numbers.{fault_number};
 
 use crate::number::{DONE, error_number};
@@ -58,8 +58,8 @@ fn fields_of(read: &CertificateRef<'_>) -> CertificateFields
         valid_after: read.valid_after(),
         valid_before: read.valid_before(),
         certificate_type: number_of_type(read.cert_type()),
-        lists_principals: number_unless(read.valid_principals().is_empty()),
-        has_critical_options: number_unless(read.critical_options().is_empty()),
+        lists_principals: number_of(!read.valid_principals().is_empty()),
+        has_critical_options: number_of(!read.critical_options().is_empty()),
     }
 }
 
@@ -73,9 +73,9 @@ fn number_of_type(cert_type: CertType) -> u32
     }
 }
 
-/// 0 where this holds, and else 1.
-fn number_unless(holds: bool) -> u32
-    ensures { IsNumberUnless (IsTrue holds) result }
+/// 1 where this holds, and else 0.
+fn number_of(holds: bool) -> u32
+    ensures { IsNumberOf (IsTrue holds) result }
 {
-    if holds { 0 } else { 1 }
+    if holds { 1 } else { 0 }
 }

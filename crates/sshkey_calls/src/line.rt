@@ -5,10 +5,12 @@ ghost use Rattle.std.specs.Str.{IsUtf8};
 ghost use Rattle.base64.specs.GeneralPurpose.{IsBytes};
 ghost use Rattle.sshkey_keys.specs.Keys.{SpellsKey};
 ghost use Rattle.sshkey_model.specs.Lines.{IsCut, IsLine, IsNoLine, IsWithout, after_space, key_name, space};
-ghost use Rattle.sshkey_calls.specs.KeyLines.{Holds, IsLaidOut, NeedsLine, NumbersKeyFault, Reads, TellsLineFault, content_of, fault_of_either};
+ghost use Rattle.sshkey_calls.specs.KeyLines.{ArePlaced, Holds, NeedsLine, NumbersKeyFault, Reads, TellsLineFault, content_of, fault_of_either, line_bytes};
+ghost use Rattle.sshkey_calls.specs.Rooms.{IsLaidOut};
 
-use crate::number::{DONE, MEMORY, ROOM, error_number};
-use crate::part::{Part, add, write_to};
+use crate::number::{CHARACTER_ENCODING, LABEL, MEMORY, error_number};
+use crate::part::{self, Part, add};
+use base64::decoded_len_estimate;
 use base64::engine::general_purpose::STANDARD;
 use sshkey_base::{Error, Result};
 use sshkey_cert::Certificate;
@@ -35,10 +37,6 @@ pub struct Line {
 const KEY: u32 = 1;
 /// The line holds a certificate.
 const CERTIFICATE: u32 = 2;
-/// The line is not UTF-8.
-const CHARACTER_ENCODING: u32 = 11;
-/// The name that it begins with is none.
-const LABEL: u32 = 12;
 
 /// The key or the certificate of a line, and its comment, as `PublicKey::from_openssh` and
 /// `Certificate::from_openssh` read them: the name of its algorithm, the bytes in padded Base64 and
@@ -128,22 +126,16 @@ fn tell(
         → Reads (λ x. x ≡ content_of kind blob comment.now)
         result answer.old answer.new room.old room.new }
 {
-    match laid_out(alloc, text, comment, kind) {
-        Ok((content, line)) => {
-            *answer = line;
-            if write_to(room, &content) { DONE } else { ROOM }
-        }
-        Err(_) => MEMORY,
-    }
+    part::answer_with(lay_out(alloc, text, comment, kind), room, answer)
 }
 
 /// The blob of a line and the comment behind it, and where they are.
-fn laid_out(alloc: Global, text: &str, comment: &str, kind: u32) -> Result<(Vec<u8>, Line)>
+fn lay_out(alloc: Global, text: &str, comment: &str, kind: u32) -> Result<(Vec<u8>, Line)>
     ensures { (first blob : List ℕ) → IsLine text.now first blob comment.now → IsBytes blob
-        → IfOk result (λ laid. IsLaidOut (content_of kind blob comment.now)
+        → IfOk result (λ laid. IsLaidOut line_bytes ArePlaced (content_of kind blob comment.now)
         laid.0.items laid.1) }
 {
-    let mut content = blob_in(alloc, text)?;
+    let mut content = blob_in(alloc, text, comment.len())?;
     let blob = Part {
         start: 0,
         length: content.len(),
@@ -161,13 +153,16 @@ fn laid_out(alloc: Global, text: &str, comment: &str, kind: u32) -> Result<(Vec<
     ))
 }
 
-/// The blob of a line, newly allocated.
-fn blob_in(alloc: Global, text: &str) -> Result<Vec<u8>>
+/// The blob of a line, in memory that is enough for so many bytes behind it.
+fn blob_in(alloc: Global, text: &str, behind: usize) -> Result<Vec<u8>>
     ensures { (first blob comment : List ℕ) → IsLine text.now first blob comment → IsBytes blob
         → IfOk result (λ read. read.items ≡ blob) }
 {
-    match STANDARD.decode(alloc, base64_word(text).as_bytes()) {
-        Ok(blob) => Ok(blob),
+    let word = base64_word(text).as_bytes();
+    let capacity = decoded_len_estimate(word.len()).saturating_add(behind);
+    let mut blob = Vec::with_capacity(alloc, capacity)?;
+    match STANDARD.decode_vec(word, &mut blob) {
+        Ok(()) => Ok(blob),
         Err(_) => Err(Error::Memory),
     }
 }

@@ -30,29 +30,29 @@ use std::alloc::Global;
 /// Returns 0 if they spell one, 2 where the room is too short for it, 1 if memory ran out, and else
 /// from 10 to 29 their fault. With 2 the room is as it was. Memory is taken only for a key that is
 /// not in its normal form.
-pub fn key_normal(alloc: Global, key: &[u8], room: &mut [u8], len: &mut usize) -> u32
-    ensures normal { Writes (IsNormalKey key.now) result len.old len.new room.old room.new }
+pub fn key_normal(alloc: Global, key: &[u8], room: &mut [u8], length: &mut usize) -> u32
+    ensures normal { Writes (IsNormalKey key.now) result length.old length.new room.old room.new }
     ensures fault { (fault : Fault) → whole key_data_at key.now ≡ Err fault
         → result ≡ fault_number fault }
     ensures memory { result ≡ 1 → IsRenamedKey key.now }
 {
     match KeyDataRef::from_bytes(key) {
-        Ok(read) => write_key(alloc, &read, room, len),
+        Ok(read) => write_key(alloc, &read, room, length),
         Err(error) => error_number(error),
     }
 }
 
 /// The same of a key that was read.
-fn write_key(alloc: Global, read: &KeyDataRef<'_>, room: &mut [u8], len: &mut usize) -> u32
+fn write_key(alloc: Global, read: &KeyDataRef<'_>, room: &mut [u8], length: &mut usize) -> u32
     requires { SpellsSome SpellsKey (key_bytes read.now) }
     ensures normal { Writes (IsNormalKey (key_bytes read.now))
-        result len.old len.new room.old room.new }
+        result length.old length.new room.old room.new }
     ensures memory { result ≡ 1 → IsRenamedKey (key_bytes read.now) }
 {
     match read.normal_bytes() {
-        Some(bytes) => write_bytes(bytes, room, len),
+        Some(bytes) => write_bytes(bytes, room, length),
         None => match read.to_key_data(alloc) {
-            Ok(key) => write_encoded(alloc, &key, room, len),
+            Ok(key) => write_encoded(alloc, &key, room, length),
             Err(_) => MEMORY,
         },
     }
@@ -68,16 +68,16 @@ pub fn certificate_normal(
     alloc: Global,
     certificate: &[u8],
     room: &mut [u8],
-    len: &mut usize,
+    length: &mut usize,
 ) -> u32
     ensures normal { Writes (IsNormalCertificate certificate.now)
-        result len.old len.new room.old room.new }
+        result length.old length.new room.old room.new }
     ensures fault { (fault : Fault) → whole certificate_at certificate.now ≡ Err fault
         → result ≡ fault_number fault }
     ensures memory { result ≡ 1 → SpellsSome SpellsCertificate certificate.now }
 {
     match CertificateRef::from_bytes(certificate) {
-        Ok(read) => write_certificate(alloc, &read, room, len),
+        Ok(read) => write_certificate(alloc, &read, room, length),
         Err(error) => error_number(error),
     }
 }
@@ -87,14 +87,14 @@ fn write_certificate(
     alloc: Global,
     read: &CertificateRef<'_>,
     room: &mut [u8],
-    len: &mut usize,
+    length: &mut usize,
 ) -> u32
     ensures { Writes (λ content. content
         ≡ flat (normal_certificate (certificate_of read.now)))
-        result len.old len.new room.old room.new }
+        result length.old length.new room.old room.new }
 {
     match read.to_certificate(alloc) {
-        Ok(certificate) => write_encoded(alloc, &certificate, room, len),
+        Ok(certificate) => write_encoded(alloc, &certificate, room, length),
         Err(_) => MEMORY,
     }
 }
@@ -105,15 +105,15 @@ fn write_certificate(
 /// Returns 0 if they spell one, 2 where the room is too short for it, 1 if memory ran out, and else
 /// from 10 to 29 their fault. With 2 the room is as it was. Memory is taken only for a part that
 /// stands whole.
-pub fn sshsig_normal(alloc: Global, signature: &[u8], room: &mut [u8], len: &mut usize) -> u32
+pub fn sshsig_normal(alloc: Global, signature: &[u8], room: &mut [u8], length: &mut usize) -> u32
     ensures normal { Writes (IsNormalSshSignature signature.now)
-        result len.old len.new room.old room.new }
+        result length.old length.new room.old room.new }
     ensures fault { (fault : Fault) → whole ssh_signature_value_at signature.now ≡ Err fault
         → result ≢ 1 → result ≡ fault_number fault }
     ensures memory { result ≡ 1 → NeedsSshSignature signature.now }
 {
     match SshSig::from_bytes(alloc, signature) {
-        Ok(read) => write_encoded(alloc, &read, room, len),
+        Ok(read) => write_encoded(alloc, &read, room, length),
         Err(error) => error_number(error),
     }
 }
@@ -123,26 +123,26 @@ pub fn sshsig_normal(alloc: Global, signature: &[u8], room: &mut [u8], len: &mut
 ///
 /// Returns 0 if they spell one, 2 where the room is too short for it, and else from 10 to 29 their
 /// fault. With 2 the room is as it was. Does not allocate.
-pub fn signature_normal(signature: &[u8], room: &mut [u8], len: &mut usize) -> u32
+pub fn signature_normal(signature: &[u8], room: &mut [u8], length: &mut usize) -> u32
     ensures normal { Writes (IsNormalSignature signature.now)
-        result len.old len.new room.old room.new }
+        result length.old length.new room.old room.new }
     ensures fault { (fault : Fault) → whole signature_at signature.now ≡ Err fault
         → result ≡ fault_number fault }
     ensures memory { result ≢ 1 }
 {
     match SignatureRef::from_bytes(signature) {
-        Ok(read) => write_bytes(read.as_bytes(), room, len),
+        Ok(read) => write_bytes(read.as_bytes(), room, length),
         Err(error) => error_number(error),
     }
 }
 
 /// Writes the normal form of the value to the front of the room, if there is room for it.
-fn write_encoded<T: Encode>(alloc: Global, value: &T, room: &mut [u8], len: &mut usize) -> u32
+fn write_encoded<T: Encode>(alloc: Global, value: &T, room: &mut [u8], length: &mut usize) -> u32
     ensures { Writes (λ content. content ≡ flat (T.normal value.now))
-        result len.old len.new room.old room.new }
+        result length.old length.new room.old room.new }
 {
     match encode_vec(alloc, value) {
-        Ok(bytes) => write_bytes(&bytes, room, len),
+        Ok(bytes) => write_bytes(&bytes, room, length),
         Err(_) => MEMORY,
     }
 }

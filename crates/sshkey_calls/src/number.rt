@@ -22,16 +22,44 @@ pub const ROOM: u32 = 2;
 pub const END: u32 = 3;
 /// A text of the caller's is not UTF-8.
 pub const TEXT: u32 = 4;
-/// A text is not UTF-8.
+/// A word of a line is no Base64, or not the one of its bytes.
+pub(crate) const BASE64: u32 = 10;
+/// A text is not UTF-8, or has a character that no name has.
 pub(crate) const CHARACTER_ENCODING: u32 = 11;
 /// A name may not stand there.
 pub(crate) const LABEL: u32 = 12;
-/// A length passes the bytes.
+/// A length passes the bytes, or is not the one wanted.
 pub(crate) const LENGTH: u32 = 13;
+/// Bytes stand after the end.
+pub(crate) const TRAILING_DATA: u32 = 14;
 /// A value does not keep the form of its kind.
 pub(crate) const FORMAT: u32 = 15;
+/// Two names differ that have to be one.
+pub(crate) const ALGORITHM_UNKNOWN: u32 = 16;
+/// A number in a signature is not positive, or a curve is another.
+pub(crate) const CRYPTO: u32 = 17;
+/// It is no encoding of a point.
+pub(crate) const ECDSA: u32 = 18;
 /// A time is above 2^63 - 1.
 pub(crate) const TIME: u32 = 19;
+/// A namespace is empty.
+pub(crate) const NAMESPACE: u32 = 20;
+/// A fault of private keys, which no call meets.
+pub(crate) const PUBLIC_KEY: u32 = 21;
+/// An SSH signature is of a version above 1.
+pub(crate) const UNSUPPORTED_VERSION: u32 = 22;
+/// An error that no call meets.
+pub(crate) const OTHER_FAULT: u32 = 23;
+/// The certificate raises no question, or the verification did not say yes.
+pub(crate) const NOT_SIGNED: u32 = 30;
+/// The key that signed is none of the authorities'.
+pub(crate) const UNTRUSTED_AUTHORITY: u32 = 31;
+/// The time that is asked about is above 2^63 - 1.
+pub(crate) const INVALID_TIME: u32 = 32;
+/// The certificate is not yet valid, or no longer.
+pub(crate) const OUT_OF_WINDOW: u32 = 33;
+/// The certificate lists principals, and not this one.
+pub(crate) const UNLISTED_PRINCIPAL: u32 = 34;
 /// Key and signature do not go together, so nothing is asked.
 pub(crate) const UNSUPPORTED: u32 = 40;
 /// The SSH signature is in another namespace.
@@ -40,6 +68,29 @@ pub(crate) const OTHER_NAMESPACE: u32 = 41;
 pub(crate) const PRINCIPALS: u32 = 45;
 /// The window of a draft has no second.
 pub(crate) const EMPTY_WINDOW: u32 = 46;
+/// A line for the host revokes the key.
+pub const HOST_REVOKED: u32 = 50;
+/// A line is no entry, and may be one for the host.
+pub const HOST_UNREADABLE: u32 = 51;
+/// A line for the host has another key, and none has this one.
+pub const HOST_CHANGED: u32 = 52;
+/// No line without a marker is for the host.
+pub const HOST_UNKNOWN: u32 = 53;
+
+/// A question is asked by DSA.
+const ASK_DSA: u32 = 1;
+/// A question is asked by ECDSA on P-256.
+const ASK_P256: u32 = 2;
+/// A question is asked by ECDSA on P-384.
+const ASK_P384: u32 = 3;
+/// A question is asked by ECDSA on P-521.
+const ASK_P521: u32 = 4;
+/// A question is asked by Ed25519.
+const ASK_ED25519: u32 = 5;
+/// A question is asked by RSA with SHA-256.
+const ASK_RSA_SHA256: u32 = 6;
+/// A question is asked by RSA with SHA-512.
+const ASK_RSA_SHA512: u32 = 7;
 
 /// The number of an error: 1 for memory, and else that of its fault.
 pub fn error_number(error: Error) -> u32
@@ -54,20 +105,20 @@ pub fn error_number(error: Error) -> u32
         Error::Memory => MEMORY,
         Error::Encoding(fault) => encoding_number(fault),
         Error::FormatEncoding => FORMAT,
-        Error::AlgorithmUnknown => 16,
-        Error::Crypto => 17,
-        Error::Ecdsa => 18,
+        Error::AlgorithmUnknown => ALGORITHM_UNKNOWN,
+        Error::Crypto => CRYPTO,
+        Error::Ecdsa => ECDSA,
         Error::Time => TIME,
-        Error::Namespace => 20,
-        Error::PublicKey => 21,
-        Error::Version { number: _ } => 22,
-        Error::TrailingData { remaining: _ } => 14,
+        Error::Namespace => NAMESPACE,
+        Error::PublicKey => PUBLIC_KEY,
+        Error::Version { number: _ } => UNSUPPORTED_VERSION,
+        Error::TrailingData { remaining: _ } => TRAILING_DATA,
         Error::AlgorithmUnsupported { algorithm: _ }
         | Error::Decrypted
         | Error::CertificateFieldInvalid(_)
         | Error::CertificateValidation
         | Error::Encrypted
-        | Error::Io(_) => 23,
+        | Error::Io(_) => OTHER_FAULT,
     }
 }
 
@@ -80,12 +131,12 @@ fn encoding_number(fault: encoding::Error) -> u32
     ensures range { result < 30 }
 {
     match fault {
-        encoding::Error::Base64 => 10,
+        encoding::Error::Base64 => BASE64,
         encoding::Error::CharacterEncoding => CHARACTER_ENCODING,
         encoding::Error::Label => LABEL,
         encoding::Error::Length => LENGTH,
-        encoding::Error::TrailingData { remaining: _ } => 14,
-        encoding::Error::Memory => 23,
+        encoding::Error::TrailingData { remaining: _ } => TRAILING_DATA,
+        encoding::Error::Memory => OTHER_FAULT,
     }
 }
 
@@ -95,11 +146,11 @@ pub(crate) fn refusal_number(first: Option<CertificateRefusal>) -> u32
 {
     match first {
         None => DONE,
-        Some(CertificateRefusal::Signature) => 30,
-        Some(CertificateRefusal::Authority) => 31,
-        Some(CertificateRefusal::Time) => 32,
-        Some(CertificateRefusal::Window) => 33,
-        Some(CertificateRefusal::Principal) => 34,
+        Some(CertificateRefusal::Signature) => NOT_SIGNED,
+        Some(CertificateRefusal::Authority) => UNTRUSTED_AUTHORITY,
+        Some(CertificateRefusal::Time) => INVALID_TIME,
+        Some(CertificateRefusal::Window) => OUT_OF_WINDOW,
+        Some(CertificateRefusal::Principal) => UNLISTED_PRINCIPAL,
     }
 }
 
@@ -108,9 +159,9 @@ pub(crate) fn algorithm_number(algorithm: &Algorithm) -> u32
     ensures { result ≡ algorithm_number (algorithm_of algorithm.now) }
 {
     match algorithm {
-        Algorithm::Dsa => 1,
+        Algorithm::Dsa => ASK_DSA,
         Algorithm::Ecdsa { curve } => curve_number(*curve),
-        Algorithm::Ed25519 => 5,
+        Algorithm::Ed25519 => ASK_ED25519,
         Algorithm::Rsa { hash } => rsa_number(*hash),
         Algorithm::SkEcdsaSha2NistP256 | Algorithm::SkEd25519 | Algorithm::Other(_) => 0,
     }
@@ -121,9 +172,9 @@ fn curve_number(curve: EcdsaCurve) -> u32
     ensures { result ≡ algorithm_number (Ecdsa (curve_of curve)) }
 {
     match curve {
-        EcdsaCurve::NistP256 => 2,
-        EcdsaCurve::NistP384 => 3,
-        EcdsaCurve::NistP521 => 4,
+        EcdsaCurve::NistP256 => ASK_P256,
+        EcdsaCurve::NistP384 => ASK_P384,
+        EcdsaCurve::NistP521 => ASK_P521,
     }
 }
 
@@ -132,8 +183,8 @@ fn rsa_number(hash: Option<HashAlg>) -> u32
     ensures { result ≡ algorithm_number (Rsa (option_map hash_of hash)) }
 {
     match hash {
-        Some(HashAlg::Sha256) => 6,
-        Some(HashAlg::Sha512) => 7,
+        Some(HashAlg::Sha256) => ASK_RSA_SHA256,
+        Some(HashAlg::Sha512) => ASK_RSA_SHA512,
         None => 0,
     }
 }

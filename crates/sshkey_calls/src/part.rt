@@ -1,10 +1,13 @@
 //! Parts of the caller's room.
 
-ghost use Rattle.std.specs.Prelude.{◌≡◌, ◌++◌, length, IfErr, IfOk, OnErr};
+ghost use Rattle.std.specs.Prelude.{◌≡◌, ◌++◌, [], length, IfErr, IfOk, OnErr};
 ghost use Rattle.sshkey_base.specs.declared.error.Error.TheVariants as wide;
-ghost use Rattle.sshkey_calls.specs.Rooms.{Fills};
+ghost use Rattle.sshkey_model.specs.Parts.{flat};
+ghost use Rattle.sshkey_calls.specs.Rooms.{AnswersWith, Fills};
 
-use sshkey_base::Result;
+use crate::number::{DONE, MEMORY, ROOM};
+use sshkey_base::{Encode, Result};
+use std::alloc::Global;
 
 /// A part of bytes.
 #[repr(C)]
@@ -14,6 +17,14 @@ pub struct Part {
     pub start: usize,
     /// How many bytes it has.
     pub length: usize,
+}
+
+/// No bytes yet, with memory for the value's normal form and for so many more.
+pub fn with_capacity<T: Encode>(alloc: Global, value: &T, more: usize) -> Result<Vec<u8>>
+    ensures { IfOk result (λ content. content.items ≡ []) }
+{
+    let capacity = value.encoded_len()?.saturating_add(more);
+    Ok(Vec::with_capacity(alloc, capacity)?)
 }
 
 /// Adds the bytes to those that the room is to hold. Fails only when out of memory, and then leaves
@@ -31,6 +42,38 @@ pub fn add(bytes: &[u8], content: &mut Vec<u8>) -> Result<Part>
         start,
         length: bytes.len(),
     })
+}
+
+/// Adds the value's normal form to the bytes that the room is to hold.
+pub fn add_encoded<T: Encode>(value: &T, content: &mut Vec<u8>) -> Result<Part>
+    ensures added { IfOk result
+        (λ _. content.new.items ≡ content.old.items ++ flat (T.normal value.now)) }
+    ensures start { IfOk result (λ part. part.start ≡ length content.old.items) }
+    ensures length { IfOk result (λ part. part.length ≡ length (flat (T.normal value.now))) }
+{
+    let start = content.len();
+    value.encode(content)?;
+    Ok(Part {
+        start,
+        length: content.len() - start,
+    })
+}
+
+/// Answers with what was laid out: the bytes, at the front of the room where there is room for them,
+/// and where their parts are.
+///
+/// Returns 0, 2 where the room is shorter and stays as it was, and 1 where memory ran out, and answer
+/// and room stay as they were.
+pub fn answer_with<T: Copy>(laid: Result<(Vec<u8>, T)>, room: &mut [u8], answer: &mut T) -> u32
+    ensures { AnswersWith laid result answer.old answer.new room.old room.new }
+{
+    match laid {
+        Ok((content, parts)) => {
+            *answer = parts;
+            if write_to(room, &content) { DONE } else { ROOM }
+        }
+        Err(_) => MEMORY,
+    }
 }
 
 /// Writes the content to the front of the room, if there is room for it, and else nothing.

@@ -9,11 +9,12 @@ ghost use Rattle.sshkey_keys.specs.Questions.{question_of};
 ghost use Rattle.sshkey_model.specs.Certificates.{certificate_at};
 ghost use Rattle.sshkey_model.specs.Reading.{Fault, whole};
 ghost use Rattle.sshkey_calls.specs.Numbers.{fault_number};
-ghost use Rattle.sshkey_calls.specs.Questions.{GivesQuestion, IsLaidOut, RaisedBy, TellsNone};
+ghost use Rattle.sshkey_calls.specs.Questions.{ArePlaced, GivesQuestion, RaisedBy, TellsNone, question_bytes};
+ghost use Rattle.sshkey_calls.specs.Rooms.{IsLaidOut};
 
-use crate::number::{DONE, MEMORY, ROOM, UNSUPPORTED, algorithm_number, error_number};
-use crate::part::{Part, add, write_to};
-use sshkey_base::{Result, encode_vec};
+use crate::number::{MEMORY, UNSUPPORTED, algorithm_number, error_number};
+use crate::part::{self, Part, add, add_encoded};
+use sshkey_base::Result;
 use sshkey_cert::CertificateQuestion;
 use sshkey_cert_ref::CertificateRef;
 use sshkey_keys::Question as Asked;
@@ -109,21 +110,20 @@ pub(crate) fn answer_with(
     ensures { GivesQuestion (λ q. q ≡ question_of question.now)
         result answer.old answer.new room.old room.new }
 {
-    match laid_out(alloc, question) {
-        Ok((content, parts)) => {
-            *answer = parts;
-            if write_to(room, &content) { DONE } else { ROOM }
-        }
-        Err(_) => MEMORY,
-    }
+    part::answer_with(lay_out(alloc, question), room, answer)
 }
 
 /// The bytes of the question's parts, one behind the other, and where they are.
-fn laid_out(alloc: Global, question: &Asked<'_>) -> Result<(Vec<u8>, Question)>
-    ensures { IfOk result (λ laid. IsLaidOut (question_of question.now) laid.0.items laid.1) }
+fn lay_out(alloc: Global, question: &Asked<'_>) -> Result<(Vec<u8>, Question)>
+    ensures { IfOk result (λ laid. IsLaidOut question_bytes ArePlaced (question_of question.now)
+        laid.0.items laid.1) }
 {
-    let mut content = Vec::new(alloc);
-    let key = add(&encode_vec(alloc, question.key())?, &mut content)?;
+    let behind = question
+        .message()
+        .len()
+        .saturating_add(question.signature().len());
+    let mut content = part::with_capacity(alloc, question.key(), behind)?;
+    let key = add_encoded(question.key(), &mut content)?;
     let message = add(question.message(), &mut content)?;
     let signature = add(question.signature(), &mut content)?;
     let length = content.len();

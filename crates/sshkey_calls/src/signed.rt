@@ -34,31 +34,31 @@ pub fn certificate_make(
     ensures long { (FitsString signature.now → ⊥) → result ≡ 13 }
     ensures memory { result ≡ 1 → FitsString signature.now }
 {
-    match joined(alloc, to_be_signed, signature) {
+    match join(alloc, to_be_signed, signature) {
         Ok(certificate) => write_certificate(&certificate, room, length),
         Err(number) => number,
     }
 }
 
 /// The bytes, and the signature in a string behind them.
-fn joined(alloc: Global, to_be_signed: &[u8], signature: &[u8]) -> Result<Vec<u8>, u32>
+fn join(alloc: Global, to_be_signed: &[u8], signature: &[u8]) -> Result<Vec<u8>, u32>
     ensures { FindsOr (IsJoined to_be_signed.now signature.now) (λ joined. joined.items)
         (string_number signature.now) (FitsString signature.now) result }
 {
     let string = string_of(alloc, signature)?;
-    match both(alloc, to_be_signed, &string) {
+    match append(alloc, to_be_signed, &string) {
         Ok(joined) => Ok(joined),
         Err(_) => Err(MEMORY),
     }
 }
 
 /// The first, and then the second. Fails only when out of memory.
-fn both(alloc: Global, first: &[u8], second: &[u8]) -> sshkey_base::Result<Vec<u8>>
-    ensures { IfOk result (λ both. both.items ≡ first.now ++ second.now) }
+fn append(alloc: Global, first: &[u8], second: &[u8]) -> sshkey_base::Result<Vec<u8>>
+    ensures { IfOk result (λ bytes. bytes.items ≡ first.now ++ second.now) }
 {
-    let mut both = Vec::from_slice(alloc, first)?;
-    both.extend_from_slice(second)?;
-    Ok(both)
+    let mut bytes = Vec::from_slice(alloc, first)?;
+    bytes.extend_from_slice(second)?;
+    Ok(bytes)
 }
 
 /// Writes the bytes, if they spell a certificate.

@@ -2,22 +2,20 @@
 
 ghost use Rattle.std.specs.Prelude.{◌≡◌, ◌≢◌, Bool, Err};
 ghost use Rattle.std.specs.Str.{IsUtf8};
-ghost use Rattle.sshkey_base.specs.Acceptance.{SpellsSome};
-ghost use Rattle.sshkey_cert.specs.CertificateReaders.{SpellsCertificate};
-ghost use Rattle.sshkey_cert.specs.Validity.{FindsFirst};
-ghost use Rattle.sshkey_cert_ref.specs.CertificateRef.{certificate_of};
+ghost use Rattle.sshkey_cert_ref.specs.CertificateRef.{certificate_of, choices_of};
 ghost use Rattle.sshkey_model.specs.Certificates.{certificate_at};
+ghost use Rattle.sshkey_model.specs.Keys.{Plain};
 ghost use Rattle.sshkey_model.specs.Reading.{Fault, whole};
-ghost use Rattle.sshkey_model.specs.Refusals.{first_refusal, first_refusal_for};
+ghost use Rattle.sshkey_model.specs.Refusals.{first_refusal, first_refusal_for, is_signed};
 ghost use Rattle.sshkey_model.specs.Verification.{Question};
 ghost use Rattle.sshkey_calls.specs.Numbers.{fault_number, refusal_number};
-ghost use Rattle.sshkey_calls.specs.Validations.{IsGood, IsGoodFor, Says, TellsFirst, TellsFirstFor, Verified, authorities_of, is_yes};
+ghost use Rattle.sshkey_calls.specs.Validations.{FindsFirstOr, HasRenamedAuthority, IsGood, IsGoodFor, Says, TellsFirst, TellsFirstFor, Verified, authorities_of, is_yes};
 
-use crate::digest::{Sha256Digest, fingerprints};
+use crate::digest::{Sha256Digest, contains_digest};
 use crate::number::{MEMORY, TEXT, error_number, refusal_number};
 use crate::verification::Verification;
-use sshkey_base::Result;
-use sshkey_cert::CertificateRefusal;
+use sshkey_base::{HashAlg, Result};
+use sshkey_cert::{CertificateRefusal, refusal_of_authority_or_time, refusal_with_principal};
 use sshkey_cert_ref::CertificateRef;
 use std::alloc::Global;
 use std::str;
@@ -29,7 +27,9 @@ use std::str;
 /// Returns 0 if it is, 1 if memory ran out, from 10 to 29 the fault of bytes that are no
 /// certificate, and else what is wrong first: 30 for the signature, 31 for the authority, 32 for a
 /// time above 2^63 - 1, 33 for a time before `valid_after`, or not before `valid_before`. What a
-/// certificate is for, its critical options and whether it is revoked are not looked at.
+/// certificate is for, its critical options and whether it is revoked are not looked at. Memory is
+/// asked for only where a DSA or an RSA key signed, and 1 is answered only for an RSA key under
+/// another name than `ssh-rsa`.
 pub fn certificate_validate(
     alloc: Global,
     certificate: &[u8],
@@ -45,7 +45,7 @@ pub fn certificate_validate(
         result }
     ensures fault { (fault : Fault) → whole certificate_at certificate.now ≡ Err fault
         → result ≡ fault_number fault }
-    ensures memory { result ≡ 1 → SpellsSome SpellsCertificate certificate.now }
+    ensures memory { result ≡ 1 → HasRenamedAuthority certificate.now }
 {
     match CertificateRef::from_bytes(certificate) {
         Ok(read) => judge(alloc, &read, unix_timestamp, authorities, is_verified),
@@ -53,9 +53,8 @@ pub fn certificate_validate(
     }
 }
 
-/// The same for a principal: the certificate lists it, or no principals, and 34, the
-/// last of what is wrong, where it does not. 4 for a principal that is not UTF-8, whatever the
-/// certificate is.
+/// The same for a principal: the certificate lists it, or no principals, and 34, the last of what
+/// is wrong, where it does not. 4 for a principal that is not UTF-8, whatever the certificate is.
 ///
 /// A certificate without principals allows everybody here (PROTOCOL.certkeys), while sshd(8)
 /// rejects it for a user.
@@ -78,7 +77,7 @@ pub fn certificate_validate_for(
     ensures fault { IsUtf8 principal.now → (fault : Fault)
         → whole certificate_at certificate.now ≡ Err fault → result ≡ fault_number fault }
     ensures text { (IsUtf8 principal.now → ⊥) → result ≡ 4 }
-    ensures memory { result ≡ 1 → SpellsSome SpellsCertificate certificate.now }
+    ensures memory { result ≡ 1 → HasRenamedAuthority certificate.now }
 {
     match str::from_utf8(principal) {
         Ok(principal) => validate_for(
@@ -110,7 +109,7 @@ fn validate_for(
         certificate.now result }
     ensures fault { (fault : Fault) → whole certificate_at certificate.now ≡ Err fault
         → result ≡ fault_number fault }
-    ensures memory { result ≡ 1 → SpellsSome SpellsCertificate certificate.now }
+    ensures memory { result ≡ 1 → HasRenamedAuthority certificate.now }
 {
     match CertificateRef::from_bytes(certificate) {
         Ok(read) => judge_for(
@@ -133,8 +132,9 @@ fn judge(
     authorities: &[Sha256Digest],
     is_verified: u32,
 ) -> u32
-    ensures { result ≢ 1 → result ≡ refusal_number (first_refusal (λ _. is_yes is_verified)
+    ensures told { result ≢ 1 → result ≡ refusal_number (first_refusal (λ _. is_yes is_verified)
         (authorities_of authorities.now) unix_timestamp (certificate_of certificate.now)) }
+    ensures memory { result ≡ 1 → (choices_of certificate.now).signature_key ≢ Plain }
 {
     match first_refusal(
         alloc,
@@ -157,25 +157,29 @@ fn judge_for(
     authorities: &[Sha256Digest],
     is_verified: u32,
 ) -> u32
-    ensures { result ≢ 1 → result ≡ refusal_number (first_refusal_for (λ _. is_yes is_verified)
-        (authorities_of authorities.now) unix_timestamp principal.now
+    ensures told { result ≢ 1 → result ≡ refusal_number (first_refusal_for
+        (λ _. is_yes is_verified) (authorities_of authorities.now) unix_timestamp principal.now
         (certificate_of certificate.now)) }
+    ensures memory { result ≡ 1 → (choices_of certificate.now).signature_key ≢ Plain }
 {
     let verification = Verification::of(is_verified);
-    match first_refusal_for(
+    match first_refusal(
         alloc,
         certificate,
         unix_timestamp,
-        principal,
         authorities,
         verification,
     ) {
-        Ok(first) => refusal_number(first),
+        Ok(first) => refusal_number(refusal_with_principal(
+            first,
+            certificate.allows_principal(principal),
+        )),
         Err(_) => MEMORY,
     }
 }
 
-/// What is wrong with the certificate first.
+/// What is wrong with the certificate first. Fails only when out of memory, for the fingerprint of a
+/// key that is not in its normal form.
 fn first_refusal(
     alloc: Global,
     certificate: &CertificateRef<'_>,
@@ -183,26 +187,33 @@ fn first_refusal(
     authorities: &[Sha256Digest],
     verification: Verification,
 ) -> Result<Option<CertificateRefusal>>
-    ensures { FindsFirst (first_refusal (λ _. verification.is_yes) (authorities_of authorities.now)
+    ensures { FindsFirstOr ((choices_of certificate.now).signature_key ≢ Plain)
+        (first_refusal (λ _. verification.is_yes) (authorities_of authorities.now)
         unix_timestamp (certificate_of certificate.now)) result }
 {
-    let given = fingerprints(alloc, authorities)?;
-    certificate.first_refusal(alloc, unix_timestamp, &given, &verification)
+    if !is_signed(alloc, certificate, verification) {
+        return Ok(Some(CertificateRefusal::Signature));
+    }
+    let key = certificate.signature_key_ref();
+    let authority = key.fingerprint(alloc, HashAlg::Sha256)?;
+    if !contains_digest(authorities, authority.as_bytes()) {
+        return Ok(Some(CertificateRefusal::Authority));
+    }
+    let window = (certificate.valid_after(), certificate.valid_before());
+    Ok(refusal_of_authority_or_time(authority.as_bytes(), window, &[authority], unix_timestamp))
 }
 
-/// What is wrong with the certificate first, the principal last.
-fn first_refusal_for(
-    alloc: Global,
-    certificate: &CertificateRef<'_>,
-    unix_timestamp: u64,
-    principal: &str,
-    authorities: &[Sha256Digest],
-    verification: Verification,
-) -> Result<Option<CertificateRefusal>>
-    ensures { FindsFirst (first_refusal_for (λ _. verification.is_yes)
-        (authorities_of authorities.now) unix_timestamp principal.now
-        (certificate_of certificate.now)) result }
+/// Whether the certificate raises a question, and the verification said yes to it.
+///
+/// Whether it raises one does not hang on what was signed, so that is not put together; and where
+/// memory for the question is refused, it raises one.
+fn is_signed(alloc: Global, certificate: &CertificateRef<'_>, verification: Verification) -> bool
+    ensures { result
+        ≡ is_signed (λ _. verification.is_yes) (certificate_of certificate.now) }
 {
-    let given = fingerprints(alloc, authorities)?;
-    certificate.first_refusal_for(alloc, unix_timestamp, principal, &given, &verification)
+    let key = certificate.signature_key_ref();
+    match key.accepts(alloc, &[], &certificate.signature_ref(), &verification) {
+        Ok(yes) => yes,
+        Err(_) => verification.is_yes,
+    }
 }

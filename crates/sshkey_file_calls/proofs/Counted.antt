@@ -1,57 +1,45 @@
 -- Options, counted one by one.
-use Rattle.std.proofs.Common.{◌≡◌, ◌≢◌, ◌<◌, ◌-◌, ℕ, List, [], ◌∷◌, ◌++◌, length, drop, Bool, true, false, None, Option, Some, refl, ap, subst, ◌∙◌, arith, append_assoc, length-append}
+use Rattle.std.proofs.Common.{◌≡◌, ◌≢◌, ◌<◌, ◌+◌, ℕ, zero, suc, List, [], ◌∷◌, ◌++◌, length, drop, Bool, true, false, None, Option, Some, refl, sym, ap, subst, ◌∙◌, arith, append_assoc, length-append}
 use Rattle.sshkey_authorized_keys.specs.OpenSshItems.{key_option_of}
 use Rattle.sshkey_authorized_keys.specs.declared.openssh_option.OpenSshOption.{OpenSshOption}
 use Rattle.sshkey_files.specs.OptionItems.{HasKeyOptions, KeyOption}
-use Rattle.sshkey_calls.specs.Rooms.{Fills}
-use Rattle.sshkey_file_calls.specs.Options.{CountsOn, FindsOption, IsCounted, IsLaidOut, IsNumbered, IsOptionOf, TellsOption, WritesOption, found_option}
+use Rattle.sshkey_file_calls.specs.Options.{FindsOption, IsNumbered, IsOptionOf, TellsOption, found_option}
 use Rattle.sshkey_file_calls.specs.declared.options.OptionParts.{OptionParts}
 
-pub counted_before : (p o : OpenSshOption) (passing : ℕ) → CountsOn (Some p) passing o (Some p) passing
-counted_before p o passing number options is = (
-  is.0,
-  is.1 ++ (key_option_of o ∷ []),
-  ap (λ (l : List KeyOption). l ++ (key_option_of o ∷ [])) is.2 ∙ append_assoc is.0 (key_option_of p ∷ is.1) (key_option_of o ∷ []),
-  is.3,
-)
+-- So many options were read, and of them it is the one of that number, or so many are still to be passed over.
+abbrev pub IsCounted : ℕ → List KeyOption → Option OpenSshOption → ℕ → Type 0
+IsCounted number options None passing = length options + passing ≡ number
+IsCounted number options (Some o) passing = IsNumbered number options (Some (key_option_of o))
 
-pub counted_now : (o : OpenSshOption) (passing : ℕ) → passing ≡ 0 → CountsOn None passing o (Some o) 0
-counted_now o passing none number options is = (options, [], refl, omega (arith, is, none))
-
-pub counted_on : (o : OpenSshOption) (passing : ℕ) → passing ≢ 0 → CountsOn None passing o None (passing - 1)
-counted_on o passing some number options is = omega (arith, is, some, length-append options (key_option_of o ∷ []))
+-- the same of these and one more
+pub counted : (number : ℕ) (options : List KeyOption) (found : Option OpenSshOption) (passing : ℕ) (o : OpenSshOption) (now : Option OpenSshOption) (left : ℕ) → IsCounted number options found passing → ((p : OpenSshOption) → found ≡ Some p → now ≡ found) → (found ≡ None → passing ≡ 0 → now ≡ Some o) → (found ≡ None → passing ≢ 0 → (now ≡ None) × (left + 1 ≡ passing)) → IsCounted number (options ++ (key_option_of o ∷ [])) now left
+counted number options (Some p) passing o now left is before here later =
+    rw (before p refl) (
+      is.0,
+      is.1 ++ (key_option_of o ∷ []),
+      ap (λ (l : List KeyOption). l ++ (key_option_of o ∷ [])) is.2 ∙ append_assoc is.0 (key_option_of p ∷ is.1) (key_option_of o ∷ []),
+      is.3,
+    )
+counted number options None zero o now left is before here later = rw (here refl refl) (options, [], refl, omega (arith, is))
+counted number options None (suc passing) o now left is before here later =
+    let l = later refl (λ e. omega (arith, e)) in
+    rw l.0 (omega (arith, is, l.1, length-append options (key_option_of o ∷ [])))
 
 -- what was found among all of them
 pub numbered : (number : ℕ) (options : List KeyOption) (found : Option OpenSshOption) (passing : ℕ) → IsCounted number options found passing → IsNumbered number options (found_option found)
 numbered number options None passing is = omega (arith, is)
 numbered number options (Some o) passing is = is
 
--- ---- in the room
-
-pub writes : (o : KeyOption) (content before after : List ℕ) (filled : Bool) (was answer : OptionParts) (n : ℕ) → IsLaidOut o content answer → Fills content before filled after → (filled ≡ true → n ≡ 0) → (filled ≡ false → n ≡ 2) → WritesOption o n was answer before after
-writes o content before after true was answer n laid filled done short = record {
-  written = λ _. record { content = subst (λ (c : List ℕ). after ≡ c ++ drop (length c) before) laid.0 filled; placed = laid.1 };
-  short = λ two. absurd (omega (arith, done refl, two));
-  others = λ not_zero _. absurd (not_zero (done refl));
-  stays = λ not_zero _. absurd (not_zero (done refl));
-}
-writes o content before after false was answer n laid filled done short = record {
-  written = λ zero_. absurd (omega (arith, short refl, zero_));
-  short = λ _. record { needed = laid.1.length; short = subst (λ (c : List ℕ). length before < length c) laid.0 filled.1; stays = filled.0 };
-  others = λ _ not_two. absurd (not_two (short refl));
-  stays = λ _ not_two. absurd (not_two (short refl));
-}
-
 -- ---- the option of a number
 
 pub finds : (text : List ℕ) (number : ℕ) (found : Option KeyOption) (n : ℕ) (was answer : OptionParts) (before after : List ℕ) → IsOptionOf text number found → TellsOption found n was answer before after → FindsOption text number n was answer before after
 finds text number (Some o) n was answer before after is tells = record {
-  found = λ zero_. (o, is, tells.written zero_);
-  short = λ two. (o, is, tells.short two);
+  found = λ zero_. let g = tells.given zero_ in (g.0, subst (λ (x : KeyOption). IsOptionOf text number (Some x)) (sym g.1) is, g.2);
+  short = λ two. let g = tells.short two in (g.0, subst (λ (x : KeyOption). IsOptionOf text number (Some x)) (sym g.1) is, g.2);
   memory = λ _. (o, is);
-  last = λ three. absurd (omega (arith, three, tells.others (λ z. omega (arith, three, z)) (λ z. omega (arith, three, z))));
-  none = λ fifteen _. absurd (omega (arith, fifteen, tells.others (λ z. omega (arith, fifteen, z)) (λ z. omega (arith, fifteen, z))));
-  others = λ not_zero not_one not_two _. absurd (not_one (tells.others not_zero not_two));
+  last = λ three. absurd (tells.none (λ z. omega (arith, three, z)) (λ z. omega (arith, three, z)) (λ z. omega (arith, three, z)) o refl);
+  none = λ fifteen _. tells.none (λ z. omega (arith, fifteen, z)) (λ z. omega (arith, fifteen, z)) (λ z. omega (arith, fifteen, z)) o refl;
+  others = λ not_zero not_one not_two _. absurd (tells.none not_zero not_one not_two o refl);
   stays = tells.stays;
 }
 finds text number None n was answer before after is tells = record {

@@ -1,5 +1,5 @@
 -- What is answered of the entry of a line.
-use Rattle.std.specs.Prelude.{◌≡◌, ◌≢◌, ◌⊎◌, ◌<◌, ◌+◌, ℕ, List, ◌++◌, length, drop, Option, Some, None}
+use Rattle.std.specs.Prelude.{◌≡◌, ◌≢◌, ◌⊎◌, ◌+◌, ℕ, List, ◌++◌, length, Option, Some, None}
 use Rattle.sshkey_authorized_keys.specs.OpenSshNeeds.{NeedsEntry}
 use Rattle.sshkey_base.specs.declared.error.Error.{Error}
 use Rattle.sshkey_files.specs.AuthorizedKeys.{AuthorizedKey}
@@ -8,7 +8,7 @@ use Rattle.sshkey_files.specs.KnownHosts.{CertAuthority, KnownHost, Marker, Revo
 use Rattle.sshkey_model.specs.Keys.{Key, normal_key}
 use Rattle.sshkey_model.specs.Parts.{flat}
 use Rattle.sshkey_calls.specs.Numbers.{error_number}
-use Rattle.sshkey_calls.specs.Rooms.{IsPlaced}
+use Rattle.sshkey_calls.specs.Rooms.{Gives, IsPlaced}
 use Rattle.sshkey_file_calls.specs.declared.entries.EntryParts.{EntryParts}
 
 -- what is told of an entry: what stands before the key, the key's normal form, the comment, and the marker's number
@@ -46,26 +46,9 @@ pub record ArePlaced (x : EntryText) (answer : EntryParts) : Type 0 where
   pub length : answer.length ≡ length (content_of x)
   pub marker : answer.marker ≡ x.marker
 
-abbrev pub IsLaidOut : EntryText → List ℕ → EntryParts → Type 0
-IsLaidOut x content answer = (content ≡ content_of x) × ArePlaced x answer
-
--- The parts stand at the front of the room, and nothing else changed.
-pub record IsWritten (x : EntryText) (answer : EntryParts) (before after : List ℕ) : Type 0 where
-  pub content : after ≡ content_of x ++ drop (length (content_of x)) before
-  pub placed : ArePlaced x answer
-
--- The room is too short for them, and stays as it was; the answer says how much is needed.
-pub record IsTooShort (x : EntryText) (answer : EntryParts) (before after : List ℕ) : Type 0 where
-  pub needed : answer.length ≡ length (content_of x)
-  pub short : length before < length (content_of x)
-  pub stays : after ≡ before
-
--- What a call answers that looks for an entry: 0 with the parts of one, 1 for memory, which says nothing, 2 where there is one, and the room is too short for it; and every other number where there is none. But for 0 and 2, answer and room stay as they were.
-pub record FindsEntry {A : Type 0} (IsEntry : A → Type 0) (text_of : A → EntryText) (n : ℕ) (was answer : EntryParts) (before after : List ℕ) : Type 0 where
-  pub found : n ≡ 0 → (a : A) × IsEntry a × IsWritten (text_of a) answer before after
-  pub short : n ≡ 2 → (a : A) × IsEntry a × IsTooShort (text_of a) answer before after
-  pub none : n ≢ 0 → n ≢ 1 → n ≢ 2 → (a : A) → IsEntry a → ⊥
-  pub stays : n ≢ 0 → n ≢ 2 → (answer ≡ was) × (after ≡ before)
+-- What a call answers that looks for an entry.
+abbrev pub FindsEntry : {A : Type 0} → (A → Type 0) → (A → EntryText) → ℕ → EntryParts → EntryParts → List ℕ → List ℕ → Type 0
+FindsEntry IsEntry text_of = Gives IsEntry (λ a. content_of (text_of a)) (λ a. ArePlaced (text_of a)) (λ (p : EntryParts). p.length)
 
 -- The number is that of an error that names a fault of the line; 0, 1 and 2 name none.
 abbrev pub TellsFault : (List ℕ → Error → Type 0) → List ℕ → ℕ → Type 0

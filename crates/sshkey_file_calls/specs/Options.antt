@@ -1,11 +1,11 @@
 -- What is answered of the options of an entry.
-use Rattle.std.specs.Prelude.{◌≡◌, ◌≢◌, ◌<◌, ◌≤◌, ◌+◌, ℕ, List, [], ◌∷◌, ◌++◌, length, drop, Option, Some, None, Result, Ok, Err}
+use Rattle.std.specs.Prelude.{◌≡◌, ◌≢◌, ◌≤◌, ℕ, List, [], ◌∷◌, ◌++◌, length, Option, Some, None, Result, Ok, Err}
 use Rattle.sshkey_authorized_keys.specs.OpenSshItems.{key_option_of}
 use Rattle.sshkey_authorized_keys.specs.declared.openssh_option.OpenSshOption.{OpenSshOption}
 use Rattle.sshkey_base.specs.declared.error.Error.{Error}
 use Rattle.sshkey_base.specs.declared.error.Error.TheVariants.{FormatEncoding}
 use Rattle.sshkey_files.specs.OptionItems.{AreKeyOptions, HasKeyOptions, KeyOption}
-use Rattle.sshkey_calls.specs.Rooms.{IsPlaced}
+use Rattle.sshkey_calls.specs.Rooms.{Gives, IsFront, IsPlaced, LacksRoom}
 use Rattle.sshkey_file_calls.specs.declared.options.OptionParts.{OptionParts}
 
 -- the option that so many stand before; or there are no more than so many
@@ -38,31 +38,14 @@ pub record ArePlaced (o : KeyOption) (answer : OptionParts) : Type 0 where
   pub length : answer.length ≡ length (option_bytes o)
   pub has_value : answer.has_value ≡ value_number o.value
 
-abbrev pub IsLaidOut : KeyOption → List ℕ → OptionParts → Type 0
-IsLaidOut o content answer = (content ≡ option_bytes o) × ArePlaced o answer
-
--- They stand at the front of the room, and nothing else changed.
-pub record IsWritten (o : KeyOption) (answer : OptionParts) (before after : List ℕ) : Type 0 where
-  pub content : after ≡ option_bytes o ++ drop (length (option_bytes o)) before
-  pub placed : ArePlaced o answer
-
--- The room is too short for them, and stays as it was; the answer says how much is needed.
-pub record IsTooShort (o : KeyOption) (answer : OptionParts) (before after : List ℕ) : Type 0 where
-  pub needed : answer.length ≡ length (option_bytes o)
-  pub short : length before < length (option_bytes o)
-  pub stays : after ≡ before
-
--- 0, and it was written; 2, and the room is too short; or 1, for memory, and nothing changed.
-pub record WritesOption (o : KeyOption) (n : ℕ) (was answer : OptionParts) (before after : List ℕ) : Type 0 where
-  pub written : n ≡ 0 → IsWritten o answer before after
-  pub short : n ≡ 2 → IsTooShort o answer before after
-  pub others : n ≢ 0 → n ≢ 2 → n ≡ 1
-  pub stays : n ≢ 0 → n ≢ 2 → (answer ≡ was) × (after ≡ before)
+-- What a call answers that looks for the one option that `Wanted` tells.
+abbrev pub GivesOption : (KeyOption → Type 0) → ℕ → OptionParts → OptionParts → List ℕ → List ℕ → Type 0
+GivesOption Wanted = Gives Wanted option_bytes ArePlaced (λ (a : OptionParts). a.length)
 
 -- 0 and the option of that number, 2 where there is one, and the room is too short for it, 3 where there are no more, 15 where the text is no list of options; and 1 is memory, and only where there is one. But for 0 and 2, answer and room stay as they were.
 pub record FindsOption (text : List ℕ) (number n : ℕ) (was answer : OptionParts) (before after : List ℕ) : Type 0 where
-  pub found : n ≡ 0 → (o : KeyOption) × IsOptionOf text number (Some o) × IsWritten o answer before after
-  pub short : n ≡ 2 → (o : KeyOption) × IsOptionOf text number (Some o) × IsTooShort o answer before after
+  pub found : n ≡ 0 → (o : KeyOption) × IsOptionOf text number (Some o) × IsFront (option_bytes o) (ArePlaced o answer) before after
+  pub short : n ≡ 2 → (o : KeyOption) × IsOptionOf text number (Some o) × LacksRoom (option_bytes o) answer.length before after
   pub memory : n ≡ 1 → (o : KeyOption) × IsOptionOf text number (Some o)
   pub last : n ≡ 3 → IsOptionOf text number None
   pub none : n ≡ 15 → HasKeyOptions text → ⊥
@@ -71,23 +54,14 @@ pub record FindsOption (text : List ℕ) (number n : ℕ) (was answer : OptionPa
 
 -- The option that was found; or 3, for there is none, and nothing changed.
 abbrev pub TellsOption : Option KeyOption → ℕ → OptionParts → OptionParts → List ℕ → List ℕ → Type 0
-TellsOption (Some o) n was answer before after = WritesOption o n was answer before after
+TellsOption (Some o) n was answer before after = GivesOption (λ x. x ≡ o) n was answer before after
 TellsOption None n was answer before after = (n ≡ 3) × (answer ≡ was) × (after ≡ before)
 
--- ---- one by one
+-- ---- found
 
 abbrev pub found_option : Option OpenSshOption → Option KeyOption
 found_option None = None
 found_option (Some o) = Some (key_option_of o)
-
--- So many options were read, and of them it is the one of that number, or so many are still to be passed over.
-abbrev pub IsCounted : ℕ → List KeyOption → Option OpenSshOption → ℕ → Type 0
-IsCounted number options None passing = length options + passing ≡ number
-IsCounted number options (Some o) passing = IsNumbered number options (Some (key_option_of o))
-
--- What is known of some options and this one, where that was known of them.
-abbrev pub CountsOn : Option OpenSshOption → ℕ → OpenSshOption → Option OpenSshOption → ℕ → Type 0
-CountsOn found passing o now left = (number : ℕ) (options : List KeyOption) → IsCounted number options found passing → IsCounted number (options ++ (key_option_of o ∷ [])) now left
 
 -- The option of that number, or none; or the text is no list of options, `FormatEncoding`.
 abbrev pub FindsAt : List ℕ → ℕ → Result (Option OpenSshOption) Error → Type 0

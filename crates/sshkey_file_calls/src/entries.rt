@@ -8,12 +8,13 @@ ghost use Rattle.sshkey_files.specs.OpenSshLines.{IsAuthorizedLine, IsHostLine};
 ghost use Rattle.sshkey_known_hosts.specs.HostEntries.{known_host_of, marker_of};
 ghost use Rattle.sshkey_known_hosts.specs.OpenSshHosts as hosts;
 ghost use Rattle.sshkey_public.specs.PublicKeys.{comment_of, public_of};
-ghost use Rattle.sshkey_file_calls.specs.Entries.{FindsEntry, IsLaidOut, NeedsAuthorizedEntry, TellsFault, entry_text, marker_number, of_authorized_key, of_known_host};
+ghost use Rattle.sshkey_calls.specs.Rooms.{IsLaidOut};
+ghost use Rattle.sshkey_file_calls.specs.Entries.{ArePlaced, FindsEntry, NeedsAuthorizedEntry, TellsFault, content_of, entry_text, marker_number, of_authorized_key, of_known_host};
 
 use sshkey_authorized_keys::{Entry as AuthorizedEntry, OpenSshEntry};
-use sshkey_base::{Result, encode_vec};
-use sshkey_calls::number::{DONE, MEMORY, ROOM, TEXT, error_number};
-use sshkey_calls::part::{Part, add, write_to};
+use sshkey_base::Result;
+use sshkey_calls::number::{MEMORY, TEXT, error_number};
+use sshkey_calls::part::{self, Part, add, add_encoded};
 use sshkey_known_hosts::{Entry as KnownHost, Marker};
 use sshkey_public::PublicKey;
 use std::alloc::Global;
@@ -166,28 +167,23 @@ fn answer_with(
     ensures { FindsEntry (λ x. x ≡ entry_text front.now (public_of key.now) (comment_of key.now)
         marker) (λ x. x) result answer.old answer.new room.old room.new }
 {
-    match laid_out(alloc, front, key, marker) {
-        Ok((content, parts)) => {
-            *answer = parts;
-            if write_to(room, &content) { DONE } else { ROOM }
-        }
-        Err(_) => MEMORY,
-    }
+    part::answer_with(lay_out(alloc, front, key, marker), room, answer)
 }
 
 /// The bytes of an entry's parts, one behind the other, and where they are.
-fn laid_out(
+fn lay_out(
     alloc: Global,
     front: &str,
     key: &PublicKey,
     marker: u32,
 ) -> Result<(Vec<u8>, EntryParts)>
-    ensures { IfOk result (λ laid. IsLaidOut (entry_text front.now (public_of key.now)
-        (comment_of key.now) marker) laid.0.items laid.1) }
+    ensures { IfOk result (λ laid. IsLaidOut content_of ArePlaced (entry_text front.now
+        (public_of key.now) (comment_of key.now) marker) laid.0.items laid.1) }
 {
-    let mut content = Vec::new(alloc);
+    let texts = front.len().saturating_add(key.comment().len());
+    let mut content = part::with_capacity(alloc, key.key_data(), texts)?;
     let front = add(front.as_bytes(), &mut content)?;
-    let blob = add(&encode_vec(alloc, key.key_data())?, &mut content)?;
+    let blob = add_encoded(key.key_data(), &mut content)?;
     let comment = add(key.comment().as_bytes(), &mut content)?;
     let length = content.len();
     Ok((

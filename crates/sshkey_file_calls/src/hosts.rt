@@ -16,7 +16,9 @@ ghost use Rattle.sshkey_file_calls.specs.Verdicts.{IsVerdictOn, TellsBy, TellsAu
 
 use crate::authority::verdict_on_authority;
 use sshkey_base::Result;
-use sshkey_calls::number::{DONE, MEMORY, TEXT, error_number};
+use sshkey_calls::number::{
+    DONE, HOST_CHANGED, HOST_REVOKED, HOST_UNKNOWN, HOST_UNREADABLE, MEMORY, TEXT, error_number,
+};
 use sshkey_hmac::Hmac;
 use sshkey_keys::KeyData;
 use sshkey_keys_ref::KeyDataRef;
@@ -152,9 +154,9 @@ fn verdict_number(verdict: Verdict) -> u32
 {
     match verdict {
         Verdict::Trusted => DONE,
-        Verdict::Revoked => 50,
-        Verdict::Unreadable => 51,
-        Verdict::Changed => 52,
-        Verdict::Unknown => 53,
+        Verdict::Revoked => HOST_REVOKED,
+        Verdict::Unreadable => HOST_UNREADABLE,
+        Verdict::Changed => HOST_CHANGED,
+        Verdict::Unknown => HOST_UNKNOWN,
     }
 }

@@ -1,14 +1,16 @@
 //! The options of an entry of authorized_keys, one at a time.
 
-ghost use Rattle.std.specs.Prelude.{◌≡◌, ◌≢◌, IfOk};
+ghost use Rattle.std.specs.Prelude.{◌≡◌, ◌≢◌, ◌+◌, IfOk, None, Some};
 ghost use Rattle.std.specs.Str.{IsUtf8};
 ghost use Rattle.sshkey_authorized_keys.specs.OpenSshItems.{key_option_of};
-ghost use Rattle.sshkey_file_calls.specs.Options.{CountsOn, FindsAt, FindsOption, IsLaidOut, TellsOption, WritesOption, found_option};
+ghost use Rattle.sshkey_authorized_keys.specs.declared.openssh_option.OpenSshOption.{OpenSshOption};
+ghost use Rattle.sshkey_calls.specs.Rooms.{IsLaidOut};
+ghost use Rattle.sshkey_file_calls.specs.Options.{ArePlaced, FindsAt, FindsOption, TellsOption, found_option, option_bytes};
 
 use sshkey_authorized_keys::{OpenSshOption, OpenSshOptionsIter};
 use sshkey_base::Result;
-use sshkey_calls::number::{DONE, END, MEMORY, ROOM, TEXT, error_number};
-use sshkey_calls::part::{Part, add, write_to};
+use sshkey_calls::number::{END, TEXT, error_number};
+use sshkey_calls::part::{self, Part, add};
 use std::alloc::Global;
 use std::str;
 
@@ -81,18 +83,23 @@ fn tell(
         result answer.old answer.new room.old room.new }
 {
     match found {
-        Some(option) => answer_with(alloc, &option, room, answer),
+        Some(option) => part::answer_with(lay_out(alloc, &option), room, answer),
         None => END,
     }
 }
 
-/// What was found before, or this option where none is to be passed over; and how many still are.
+/// What was found before, or this option where no more are to be passed over; and how many still
+/// are.
 fn count_on<'a>(
     found: Option<OpenSshOption<'a>>,
     passing: usize,
     option: OpenSshOption<'a>,
 ) -> (Option<OpenSshOption<'a>>, usize)
-    ensures { CountsOn found.entry passing option.entry result.0 result.1 }
+    ensures before { (before : OpenSshOption) → found.entry ≡ Some before
+        → result.0 ≡ found.entry }
+    ensures now { found.entry ≡ None → passing ≡ 0 → result.0 ≡ Some option.entry }
+    ensures later { found.entry ≡ None → passing ≢ 0
+        → (result.0 ≡ None) × (result.1 + 1 ≡ passing) }
 {
     match found {
         Some(_) => (found, passing),
@@ -123,28 +130,10 @@ fn option_at(text: &str, number: usize) -> Result<Option<OpenSshOption<'_>>>
     Ok(found)
 }
 
-/// Answers with an option, its parts in the room where there is room for them.
-fn answer_with(
-    alloc: Global,
-    option: &OpenSshOption<'_>,
-    room: &mut [u8],
-    answer: &mut OptionParts,
-) -> u32
-    ensures { WritesOption (key_option_of option.now)
-        result answer.old answer.new room.old room.new }
-{
-    match laid_out(alloc, option) {
-        Ok((content, parts)) => {
-            *answer = parts;
-            if write_to(room, &content) { DONE } else { ROOM }
-        }
-        Err(_) => MEMORY,
-    }
-}
-
 /// The bytes of an option's parts, one behind the other, and where they are.
-fn laid_out(alloc: Global, option: &OpenSshOption<'_>) -> Result<(Vec<u8>, OptionParts)>
-    ensures { IfOk result (λ laid. IsLaidOut (key_option_of option.now) laid.0.items laid.1) }
+fn lay_out(alloc: Global, option: &OpenSshOption<'_>) -> Result<(Vec<u8>, OptionParts)>
+    ensures { IfOk result (λ laid. IsLaidOut option_bytes ArePlaced (key_option_of option.now)
+        laid.0.items laid.1) }
 {
     let mut content = Vec::new(alloc);
     let name = add(option.name().as_bytes(), &mut content)?;

@@ -7,7 +7,7 @@ use Rattle.sshkey_model.specs.Parts.{flat}
 use Rattle.sshkey_model.specs.Reading.{whole}
 use Rattle.sshkey_calls.proofs.Kept.{never_memory, no_fault}
 use Rattle.sshkey_calls.proofs.Validations.{one_spelled}
-use Rattle.sshkey_calls.proofs.Writing.{no_bytes, told_as}
+use Rattle.sshkey_calls.proofs.Rooms.{none_given, told_as}
 use Rattle.sshkey_calls.proofs.certified_key.certificate_key.Goals as goal
 
 pub returns-in-Ok-clause-written : goal.returns-in-Ok-clause-written
@@ -22,7 +22,7 @@ pub returns-in-Ok-clause-fault : goal.returns-in-Ok-clause-fault
 returns-in-Ok-clause-fault c fault is = absurd (no_fault certificate_bytes cause c.args.certificate.now c.in-Ok.read (whole certificate_at c.args.certificate.now) fault is c.in-Ok.ensures.keeps)
 
 pub returns-in-Err-clause-written : goal.returns-in-Err-clause-written
-returns-in-Err-clause-written c = no_bytes _ _ _ _ _ (refl, refl) c.error_number.ensures.some c.error_number.ensures.apart (λ _ s is. c.in-Err.ensures.accepts is.0 is.1)
+returns-in-Err-clause-written c = none_given _ _ _ _ _ (refl, refl) c.error_number.ensures.some c.error_number.ensures.apart (λ _ s is. c.in-Err.ensures.accepts is.0 is.1)
 
 pub returns-in-Err-clause-fault : goal.returns-in-Err-clause-fault
 returns-in-Err-clause-fault c fault is = c.error_number.ensures.fault fault (rw is at c.in-Err.ensures.keeps)

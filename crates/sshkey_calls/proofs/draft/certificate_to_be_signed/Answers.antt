@@ -3,7 +3,7 @@ use Rattle.sshkey_to_be_signed.specs.ToBeSignedValues.{to_be_signed_of}
 use Rattle.sshkey_calls.specs.Drafts.{Tells, draft_fault, parts_fault}
 use Rattle.sshkey_calls.proofs.DraftNumbers.{first_three, last_three, no_fault_told, no_value, number_told, only_asked}
 use Rattle.sshkey_calls.proofs.Drafts.{to_be_signed_told}
-use Rattle.sshkey_calls.proofs.Writing.{no_bytes}
+use Rattle.sshkey_calls.proofs.Rooms.{none_given}
 use Rattle.sshkey_calls.proofs.draft.certificate_to_be_signed.Goals as goal
 
 pub returns-in-Ok-clause-written : goal.returns-in-Ok-clause-written
@@ -21,7 +21,7 @@ returns-in-Ok-clause-memory c _ = let f = to_be_signed_of c.in-Ok.fields in (f.k
 pub returns-in-Err-clause-written : goal.returns-in-Err-clause-written
 returns-in-Err-clause-written c =
     let none = no_value (Tells c.args.draft.now) _ c.in-Err.number (no_fault_told c.args.draft.now) c.in-Err.ensures.fields in
-    no_bytes _ _ _ _ _ (refl, refl) none.0 none.1 (λ not_memory s is. none.2 not_memory is.0 is.1)
+    none_given _ _ _ _ _ (refl, refl) none.0 none.1 (λ not_memory s is. none.2 not_memory is.0 is.1)
 
 pub returns-in-Err-clause-numbers : goal.returns-in-Err-clause-numbers
 returns-in-Err-clause-numbers c some = let same = c.in-Err.ensures.numbers some in cc same

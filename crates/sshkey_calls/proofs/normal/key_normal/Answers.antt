@@ -19,7 +19,7 @@ write_key-requires c =
 pub returns-in-Ok-clause-normal : goal.returns-in-Ok-clause-normal
 returns-in-Ok-clause-normal c =
     let same = kept_bytes key_bytes cause c.args.key.now c.in-Ok.read (whole key_data_at c.args.key.now) c.in-Ok.ensures.keeps in
-    subst (λ (b : List ℕ). Writes (IsNormalKey b) c.write_key.result c.args.len.now c.write_key.new.len c.args.room.now c.write_key.new.room) same c.write_key.ensures.normal
+    subst (λ (b : List ℕ). Writes (IsNormalKey b) c.write_key.result c.args.length.now c.write_key.new.length c.args.room.now c.write_key.new.room) same c.write_key.ensures.normal
 
 pub returns-in-Ok-clause-fault : goal.returns-in-Ok-clause-fault
 returns-in-Ok-clause-fault c fault is = absurd (no_fault key_bytes cause c.args.key.now c.in-Ok.read (whole key_data_at c.args.key.now) fault is c.in-Ok.ensures.keeps)

@@ -6,14 +6,14 @@ use Rattle.sshkey_model.specs.Reading.{whole}
 use Rattle.sshkey_model.specs.Signatures.{signature, signature_at}
 use Rattle.sshkey_calls.proofs.Kept.{kept_bytes, never_memory, no_fault}
 use Rattle.sshkey_calls.proofs.NormalForms.{none_written}
-use Rattle.sshkey_calls.proofs.Writing.{write_one}
+use Rattle.sshkey_calls.proofs.Rooms.{give_one}
 use Rattle.sshkey_calls.proofs.normal.signature_normal.Goals as goal
 
 pub returns-in-Ok-clause-normal : goal.returns-in-Ok-clause-normal
 returns-in-Ok-clause-normal c =
     let g = c.in-Ok.ensures.accepts in
     let same = kept_bytes signature_bytes cause c.args.signature.now c.in-Ok.read (whole signature_at c.args.signature.now) c.in-Ok.ensures.keeps in
-    write_one _ _ _ _ _ _ (g.0, g.1, c.as_bytes.ensures.bytes ∙ same ∙ g.1.shape) c.write_bytes.ensures.written
+    give_one _ _ _ _ _ _ (g.0, g.1, c.as_bytes.ensures.bytes ∙ same ∙ g.1.shape) c.write_bytes.ensures.written
 
 pub returns-in-Ok-clause-fault : goal.returns-in-Ok-clause-fault
 returns-in-Ok-clause-fault c fault is = absurd (no_fault signature_bytes cause c.args.signature.now c.in-Ok.read (whole signature_at c.args.signature.now) fault is c.in-Ok.ensures.keeps)

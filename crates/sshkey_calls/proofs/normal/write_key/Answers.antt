@@ -2,13 +2,13 @@ use Rattle.std.proofs.Common.{refl, ◌∙◌}
 use Rattle.sshkey_model.specs.Keys.{normal_key}
 use Rattle.sshkey_keys.specs.Keys.{SpellsKey, key_of}
 use Rattle.sshkey_calls.proofs.NormalForms.{write_normal}
-use Rattle.sshkey_calls.proofs.Writing.{no_memory, write_one}
+use Rattle.sshkey_calls.proofs.Rooms.{give_one, no_memory}
 use Rattle.sshkey_calls.proofs.normal.write_key.Goals as goal
 
 pub returns-in-Some-clause-normal : goal.returns-in-Some-clause-normal
 returns-in-Some-clause-normal c =
     let k = c.requires in
-    write_one _ _ _ _ _ _ (k.0, k.1, c.in-Some.ensures.0 ∙ c.in-Some.ensures.1 k.0 k.1) c.write_bytes.ensures.written
+    give_one _ _ _ _ _ _ (k.0, k.1, c.in-Some.ensures.0 ∙ c.in-Some.ensures.1 k.0 k.1) c.write_bytes.ensures.written
 
 pub returns-in-Some-clause-memory : goal.returns-in-Some-clause-memory
 returns-in-Some-clause-memory c one = absurd (c.write_bytes.ensures.memory one)

@@ -5,14 +5,14 @@ use Rattle.sshkey_cert.specs.Questions.{certificate_question}
 use Rattle.sshkey_model.specs.Certificates.{certificate_at}
 use Rattle.sshkey_model.specs.Reading.{whole}
 use Rattle.sshkey_calls.proofs.Kept.{never_memory, no_fault}
-use Rattle.sshkey_calls.proofs.Questions.{none_raised, raised}
 use Rattle.sshkey_calls.proofs.Validations.{one_spelled}
+use Rattle.sshkey_calls.proofs.Rooms.{none_given, told_as}
 use Rattle.sshkey_calls.proofs.question.certificate_question.Goals as goal
 
 pub returns-in-Ok-clause-raised : goal.returns-in-Ok-clause-raised
 returns-in-Ok-clause-raised c =
     let read = c.in-Ok.ensures.accepts in
-    raised _ _ _ _ _
+    told_as _ _ _ _ _
     (λ q is. (certificate_of c.in-Ok.read, read, is))
     (λ q is. ap certificate_question (one_spelled (certificate_of c.in-Ok.read) is.0 c.args.certificate.now read is.1) ∙ is.2)
     c.ask.ensures.raised
@@ -25,7 +25,7 @@ pub returns-in-Ok-clause-fault : goal.returns-in-Ok-clause-fault
 returns-in-Ok-clause-fault c fault is = absurd (no_fault certificate_bytes cause c.args.certificate.now c.in-Ok.read (whole certificate_at c.args.certificate.now) fault is c.in-Ok.ensures.keeps)
 
 pub returns-in-Err-clause-raised : goal.returns-in-Err-clause-raised
-returns-in-Err-clause-raised c = none_raised _ _ _ _ _ (refl, refl) c.error_number.ensures.some c.error_number.ensures.apart (λ _ q is. c.in-Err.ensures.accepts is.0 is.1)
+returns-in-Err-clause-raised c = none_given _ _ _ _ _ (refl, refl) c.error_number.ensures.some c.error_number.ensures.apart (λ _ q is. c.in-Err.ensures.accepts is.0 is.1)
 
 pub returns-in-Err-clause-unsupported : goal.returns-in-Err-clause-unsupported
 returns-in-Err-clause-unsupported c d spelled _ _ = absurd (c.in-Err.ensures.accepts d spelled)

@@ -5,7 +5,7 @@ use Rattle.sshkey_model.specs.Reading.{whole}
 use Rattle.sshkey_calls.specs.Drafts.{IsJoined}
 use Rattle.sshkey_calls.proofs.DraftNumbers.{no_value, number_told, only_asked}
 use Rattle.sshkey_calls.proofs.Drafts.{fits_number, long_number}
-use Rattle.sshkey_calls.proofs.Writing.{no_bytes, told_as}
+use Rattle.sshkey_calls.proofs.Rooms.{none_given, told_as}
 use Rattle.sshkey_calls.proofs.signed.certificate_make.Goals as goal
 
 pub returns-in-Ok-clause-written : goal.returns-in-Ok-clause-written
@@ -31,7 +31,7 @@ returns-in-Ok-clause-memory c one = absurd (c.write_certificate.ensures.memory o
 pub returns-in-Err-clause-written : goal.returns-in-Err-clause-written
 returns-in-Err-clause-written c =
     let none = no_value (IsJoined c.args.to_be_signed.now c.args.signature.now) _ c.in-Err.number (λ s joined. fits_number c.args.signature.now joined.1) c.in-Err.ensures in
-    no_bytes _ _ _ _ _ (refl, refl) none.0 none.1 (λ not_memory s is. none.2 not_memory s is.0)
+    none_given _ _ _ _ _ (refl, refl) none.0 none.1 (λ not_memory s is. none.2 not_memory s is.0)
 
 pub returns-in-Err-clause-fault : goal.returns-in-Err-clause-fault
 returns-in-Err-clause-fault c s fault joined is not_memory =

@@ -5,11 +5,12 @@ use Rattle.sshkey_authorized_keys.specs.OpenSshFaults.{HasLineFault}
 use Rattle.sshkey_files.specs.OpenSshLines.{IsAuthorizedLine}
 use Rattle.sshkey_file_calls.specs.Entries.{of_authorized_key}
 use Rattle.sshkey_calls.proofs.Kept.{only_memory}
-use Rattle.sshkey_file_calls.proofs.Found.{no_fault, none_found, of_line, told}
+use Rattle.sshkey_calls.proofs.Rooms.{give_one}
+use Rattle.sshkey_file_calls.proofs.Found.{no_fault, none_found, told}
 use Rattle.sshkey_file_calls.proofs.entries.authorized_entry_of.Goals as goal
 
 pub returns-in-Ok-clause-entry : goal.returns-in-Ok-clause-entry
-returns-in-Ok-clause-entry c = of_line (IsAuthorizedLine c.args.line.now) of_authorized_key (openssh_entry_of c.in-Ok.entry) _ _ _ _ _ c.in-Ok.ensures.reads c.tell_authorized_key.ensures
+returns-in-Ok-clause-entry c = give_one (openssh_entry_of c.in-Ok.entry) _ _ _ _ _ c.in-Ok.ensures.reads c.tell_authorized_key.ensures
 
 pub returns-in-Ok-clause-fault : goal.returns-in-Ok-clause-fault
 returns-in-Ok-clause-fault c = no_fault HasLineFault c.args.line.now of_authorized_key (openssh_entry_of c.in-Ok.entry) _ _ _ _ _ c.tell_authorized_key.ensures

@@ -5,12 +5,13 @@ use Rattle.sshkey_known_hosts.specs.OpenSshHosts.{HasLineFault}
 use Rattle.sshkey_files.specs.OpenSshLines.{IsHostLine}
 use Rattle.sshkey_file_calls.specs.Entries.{of_known_host}
 use Rattle.sshkey_calls.proofs.Kept.{only_memory}
+use Rattle.sshkey_calls.proofs.Rooms.{give_one}
 use Rattle.sshkey_known_hosts.proofs.HostLines.{entry_needs}
-use Rattle.sshkey_file_calls.proofs.Found.{no_fault, none_found, of_line, told}
+use Rattle.sshkey_file_calls.proofs.Found.{no_fault, none_found, told}
 use Rattle.sshkey_file_calls.proofs.entries.known_host_of.Goals as goal
 
 pub returns-in-Ok-clause-entry : goal.returns-in-Ok-clause-entry
-returns-in-Ok-clause-entry c = of_line (IsHostLine c.args.line.now) of_known_host (known_host_of c.in-Ok.entry) _ _ _ _ _ c.in-Ok.ensures.reads c.tell_known_host.ensures
+returns-in-Ok-clause-entry c = give_one (known_host_of c.in-Ok.entry) _ _ _ _ _ c.in-Ok.ensures.reads c.tell_known_host.ensures
 
 pub returns-in-Ok-clause-fault : goal.returns-in-Ok-clause-fault
 returns-in-Ok-clause-fault c = no_fault HasLineFault c.args.line.now of_known_host (known_host_of c.in-Ok.entry) _ _ _ _ _ c.tell_known_host.ensures

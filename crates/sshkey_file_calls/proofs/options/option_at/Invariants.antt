@@ -1,7 +1,7 @@
 use Rattle.std.proofs.Common.{List}
 use Rattle.sshkey_authorized_keys.proofs.FoundOptions.{Behind}
 use Rattle.sshkey_files.specs.OptionItems.{HasKeyOptions, KeyOption}
-use Rattle.sshkey_file_calls.specs.Options.{IsCounted}
+use Rattle.sshkey_file_calls.proofs.Counted.{IsCounted}
 use Rattle.sshkey_file_calls.proofs.options.option_at.Given as goal
 
 -- what was read, how many of it were counted, and that the rest is options where all of it is

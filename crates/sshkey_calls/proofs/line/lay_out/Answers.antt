@@ -1,6 +1,6 @@
 use Rattle.std.proofs.Common.{◌≡◌, List, ℕ, ◌++◌, length, refl, ap, rules, ◌∙◌}
 use Rattle.sshkey_calls.proofs.KeyLines.{laid}
-use Rattle.sshkey_calls.proofs.line.laid_out.Goals as goal
+use Rattle.sshkey_calls.proofs.line.lay_out.Goals as goal
 
 pub returns : goal.returns
 returns c first blob line fits =

@@ -1,7 +1,7 @@
 use Rattle.std.proofs.Common.{◌++◌, ◌∙◌, List, ℕ, ap, inl, refl}
 use Rattle.std.proofs.lemmas.Result.{err_from_is_err_and}
 use Rattle.sshkey_calls.proofs.DraftNumbers.{wrong_part}
-use Rattle.sshkey_calls.proofs.signed.joined.Goals as goal
+use Rattle.sshkey_calls.proofs.signed.join.Goals as goal
 
 pub returns-in_err-string : goal.returns-in_err-string
 returns-in_err-string c =

@@ -1,0 +1,31 @@
+use Rattle.std.proofs.Common.{◌≡◌, ◌+◌, List, ℕ, ◌++◌, length, ap, sym, arith, rules, ◌∙◌, refl}
+use Rattle.std.proofs.lemmas.List.{length-append}
+use Rattle.sshkey_base.specs.Sink.{Sink, after}
+use Rattle.sshkey_model.specs.Parts.{Parts, flat}
+use Rattle.sshkey_calls.proofs.part.add_encoded.Goals as goal
+
+-- what the sink has then
+added : (p : Parts) (s t : Sink) → t ≡ after p s → t.written ≡ s.written ++ flat p
+unfolding after
+added p s t is = rw is refl
+
+-- and so how many bytes were added
+counted : {n m : ℕ} (p : Parts) (old new : List ℕ) → new ≡ old ++ flat p → n ≡ length old → m ≡ length new → m ≡ n + length (flat p)
+counted p old new is here there = there ∙ ap (λ (l : List ℕ). length l) is ∙ length-append old (flat p) ∙ ap (λ (k : ℕ). k + length (flat p)) (sym here)
+
+pub overflow_sub-result : goal.overflow_sub-result
+overflow_sub-result g c =
+    let here : c.len-start.result ≡ length c.args.content.now.items = search rules in
+    let there : c.len.result ≡ length c.encode.new.writer.items = search rules in
+    let all = counted (g.T.Encode.normal c.args.value.now) c.args.content.now.items c.encode.new.writer.items (added _ _ _ c.in_ok-encode.ensures.1) here there in
+    omega (arith, all)
+
+pub returns-clause-added : goal.returns-clause-added
+returns-clause-added g c = added _ _ _ c.in_ok-encode.ensures.1
+
+pub returns-clause-length : goal.returns-clause-length
+returns-clause-length g c =
+    let here : c.len-start.result ≡ length c.args.content.now.items = search rules in
+    let there : c.len.result ≡ length c.encode.new.writer.items = search rules in
+    let all = counted (g.T.Encode.normal c.args.value.now) c.args.content.now.items c.encode.new.writer.items (added _ _ _ c.in_ok-encode.ensures.1) here there in
+    omega (arith, all)
