@@ -49,9 +49,9 @@ pub enum Refusal {
 /// stands in front of their fault failed: a length that they only state allocates nothing. One with
 /// reserved bytes is not verified. One by a security key counts whatever its flags say, also where
 /// nobody touched it, as for ssh-keygen: the flags are the fifth byte from the end of
-/// `Signature::as_bytes`, and the bit 0x01 says that somebody did. Keys that ssh-keygen does not read are left to the verifier: RSA
-/// keys of fewer than 1,024 bits or more than 16,384, keys with negative numbers, and points that
-/// are compressed or not on their curve.
+/// `Signature::as_bytes`, and the bit 0x01 says that somebody did. Keys that ssh-keygen does not
+/// read are left to the verifier: RSA keys of fewer than 1,024 bits or more than 16,384, keys with
+/// negative numbers, and points that are compressed or not on their curve.
 pub fn verify<V: RawVerifier>(
     alloc: Global,
     signers: &str,

@@ -19,18 +19,18 @@ use std::alloc::Global;
 /// The comment of the first deploy key that has signed the content, in that namespace (git's is
 /// `git`), or `None` if none of them has.
 ///
-/// `keys` is read as sshd(8) reads authorized_keys. A line that is no entry, or one with options, is
-/// passed over: no deploy key stands there. The comment is what whoever wrote the line chose: several
-/// lines may have one, and a line without any gives an empty text. So it names a signer only where
-/// the text is yours.
+/// `keys` is read as sshd(8) reads authorized_keys. A line that is no entry, or one with options,
+/// is passed over: no deploy key stands there. The comment is what whoever wrote the line chose:
+/// several lines may have one, and a line without any gives an empty text. So it names a signer
+/// only where the text is yours.
 ///
 /// `signature` is what stands in the armour of `ssh-keygen -Y sign`, decoded. One by a security key
-/// counts whatever its flags say, also where nobody touched it, as for ssh-keygen: the flags are the
-/// fifth byte from the end of `Signature::as_bytes`, and the bit 0x01 says that somebody did. One with reserved bytes counts for nobody: ssh-keygen verifies it
-/// as if these were empty. Unless memory runs out, it fails exactly if the bytes spell no SSH
-/// signature, with the refusal of `SshSig::from_bytes`. Where they spell none, `Memory` means that
-/// an allocation for what stands in front of their fault failed: a length that they only state
-/// allocates nothing.
+/// counts whatever its flags say, also where nobody touched it, as for ssh-keygen: the flags are
+/// the fifth byte from the end of `Signature::as_bytes`, and the bit 0x01 says that somebody did.
+/// One with reserved bytes counts for nobody: ssh-keygen verifies it as if these were empty. Unless
+/// memory runs out, it fails exactly if the bytes spell no SSH signature, with the refusal of
+/// `SshSig::from_bytes`. Where they spell none, `Memory` means that an allocation for what stands
+/// in front of their fault failed: a length that they only state allocates nothing.
 pub fn find_signer<V: RawVerifier>(
     alloc: Global,
     keys: &str,

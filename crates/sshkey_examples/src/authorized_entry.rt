@@ -20,8 +20,8 @@ use std::marker::Model;
 ///
 /// sshd passes over a line that is no entry; one whose options are none, as `command=ls` without
 /// quotes; one with the option `cert-authority`, by which the key is an authority's and logs nobody
-/// in; and one with a zero byte before the end of its options or its key, where it takes the line to
-/// end. So it is done here, wherever in the line the zero byte stands.
+/// in; and one with a zero byte before the end of its options or its key, where it takes the line
+/// to end. So it is done here, wherever in the line the zero byte stands.
 ///
 /// Whoever calls it has asked the client for a signature under the offered key, and judges the
 /// options of each entry: an entry with an option that is not known, or that this login does not
@@ -29,8 +29,8 @@ use std::marker::Model;
 /// whose options permit the login binds it to what they say, and sshd looks at no other. By that
 /// entry refuse a security key's signature whose flags lack the bit 0x01, that somebody touched the
 /// key, unless the option `no-touch-required` stands there, or 0x04, that it verified its user,
-/// where `verify-required` does; the flags are the fifth byte from the end of `Signature::as_bytes`.
-/// Where no entry is left, the key lets nobody in.
+/// where `verify-required` does; the flags are the fifth byte from the end of
+/// `Signature::as_bytes`. Where no entry is left, the key lets nobody in.
 pub fn entries_for<'a>(alloc: Global, text: &'a str, offered: &'a KeyData) -> EntriesFor<'a>
     ensures { result ≡ record { lines = filled_lines text.now; key = key_of offered.now } }
 {

@@ -21,9 +21,9 @@ use std::alloc::Global;
 ///
 /// Unless memory runs out, it rejects all others with the first of these: the errors of
 /// `CertificateRef::from_bytes`; `CertificateFieldInvalid` with `CertType` for a certificate for
-/// users, and with `CriticalOptions` for one that has some, since this caller knows none; the errors
-/// of `CertificateRef::validate_principal_at`. `Memory` is answered only of a certificate that this
-/// last call judges.
+/// users, and with `CriticalOptions` for one that has some, since this caller knows none; the
+/// errors of `CertificateRef::validate_principal_at`. `Memory` is answered only of a certificate
+/// that this last call judges.
 pub fn check_host<V: RawVerifier>(
     alloc: Global,
     shown: &[u8],

@@ -21,9 +21,9 @@ use std::alloc::Global;
 /// `PublicKey::verify`. Where the line is no key's, or the bytes are no signature, `Memory` means
 /// what it means of these two calls.
 ///
-/// A signature by a security key counts whatever its flags say, also where nobody touched it, as for
-/// ssh-keygen: the flags are the fifth byte from the end of `Signature::as_bytes`, and the bit 0x01
-/// says that somebody did.
+/// A signature by a security key counts whatever its flags say, also where nobody touched it, as
+/// for ssh-keygen: the flags are the fifth byte from the end of `Signature::as_bytes`, and the bit
+/// 0x01 says that somebody did.
 pub fn accept_file<V: RawVerifier>(
     alloc: Global,
     line: &str,
