@@ -1,5 +1,5 @@
 -- What a verdict, an entry and a line decide.
-use Rattle.std.proofs.Common.{◌≡◌, ◌≢◌, ◌↔◌, ◌==◌, ◌∙◌, ℕ, ◌<◌, List, [], ◌∷◌, length, get_or, eqb-true, arith, sym, Bool, true, false, Option, Some, None, Result, Ok, Err, IfErr, IfOk, IsTrue, refl, subst, inl, inr}
+use Rattle.std.proofs.Common.{◌≡◌, ◌≢◌, ◌⊎◌, ◌↔◌, ◌==◌, ◌∙◌, ℕ, ◌<◌, List, [], ◌∷◌, length, get_or, eqb-true, arith, sym, Bool, true, false, Option, Some, None, Result, Ok, Err, IfErr, IfOk, IsTrue, refl, subst, inl, inr}
 use Rattle.ssh_key.specs.base.Acceptance.{AcceptsExactly}
 use Rattle.ssh_key.specs.base.Causes.{NoMemory, cause}
 use Rattle.ssh_key.specs.base.Reading.{NoSpelling}
@@ -11,13 +11,17 @@ use Rattle.ssh_key.specs.entries.OpenSshLines.{IsAuthorizedLine}
 use Rattle.ssh_key.specs.entries.Patterns.{MatchesList}
 use Rattle.ssh_key.specs.model.Keys.{Key}
 use Rattle.ssh_key.specs.model.Lines.{IsWithout}
+use Rattle.ssh_key.specs.model.Parts.{BoxesFit, Parts}
+use Rattle.ssh_key.specs.model.SignedMessages.{signed_by}
 use Rattle.ssh_key.specs.model.SshSignatures.{SshSignature}
+use Rattle.ssh_key.specs.model.Verification.{IsAccepted, Question}
 use Rattle.ssh_key.specs.sshsig.SshSignatureFormats.{ssh_signature_format}
 use Rattle.ssh_key.specs.sshsig.SshSignatureReaders.{SpellsSshSignature}
 use Rattle.ssh_key.specs.types.Error.{Error}
-use Rattle.ssh_key.specs.types.Error.TheVariants.{Memory}
+use Rattle.ssh_key.specs.types.Error.TheVariants.{Encoding, Memory}
+use Rattle.ssh_key.specs.types.encoding.Error.TheVariants.{Length}
 use Rattle.ssh_key.proofs.Acceptance.{other_cause}
-use Rattle.allowed_signers.specs.AllowedSigners.{Allows, Answers, HasEntryFor, HasSignature, IsEntryFor, IsNo, Names, OkExactly, OptionsPermit, ReadsSignature}
+use Rattle.allowed_signers.specs.AllowedSigners.{Allows, Answers, HasEntryFor, HasSignature, HasSigned, IsEntryFor, IsNo, Names, OkExactly, OptionsPermit, ReadsSignature}
 use Rattle.allowed_signers.specs.OneValue.{IsTheOne}
 use Rattle.allowed_signers.specs.Principals.{ArePrincipals}
 use Rattle.allowed_signers.specs.SignerOptions.{AreTerms, Permits, Terms, terms_of}
@@ -71,6 +75,19 @@ none_reserved (x ∷ bytes) empty judged e = let zero_long : length (x ∷ bytes
 pub some_reserved : (bytes : List ℕ) (empty : Bool) → empty ≡ (length bytes == 0) → empty ≡ false → bytes ≡ [] → ⊥
 some_reserved [] empty judged e is = cc
 some_reserved (x ∷ bytes) empty judged e is = absurd cc
+
+-- what is signed in place of a message is made, or memory ran out
+pub made : (p : Parts) (e : Error) → BoxesFit p → ((BoxesFit p → ⊥) × (e ≡ Encoding Length)) ⊎ (BoxesFit p × (e ≡ Memory)) → e ≡ Memory
+made p e fits (inl long) = absurd (long.0 fits)
+made p e fits (inr memory) = memory.1
+
+-- the verdict on these bytes decides
+pub signed : (accepts : Question → Bool) (namespace message bytes : List ℕ) (f : SshSignature) → f.reserved ≡ [] → f.namespace ≡ namespace → bytes ≡ signed_by f message → (verdict : Result (Unit {0}) Error) → AcceptsExactly (IsAccepted accepts f.key bytes f.signature) verdict → (r : Result Bool Error) → Answers verdict r → IfOk r (λ yes. IsTrue yes ↔ HasSigned accepts namespace message f)
+signed accepts namespace message bytes f plain same made verdict exactly r answers =
+    told_as (IsAccepted accepts f.key bytes f.signature) (HasSigned accepts namespace message f)
+    (λ accepted. record { verified = record { same_key = refl; same_namespace = same; accepted = subst (λ (b : List ℕ). IsAccepted accepts f.key b f.signature) made accepted }; nothing_reserved = plain })
+    (λ has. subst (λ (b : List ℕ). IsAccepted accepts f.key b f.signature) (sym made) has.verified.accepted)
+    r (answered (IsAccepted accepts f.key bytes f.signature) verdict r exactly answers)
 
 -- ---- an entry
 

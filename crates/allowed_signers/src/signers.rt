@@ -11,10 +11,10 @@ ghost use Rattle.allowed_signers.specs.AllowedSigners.{Allows, Answers, Counts, 
 use crate::line::split_principals;
 use crate::options::SignerOptions;
 use ssh_key::authorized_keys::{Entry, FilledLines, OpenSshEntry, OpenSshOptions};
-use ssh_key::laws::{compared_keys, one_authorized_line, one_ssh_signature};
+use ssh_key::laws::{compared_keys, one_authorized_line, one_ssh_signature, signed_parts_fit};
 use ssh_key::patterns::{LetterCase, matches_pattern_list};
 use ssh_key::public::KeyData;
-use ssh_key::{Error, PublicKey, RawVerifier, Result, SshSig};
+use ssh_key::{Error, RawVerifier, Result, SshSig};
 use std::alloc::Global;
 
 /// Why a signature does not count.
@@ -47,9 +47,11 @@ pub enum Refusal {
 /// out, it is refused for the first of these that holds: `NoSignature`, `NotAllowed`,
 /// `NotVerified`. Where the bytes are no signature, `Memory` means that an allocation for what
 /// stands in front of their fault failed: a length that they only state allocates nothing. One with
-/// reserved bytes is not verified. Keys that ssh-keygen does not read are left to the verifier: RSA
-/// keys of fewer than 1,024 bits or more than 16,384, keys with negative numbers, and points that
-/// are compressed or not on their curve.
+/// reserved bytes is not verified. One by a security key counts whatever its flags say, also where
+/// nobody touched it, as for ssh-keygen: the flags are the fifth byte from the end of
+/// `Signature::as_bytes`, and the bit 0x01 says that somebody did. Keys that ssh-keygen does not
+/// read are left to the verifier: RSA keys of fewer than 1,024 bits or more than 16,384, keys with
+/// negative numbers, and points that are compressed or not on their curve.
 pub fn verify<V: RawVerifier>(
     alloc: Global,
     signers: &str,
@@ -97,7 +99,7 @@ fn read_signature(alloc: Global, bytes: &[u8]) -> std::result::Result<SshSig, Re
 fn refusal_of(error: Error) -> Refusal
     ensures { Names error result }
 {
-    if error == Error::Memory {
+    if error.is_memory() {
         return Refusal::Memory;
     }
     Refusal::NoSignature
@@ -117,12 +119,23 @@ fn has_signed<V: RawVerifier>(
         namespace.now message.now (ssh_signature_of signature.now)) }
     ensures memory { IfErr result (λ e. e ≡ Memory) }
 {
+    signed_parts_fit();
     if !signature.reserved().is_empty() {
         return Ok(false);
     }
-    let key_data = signature.public_key().try_clone(alloc)?;
-    let key = PublicKey::new(key_data, String::new(alloc));
-    answer_of(key.verify(alloc, namespace, message, signature, verifier))
+    if !is_for(signature, namespace) {
+        return Ok(false);
+    }
+    let signed = signature.signed_bytes(alloc, message)?;
+    let key = signature.public_key();
+    answer_of(key.verify(alloc, &signed, signature.signature(), verifier))
+}
+
+/// Whether the signature is one in that namespace.
+fn is_for(signature: &SshSig, namespace: &str) -> bool
+    ensures { IsTrue result ↔ ((ssh_signature_of signature.now).namespace ≡ namespace.now) }
+{
+    signature.namespace() == namespace
 }
 
 /// Yes or no, unless an allocation failed.
@@ -139,7 +152,7 @@ fn answer_of(verdict: Result<()>) -> Result<bool>
 fn no(error: Error) -> Result<bool>
     ensures { IsNo error result }
 {
-    if error == Error::Memory {
+    if error.is_memory() {
         return Err(error);
     }
     Ok(false)

@@ -53,9 +53,7 @@ fn flags_of(digits: &str) -> Result<u32> {
 }
 
 fn key_of(alloc: Global, line: &str) -> Result<KeyData> {
-    PublicKey::from_openssh(alloc, line)?
-        .key_data()
-        .try_clone(alloc)
+    Ok(KeyData::from(PublicKey::from_openssh(alloc, line)?))
 }
 
 /// The signature of the message by that key.

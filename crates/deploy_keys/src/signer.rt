@@ -19,13 +19,18 @@ use std::alloc::Global;
 /// The comment of the first deploy key that has signed the content, in that namespace (git's is
 /// `git`), or `None` if none of them has.
 ///
-/// `keys` is read as sshd(8) reads authorized_keys. A line that is no entry, or one with options, is
-/// passed over: no deploy key stands there. `signature` is what stands in the armour of
-/// `ssh-keygen -Y sign`, decoded. One with reserved bytes counts for nobody: ssh-keygen verifies it
-/// as if these were empty. Unless memory runs out, it fails exactly if the bytes spell no SSH
-/// signature, with the refusal of `SshSig::from_bytes`. Where they spell none, `Memory` means that
-/// an allocation for what stands in front of their fault failed: a length that they only state
-/// allocates nothing.
+/// `keys` is read as sshd(8) reads authorized_keys. A line that is no entry, or one with options,
+/// is passed over: no deploy key stands there. The comment is what whoever wrote the line chose:
+/// several lines may have one, and a line without any gives an empty text. So it names a signer
+/// only where the text is yours.
+///
+/// `signature` is what stands in the armour of `ssh-keygen -Y sign`, decoded. One by a security key
+/// counts whatever its flags say, also where nobody touched it, as for ssh-keygen: the flags are
+/// the fifth byte from the end of `Signature::as_bytes`, and the bit 0x01 says that somebody did.
+/// One with reserved bytes counts for nobody: ssh-keygen verifies it as if these were empty. Unless
+/// memory runs out, it fails exactly if the bytes spell no SSH signature, with the refusal of
+/// `SshSig::from_bytes`. Where they spell none, `Memory` means that an allocation for what stands
+/// in front of their fault failed: a length that they only state allocates nothing.
 pub fn find_signer<V: RawVerifier>(
     alloc: Global,
     keys: &str,
@@ -82,15 +87,15 @@ fn signer_at_answer<V: RawVerifier>(
     one_authorized_line();
     match answer {
         Ok(entry) => signer_at_entry(alloc, &entry, namespace, content, signature, verifier),
-        Err(error) => passed_over(error),
+        Err(error) => unless_memory(error),
     }
 }
 
 /// Nothing stands in a line that was rejected, unless an allocation failed.
-fn passed_over(error: Error) -> Result<Option<String>>
+fn unless_memory(error: Error) -> Result<Option<String>>
     ensures { PassesOver error result }
 {
-    if error == Error::Memory {
+    if error.is_memory() {
         return Err(error);
     }
     Ok(None)
@@ -120,7 +125,7 @@ fn signer_at_entry<V: RawVerifier>(
     if !signed {
         return Ok(None);
     }
-    let text = copied(alloc, entry.public_key().comment())?;
+    let text = copy_text(alloc, entry.public_key().comment())?;
     Ok(Some(text))
 }
 
@@ -132,7 +137,7 @@ fn has_reserved(signature: &SshSig) -> bool
 }
 
 /// The text in memory of its own.
-fn copied(alloc: Global, text: &str) -> Result<String>
+fn copy_text(alloc: Global, text: &str) -> Result<String>
     ensures value { IfOk result (λ copy. string_bytes copy ≡ text.now) }
     ensures memory { IfErr result (λ e. e ≡ Memory) }
 {
@@ -164,7 +169,7 @@ fn answer_of(verdict: Result<()>) -> Result<bool>
 {
     match verdict {
         Ok(()) => Ok(true),
-        Err(error) if error == Error::Memory => Err(error),
+        Err(error) if error.is_memory() => Err(error),
         Err(_) => Ok(false),
     }
 }

@@ -8,10 +8,12 @@ use Rattle.ssh_key.specs.model.Fingerprints.{Fingerprint}
 use Rattle.ssh_key.specs.model.Keys.{Key}
 use Rattle.ssh_key.specs.model.Lines.{IsCertificateLine, IsNoLine, name_of_certificate}
 use Rattle.ssh_key.specs.model.OptionMaps.{value_of}
+use Rattle.ssh_key.specs.model.Reading.{whole}
 use Rattle.ssh_key.specs.model.Refusals.{first_refusal_for}
 use Rattle.ssh_key.specs.model.Validity.{IsValid}
 use Rattle.ssh_key.specs.model.Verification.{Question}
 use Rattle.ssh_key.specs.options.OptionMaps.{options_of}
+use Rattle.ssh_key.specs.public.LineFaults.{HasFaultOfLine}
 use Rattle.ssh_key.specs.public.LineNeeds.{NeedsValue}
 use Rattle.ssh_key.specs.types.Error.{Error}
 use Rattle.ssh_key.specs.types.Error.TheVariants.{CertificateFieldInvalid, Memory}
@@ -68,6 +70,6 @@ pub data Refuses (accepts : Question → Bool) (authorities : List Fingerprint) 
   NobodyListed : c.signed.certificate_type ≡ User → c.signed.key ≡ offered → All IsKnown c.signed.critical_options → All IsEmptyIfFlag c.signed.extensions → c.signed.valid_principals ≡ [] → Refuses accepts authorities t user offered c (invalid field.ValidPrincipals)
   NotValid : c.signed.certificate_type ≡ User → c.signed.key ≡ offered → All IsKnown c.signed.critical_options → All IsEmptyIfFlag c.signed.extensions → c.signed.valid_principals ≢ [] → (e : Error) → option_map refusal_error (first_refusal_for accepts authorities t user c) ≡ Some e → Refuses accepts authorities t user offered c e
 
--- The text is the line of no certificate, or of one that is refused for that.
+-- The text is the line of no certificate, and has that fault; or of one that is refused for that.
 abbrev pub RefusesLine : (Question → Bool) → List Fingerprint → ℕ → List ℕ → Key → List ℕ → Error → Type 0
-RefusesLine accepts authorities t user offered text e = IsNoLine name_of_certificate SpellsCertificate text ⊎ ((c : Certificate) × (comment : List ℕ) × IsCertificateLine text c comment × Refuses accepts authorities t user offered c e)
+RefusesLine accepts authorities t user offered text e = (IsNoLine name_of_certificate SpellsCertificate text × HasFaultOfLine (whole certificate_format.read) name_of_certificate SpellsCertificate text e) ⊎ ((c : Certificate) × (comment : List ℕ) × IsCertificateLine text c comment × Refuses accepts authorities t user offered c e)

@@ -38,8 +38,8 @@ pub(crate) fn grant_of(alloc: Global, certificate: &Certificate) -> Result<Grant
     ensures memory { IfErr result (λ e. e ≡ Memory) }
 {
     let options = certificate.critical_options();
-    let force_command = copied(alloc, options.get(FORCE_COMMAND))?;
-    let source_address = copied(alloc, options.get(SOURCE_ADDRESS))?;
+    let force_command = copy_text(alloc, options.get(FORCE_COMMAND))?;
+    let source_address = copy_text(alloc, options.get(SOURCE_ADDRESS))?;
     Ok(Grant {
         force_command,
         source_address,
@@ -50,7 +50,7 @@ pub(crate) fn grant_of(alloc: Global, certificate: &Certificate) -> Result<Grant
 }
 
 /// The text in memory of its own, if there is one.
-fn copied(alloc: Global, text: Option<&str>) -> Result<Option<String>>
+fn copy_text(alloc: Global, text: Option<&str>) -> Result<Option<String>>
     ensures value { IfOk result
         (λ copy. option_map string_bytes copy ≡ option_map (λ t. t.now) text.entry) }
     ensures memory { IfErr result (λ e. e ≡ Memory) }

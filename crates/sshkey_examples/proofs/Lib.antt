@@ -1,6 +1,6 @@
 mod Answered
-mod HostCertificates
 mod AuthorizedEntries
+mod HostCertificates
 mod HostKeys
 mod Room
 mod SignedFiles

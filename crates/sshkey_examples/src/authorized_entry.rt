@@ -1,67 +1,142 @@
-//! A login's question: which entry of authorized_keys is for the key that a client offers?
+//! A login's question: which entries of authorized_keys are for the key that a client offers?
 
-ghost use Rattle.std.specs.Prelude.{◌≡◌, ◌↔◌, IfErr, IfOk, IsTrue};
+ghost use Rattle.std.specs.Prelude.{◌≡◌, ◌↔◌, IsTrue};
+ghost use Rattle.std.specs.Iterator.{item_count};
 ghost use Rattle.ssh_key.specs.authorized_keys.OpenSshEntries.{openssh_entry_of};
 ghost use Rattle.ssh_key.specs.entries.Fields.{filled_lines};
 ghost use Rattle.ssh_key.specs.keys.Keys.{key_of};
 ghost use Rattle.ssh_key.specs.model.Keys.{IsKey};
-ghost use Rattle.ssh_key.specs.types.Error.TheVariants.{Memory};
-ghost use Rattle.sshkey_examples.specs.AuthorizedEntries.{FindsEntry, IsAnswerFor};
+ghost use Rattle.sshkey_examples.specs.AuthorizedEntries.{AnswersFor, AnswersNext, AreForHolders, Entries, IsForHolder, YieldsEntry};
 
-use ssh_key::authorized_keys::OpenSshEntry;
-use ssh_key::laws::{compared_keys, one_authorized_line};
+use ssh_key::Result;
+use ssh_key::authorized_keys::{Entry, FilledLines, OpenSshEntry, OpenSshOptions};
+use ssh_key::laws::{compared_keys, one_authorized_line, one_key_options};
 use ssh_key::public::KeyData;
-use ssh_key::{AuthorizedKeys, Error, Result};
 use std::alloc::Global;
+use std::marker::Model;
 
-/// The first entry of a text of authorized_keys that is for the offered key, as sshd(8) reads the
-/// text ("AUTHORIZED_KEYS FILE FORMAT").
+/// The entries of a text of authorized_keys that are for whoever holds the offered key, in order,
+/// as sshd(8) reads the text ("AUTHORIZED_KEYS FILE FORMAT").
 ///
-/// `None` exactly where no line is such an entry: a line that is none lets nobody in. Fails only
-/// when out of memory.
+/// sshd passes over a line that is no entry; one whose options are none, as `command=ls` without
+/// quotes; one with the option `cert-authority`, by which the key is an authority's and logs nobody
+/// in; and one with a zero byte before the end of its options or its key, where it takes the line
+/// to end. So it is done here, wherever in the line the zero byte stands.
 ///
-/// Whoever calls it has asked the client for a signature under the offered key, and does what the
-/// options of the entry say: an option that is not known refuses the login. So does a security
-/// key's signature whose flags lack the bit 0x01, that somebody touched it, unless the option
-/// `no-touch-required` stands there, or 0x04, that it verified its user, where `verify-required`
-/// does; the flags are the fifth byte from the end of `Signature::as_bytes`.
-pub fn entry_for(alloc: Global, text: &str, offered: &KeyData) -> Result<Option<OpenSshEntry>>
-    requires { IsKey (key_of offered.now) }
-    ensures found { IfOk result (FindsEntry (filled_lines text.now) (key_of offered.now)) }
-    ensures memory { IfErr result (λ e. e ≡ Memory) }
+/// Whoever calls it has asked the client for a signature under the offered key, and judges the
+/// options of each entry: an entry with an option that is not known, or that this login does not
+/// meet, as `from` or `expiry-time`, lets nobody in, and sshd goes on to the next. The first entry
+/// whose options permit the login binds it to what they say, and sshd looks at no other. By that
+/// entry refuse a security key's signature whose flags lack the bit 0x01, that somebody touched the
+/// key, unless the option `no-touch-required` stands there, or 0x04, that it verified its user,
+/// where `verify-required` does; the flags are the fifth byte from the end of
+/// `Signature::as_bytes`. Where no entry is left, the key lets nobody in.
+pub fn entries_for<'a>(alloc: Global, text: &'a str, offered: &'a KeyData) -> EntriesFor<'a>
+    ensures { result ≡ record { lines = filled_lines text.now; key = key_of offered.now } }
+{
+    EntriesFor {
+        alloc,
+        lines: FilledLines::new(text),
+        offered,
+    }
+}
+
+/// The entries that `entries_for` answers, one by one. What an entry keeps is copied.
+///
+/// An answer is an `Err` only where memory ran out. Refuse the login then: the next answer is of a
+/// line behind that one.
+///
+/// Contracts see the lines that are left, without the spaces and tabs at their front, and the key.
+#[derive(Drop)]
+pub struct EntriesFor<'a> {
+    alloc: Global,
+    lines: FilledLines<'a>,
+    offered: &'a KeyData,
+}
+
+impl<'a> Model for EntriesFor<'a> {
+    ghost Value = { Entries };
+
+    ghost view = { λ s. record { lines = s.lines; key = key_of s.offered.now } };
+}
+
+impl<'a> Iterator for EntriesFor<'a> {
+    type Item = Result<OpenSshEntry>;
+
+    ghost next_gives = { YieldsEntry };
+
+    ghost remaining = { item_count (λ left. left.lines) };
+
+    fn next(&mut self) -> Option<Result<OpenSshEntry>> {
+        next_answer(self.alloc, &mut self.lines, self.offered)
+    }
+}
+
+/// The answer of the first of these lines that has one.
+fn next_answer(
+    alloc: Global,
+    lines: &mut FilledLines<'_>,
+    offered: &KeyData,
+) -> Option<Result<OpenSshEntry>>
+    ensures { AnswersNext (key_of offered.now) lines.old result lines.new }
+{
+    'answers: while let Some(line) = lines.next() {
+        let answer = answer_for(alloc, line, offered);
+        if answer.is_some() {
+            return answer;
+        }
+    }
+    None
+}
+
+/// The entry of a line, if it has one that is for whoever holds the key.
+fn answer_for(alloc: Global, line: &str, offered: &KeyData) -> Option<Result<OpenSshEntry>>
+    ensures { AnswersFor (key_of offered.now) line.now result }
 {
     one_authorized_line();
-    for entry in AuthorizedKeys::openssh(alloc, text) {
-        if let Some(entry) = if_for(entry, offered)? {
-            return Ok(Some(entry));
-        }
+    if line.contains('\0') {
+        return None;
     }
-    Ok(None)
-}
-
-/// The entry of a line, if it has one and that is for the key.
-fn if_for(entry: Result<OpenSshEntry>, offered: &KeyData) -> Result<Option<OpenSshEntry>>
-    requires { IsKey (key_of offered.now) }
-    ensures own { IfOk result (IsAnswerFor (key_of offered.now) entry) }
-    ensures memory { IfErr result (λ e. e ≡ Memory) }
-{
-    match entry {
+    match Entry::from_line_openssh(alloc, line) {
         Ok(entry) => {
-            if is_for(&entry, offered) {
-                return Ok(Some(entry));
+            if is_for_holder(&entry, offered) {
+                return Some(Ok(entry));
             }
-            Ok(None)
+            None
         }
-        Err(Error::Memory) => Err(Error::Memory),
-        Err(_error) => Ok(None),
+        Err(error) => {
+            if error.is_memory() {
+                return Some(Err(error));
+            }
+            None
+        }
     }
 }
 
-/// Whether the entry is for that key.
-fn is_for(entry: &OpenSshEntry, offered: &KeyData) -> bool
-    requires { IsKey (key_of offered.now) }
+/// Whether the entry is for whoever holds the key.
+fn is_for_holder(entry: &OpenSshEntry, offered: &KeyData) -> bool
+    requires { IsKey (openssh_entry_of entry.now).key }
+    ensures { IsTrue result ↔ IsForHolder (key_of offered.now) (openssh_entry_of entry.now) }
+{
+    has_key(entry, offered) && are_for_holders(entry.options())
+}
+
+/// Whether the entry has that key.
+fn has_key(entry: &OpenSshEntry, offered: &KeyData) -> bool
+    requires { IsKey (openssh_entry_of entry.now).key }
     ensures { IsTrue result ↔ ((openssh_entry_of entry.now).key ≡ key_of offered.now) }
 {
     compared_keys();
     entry.public_key().key_data() == offered
+}
+
+/// Whether all is options, and none of them says that the key is an authority's.
+fn are_for_holders(options: &OpenSshOptions) -> bool
+    ensures { IsTrue result ↔ AreForHolders options.now }
+{
+    one_key_options();
+    let Ok(found) = options.get("cert-authority") else {
+        return false;
+    };
+    found.is_none()
 }

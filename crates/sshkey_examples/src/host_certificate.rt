@@ -1,9 +1,11 @@
 //! A question of whoever connects to a host: is the certificate that it shows good for its name?
 
+ghost use Rattle.std.specs.Prelude.{◌≡◌, ◌≢◌, IfErr};
+ghost use Rattle.ssh_key.specs.base.Acceptance.{AcceptsExactly};
 ghost use Rattle.ssh_key.specs.cert.Validity.{fingerprints_of};
 ghost use Rattle.ssh_key.specs.cert_ref.CertificateRef.{certificate_of};
-ghost use Rattle.ssh_key.specs.base.Acceptance.{AcceptsExactly};
-ghost use Rattle.sshkey_examples.specs.HostCertificates.{CertifiesHost, IsCertifiedHost};
+ghost use Rattle.ssh_key.specs.types.Error.TheVariants.{Memory};
+ghost use Rattle.sshkey_examples.specs.HostCertificates.{CertifiesHost, IsBadFor, IsCertifiedHost, IsPlainForHosts, IsWhyNot, NeedsMemory};
 
 use ssh_key::certificate::{CertificateRef, Field};
 use ssh_key::laws::one_certificate;
@@ -14,10 +16,14 @@ use std::alloc::Global;
 /// for the host's name, by one of the authorities with these fingerprints. Reading copies nothing
 /// of them.
 ///
-/// Unless memory runs out, it rejects all others. This caller knows no critical options, so it
-/// rejects a certificate that has one, as `CertificateFieldInvalid`, and likewise one for users.
-/// The other refusals are those of `CertificateRef::from_bytes` and of
-/// `CertificateRef::validate_principal_at`.
+/// A certificate that lists no principals is for each host (PROTOCOL.certkeys). Whoever wants a
+/// name to be listed asks that `valid_principals` is not empty.
+///
+/// Unless memory runs out, it rejects all others with the first of these: the errors of
+/// `CertificateRef::from_bytes`; `CertificateFieldInvalid` with `CertType` for a certificate for
+/// users, and with `CriticalOptions` for one that has some, since this caller knows none; the
+/// errors of `CertificateRef::validate_principal_at`. `Memory` is answered only of a certificate
+/// that this last call judges.
 pub fn check_host<V: RawVerifier>(
     alloc: Global,
     shown: &[u8],
@@ -26,8 +32,11 @@ pub fn check_host<V: RawVerifier>(
     authorities: &[Fingerprint],
     verifier: &V,
 ) -> Result<()>
-    ensures { AcceptsExactly (IsCertifiedHost (V.accepts verifier.now)
+    ensures exactly { AcceptsExactly (IsCertifiedHost (V.accepts verifier.now)
         (fingerprints_of authorities.now) unix_timestamp shown.now host.now) result }
+    ensures refused { IfErr result (λ e. e ≢ Memory → IsWhyNot (V.accepts verifier.now)
+        (fingerprints_of authorities.now) unix_timestamp shown.now host.now e) }
+    ensures memory { IfErr result (λ e. e ≡ Memory → NeedsMemory shown.now) }
 {
     one_certificate();
     let certificate = CertificateRef::from_bytes(shown)?;
@@ -50,9 +59,14 @@ fn check_certificate<V: RawVerifier>(
     authorities: &[Fingerprint],
     verifier: &V,
 ) -> Result<()>
-    ensures { AcceptsExactly (CertifiesHost (V.accepts verifier.now)
+    ensures exactly { AcceptsExactly (CertifiesHost (V.accepts verifier.now)
         (fingerprints_of authorities.now) unix_timestamp host.now
         (certificate_of certificate.now)) result }
+    ensures refused { IfErr result (λ e. e ≢ Memory → IsBadFor (V.accepts verifier.now)
+        (fingerprints_of authorities.now) unix_timestamp host.now
+        (certificate_of certificate.now) e) }
+    ensures memory { IfErr result
+        (λ e. e ≡ Memory → IsPlainForHosts (certificate_of certificate.now)) }
 {
     if !certificate.cert_type().is_host() {
         return Err(Error::CertificateFieldInvalid(Field::CertType));

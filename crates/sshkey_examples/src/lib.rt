@@ -12,7 +12,7 @@ mod normal_blob;
 mod signed;
 mod signed_file;
 
-pub use authorized_entry::entry_for;
+pub use authorized_entry::{EntriesFor, entries_for};
 pub use host_certificate::check_host;
 pub use host_key::fingerprint_if_known;
 pub use key_blob::read_key;

@@ -38,7 +38,7 @@ fn answer_of(verdict: Result<()>) -> Result<bool>
 {
     match verdict {
         Ok(()) => Ok(true),
-        Err(error) if error == Error::Memory => Err(error),
+        Err(error) if error.is_memory() => Err(error),
         Err(_) => Ok(false),
     }
 }

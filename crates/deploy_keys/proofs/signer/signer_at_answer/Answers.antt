@@ -15,4 +15,4 @@ returns-in-Ok g c = λ line read.
 pub returns-in-Err : goal.returns-in-Err
 returns-in-Err g c = λ line read.
     let none = subst (λ (r : Result OpenSshEntry Error). ReadsEntry openssh_entry_of IsAuthorizedLine line r) c.in-Err.is read in
-    no_entry _ _ _ line _ _ none c.passed_over.result c.passed_over.ensures
+    no_entry _ _ _ line _ _ none c.unless_memory.result c.unless_memory.ensures

@@ -12,7 +12,7 @@ returns-in_err-certificate-clause-exactly g c =
 pub returns-in_err-certificate-clause-refused : goal.returns-in_err-certificate-clause-refused
 returns-in_err-certificate-clause-refused g c =
     let p = err_from_is_err_and c.from_residual.result c.from_residual.ensures.1 in
-    rw (p.1, p.2) (λ other. inl (c.in_err-certificate.ensures.reads (other_cause _ other)))
+    rw (p.1, p.2) (λ other. inl (c.in_err-certificate.ensures.reads (other_cause _ other), c.in_err-certificate.ensures.fault (other_cause _ other)))
 
 pub returns-in_err-certificate-clause-memory : goal.returns-in_err-certificate-clause-memory
 returns-in_err-certificate-clause-memory g c =
