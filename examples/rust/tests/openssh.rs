@@ -166,6 +166,14 @@ fn drafts_are_refused_where_something_is_left_out() {
         valid_before: END,
         ..Draft::default()
     };
+    let ended = Listed::Names(&["alice", "root\0"]);
+    assert_eq!(
+        refusal(Draft {
+            principals: ended,
+            ..draft
+        }),
+        Status::FORMAT
+    );
     let principals = Listed::Names(&[]);
     assert_eq!(
         refusal(Draft {
