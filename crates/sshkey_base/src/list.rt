@@ -91,8 +91,7 @@ fn texts_from<R: Reader>(alloc: Global, reader: &mut R) -> Result<Vec<String>>
 ///
 /// A length larger than the remaining input fails with `Length`, and nothing is allocated for it;
 /// so does the length of a text that passes the list. A text that is not UTF-8 fails with
-/// `CharacterEncoding`. A sound source fails with `Memory` only where the first string stands whole
-/// in the list.
+/// `CharacterEncoding`. Fails with `Memory` only where the first string stands whole in the list.
 #[tactic(auto, using(crate::proofs::Boxes::boxes))]
 impl Decode for Vec<String> {
     type Error = Error;
