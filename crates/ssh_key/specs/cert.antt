@@ -7,3 +7,4 @@ pub use Rattle.sshkey_cert.specs.Questions
 pub use Rattle.sshkey_cert.specs.Signing
 pub use Rattle.sshkey_cert.specs.Lines
 pub use Rattle.sshkey_cert.specs.Comparisons
+pub use Rattle.sshkey_cert.specs.KeysOrCertificates

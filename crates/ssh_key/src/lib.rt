@@ -1,9 +1,8 @@
 //! SSH keys, certificates and signatures: the one crate that a user names.
 //!
-//! It holds no code of its own, and gives what the crates below it have under the module names of
-//! the Rust crate `ssh-key`. So do its `specs` with the words of their contracts:
-//! `Rattle.sshkey_keys.specs.Keys` is `Rattle.ssh_key.specs.keys.Keys` here, as for each crate, and
-//! the type `public::KeyData` is in `Rattle.ssh_key.specs.types.public.KeyData`. Its `proofs` have
+//! It re-exports the crates below it under the module names of the Rust crate `ssh-key`. So do its
+//! `specs` with the words of their contracts: `Rattle.sshkey_keys.specs.Keys` is
+//! `Rattle.ssh_key.specs.keys.Keys` here, and the type `public::KeyData` is in `Rattle.ssh_key.specs.types.public.KeyData`. Its `proofs` have
 //! the rulesets for what callers read and write, as `ssh_key::proofs::Steps::steps`.
 #![tactic(auto)]
 
