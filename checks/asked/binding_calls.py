@@ -33,6 +33,7 @@ name.
 """
 import random
 import re
+import subprocess
 import tempfile
 from dataclasses import dataclass
 
@@ -371,7 +372,11 @@ def check_stub(count, asker, made, number):
 
 def check_answered(count, asker, name, questions, number):
     """Each question is answered with that number, and a verdict with two; of a login the words are not looked at."""
-    ran = run(asker.words, input="".join(f"{it}\n" for it in questions), timeout=60)
+    try:
+        ran = run(asker.words, input="".join(f"{it}\n" for it in questions), timeout=30)
+    except subprocess.TimeoutExpired:
+        count.check(f"{asker.language}: {name}, and the answers end", False)
+        return
     said = [re.sub(r"^refused: .* \((\d+)\)$", r"\1", it) for it in ran.stdout.splitlines()]
     wanted = [f"{number} {number}" if it.startswith("verdict ") else str(number) for it in questions]
     wrong = [it for it in zip(questions, said, wanted) if it[1] != it[2]]

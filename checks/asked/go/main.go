@@ -159,12 +159,14 @@ func validate(words []string) ([]string, error) {
 }
 
 func user(words []string) ([]string, error) {
-	known := text(words[5])
-	err := judge.ValidateUser(data(words[0]), judge.Login{
+	login := judge.Login{
 		Key: data(words[1]), Now: at(words[2]), User: text(words[3]),
 		Authorities: digests(words[4]),
-		IsMet:       func(name, value string) bool { return name == known && value != "" },
-	})
+	}
+	if known := text(words[5]); known != "" {
+		login.IsMet = func(name, value string) bool { return name == known && value != "" }
+	}
+	err := judge.ValidateUser(data(words[0]), login)
 	return []string{judge.Said(err)}, nil
 }
 
