@@ -19,7 +19,7 @@ from lib.harness import ssh_keygen, string, take
 from lib.signatures import armoured, mpint, signed_data
 
 from .entry_calls import loaded
-from .example_calls import INVALID, UNTOLD, VALID, armour_cases, certificate_cases
+from .example_calls import INVALID, SPACE, UNTOLD, VALID, armour_cases, certificate_cases
 from .key_calls import numbers_of_keys, renamed, signed_by_hand
 from .linked import run
 
@@ -204,20 +204,20 @@ def check_armour(count, program, made):
     """The program reads an armour where `ssh-keygen -Y verify` does."""
     signed, path = made.maker.write("armour.txt", "a text"), made.maker.path("user0.pub")
     allowed = made.maker.write("armour.allowed", f"alice {made.maker.read('user0.pub')}")
-    good, strange = (armoured(made.maker.signature("user0", it)) for it in ("a text", "another text"))
+    good, strange = (armoured(made.maker.signature("user0", it, SPACE)) for it in ("a text", "another text"))
     for case, text, wanted in armour_cases(good, strange):
-        ran = program.run("signature", path, "file", signed, input=text)
-        words = ["-Y", "verify", "-n", "file", "-I", "alice", "-f", allowed, "-s", made.maker.write("armour.sig", text)]
+        ran = program.run("signature", path, SPACE, signed, input=text)
+        words = ["-Y", "verify", "-n", SPACE, "-I", "alice", "-f", allowed, "-s", made.maker.write("armour.sig", text)]
         taken = ssh_keygen(*words, check=False, input=b"a text", stdin=None).returncode == 0
         same = is_as_wanted(program, ran, wanted) and taken == (wanted == VALID)
         count.check(f"{program.language}, an armour: {case}", same, ran, f"ssh-keygen: {taken}")
     for case, words in (
-        ("no such file", [path, "file", made.maker.path("none")]), ("a folder", [path, "file", made.folder]),
-        ("no such signers", [made.maker.path("none"), "file", signed]), ("a folder of signers", [made.folder, "file", signed]),
+        ("no such file", [path, SPACE, made.maker.path("none")]), ("a folder", [path, SPACE, made.folder]),
+        ("no such signers", [made.maker.path("none"), SPACE, signed]), ("a folder of signers", [made.folder, SPACE, signed]),
     ):  # fmt: skip
         ran = program.run("signature", *words, input=good)
         count.check(f"{program.language}, a signature: {case}", is_untold(program, ran), ran)
-    ran = run([*program.words, "signature", path, "file", signed], input=b"\xff" + good.encode(), text=False)
+    ran = run([*program.words, "signature", path, SPACE, signed], input=b"\xff" + good.encode(), text=False)
     count.check(f"{program.language}, an armour that is no text", ran.returncode == UNTOLD and not ran.stdout, ran)
 
 

@@ -2,6 +2,7 @@
 none, and what is not written. Whoever asks a program by its status has to hear of it."""
 import os
 import shutil
+import string
 import sys
 
 from lib.signatures import armoured
@@ -141,9 +142,15 @@ def check_closed(count, built, maker):
             count.check(f"{name}: standard {case} is closed", is_untold(ran, script), ran.returncode, ran.stdout, ran.stderr)
 
 
+# a namespace in which the Base64 of a signature by an Ed25519 key ends in ==
+SPACE = "files"
+DIGITS = f"{string.ascii_uppercase}{string.ascii_lowercase}{string.digits}+/"
+
+
 def armour_cases(good, strange):
     """Names, texts that are made of the armour of a signature, or are that of another text, and the status."""
     ends, (head, *body, tail) = good.rindex("-----END"), good.splitlines()
+    at = good.index("==\n") - 1
     yield from [
         ("as it is", good, VALID), ("in one line", f"{head}\n{''.join(body)}\n{tail}\n", VALID), ("of another text", strange, INVALID),
         ("another name", good.replace("SSH SIGNATURE", "PGP THING"), UNTOLD), ("no end", good[:ends], UNTOLD),
@@ -153,6 +160,8 @@ def armour_cases(good, strange):
         ("one of another alphabet", good[: ends - 9] + "_" + good[ends - 9 :], UNTOLD),
         ("no armour", "".join(good.splitlines(True)[1:-1]), UNTOLD), ("nothing", "", UNTOLD), ("a text before", "x" + good, UNTOLD),
         ("a text behind", good + "x\n", VALID), ("no line end", good.removesuffix("\n"), VALID),
+        ("a bit behind the last byte", good[:at] + DIGITS[DIGITS.index(good[at]) + 1] + good[at + 1 :], UNTOLD),
+        ("no padding", good.replace("==\n", "\n"), UNTOLD), ("half the padding", good.replace("==\n", "=\n"), UNTOLD),
         *((f"a character {it!r} within", good[: ends - 9] + it + good[ends - 9 :], VALID) for it in " \t\v\f\n"),
         *((f"a character {it!r} within", good[: ends - 9] + it + good[ends - 9 :], UNTOLD) for it in "=\x1c\x85\xa0"),
     ]  # fmt: skip
@@ -161,10 +170,10 @@ def armour_cases(good, strange):
 def check_armour(count, built, maker):
     """check.py reads an armour where `ssh-keygen -Y verify` does."""
     signed = maker.write("armour.txt", "a text")
-    good, strange = (armoured(maker.signature("holder", it)) for it in ("a text", "another text"))
+    good, strange = (armoured(maker.signature("holder", it, SPACE)) for it in ("a text", "another text"))
     allowed = maker.write("armour.allowed", f"alice {maker.read('holder.pub')}")
-    words = [*python(built, "check.py"), "signature", maker.path("holder.pub"), "file", signed]
-    asked = ["ssh-keygen", "-Y", "verify", "-n", "file", "-I", "alice", "-f", allowed]
+    words = [*python(built, "check.py"), "signature", maker.path("holder.pub"), SPACE, signed]
+    asked = ["ssh-keygen", "-Y", "verify", "-n", SPACE, "-I", "alice", "-f", allowed]
     for case, text, wanted in armour_cases(good, strange):
         ran = run(words, input=text)
         judged = run([*asked, "-s", maker.write("armour.sig", text)], input="a text")

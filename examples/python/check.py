@@ -211,7 +211,11 @@ def unarmoured(text: str) -> bytes:
     if parts[:2] + parts[3:4] != ["", "BEGIN SSH SIGNATURE", "END SSH SIGNATURE"]:
         raise ValueError("no SSH signature was given")
     # bytes are split at the white space that is ASCII, a text also at other, which ssh-keygen does not take
-    return base64.b64decode(b"".join(parts[2].encode().split()), validate=True)
+    digits = b"".join(parts[2].encode().split())
+    blob = base64.b64decode(digits, validate=True)
+    if base64.b64encode(blob) != digits:  # bits stand behind the last byte
+        raise ValueError("no SSH signature was given")
+    return blob
 
 
 def signature(signers: str, namespace: str, file: str) -> bool:

@@ -123,7 +123,7 @@ func unarmoured(text string) ([]byte, error) {
 	}
 	isSpace := func(it rune) bool { return strings.ContainsRune(" \t\n\v\f\r", it) }
 	rows := strings.FieldsFunc(parts[2], isSpace)
-	return base64.StdEncoding.DecodeString(strings.Join(rows, ""))
+	return base64.StdEncoding.Strict().DecodeString(strings.Join(rows, ""))
 }
 
 func signature(words []string, given io.Reader) ([]string, bool, error) {
