@@ -13,7 +13,7 @@
  *     meanings                               the words of judge.h for each of these numbers
  *
  * and those of asked/key_calls.h, asked/certificate_calls.h, asked/entry_calls.h,
- * asked/login_calls.h and asked/memory_calls.h.
+ * asked/host_calls.h, asked/login_calls.h and asked/memory_calls.h.
  *
  * All memory that a call gets is as long as is said, of malloc, and a room is filled beforehand. */
 #include <inttypes.h>
@@ -198,6 +198,7 @@ static void ask_rooms(blob certificate) {
 
 #include "asked/certificate_calls.h"
 #include "asked/entry_calls.h"
+#include "asked/host_calls.h"
 #include "asked/key_calls.h"
 #include "asked/login_calls.h"
 #include "asked/memory_calls.h"
@@ -300,8 +301,8 @@ static int ask_about_names(const char *what) {
 static void ask(char **words) {
   const char *what = words[0];
   if (ask_about_names(what)) return;
-  if (!strcmp(what, "memory") || !strcmp(what, "user")) {
-    (what[0] == 'm' ? ask_memory : ask_user)(words);
+  if (!strcmp(what, "memory") || !strcmp(what, "user") || !strcmp(what, "host-certificate")) {
+    (what[0] == 'm' ? ask_memory : what[0] == 'u' ? ask_user : ask_host)(words);
     return;
   }
   if (ask_about_keys(words) || ask_about_certificates(words)) return;

@@ -492,9 +492,9 @@ uint32_t sshkey_nth_option(const uint8_t *options, size_t options_length, size_t
  * SSHKEY_DONE exactly if the key is trusted: an entry for the host has it, none revokes it, and no
  * line that is no entry could be one for the host (SSHKEY_MEMORY aside), as each with a zero byte
  * could. Else 50 to 53, 10 to 29 for bytes that are no key, or SSHKEY_TEXT where the text or the
- * host is not UTF-8. Ask it of each file, and refuse what one of them calls revoked or unreadable.
- * For a port other than 22, where the answer is SSHKEY_HOST_UNKNOWN, ssh(1) asks about port 22 too.
- * Of authorities nothing is said. */
+ * host is not UTF-8. Ask it of each file: the first of these counts that one of them says, revoked,
+ * unreadable, trusted, changed. Where all say SSHKEY_HOST_UNKNOWN of a port other than 22, and only
+ * there, ssh(1) asks about port 22 too. Of authorities nothing is said. */
 uint32_t sshkey_host_verdict(const uint8_t *known_hosts, size_t known_hosts_length,
                              const uint8_t *host, size_t host_length, uint16_t port,
                              const uint8_t *key, size_t key_length);
@@ -502,8 +502,12 @@ uint32_t sshkey_host_verdict(const uint8_t *known_hosts, size_t known_hosts_leng
 /* The same of the key of an authority that signed a certificate of the host: SSHKEY_DONE exactly if
  * an entry @cert-authority for the host has the key, none revokes it, and no line that is no entry
  * could be one for the host (SSHKEY_MEMORY aside). SSHKEY_HOST_CHANGED is never answered, and
- * SSHKEY_HOST_UNKNOWN where no such entry has the key. The certificate itself is yours to validate,
- * by sshkey_certificate_validate_for with that key's fingerprint. */
+ * SSHKEY_HOST_UNKNOWN where no such entry has the key.
+ *
+ * A host's certificate has to meet more: sshkey_host_verdict of the certified key may not be
+ * SSHKEY_HOST_REVOKED, in any file, certificate_type has to be SSHKEY_HOST, has_critical_options 0,
+ * and sshkey_certificate_validate_for, with the host's name and this key's fingerprint alone,
+ * SSHKEY_DONE (docs/FOREIGN.md, "A host's certificate"). */
 uint32_t sshkey_authority_verdict(const uint8_t *known_hosts, size_t known_hosts_length,
                                   const uint8_t *host, size_t host_length, uint16_t port,
                                   const uint8_t *key, size_t key_length);

@@ -10,7 +10,7 @@ from lib.harness import ROOT, string
 from .linked import EXAMPLES, SANITIZED, C, run
 from .login_options import FLAGS, certificate
 
-REFUSALS = {"NOT_FOR_USERS": 100, "NOBODY_LISTED": 101, "UNMET_OPTION": 102, "OTHER_KEY": 103, "FLAG_DATA": 104}
+REFUSALS = {"NOT_FOR_USERS": 100, "NOBODY_LISTED": 101, "UNMET_OPTION": 102, "OTHER_KEY": 103, "FLAG_DATA": 104, "NOT_FOR_HOSTS": 105}
 SOURCE, COMMAND = "source-address=192.0.2.0/24", "force-command=true"
 
 
@@ -147,9 +147,9 @@ return 0;
 """
 
 
-def blocks(language):
+def blocks(language, heading="The lines that matter"):
     with open(f"{ROOT}/docs/FOREIGN.md", encoding="utf-8") as file:
-        section = file.read().partition("\n## The lines that matter\n")[2].partition("\n## ")[0]
+        section = file.read().partition(f"\n## {heading}\n")[2].partition("\n## ")[0]
     return re.findall(rf"^```{language}\n(.*?)^```", section, re.M | re.S)
 
 

@@ -171,6 +171,73 @@ uint32_t validate_user(blob certificate, const login_request *asked) {
   return answer == SSHKEY_DONE ? judge_key(certificate, asked->key) : answer;
 }
 
+/* Which of two answers decides: a fault, or else the verdict of known_hosts that stands first. */
+static uint32_t first_of(uint32_t one, uint32_t other) {
+  static const uint32_t order[] = {SSHKEY_HOST_REVOKED, SSHKEY_HOST_UNREADABLE, SSHKEY_DONE,
+                                   SSHKEY_HOST_CHANGED, SSHKEY_HOST_UNKNOWN};
+  size_t count = sizeof order / sizeof *order, at = 0, behind = 0;
+  while (at < count && order[at] != one) at++;
+  while (behind < count && order[behind] != other) behind++;
+  if (at == count || behind == count) return at == count ? one : other;
+  return order[at < behind ? at : behind];
+}
+
+/* What the texts say at that port of a key that the authority signed: SSHKEY_HOST_REVOKED where a
+ * line revokes one of the two, and else what they say of the authority. */
+static uint32_t judge_signed(const host_request *asked, uint16_t port, blob key, blob authority) {
+  const uint8_t *host = (const uint8_t *)asked->host;
+  size_t length = strlen(asked->host);
+  uint32_t found = SSHKEY_HOST_UNKNOWN;
+  for (size_t at = 0; at < asked->text_count; at++) {
+    blob text = asked->texts[at];
+    const uint8_t *bytes = sshkey_bytes(text.bytes);
+    uint32_t signer = sshkey_authority_verdict(bytes, text.length, host, length, port,
+                                               authority.bytes, authority.length);
+    uint32_t own =
+        sshkey_host_verdict(bytes, text.length, host, length, port, key.bytes, key.length);
+    /* that the certified key is not listed, or another one is, counts for nothing */
+    if (own == SSHKEY_HOST_CHANGED || own == SSHKEY_DONE) own = SSHKEY_HOST_UNKNOWN;
+    found = first_of(found, first_of(signer, own));
+  }
+  return found;
+}
+
+/* The same, and what they say of port 22 where nothing is known at its own. */
+static uint32_t judge_keys(blob certificate, const host_request *asked, blob authority) {
+  blob key = {calloc(1, certificate.length), 0};
+  /* a room as long as the certificate is enough */
+  if (!key.bytes) return SSHKEY_MEMORY;
+  uint32_t answer = sshkey_certificate_key(certificate.bytes, certificate.length, key.bytes,
+                                           certificate.length, &key.length);
+  if (answer == SSHKEY_DONE) answer = judge_signed(asked, asked->port, key, authority);
+  if (answer == SSHKEY_HOST_UNKNOWN && asked->port != 22)
+    answer = judge_signed(asked, 22, key, authority);
+  free(key.bytes);
+  return answer;
+}
+
+uint32_t validate_host(blob certificate, const host_request *asked) {
+  sshkey_fields fields;
+  sshkey_parts parts;
+  sshkey_sha256 signer = {{0}};
+  memset(&fields, 0, sizeof fields);
+  memset(&parts, 0, sizeof parts);
+  /* judge takes no principal for any */
+  if (!asked->host) return SSHKEY_UNLISTED_PRINCIPAL;
+  const uint8_t *bytes = sshkey_bytes(certificate.bytes);
+  uint32_t answer = sshkey_certificate_fields(bytes, certificate.length, &fields);
+  if (answer == SSHKEY_DONE) answer = sshkey_certificate_parts(bytes, certificate.length, &parts);
+  if (answer != SSHKEY_DONE) return answer;
+  blob authority = {certificate.bytes + parts.authority.start, parts.authority.length};
+  answer = judge_keys(certificate, asked, authority);
+  if (answer != SSHKEY_DONE) return answer;
+  if (fields.certificate_type != SSHKEY_HOST) return JUDGE_NOT_FOR_HOSTS;
+  if (fields.has_critical_options) return JUDGE_UNMET_OPTION;
+  answer = sshkey_fingerprint(authority.bytes, authority.length, &signer);
+  if (answer != SSHKEY_DONE) return answer;
+  return judge(certificate, asked->unix_timestamp, asked->host, (authorities){&signer, 1});
+}
+
 const char *meaning(uint32_t answer) {
   switch (answer) {
   case SSHKEY_DONE: return "valid";
@@ -194,6 +261,10 @@ const char *meaning(uint32_t answer) {
   case JUDGE_UNMET_OPTION: return "a critical option that is not known or not met";
   case JUDGE_OTHER_KEY: return "another key";
   case JUDGE_FLAG_DATA: return "data in an extension that is a flag";
+  case JUDGE_NOT_FOR_HOSTS: return "not for hosts";
+  case SSHKEY_HOST_REVOKED: return "revoked";
+  case SSHKEY_HOST_UNREADABLE: return "a line that may revoke it and can't be read";
+  case SSHKEY_HOST_UNKNOWN: return "no authority of the host";
   default: return "not in its format";
   }
 }

@@ -1,5 +1,5 @@
-/* Whether a certificate is valid, and whether it logs a user in: the calls of sshkey.h, with
- * libcrypto between them; and what the programs here read. */
+/* Whether a certificate is valid, whether it logs a user in, and whether it is a host's: the calls
+ * of sshkey.h, with libcrypto between them; and what the programs here read. */
 #ifndef JUDGE_H
 #define JUDGE_H
 #include <stdbool.h>
@@ -50,20 +50,35 @@ typedef struct {
   void *given;             /* what is_met gets */
 } login_request;
 
-/* What is wrong with a certificate that is valid, and logs nobody in; beside the answers of
- * sshkey.h. */
+/* What is wrong with a certificate that may be valid, and logs nobody in or is not the host's;
+ * beside the answers of sshkey.h. */
 enum {
   JUDGE_NOT_FOR_USERS = 100,  /* it is one for hosts */
   JUDGE_NOBODY_LISTED = 101,  /* it lists no principals, and would be for everybody */
   JUDGE_UNMET_OPTION = 102,   /* a critical option is not known, or not met */
   JUDGE_OTHER_KEY = 103,      /* it is one of another key than the client holds */
-  JUDGE_FLAG_DATA = 104       /* data stand in an extension that is a flag */
+  JUDGE_FLAG_DATA = 104,      /* data stand in an extension that is a flag */
+  JUDGE_NOT_FOR_HOSTS = 105   /* it is one for users */
 };
 
 /* Whether the certificate logs the user in: SSHKEY_DONE, or what is wrong first, a number of
  * SSHKEY_* or of JUDGE_*. Whether it is revoked, whether somebody touched a security key, and what
  * its extensions say is not looked at (docs/FOREIGN.md). */
 uint32_t validate_user(blob certificate, const login_request *asked);
+
+/* A host that shows a certificate. */
+typedef struct {
+  const char *host;        /* the name that was asked for, as the certificate lists it */
+  uint16_t port;           /* where it was asked */
+  uint64_t unix_timestamp; /* when that is */
+  const blob *texts;       /* those of all the known_hosts files that count */
+  size_t text_count;
+} host_request;
+
+/* Whether the certificate is that of the host: SSHKEY_DONE, or what is wrong first, a number of
+ * SSHKEY_* or of JUDGE_*. One that lists no principals is for each host of its authority. That the
+ * host holds the certified key is not looked at (docs/FOREIGN.md). */
+uint32_t validate_host(blob certificate, const host_request *asked);
 
 /* What an answer means, in words. */
 const char *meaning(uint32_t answer);

@@ -7,7 +7,7 @@
 AUTHORITIES and SIGNERS are files of public keys, a line each. The first answers of each line of its input, as the example in C
 does. The status is 0 if all is valid, 1 if not, and 2 where it can't tell: so also where there is no certificate. A valid
 certificate may be for a host, or for nobody by name, and - is no name that a client may choose: who logs users in calls
-`validate_user`.
+`validate_user`, and who is shown a host's certificate `validate_host`.
 """
 from __future__ import annotations
 
@@ -25,6 +25,7 @@ try:
     from cryptography.hazmat.primitives.asymmetric import ec, ed25519, padding, rsa, utils
 
     import sshkey
+    from host import judge_signed
     from sshkey import Algorithm, CertificateType, Status
 except (AttributeError, ImportError, OSError) as fault:  # a library is not there, or is another
     if __name__ != "__main__":
@@ -34,14 +35,15 @@ except (AttributeError, ImportError, OSError) as fault:  # a library is not ther
 
 
 class Refusal(enum.IntEnum):
-    """What is wrong with a certificate that is valid, and logs nobody in: JUDGE_* of the example in C. As a Status it has no
-    truth value."""
+    """What is wrong with a certificate that may be valid, and logs nobody in or is not the host's: JUDGE_* of the example in C. As
+    a Status it has no truth value."""
 
     NOT_FOR_USERS = 100
     NOBODY_LISTED = 101
     UNMET_OPTION = 102
     OTHER_KEY = 103
     FLAG_DATA = 104
+    NOT_FOR_HOSTS = 105
 
     def __bool__(self) -> NoReturn:
         raise TypeError("compare with Status.DONE: a Refusal is no truth value")
@@ -56,7 +58,9 @@ MEANING = {
     Status.UNLISTED_PRINCIPAL: "another principal",
     Refusal.NOT_FOR_USERS: "not for users", Refusal.NOBODY_LISTED: "no principals", Refusal.OTHER_KEY: "another key",
     Refusal.UNMET_OPTION: "a critical option that is not known or not met",
-    Refusal.FLAG_DATA: "data in an extension that is a flag", Status.OTHER_NAMESPACE: "another namespace",
+    Refusal.FLAG_DATA: "data in an extension that is a flag", Refusal.NOT_FOR_HOSTS: "not for hosts",
+    Status.HOST_REVOKED: "revoked", Status.HOST_UNREADABLE: "a line that may revoke it and can't be read",
+    Status.HOST_UNKNOWN: "no authority of the host", Status.OTHER_NAMESPACE: "another namespace",
     Status.UNSUPPORTED: "key and signature do not go together",
 }  # fmt: skip
 # the extensions in which nothing may stand (PROTOCOL.certkeys)
@@ -143,6 +147,27 @@ def validate_user(
         return Status.DONE if sshkey.normal_key(key) == contents.key else Refusal.OTHER_KEY
     except sshkey.Refused as refused:
         return refused.status
+
+
+def validate_host(certificate: bytes, now: int, host: str | bytes, port: int, texts: Collection[bytes]) -> Status | Refusal:
+    """Whether the certificate is that of the host at the port, at that second: Status.DONE, or what is wrong first, a Status or a
+    Refusal.
+
+    `texts` are those of all the known_hosts files that count, the user's and the machine's, and `host` is the name that was asked
+    for, as the certificate lists it: one that lists none is for each host of its authority. That the host holds the certified key
+    is not looked at (docs/FOREIGN.md)."""
+    try:
+        fields, contents = sshkey.certificate_fields(certificate), sshkey.certificate_contents(certificate)
+        verdict = judge_signed(texts, host, port, contents.key, contents.authority)
+    except sshkey.Refused as refused:
+        return refused.status
+    if verdict != Status.DONE:
+        return verdict
+    if fields.certificate_type != CertificateType.HOST:
+        return Refusal.NOT_FOR_HOSTS
+    if fields.has_critical_options:
+        return Refusal.UNMET_OPTION
+    return judge(certificate, now, host or "", {sshkey.fingerprint(contents.authority)})
 
 
 def judge_signature(signature: bytes, namespace: str, message: bytes, signers: Collection[bytes]) -> Status:

@@ -31,12 +31,27 @@ WORDS = {
 }  # fmt: skip
 
 
+def first_of(said: Collection[Status]) -> Status:
+    """The first verdict in the order of WORDS; HOST_UNKNOWN where there is none."""
+    return next((it for it in WORDS if it in said), Status.HOST_UNKNOWN)
+
+
 def judge(texts: Collection[bytes], host: str | bytes, port: int, key: bytes) -> Status:
     """The first verdict of those that the texts give, in the order of WORDS; HOST_UNKNOWN where there are no texts."""
-    said = {sshkey.host_verdict(text, host, port, key) for text in texts}
-    verdict = next((it for it in WORDS if it in said), Status.HOST_UNKNOWN)
+    verdict = first_of({sshkey.host_verdict(text, host, port, key) for text in texts})
     if verdict == Status.HOST_UNKNOWN and port != STANDARD_PORT:
         return judge(texts, host, STANDARD_PORT, key)
+    return verdict
+
+
+def judge_signed(texts: Collection[bytes], host: str | bytes, port: int, key: bytes, authority: bytes) -> Status:
+    """The same of a key that the authority signed in a certificate: HOST_REVOKED where a line revokes one of the two, and else
+    what the texts say of the authority. That the certified key is listed nowhere, or another one is, counts for nothing."""
+    said = {sshkey.authority_verdict(text, host, port, authority) for text in texts}
+    said |= {sshkey.host_verdict(text, host, port, key) for text in texts} & {Status.HOST_REVOKED}
+    verdict = first_of(said)
+    if verdict == Status.HOST_UNKNOWN and port != STANDARD_PORT:
+        return judge_signed(texts, host, STANDARD_PORT, key, authority)
     return verdict
 
 

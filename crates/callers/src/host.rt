@@ -2,21 +2,21 @@
 
 use crate::hashes::Hashes;
 use crate::verified::Told;
-use crate::words::{NO_LINE, bytes, number, text};
+use crate::words::{NO_LINE, number, texts};
 use host_keys::{Refusal, check_certificate, check_key};
 use ssh_key::{Certificate, PublicKey, Result};
 use std::alloc::{AllocError, Global};
 
-/// Whether the key is the host's, by the text of known_hosts in hexadecimal digits.
+/// Whether the key is the host's, by the texts of known_hosts in hexadecimal digits.
 pub(crate) fn key(alloc: Global, words: &[&str], hashes: &Hashes) -> Result<String> {
     let [known_hosts, host, port, key] = words else {
         return Err(NO_LINE);
     };
-    let known_hosts = text(alloc, known_hosts)?;
+    let texts = texts(alloc, known_hosts)?;
     let key = PublicKey::from_openssh(alloc, key)?;
     let answer = check_key(
         alloc,
-        &known_hosts,
+        &borrowed(alloc, &texts)?,
         host,
         port_of(port)?,
         key.key_data(),
@@ -35,11 +35,11 @@ pub(crate) fn certificate(
     let [known_hosts, host, port, certificate, seconds] = words else {
         return Err(NO_LINE);
     };
-    let known_hosts = text(alloc, known_hosts)?;
+    let texts = texts(alloc, known_hosts)?;
     let certificate = Certificate::from_openssh(alloc, certificate)?;
     let answer = check_certificate(
         alloc,
-        &known_hosts,
+        &borrowed(alloc, &texts)?,
         host,
         port_of(port)?,
         &certificate,
@@ -48,6 +48,14 @@ pub(crate) fn certificate(
         told,
     );
     shown(alloc, answer)
+}
+
+fn borrowed(alloc: Global, texts: &[String]) -> Result<Vec<&str>> {
+    let mut found = Vec::new(alloc);
+    for text in texts {
+        found.push(text.as_str())?;
+    }
+    Ok(found)
 }
 
 fn port_of(digits: &str) -> Result<u16> {

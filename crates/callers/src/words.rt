@@ -25,6 +25,15 @@ pub(crate) fn text(alloc: Global, digits: &str) -> Result<String> {
     }
 }
 
+/// The texts that the digits spell, with commas between.
+pub(crate) fn texts(alloc: Global, words: &str) -> Result<Vec<String>> {
+    let mut found = Vec::new(alloc);
+    for digits in words.split(',') {
+        found.push(text(alloc, digits)?)?;
+    }
+    Ok(found)
+}
+
 /// The number that the digits spell.
 pub(crate) fn number(digits: &str) -> Result<u64> {
     match digits.parse::<u64>() {

@@ -1,4 +1,5 @@
 mod Certificates
 mod Listed
 mod Said
+mod SeveralTexts
 mod Signed

@@ -1,6 +1,9 @@
 -- When a key or a certificate is a host's, by the lines of known_hosts (ssh(1), "VERIFYING HOST KEYS"; sshd(8), "SSH_KNOWN_HOSTS FILE FORMAT"; PROTOCOL.certkeys).
+use denote.Ref.{Bor}
+use Rattle.std.specs.List.{flat_map}
 use Rattle.std.specs.Prelude.{◌≡◌, ◌≢◌, ◌⊎◌, ℕ, List, [], ◌∷◌, Bool, Some, option_map}
 use Rattle.ssh_key.specs.cert.Validity.{refusal_error}
+use Rattle.ssh_key.specs.entries.Fields.{filled_lines}
 use Rattle.ssh_key.specs.entries.HostNames.{known_name, standard_port}
 use Rattle.ssh_key.specs.entries.HostVerdicts.{HidesSome, IsAuthority, IsRevoked}
 use Rattle.ssh_key.specs.known_hosts.Verdicts.{IsVerdict}
@@ -16,6 +19,12 @@ use Rattle.ssh_key.specs.types.Error.TheVariants.{CertificateFieldInvalid}
 use Rattle.ssh_key.specs.types.certificate.Field.TheVariants as field
 use Rattle.ssh_key.specs.types.known_hosts.Verdict.{Verdict}
 use Rattle.ssh_key.specs.types.known_hosts.Verdict.TheVariants.{Changed, Revoked, Trusted, Unknown, Unreadable}
+
+-- ---- the lines
+
+-- the lines of all the texts, one text behind the other, but for those that are empty and comments
+abbrev pub lines_of : List (Bor (List ℕ)) → List (List ℕ)
+lines_of texts = flat_map (λ text. filled_lines text.now) texts
 
 -- ---- what is said
 

@@ -3,13 +3,12 @@
 ghost use Rattle.std.specs.Prelude.{◌≢◌, IfErr};
 ghost use Rattle.ssh_key.specs.base.Acceptance.{AcceptsExactly};
 ghost use Rattle.ssh_key.specs.cert.CertificateValues.{certificate_of};
-ghost use Rattle.ssh_key.specs.entries.Fields.{filled_lines};
 ghost use Rattle.ssh_key.specs.model.Certificates.{IsCertificate};
 ghost use Rattle.ssh_key.specs.model.Keys.{normal_key};
 ghost use Rattle.ssh_key.specs.model.Parts.{BoxesFit};
 ghost use Rattle.ssh_key.specs.types.Error.TheVariants.{Memory};
 ghost use Rattle.host_keys.specs.Answers.{AsksOfLines, IsWhyNoCertificate, OkExactly};
-ghost use Rattle.host_keys.specs.Hosts.{IsBadFor, IsGoodFor, IsTrustedCertificate};
+ghost use Rattle.host_keys.specs.Hosts.{IsBadFor, IsGoodFor, IsTrustedCertificate, lines_of};
 
 use crate::refusal::{Refusal, answer};
 use crate::verdict::signed_verdict;
@@ -19,12 +18,14 @@ use ssh_key::laws::key_fits;
 use ssh_key::{Certificate, Error, HashAlg, RawVerifier};
 use std::alloc::Global;
 
-/// Accepts the certificate that a host shows if a line `@cert-authority` of the text of known_hosts,
-/// as OpenSSH reads it, has the key that signed it for the host at that port, no line for it revokes
-/// that key or the certified one, and the certificate is one for hosts, without critical options,
-/// valid at that time for the host's name, which is given as the certificate lists it.
+/// Accepts the certificate that a host shows if a line `@cert-authority` of the texts of known_hosts,
+/// as OpenSSH reads them, has the key that signed it for the host at that port, no line for it
+/// revokes that key or the certified one, and the certificate is one for hosts, without critical
+/// options, valid at that time for the host's name, which is given as the certificate lists it.
 ///
-/// Memory may run out only where a line may be an entry, so never of a text that is empty or has
+/// The texts are those of all the files that count, as for `check_key`, and are given at once.
+///
+/// Memory may run out only where a line may be an entry, so never of texts that are empty or have
 /// comments alone. Else it refuses all others: with `Revoked` where a line revokes one of the keys,
 /// else with `Unreadable` where a line that can't be read could be one for the host, else with
 /// `Unknown` where the key that signed is no authority of the host, and else with `Certificate` and
@@ -33,11 +34,11 @@ use std::alloc::Global;
 /// its authority (PROTOCOL.certkeys).
 ///
 /// Where it would refuse a host at another port than 22 with `Unknown`, it asks, as ssh(1) does,
-/// about the host's plain name. Whether the certified key is one that the host is known by is
-/// `check_key`'s question, and not asked here.
+/// all the texts about the host's plain name. Whether the certified key is one that the host is
+/// known by is `check_key`'s question, and not asked here.
 pub fn check_certificate<H: HmacSha1, V: RawVerifier>(
     alloc: Global,
-    known_hosts: &str,
+    texts: &[&str],
     host: &str,
     port: u16,
     certificate: &Certificate,
@@ -48,15 +49,15 @@ pub fn check_certificate<H: HmacSha1, V: RawVerifier>(
     requires { IsCertificate (certificate_of certificate.now) }
     ensures exactly { OkExactly (IsTrustedCertificate (H.hmac hmac.now) (V.accepts verifier.now)
         unix_timestamp host.now port (certificate_of certificate.now)
-        (filled_lines known_hosts.now)) result }
+        (lines_of texts.now)) result }
     ensures refused { IfErr result (IsWhyNoCertificate (H.hmac hmac.now) (V.accepts verifier.now)
         unix_timestamp host.now port (certificate_of certificate.now)
-        (filled_lines known_hosts.now)) }
-    ensures asks { AsksOfLines (filled_lines known_hosts.now) result }
+        (lines_of texts.now)) }
+    ensures asks { AsksOfLines (lines_of texts.now) result }
 {
     key_fits();
     let (key, signer) = (certificate.public_key(), certificate.signature_key());
-    let Ok(verdict) = signed_verdict(alloc, known_hosts, host, port, key, signer, hmac) else {
+    let Ok(verdict) = signed_verdict(alloc, texts, host, port, key, signer, hmac) else {
         return Err(Refusal::Memory);
     };
     answer(verdict)?;

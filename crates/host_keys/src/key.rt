@@ -1,10 +1,9 @@
 //! Whether a key is the host's.
 
 ghost use Rattle.std.specs.Prelude.{IfErr};
-ghost use Rattle.ssh_key.specs.entries.Fields.{filled_lines};
 ghost use Rattle.ssh_key.specs.keys.Keys.{key_of};
 ghost use Rattle.host_keys.specs.Answers.{AsksOfLines, IsWhyNoKey, OkExactly};
-ghost use Rattle.host_keys.specs.Hosts.{IsTrustedKey};
+ghost use Rattle.host_keys.specs.Hosts.{IsTrustedKey, lines_of};
 
 use crate::refusal::{Refusal, answer};
 use crate::verdict::key_verdict;
@@ -13,32 +12,36 @@ use ssh_key::laws::one_verdict;
 use ssh_key::public::KeyData;
 use std::alloc::Global;
 
-/// Accepts the key that a host shows if the text of known_hosts, as OpenSSH reads it, lists the key
-/// for the host at that port, and revokes it in no line for it (`ssh_key::known_hosts::judge_key`).
+/// Accepts the key that a host shows if the texts of known_hosts, as OpenSSH reads them, list the key
+/// for the host at that port, and revoke it in no line for it (`ssh_key::known_hosts::judge_key`).
 ///
-/// Memory may run out only where a line may be an entry, so never of a text that is empty or has
+/// The texts are those of all the files that count, the user's and the machine's: their lines are
+/// judged as if they stood in one, as by ssh(1). So give it all of them at once: asked about one
+/// file alone, it may accept a key that another file revokes, or has changed at that port.
+///
+/// Memory may run out only where a line may be an entry, so never of texts that are empty or have
 /// comments alone. Else it refuses all others: with `Revoked` where a line revokes the key, else
 /// with `Unreadable` where a line that can't be read could be one for the host, else with `Changed`
 /// where other keys are listed for it, and else with `Unknown`.
 ///
 /// Where it would refuse a host at another port than 22 with `Unknown`, it asks, as ssh(1) does,
-/// about the host's plain name, and that answer is the answer.
+/// all the texts about the host's plain name, and that answer is the answer.
 pub fn check_key<H: HmacSha1>(
     alloc: Global,
-    known_hosts: &str,
+    texts: &[&str],
     host: &str,
     port: u16,
     key: &KeyData,
     hmac: &H,
 ) -> Result<(), Refusal>
     ensures exactly { OkExactly (IsTrustedKey (H.hmac hmac.now) host.now port (key_of key.now)
-        (filled_lines known_hosts.now)) result }
+        (lines_of texts.now)) result }
     ensures refused { IfErr result (IsWhyNoKey (H.hmac hmac.now) host.now port (key_of key.now)
-        (filled_lines known_hosts.now)) }
-    ensures asks { AsksOfLines (filled_lines known_hosts.now) result }
+        (lines_of texts.now)) }
+    ensures asks { AsksOfLines (lines_of texts.now) result }
 {
     one_verdict();
-    let Ok(verdict) = key_verdict(alloc, known_hosts, host, port, key, hmac) else {
+    let Ok(verdict) = key_verdict(alloc, texts, host, port, key, hmac) else {
         return Err(Refusal::Memory);
     };
     answer(verdict)

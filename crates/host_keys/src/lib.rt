@@ -6,6 +6,7 @@
 mod certificate;
 mod key;
 mod refusal;
+mod texts;
 mod verdict;
 
 pub use certificate::check_certificate;

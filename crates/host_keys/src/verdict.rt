@@ -1,52 +1,49 @@
 //! What known_hosts says of what a host shows.
 
-ghost use Rattle.std.specs.List.{Any};
 ghost use Rattle.std.specs.Prelude.{◌≡◌, ◌↔◌, ◌<◌, IfErr, IfOk, IsTrue, length};
-ghost use Rattle.ssh_key.specs.entries.Fields.{filled_lines};
 ghost use Rattle.ssh_key.specs.entries.HostNames.{known_name};
 ghost use Rattle.ssh_key.specs.keys.Keys.{key_of};
 ghost use Rattle.ssh_key.specs.model.Keys.{IsKey};
-ghost use Rattle.ssh_key.specs.public.PublicKeys.{public_of};
 ghost use Rattle.ssh_key.specs.types.Error.TheVariants.{Memory};
 ghost use Rattle.ssh_key.specs.types.known_hosts.Verdict.TheVariants.{Revoked, Unknown, Unreadable};
-ghost use Rattle.host_keys.specs.Hosts.{IsSaidOfKey, IsSaidOfSigned, IsSettled, IsVerdictOfSigned};
+ghost use Rattle.host_keys.specs.Hosts.{IsSaidOfKey, IsSaidOfSigned, IsSettled, IsVerdictOfSigned, lines_of};
 
-use ssh_key::known_hosts::{HmacSha1, Verdict, authorities, judge_key};
-use ssh_key::laws::compared_keys;
+use crate::texts::{has_authority, judge_all};
+use ssh_key::Result;
+use ssh_key::known_hosts::{HmacSha1, Verdict};
 use ssh_key::public::KeyData;
-use ssh_key::{PublicKey, Result};
 use std::alloc::Global;
 
 /// The port at which a host is known by its plain name.
 const STANDARD_PORT: u16 = 22;
 
-/// What the text says of the host's key. Fails only when out of memory, and never of a text that is
-/// empty or has comments alone.
+/// What the texts say of the host's key. Fails only when out of memory, and never of texts that are
+/// empty or have comments alone.
 pub(crate) fn key_verdict<H: HmacSha1>(
     alloc: Global,
-    known_hosts: &str,
+    texts: &[&str],
     host: &str,
     port: u16,
     key: &KeyData,
     hmac: &H,
 ) -> Result<Verdict>
     ensures answer { IfOk result (IsSaidOfKey (H.hmac hmac.now) host.now port (key_of key.now)
-        (filled_lines known_hosts.now)) }
+        (lines_of texts.now)) }
     ensures memory { IfErr result (λ e. e ≡ Memory) }
-    ensures asks { IfErr result (λ _. 0 < length (filled_lines known_hosts.now)) }
+    ensures asks { IfErr result (λ _. 0 < length (lines_of texts.now)) }
 {
-    let verdict = judge_key(alloc, known_hosts, host, port, key, hmac)?;
+    let verdict = judge_all(alloc, texts, host, port, key, hmac)?;
     if is_settled(verdict, port) {
         return Ok(verdict);
     }
-    judge_key(alloc, known_hosts, host, STANDARD_PORT, key, hmac)
+    judge_all(alloc, texts, host, STANDARD_PORT, key, hmac)
 }
 
-/// What the text says of a key that the host shows and of the key that signed it. Fails only when
+/// What the texts say of a key that the host shows and of the key that signed it. Fails only when
 /// out of memory.
 pub(crate) fn signed_verdict<H: HmacSha1>(
     alloc: Global,
-    known_hosts: &str,
+    texts: &[&str],
     host: &str,
     port: u16,
     key: &KeyData,
@@ -55,15 +52,15 @@ pub(crate) fn signed_verdict<H: HmacSha1>(
 ) -> Result<Verdict>
     requires { IsKey (key_of signer.now) }
     ensures answer { IfOk result (IsSaidOfSigned (H.hmac hmac.now) host.now port
-        (key_of key.now) (key_of signer.now) (filled_lines known_hosts.now)) }
+        (key_of key.now) (key_of signer.now) (lines_of texts.now)) }
     ensures memory { IfErr result (λ e. e ≡ Memory) }
-    ensures asks { IfErr result (λ _. 0 < length (filled_lines known_hosts.now)) }
+    ensures asks { IfErr result (λ _. 0 < length (lines_of texts.now)) }
 {
-    let verdict = judge_signed(alloc, known_hosts, host, port, key, signer, hmac)?;
+    let verdict = judge_signed(alloc, texts, host, port, key, signer, hmac)?;
     if is_settled(verdict, port) {
         return Ok(verdict);
     }
-    judge_signed(alloc, known_hosts, host, STANDARD_PORT, key, signer, hmac)
+    judge_signed(alloc, texts, host, STANDARD_PORT, key, signer, hmac)
 }
 
 /// Whether nothing else is asked after a verdict on the host at that port.
@@ -73,10 +70,10 @@ fn is_settled(verdict: Verdict, port: u16) -> bool
     port == STANDARD_PORT || !is_unknown(verdict)
 }
 
-/// What the text says of both at just that port. Fails only when out of memory.
+/// What the texts say of both at just that port. Fails only when out of memory.
 fn judge_signed<H: HmacSha1>(
     alloc: Global,
-    known_hosts: &str,
+    texts: &[&str],
     host: &str,
     port: u16,
     key: &KeyData,
@@ -85,23 +82,22 @@ fn judge_signed<H: HmacSha1>(
 ) -> Result<Verdict>
     requires { IsKey (key_of signer.now) }
     ensures answer { IfOk result (IsVerdictOfSigned (H.hmac hmac.now) (known_name host.now port)
-        (key_of key.now) (key_of signer.now) (filled_lines known_hosts.now)) }
+        (key_of key.now) (key_of signer.now) (lines_of texts.now)) }
     ensures memory { IfErr result (λ e. e ≡ Memory) }
-    ensures asks { IfErr result (λ _. 0 < length (filled_lines known_hosts.now)) }
+    ensures asks { IfErr result (λ _. 0 < length (lines_of texts.now)) }
 {
-    let of_key = judge_key(alloc, known_hosts, host, port, key, hmac)?;
-    let of_signer = judge_key(alloc, known_hosts, host, port, signer, hmac)?;
+    let of_key = judge_all(alloc, texts, host, port, key, hmac)?;
+    let of_signer = judge_all(alloc, texts, host, port, signer, hmac)?;
     if is_revoked(of_key) || is_revoked(of_signer) {
         return Ok(Verdict::Revoked);
     }
     if is_unreadable(of_key) {
         return Ok(Verdict::Unreadable);
     }
-    let keys = authorities(alloc, known_hosts, host, port, hmac)?;
-    if !has_key(&keys, signer) {
-        return Ok(Verdict::Unknown);
+    if has_authority(alloc, texts, host, port, signer, hmac)? {
+        return Ok(Verdict::Trusted);
     }
-    Ok(Verdict::Trusted)
+    Ok(Verdict::Unknown)
 }
 
 fn is_revoked(verdict: Verdict) -> bool
@@ -120,26 +116,4 @@ fn is_unknown(verdict: Verdict) -> bool
     ensures { IsTrue result ↔ (verdict ≡ Unknown) }
 {
     matches!(verdict, Verdict::Unknown)
-}
-
-/// Whether one of the keys is that key.
-fn has_key(keys: &[PublicKey], key: &KeyData) -> bool
-    requires { IsKey (key_of key.now) }
-    ensures { IsTrue result ↔ Any (λ k. public_of k ≡ key_of key.now) keys.now }
-{
-    for listed in keys {
-        if is_same(key, listed.key_data()) {
-            return true;
-        }
-    }
-    false
-}
-
-/// Whether a key, which is well-formed, is the same as another.
-fn is_same(key: &KeyData, other: &KeyData) -> bool
-    requires { IsKey (key_of key.now) }
-    ensures { IsTrue result ↔ (key_of other.now ≡ key_of key.now) }
-{
-    compared_keys();
-    key == other
 }

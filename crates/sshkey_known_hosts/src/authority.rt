@@ -57,10 +57,10 @@ fn line_authority<H: HmacSha1>(
 /// `@cert-authority` for it in a text of known_hosts, as OpenSSH reads it, each with its comment,
 /// in the order of the lines (sshd(8), "SSH_KNOWN_HOSTS FILE FORMAT").
 ///
-/// A line that is no entry gives none, and an authority may be revoked by another line: before one
-/// is trusted, ask `judge_key` about its key, and refuse it where that is `Revoked` or
-/// `Unreadable`. Fails only when out of memory, and never of a text that is empty or has comments
-/// alone.
+/// A line that is no entry gives none, and an authority may be revoked by another line, as may the
+/// key that it certified: before a certificate is trusted, ask `judge_key` about both keys, and
+/// refuse it where one is `Revoked` or `Unreadable`. Fails only when out of memory, and never of a
+/// text that is empty or has comments alone.
 pub fn authorities<H: HmacSha1>(
     alloc: Global,
     text: &str,

@@ -1,8 +1,7 @@
 use Rattle.std.proofs.Common.{ℕ, List, sym, ◌∙◌}
 use Rattle.std.proofs.lemmas.Result.{err_from_is_err_and}
 use Rattle.ssh_key.specs.cert.CertificateValues.{certificate_of}
-use Rattle.ssh_key.specs.entries.Fields.{filled_lines}
-use Rattle.host_keys.specs.Hosts.{IsBadFor, IsSaidOfSigned, IsVerdictOfSigned}
+use Rattle.host_keys.specs.Hosts.{IsBadFor, IsSaidOfSigned, IsVerdictOfSigned, lines_of}
 use Rattle.host_keys.proofs.Said.{is_trusted, refused, why_bad, why_refused}
 use Rattle.host_keys.proofs.Signed.{one_verdict, said_of_both}
 use Rattle.host_keys.proofs.certificate.check_certificate.Goals as goal
@@ -10,7 +9,7 @@ use Rattle.host_keys.proofs.certificate.check_certificate.Goals as goal
 pub returns-in_err-answer-clause-exactly : goal.returns-in_err-answer-clause-exactly
 returns-in_err-answer-clause-exactly g c =
     let hmac = g.H.HmacSha1.hmac c.args.hmac.now in
-    let lines = filled_lines c.args.known_hosts.now in
+    let lines = lines_of c.args.texts.now in
     let key = (certificate_of c.args.certificate.now).signed.key in
     let signer = (certificate_of c.args.certificate.now).signed.signature_key in
     let said = said_of_both hmac c.args.host.now c.args.port _ _ key signer lines c.in-Ok.verdict c.public_key-key.ensures.value c.signature_key-signer.ensures.value c.in-Ok.ensures.answer in
@@ -20,7 +19,7 @@ returns-in_err-answer-clause-exactly g c =
 pub returns-in_err-answer-clause-refused : goal.returns-in_err-answer-clause-refused
 returns-in_err-answer-clause-refused g c =
     let hmac = g.H.HmacSha1.hmac c.args.hmac.now in
-    let lines = filled_lines c.args.known_hosts.now in
+    let lines = lines_of c.args.texts.now in
     let key = (certificate_of c.args.certificate.now).signed.key in
     let signer = (certificate_of c.args.certificate.now).signed.signature_key in
     let said = said_of_both hmac c.args.host.now c.args.port _ _ key signer lines c.in-Ok.verdict c.public_key-key.ensures.value c.signature_key-signer.ensures.value c.in-Ok.ensures.answer in
@@ -30,7 +29,7 @@ returns-in_err-answer-clause-refused g c =
 pub returns-in-Ok-validate-clause-exactly : goal.returns-in-Ok-validate-clause-exactly
 returns-in-Ok-validate-clause-exactly g c =
     let hmac = g.H.HmacSha1.hmac c.args.hmac.now in
-    let lines = filled_lines c.args.known_hosts.now in
+    let lines = lines_of c.args.texts.now in
     let key = (certificate_of c.args.certificate.now).signed.key in
     let signer = (certificate_of c.args.certificate.now).signed.signature_key in
     let said = said_of_both hmac c.args.host.now c.args.port _ _ key signer lines c.in-Ok.verdict c.public_key-key.ensures.value c.signature_key-signer.ensures.value c.in-Ok.ensures.answer in
@@ -39,7 +38,7 @@ returns-in-Ok-validate-clause-exactly g c =
 pub returns-in-Err-clause-refused : goal.returns-in-Err-clause-refused
 returns-in-Err-clause-refused g c =
     let hmac = g.H.HmacSha1.hmac c.args.hmac.now in
-    let lines = filled_lines c.args.known_hosts.now in
+    let lines = lines_of c.args.texts.now in
     let key = (certificate_of c.args.certificate.now).signed.key in
     let signer = (certificate_of c.args.certificate.now).signed.signature_key in
     let said = said_of_both hmac c.args.host.now c.args.port _ _ key signer lines c.in-Ok.verdict c.public_key-key.ensures.value c.signature_key-signer.ensures.value c.in-Ok.ensures.answer in

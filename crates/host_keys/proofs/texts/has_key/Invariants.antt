@@ -2,7 +2,7 @@ use Rattle.std.proofs.Common.{◌≡◌, ℕ, ◌<◌, get_or}
 use Rattle.ssh_key.specs.keys.Keys.{key_of}
 use Rattle.ssh_key.specs.public.PublicKeys.{public_of}
 use Rattle.ssh_key.specs.types.PublicKey.{PublicKey}
-use Rattle.host_keys.proofs.verdict.has_key.Given as goal
+use Rattle.host_keys.proofs.texts.has_key.Given as goal
 
 -- none of the keys so far is it
 abbrev pub invariant-loop-listed : goal.invariant-loop-listed

@@ -3,7 +3,7 @@ use Rattle.ssh_key.specs.keys.Keys.{key_of}
 use Rattle.ssh_key.specs.public.PublicKeys.{public_of}
 use Rattle.ssh_key.specs.types.PublicKey.{PublicKey}
 use Rattle.host_keys.proofs.Listed.{none_more, none_of}
-use Rattle.host_keys.proofs.verdict.has_key.Goals as goal
+use Rattle.host_keys.proofs.texts.has_key.Goals as goal
 
 pub loop-listed-preserved : goal.loop-listed-preserved
 loop-listed-preserved c =

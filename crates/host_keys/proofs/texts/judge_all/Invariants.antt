@@ -1,0 +1,10 @@
+use Rattle.std.proofs.Common.{take}
+use Rattle.ssh_key.specs.entries.HostNames.{known_name}
+use Rattle.ssh_key.specs.keys.Keys.{key_of}
+use Rattle.ssh_key.specs.known_hosts.Verdicts.{IsVerdict}
+use Rattle.host_keys.specs.Hosts.{lines_of}
+use Rattle.host_keys.proofs.texts.judge_all.Given as goal
+
+-- the verdict on the lines of the texts so far
+abbrev pub invariant-loop-text : goal.invariant-loop-text
+invariant-loop-text g l = IsVerdict (g.H.HmacSha1.hmac l.hmac) (known_name l.host l.port) (key_of l.key) (lines_of (take l.text-index l.texts)) l.found

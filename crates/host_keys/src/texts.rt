@@ -1,0 +1,100 @@
+//! What the lines of several texts of known_hosts say, as if they stood in one.
+
+ghost use Rattle.std.specs.List.{Any};
+ghost use Rattle.std.specs.Prelude.{◌≡◌, ◌↔◌, ◌<◌, IfErr, IfOk, IsTrue, length};
+ghost use Rattle.ssh_key.specs.entries.HostNames.{known_name};
+ghost use Rattle.ssh_key.specs.entries.HostVerdicts.{IsAuthority};
+ghost use Rattle.ssh_key.specs.keys.Keys.{key_of};
+ghost use Rattle.ssh_key.specs.known_hosts.Verdicts.{IsVerdict, graver_of};
+ghost use Rattle.ssh_key.specs.model.Keys.{IsKey};
+ghost use Rattle.ssh_key.specs.public.PublicKeys.{public_of};
+ghost use Rattle.ssh_key.specs.types.Error.TheVariants.{Memory};
+ghost use Rattle.host_keys.specs.Hosts.{lines_of};
+
+use ssh_key::known_hosts::{HmacSha1, Verdict, authorities, judge_key};
+use ssh_key::laws::compared_keys;
+use ssh_key::public::KeyData;
+use ssh_key::{PublicKey, Result};
+use std::alloc::Global;
+
+/// What the texts say of a key at just that port. Fails only when out of memory, and never of texts
+/// that are empty or have comments alone.
+pub(crate) fn judge_all<H: HmacSha1>(
+    alloc: Global,
+    texts: &[&str],
+    host: &str,
+    port: u16,
+    key: &KeyData,
+    hmac: &H,
+) -> Result<Verdict>
+    ensures answer { IfOk result (IsVerdict (H.hmac hmac.now) (known_name host.now port)
+        (key_of key.now) (lines_of texts.now)) }
+    ensures memory { IfErr result (λ e. e ≡ Memory) }
+    ensures asks { IfErr result (λ _. 0 < length (lines_of texts.now)) }
+{
+    let mut found = Verdict::Unknown;
+    for text in texts {
+        found = graver(found, judge_key(alloc, text, host, port, key, hmac)?);
+    }
+    Ok(found)
+}
+
+/// Of two verdicts the one that stands first.
+fn graver(one: Verdict, other: Verdict) -> Verdict
+    ensures { result ≡ graver_of one other }
+{
+    match (one, other) {
+        (Verdict::Revoked, _) | (_, Verdict::Revoked) => Verdict::Revoked,
+        (Verdict::Unreadable, _) | (_, Verdict::Unreadable) => Verdict::Unreadable,
+        (Verdict::Trusted, _) | (_, Verdict::Trusted) => Verdict::Trusted,
+        (Verdict::Changed, _) | (_, Verdict::Changed) => Verdict::Changed,
+        (Verdict::Unknown, Verdict::Unknown) => Verdict::Unknown,
+    }
+}
+
+/// Whether a line of one of the texts has the key as that of an authority of the host. Fails only
+/// when out of memory, and never of texts that are empty or have comments alone.
+pub(crate) fn has_authority<H: HmacSha1>(
+    alloc: Global,
+    texts: &[&str],
+    host: &str,
+    port: u16,
+    key: &KeyData,
+    hmac: &H,
+) -> Result<bool>
+    requires { IsKey (key_of key.now) }
+    ensures answer { IfOk result (λ yes. IsTrue yes ↔ IsAuthority (H.hmac hmac.now)
+        (known_name host.now port) (key_of key.now) (lines_of texts.now)) }
+    ensures memory { IfErr result (λ e. e ≡ Memory) }
+    ensures asks { IfErr result (λ _. 0 < length (lines_of texts.now)) }
+{
+    for text in texts {
+        let keys = authorities(alloc, text, host, port, hmac)?;
+        if has_key(&keys, key) {
+            return Ok(true);
+        }
+    }
+    Ok(false)
+}
+
+/// Whether one of the keys is that key.
+fn has_key(keys: &[PublicKey], key: &KeyData) -> bool
+    requires { IsKey (key_of key.now) }
+    ensures { IsTrue result ↔ Any (λ k. public_of k ≡ key_of key.now) keys.now }
+{
+    for listed in keys {
+        if is_same(key, listed.key_data()) {
+            return true;
+        }
+    }
+    false
+}
+
+/// Whether a key, which is well-formed, is the same as another.
+fn is_same(key: &KeyData, other: &KeyData) -> bool
+    requires { IsKey (key_of key.now) }
+    ensures { IsTrue result ↔ (key_of other.now ≡ key_of key.now) }
+{
+    compared_keys();
+    key == other
+}
