@@ -4,7 +4,6 @@ use crate::signer::Outside;
 use crate::verified::Told;
 use crate::words::{NO_LINE, bytes, names, number};
 use authority::{Authority, Limits, Request};
-use ssh_key::public::KeyData;
 use ssh_key::{PublicKey, Result};
 use std::alloc::Global;
 
@@ -19,8 +18,9 @@ pub(crate) fn answer(alloc: Global, words: &[&str], told: &Told) -> Result<Strin
         longest: number(longest)?,
     };
     let mut authority = Authority::new(alloc, limits, number(serial)?);
+    let signer = PublicKey::from_openssh(alloc, signer)?;
     let signer = Outside {
-        key: KeyData::from(PublicKey::from_openssh(alloc, signer)?),
+        key: signer.key_data().try_clone(alloc)?,
         told,
     };
     let [.., nonce] = asked else {
@@ -37,8 +37,9 @@ fn request(alloc: Global, words: &[&str]) -> Result<Request> {
     let [key, key_id, principals, valid_after, valid_before, _] = words else {
         return Err(NO_LINE);
     };
+    let key = PublicKey::from_openssh(alloc, key)?;
     Ok(Request {
-        key: KeyData::from(PublicKey::from_openssh(alloc, key)?),
+        key: key.key_data().try_clone(alloc)?,
         key_id: String::from_str(alloc, key_id)?,
         principals: names(alloc, principals)?,
         valid_after: number(valid_after)?,
