@@ -53,7 +53,9 @@ fn flags_of(digits: &str) -> Result<u32> {
 }
 
 fn key_of(alloc: Global, line: &str) -> Result<KeyData> {
-    Ok(KeyData::from(PublicKey::from_openssh(alloc, line)?))
+    PublicKey::from_openssh(alloc, line)?
+        .key_data()
+        .try_clone(alloc)
 }
 
 /// The signature of the message by that key.

@@ -5,7 +5,6 @@ use crate::verified::Told;
 use crate::words::{NO_LINE, bytes, names, number};
 use authority::{Authority, Limits, Request};
 use ssh_key::certificate::Field;
-use ssh_key::public::KeyData;
 use ssh_key::{Error, PublicKey, Result};
 use std::alloc::Global;
 use std::num::NonZeroU64;
@@ -34,8 +33,9 @@ pub(crate) fn answer(alloc: Global, words: &[&str], told: &Told) -> Result<Strin
         return Err(Error::CertificateFieldInvalid(Field::Serial));
     };
     let mut authority = Authority::new(alloc, limits, serial);
+    let signer = PublicKey::from_openssh(alloc, signer)?;
     let signer = Outside {
-        key: KeyData::from(PublicKey::from_openssh(alloc, signer)?),
+        key: signer.key_data().try_clone(alloc)?,
         told,
     };
     let [.., nonce] = asked else {
@@ -67,8 +67,9 @@ fn request(alloc: Global, words: &[&str]) -> Result<Request> {
     else {
         return Err(NO_LINE);
     };
+    let key = PublicKey::from_openssh(alloc, key)?;
     Ok(Request {
-        key: KeyData::from(PublicKey::from_openssh(alloc, key)?),
+        key: key.key_data().try_clone(alloc)?,
         key_id: String::from_str(alloc, key_id)?,
         principals: names(alloc, principals)?,
         extensions: names(alloc, extensions)?,

@@ -18,10 +18,10 @@ use std::marker::Model;
 /// The entries of a text of authorized_keys that are for whoever holds the offered key, in order,
 /// as sshd(8) reads the text ("AUTHORIZED_KEYS FILE FORMAT").
 ///
-/// sshd passes over a line that is no entry; one whose options are none, as `command=ls` without
-/// quotes; one with the option `cert-authority`, by which the key is an authority's and logs nobody
-/// in; and one with a zero byte before the end of its options or its key, where it takes the line
-/// to end. So it is done here, wherever in the line the zero byte stands.
+/// Passed over, as sshd does, are a line that is no entry; one with malformed options, as
+/// `command=ls` without quotes; and one with the option `cert-authority`, by which the key is an
+/// authority's and logs nobody in. So is a line with a zero byte, where sshd takes the line to end:
+/// one that stands behind the key is passed over here alone.
 ///
 /// Whoever calls it has asked the client for a signature under the offered key, and judges the
 /// options of each entry: an entry with an option that is not known, or that this login does not
