@@ -18,10 +18,11 @@ use ssh_key::laws::key_fits;
 use ssh_key::{Certificate, Error, HashAlg, RawVerifier};
 use std::alloc::Global;
 
-/// Accepts the certificate that a host shows if a line `@cert-authority` of the texts of known_hosts,
-/// as OpenSSH reads them, has the key that signed it for the host at that port, no line for it
-/// revokes that key or the certified one, and the certificate is one for hosts, without critical
-/// options, valid at that time for the host's name, which is given as the certificate lists it.
+/// Accepts the certificate that a host shows if a line `@cert-authority` of the texts of
+/// known_hosts, as OpenSSH reads them, has the key that signed it for the host at that port, no
+/// line for it revokes that key or the certified one, and the certificate is one for hosts, without
+/// critical options, valid at that time for the host's name, which is given as the certificate
+/// lists it.
 ///
 /// The texts are those of all the files that count, as for `check_key`, and are given at once.
 ///

@@ -12,8 +12,9 @@ use ssh_key::laws::one_verdict;
 use ssh_key::public::KeyData;
 use std::alloc::Global;
 
-/// Accepts the key that a host shows if the texts of known_hosts, as OpenSSH reads them, list the key
-/// for the host at that port, and revoke it in no line for it (`ssh_key::known_hosts::judge_key`).
+/// Accepts the key that a host shows if the texts of known_hosts, as OpenSSH reads them, list the
+/// key for the host at that port, and revoke it in no line for it
+/// (`ssh_key::known_hosts::judge_key`).
 ///
 /// The texts are those of all the files that count, the user's and the machine's: their lines are
 /// judged as if they stood in one, as by ssh(1). So give it all of them at once: asked about one
