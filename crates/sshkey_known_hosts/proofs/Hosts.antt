@@ -1,12 +1,8 @@
 -- When a text is that of hosts.
-use Rattle.std.proofs.Common.{◌≡◌, ◌≢◌, ◌⊎◌, ◌<◌, ℕ, List, [], ◌∷◌, ◌++◌, length, drop, slice_index, None, Some, Result, Ok, Err, Bor, inl, inr, sym, ap, subst, ◌∙◌, refl, arith}
+use Rattle.std.proofs.Common.{◌≡◌, ◌≢◌, ◌⊎◌, ℕ, List, [], ◌∷◌, ◌++◌, length, drop, slice_index, None, Some, Result, Ok, Err, Bor, inl, inr, sym, ap, subst, ◌∙◌, refl, arith}
 use Rattle.std.proofs.lemmas.List.{length-append}
 use Rattle.std.proofs.Math.Seq.{get_or-append_seam}
-use Rattle.std.specs.List.{slice_split, before_first, after_first}
-use Rattle.std.proofs.lemmas.Str.Pattern.{IsSplitOnceResult, split_parts, split_once_first}
-use Rattle.std.proofs.lemmas.List.Splits.{slice_split_none, slice_split_first, length-slice_split}
-use Rattle.std.proofs.lemmas.List.Elements.{All-from_get_or}
-use Rattle.std.proofs.Common.{ne_eqb, eqb-true, Bool, true, false, ◌==◌}
+use Rattle.std.proofs.lemmas.Str.Pattern.{IsSplitOnceResult, split_parts}
 use Rattle.base64.specs.Engines.{standard}
 use Rattle.base64.specs.GeneralPurpose.{encode_of, IsBytes}
 use Rattle.sshkey_base.specs.Causes.{cause, NoMemory}
@@ -17,14 +13,12 @@ use Rattle.sshkey_model.specs.Lines.{IsWithout}
 use Rattle.sshkey_model.proofs.Base64Words.{one_blob}
 use Rattle.sshkey_model.proofs.LineCuts.{one_front}
 use Rattle.sshkey_files.specs.Entries.{IsNoEntry}
-use Rattle.sshkey_files.specs.Items.{patterns, without_empty_last, is_comma}
 use Rattle.sshkey_files.specs.KnownHosts.{Hosts, HashedName, Patterns, IsHosts, IsHashedName, hashed_mark, hashed_text, bar}
 use Rattle.sshkey_files.proofs.OneHost.{bar_not}
 use Rattle.sshkey_files.specs.Answers.{ReadsEntry}
 use Rattle.sshkey_known_hosts.specs.HostEntries.{hosts_of, ReadsHashed}
 use Rattle.sshkey_known_hosts.specs.declared.host_patterns.HostPatterns.{HostPatterns}
 use Rattle.sshkey_known_hosts.specs.HostFaults.{HasNoBar, HasNoBase64, HasNoParts, HasOtherSize, IsNoBase64, RefusesHosts}
-use Rattle.sshkey_files.proofs.Cuts.{kept_first, kept_last}
 
 -- ---- a hashed name
 

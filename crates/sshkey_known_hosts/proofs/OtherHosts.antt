@@ -1,15 +1,28 @@
 -- Whether hosts that are for others stand in a line.
 use Rattle.std.proofs.Common.{◌≡◌, ℕ, List, ◌++◌, Option, refl, sym, subst}
+use Rattle.sshkey_model.specs.Keys.{Key}
 use Rattle.sshkey_model.specs.Lines.{IsWithout}
 use Rattle.sshkey_files.specs.Entries.{IsNoEntry}
 use Rattle.sshkey_files.specs.Fields.{without_blanks}
 use Rattle.sshkey_files.specs.HostNames.{AreFor}
-use Rattle.sshkey_files.specs.HostVerdicts.{IsForOthers}
+use Rattle.sshkey_files.specs.HostVerdicts.{IsForOthers, Lists}
 use Rattle.sshkey_files.specs.KnownHosts.{Marker, Hosts, IsHosts}
 use Rattle.sshkey_files.specs.OpenSshLines.{IsMarkedLine}
+use Rattle.sshkey_files.proofs.Fields.{same_field}
 use Rattle.sshkey_files.proofs.OneHost.{one_hosts}
+use Rattle.sshkey_files.proofs.OneOpenSshLine.{one_marked}
 use Rattle.sshkey_files.specs.Cuts.{CutsField}
 use Rattle.sshkey_known_hosts.proofs.HostLines.{same_hosts}
+
+-- such a line lists no key for the name
+pub lists_none : (hmac : List ℕ → List ℕ → List ℕ) (name line : List ℕ) → IsForOthers hmac name line → (m : Option Marker) (k : Key) → Lists hmac name m k line → ⊥
+lists_none hmac name line f m k l =
+    let h = l.entry in
+    let r = l.read in
+    let marks = one_marked (without_blanks line) f.marker h.marker (f.hosts_part ++ f.behind) (r.hosts_part ++ r.behind_hosts) f.marked r.marked in
+    let parts = same_field f.hosts_part r.hosts_part f.behind r.behind_hosts f.one_word r.one_word f.ends r.hosts_end marks.1 in
+    let same = one_hosts r.hosts_part f.hosts h.hosts (subst (λ (t : List ℕ). IsHosts t f.hosts) parts.0 f.are) r.hosts in
+    f.not_for (subst (AreFor hmac name) (sym same) l.is_for)
 
 module _ (hmac : List ℕ → List ℕ → List ℕ) (name line text : List ℕ) (is : text ≡ without_blanks line) where
   in_text : (f : IsForOthers hmac name line) → IsMarkedLine f.marker text (f.hosts_part ++ f.behind)

@@ -6,7 +6,7 @@ use Rattle.std.specs.List.{Any}
 use Rattle.sshkey_model.specs.Keys.{Key}
 use Rattle.sshkey_files.specs.Entries.{IsNoEntry}
 use Rattle.sshkey_files.specs.HostNames.{AreFor}
-use Rattle.sshkey_files.specs.HostVerdicts.{Lists, HidesEntry, IsRevoked, HidesSome, IsListed, IsKnown}
+use Rattle.sshkey_files.specs.HostVerdicts.{Lists, HidesEntry, IsForOthers, IsRevoked, HidesSome, IsListed, IsKnown}
 use Rattle.sshkey_files.specs.KnownHosts as known
 use Rattle.sshkey_files.specs.KnownHosts.{KnownHost}
 use Rattle.sshkey_files.specs.OpenSshLines.{IsHostLine}
@@ -17,6 +17,7 @@ use Rattle.sshkey_known_hosts.specs.declared.marker.Marker.{Marker}
 use Rattle.sshkey_known_hosts.specs.declared.marker.Marker.TheVariants as marker
 use Rattle.sshkey_known_hosts.specs.declared.verdict.Verdict.{Verdict}
 use Rattle.sshkey_known_hosts.specs.declared.verdict.Verdict.TheVariants.{Revoked, Unreadable, Trusted, Changed, Unknown}
+use Rattle.sshkey_known_hosts.proofs.OtherHosts.{lists_none}
 
 -- ---- of two lists
 
@@ -172,9 +173,11 @@ module _ (hmac : List ℕ → List ℕ → List ℕ) (name : List ℕ) (key : Ke
     pub hides : (HidesEntry hmac name line) → IsVerdict hmac name key (line ∷ []) Unreadable
     hides fits = (none_lists (Some known.Revoked) key, this (HidesEntry hmac name) line fits)
 
-    pub passed_over : (HidesEntry hmac name line → ⊥) → IsVerdict hmac name key (line ∷ []) Unknown
-    passed_over never = (
-      none_lists (Some known.Revoked) key,
-      λ s. never (only (HidesEntry hmac name) line s),
-      λ s. let one = only (λ (l : List ℕ). (k : Key) × Lists hmac name None k l) line s in none one.1.entry one.1.read,
-    )
+  -- ---- and on a line for others
+
+  pub passed_over : (line : List ℕ) → IsForOthers hmac name line → IsVerdict hmac name key (line ∷ []) Unknown
+  passed_over line f = (
+    λ s. lists_none hmac name line f (Some known.Revoked) key (only (Lists hmac name (Some known.Revoked) key) line s),
+    λ s. (only (HidesEntry hmac name) line s).1 f,
+    λ s. let one = only (λ (l : List ℕ). (k : Key) × Lists hmac name None k l) line s in lists_none hmac name line f None one.0 one.1,
+  )

@@ -1,5 +1,5 @@
 -- Whether a zero byte stands in a line.
-use Rattle.std.proofs.Common.{◌≡◌, ◌≤◌, ℕ, List, Option, Some, None, length, Bool, true, false, lit<, sym, ◌∙◌}
+use Rattle.std.proofs.Common.{◌≡◌, ◌≤◌, ℕ, List, Some, None, length, Bool, true, false, lit<, sym, ◌∙◌}
 use Rattle.std.proofs.lemmas.Str.Pattern.{contains_char}
 use Rattle.std.specs.Bool.{MatchBool}
 use Rattle.std.specs.Str.Pattern.{FindsChar}

@@ -12,7 +12,7 @@ use crate::entry::Entry;
 use crate::hmac_sha1::HmacSha1;
 use crate::host_name::known_name;
 use crate::marker::Marker;
-use crate::verdict::{has_lines, read_entry};
+use crate::verdict::{has_lines, is_for_others, read_entry};
 use sshkey_base::Result;
 use sshkey_files::FilledLines;
 use sshkey_public::PublicKey;
@@ -47,6 +47,9 @@ fn line_authority<H: HmacSha1>(
     ensures answer { IfOk result (IsAuthorityLine (H.hmac hmac.now) name.now line.now) }
     ensures memory { IfErr result (λ e. e ≡ wide.Memory) }
 {
+    if is_for_others(alloc, line, name, hmac)? {
+        return Ok(None);
+    }
     let Some(entry) = read_entry(alloc, line)? else {
         return Ok(None);
     };

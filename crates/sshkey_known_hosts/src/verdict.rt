@@ -99,8 +99,13 @@ fn entry_verdict<H: HmacSha1>(entry: &Entry, name: &str, key: &KeyData, hmac: &H
     marked_verdict(entry.marker(), same)
 }
 
-/// Whether hosts stand in a line without a zero byte that are not for the name.
-fn is_for_others<H: HmacSha1>(alloc: Global, line: &str, name: &str, hmac: &H) -> Result<bool>
+/// Whether hosts stand in a line without a zero byte that are not for the name. Reads no key.
+pub(crate) fn is_for_others<H: HmacSha1>(
+    alloc: Global,
+    line: &str,
+    name: &str,
+    hmac: &H,
+) -> Result<bool>
     ensures answer { IfOk result (λ yes. IsTrue yes ↔
         IsForOthers (H.hmac hmac.now) name.now line.now) }
     ensures memory { IfErr result (λ e. e ≡ wide.Memory) }
@@ -135,10 +140,10 @@ fn line_verdict<H: HmacSha1>(
         (IsVerdict (H.hmac hmac.now) name.now (key_of key.now) (line.now ∷ [])) }
     ensures memory { IfErr result (λ e. e ≡ wide.Memory) }
 {
+    if is_for_others(alloc, line, name, hmac)? {
+        return Ok(Verdict::Unknown);
+    }
     let Some(entry) = read_entry(alloc, line)? else {
-        if is_for_others(alloc, line, name, hmac)? {
-            return Ok(Verdict::Unknown);
-        }
         return Ok(Verdict::Unreadable);
     };
     Ok(entry_verdict(&entry, name, key, hmac))

@@ -9,9 +9,7 @@ use Rattle.sshkey_known_hosts.proofs.verdict.line_verdict.Goals as goal
 
 pub returns-then-branch-clause-answer : goal.returns-then-branch-clause-answer
 returns-then-branch-clause-answer g c =
-    let none = subst (λ (x : Option Entry). ReadsOrNone known_host_of IsHostLine c.args.line.now x) c.in_default.is c.in_ok-entry.ensures.answer in
-    passed_over (g.H.HmacSha1.hmac c.args.hmac.now) c.args.name.now (key_of c.args.key.now) c.args.line.now none
-    (λ x. x.1 (c.in_ok-is_for_others.ensures.answer.0 c.if-branch.true))
+    passed_over (g.H.HmacSha1.hmac c.args.hmac.now) c.args.name.now (key_of c.args.key.now) c.args.line.now (c.in_ok-is_for_others.ensures.answer.0 c.if-branch.true)
 
 pub returns-in_default-clause-answer : goal.returns-in_default-clause-answer
 returns-in_default-clause-answer g c =
