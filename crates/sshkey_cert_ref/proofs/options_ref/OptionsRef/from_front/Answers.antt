@@ -10,11 +10,11 @@ use Rattle.sshkey_cert_ref.proofs.options_ref.OptionsRef.from_front.Goals as goa
 pub returns-in_err-options-clause-gives : goal.returns-in_err-options-clause-gives
 returns-in_err-options-clause-gives c =
     let p = err_from_is_err_and c.from_residual.result c.from_residual.ensures.1 in
-    let h = c.in_err-options.ensures in
+    let h = c.in_err-options.ensures.gives in
     rw (p.1, p.2, h.is) (h.same refl)
 
 pub returns-clause-gives : goal.returns-clause-gives
-returns-clause-gives c = rw c.in_ok-options.ensures.value refl
+returns-clause-gives c = rw c.in_ok-options.ensures.gives.value refl
 
 pub returns-in_err-options-clause-accepts : goal.returns-in_err-options-clause-accepts
 returns-in_err-options-clause-accepts c = split_spelled (grammar options_reads) spelled_options_of cause c.args.bytes.now c.from_residual.result (returns-in_err-options-clause-gives c)

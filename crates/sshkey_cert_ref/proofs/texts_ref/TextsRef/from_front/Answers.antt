@@ -9,11 +9,11 @@ use Rattle.sshkey_cert_ref.proofs.texts_ref.TextsRef.from_front.Goals as goal
 pub returns-in_err-texts-clause-gives : goal.returns-in_err-texts-clause-gives
 returns-in_err-texts-clause-gives c =
     let p = err_from_is_err_and c.from_residual.result c.from_residual.ensures.1 in
-    let h = c.in_err-texts.ensures in
+    let h = c.in_err-texts.ensures.gives in
     rw (p.1, p.2, h.is) (h.same refl)
 
 pub returns-clause-gives : goal.returns-clause-gives
-returns-clause-gives c = rw c.in_ok-texts.ensures.value refl
+returns-clause-gives c = rw c.in_ok-texts.ensures.gives.value refl
 
 pub returns-in_err-texts-clause-accepts : goal.returns-in_err-texts-clause-accepts
 returns-in_err-texts-clause-accepts c = split_spelled texts_grammar texts_of encoding_cause c.args.bytes.now c.from_residual.result (returns-in_err-texts-clause-gives c)
