@@ -19,6 +19,7 @@ import "C"
 import (
 	"crypto/rand"
 	"sort"
+	"strings"
 )
 
 // Draft is what a certificate is to say. What it leaves out is refused where it matters: a draft
@@ -47,8 +48,9 @@ type Draft struct {
 // ToBeSigned gives the bytes that the authority has to sign for a certificate of the draft;
 // JoinCertificate makes the certificate of them and the signature. It fails with a Status where the
 // draft tells no certificate: with ErrPrincipals and ErrEmptyWindow, with ErrFormat for a type that
-// is none, with ErrTime for a time that is none, with ErrLabel for a key that has a private-use
-// name; with ErrMemory, and where there are no random bytes with what crypto/rand says.
+// is none and for a principal with a zero byte, which sshd takes to end there, and so for another
+// user's; with ErrTime for a time that is none, with ErrLabel for a key that has a private-use name;
+// with ErrMemory, and where there are no random bytes with what crypto/rand says.
 func (draft *Draft) ToBeSigned() ([]byte, error) {
 	bytes, lengths, err := draft.spans()
 	if err != nil {
@@ -75,7 +77,7 @@ func (draft *Draft) spans() (input, [C.SPANS]C.size_t, error) {
 	if err != nil {
 		return nil, lengths, err
 	}
-	principals, err := joined(draft.Principals...)
+	principals, err := principalsOf(draft.Principals)
 	if err != nil {
 		return nil, lengths, err
 	}
@@ -104,6 +106,16 @@ func (draft *Draft) nonce() ([]byte, error) {
 	made := make([]byte, 32)
 	_, err := rand.Read(made)
 	return made, err
+}
+
+// principalsOf is the names as a certificate lists them. It fails with ErrFormat for a zero byte.
+func principalsOf(names []string) ([]byte, error) {
+	for _, name := range names {
+		if strings.IndexByte(name, 0) >= 0 {
+			return nil, ErrFormat
+		}
+	}
+	return joined(names...)
 }
 
 // listed is options as a certificate lists them: by rising names, and a value in a string of its

@@ -232,6 +232,7 @@ func TestDraft(t *testing.T) {
 		"before 1970":   {func(it *sshkey.Draft) { it.ValidBefore = before }, sshkey.ErrTime},
 		"no type":       {func(it *sshkey.Draft) { it.Type = 0 }, sshkey.ErrFormat},
 		"no key":        {func(it *sshkey.Draft) { it.Key = nil }, sshkey.ErrLength},
+		"a zero byte":   {func(it *sshkey.Draft) { it.Principals = []string{"root\x00"} }, sshkey.ErrFormat},
 	} {
 		other := draft
 		it.change(&other)
