@@ -49,8 +49,8 @@ type Draft struct {
 // JoinCertificate makes the certificate of them and the signature. It fails with a Status where the
 // draft tells no certificate: with ErrPrincipals and ErrEmptyWindow, with ErrFormat for a type that
 // is none and for a principal with a zero byte, which sshd takes to end there, and so for another
-// user's; with ErrTime for a time that is none, with ErrLabel for a key that has a private-use name;
-// with ErrMemory, and where there are no random bytes with what crypto/rand says.
+// user's; with ErrTime for a time that is none, with ErrLabel for a key that has a private-use
+// name; with ErrMemory, and where there are no random bytes with what crypto/rand says.
 func (draft *Draft) ToBeSigned() ([]byte, error) {
 	bytes, lengths, err := draft.spans()
 	if err != nil {

@@ -232,9 +232,10 @@ func TestDraft(t *testing.T) {
 		"before 1970":   {func(it *sshkey.Draft) { it.ValidBefore = before }, sshkey.ErrTime},
 		"no type":       {func(it *sshkey.Draft) { it.Type = 0 }, sshkey.ErrFormat},
 		"no key":        {func(it *sshkey.Draft) { it.Key = nil }, sshkey.ErrLength},
-		"a zero byte":   {func(it *sshkey.Draft) { it.Principals = []string{"root\x00"} }, sshkey.ErrFormat},
+		"a zero byte":   {func(it *sshkey.Draft) { it.Principals[0] = "root\x00" }, sshkey.ErrFormat},
 	} {
 		other := draft
+		other.Principals = append([]string(nil), draft.Principals...)
 		it.change(&other)
 		_, err := other.ToBeSigned()
 		same(t, what, err, it.wanted)
