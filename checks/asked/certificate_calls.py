@@ -1,10 +1,9 @@
 """What a certificate lists, and how one is made, for checks/foreign: against the words that ssh-keygen was given, what it shows
 of a certificate, and the certificates that it makes itself."""
-import base64
 import os
 import sys
 
-from lib.harness import ssh_keygen, string, take
+from lib.harness import blob_of, ssh_keygen, string, take
 
 from .linked import EXAMPLES, run
 
@@ -28,7 +27,7 @@ def certificate_of(maker, authority, key, words):
     given = words if "-I" in words else ["-I", "id", *words]
     ssh_keygen("-q", "-s", maker.path(authority), *given, maker.path(f"{key}.pub"))
     shown = ssh_keygen("-L", "-f", maker.path(f"{key}-cert.pub"), text=True).stdout
-    return base64.b64decode(maker.read(f"{key}-cert.pub").split()[1]), shown
+    return maker.blob(f"{key}-cert"), shown
 
 
 def shown_under(shown, title):
@@ -51,10 +50,6 @@ def shown_option(name, value):
         return name
     inside = string(value.encode()) if value else b""
     return f"{name} UNKNOWN OPTION: {inside.hex()} (len {len(inside)})" if inside else f"{name} UNKNOWN FLAG OPTION"
-
-
-def blob_in(maker, name):
-    return base64.b64decode(maker.read(f"{name}.pub").split()[1])
 
 
 def listed_by_c(built, blobs):
@@ -88,7 +83,7 @@ def check_lists(count, built, sshkey, maker):
         same &= list(found.principals) == shown_under(shown, "Principals")
         same &= [shown_option(*it) for it in found.critical_options.items()] == shown_under(shown, "Critical Options")
         same &= [shown_option(*it) for it in found.extensions.items()] == shown_under(shown, "Extensions")
-        same &= found.key == blob_in(maker, f"listed{number}") and found.authority == blob_in(maker, f"lister{number}")
+        same &= found.key == maker.blob(f"listed{number}") and found.authority == maker.blob(f"lister{number}")
         count.check(f"what a certificate lists: {name}", same and answer == as_c_says(found), found, shown, answer)
 
 
@@ -294,8 +289,9 @@ def check_issued(count, built, sshkey, check, maker, is_verified):
     words = ["-k", "-f", maker.path("krl"), "-s", maker.path("issuer.pub"), maker.path("numbers")]
     listed = ssh_keygen(*words, text=True, check=False)
     count.check("ssh-keygen can revoke it by its number", listed.returncode == 0 and 0 < int(number) < 2**63, number, listed.stderr)
-    blob, second = base64.b64decode(issued.stdout.split()[1]), int(sshkey.certificate_fields(base64.b64decode(issued.stdout.split()[1])).valid_after)
-    by = [sshkey.fingerprint(blob_in(maker, "issuer"))]
+    blob = blob_of(issued.stdout)
+    second = int(sshkey.certificate_fields(blob).valid_after)
+    by = [sshkey.fingerprint(maker.blob("issuer"))]
     for principal, wanted in (("alice", "DONE"), ("eve", "UNLISTED_PRINCIPAL")):
         count.check(f"it is valid for {principal}: {wanted}", check.judge(blob, second, principal, by).name == wanted)
     signature = maker.signature("holder-cert.pub", "text")

@@ -1,10 +1,11 @@
 """Whether a certificate is a host's: validate_host of the examples in C and in Python, for checks/foreign. The certificates and
 the files of known_hosts are those about which checks/callers asks a real ssh, and what is wanted is what is wanted there."""
-import base64
 import time
 
+from lib.harness import blob_of
+
 from .hosts import AUTHORITY, BROKEN, CERTIFICATES, CERTIFICATES_OF_FILES, HOST, INVALID, NAMED, field, in_one_file, written
-from .linked import EXAMPLES, SANITIZED, C, run
+from .linked import EXAMPLES, SANITIZED, VALGRIND, C, run
 from .login_calls import REFUSALS, blocks
 
 # what the program callers answers, and what validate_host does
@@ -14,23 +15,19 @@ WANTED = {
 }  # fmt: skip
 
 
-def blob_in(line):
-    return base64.b64decode(line.split()[1])
-
-
 def cases(maker):
     """Names, certificates, hosts, ports, texts, and what is wanted."""
     keys = {"key": maker.key("host-key", "ed25519"), "other": maker.key("another-host", "ed25519"), "broken": BROKEN}
     keys["authority"] = maker.key("host-authority", "ed25519")
     for name, files, port, words, wanted in [*in_one_file(CERTIFICATES), *CERTIFICATES_OF_FILES]:
-        blob = blob_in(maker.certificate("host-authority", "host-key", *words))
+        blob = blob_of(maker.certificate("host-authority", "host-key", *words))
         yield name, blob, HOST, port, [written(maker, lines, keys) for lines in files], WANTED[wanted]
-    good, texts = blob_in(maker.certificate("host-authority", "host-key", *NAMED)), [written(maker, [AUTHORITY], keys)]
+    good, texts = blob_of(maker.certificate("host-authority", "host-key", *NAMED)), [written(maker, [AUTHORITY], keys)]
     turned = good[:-1] + bytes([good[-1] ^ 1])
     for name, blob, host, given, wanted in (
         ("no file", good, HOST, [], "HOST_UNKNOWN"), ("another host", good, "g.example", texts, "HOST_UNKNOWN"),
         ("a turned bit", turned, HOST, texts, "NOT_SIGNED"), ("no certificate", good[:-1], HOST, texts, "LENGTH"),
-        ("a key in its place", blob_in(keys["key"]), HOST, texts, "LABEL"), ("no bytes", b"", HOST, texts, "LENGTH"),
+        ("a key in its place", blob_of(keys["key"]), HOST, texts, "LABEL"), ("no bytes", b"", HOST, texts, "LENGTH"),
         ("a host that is no text", good, b"\xff", texts, "TEXT"), ("a file that is no text", good, HOST, [b"\xff\n"], "TEXT"),
         ("a second file that is no text", good, HOST, [*texts, b"\xff\n"], "TEXT"),
     ):  # fmt: skip
@@ -82,7 +79,7 @@ def check_page(count, built, modules, maker):
     ):
         ran = run([path, line, *texts]) if made.returncode == 0 else made
         by_c = [*ran.stdout.splitlines(), *ran.stderr.splitlines()]
-        said = [*by_c, *said_by_page(modules, by_python[0], blob_in(line), [it.encode() for it in texts])]
+        said = [*by_c, *said_by_page(modules, by_python[0], blob_of(line), [it.encode() for it in texts])]
         count.check(f"a host's certificate in docs/FOREIGN.md: {name}", said == wanted, said)
 
 
@@ -96,7 +93,7 @@ def check_hosts(count, built, modules, maker):
     ran = run([f"{built.sanitized}/foreign"], input=lines)
     said = ran.stdout.splitlines()
     count.check("hosts are judged without a fault", ran.returncode == 0 and len(said) == len(asked), ran.stderr[-2000:])
-    under = run(["valgrind", "-q", "--leak-check=full", "--error-exitcode=9", f"{built.plain}/foreign"], input=lines)
+    under = run([*VALGRIND, f"{built.plain}/foreign"], input=lines)
     count.check("and the same under valgrind", under.returncode == 0 and under.stdout.splitlines() == said, under.stderr[-2000:])
     check_page(count, built, modules, maker)
     for (name, blob, host, port, texts, wanted), answer in zip(asked, said):

@@ -6,10 +6,10 @@ import zlib
 
 from cryptography.hazmat.primitives import hashes, serialization
 from cryptography.hazmat.primitives.asymmetric import ec, rsa, utils
-from lib.harness import new_key, ssh_keygen, string, take
+from lib.harness import blob_of, new_key, ssh_keygen, string, take
 from lib.signatures import mpint
 
-from .linked import run
+from .linked import VALGRIND, run
 
 KINDS = ("ed25519", "ecdsa -b 256", "ecdsa -b 384", "ecdsa -b 521", "rsa -b 2048", "dsa")
 COMMENTS = ("", "alice@host", "two words", "spaces  within", "Zoë's laptop")
@@ -19,10 +19,6 @@ SAMPLED = 8
 
 def encoded(blob):
     return base64.b64encode(blob).decode()
-
-
-def blob_of(line):
-    return base64.b64decode(line.split()[1])
 
 
 def all_of(blob):
@@ -52,7 +48,7 @@ class Asked:
     def answers(self, name, questions):
         """Of each question, with sanitizers; those of the first few are the same under valgrind."""
         said, few = self.run([f"{self.built.sanitized}/foreign"], questions), questions[:3]
-        under = self.run(["valgrind", "-q", "--leak-check=full", "--error-exitcode=9", f"{self.built.plain}/foreign"], few)
+        under = self.run([*VALGRIND, f"{self.built.plain}/foreign"], few)
         self.count.check(f"{name} are asked about without a fault", len(said) == len(questions) and said[: len(few)] == under)
         return said
 
@@ -67,7 +63,7 @@ def keys_of(maker):
     for number, kind in enumerate(KINDS):
         line = new_key(maker.path(f"kind{number}"), kind, "a comment")
         if line:
-            yield kind, base64.b64decode(line.split()[1])
+            yield kind, blob_of(line)
     _, key = all_of(blob_of(maker.read("kind0.pub")))
     yield "sk-ed25519", b"".join(map(string, (b"sk-ssh-ed25519@openssh.com", key, b"ssh:")))
     _, curve, point = all_of(blob_of(maker.read("kind1.pub")))

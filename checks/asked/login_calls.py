@@ -1,31 +1,26 @@
 """Whether a certificate logs a user in: validate_user of the examples in C and in Python, for checks/foreign. What is wanted
 follows from the words that ssh-keygen was given, which makes the certificates."""
-import base64
 import hashlib
 import re
 import time
 
-from lib.harness import ROOT, string
+from lib.harness import ROOT, blob_of, string
 
-from .linked import EXAMPLES, SANITIZED, C, run
+from .linked import EXAMPLES, SANITIZED, VALGRIND, C, run
 from .login_options import FLAGS, certificate
 
 REFUSALS = {"NOT_FOR_USERS": 100, "NOBODY_LISTED": 101, "UNMET_OPTION": 102, "OTHER_KEY": 103, "FLAG_DATA": 104, "NOT_FOR_HOSTS": 105}
 SOURCE, COMMAND = "source-address=192.0.2.0/24", "force-command=true"
 
 
-def blob_in(line):
-    return base64.b64decode(line.split()[1])
-
-
 def cases(maker, window):
     """Names, certificates, keys, seconds, users, authorities, the option that is known, and what is wanted."""
     middle, words = window
-    own, other = (blob_in(maker.read(f"user{it}.pub")) for it in (0, 1))
-    by, strange = (hashlib.sha256(blob_in(maker.read(f"authority{it}.pub"))).digest() for it in (0, 1))
+    own, other = (blob_of(maker.read(f"user{it}.pub")) for it in (0, 1))
+    by, strange = (hashlib.sha256(blob_of(maker.read(f"authority{it}.pub"))).digest() for it in (0, 1))
 
     def made(*more):
-        return blob_in(maker.certificate("authority0", "user0", *words, *more))
+        return blob_of(maker.certificate("authority0", "user0", *words, *more))
 
     good = made("-n", "alice,bob")
     for name, blob, key, second, user, authorities, wanted in (
@@ -61,12 +56,12 @@ def cases(maker, window):
 def extensions(maker, window):
     """The same with extensions. sshd refuses data in those of which it reads the name alone (checks/callers asks it)."""
     middle, words = window
-    own, other = (blob_in(maker.read(f"user{it}.pub")) for it in (0, 1))
-    by = hashlib.sha256(blob_in(maker.read("authority0.pub"))).digest()
+    own, other = (blob_of(maker.read(f"user{it}.pub")) for it in (0, 1))
+    by = hashlib.sha256(blob_of(maker.read("authority0.pub"))).digest()
 
     def made(*more):
         pairs = [word for it in ("clear", *more) for word in ("-O", it)]
-        return blob_in(maker.certificate("authority0", "user0", *words, "-n", "alice", *pairs))
+        return blob_of(maker.certificate("authority0", "user0", *words, "-n", "alice", *pairs))
 
     data = made("extension:permit-pty=1")
     for name, blob, key, wanted in (
@@ -82,7 +77,7 @@ def extensions(maker, window):
     ):  # fmt: skip
         yield name, blob, key, middle, "alice", by, "", wanted
     line = certificate(maker, "authority0", maker.read("user0.pub"), string(b"alice"), {}, {"permit-pty": string(b"")})
-    yield "an empty string in a flag", blob_in(line), own, int(time.time()), "alice", by, "", "NOT_SIGNED"
+    yield "an empty string in a flag", blob_of(line), own, int(time.time()), "alice", by, "", "NOT_SIGNED"
 
 
 def turned(blob):
@@ -101,7 +96,7 @@ def check_users(count, built, modules, maker, window):
     ran = run([f"{built.sanitized}/foreign"], input=lines)
     said = ran.stdout.splitlines()
     count.check("logins are judged without a fault", ran.returncode == 0 and len(said) == len(asked), ran.stderr[-2000:])
-    under = run(["valgrind", "-q", "--leak-check=full", "--error-exitcode=9", f"{built.plain}/foreign"], input=lines)
+    under = run([*VALGRIND, f"{built.plain}/foreign"], input=lines)
     count.check("and the same under valgrind", under.returncode == 0 and under.stdout.splitlines() == said, under.stderr[-2000:])
     check_page(count, built, modules, maker)
     for (name, blob, key, second, user, by, known, wanted), answer in zip(asked, said):
@@ -157,7 +152,7 @@ def said_by_page(modules, code, authority, line, key):
     """What the lines in Python say."""
     said = []
     names = {"sshkey": modules[0], "check": modules[1], "time": time, "authority_line": authority, "line": line}
-    names.update({"key": blob_in(key), "let_in": lambda: said.append("let in")})
+    names.update({"key": blob_of(key), "let_in": lambda: said.append("let in")})
     names["print"] = lambda *words: said.append(" ".join(words))
     exec(code, names)
     return said

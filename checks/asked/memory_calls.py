@@ -1,13 +1,12 @@
 """Refused memory, for checks/foreign: of each call of the library in C each request for memory is refused in turn, over values of
 each kind and over bytes that are none; and the calls of which the header says so take none."""
-import base64
 import hashlib
 import re
 
 from lib.harness import ssh_keygen, string
 
 from .key_calls import all_of, encoded, keys_of, renamed, signed_by
-from .linked import HEADER, declared, run
+from .linked import HEADER, VALGRIND, declared, run
 
 SPANS, NUMBERS = 7, 5
 # with a room, and so with one that is too short
@@ -25,10 +24,6 @@ OTHER_NAME = "rsa-sha2-256"
 DOING_WITHOUT = {"certificate_validate", "certificate_validate_for"}
 # every how many-th is asked under valgrind too
 UNDER_VALGRIND = 5
-
-
-def blob_in(maker, name):
-    return base64.b64decode(maker.read(f"{name}.pub").split()[1])
 
 
 def of_certificate(blob, authority, second):
@@ -122,7 +117,7 @@ def of_drafts(key, authority):
 def cases(maker, kinds, second):
     keys = dict(keys_of(maker))
     for number, kind in enumerate(kinds):
-        yield from of_certificate(kind.blob, blob_in(maker, kind.authority), second)
+        yield from of_certificate(kind.blob, maker.blob(kind.authority), second)
         yield "read_line", [kind.line.encode()], [], "DONE"
         yield from of_signature(maker, f"user{number}")
     for blob in keys.values():
@@ -170,7 +165,7 @@ def check_memory(count, built, sshkey, maker, kinds, second):
     whole = ran.returncode == 0 and len(said) == len(asked)
     count.check(f"{len(asked)} calls, each request of which is refused, have no fault", whole, ran.stderr[-2000:])
     some = "".join(f"{it}\n" for _, it, _ in asked[::UNDER_VALGRIND])
-    under = run(["valgrind", "-q", "--leak-check=full", "--error-exitcode=9", f"{built.plain}/foreign"], input=some)
+    under = run([*VALGRIND, f"{built.plain}/foreign"], input=some)
     same = under.stdout.splitlines() == said[::UNDER_VALGRIND]
     count.check("and none under valgrind, where they answer the same", under.returncode == 0 and same, under.stderr[-2000:])
     taken = {}

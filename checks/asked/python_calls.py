@@ -9,7 +9,7 @@ import typing
 from cryptography.exceptions import UnsupportedAlgorithm
 from lib.harness import string
 
-from .certificate_calls import CASES, blob_in, certificate_of, fields_in, shown_under
+from .certificate_calls import CASES, certificate_of, fields_in, shown_under
 
 # an entry of authorized_keys, its options and these one by one
 ENTRY = b'no-pty,command="ls -l" ssh-ed25519 '
@@ -116,7 +116,7 @@ def check_two_calls(count, sshkey, maker):
         fields = fields_in(blob)
         principals = shown_under(shown, "Principals") or sshkey.ALL_PRINCIPALS
         made = sshkey.certificate_to_be_signed(
-            blob_in(maker, "listed0"), blob_in(maker, "lister0"), principals=principals, key_id=fields["key_id"].decode(),
+            maker.blob("listed0"), maker.blob("lister0"), principals=principals, key_id=fields["key_id"].decode(),
             certificate_type=sshkey.CertificateType(fields["certificate_type"]), serial=fields["serial"],
             valid_after=fields["valid_after"], valid_before=fields["valid_before"], nonce=fields["nonce"],
             extensions={it: "" for it in shown_under(shown, "Extensions")},
@@ -177,7 +177,7 @@ def check_unsupported(count, check):
 def check_python(count, modules, maker):
     """Over the keys and certificates of certificate_calls."""
     sshkey, check = modules
-    key, authority = blob_in(maker, "listed0"), blob_in(maker, "lister0")
+    key, authority = maker.blob("listed0"), maker.blob("lister0")
     certificate, _ = certificate_of(maker, "lister0", "listed0", CASES["plain"])
     check_truth(count, sshkey, check)
     check_principals(count, sshkey, key, authority)

@@ -38,6 +38,11 @@ def take(data):
     return data[4 : 4 + length], data[4 + length :]
 
 
+def blob_of(line):
+    """The bytes in the line of a key or of a certificate."""
+    return base64.b64decode(line.split()[1])
+
+
 def unarmoured(text):
     """The bytes in a text of Base64 between a first and a last line."""
     return base64.b64decode("".join(text.splitlines()[1:-1]))
