@@ -286,8 +286,8 @@ def check_issued(count, built, sshkey, check, maker, is_verified):
     count.check("ssh-keygen shows what it says", same and shown_under(shown, "Extensions") == ["permit-pty"], shown)
     number = shown_under(shown, "Serial")[0]
     maker.write("numbers", f"serial: {number}\n")
-    words = ["-k", "-f", maker.path("krl"), "-s", maker.path("issuer.pub"), maker.path("numbers")]
-    listed = ssh_keygen(*words, text=True, check=False)
+    revoking = ["-k", "-f", maker.path("krl"), "-s", maker.path("issuer.pub"), maker.path("numbers")]
+    listed = ssh_keygen(*revoking, text=True, check=False)
     count.check("ssh-keygen can revoke it by its number", listed.returncode == 0 and 0 < int(number) < 2**63, number, listed.stderr)
     blob = blob_of(issued.stdout)
     second = int(sshkey.certificate_fields(blob).valid_after)
