@@ -54,7 +54,7 @@ module _ (answers : List ℕ → Result (List ℕ) Error → Type 0) (request : 
   GetsSignature (Ok g) = IsAnswered (signature_of g)
   GetsSignature (Err e) = e ≢ Memory → GetsNone (λ _. Unit {0})
 
--- With the flag 2 no signature by RSA is one of SHA-512, and with 4 none of SHA-256 (section 4.5.1).
+-- With flags of 2 no signature by RSA is one of SHA-512, and with flags of 4 none of SHA-256 (section 4.5.1).
 abbrev pub IsAskedFor : ℕ → Algorithm → Type 0
 IsAskedFor flags a = (flags ≡ 2 → a ≢ Rsa (Some Sha512)) × (flags ≡ 4 → a ≢ Rsa (Some Sha256))
 

@@ -37,7 +37,8 @@ pub trait Agent {
 pub struct AgentKey<'a, A, V> {
     /// The public key.
     pub key: KeyData,
-    /// The flags of the request: 2 asks an RSA key for SHA-256, 4 for SHA-512.
+    /// The flags of the request: 2 asks an RSA key for SHA-256, 4 for SHA-512. With another number
+    /// the agent chooses.
     pub flags: u32,
     /// The agent.
     pub agent: &'a A,
@@ -98,7 +99,7 @@ fn signature_from(alloc: Global, answer: &[u8]) -> Result<Signature>
     }
 }
 
-/// Whether the signature is by the hash that the flags ask an RSA key for.
+/// Whether the signature is by the hash that flags of 2 or 4 ask an RSA key for.
 fn is_asked_for(flags: u32, algorithm: &Algorithm) -> bool
     ensures { IsTrue result ↔ IsAskedFor flags (algorithm_of algorithm.now) }
 {
@@ -150,8 +151,8 @@ impl<A: Agent, V: RawVerifier> SigningKey for AgentKey<'_, A, V> {
         &self.key
     }
 
-    /// Asks the agent for a signature of the message, and returns it if it is by the hash that the
-    /// flags ask for and the verifier accepts it.
+    /// Asks the agent for a signature of the message, and returns it if it is by the hash that flags
+    /// of 2 or 4 ask an RSA key for, and the verifier accepts it.
     ///
     /// Fails with `Crypto` where the agent answers no such one, or a string of the request is too
     /// long, and else only when out of memory.

@@ -15,7 +15,7 @@ pub struct Identity {
     /// The blob of the key or of its certificate: `KeyOrCertificate::from_bytes` reads either. It
     /// is kept as bytes, since a key of a kind that nobody knows here is no fault of the answer.
     pub key: Bytes,
-    /// What the user calls it. OpenSSH lists a key whatever its comment is, so it need not be UTF-8.
+    /// What the user calls it. It need not be UTF-8: OpenSSH lists a key whatever its comment is.
     pub comment: Bytes,
 }
 

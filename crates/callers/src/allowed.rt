@@ -6,8 +6,8 @@ use allowed_signers::{Refusal, verify};
 use ssh_key::Result;
 use std::alloc::{AllocError, Global};
 
-/// Whether the last word is the identity's signature of the message before it, by the text of allowed
-/// signers, all three in hexadecimal digits.
+/// Whether the last word is the identity's signature of the message before it, by the text of
+/// allowed signers, all three in hexadecimal digits.
 pub(crate) fn answer(alloc: Global, words: &[&str], told: &Told) -> Result<String> {
     let [signers, identity, namespace, seconds, message, signature] = words else {
         return Err(NO_LINE);

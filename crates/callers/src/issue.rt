@@ -9,8 +9,8 @@ use ssh_key::{Error, PublicKey, Result};
 use std::alloc::Global;
 use std::num::NonZeroU64;
 
-/// The line of the certificate that an authority gives, or why it gives none: what may be asked for,
-/// the next serial number, the time, the authority's key, what is asked for, and the nonce.
+/// The line of the certificate that an authority gives, or why it gives none: what may be asked
+/// for, the next serial number, the time, the authority's key, what is asked for, and the nonce.
 pub(crate) fn answer(alloc: Global, words: &[&str], told: &Told) -> Result<String> {
     let [
         principals,

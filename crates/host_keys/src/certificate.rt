@@ -29,9 +29,9 @@ use std::alloc::Global;
 /// Memory may run out only where a line may be an entry, so never of texts that are empty or have
 /// comments alone. Else it refuses all others: with `Revoked` where a line revokes one of the keys,
 /// else with `Unreadable` where a line that can't be read could be one for the host, else with
-/// `Unknown` where the key that signed is no authority of the host, and else with `Certificate` and
-/// what is wrong first: `CertificateFieldInvalid` with `CertType` or `CriticalOptions`, or a refusal
-/// of `Certificate::validate_principal_at`. So a certificate that lists nobody is for each host of
+/// `Unknown` where the key that signed is no authority of the host, and else with `Certificate`
+/// and what is wrong first: `CertificateFieldInvalid` with `CertType` or `CriticalOptions`, or a
+/// refusal of `Certificate::validate_principal_at`. So a certificate that lists nobody is for each host of
 /// its authority (PROTOCOL.certkeys).
 ///
 /// Where it would refuse a host at another port than 22 with `Unknown`, it asks, as ssh(1) does,

@@ -40,7 +40,7 @@ pub(crate) fn key_verdict<H: HmacSha1>(
 }
 
 /// What the texts say of a key that the host shows and of the key that signed it. Fails only when
-/// out of memory.
+/// out of memory, and never of texts that are empty or have comments alone.
 pub(crate) fn signed_verdict<H: HmacSha1>(
     alloc: Global,
     texts: &[&str],
@@ -70,7 +70,8 @@ fn is_settled(verdict: Verdict, port: u16) -> bool
     port == STANDARD_PORT || !is_unknown(verdict)
 }
 
-/// What the texts say of both at just that port. Fails only when out of memory.
+/// What the texts say of both at just that port. Fails only when out of memory, and never of texts
+/// that are empty or have comments alone.
 fn judge_signed<H: HmacSha1>(
     alloc: Global,
     texts: &[&str],

@@ -19,7 +19,8 @@ pub struct Part {
     pub length: usize,
 }
 
-/// No bytes yet, with memory for the value's normal form and for so many more.
+/// No bytes yet, with memory for the value's normal form and for so many more. Fails with `Length`
+/// or `Memory`, as `encoded_len` does and where there is none.
 pub fn with_capacity<T: Encode>(alloc: Global, value: &T, more: usize) -> Result<Vec<u8>>
     ensures { IfOk result (λ content. content.items ≡ []) }
 {
@@ -44,7 +45,7 @@ pub fn add(bytes: &[u8], content: &mut Vec<u8>) -> Result<Part>
     })
 }
 
-/// Adds the value's normal form to the bytes that the room is to hold.
+/// Adds the value's normal form to the bytes that the room is to hold. Fails as `encode` does.
 pub fn add_encoded<T: Encode>(value: &T, content: &mut Vec<u8>) -> Result<Part>
     ensures added { IfOk result
         (λ _. content.new.items ≡ content.old.items ++ flat (T.normal value.now)) }
@@ -59,11 +60,11 @@ pub fn add_encoded<T: Encode>(value: &T, content: &mut Vec<u8>) -> Result<Part>
     })
 }
 
-/// Answers with what was laid out: the bytes, at the front of the room where there is room for them,
-/// and where their parts are.
+/// Answers with what was laid out: the bytes, at the front of the room where there is room for
+/// them, and where their parts are.
 ///
-/// Returns 0, 2 where the room is shorter and stays as it was, and 1 where memory ran out, and answer
-/// and room stay as they were.
+/// Returns 0; 2 where the room is shorter, which stays as it was; and 1 for an error, which its
+/// callers have only for memory: then answer and room stay as they were.
 pub fn answer_with<T: Copy>(laid: Result<(Vec<u8>, T)>, room: &mut [u8], answer: &mut T) -> u32
     ensures { AnswersWith laid result answer.old answer.new room.old room.new }
 {

@@ -27,9 +27,8 @@ use std::str;
 /// Returns 0 if it is, 1 if memory ran out, from 10 to 29 the fault of bytes that are no
 /// certificate, and else what is wrong first: 30 for the signature, 31 for the authority, 32 for a
 /// time above 2^63 - 1, 33 for a time before `valid_after`, or not before `valid_before`. What a
-/// certificate is for, its critical options and whether it is revoked are not looked at. Memory is
-/// asked for only where a DSA or an RSA key signed, and 1 is answered only for an RSA key under
-/// another name than `ssh-rsa`.
+/// certificate is for, its critical options and whether it is revoked are not looked at. 1 is
+/// answered only for an RSA key under another name than `ssh-rsa`.
 pub fn certificate_validate(
     alloc: Global,
     certificate: &[u8],
@@ -178,8 +177,8 @@ fn judge_for(
     }
 }
 
-/// What is wrong with the certificate first. Fails only when out of memory, for the fingerprint of a
-/// key that is not in its normal form.
+/// What is wrong with the certificate first. Fails only when out of memory, for the fingerprint of
+/// a key that is not in its normal form.
 fn first_refusal(
     alloc: Global,
     certificate: &CertificateRef<'_>,
