@@ -151,8 +151,8 @@ impl<A: Agent, V: RawVerifier> SigningKey for AgentKey<'_, A, V> {
         &self.key
     }
 
-    /// Asks the agent for a signature of the message, and returns it if it is by the hash that flags
-    /// of 2 or 4 ask an RSA key for, and the verifier accepts it.
+    /// Asks the agent for a signature of the message, and returns it if it is by the hash that
+    /// flags of 2 or 4 ask an RSA key for, and the verifier accepts it.
     ///
     /// Fails with `Crypto` where the agent answers no such one, or a string of the request is too
     /// long, and else only when out of memory.

@@ -7,7 +7,8 @@ use ssh_key::{PublicKey, Result};
 use std::alloc::{AllocError, Global};
 
 /// Whether the user is let in, who is the first word, at the second that is the second one, with
-/// the offered key, by the certificate, and by the authorities with the fingerprints in the last word.
+/// the offered key, by the certificate, and by the authorities with the fingerprints in the last
+/// word.
 pub(crate) fn answer(alloc: Global, words: &[&str], told: &Told) -> Result<String> {
     let [user, seconds, offered, certificate, authorities] = words else {
         return Err(NO_LINE);

@@ -31,8 +31,8 @@ use std::alloc::Global;
 /// else with `Unreadable` where a line that can't be read could be one for the host, else with
 /// `Unknown` where the key that signed is no authority of the host, and else with `Certificate`
 /// and what is wrong first: `CertificateFieldInvalid` with `CertType` or `CriticalOptions`, or a
-/// refusal of `Certificate::validate_principal_at`. So a certificate that lists nobody is for each host of
-/// its authority (PROTOCOL.certkeys).
+/// refusal of `Certificate::validate_principal_at`. So a certificate that lists nobody is for each
+/// host of its authority (PROTOCOL.certkeys).
 ///
 /// Where it would refuse a host at another port than 22 with `Unknown`, it asks, as ssh(1) does,
 /// all the texts about the host's plain name. Whether the certified key is one that the host is
