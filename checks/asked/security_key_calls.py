@@ -283,9 +283,11 @@ def check_zero_in_principal(judges, key, middle, is_verified):
     """The same of a principal: who is listed with a zero byte behind is nobody else here."""
     certified_key = base64.b64decode(judges.maker.read("user0.pub").split()[1])
     for principal, is_taken in (("alice\0", True), ("al\0ice", False)):
-        made = judges.sshkey.make_certificate(
-            certified_key, key.blob(), lambda message: key.signature(key.raw(key.device_message(message))), principals=[principal]
-        )  # fmt: skip
+        # the package makes none with a zero byte
+        plain = principal.replace("\0", "~")
+        message = judges.sshkey.certificate_to_be_signed(certified_key, key.blob(), principals=[plain])
+        message = message.replace(plain.encode(), principal.encode())
+        made = judges.sshkey.join_certificate(message, key.signature(key.raw(key.device_message(message))))
         found = judges.of_certificates([certificate_line(made)], key.line(), "alice", middle)
         file = with_signer(judges.maker.signature("user0", "text"), made)
         judged = is_verified(judges.maker.folder, "zero", file, "text", "alice", middle, f"alice cert-authority {key.line()}")
