@@ -251,7 +251,7 @@ const char *meaning(uint32_t answer) {
   case SSHKEY_TRAILING_DATA: return "bytes behind the end";
   case SSHKEY_NOT_SIGNED: return "not signed";
   case SSHKEY_UNTRUSTED_AUTHORITY: return "another authority";
-  case SSHKEY_INVALID_TIME: return "a time too late to be one";
+  case SSHKEY_INVALID_TIME: return "no time that a certificate has";
   case SSHKEY_OUT_OF_WINDOW: return "not valid at that time";
   case SSHKEY_UNLISTED_PRINCIPAL: return "another principal";
   case SSHKEY_UNSUPPORTED: return "key and signature do not go together";

@@ -54,7 +54,7 @@ MEANING = {
     Status.CHARACTER_ENCODING: "a text that is not UTF-8", Status.LABEL: "a name that may not stand there",
     Status.LENGTH: "a length that passes the bytes", Status.TRAILING_DATA: "bytes behind the end",
     Status.NOT_SIGNED: "not signed", Status.UNTRUSTED_AUTHORITY: "another authority",
-    Status.INVALID_TIME: "a time too late to be one", Status.OUT_OF_WINDOW: "not valid at that time",
+    Status.INVALID_TIME: "no time that a certificate has", Status.OUT_OF_WINDOW: "not valid at that time",
     Status.UNLISTED_PRINCIPAL: "another principal",
     Refusal.NOT_FOR_USERS: "not for users", Refusal.NOBODY_LISTED: "no principals", Refusal.OTHER_KEY: "another key",
     Refusal.UNMET_OPTION: "a critical option that is not known or not met",

@@ -39,7 +39,7 @@ var meanings = map[error]string{
 	sshkey.ErrTrailingData:       "bytes behind the end",
 	sshkey.ErrNotSigned:          "not signed",
 	sshkey.ErrUntrustedAuthority: "another authority",
-	sshkey.ErrInvalidTime:        "a time too late to be one",
+	sshkey.ErrInvalidTime:        "no time that a certificate has",
 	sshkey.ErrOutOfWindow:        "not valid at that time",
 	sshkey.ErrUnlistedPrincipal:  "another principal",
 	sshkey.ErrUnsupported:        "key and signature do not go together",
