@@ -159,8 +159,8 @@ static uint32_t judge_key(blob certificate, blob key) {
 uint32_t validate_user(blob certificate, const login_request *asked) {
   sshkey_fields fields;
   memset(&fields, 0, sizeof fields);
-  /* judge takes no principal for any */
-  if (!asked->user) return SSHKEY_UNLISTED_PRINCIPAL;
+  /* judge takes no principal for any, and a certificate may list one without a letter */
+  if (!asked->user || !*asked->user) return SSHKEY_UNLISTED_PRINCIPAL;
   uint32_t answer = judge(certificate, asked->unix_timestamp, asked->user, asked->by);
   if (answer == SSHKEY_DONE)
     answer = sshkey_certificate_fields(certificate.bytes, certificate.length, &fields);

@@ -131,7 +131,9 @@ def validate_user(
     `key` is the blob of the key of which the client has proved that it holds it. `is_met` says of a critical option, by its name
     and value, whether it is known and met at this login. Whether the certificate is revoked, whether somebody touched a security
     key, and what its extensions say is not looked at (docs/FOREIGN.md)."""
-    status = judge(certificate, now, user or "", authorities)
+    if not user:  # a certificate may list it
+        return Status.UNLISTED_PRINCIPAL
+    status = judge(certificate, now, user, authorities)
     if status != Status.DONE:
         return status
     fields, contents = sshkey.certificate_fields(certificate), sshkey.certificate_contents(certificate)
