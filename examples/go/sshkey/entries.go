@@ -67,9 +67,10 @@ func KnownHost(line string) (HostEntry, error) {
 // It fails with ErrFormat where the text is no list of options, with ErrText where it is not UTF-8,
 // and with ErrMemory.
 //
-// Refuse an entry with an option that you do not know, one that comes twice (but for environment,
-// permitlisten and permitopen), and one without a value that needs one, as command alone. Each
-// takes time for the whole text, so bound the length of lines that others write.
+// Refuse an entry with an option that you do not know, one that comes twice, also with other
+// capitals (but for environment, permitlisten and permitopen), one without a value that needs one,
+// as command alone, and one with a value that takes none, as no-pty="x". Each takes time for the
+// whole text, so bound the length of lines that others write.
 func EntryOptions(text string) ([]EntryOption, error) {
 	in, found := inputOf(text), []EntryOption{}
 	for {
