@@ -27,6 +27,8 @@ none), numbers and names:
     entry LINE | host LINE                                   0 MARKER FRONT KEY COMMENT
     options TEXT                                             0 NAME=VALUE, or NAME where there is none, ..
     verdict TEXT HOST PORT KEY                               NUMBER NUMBER: of the host's key, and of an authority's
+    host-certificate BYTES SECOND HOST PORT TEXT ..          what validate_host says, as check.py prints it: asked where
+                                                             JUDGES_HOSTS has the language
 
 An answer is the number of a refusal in place of 0 and what follows: 11 of options whose texts are not UTF-8, 15 of two with one
 name.
@@ -35,11 +37,12 @@ import random
 import re
 import subprocess
 import tempfile
+import time
 from dataclasses import dataclass
 
 from lib.harness import string
 
-from . import entry_calls
+from . import entry_calls, host_calls
 from .certificate_calls import CASES, certificate_of, fields_in
 from .key_calls import COMMENTS, encoded, numbers_of_keys, points_of_keys, signed_by, signed_by_hand, turned
 from .linked import run
@@ -48,6 +51,8 @@ from .security_key_calls import SecurityKey, signatures
 
 # every how many-th is asked about
 HOSTILE, TURNED, FILES, LINES = 12, 5, 30, 60
+# the languages in which there is validate_host
+JUDGES_HOSTS = {"Go"}
 
 
 @dataclass(frozen=True)
@@ -118,6 +123,10 @@ class Answers:
 
         given = (data_of(data), data_of(key), int(second), data_of(user), self.digests(by), is_met)
         return [self.check.said(self.check.validate_user(*given))]
+
+    def host_certificate(self, data, second, host, port, *texts):
+        given = (data_of(data), int(second), data_of(host), int(port), [data_of(it) for it in texts])
+        return [self.check.said(self.check.validate_host(*given))]
 
     def fields(self, data):
         of = self.sshkey.certificate_fields(data_of(data))
@@ -202,6 +211,12 @@ class Judge:
     def __init__(self, count, asker, made):
         self.count, self.asker, self.made, self.answers = count, asker, made, Answers(made)
 
+    def said_of(self, status):
+        """What check.py prints of a status or a refusal of that name."""
+        number = REFUSALS[status] if status in REFUSALS else int(self.made.sshkey.Status[status])
+        means = {int(it): words for it, words in self.made.check.MEANING.items()}
+        return "valid" if number == 0 else f"refused: {means.get(number, 'not in its format')} ({number})"
+
     def ask(self, name, questions, wanted=()):
         """Each question is answered as Python answers it, and as is wanted of those of which it is known: so, or with that front."""
         ran = run(self.asker.words, input="".join(f"{it}\n" for it in questions))
@@ -274,10 +289,18 @@ def check_logins(judge):
     for _, blob, key, second, user, by, known, status in [*cases(judge.made.maker, window), *extensions(judge.made.maker, window)]:
         user = user.encode() if isinstance(user, str) else user
         questions.append(f"user {blob.hex()} {key.hex()} {second} {word(user)} {word(by)} {word(known.encode())}")
-        number = REFUSALS[status] if status in REFUSALS else int(judge.made.sshkey.Status[status])
-        means = {int(it): words for it, words in judge.made.check.MEANING.items()}
-        wanted.append("valid" if number == 0 else f"refused: {means.get(number, 'not in its format')} ({number})")
+        wanted.append(judge.said_of(status))
     judge.ask("logins", questions, wanted)
+
+
+def check_hosts(judge):
+    """validate_host, of the certificates and the files of known_hosts of which checks/foreign asks C and Python."""
+    now, questions, wanted = int(time.time()), [], []
+    for _, blob, host, port, texts, status in host_calls.cases(judge.made.maker):
+        host = host.encode() if isinstance(host, str) else host
+        questions.append(" ".join(["host-certificate", word(blob), str(now), word(host), str(port), *map(word, texts)]))
+        wanted.append(judge.said_of(status))
+    judge.ask("hosts' certificates", questions, wanted)
 
 
 def check_keys(judge):
@@ -349,6 +372,8 @@ def check_binding(count, asker, made):
     check_keys(judge)
     check_lines(judge)
     check_entries(judge)
+    if asker.language in JUDGES_HOSTS:
+        check_hosts(judge)
 
 
 # ---- libraries that answer one number
@@ -365,7 +390,7 @@ def check_stub(count, asker, made, number):
         f"certificate-options {blob}", f"strings {blob}", f"key {key}", f"line {name}", f"normal key {key}",
         f"normal certificate {blob}", f"normal sshsig {key}", f"normal signature {key}", f"join {blob} {key}", f"entry {name}",
         f"host {name}", f"options {name}", f"draft {key} 00 {name} - - - {key} 0 0 9 1 1", f"verdict {name} {name} 22 {key}",
-        f"user {blob} {key} 7 {name} {by} -",
+        f"user {blob} {key} 7 {name} {by} -", *([f"host-certificate {blob} 7 {name} 22 {name}"] if asker.language in JUDGES_HOSTS else []),
     ]  # fmt: skip
     check_answered(count, asker, f"where each call answers {number}, that is answered", questions, number)
 

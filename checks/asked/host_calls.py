@@ -23,13 +23,15 @@ def cases(maker):
         blob = blob_of(maker.certificate("host-authority", "host-key", *words))
         yield name, blob, HOST, port, [written(maker, lines, keys) for lines in files], WANTED[wanted]
     good, texts = blob_of(maker.certificate("host-authority", "host-key", *NAMED)), [written(maker, [AUTHORITY], keys)]
-    turned = good[:-1] + bytes([good[-1] ^ 1])
+    turned, revoked = good[:-1] + bytes([good[-1] ^ 1]), written(maker, ["@revoked * {key}"], keys)
     for name, blob, host, given, wanted in (
         ("no file", good, HOST, [], "HOST_UNKNOWN"), ("another host", good, "g.example", texts, "HOST_UNKNOWN"),
         ("a turned bit", turned, HOST, texts, "NOT_SIGNED"), ("no certificate", good[:-1], HOST, texts, "LENGTH"),
         ("a key in its place", blob_of(keys["key"]), HOST, texts, "LABEL"), ("no bytes", b"", HOST, texts, "LENGTH"),
         ("a host that is no text", good, b"\xff", texts, "TEXT"), ("a file that is no text", good, HOST, [b"\xff\n"], "TEXT"),
         ("a second file that is no text", good, HOST, [*texts, b"\xff\n"], "TEXT"),
+        ("revoked, and a second file that is no text", good, HOST, [revoked, b"\xff\n"], "TEXT"),
+        ("a file that is no text, and revoked", good, HOST, [b"\xff\n", revoked], "TEXT"),
     ):  # fmt: skip
         yield name, blob, host, 22, given, wanted
 

@@ -51,6 +51,9 @@ def cases(maker, window):
         ("one that is not met", flag, "verify-required", "UNMET_OPTION"),
     ):  # fmt: skip
         yield name, blob, own, middle, "alice", by, known, wanted
+    # ssh-keygen lists no such name
+    line = certificate(maker, "authority0", maker.read("user0.pub"), string(b""), {}, {})
+    yield "no user, where the empty name is listed", blob_of(line), own, int(time.time()), "", by, "", "UNLISTED_PRINCIPAL"
 
 
 def extensions(maker, window):

@@ -7,7 +7,7 @@ import pickle
 import typing
 
 from cryptography.exceptions import UnsupportedAlgorithm
-from lib.harness import string
+from lib.harness import string, take
 
 from .certificate_calls import CASES, certificate_of, fields_in, shown_under
 
@@ -123,6 +123,10 @@ def check_two_calls(count, sshkey, maker):
         )  # fmt: skip
         joined = sshkey.join_certificate(made, fields["signature"])
         count.check(f"what is to be signed is what ssh-keygen signs, in Python: {name}", joined == blob, made.hex(), blob.hex())
+    asked = [{}, {"nonce": None}, {"nonce": b""}, {"nonce": bytearray()}, {"nonce": memoryview(b"")}]
+    drawn = [sshkey.certificate_to_be_signed(maker.blob("listed0"), maker.blob("lister0"), principals=["alice"], **it) for it in asked]
+    nonces = {take(take(it)[1])[0] for it in drawn}
+    count.check("a nonce is drawn where none is given", len(nonces) == len(asked) and {len(it) for it in nonces} == {32}, nonces)
     words = [inspect.signature(it).parameters for it in (sshkey.certificate_to_be_signed, sshkey.make_certificate)]
     given, made = ({name: (it.default, it.annotation) for name, it in of.items() if name != "sign"} for of in words)
     count.check("make_certificate takes what certificate_to_be_signed takes", given == made, given, made)

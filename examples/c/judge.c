@@ -159,8 +159,8 @@ static uint32_t judge_key(blob certificate, blob key) {
 uint32_t validate_user(blob certificate, const login_request *asked) {
   sshkey_fields fields;
   memset(&fields, 0, sizeof fields);
-  /* judge takes no principal for any */
-  if (!asked->user) return SSHKEY_UNLISTED_PRINCIPAL;
+  /* judge takes no principal for any, and a certificate may list one without a letter */
+  if (!asked->user || !*asked->user) return SSHKEY_UNLISTED_PRINCIPAL;
   uint32_t answer = judge(certificate, asked->unix_timestamp, asked->user, asked->by);
   if (answer == SSHKEY_DONE)
     answer = sshkey_certificate_fields(certificate.bytes, certificate.length, &fields);
@@ -251,7 +251,7 @@ const char *meaning(uint32_t answer) {
   case SSHKEY_TRAILING_DATA: return "bytes behind the end";
   case SSHKEY_NOT_SIGNED: return "not signed";
   case SSHKEY_UNTRUSTED_AUTHORITY: return "another authority";
-  case SSHKEY_INVALID_TIME: return "a time too late to be one";
+  case SSHKEY_INVALID_TIME: return "no time that a certificate has";
   case SSHKEY_OUT_OF_WINDOW: return "not valid at that time";
   case SSHKEY_UNLISTED_PRINCIPAL: return "another principal";
   case SSHKEY_UNSUPPORTED: return "key and signature do not go together";

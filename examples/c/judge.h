@@ -42,7 +42,7 @@ typedef bool is_met_option(const uint8_t *name, size_t name_length, const uint8_
 
 /* A login by a certificate. */
 typedef struct {
-  const char *user;        /* whom the client wants to be */
+  const char *user;        /* whom the client wants to be; null or empty is nobody */
   blob key;                /* the key of which the client has proved that it holds it */
   uint64_t unix_timestamp; /* when that is */
   authorities by;          /* who may certify users */

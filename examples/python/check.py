@@ -54,7 +54,7 @@ MEANING = {
     Status.CHARACTER_ENCODING: "a text that is not UTF-8", Status.LABEL: "a name that may not stand there",
     Status.LENGTH: "a length that passes the bytes", Status.TRAILING_DATA: "bytes behind the end",
     Status.NOT_SIGNED: "not signed", Status.UNTRUSTED_AUTHORITY: "another authority",
-    Status.INVALID_TIME: "a time too late to be one", Status.OUT_OF_WINDOW: "not valid at that time",
+    Status.INVALID_TIME: "no time that a certificate has", Status.OUT_OF_WINDOW: "not valid at that time",
     Status.UNLISTED_PRINCIPAL: "another principal",
     Refusal.NOT_FOR_USERS: "not for users", Refusal.NOBODY_LISTED: "no principals", Refusal.OTHER_KEY: "another key",
     Refusal.UNMET_OPTION: "a critical option that is not known or not met",
@@ -131,7 +131,9 @@ def validate_user(
     `key` is the blob of the key of which the client has proved that it holds it. `is_met` says of a critical option, by its name
     and value, whether it is known and met at this login. Whether the certificate is revoked, whether somebody touched a security
     key, and what its extensions say is not looked at (docs/FOREIGN.md)."""
-    status = judge(certificate, now, user or "", authorities)
+    if not user:  # a certificate may list it
+        return Status.UNLISTED_PRINCIPAL
+    status = judge(certificate, now, user, authorities)
     if status != Status.DONE:
         return status
     fields, contents = sshkey.certificate_fields(certificate), sshkey.certificate_contents(certificate)

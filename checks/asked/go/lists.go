@@ -4,6 +4,7 @@ import (
 	"sort"
 	"strconv"
 
+	"rafendilo.example/go/judge"
 	"rafendilo.example/go/sshkey"
 )
 
@@ -128,6 +129,16 @@ func options(words []string) ([]string, error) {
 		}
 	}
 	return found, err
+}
+
+func hostCertificate(words []string) ([]string, error) {
+	texts := []string{}
+	for _, of := range words[4:] {
+		texts = append(texts, text(of))
+	}
+	port := uint16(number(words[3]))
+	err := judge.ValidateHost(data(words[0]), at(words[1]), text(words[2]), port, texts)
+	return []string{judge.Said(err)}, nil
 }
 
 func verdict(words []string) string {

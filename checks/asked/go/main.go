@@ -24,7 +24,7 @@ var answers = map[string]answer{
 	"is-signature": isSignature, "validate": validate, "user": user, "fields": fields,
 	"lists": lists, "certificate-options": certificateOptions, "strings": stringsOf, "key": key,
 	"line": line, "normal": normal, "draft": draft, "join": join, "lines": lines, "entry": entry,
-	"host": host, "options": options,
+	"host": host, "options": options, "host-certificate": hostCertificate,
 }
 
 func main() {
@@ -48,7 +48,7 @@ func said(what string, words []string) string {
 	if err != nil {
 		return numberOf(err)
 	}
-	if what == "user" {
+	if what == "user" || what == "host-certificate" {
 		return found[0]
 	}
 	return strings.Join(append([]string{"0"}, found...), " ")

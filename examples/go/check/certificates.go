@@ -36,6 +36,7 @@ func fingerprints(path string) ([]sshkey.SHA256, error) {
 		return nil, err
 	}
 	var found []sshkey.SHA256
+	// as check.py does, and not by sshkey.EntryLines, which gives no line's number
 	for at, whole := range bytes.Split(text, []byte("\n")) {
 		line := strings.TrimLeft(string(whole), " \t\r\v\f")
 		if line == "" || line[0] == '#' {

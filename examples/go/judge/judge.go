@@ -1,6 +1,6 @@
-// Package judge says whether certificates log users in and whether SSH signatures are valid, with
-// Go's standard library for cryptography and package sshkey for the rest. It is there to be copied,
-// and equal to check.py of the examples in Python.
+// Package judge says whether certificates log users in, whether they are those of hosts, and
+// whether SSH signatures are valid, with Go's standard library for cryptography and package sshkey
+// for the rest. It is there to be copied, and equal to check.py of the examples in Python.
 package judge
 
 import (
@@ -11,7 +11,7 @@ import (
 
 // Login is what a login asks of a certificate. What is left out lets nobody in.
 type Login struct {
-	// User is the name of the user, which the certificate has to list.
+	// User is the name of the user, which the certificate has to list. "" is none.
 	User string
 	// Key is the blob of the key of which the client has proved that it holds it.
 	Key []byte
@@ -39,6 +39,9 @@ var flags = []string{
 // Whether the certificate is revoked, whether somebody touched a security key, and what its
 // extensions say is not looked at (docs/FOREIGN.md).
 func ValidateUser(certificate []byte, login Login) error {
+	if login.User == "" { // which a certificate may list
+		return sshkey.ErrUnlistedPrincipal
+	}
 	// nobody changes it between the calls
 	certificate = append([]byte(nil), certificate...)
 	err := sshkey.ValidateCertificateFor(

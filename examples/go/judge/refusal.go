@@ -7,8 +7,9 @@ import (
 	"rafendilo.example/go/sshkey"
 )
 
-// Refusal is what is wrong with a certificate that is valid and logs nobody in. It is an error, and
-// there is none that says yes; its numbers are those of the example in C (JUDGE_*).
+// Refusal is what is wrong with a certificate that may be valid, and logs nobody in or is not the
+// host's. It is an error, and no call gives one that says yes; its numbers are those of the example
+// in C (JUDGE_*).
 type Refusal uint32
 
 const (
@@ -22,6 +23,8 @@ const (
 	ErrOtherKey
 	// ErrFlagData is for one with data in an extension that is a flag.
 	ErrFlagData
+	// ErrNotForHosts is for a certificate of a user.
+	ErrNotForHosts
 )
 
 // Error is what is wrong, in words, and the number.
@@ -39,16 +42,20 @@ var meanings = map[error]string{
 	sshkey.ErrTrailingData:       "bytes behind the end",
 	sshkey.ErrNotSigned:          "not signed",
 	sshkey.ErrUntrustedAuthority: "another authority",
-	sshkey.ErrInvalidTime:        "a time too late to be one",
+	sshkey.ErrInvalidTime:        "no time that a certificate has",
 	sshkey.ErrOutOfWindow:        "not valid at that time",
 	sshkey.ErrUnlistedPrincipal:  "another principal",
 	sshkey.ErrUnsupported:        "key and signature do not go together",
 	sshkey.ErrOtherNamespace:     "another namespace",
+	sshkey.ErrHostRevoked:        "revoked",
+	sshkey.ErrHostUnreadable:     "a line that may revoke it and can't be read",
+	sshkey.ErrHostUnknown:        "no authority of the host",
 	ErrNotForUsers:               "not for users",
 	ErrNobodyListed:              "no principals",
 	ErrUnmetOption:               "a critical option that is not known or not met",
 	ErrOtherKey:                  "another key",
 	ErrFlagData:                  "data in an extension that is a flag",
+	ErrNotForHosts:               "not for hosts",
 }
 
 // Said is what check.py prints of an answer: "valid" for nil, else what it means in words and its

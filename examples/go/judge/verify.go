@@ -30,7 +30,8 @@ var curves = map[sshkey.Algorithm]struct {
 // IsSignature says whether the question's signature is one: a sshkey.Verifier. It says no to what
 // is too weak to count: DSA, and RSA keys of fewer than 2,048 bits; to a number of a key that is
 // zero or negative, and to a point that does not begin with 04, which OpenSSH does not read; and to
-// what crypto/rsa does not take: an exponent above 2^31 - 1, which no tool makes.
+// what crypto/rsa does not take: an exponent above 2^31 - 1, which no tool makes, and a signature
+// shorter than the modulus, which OpenSSH reads as if zeros stood before it.
 func IsSignature(question sshkey.Question) bool {
 	parts, err := sshkey.Strings(question.Key)
 	if err != nil {

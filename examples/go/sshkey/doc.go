@@ -4,16 +4,17 @@
 // Cryptography is the caller's: a [Verifier] says whether a signature is one. The package judge
 // beside this one has such a function over Go's standard library, and ValidateUser, which says
 // whether a certificate logs a user in. Who logs users in calls that: a certificate that
-// [ValidateCertificate] finds valid may be for a host, or for nobody by name.
+// [ValidateCertificate] finds valid may be for a host, or for nobody by name. Who is shown a host's
+// certificate calls its ValidateHost.
 //
 // # Errors
 //
-// Only a nil error is success. Each error of the library is a [Status], and there is no Status that
-// says yes, so none can be taken for one: compare with [errors.Is] (errors.Is(err,
-// sshkey.ErrOutOfWindow)). [ErrMemory] says nothing of what was asked: the library was refused
-// memory, and the call may be made again. With an error the other results are zero values, and a
-// zero [SHA256] is the fingerprint of no key. Where Go itself runs out of memory the program ends.
-// No compiler sees a call whose error is dropped: have a linter look for such, as errcheck does.
+// Only a nil error is success. Each error of the library is a [Status], and no call gives one that
+// says yes: compare with [errors.Is] (errors.Is(err, sshkey.ErrOutOfWindow)). [ErrMemory] says
+// nothing of what was asked: the library was refused memory, and the call may be made again. With
+// an error the other results are zero values, and a zero [SHA256] is the fingerprint of no key.
+// Where Go itself runs out of memory the program ends. No compiler sees a call whose error is
+// dropped: have a linter look for such, as errcheck does.
 //
 // # Memory
 //
@@ -26,6 +27,8 @@
 //
 // In this tree the package links examples/out/libsshkey.a, which `make -C examples` builds. With
 // the build tag sshkey_installed it links what pkg-config calls sshkey (`make -C examples
-// install`). It takes cgo, on Linux on x86-64. That the library answers rightly is proved; this
-// package is written by hand and tested (checks/bindings).
+// install`). It takes cgo, on Linux on x86-64. Go does not see that the library is another: after a
+// new one, delete the program before it is built (or `go build -a`), and test with -count=1. That
+// the library answers rightly is proved; this package is written by hand and tested
+// (checks/bindings).
 package sshkey

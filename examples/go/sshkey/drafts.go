@@ -30,7 +30,8 @@ type Draft struct {
 	// Type is User or Host.
 	Type CertificateType
 	// KeyID is a text for logs.
-	KeyID  string
+	KeyID string
+	// Serial is a number of its own, and not 0: to OpenSSH that is none, and no KRL can name it.
 	Serial uint64
 	// Principals are names. Where there are none, AllPrincipals has to say that the certificate is
 	// for everybody, and where there are some it may not.

@@ -67,9 +67,10 @@ func KnownHost(line string) (HostEntry, error) {
 // It fails with ErrFormat where the text is no list of options, with ErrText where it is not UTF-8,
 // and with ErrMemory.
 //
-// Refuse an entry with an option that you do not know, one that comes twice (but for environment,
-// permitlisten and permitopen), and one without a value that needs one, as command alone. Each
-// takes time for the whole text, so bound the length of lines that others write.
+// Refuse an entry with an option that you do not know, one that comes twice, also with other
+// capitals (but for environment, permitlisten and permitopen), one without a value that needs one,
+// as command alone, and one with a value that takes none, as no-pty="x". Each takes time for the
+// whole text, so bound the length of lines that others write.
 func EntryOptions(text string) ([]EntryOption, error) {
 	in, found := inputOf(text), []EntryOption{}
 	for {
@@ -104,9 +105,12 @@ func nthOption(in input, number int) (EntryOption, error) {
 // HostVerdict gives nil exactly if a text of known_hosts trusts the key, given as its blob, for a
 // host at a port; ErrHostRevoked, ErrHostUnreadable, ErrHostChanged or ErrHostUnknown for what it
 // says else. The host is a name or an address alone, without a port and without brackets:
-// net.SplitHostPort takes apart what a dialer has. For a port other than 22, where the answer is
-// ErrHostUnknown, ssh(1) asks about port 22 too. It fails with a Status for bytes that are no key,
-// with ErrText where text or host are not UTF-8, and with ErrMemory.
+// net.SplitHostPort takes apart what a dialer has. It fails with a Status for bytes that are no
+// key, with ErrText where text or host are not UTF-8, and with ErrMemory.
+//
+// Ask it of each file before one is believed: the first of these counts that one of them says:
+// ErrHostRevoked, ErrHostUnreadable, nil, ErrHostChanged. Where all say ErrHostUnknown of a port
+// other than 22, and only there, ssh(1) asks about port 22 too.
 func HostVerdict(knownHosts, host string, port uint16, key []byte) error {
 	in, whom, by := inputOf(knownHosts), inputOf(host), inputOf(key)
 	return errorOf(C.sshkey_host_verdict(in.pointer(), in.length(),
@@ -115,8 +119,13 @@ func HostVerdict(knownHosts, host string, port uint16, key []byte) error {
 
 // AuthorityVerdict gives the same of the key of an authority that signed a certificate of the host:
 // nil exactly if an entry @cert-authority for the host has the key, and neither is it revoked nor a
-// line that may be the host's unreadable; ErrHostUnknown where no such entry has it. The
-// certificate itself is for ValidateCertificateFor to judge. It fails as HostVerdict does.
+// line that may be the host's unreadable; ErrHostUnknown where no such entry has it. It fails as
+// HostVerdict does.
+//
+// It is asked of each file, as HostVerdict is, and alone it trusts no certificate: that has to be
+// of type Host, without critical options, valid (ValidateCertificateFor) for the host's name by the
+// fingerprint of this key and no other, and of a key (Contents.Key) of which HostVerdict says
+// ErrHostRevoked in no file. judge.ValidateHost asks all of it.
 func AuthorityVerdict(knownHosts, host string, port uint16, key []byte) error {
 	in, whom, by := inputOf(knownHosts), inputOf(host), inputOf(key)
 	return errorOf(C.sshkey_authority_verdict(in.pointer(), in.length(),

@@ -88,6 +88,11 @@ func (digest SHA512) String() string {
 // as their blobs (RFC 4253, section 6.6): as an agent gives it, or a client at a login. It fails
 // with a Status for bytes that are none, with ErrUnsupported where they do not go together, and
 // with ErrMemory.
+//
+// Of a key whose blob begins with a name sk-..@openssh.com, and of no other, byte 32 of the message
+// is the device's flags: refuse a login where nobody touched it (0x01), unless the certificate or
+// the line has no-touch-required, and one where it has not verified its user (0x04), if
+// verify-required asks for that.
 func SignatureQuestion(key, message, signature []byte) (Question, error) {
 	in, of, by := inputOf(key), inputOf(message), inputOf(signature)
 	length := len(in) + len(of) + len(by) + 256

@@ -57,6 +57,23 @@ const (
 		"AAAAC3NzaC1lZDI1NTE5AAAAID1AF8PoQ4lakrcKp00bfrycmCzPLsSWjMDNVfEq9GYM two words"
 )
 
+// Calls from several goroutines at once answer as one does.
+func TestAtOnce(t *testing.T) {
+	line, done := read(t, "user-cert.pub"), make(chan error)
+	for at := 0; at < 8; at++ {
+		go func() {
+			found, err := sshkey.ReadLine(line)
+			if err == nil {
+				_, err = sshkey.CertificateContents(found.Blob)
+			}
+			done <- err
+		}()
+	}
+	for at := 0; at < 8; at++ {
+		same(t, "error", <-done, nil)
+	}
+}
+
 func TestReadLine(t *testing.T) {
 	line, err := sshkey.ReadLine(keyLine + "\n")
 	same(t, "error", err, nil)

@@ -8,9 +8,10 @@ import (
 	"strings"
 )
 
-// Status is why a call refused what it was given, or could not answer. It is an error, and there is
-// none that says yes: what is done is nil. Take it out of an error by [errors.As] to show its
-// number, or compare with [errors.Is].
+// Status is why a call refused what it was given, or could not answer. It is an error, and no call
+// gives one that says yes: what is done is nil. Compare with [errors.Is]. [errors.As] takes it out
+// to show its number; where that is false, as for a Refusal of package judge, the zero value that
+// is left says nothing: decide by err == nil alone.
 type Status uint32
 
 // What is no answer on what was given.

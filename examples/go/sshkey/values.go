@@ -49,7 +49,8 @@ type SHA256 [32]byte
 // SHA512 is the SHA-512 fingerprint of a key. The zero value is that of no key.
 type SHA512 [64]byte
 
-// Second is a time as certificates have it: seconds since 1970, and not milliseconds.
+// Second is a time as certificates have it: seconds since 1970, and not milliseconds. Make it by
+// SecondOf: a conversion of a number makes Forever of -1.
 type Second uint64
 
 // Forever is the end of a window that has none.

@@ -127,14 +127,14 @@ def certificate_to_be_signed(
     makes the certificate of them and the signature.
 
     `principals` is a list of names, or ALL_PRINCIPALS for a certificate that is for everybody. The window is the seconds from
-    `valid_after` on and before `valid_before`. Options are names with their values. The nonce is random unless it is given. Give
+    `valid_after` on and before `valid_before`. Options are names with their values. The nonce is random unless one is given. Give
     a `serial` of its own to each: to OpenSSH 0 is none, and a list of revoked keys (KRL) can't name it.
 
     Raises Refused where these tell no certificate: PRINCIPALS for an empty list, LABEL for a key that has a private-use name.
     Raises ValueError for a number that does not fit its field, and for a principal with a zero byte, which sshd takes to end
     there, and so for another user's; TypeError for a single name or None in place of the list, and MemoryError."""
     texts = {
-        "key": key, "nonce": os.urandom(32) if nonce is None else nonce, "key_id": _text(key_id), "authority": authority,
+        "key": key, "nonce": nonce or os.urandom(32), "key_id": _text(key_id), "authority": authority,
         "principals": _joined(principals), "critical_options": _listed(critical_options), "extensions": _listed(extensions),
     }  # fmt: skip
     copies = {name: bytes_of(text) for name, text in texts.items()}
