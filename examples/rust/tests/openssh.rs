@@ -190,6 +190,8 @@ fn drafts_are_refused_where_something_is_left_out() {
         Status::EMPTY_WINDOW
     );
     assert_eq!(refusal(Draft { key: &[], ..draft }), Status::LENGTH);
+    let nonce = &[];
+    assert_eq!(refusal(Draft { nonce, ..draft }), Status::LENGTH);
     assert_eq!(
         refusal(Draft {
             authority: &[],
