@@ -11,7 +11,7 @@ use std::path::Path;
 use std::process::ExitCode;
 use std::time::{SystemTime, UNIX_EPOCH};
 
-use sshkey::{CertificateType, Principal, Question, Sha256, Status};
+use sshkey::{Login, Principal, Refusal, Sha256, Status};
 
 const USAGE: &str = "\
 Says whether certificates and SSH signatures are valid, or what is wrong first.
@@ -48,129 +48,6 @@ pub(crate) mod verify {
     }
 }
 
-// ---- a login
-
-/// Why a certificate logs nobody in: it is not valid, or it is, and more is wrong with it.
-#[derive(Clone, Copy, Debug, PartialEq, Eq)]
-pub(crate) enum Refusal {
-    /// It is not valid, or cannot be read.
-    Invalid(Status),
-    /// It is one for hosts.
-    NotForUsers,
-    /// It lists no principals, and would be for everybody.
-    NobodyListed,
-    /// A critical option is not known, or not met.
-    UnmetOption,
-    /// It is one of another key than the client holds.
-    OtherKey,
-    /// Data stand in an extension that is a flag.
-    FlagData,
-}
-
-impl From<Status> for Refusal {
-    fn from(status: Status) -> Refusal {
-        Refusal::Invalid(status)
-    }
-}
-
-/// The meaning, and the number of sshkey.h or of the example in C (`JUDGE_*`).
-impl fmt::Display for Refusal {
-    fn fmt(&self, formatter: &mut fmt::Formatter<'_>) -> fmt::Result {
-        let (meaning, number) = match *self {
-            Refusal::Invalid(status) => (meaning(status), status.number()),
-            Refusal::NotForUsers => ("not for users", 100),
-            Refusal::NobodyListed => ("no principals", 101),
-            Refusal::UnmetOption => ("a critical option that is not known or not met", 102),
-            Refusal::OtherKey => ("another key", 103),
-            Refusal::FlagData => ("data in an extension that is a flag", 104),
-        };
-        write!(formatter, "{meaning} ({number})")
-    }
-}
-
-/// What a status means, in words.
-fn meaning(status: Status) -> &'static str {
-    match status {
-        Status::MEMORY => "no memory",
-        Status::ROOM => "the room is too short",
-        Status::TEXT => "a principal that is not UTF-8",
-        Status::BASE64 => "not Base64",
-        Status::CHARACTER_ENCODING => "a text that is not UTF-8",
-        Status::LABEL => "a name that may not stand there",
-        Status::LENGTH => "a length that passes the bytes",
-        Status::TRAILING_DATA => "bytes behind the end",
-        Status::NOT_SIGNED => "not signed",
-        Status::UNTRUSTED_AUTHORITY => "another authority",
-        Status::INVALID_TIME => "a time too late to be one",
-        Status::OUT_OF_WINDOW => "not valid at that time",
-        Status::UNLISTED_PRINCIPAL => "another principal",
-        Status::UNSUPPORTED => "key and signature do not go together",
-        Status::OTHER_NAMESPACE => "another namespace",
-        _ => "not in its format",
-    }
-}
-
-/// The extensions in which nothing may stand (PROTOCOL.certkeys).
-const FLAGS: [&str; 6] = [
-    "no-touch-required",
-    "permit-X11-forwarding",
-    "permit-agent-forwarding",
-    "permit-port-forwarding",
-    "permit-pty",
-    "permit-user-rc",
-];
-
-/// A login by a certificate.
-pub(crate) struct Login<'a> {
-    /// Whom the client wants to be.
-    pub(crate) user: &'a [u8],
-    /// The blob of the key of which the client has proved that it holds it.
-    pub(crate) key: &'a [u8],
-    /// When that is, in seconds since 1970.
-    pub(crate) unix_timestamp: u64,
-    /// Who may certify users, by the fingerprints of their keys.
-    pub(crate) authorities: &'a [Sha256],
-}
-
-/// Whether the certificate logs the user in, or what is wrong first. `verify` is your
-/// cryptography, and `is_met` says of a critical option, by its name and value, whether it is known
-/// and met at this login. Whether the certificate is revoked, whether somebody touched a security
-/// key, and what its extensions say is not looked at (docs/FOREIGN.md).
-pub(crate) fn validate_user(
-    certificate: &[u8],
-    login: &Login<'_>,
-    verify: impl FnOnce(&Question) -> bool,
-    is_met: impl Fn(&str, &str) -> bool,
-) -> Result<(), Refusal> {
-    let (second, user) = (login.unix_timestamp, Principal::Named(login.user));
-    sshkey::judge_certificate(certificate, second, user, login.authorities, verify)?;
-    let fields = sshkey::certificate_fields(certificate)?;
-    let contents = sshkey::certificate_contents(certificate)?;
-    if fields.certificate_type != CertificateType::User {
-        return Err(Refusal::NotForUsers);
-    }
-    if !fields.lists_principals {
-        // it would be for everybody
-        return Err(Refusal::NobodyListed);
-    }
-    for option in contents.critical_options {
-        let option = option?;
-        if !is_met(option.name, option.value) {
-            return Err(Refusal::UnmetOption);
-        }
-    }
-    for extension in contents.extensions {
-        let extension = extension?;
-        if FLAGS.contains(&extension.name) && !extension.value.is_empty() {
-            return Err(Refusal::FlagData);
-        }
-    }
-    if sshkey::normal_key(login.key)? != sshkey::certificate_key(certificate)? {
-        return Err(Refusal::OtherKey);
-    }
-    Ok(())
-}
-
 // ---- what is read
 
 /// The key or the certificate of a line. Fails where it is a line of neither, and with
@@ -198,7 +75,10 @@ fn no_key(path: &Path, status: Status) -> Untold {
     } else {
         "no key: "
     };
-    of_file(path, format_args!("{front}{}", meaning(status)))
+    of_file(
+        path,
+        format_args!("{front}{}", Refusal::from(status).meaning()),
+    )
 }
 
 /// The fingerprints of the keys in a file. Fails where it can't be read, and where a line is no
@@ -206,7 +86,7 @@ fn no_key(path: &Path, status: Status) -> Untold {
 fn fingerprints(path: &Path) -> Result<Vec<Sha256>, Untold> {
     let text = fs::read(path).map_err(|fault| of_file(path, fault))?;
     sshkey::entry_lines(&text)
-        .map(|line| sshkey::fingerprint(&read(line?, false)?))
+        .map(|line| sshkey::fingerprint(&read(line, false)?))
         .collect::<Result<_, Status>>()
         .map_err(|status| no_key(path, status))
 }
@@ -288,8 +168,9 @@ pub(crate) fn line_for(answer: Result<(), Refusal>) -> String {
 /// Says whether something is valid, and returns that. Fails where memory was refused, and where
 /// nothing can be written.
 fn say(output: &mut impl Write, answer: Result<(), Refusal>) -> Result<bool, Untold> {
-    if answer == Err(Refusal::Invalid(Status::MEMORY)) {
-        return Err(meaning(Status::MEMORY).into());
+    let no_memory = Refusal::from(Status::MEMORY);
+    if answer == Err(no_memory) {
+        return Err(no_memory.meaning().into());
     }
     writeln!(output, "{}", line_for(answer))?;
     Ok(answer.is_ok())
@@ -358,7 +239,7 @@ fn user(words: [&OsStr; 3], second: u64, options: &[OsString]) -> Result<bool, U
         authorities: &by,
     };
     let is_met = |name: &str, value: &str| !value.is_empty() && options.iter().any(|it| it == name);
-    say_of_lines(|certificate| validate_user(certificate, &login, verify::verifies, is_met))
+    say_of_lines(|it| sshkey::validate_user(it, &login, verify::verifies, is_met))
 }
 
 // ---- streams
