@@ -22,6 +22,9 @@ CARGO = ["--offline", "--locked"]
 # each unsafe block is one call, and says why it is right; an older clippy does not know that of one call
 UNSAFE = ["-D", "clippy::undocumented_unsafe_blocks", "-D", "clippy::multiple_unsafe_ops_per_block"]
 LINTS = ["-D", "warnings", "-A", "unknown_lints", *UNSAFE]
+# values of source-address that sshd reads, and that it does not: ssh-keygen tells by the same function
+NETWORKS = ["192.0.2.0/24,2001:db8::/32", "192.0.2.1", "2001:db8::1", "0.0.0.0/0", "192.0.2.1/32"]
+NO_NETWORKS = ["nowhere", "192.0.2.0/24,nowhere", "192.0.2.1/24", "192.0.2.0/33", "2001:db8::1/32", "192.0.2.0/+24", "192.0.2.0/24,"]
 # of a line of authorized_keys
 OPTIONS = b'no-pty,command="say \\"yes\\""'
 
@@ -123,7 +126,12 @@ def check_user(count, program, made):
     def certified(*words):
         return maker.certificate("authority0", "user0", *made.foreign.WINDOW, "-n", *words) + "\n"
 
+    def from_networks(them):
+        # ssh-keygen does not look at the value of an option that it is told is critical
+        return certified("alice", "-O", f"critical:source-address={them}")
+
     good, strange, source = certified("alice"), certified("eve"), certified("alice", "-O", "source-address=192.0.2.0/24")
+    flag, data = certified("alice", "-O", "verify-required"), certified("alice", "-O", "critical:verify-required=data")
     # ssh-keygen lists no such name; it is valid now
     empty = certificate(maker, "authority0", maker.read("user0.pub"), string(b""), {}, {}) + "\n"
     unmet = "refused: a critical option that is not known or not met (102)"
@@ -137,6 +145,11 @@ def check_user(count, program, made):
         ("another key", [by, "alice", other, second], good, "refused: another key (103)"),
         ("an option", [by, "alice", own, second], source, unmet),
         ("an option that is met", [by, "alice", own, second, "force-command", "source-address"], source, "valid"),
+        ("a flag that is met", [by, "alice", own, second, "verify-required"], flag, "valid"),
+        ("a flag that is not met", [by, "alice", own, second, "source-address"], flag, unmet),
+        ("a flag with data", [by, "alice", own, second, "verify-required"], data, unmet),
+        *((f"the networks {it}", [by, "alice", own, second, "source-address"], from_networks(it), "valid") for it in NETWORKS),
+        *((f"the networks {it}", [by, "alice", own, second, "source-address"], from_networks(it), unmet) for it in NO_NETWORKS),
         ("now", [by, "alice", own], good, "refused: not valid at that time (33)"),
     ):  # fmt: skip
         ran = program.run("user", *words, input=given)

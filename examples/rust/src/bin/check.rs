@@ -6,6 +6,7 @@ use std::ffi::{OsStr, OsString};
 use std::fmt;
 use std::fs;
 use std::io::{self, BufRead, Read, Write};
+use std::net::IpAddr;
 use std::os::unix::ffi::OsStrExt;
 use std::path::Path;
 use std::process::ExitCode;
@@ -22,9 +23,10 @@ Says whether certificates and SSH signatures are valid, or what is wrong first.
 
 AUTHORITIES and SIGNERS are files of public keys, a line each. The first answers of each line of
 its input. The last says of each whether it logs in the user who holds the key of the file KEY,
-where each OPTION is the name of a critical option that is met. The status is 0 if all is valid, 1
-if not, and 2 where it can't tell: so also where there is no certificate. Of the first, a valid
-certificate may be for a host, or for nobody by name, and - is no name that a client may choose.
+where each OPTION is the name of a critical option that is met, whatever networks or command its
+value names. The status is 0 if all is valid, 1 if not, and 2 where it can't tell: so also where
+there is no certificate. Of the first, a valid certificate may be for a host, or for nobody by name,
+and - is no name that a client may choose.
 ";
 
 // ---- cryptography
@@ -228,6 +230,36 @@ fn signature(signers: &OsStr, namespace: &OsStr, file: &OsStr) -> Result<bool, U
     Ok(is_valid)
 }
 
+/// Whether the word is a network as sshd reads one: an address, and how many of its bits count, of
+/// which none stands behind those.
+fn is_network(word: &str) -> bool {
+    let (address, bits) = word
+        .split_once('/')
+        .map_or((word, None), |(address, bits)| (address, Some(bits)));
+    let (number, most): (u128, u32) = match address.parse() {
+        Ok(IpAddr::V4(it)) => (u32::from(it).into(), 32),
+        Ok(IpAddr::V6(it)) => (it.into(), 128),
+        Err(_) => return false,
+    };
+    let counted = match bits {
+        None => return true,
+        // parse takes a sign, too
+        Some(it) if it.bytes().all(|byte| byte.is_ascii_digit()) => it.parse::<u32>().ok(),
+        Some(_) => None,
+    };
+    let left = counted.and_then(|it| most.checked_sub(it));
+    left.map_or(false, |it| number.trailing_zeros() >= it)
+}
+
+/// Whether sshd takes the value of a critical option, as far as that does not depend on the login.
+fn is_sound(name: &str, value: &str) -> bool {
+    match name {
+        "verify-required" => value.is_empty(),
+        "source-address" => value.split(',').all(is_network),
+        _ => !value.is_empty() && !value.contains('\0'),
+    }
+}
+
 /// Whether all log the user in.
 fn user(words: [&OsStr; 3], second: u64, options: &[OsString]) -> Result<bool, Untold> {
     let [authorities, user, key] = words;
@@ -238,7 +270,9 @@ fn user(words: [&OsStr; 3], second: u64, options: &[OsString]) -> Result<bool, U
         unix_timestamp: second,
         authorities: &by,
     };
-    let is_met = |name: &str, value: &str| !value.is_empty() && options.iter().any(|it| it == name);
+    let is_met = |name: &str, value: &str| {
+        is_sound(name, value) && options.iter().any(|known| known == name)
+    };
     say_of_lines(|it| sshkey::validate_user(it, &login, verify::verifies, is_met))
 }
 
