@@ -110,9 +110,11 @@ def check_hosts(count, asker, made):
     ran = run(asker.words, input=lines)
     said = ran.stdout.splitlines()
     count.check("Rust: hosts are judged", ran.returncode == 0 and len(said) == len(asked), ran.stderr[-2000:])
-    for (name, *_, wanted), answer in zip(asked, said):
+    for (name, blob, host, port, texts, wanted), answer in zip(asked, said):
         number = REFUSALS[wanted] if wanted in REFUSALS else int(made.sshkey.Status[wanted])
-        count.check(f"Rust, a host's certificate: {name}", (answer == "valid") if number == 0 else f"({number})" in answer, wanted, answer)
+        by_python = made.check.validate_host(blob, int(now), host, port, texts)
+        same = int(by_python) == number and answer == made.check.said(by_python)
+        count.check(f"Rust, a host's certificate: {name}", same, wanted, by_python, answer)
 
 
 # ---- the command `user`, which check.py does not have
