@@ -2,16 +2,19 @@
 docs/FOREIGN.md shows of them, and what the program has beside check.py."""
 import os
 import re
+import time
 
-from lib.harness import ROOT
+from lib.harness import ROOT, string
 
 from .binding_calls import Asker, Judge, draft_of
 from .bindings import is_untold
 from .certificate_calls import fields_in
 from .example_calls import INVALID, VALID
+from .host_calls import cases
 from .key_calls import signed_by
 from .linked import EXAMPLES, run
-from .login_calls import blocks
+from .login_calls import REFUSALS, blocks
+from .login_options import certificate
 
 PACKAGE = os.path.join(EXAMPLES, "rust")
 CHECK, ASKER = f"{PACKAGE}/src/bin/check.rs", f"{ROOT}/checks/asked/rust/asker.rs"
@@ -19,6 +22,9 @@ CARGO = ["--offline", "--locked"]
 # each unsafe block is one call, and says why it is right; an older clippy does not know that of one call
 UNSAFE = ["-D", "clippy::undocumented_unsafe_blocks", "-D", "clippy::multiple_unsafe_ops_per_block"]
 LINTS = ["-D", "warnings", "-A", "unknown_lints", *UNSAFE]
+# values of source-address that sshd reads, and that it does not: ssh-keygen tells by the same function
+NETWORKS = ["192.0.2.0/24,2001:db8::/32", "192.0.2.1", "2001:db8::1", "0.0.0.0/0", "192.0.2.1/32"]
+NO_NETWORKS = ["nowhere", "192.0.2.0/24,nowhere", "192.0.2.1/24", "192.0.2.0/33", "2001:db8::1/32", "192.0.2.0/+24", "192.0.2.0/24,"]
 # of a line of authorized_keys
 OPTIONS = b'no-pty,command="say \\"yes\\""'
 
@@ -91,6 +97,26 @@ def check_under_valgrind(count, asker, made):
     judge.ask("questions", questions)
 
 
+# ---- validate_host
+
+
+def check_hosts(count, asker, made):
+    """`validate_host`, of the certificates and the files of known_hosts of which checks/foreign asks C and Python."""
+    asked, now = list(cases(made.maker)), str(int(time.time()))
+    lines = ""
+    for _, blob, host, port, texts, _ in asked:
+        name, *spelled = (it.hex() or "-" for it in (host.encode() if isinstance(host, str) else host, *texts))
+        lines += " ".join(["host-certificate", blob.hex() or "-", now, name, str(port), *spelled]) + "\n"
+    ran = run(asker.words, input=lines)
+    said = ran.stdout.splitlines()
+    count.check("Rust: hosts are judged", ran.returncode == 0 and len(said) == len(asked), ran.stderr[-2000:])
+    for (name, blob, host, port, texts, wanted), answer in zip(asked, said):
+        number = REFUSALS[wanted] if wanted in REFUSALS else int(made.sshkey.Status[wanted])
+        by_python = made.check.validate_host(blob, int(now), host, port, texts)
+        same = int(by_python) == number and answer == made.check.said(by_python)
+        count.check(f"Rust, a host's certificate: {name}", same, wanted, by_python, answer)
+
+
 # ---- the command `user`, which check.py does not have
 
 
@@ -102,16 +128,30 @@ def check_user(count, program, made):
     def certified(*words):
         return maker.certificate("authority0", "user0", *made.foreign.WINDOW, "-n", *words) + "\n"
 
+    def from_networks(them):
+        # ssh-keygen does not look at the value of an option that it is told is critical
+        return certified("alice", "-O", f"critical:source-address={them}")
+
     good, strange, source = certified("alice"), certified("eve"), certified("alice", "-O", "source-address=192.0.2.0/24")
+    flag, data = certified("alice", "-O", "verify-required"), certified("alice", "-O", "critical:verify-required=data")
+    # ssh-keygen lists no such name; it is valid now
+    empty = certificate(maker, "authority0", maker.read("user0.pub"), string(b""), {}, {}) + "\n"
+    unmet = "refused: a critical option that is not known or not met (102)"
     for name, words, given, wanted in (
         ("its user", [by, "alice", own, second], good, "valid"),
         ("two lines", [by, "alice", own, second], good * 2, "valid\nvalid"),
         ("another user's", [by, "alice", own, second], strange, "refused: another principal (34)"),
         ("no user", [by, "", own, second], good, "refused: another principal (34)"),
+        ("no user, where the empty name is listed", [by, "", own], empty, "refused: another principal (34)"),
         ("a user that is -", [by, "-", own, second], good, "refused: another principal (34)"),
         ("another key", [by, "alice", other, second], good, "refused: another key (103)"),
-        ("an option", [by, "alice", own, second], source, "refused: a critical option that is not known or not met (102)"),
+        ("an option", [by, "alice", own, second], source, unmet),
         ("an option that is met", [by, "alice", own, second, "force-command", "source-address"], source, "valid"),
+        ("a flag that is met", [by, "alice", own, second, "verify-required"], flag, "valid"),
+        ("a flag that is not met", [by, "alice", own, second, "source-address"], flag, unmet),
+        ("a flag with data", [by, "alice", own, second, "verify-required"], data, unmet),
+        *((f"the networks {it}", [by, "alice", own, second, "source-address"], from_networks(it), "valid") for it in NETWORKS),
+        *((f"the networks {it}", [by, "alice", own, second, "source-address"], from_networks(it), unmet) for it in NO_NETWORKS),
         ("now", [by, "alice", own], good, "refused: not valid at that time (33)"),
     ):  # fmt: skip
         ran = program.run("user", *words, input=given)
@@ -129,15 +169,16 @@ def check_user(count, program, made):
 # ---- what docs/FOREIGN.md shows
 
 PAGE = """\
+use check::line_for;
 use check::verify::verifies;
-use check::{{line_for, validate_user, Login}};
+use std::time::{{SystemTime, UNIX_EPOCH}};
 #[allow(dead_code)]
 #[path = "{0}"]
 mod check;
 fn let_in() {{
     println!("let in");
 }}
-fn log_in(authority_line: &str, line: &str, key: &[u8], unix_timestamp: u64) -> Result<(), sshkey::Status> {{
+fn log_in(authority_line: &str, line: &str, key: &[u8]) -> Result<(), Box<dyn std::error::Error>> {{
 {1}
     Ok(())
 }}
@@ -152,7 +193,7 @@ fn main() {{
     let words: Vec<String> = std::env::args().collect();
     let blob = |at: usize| sshkey::read_line(&words[at]).unwrap().blob;
     let second = words[4].parse().unwrap();
-    log_in(&words[1], &words[2], &blob(3), second).unwrap();
+    log_in(&words[1], &words[2], &blob(3)).unwrap();
     let valid = two_calls(blob(2), sshkey::fingerprint(&blob(1)).unwrap(), second);
     println!("{{}}", line_for(valid.map_err(Into::into)));
 }}
@@ -161,11 +202,11 @@ fn main() {{
 
 def check_rust_page(count, rust, made):
     """The lines in Rust that docs/FOREIGN.md shows compile, and let the user in, and no other."""
-    maker, code, second = made.maker, blocks("rust"), str(made.middle)
+    maker, code, second = made.maker, blocks("rust"), str(int(time.time()))
     count.check("docs/FOREIGN.md shows lines in Rust", len(code) == 2, code)
     page = rust.built(count, maker.write("page.rs", PAGE.format(CHECK, *code[:2])), "page of FOREIGN.md")
     authority, own, other = (maker.read(f"{it}.pub") for it in ("authority0", "user0", "user1"))
-    good, strange = (maker.certificate("authority0", "user0", *made.foreign.WINDOW, "-n", it) for it in ("alice", "eve"))
+    good, strange = (maker.certificate("authority0", "user0", "-V", "-5m:+5m", "-n", it) for it in ("alice", "eve"))
     refused = "refused: another principal (34)"
     for name, words, wanted in (
         ("its user", (authority, good, own), ["let in", "valid"]),

@@ -10,10 +10,15 @@ fn main() {
         || PathBuf::from(env!("CARGO_MANIFEST_DIR")).join("../out"),
         PathBuf::from,
     );
+    // the linker runs elsewhere
+    let folder = folder.canonicalize().unwrap_or(folder);
     let (library, verifier) = (folder.join("libsshkey.a"), folder.join("verify.o"));
     println!("cargo:rerun-if-env-changed=SSHKEY_LIB_DIR");
     println!("cargo:rerun-if-changed={}", library.display());
-    println!("cargo:rerun-if-changed={}", verifier.display());
+    // what is installed has none, and what is missing would be built for anew each time
+    if verifier.exists() {
+        println!("cargo:rerun-if-changed={}", verifier.display());
+    }
     if !library.exists() {
         println!(
             "cargo:warning={} is not built: run make in the folder examples",

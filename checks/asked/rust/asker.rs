@@ -93,7 +93,7 @@ fn validate(given: &[&str]) -> Answer {
 fn user(given: &[&str]) -> Answer {
     let (key, user, known) = (data(given[1]), data(given[3]), data(given[5]));
     let by = digests(given[4]);
-    let login = check::Login {
+    let login = sshkey::Login {
         user: &user,
         key: &key,
         unix_timestamp: number(given[2]),
@@ -101,7 +101,21 @@ fn user(given: &[&str]) -> Answer {
     };
     let is_met = |name: &str, value: &str| name.as_bytes() == known && !value.is_empty();
     let verifies = check::verify::verifies;
-    let answer = check::validate_user(&data(given[0]), &login, verifies, is_met);
+    let answer = sshkey::validate_user(&data(given[0]), &login, verifies, is_met);
+    Ok(check::line_for(answer))
+}
+
+fn host_certificate(given: &[&str]) -> Answer {
+    let (name, texts) = (data(given[2]), &given[4..]);
+    let texts: Vec<Vec<u8>> = texts.iter().map(|it| data(it)).collect();
+    let known_hosts: Vec<&[u8]> = texts.iter().map(|it| &it[..]).collect();
+    let host = sshkey::Host {
+        name: &name,
+        port: given[3].parse().expect("a port"),
+        unix_timestamp: number(given[1]),
+        known_hosts: &known_hosts,
+    };
+    let answer = sshkey::validate_host(&data(given[0]), &host, check::verify::verifies);
     Ok(check::line_for(answer))
 }
 
@@ -218,8 +232,7 @@ fn strings(bytes: &[u8]) -> Answer {
 // ---- entries
 
 fn lines(text: &[u8]) -> Answer {
-    let found: Result<Vec<_>, _> = sshkey::entry_lines(text).map(|it| it.map(word)).collect();
-    words(found?)
+    words(sshkey::entry_lines(text).map(word))
 }
 
 fn entry(line: &[u8]) -> Answer {
@@ -268,7 +281,7 @@ fn answer(question: &str) -> Answer {
     let parts: Vec<&str> = question.split(' ').collect();
     let given = &parts[1..];
     let bytes: Vec<Vec<u8>> = match parts[0] {
-        "validate" | "user" | "draft" | "verdict" | "normal" => Vec::new(),
+        "validate" | "user" | "host-certificate" | "draft" | "verdict" | "normal" => Vec::new(),
         _ => given.iter().map(|it| data(it)).collect(),
     };
     match (parts[0], &bytes[..]) {
@@ -280,6 +293,7 @@ fn answer(question: &str) -> Answer {
         ("is-signature", [key, message, signature]) => is_signature(key, message, signature),
         ("validate", _) => validate(given),
         ("user", _) => user(given),
+        ("host-certificate", _) => host_certificate(given),
         ("fields", [blob]) => fields(blob),
         ("lists", [blob]) => lists(blob),
         ("certificate-options", [bytes]) => words(pairs("", sshkey::certificate_options(bytes))?),

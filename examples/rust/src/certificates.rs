@@ -41,7 +41,7 @@ impl TryFrom<u32> for CertificateType {
 pub enum Principal<'a> {
     /// No principal is asked about: a valid certificate may be for anybody.
     Any,
-    /// The one of that name.
+    /// The one of that name. A certificate that lists nobody is valid for each.
     Named(&'a [u8]),
 }
 
@@ -66,14 +66,14 @@ pub fn certificate_question(certificate: &[u8]) -> Result<Question, Status> {
 }
 
 /// Whether a certificate, given as its blob, is valid at that second since 1970 for one of the
-/// authorities, which are fingerprints of their keys, and for the principal. `is_verified` is what your
-/// verification said of the question of this very certificate, and false where it raised none.
+/// authorities, which are fingerprints of their keys, and for the principal. `is_verified` is what
+/// your verification said of the question of this very certificate, and false where it raised none.
 /// [`judge_certificate`] asks both at once.
 ///
 /// Fails with a number from 10 to 29 where the bytes are no certificate, with what is wrong first,
 /// from [`Status::NOT_SIGNED`] to [`Status::UNLISTED_PRINCIPAL`], with [`Status::TEXT`] for a
-/// principal that is not UTF-8, and with [`Status::MEMORY`]. Whether it is one for users, and what
-/// its options ask, is yours to judge.
+/// principal that is not UTF-8, and with [`Status::MEMORY`]. Whether it is one for users, lists
+/// anybody at all, what its options ask, and whether it is revoked is yours to judge.
 pub fn validate_certificate(
     certificate: &[u8],
     unix_timestamp: u64,
@@ -109,6 +109,9 @@ pub fn validate_certificate(
 /// The two calls in one: [`certificate_question`], which `verify` answers with your cryptography,
 /// and [`validate_certificate`] of the same bytes, which are lent meanwhile, so that nobody changes
 /// them. Fails as the latter does.
+///
+/// A login asks more of a certificate, [`validate_user`](crate::validate_user), and so does a
+/// host's key, [`validate_host`](crate::validate_host).
 pub fn judge_certificate(
     certificate: &[u8],
     unix_timestamp: u64,
@@ -242,7 +245,8 @@ pub struct CertificateOptions<'a> {
 
 /// The critical options or the extensions that the bytes are. Where they are none, the last item
 /// is [`Status::LENGTH`]; one that is not UTF-8 is [`Status::CHARACTER_ENCODING`]. In a
-/// certificate each is UTF-8 and has a name of its own; in other bytes two may have one name.
+/// certificate each is UTF-8 and has a name of its own; in other bytes two may have one name. Do
+/// not `flatten()` the items: that passes over what fails, and so over options.
 pub fn certificate_options(bytes: &[u8]) -> CertificateOptions<'_> {
     CertificateOptions { bytes, place: 0 }
 }

@@ -37,9 +37,10 @@ pub struct Draft<'a> {
     /// A number of its own, and not 0: to OpenSSH that is none, and a list of revoked keys (KRL)
     /// can't name it.
     pub serial: u64,
-    /// The first second of its window, since 1970.
+    /// The first second (and not millisecond) of its window, since 1970.
     pub valid_after: u64,
-    /// The first second behind its window, or [`FOREVER`](crate::FOREVER).
+    /// The first second (and not millisecond) behind its window, since 1970, or
+    /// [`FOREVER`](crate::FOREVER).
     pub valid_before: u64,
     /// Names and values of what whoever accepts it has to know and to meet.
     pub critical_options: &'a [(&'a str, &'a str)],
@@ -104,11 +105,14 @@ fn listed(options: &[(&str, &str)]) -> Result<Vec<u8>, Status> {
 
 /// The bytes that the authority has to sign for the certificate that the draft tells;
 /// [`join_certificate`] makes it of them and the signature. Fails where the draft tells none:
-/// among others with [`Status::PRINCIPALS`] for an empty list, [`Status::EMPTY_WINDOW`],
-/// [`Status::LABEL`] for a key that has a private-use name, and [`Status::FORMAT`] for a principal
-/// with a zero byte, which sshd takes to end there, and so for another user's; and with
-/// [`Status::MEMORY`].
+/// among others with [`Status::LENGTH`] for no nonce, [`Status::PRINCIPALS`] for an empty list,
+/// [`Status::EMPTY_WINDOW`], [`Status::LABEL`] for a key that has a private-use name, and
+/// [`Status::FORMAT`] for a principal with a zero byte, which sshd takes to end there, and so for
+/// another user's; and with [`Status::MEMORY`].
 pub fn certificate_to_be_signed(draft: &Draft<'_>) -> Result<Vec<u8>, Status> {
+    if draft.nonce.is_empty() {
+        return Err(Status::LENGTH);
+    }
     let principals = joined(draft.principals)?;
     let critical_options = listed(draft.critical_options)?;
     let extensions = listed(draft.extensions)?;

@@ -16,13 +16,12 @@ pub struct EntryLines<'a> {
 
 /// The lines of a text of authorized_keys or known_hosts that may be entries: those that are
 /// neither empty nor a comment, without the spaces and tabs at their front and without their ends.
-/// No item fails.
 pub fn entry_lines(text: &[u8]) -> EntryLines<'_> {
     EntryLines { text, place: 0 }
 }
 
 impl<'a> Iterator for EntryLines<'a> {
-    type Item = Result<&'a [u8], Status>;
+    type Item = &'a [u8];
 
     fn next(&mut self) -> Option<Self::Item> {
         let (text, length) = (self.text.as_ptr(), self.text.len());
@@ -33,13 +32,11 @@ impl<'a> Iterator for EntryLines<'a> {
         match Status::of(answer) {
             Ok(()) => {
                 self.place = part.end();
-                Some(Ok(part.of(self.text)))
+                Some(part.of(self.text))
             }
             Err(Status::END) => None,
-            Err(status) => {
-                self.place = length;
-                Some(Err(status))
-            }
+            // to end here would pass over lines
+            Err(status) => panic!("sshkey_next_line has no answer {status:?}"),
         }
     }
 }
@@ -151,8 +148,10 @@ pub struct EntryOptions<'a> {
 /// its first ones, the only item is [`Status::FORMAT`], or [`Status::TEXT`] where it is not UTF-8;
 /// the last may be [`Status::MEMORY`].
 ///
-/// Refuse an entry with an option that you do not know, one that comes twice (but for environment,
-/// permitlisten and permitopen), and one without a value that needs one, as `command` alone.
+/// Refuse an entry with an option that you do not know, one that comes twice, also with other
+/// capitals (but for environment, permitlisten and permitopen), one without a value that needs one,
+/// as `command` alone, and one with a value that takes none, as `no-pty="x"`. Do not `flatten()`
+/// the items: that passes over what fails, and so over options.
 pub fn entry_options(text: &[u8]) -> EntryOptions<'_> {
     EntryOptions {
         text,
@@ -228,8 +227,12 @@ fn judged(
 /// address, without brackets) at a port. Fails with [`Status::HOST_REVOKED`],
 /// [`Status::HOST_UNREADABLE`], [`Status::HOST_CHANGED`] or [`Status::HOST_UNKNOWN`] for what it
 /// says else, with a number from 10 to 29 where the bytes are no key, with [`Status::TEXT`] where
-/// the text or the host is not UTF-8, and with [`Status::MEMORY`]. For a port other than 22, where
-/// it is `HOST_UNKNOWN`, ssh(1) asks about port 22 too.
+/// the text or the host is not UTF-8, and with [`Status::MEMORY`].
+///
+/// Ask it of each file before one is believed: the first of these counts that one of them says,
+/// [`Status::HOST_REVOKED`], [`Status::HOST_UNREADABLE`], `Ok`, [`Status::HOST_CHANGED`]. Where all
+/// say [`Status::HOST_UNKNOWN`] of a port other than 22, and only there, ssh(1) asks about port 22
+/// too. Of authorities nothing is said.
 pub fn host_verdict(
     known_hosts: &[u8],
     host: impl AsRef<[u8]>,
@@ -249,6 +252,13 @@ pub fn host_verdict(
 /// `@cert-authority` for the host has it, and neither is it revoked nor a line that may be the
 /// host's unreadable. Fails as [`host_verdict`] does, never with [`Status::HOST_CHANGED`], and
 /// with [`Status::HOST_UNKNOWN`] where no such entry has it.
+///
+/// It is asked of each file, as [`host_verdict`] is, and alone it trusts no certificate: that has
+/// to be of type [`CertificateType::Host`](crate::CertificateType::Host), without critical options,
+/// valid ([`validate_certificate`](crate::validate_certificate)) for the host's name by the
+/// fingerprint of this key and no other, and of a key
+/// ([`certificate_key`](crate::certificate_key)) of which [`host_verdict`] says
+/// [`Status::HOST_REVOKED`] in no file. [`validate_host`](crate::validate_host) asks all of it.
 pub fn authority_verdict(
     known_hosts: &[u8],
     host: impl AsRef<[u8]>,

@@ -5,7 +5,7 @@
 //! yours answers it.
 //!
 //! ```
-//! use sshkey::{Question, Sha256, Status};
+//! use sshkey::{Login, Question, Refusal, Sha256, Status};
 //!
 //! /// Whether the signature is one of the message under the key, by your library.
 //! fn is_signature(question: &Question) -> bool {
@@ -13,31 +13,38 @@
 //!     false
 //! }
 //!
-//! /// Whether the line of a certificate is valid for alice.
-//! fn judge(line: &str, second: u64, authorities: &[Sha256]) -> Result<(), Status> {
+//! /// Whether the line of a certificate logs in alice, who has proved that she holds the key.
+//! fn judge(
+//!     line: &str, key: &[u8], unix_timestamp: u64, authorities: &[Sha256],
+//! ) -> Result<(), Refusal> {
 //!     let certificate = sshkey::read_line(line)?.blob;
-//!     sshkey::judge_certificate(&certificate, second, "alice".into(), authorities, is_signature)
+//!     let login = Login { user: b"alice", key, unix_timestamp, authorities };
+//!     sshkey::validate_user(&certificate, &login, is_signature, |_name, _value| false)
 //! }
-//! # assert_eq!(judge("ssh-ed25519", 0, &[]), Err(Status::LENGTH));
+//! # assert_eq!(judge("ssh-ed25519", &[], 0, &[]), Err(Refusal::Invalid(Status::LENGTH)));
 //! ```
 //!
 //! The library is libsshkey.a of the folder that SSHKEY_LIB_DIR names when this crate is built, or
 //! else of examples/out, where `make` in the folder examples puts it.
 //!
 //! Each function says what it fails with: a [`Status`], of which [`Status::MEMORY`] says nothing
-//! of the input. What is lent of the input stands in it, and nothing is kept of it. Calls from
-//! several threads at once are fine; make none from a signal handler, or from the forked child of
-//! a process with threads. A part that lay outside its bytes, which no call answers, as is proved,
-//! would be a panic.
+//! of the input; where Rust itself gets no memory for a copy, the process ends. What is lent of the
+//! input stands in it, and nothing is kept of it. Calls from several threads at once are fine; make
+//! none from a signal handler, or from the forked child of a process with threads. What no call
+//! answers, as is proved, would be a panic: a part that lies outside its bytes, and a fault of
+//! [`entry_lines`].
 #![deny(unsafe_op_in_unsafe_fn, missing_docs)]
 
 mod certificates;
 mod digests;
 mod drafts;
 mod files;
+mod hosts;
 mod keys;
+mod logins;
 mod questions;
 pub mod raw;
+mod refusal;
 mod rooms;
 mod status;
 mod strings;
@@ -54,10 +61,13 @@ pub use files::{
     authority_verdict, authorized_entry, entry_lines, entry_options, host_verdict, known_host,
     AuthorizedEntry, EntryLines, EntryOption, EntryOptions, KnownHost, Marker,
 };
+pub use hosts::{validate_host, Host};
 pub use keys::{
     judge_sshsig, normal_certificate, normal_key, normal_signature, normal_sshsig, read_line,
     signature_question, sshsig_question, Line,
 };
+pub use logins::{validate_user, Login};
 pub use questions::{Algorithm, Question};
+pub use refusal::Refusal;
 pub use status::Status;
 pub use strings::{string, strings, Strings};

@@ -14,7 +14,7 @@ pub struct Strings<'a> {
 }
 
 /// The strings that the bytes of a question's key or of an ECDSA signature are. Where they are
-/// none, the last item is [`Status::LENGTH`].
+/// none, the last item is [`Status::LENGTH`]. Do not `flatten()` the items: that passes over it.
 pub fn strings(bytes: &[u8]) -> Strings<'_> {
     Strings { bytes, place: 0 }
 }

@@ -190,6 +190,8 @@ fn drafts_are_refused_where_something_is_left_out() {
         Status::EMPTY_WINDOW
     );
     assert_eq!(refusal(Draft { key: &[], ..draft }), Status::LENGTH);
+    let nonce = &[];
+    assert_eq!(refusal(Draft { nonce, ..draft }), Status::LENGTH);
     assert_eq!(
         refusal(Draft {
             authority: &[],
@@ -219,9 +221,7 @@ fn strings_are_those_of_rfc_4251() {
 #[test]
 fn authorized_keys_are_read_as_sshd_reads_them() {
     let text = format!("# keys\n\n \tcommand=\"dump \\\"/home\\\"\",no-pty {ALICE}\r\n{OTHER}");
-    let lines: Vec<_> = sshkey::entry_lines(text.as_bytes())
-        .map(Result::unwrap)
-        .collect();
+    let lines: Vec<_> = sshkey::entry_lines(text.as_bytes()).collect();
     assert_eq!(lines[1..], [OTHER.as_bytes()]);
     let AuthorizedEntry {
         options,
@@ -258,10 +258,7 @@ fn known_hosts_are_read_as_ssh_reads_them() {
         verdict("other.example", 22, OTHER),
         Err(Status::HOST_REVOKED)
     );
-    let line = sshkey::entry_lines(text.as_bytes())
-        .last()
-        .unwrap()
-        .unwrap();
+    let line = sshkey::entry_lines(text.as_bytes()).last().unwrap();
     let found = sshkey::known_host(line).unwrap();
     assert_eq!(
         (found.marker, &found.hosts[..]),

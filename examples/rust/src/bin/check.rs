@@ -6,12 +6,13 @@ use std::ffi::{OsStr, OsString};
 use std::fmt;
 use std::fs;
 use std::io::{self, BufRead, Read, Write};
+use std::net::IpAddr;
 use std::os::unix::ffi::OsStrExt;
 use std::path::Path;
 use std::process::ExitCode;
 use std::time::{SystemTime, UNIX_EPOCH};
 
-use sshkey::{CertificateType, Principal, Question, Sha256, Status};
+use sshkey::{Login, Principal, Refusal, Sha256, Status};
 
 const USAGE: &str = "\
 Says whether certificates and SSH signatures are valid, or what is wrong first.
@@ -22,9 +23,10 @@ Says whether certificates and SSH signatures are valid, or what is wrong first.
 
 AUTHORITIES and SIGNERS are files of public keys, a line each. The first answers of each line of
 its input. The last says of each whether it logs in the user who holds the key of the file KEY,
-where each OPTION is the name of a critical option that is met. The status is 0 if all is valid, 1
-if not, and 2 where it can't tell: so also where there is no certificate. Of the first, a valid
-certificate may be for a host, or for nobody by name, and - is no name that a client may choose.
+where each OPTION is the name of a critical option that is met, whatever networks or command its
+value names. The status is 0 if all is valid, 1 if not, and 2 where it can't tell: so also where
+there is no certificate. Of the first, a valid certificate may be for a host, or for nobody by name,
+and - is no name that a client may choose.
 ";
 
 // ---- cryptography
@@ -46,129 +48,6 @@ pub(crate) mod verify {
         // longer than the call, which writes nothing.
         unsafe { is_signature(parts, room.as_ptr()) }
     }
-}
-
-// ---- a login
-
-/// Why a certificate logs nobody in: it is not valid, or it is, and more is wrong with it.
-#[derive(Clone, Copy, Debug, PartialEq, Eq)]
-pub(crate) enum Refusal {
-    /// It is not valid, or cannot be read.
-    Invalid(Status),
-    /// It is one for hosts.
-    NotForUsers,
-    /// It lists no principals, and would be for everybody.
-    NobodyListed,
-    /// A critical option is not known, or not met.
-    UnmetOption,
-    /// It is one of another key than the client holds.
-    OtherKey,
-    /// Data stand in an extension that is a flag.
-    FlagData,
-}
-
-impl From<Status> for Refusal {
-    fn from(status: Status) -> Refusal {
-        Refusal::Invalid(status)
-    }
-}
-
-/// The meaning, and the number of sshkey.h or of the example in C (`JUDGE_*`).
-impl fmt::Display for Refusal {
-    fn fmt(&self, formatter: &mut fmt::Formatter<'_>) -> fmt::Result {
-        let (meaning, number) = match *self {
-            Refusal::Invalid(status) => (meaning(status), status.number()),
-            Refusal::NotForUsers => ("not for users", 100),
-            Refusal::NobodyListed => ("no principals", 101),
-            Refusal::UnmetOption => ("a critical option that is not known or not met", 102),
-            Refusal::OtherKey => ("another key", 103),
-            Refusal::FlagData => ("data in an extension that is a flag", 104),
-        };
-        write!(formatter, "{meaning} ({number})")
-    }
-}
-
-/// What a status means, in words.
-fn meaning(status: Status) -> &'static str {
-    match status {
-        Status::MEMORY => "no memory",
-        Status::ROOM => "the room is too short",
-        Status::TEXT => "a principal that is not UTF-8",
-        Status::BASE64 => "not Base64",
-        Status::CHARACTER_ENCODING => "a text that is not UTF-8",
-        Status::LABEL => "a name that may not stand there",
-        Status::LENGTH => "a length that passes the bytes",
-        Status::TRAILING_DATA => "bytes behind the end",
-        Status::NOT_SIGNED => "not signed",
-        Status::UNTRUSTED_AUTHORITY => "another authority",
-        Status::INVALID_TIME => "a time too late to be one",
-        Status::OUT_OF_WINDOW => "not valid at that time",
-        Status::UNLISTED_PRINCIPAL => "another principal",
-        Status::UNSUPPORTED => "key and signature do not go together",
-        Status::OTHER_NAMESPACE => "another namespace",
-        _ => "not in its format",
-    }
-}
-
-/// The extensions in which nothing may stand (PROTOCOL.certkeys).
-const FLAGS: [&str; 6] = [
-    "no-touch-required",
-    "permit-X11-forwarding",
-    "permit-agent-forwarding",
-    "permit-port-forwarding",
-    "permit-pty",
-    "permit-user-rc",
-];
-
-/// A login by a certificate.
-pub(crate) struct Login<'a> {
-    /// Whom the client wants to be.
-    pub(crate) user: &'a [u8],
-    /// The blob of the key of which the client has proved that it holds it.
-    pub(crate) key: &'a [u8],
-    /// When that is, in seconds since 1970.
-    pub(crate) unix_timestamp: u64,
-    /// Who may certify users, by the fingerprints of their keys.
-    pub(crate) authorities: &'a [Sha256],
-}
-
-/// Whether the certificate logs the user in, or what is wrong first. `verify` is your
-/// cryptography, and `is_met` says of a critical option, by its name and value, whether it is known
-/// and met at this login. Whether the certificate is revoked, whether somebody touched a security
-/// key, and what its extensions say is not looked at (docs/FOREIGN.md).
-pub(crate) fn validate_user(
-    certificate: &[u8],
-    login: &Login<'_>,
-    verify: impl FnOnce(&Question) -> bool,
-    is_met: impl Fn(&str, &str) -> bool,
-) -> Result<(), Refusal> {
-    let (second, user) = (login.unix_timestamp, Principal::Named(login.user));
-    sshkey::judge_certificate(certificate, second, user, login.authorities, verify)?;
-    let fields = sshkey::certificate_fields(certificate)?;
-    let contents = sshkey::certificate_contents(certificate)?;
-    if fields.certificate_type != CertificateType::User {
-        return Err(Refusal::NotForUsers);
-    }
-    if !fields.lists_principals {
-        // it would be for everybody
-        return Err(Refusal::NobodyListed);
-    }
-    for option in contents.critical_options {
-        let option = option?;
-        if !is_met(option.name, option.value) {
-            return Err(Refusal::UnmetOption);
-        }
-    }
-    for extension in contents.extensions {
-        let extension = extension?;
-        if FLAGS.contains(&extension.name) && !extension.value.is_empty() {
-            return Err(Refusal::FlagData);
-        }
-    }
-    if sshkey::normal_key(login.key)? != sshkey::certificate_key(certificate)? {
-        return Err(Refusal::OtherKey);
-    }
-    Ok(())
 }
 
 // ---- what is read
@@ -198,7 +77,10 @@ fn no_key(path: &Path, status: Status) -> Untold {
     } else {
         "no key: "
     };
-    of_file(path, format_args!("{front}{}", meaning(status)))
+    of_file(
+        path,
+        format_args!("{front}{}", Refusal::from(status).meaning()),
+    )
 }
 
 /// The fingerprints of the keys in a file. Fails where it can't be read, and where a line is no
@@ -206,7 +88,7 @@ fn no_key(path: &Path, status: Status) -> Untold {
 fn fingerprints(path: &Path) -> Result<Vec<Sha256>, Untold> {
     let text = fs::read(path).map_err(|fault| of_file(path, fault))?;
     sshkey::entry_lines(&text)
-        .map(|line| sshkey::fingerprint(&read(line?, false)?))
+        .map(|line| sshkey::fingerprint(&read(line, false)?))
         .collect::<Result<_, Status>>()
         .map_err(|status| no_key(path, status))
 }
@@ -288,8 +170,9 @@ pub(crate) fn line_for(answer: Result<(), Refusal>) -> String {
 /// Says whether something is valid, and returns that. Fails where memory was refused, and where
 /// nothing can be written.
 fn say(output: &mut impl Write, answer: Result<(), Refusal>) -> Result<bool, Untold> {
-    if answer == Err(Refusal::Invalid(Status::MEMORY)) {
-        return Err(meaning(Status::MEMORY).into());
+    let no_memory = Refusal::from(Status::MEMORY);
+    if answer == Err(no_memory) {
+        return Err(no_memory.meaning().into());
     }
     writeln!(output, "{}", line_for(answer))?;
     Ok(answer.is_ok())
@@ -347,6 +230,36 @@ fn signature(signers: &OsStr, namespace: &OsStr, file: &OsStr) -> Result<bool, U
     Ok(is_valid)
 }
 
+/// Whether the word is a network as sshd reads one: an address, and how many of its bits count, of
+/// which none stands behind those.
+fn is_network(word: &str) -> bool {
+    let (address, bits) = word
+        .split_once('/')
+        .map_or((word, None), |(address, bits)| (address, Some(bits)));
+    let (number, most): (u128, u32) = match address.parse() {
+        Ok(IpAddr::V4(it)) => (u32::from(it).into(), 32),
+        Ok(IpAddr::V6(it)) => (it.into(), 128),
+        Err(_) => return false,
+    };
+    let counted = match bits {
+        None => return true,
+        // parse takes a sign, too
+        Some(it) if it.bytes().all(|byte| byte.is_ascii_digit()) => it.parse::<u32>().ok(),
+        Some(_) => None,
+    };
+    let left = counted.and_then(|it| most.checked_sub(it));
+    left.map_or(false, |it| number.trailing_zeros() >= it)
+}
+
+/// Whether sshd takes the value of a critical option, as far as that does not depend on the login.
+fn is_sound(name: &str, value: &str) -> bool {
+    match name {
+        "verify-required" => value.is_empty(),
+        "source-address" => value.split(',').all(is_network),
+        _ => !value.is_empty() && !value.contains('\0'),
+    }
+}
+
 /// Whether all log the user in.
 fn user(words: [&OsStr; 3], second: u64, options: &[OsString]) -> Result<bool, Untold> {
     let [authorities, user, key] = words;
@@ -357,8 +270,10 @@ fn user(words: [&OsStr; 3], second: u64, options: &[OsString]) -> Result<bool, U
         unix_timestamp: second,
         authorities: &by,
     };
-    let is_met = |name: &str, value: &str| !value.is_empty() && options.iter().any(|it| it == name);
-    say_of_lines(|certificate| validate_user(certificate, &login, verify::verifies, is_met))
+    let is_met = |name: &str, value: &str| {
+        is_sound(name, value) && options.iter().any(|known| known == name)
+    };
+    say_of_lines(|it| sshkey::validate_user(it, &login, verify::verifies, is_met))
 }
 
 // ---- streams

@@ -1,0 +1,85 @@
+//! Whether a certificate logs a user in.
+
+use crate::certificates::{
+    certificate_contents, certificate_fields, certificate_key, judge_certificate, CertificateType,
+    Principal,
+};
+use crate::digests::Sha256;
+use crate::keys::normal_key;
+use crate::questions::Question;
+use crate::refusal::Refusal;
+use crate::status::Status;
+
+/// The extensions in which nothing may stand (PROTOCOL.certkeys).
+const FLAGS: [&str; 6] = [
+    "no-touch-required",
+    "permit-X11-forwarding",
+    "permit-agent-forwarding",
+    "permit-port-forwarding",
+    "permit-pty",
+    "permit-user-rc",
+];
+
+/// A login by a certificate.
+#[derive(Clone, Copy, Debug)]
+pub struct Login<'a> {
+    /// Whom the client wants to be. The empty name is nobody, also where a certificate lists it.
+    pub user: &'a [u8],
+    /// The blob of the key of which the client has proved that it holds it.
+    pub key: &'a [u8],
+    /// When that is, in seconds since 1970.
+    pub unix_timestamp: u64,
+    /// Who may certify users, by the fingerprints of their keys.
+    pub authorities: &'a [Sha256],
+}
+
+/// Whether the certificate, given as its blob, logs the user in. `verify` is your cryptography, and
+/// `is_met` says of a critical option, by its name and value, whether it is known and met at this
+/// login; let it say no to what sshd refuses: a `force-command` or a `source-address` that is empty
+/// or has a zero byte, a `source-address` that is no list of networks, and data in
+/// `verify-required`.
+///
+/// Fails with what is wrong first: as [`judge_certificate`] does, which may be [`Status::MEMORY`];
+/// with [`Refusal::NotForUsers`], [`Refusal::NobodyListed`], [`Refusal::UnmetOption`] and
+/// [`Refusal::FlagData`]; and with [`Refusal::OtherKey`], or as [`normal_key`] does, where the key
+/// is not the certificate's own.
+///
+/// Whether the certificate is revoked, whether somebody touched a security key, and what its
+/// extensions say is not looked at (docs/FOREIGN.md).
+pub fn validate_user(
+    certificate: &[u8],
+    login: &Login<'_>,
+    verify: impl FnOnce(&Question) -> bool,
+    is_met: impl Fn(&str, &str) -> bool,
+) -> Result<(), Refusal> {
+    if login.user.is_empty() {
+        return Err(Refusal::Invalid(Status::UNLISTED_PRINCIPAL));
+    }
+    let (second, user) = (login.unix_timestamp, Principal::Named(login.user));
+    judge_certificate(certificate, second, user, login.authorities, verify)?;
+    let fields = certificate_fields(certificate)?;
+    let contents = certificate_contents(certificate)?;
+    if fields.certificate_type != CertificateType::User {
+        return Err(Refusal::NotForUsers);
+    }
+    if !fields.lists_principals {
+        // it would be for everybody
+        return Err(Refusal::NobodyListed);
+    }
+    for option in contents.critical_options {
+        let option = option?;
+        if !is_met(option.name, option.value) {
+            return Err(Refusal::UnmetOption);
+        }
+    }
+    for extension in contents.extensions {
+        let extension = extension?;
+        if FLAGS.contains(&extension.name) && !extension.value.is_empty() {
+            return Err(Refusal::FlagData);
+        }
+    }
+    if normal_key(login.key)? != certificate_key(certificate)? {
+        return Err(Refusal::OtherKey);
+    }
+    Ok(())
+}
