@@ -27,8 +27,7 @@ none), numbers and names:
     entry LINE | host LINE                                   0 MARKER FRONT KEY COMMENT
     options TEXT                                             0 NAME=VALUE, or NAME where there is none, ..
     verdict TEXT HOST PORT KEY                               NUMBER NUMBER: of the host's key, and of an authority's
-    host-certificate BYTES SECOND HOST PORT TEXT ..          what validate_host says, as check.py prints it: asked where
-                                                             JUDGES_HOSTS has the language
+    host-certificate BYTES SECOND HOST PORT TEXT ..          what validate_host says, as check.py prints it
 
 An answer is the number of a refusal in place of 0 and what follows: 11 of options whose texts are not UTF-8, 15 of two with one
 name.
@@ -51,8 +50,6 @@ from .security_key_calls import SecurityKey, signatures
 
 # every how many-th is asked about
 HOSTILE, TURNED, FILES, LINES = 12, 5, 30, 60
-# the languages in which there is validate_host
-JUDGES_HOSTS = {"Go"}
 
 
 @dataclass(frozen=True)
@@ -372,8 +369,7 @@ def check_binding(count, asker, made):
     check_keys(judge)
     check_lines(judge)
     check_entries(judge)
-    if asker.language in JUDGES_HOSTS:
-        check_hosts(judge)
+    check_hosts(judge)
 
 
 # ---- libraries that answer one number
@@ -390,7 +386,7 @@ def check_stub(count, asker, made, number):
         f"certificate-options {blob}", f"strings {blob}", f"key {key}", f"line {name}", f"normal key {key}",
         f"normal certificate {blob}", f"normal sshsig {key}", f"normal signature {key}", f"join {blob} {key}", f"entry {name}",
         f"host {name}", f"options {name}", f"draft {key} 00 {name} - - - {key} 0 0 9 1 1", f"verdict {name} {name} 22 {key}",
-        f"user {blob} {key} 7 {name} {by} -", *([f"host-certificate {blob} 7 {name} 22 {name}"] if asker.language in JUDGES_HOSTS else []),
+        f"user {blob} {key} 7 {name} {by} -", f"host-certificate {blob} 7 {name} 22 {name}",
     ]  # fmt: skip
     check_answered(count, asker, f"where each call answers {number}, that is answered", questions, number)
 

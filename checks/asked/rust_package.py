@@ -10,10 +10,9 @@ from .binding_calls import Asker, Judge, draft_of
 from .bindings import is_untold
 from .certificate_calls import fields_in
 from .example_calls import INVALID, VALID
-from .host_calls import cases
 from .key_calls import signed_by
 from .linked import EXAMPLES, run
-from .login_calls import REFUSALS, blocks
+from .login_calls import blocks
 from .login_options import certificate
 
 PACKAGE = os.path.join(EXAMPLES, "rust")
@@ -98,23 +97,6 @@ def check_under_valgrind(count, asker, made):
 
 
 # ---- validate_host
-
-
-def check_hosts(count, asker, made):
-    """`validate_host`, of the certificates and the files of known_hosts of which checks/foreign asks C and Python."""
-    asked, now = list(cases(made.maker)), str(int(time.time()))
-    lines = ""
-    for _, blob, host, port, texts, _ in asked:
-        name, *spelled = (it.hex() or "-" for it in (host.encode() if isinstance(host, str) else host, *texts))
-        lines += " ".join(["host-certificate", blob.hex() or "-", now, name, str(port), *spelled]) + "\n"
-    ran = run(asker.words, input=lines)
-    said = ran.stdout.splitlines()
-    count.check("Rust: hosts are judged", ran.returncode == 0 and len(said) == len(asked), ran.stderr[-2000:])
-    for (name, blob, host, port, texts, wanted), answer in zip(asked, said):
-        number = REFUSALS[wanted] if wanted in REFUSALS else int(made.sshkey.Status[wanted])
-        by_python = made.check.validate_host(blob, int(now), host, port, texts)
-        same = int(by_python) == number and answer == made.check.said(by_python)
-        count.check(f"Rust, a host's certificate: {name}", same, wanted, by_python, answer)
 
 
 # ---- the command `user`, which check.py does not have
