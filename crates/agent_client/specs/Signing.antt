@@ -1,4 +1,5 @@
--- What an agent is asked for a signature, and what it answers (draft-miller-ssh-agent, section 4.5).
+-- What an agent is asked for a signature, and what it answers (draft-miller-ssh-agent, section
+-- 4.5).
 use Rattle.std.proofs.Common.{◌≡◌, ◌⊎◌, ℕ, List, Bool, Some, Result, Ok, Err}
 use Rattle.std.specs.Prelude.{◌≢◌, Vec}
 use Rattle.ssh_key.specs.keys.Signatures.{signature_of}
@@ -26,7 +27,8 @@ handed (Err e) = Err e
 abbrev pub SpellsAnswer : Signature → List ℕ → Type 0
 SpellsAnswer g = response_format.Spells (Signed g)
 
--- A signature where the bytes are an answer that is one; memory aside, an error only where they are none.
+-- A signature where the bytes are an answer that is one; memory aside, an error only where they are
+-- none.
 abbrev pub ReadsSignature : List ℕ → Result code.Signature Error → Type 0
 ReadsSignature bytes (Ok g) = SpellsAnswer (signature_of g) bytes
 ReadsSignature bytes (Err e) = e ≢ Memory → (g : Signature) → SpellsAnswer g bytes → ⊥
@@ -45,7 +47,8 @@ module _ (answers : List ℕ → Result (List ℕ) Error → Type 0) (request : 
     pub answered : answers (flat request) handed
     pub none : (bytes : List ℕ) (g : Signature) → handed ≡ Ok bytes → SpellsAnswer g bytes → Counts g → ⊥
 
-  -- There is none: a string of the request is too long for it to be written, or the agent answered none.
+  -- There is none: a string of the request is too long for it to be written, or the agent answered
+  -- none.
   abbrev pub GetsNone : (Signature → Type 0) → Type 0
   GetsNone Counts = (BoxesFit request → ⊥) ⊎ IsUnanswered Counts
 
@@ -54,7 +57,8 @@ module _ (answers : List ℕ → Result (List ℕ) Error → Type 0) (request : 
   GetsSignature (Ok g) = IsAnswered (signature_of g)
   GetsSignature (Err e) = e ≢ Memory → GetsNone (λ _. Unit {0})
 
--- With flags of 2 no signature by RSA is one of SHA-512, and with flags of 4 none of SHA-256 (section 4.5.1).
+-- With flags of 2 no signature by RSA is one of SHA-512, and with flags of 4 none of SHA-256
+-- (section 4.5.1).
 abbrev pub IsAskedFor : ℕ → Algorithm → Type 0
 IsAskedFor flags a = (flags ≡ 2 → a ≢ Rsa (Some Sha512)) × (flags ≡ 4 → a ≢ Rsa (Some Sha256))
 
@@ -62,7 +66,8 @@ IsAskedFor flags a = (flags ≡ 2 → a ≢ Rsa (Some Sha512)) × (flags ≡ 4 �
 abbrev pub Counts : (Question → Bool) → Key → ℕ → List ℕ → Signature → Type 0
 Counts accepts key flags message g = IsAskedFor flags g.algorithm × IsAccepted accepts key message g
 
--- For which messages a key in an agent refuses to sign, and with which error: the agent has no signature that counts.
+-- For which messages a key in an agent refuses to sign, and with which error: the agent has no
+-- signature that counts.
 abbrev pub RefusesToSign : (List ℕ → Result (List ℕ) Error → Type 0) → (Question → Bool) → Key → ℕ → List ℕ → Error → Type 0
 RefusesToSign answers accepts key flags message e = (e ≡ Memory) ⊎ ((e ≡ Crypto) × GetsNone answers (signing_request key flags message) (Counts accepts key flags message))
 

@@ -1,4 +1,5 @@
--- What an agent is told about the use of a key that is added (draft-miller-ssh-agent, section 4.2.6), and their numbers.
+-- What an agent is told about the use of a key that is added (draft-miller-ssh-agent, section
+-- 4.2.6), and their numbers.
 use Rattle.std.proofs.Common.{ℕ, List, [], ◌∷◌, Result, Ok, Err, refl}
 use Rattle.std.specs.Prelude.{◌==◌, if◌then◌else◌, map}
 use Rattle.std.specs.Int.{w8, w32}

@@ -1,4 +1,5 @@
--- Formats of messages: nothing at all, a number and what it calls for, and what is written of two values. The lemmas are proved, and need not be believed.
+-- Formats of messages: nothing at all, a number and what it calls for, and what is written of two
+-- values. The lemmas are proved, and need not be believed.
 use Rattle.std.proofs.Common.{◌≡◌, ◌<◌, ℕ, List, [], ◌++◌, append-nil, length, Result, Ok, Err, refl, subst, sym, ap, arith}
 use Rattle.std.proofs.lemmas.List.{length-append}
 use Rattle.std.specs.Int.{w8}

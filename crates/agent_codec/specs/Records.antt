@@ -1,4 +1,5 @@
--- What the messages of an SSH agent hold (draft-miller-ssh-agent, section 4): values, how they are written, and their formats.
+-- What the messages of an SSH agent hold (draft-miller-ssh-agent, section 4): values, how they are
+-- written, and their formats.
 use Rattle.std.proofs.Common.{◌≡◌, ℕ, List, Option, Result, Ok, Err, true, false, refl}
 use Rattle.std.specs.Int.{w32}
 use Rattle.ssh_key.specs.base.Formats.{Format, number32_format, string_format}

@@ -1,4 +1,5 @@
--- Requests to an agent (draft-miller-ssh-agent, section 4), their numbers (section 5.1), and how they stand in a frame.
+-- Requests to an agent (draft-miller-ssh-agent, section 4), their numbers (section 5.1), and how
+-- they stand in a frame.
 use Rattle.std.proofs.Common.{ℕ, List, Result, Ok, Err, refl}
 use Rattle.std.specs.Prelude.{◌==◌, if◌then◌else◌, map}
 use Rattle.std.specs.Int.{w8}

@@ -1,4 +1,5 @@
--- Responses of an agent (draft-miller-ssh-agent, section 4), their numbers (section 5.1), and how they stand in a frame.
+-- Responses of an agent (draft-miller-ssh-agent, section 4), their numbers (section 5.1), and how
+-- they stand in a frame.
 use Rattle.std.proofs.Common.{◌≡◌, ◌<◌, ◌+◌, ℕ, List, [], ◌∷◌, length, map, Option, Some, None, Result, Ok, Err, refl, arith}
 use Rattle.std.specs.Prelude.{◌==◌, if◌then◌else◌}
 use Rattle.std.specs.Int.{w8}

@@ -1,4 +1,5 @@
--- When a signature counts as an identity's, by a file of allowed signers (ssh-keygen(1), ALLOWED SIGNERS).
+-- When a signature counts as an identity's, by a file of allowed signers (ssh-keygen(1), ALLOWED
+-- SIGNERS).
 use Rattle.std.specs.Prelude.{◌≡◌, ◌≢◌, ◌⊎◌, ℕ, List, [], Bool, true, false, Result, Ok, Err}
 use Rattle.std.specs.List.{Any}
 use Rattle.ssh_key.specs.base.Acceptance.{SpellsSome}
@@ -40,7 +41,9 @@ pub record IsEntryFor (namespace : List ℕ) (time : ℕ) (key : Key) (entry : A
 abbrev pub HasEntryFor : List ℕ → ℕ → Key → List ℕ → Type 0
 HasEntryFor namespace time key text = (entry : AuthorizedKey) × IsAuthorizedLine text entry × IsEntryFor namespace time key entry
 
--- The line lets the key sign for the identity, in the namespace and at the time: its principals list the identity, letters in their own case, and behind them stands such an entry. No byte is 0, where ssh-keygen takes the line to end.
+-- The line lets the key sign for the identity, in the namespace and at the time: its principals
+-- list the identity, letters in their own case, and behind them stands such an entry. No byte is 0,
+-- where ssh-keygen takes the line to end.
 pub record Allows (identity namespace : List ℕ) (time : ℕ) (key : Key) (line : List ℕ) : Type 0 where
   pub no_zero : IsWithout 0 line
   pub principals : List ℕ
@@ -55,7 +58,8 @@ pub record Allows (identity namespace : List ℕ) (time : ℕ) (key : Key) (line
 abbrev pub IsAllowed : List ℕ → List ℕ → ℕ → Key → List ℕ → Type 0
 IsAllowed identity namespace time key signers = Any (Allows identity namespace time key) (filled_lines signers)
 
--- It is its key's signature of the message in the namespace, with nothing reserved (ssh-keygen verifies no other).
+-- It is its key's signature of the message in the namespace, with nothing reserved (ssh-keygen
+-- verifies no other).
 pub record HasSigned (accepts : Question → Bool) (namespace message : List ℕ) (f : SshSignature) : Type 0 where
   pub verified : IsVerified accepts f.key namespace message f
   pub nothing_reserved : f.reserved ≡ []
@@ -74,7 +78,8 @@ abbrev pub OkExactly : Type 0 → Result (Unit {0}) Refusal → Type 0
 OkExactly Holds (Ok x) = Holds
 OkExactly Holds (Err e) = e ≢ Memory → Holds → ⊥
 
--- What stands in the bytes up to their fault needs memory, or they spell a signature, which is judged then.
+-- What stands in the bytes up to their fault needs memory, or they spell a signature, which is
+-- judged then.
 abbrev pub NeedsMemory : List ℕ → Type 0
 NeedsMemory bytes = ssh_signature_format.needs bytes 0 ⊎ SpellsSome SpellsSshSignature bytes
 

@@ -8,7 +8,8 @@ use Rattle.allowed_signers.specs.declared.options.SignerOptions.{SignerOptions}
 use Rattle.allowed_signers.specs.declared.options.Word.{Word}
 use Rattle.allowed_signers.specs.declared.options.Word.TheVariants.{CertAuthority, Namespaces, ValidAfter, ValidBefore}
 
--- The namespaces that the key signs in, the first and the last second at which it does, and whether it signs certificates alone.
+-- The namespaces that the key signs in, the first and the last second at which it does, and whether
+-- it signs certificates alone.
 pub record Terms : Type 0 where
   pub namespaces : Option (List ℕ)
   pub valid_after : Option ℕ
@@ -31,7 +32,8 @@ abbrev pub IsTimeValue : Option (List ℕ) → ℕ → Type 0
 IsTimeValue None n = ⊥
 IsTimeValue (Some text) n = IsTime text n
 
--- What an option with that value adds to what is said. Only `cert-authority`, which has no value, may stand twice.
+-- What an option with that value adds to what is said. Only `cert-authority`, which has no value,
+-- may stand twice.
 abbrev pub AddsValue : Word → Option (List ℕ) → Terms → Terms → Type 0
 AddsValue CertAuthority value s t = (value ≡ None) × (t ≡ record s { is_authority = true })
 AddsValue Namespaces value s t = (list : List ℕ) × (value ≡ Some list) × (s.namespaces ≡ None) × (t ≡ record s { namespaces = Some list })
@@ -61,7 +63,8 @@ pub record AreTerms (text : List ℕ) (t : Terms) : Type 0 where
 
 -- ---- what they permit
 
--- The key signs more than certificates, in that namespace, letters in their own case, and at that time.
+-- The key signs more than certificates, in that namespace, letters in their own case, and at that
+-- time.
 pub record Permits (namespace : List ℕ) (time : ℕ) (t : Terms) : Type 0 where
   pub no_authority : t.is_authority ≡ false
   pub in_namespace : IfSome t.namespaces (λ list. MatchesList (λ c. c) list namespace)

@@ -1,4 +1,5 @@
--- The times of allowed signers (ssh-keygen(1), "ALLOWED SIGNERS": YYYYMMDD, YYYYMMDDHHMM or YYYYMMDDHHMMSS, and Z), as OpenSSH reads them (strptime(3), timegm(3)).
+-- The times of allowed signers (ssh-keygen(1), "ALLOWED SIGNERS": YYYYMMDD, YYYYMMDDHHMM or
+-- YYYYMMDDHHMMSS, and Z), as OpenSSH reads them (strptime(3), timegm(3)).
 use Rattle.std.specs.Prelude.{◌≡◌, ◌⊎◌, ℕ, zero, suc, ◌+◌, ◌-◌, ◌*◌, ◌%◌, ◌<◌, List, [], length, map, drop, slice_index, codes, Bool, not, Option, MatchOption, ◌&&◌, ◌||◌, ◌==◌, if◌then◌else◌}
 use Rattle.std.specs.Char.{is_ascii_digit, to_ascii_lowercase}
 use Rattle.std.specs.Int.{IsInRange}
@@ -68,7 +69,8 @@ moment text = record {
 abbrev pub IsZone : List ℕ → Type 0
 IsZone text = (text ≡ []) ⊎ (map to_ascii_lowercase text ≡ codes "z") ⊎ (map to_ascii_lowercase text ≡ codes "utc")
 
--- Each month may be of 31 days, and each minute of 62 seconds: those that it does not have are of the next one.
+-- Each month may be of 31 days, and each minute of 62 seconds: those that it does not have are of
+-- the next one.
 pub record IsMoment (m : Moment) : Type 0 where
   pub month : IsInRange 1 12 m.month
   pub day : IsInRange 1 31 m.day

@@ -27,7 +27,8 @@ use Rattle.authority.specs.declared.request.Request.{Request}
 
 -- ---- what may be asked for
 
--- The key stands under no private-use name. In certificates such a name may be that of another kind of key, as `ssh-ed25519@openssh.com` is, and then what is signed would certify another key.
+-- The key stands under no private-use name. In certificates such a name may be that of another kind
+-- of key, as `ssh-ed25519@openssh.com` is, and then what is signed would certify another key.
 abbrev pub IsCertifiable : Key → Type 0
 IsCertifiable key = is_opaque key ≡ false
 
@@ -52,7 +53,8 @@ extensions_of r = map string_bytes r.extensions.items
 abbrev pub ArePermitted : Limits → Request → Type 0
 ArePermitted limits r = All (IsListed limits.extensions.items) (extensions_of r)
 
--- The window ends at a time, has a second and at most `longest`, is not over at t, and ends at most `longest` seconds later. It may begin before t, and these seconds count too.
+-- The window ends at a time, has a second and at most `longest`, is not over at t, and ends at most
+-- `longest` seconds later. It may begin before t, and these seconds count too.
 abbrev pub HasRoom : Limits → ℕ → Request → Type 0
 HasRoom limits t r = (r.valid_before < 2 ^ 63) × (r.valid_after < r.valid_before) × (r.valid_before ≤ r.valid_after + limits.longest) × (t < r.valid_before) × (r.valid_before ≤ t + limits.longest)
 
@@ -63,7 +65,8 @@ pub record IsWithin (limits : Limits) (t : ℕ) (r : Request) : Type 0 where
   pub extensions : ArePermitted limits r
   pub window : HasRoom limits t r
 
--- The error says what is outside the limits first: the key, the users, the extensions or the window.
+-- The error says what is outside the limits first: the key, the users, the extensions or the
+-- window.
 pub data RefusesRequest (limits : Limits) (t : ℕ) (r : Request) : Error → Type 0 where
   OtherKey : (IsCertifiable (key_of r.key) → ⊥) → RefusesRequest limits t r (CertificateFieldInvalid field.PublicKey)
   OtherUsers : IsCertifiable (key_of r.key) → (AreAllowed limits r → ⊥) → RefusesRequest limits t r (CertificateFieldInvalid field.ValidPrincipals)
@@ -86,7 +89,8 @@ abbrev pub with_flags : List (List ℕ) → List CertificateOption → List Cert
 with_flags [] os = os
 with_flags (name ∷ names) os = with_flags names (with_flag (value_of name os) name os)
 
--- a certificate for users of just what was asked for, under that serial number and nonce, without critical options
+-- a certificate for users of just what was asked for, under that serial number and nonce, without
+-- critical options
 abbrev pub fields_for : Request → ℕ → List ℕ → Key → SignedFields
 fields_for r serial nonce authority = record {
   nonce = nonce;
@@ -103,7 +107,8 @@ fields_for r serial nonce authority = record {
   signature_key = authority;
 }
 
--- The certificate has these fields and no comment, and for whoever trusts the authority it is valid exactly in the window that was asked for.
+-- The certificate has these fields and no comment, and for whoever trusts the authority it is valid
+-- exactly in the window that was asked for.
 pub record IsCertified (accepts : Question → Bool) (authority : Key) (r : Request) (serial : ℕ) (nonce : List ℕ) (c : Certificate) : Type 0 where
   pub fields : (certificate_of c).signed ≡ fields_for r serial nonce authority
   pub no_comment : comment_of c ≡ []
@@ -122,11 +127,13 @@ IsLeft serial = serial + 1 < 2 ^ 64
 abbrev pub next_of : Authority → ℕ
 next_of a = non_zero_u64_get a.next_serial
 
--- What a call may ask the signer to sign: the certificate of the request under the next serial number, where it is within the limits and a number is left.
+-- What a call may ask the signer to sign: the certificate of the request under the next serial
+-- number, where it is within the limits and a number is left.
 abbrev pub MayIssue : {S : Type 0} → (S → List ℕ → Type 0) → (S → KeyData) → S → Authority → ℕ → Request → List ℕ → Type 0
 MayIssue permits public_of s a t r nonce = IsWithin a.limits t r → IsLeft (next_of a) → PermitsToSign (permits s) (fields_for r (next_of a) nonce (key_of (public_of s)))
 
--- Ok is that certificate, of a request within the limits. Else the request is outside them; or it is within, and no serial number is left; or one is, and it is not signed.
+-- Ok is that certificate, of a request within the limits. Else the request is outside them; or it
+-- is within, and no serial number is left; or one is, and it is not signed.
 abbrev pub IssuesExactly : (Question → Bool) → Key → (List ℕ → Error → Type 0) → Limits → ℕ → Request → ℕ → List ℕ → Result Certificate Error → Type 0
 IssuesExactly accepts authority refuses limits t r serial nonce (Ok c) = IsWithin limits t r × IsCertified accepts authority r serial nonce c
 IssuesExactly accepts authority refuses limits t r serial nonce (Err e) = RefusesRequest limits t r e ⊎ (IsWithin limits t r × ¬ IsLeft serial × (e ≡ CertificateFieldInvalid field.Serial)) ⊎ (IsWithin limits t r × IsLeft serial × RefusesToSign refuses (fields_for r serial nonce authority) e)

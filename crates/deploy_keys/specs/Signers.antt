@@ -14,7 +14,8 @@ use Rattle.ssh_key.specs.sshsig.SshSignatureReaders.{SpellsSshSignature, ssh_sig
 use Rattle.ssh_key.specs.types.Error.{Error}
 use Rattle.ssh_key.specs.types.Error.TheVariants.{Memory}
 
--- The entry has no options, and the signature of the content is verified under its key and in the namespace, with nothing reserved (ssh-keygen takes that field to be empty).
+-- The entry has no options, and the signature of the content is verified under its key and in the
+-- namespace, with nothing reserved (ssh-keygen takes that field to be empty).
 pub record HasSigned (accepts : Question → Bool) (namespace content : List ℕ) (f : SshSignature) (a : AuthorizedKey) : Type 0 where
   pub alone : a.options ≡ []
   pub nothing_reserved : f.reserved ≡ []
@@ -33,7 +34,8 @@ pub data IsFirst (Signs : List ℕ → List ℕ → Type 0) : List (List ℕ) �
   Here : {line comment : List ℕ} {rest : List (List ℕ)} → Signs line comment → IsFirst Signs (line ∷ rest) (Some comment)
   Later : {line : List ℕ} {rest : List (List ℕ)} {found : Option (List ℕ)} → ((comment : List ℕ) → Signs line comment → ⊥) → IsFirst Signs rest found → IsFirst Signs (line ∷ rest) found
 
--- Ok with the comment of the first key in the text that has signed, or with None if none has; out of memory aside, an error exactly if the bytes spell no SSH signature.
+-- Ok with the comment of the first key in the text that has signed, or with None if none has; out
+-- of memory aside, an error exactly if the bytes spell no SSH signature.
 abbrev pub NamesSigner : {Y : Type 0} → (Question → Bool) → List ℕ → List ℕ → List ℕ → List ℕ → Result (Option (String Y)) Error → Type 0
 NamesSigner accepts keys namespace content bytes (Ok found) = (f : SshSignature) × SpellsSshSignature f bytes × IsFirst (IsSigner accepts namespace content f) (filled_lines keys) (option_map string_bytes found)
 NamesSigner accepts keys namespace content bytes (Err e) = e ≢ Memory → (f : SshSignature) → SpellsSshSignature f bytes → ⊥
@@ -42,7 +44,8 @@ NamesSigner accepts keys namespace content bytes (Err e) = e ≢ Memory → (f :
 abbrev pub HasSignatureFault : List ℕ → Error → Type 0
 HasSignatureFault bytes e = e ≢ Memory → IsErrAnd (whole ssh_signature_value_at bytes) (λ fault. cause e ≡ Faulty fault)
 
--- What stands in the bytes up to their fault needs memory, or they spell a signature, which is looked for then.
+-- What stands in the bytes up to their fault needs memory, or they spell a signature, which is
+-- looked for then.
 abbrev pub NeedsMemory : List ℕ → Type 0
 NeedsMemory bytes = ssh_signature_format.needs bytes 0 ⊎ SpellsSome SpellsSshSignature bytes
 

@@ -33,7 +33,8 @@ answer_of Unreadable = Err refusal.Unreadable
 answer_of Changed = Err refusal.Changed
 answer_of Unknown = Err refusal.Unknown
 
--- That is said; or the host is trusted so far, and the certificate is bad for that error; or memory ran out.
+-- That is said; or the host is trusted so far, and the certificate is bad for that error; or memory
+-- ran out.
 abbrev pub IsWhy : (Verdict → Type 0) → (Error → Type 0) → Refusal → Type 0
 IsWhy Said Bad refusal.Revoked = Said Revoked
 IsWhy Said Bad refusal.Unreadable = Said Unreadable

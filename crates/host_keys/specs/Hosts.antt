@@ -1,4 +1,5 @@
--- When a key or a certificate is a host's, by the lines of known_hosts (ssh(1), "VERIFYING HOST KEYS"; sshd(8), "SSH_KNOWN_HOSTS FILE FORMAT"; PROTOCOL.certkeys).
+-- When a key or a certificate is a host's, by the lines of known_hosts (ssh(1), "VERIFYING HOST
+-- KEYS"; sshd(8), "SSH_KNOWN_HOSTS FILE FORMAT"; PROTOCOL.certkeys).
 use denote.Ref.{Bor}
 use Rattle.std.specs.List.{flat_map}
 use Rattle.std.specs.Prelude.{◌≡◌, ◌≢◌, ◌⊎◌, ℕ, List, [], ◌∷◌, Bool, Some, option_map}
@@ -32,7 +33,8 @@ lines_of texts = flat_map (λ text. filled_lines text.now) texts
 abbrev pub IsSettled : Verdict → ℕ → Type 0
 IsSettled v port = (port ≡ standard_port) ⊎ (v ≢ Unknown)
 
--- It is said of the host at that port. Where nothing is, it is what is said of the host's plain name.
+-- It is said of the host at that port. Where nothing is, it is what is said of the host's plain
+-- name.
 abbrev pub IsSaid : (List ℕ → Verdict → Type 0) → List ℕ → ℕ → Verdict → Type 0
 IsSaid Says host port v = ((v ≢ Unknown) × Says (known_name host port) v) ⊎ (Says (known_name host port) Unknown × Says (known_name host standard_port) v)
 
@@ -43,7 +45,8 @@ IsSaidOfKey hmac host port key lines = IsSaid (λ name. IsVerdict hmac name key 
 abbrev pub IsEitherRevoked : (List ℕ → List ℕ → List ℕ) → List ℕ → Key → Key → List (List ℕ) → Type 0
 IsEitherRevoked hmac name key signer lines = IsRevoked hmac name key lines ⊎ IsRevoked hmac name signer lines
 
--- Of a key that another signed, the first of these that holds: a line revokes one of them; one may be hidden; the signer is an authority; it is not.
+-- Of a key that another signed, the first of these that holds: a line revokes one of them; one may
+-- be hidden; the signer is an authority; it is not.
 abbrev pub IsVerdictOfSigned : (List ℕ → List ℕ → List ℕ) → List ℕ → Key → Key → List (List ℕ) → Verdict → Type 0
 IsVerdictOfSigned hmac name key signer lines Revoked = IsEitherRevoked hmac name key signer lines
 IsVerdictOfSigned hmac name key signer lines Unreadable = ¬ IsEitherRevoked hmac name key signer lines × HidesSome hmac name lines
@@ -60,7 +63,8 @@ IsSaidOfSigned hmac host port key signer lines = IsSaid (λ name. IsVerdictOfSig
 abbrev pub signers : Certificate → List Fingerprint
 signers c = fingerprint Sha256 c.signed.signature_key ∷ []
 
--- For whoever trusts the key that signed, the certificate is good for the host at that time: it is for hosts, without critical options, and valid for the host's name.
+-- For whoever trusts the key that signed, the certificate is good for the host at that time: it is
+-- for hosts, without critical options, and valid for the host's name.
 pub record IsGoodFor (accepts : Question → Bool) (t : ℕ) (host : List ℕ) (c : Certificate) : Type 0 where
   pub for_hosts : c.signed.certificate_type ≡ Host
   pub no_options : c.signed.critical_options ≡ []

@@ -1,4 +1,5 @@
--- The options of user certificates that the policy knows, and the values that sshd(8) reads of them (PROTOCOL.certkeys).
+-- The options of user certificates that the policy knows, and the values that sshd(8) reads of them
+-- (PROTOCOL.certkeys).
 use Rattle.std.specs.Prelude.{◌≡◌, ◌≢◌, ℕ, List, [], ◌∷◌, Contains, codes}
 use Rattle.ssh_key.specs.model.Lines.{IsWithout}
 use Rattle.ssh_key.specs.model.Options.{CertificateOption}

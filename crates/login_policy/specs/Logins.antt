@@ -1,4 +1,5 @@
--- Who may log in with a certificate, and what the login is bound to (PROTOCOL.certkeys; sshd_config(5), TrustedUserCAKeys).
+-- Who may log in with a certificate, and what the login is bound to (PROTOCOL.certkeys;
+-- sshd_config(5), TrustedUserCAKeys).
 use Rattle.std.specs.Prelude.{◌≡◌, ◌≢◌, ◌⊎◌, ℕ, List, [], Bool, not, All, Contains, Some, Result, Ok, Err, is_some, option_map, string_bytes}
 use Rattle.ssh_key.specs.cert.CertificateFormats.{certificate_format}
 use Rattle.ssh_key.specs.cert.CertificateReaders.{SpellsCertificate}
@@ -23,7 +24,9 @@ use Rattle.login_policy.specs.KnownOptions.{IsEmptyIfFlag, IsKnown}
 use Rattle.login_policy.specs.KnownOptions as options
 use Rattle.login_policy.specs.declared.grant.Grant.{Grant}
 
--- The certificate lets the user in who holds the offered key: it is for users, of that very key, lists the user, has only critical options that are known, nothing in a flag, and is valid at that time by one of the authorities.
+-- The certificate lets the user in who holds the offered key: it is for users, of that very key,
+-- lists the user, has only critical options that are known, nothing in a flag, and is valid at that
+-- time by one of the authorities.
 pub record LetsIn (accepts : Question → Bool) (authorities : List Fingerprint) (t : ℕ) (user : List ℕ) (offered : Key) (c : Certificate) : Type 0 where
   pub for_users : c.signed.certificate_type ≡ User
   pub own_key : c.signed.key ≡ offered

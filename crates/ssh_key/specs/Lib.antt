@@ -1,4 +1,6 @@
--- The words of contracts, each module under the name of its crate: `Rattle.sshkey_keys.specs.Keys` is `Rattle.ssh_key.specs.keys.Keys`. The types of code are in `types`, by their paths in this crate.
+-- The words of contracts, each module under the name of its crate: `Rattle.sshkey_keys.specs.Keys`
+-- is `Rattle.ssh_key.specs.keys.Keys`. The types of code are in `types`, by their paths in this
+-- crate.
 pub mod model
 pub mod base
 pub mod format

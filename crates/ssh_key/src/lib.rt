@@ -3,8 +3,8 @@
 //! It re-exports the crates below it under the module names of the Rust crate `ssh-key`. So do its
 //! `specs` with the words of their contracts: `Rattle.sshkey_keys.specs.Keys` is
 //! `Rattle.ssh_key.specs.keys.Keys` here, and the type `public::KeyData` is in
-//! `Rattle.ssh_key.specs.types.public.KeyData`. Its `proofs` have the rulesets for what callers read
-//! and write, as `ssh_key::proofs::Steps::steps`.
+//! `Rattle.ssh_key.specs.types.public.KeyData`. Its `proofs` have the rulesets for what callers
+//! read and write, as `ssh_key::proofs::Steps::steps`.
 #![tactic(auto)]
 
 pub mod authorized_keys;

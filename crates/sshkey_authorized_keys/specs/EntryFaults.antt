@@ -8,12 +8,15 @@ use Rattle.sshkey_files.specs.AuthorizedKeys.{AuthorizedKey, IsAuthorizedKey, is
 use Rattle.sshkey_files.specs.ConfigOptions.{AreOptions}
 use Rattle.sshkey_files.specs.Entries.{IsNoEntry, uncommented}
 
--- `FormatEncoding` where there is no space, and `CharacterEncoding` where there are three or more and options do not have what stands before the first. Of others the fault of the key's line is open.
+-- `FormatEncoding` where there is no space, and `CharacterEncoding` where there are three or more
+-- and options do not have what stands before the first. Of others the fault of the key's line is
+-- open.
 pub record HasFault (line : List ℕ) (e : Error) : Type 0 where
   pub no_space : count_by is_space line ≡ 0 → e ≡ FormatEncoding
   pub no_options : (front rest : List ℕ) → line ≡ front ++ (space ∷ rest) → IsWithout space front → 3 ≤ count_by is_space line → (AreOptions front → ⊥) → e ≡ Encoding CharacterEncoding
 
--- The fault of an entry that is none, and `FormatEncoding` where it is one, but is not read strictly.
+-- The fault of an entry that is none, and `FormatEncoding` where it is one, but is not read
+-- strictly.
 pub record HasStrictFault (entry : List ℕ) (e : Error) : Type 0 where
   pub none : IsNoEntry IsAuthorizedKey entry → HasFault entry e
   pub other : (a : AuthorizedKey) → IsAuthorizedKey entry a → e ≡ FormatEncoding

@@ -16,7 +16,9 @@ abbrev pub CutsOption : List ℕ → Option (OpenSshOption × Bor (List ℕ)) �
 CutsOption text None = IsNoOption text
 CutsOption text (Some x) = IsOptionAt text (key_option_of x.0) x.1.now
 
--- One call of an iterator over options, which is seen as the text that is left: `None` where nothing but commas is left, and else the first option is taken off; or no option stands there, `FormatEncoding`, and nothing is left.
+-- One call of an iterator over options, which is seen as the text that is left: `None` where
+-- nothing but commas is left, and else the first option is taken off; or no option stands there,
+-- `FormatEncoding`, and nothing is left.
 abbrev pub YieldsOption : List ℕ → Option (Result OpenSshOption Error) → List ℕ → Type 0
 YieldsOption old None new = (without_commas old ≡ []) × (new ≡ [])
 YieldsOption old (Some (Ok o)) new = IsOptionAt (without_commas old) (key_option_of o) new
@@ -44,7 +46,8 @@ FindsNamed name options (Some o) = IsFirstNamed name options (key_option_of o)
 abbrev pub FindsAlso : List ℕ → Option OpenSshOption → OpenSshOption → Option OpenSshOption → Type 0
 FindsAlso name found o result = (options : List KeyOption) → FindsNamed name options found → FindsNamed name (options ++ (key_option_of o ∷ [])) result
 
--- The first of that name among the options that are the text; or the text is no options, `FormatEncoding`.
+-- The first of that name among the options that are the text; or the text is no options,
+-- `FormatEncoding`.
 abbrev pub FindsIn : List ℕ → List ℕ → Result (Option OpenSshOption) Error → Type 0
 FindsIn text name (Ok found) = (options : List KeyOption) × AreKeyOptions text options × FindsNamed name options found
 FindsIn text name (Err e) = (e ≡ FormatEncoding) × (HasKeyOptions text → ⊥)

@@ -12,7 +12,8 @@ use Rattle.sshkey_authorized_keys.specs.OpenSshEntries.{openssh_entry_of}
 use Rattle.sshkey_authorized_keys.specs.OpenSshFaults.{HasLineFault}
 use Rattle.sshkey_authorized_keys.specs.declared.openssh.OpenSshEntry.{OpenSshEntry}
 
--- The text is options and what follows them; and that needs memory, or is a key's fields, and then the options do.
+-- The text is options and what follows them; and that needs memory, or is a key's fields, and then
+-- the options do.
 pub record NeedsBehind (text : List ℕ) : Type 0 where
   pub options : List ℕ
   pub rest : List ℕ
@@ -29,6 +30,7 @@ AsksFor Needed (Err e) = cause e ≡ NoMemory → Needed
 abbrev pub NeedsEntry : List ℕ → Type 0
 NeedsEntry line = NeedsKeyFields (without_blanks line) ⊎ NeedsBehind (without_blanks line)
 
--- One answer of a reader of lines: the entry of the line, or why it is none; and memory was refused only where it was needed.
+-- One answer of a reader of lines: the entry of the line, or why it is none; and memory was refused
+-- only where it was needed.
 abbrev pub AnswersLine : List ℕ → Result OpenSshEntry Error → Type 0
 AnswersLine line r = ReadsEntry openssh_entry_of IsAuthorizedLine line r × RefusesFor HasLineFault line r × AsksFor (NeedsEntry line) r

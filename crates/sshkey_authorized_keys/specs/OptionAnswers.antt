@@ -9,7 +9,8 @@ use Rattle.sshkey_files.specs.ConfigOptions.{AreOptions}
 abbrev pub IsNotAllowed : List ℕ → Error → Type 0
 IsNotAllowed text e = (e ≡ Encoding CharacterEncoding) × (AreOptions text → ⊥)
 
--- Accepted, all characters are allowed, and the value is seen as `seen`. Refused exactly where one is not.
+-- Accepted, all characters are allowed, and the value is seen as `seen`. Refused exactly where one
+-- is not.
 abbrev pub Judges : {X Y : Type 0} → (X → Y) → List ℕ → Y → Result X Error → Type 0
 Judges means text seen (Ok x) = AreOptions text × (means x ≡ seen)
 Judges means text seen (Err e) = IsNotAllowed text e

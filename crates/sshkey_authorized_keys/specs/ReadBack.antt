@@ -20,7 +20,8 @@ pub record IsReadAs (text : List ℕ) (a : AuthorizedKey) : Type 0 where
 abbrev pub IsReadBack : AuthorizedKey → Type 0
 IsReadBack a = IsReadAs (authorized_text a) a
 
--- The entry, whose line is read back. `Length` where a part of the key is too long, whatever memory there is; else `FormatEncoding` where the line is not read back, or out of memory.
+-- The entry, whose line is read back. `Length` where a part of the key is too long, whatever memory
+-- there is; else `FormatEncoding` where the line is not read back, or out of memory.
 abbrev pub MakesReadBack : {X : Type 0} → (X → AuthorizedKey) → AuthorizedKey → Result X Error → Type 0
 MakesReadBack means a (Ok x) = (means x ≡ a) × IsReadBack a
 MakesReadBack means a (Err e) = ((BoxesFit (normal_key a.key) → ⊥) × (e ≡ Encoding Length)) ⊎ (BoxesFit (normal_key a.key) × (((IsReadBack a → ⊥) × (e ≡ FormatEncoding)) ⊎ (e ≡ Memory)))

@@ -68,10 +68,11 @@ impl OpenSshOptions {
     /// none stands after the option that was asked for. sshd(8) rejects an entry that names
     /// `command`, `from`, `principals` or `tunnel` twice: whoever wants that too counts by `iter`.
     ///
-    /// So `get` is not enough for a login. Of two options `expiry-time` sshd takes the earlier time;
-    /// of `pty`, `no-pty` and `restrict` the last one counts, and their order is not told here. And
-    /// sshd rejects an entry with `command`, `from`, `expiry-time` or `principals` without a value,
-    /// of which `value` is `None` here, and one with a value in a flag, as `restrict="x"`.
+    /// So `get` is not enough for a login. Of two options `expiry-time` sshd takes the earlier
+    /// time; of `pty`, `no-pty` and `restrict` the last one counts, and their order is not told
+    /// here. And sshd rejects an entry with `command`, `from`, `expiry-time` or `principals`
+    /// without a value, of which `value` is `None` here, and one with a value in a flag, as
+    /// `restrict="x"`.
     pub fn get(&self, name: &str) -> Result<Option<OpenSshOption<'_>>>
         ensures { FindsIn self.now name.now result }
     {

@@ -24,7 +24,8 @@ pub record IsNoCertificateName (t : List ℕ) (cause : Cause) : Type 0 where
   pub none : IsNoCertificateType t
   pub label : cause ≡ Faulty Label
 
--- The answer is the name that has this name in a certificate, and `Label` where none has it, out of memory aside.
+-- The answer is the name that has this name in a certificate, and `Label` where none has it, out of
+-- memory aside.
 abbrev pub NamesCertified : {E : Type 0} → (E → Cause) → List ℕ → Result (List ℕ) E → Type 0
 NamesCertified cause t (Ok n) = HasCertificateName t n
 NamesCertified cause t (Err e) = cause e ≢ NoMemory → IsNoCertificateName t (cause e)
@@ -39,7 +40,8 @@ abbrev pub IsCutOf : List ℕ → Option (Bor (List ℕ) × Bor (List ℕ)) → 
 IsCutOf t None = cut t ≡ None
 IsCutOf t (Some p) = cut t ≡ Some (p.0.now, p.1.now)
 
--- The text has the suffix before its first at sign, and these are what stands before the suffix and behind that sign.
+-- The text has the suffix before its first at sign, and these are what stands before the suffix and
+-- behind that sign.
 pub record AreParts (t l r : List ℕ) : Type 0 where
   pub first : cut l ≡ None
   pub whole : t ≡ l ++ suffix ++ at_sign ∷ r
@@ -48,7 +50,8 @@ pub record AreParts (t l r : List ℕ) : Type 0 where
 abbrev pub are_own_parts : List ℕ → List ℕ → Bool
 are_own_parts l r = are_ascii l && are_ascii r && nat_lt (length l + length r) 64 && is_split (Some (l, r))
 
--- What stands before and behind the at sign of the name that has this name in a certificate, if one has.
+-- What stands before and behind the at sign of the name that has this name in a certificate, if one
+-- has.
 abbrev pub AreCertifiedParts : List ℕ → Option (Bor (List ℕ) × Bor (List ℕ)) → Type 0
 AreCertifiedParts t None = IsNoCertificateType t
 AreCertifiedParts t (Some p) = HasCertificateName t (p.0.now ++ at_sign ∷ p.1.now)

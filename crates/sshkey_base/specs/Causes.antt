@@ -23,7 +23,8 @@ encoding_cause encoding.Length = Faulty fault.Length
 encoding_cause (encoding.TrailingData n) = Faulty (fault.TrailingData n)
 encoding_cause encoding.Memory = NoMemory
 
--- Of an error of the encoding inside an error of a value: memory that was refused is `Memory` there, and never stands inside.
+-- Of an error of the encoding inside an error of a value: memory that was refused is `Memory`
+-- there, and never stands inside.
 abbrev pub inner_cause : encoding-error.Error → Cause
 inner_cause encoding.Memory = Other
 inner_cause e = encoding_cause e

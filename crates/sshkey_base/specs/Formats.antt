@@ -22,7 +22,8 @@ pub record Format (A : Type 0) : Type 1 where
   pub Spells : A → List ℕ → Type 0
   -- the plain reader of lists, with the fault of each refusal
   pub read : Front A
-  -- where memory may run out, by the bytes before the end or the fault and how many more are announced
+  -- where memory may run out, by the bytes before the end or the fault and how many more are
+  -- announced
   pub needs : List ℕ → ℕ → Type 0
   -- where a stated length passes all of that
   pub overruns : List ℕ → ℕ → Type 0

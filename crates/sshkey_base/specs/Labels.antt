@@ -11,7 +11,8 @@ use Rattle.sshkey_base.specs.Causes.{Cause, NoMemory}
 use Rattle.sshkey_base.specs.declared.encoding.Error.{Error}
 use Rattle.sshkey_base.specs.declared.encoding.Error.TheVariants as encoding
 
--- What a call gives that looks a name up: the value of that name, or `Label` where there is none, out of memory aside.
+-- What a call gives that looks a name up: the value of that name, or `Label` where there is none,
+-- out of memory aside.
 abbrev pub LooksUp : {X N : Type 0} → (X → N) → Whole N → List ℕ → Result X Error → Type 0
 LooksUp stands_for named name (Ok x) = named name ≡ Ok (stands_for x)
 LooksUp stands_for named name (Err e) = e ≢ encoding.Memory → (named name ≡ Err Label) × (e ≡ encoding.Label)

@@ -5,7 +5,8 @@ use Rattle.sshkey_model.specs.Reading.{Front, number_at}
 use Rattle.sshkey_base.specs.Causes.{Cause, NoMemory}
 use Rattle.sshkey_base.specs.Source.{Source, IsSound}
 
--- Each of these is asked about the bytes before the end or the fault, and how many more were announced behind them.
+-- Each of these is asked about the bytes before the end or the fault, and how many more were
+-- announced behind them.
 
 -- no memory
 abbrev pub NoNeed : List ℕ → ℕ → Type 0

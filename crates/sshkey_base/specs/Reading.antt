@@ -7,7 +7,8 @@ use Rattle.sshkey_base.specs.declared.error.Error as wide
 use Rattle.sshkey_base.specs.Causes.{Cause, NoMemory, Faulty, encoding_cause, cause}
 use Rattle.sshkey_base.specs.Source.{Source, IsSound}
 
--- What was read is what the plain reader gives of the bytes that were left, the rest is left, and nothing else changed.
+-- What was read is what the plain reader gives of the bytes that were left, the rest is left, and
+-- nothing else changed.
 pub record Reads {X Y : Type 0} (means : X → Y) (read : Front Y) (s : Source) (x : X) (t : Source) : Type 0 where
   pub value : read s.left ≡ Ok (means x, t.left)
   pub missing : t.missing ≡ s.missing
@@ -17,12 +18,14 @@ pub record Reads {X Y : Type 0} (means : X → Y) (read : Front Y) (s : Source) 
 pub record IsRefused {Y : Type 0} (missing : ℕ) (cause : Cause) (found : Result Y Fault) : Type 0 where
   pub fault : cause ≢ NoMemory → missing ≡ 0 → IsErrAnd found (λ fault. cause ≡ Faulty fault)
 
--- What a reading call gives is what the plain reader gives. Nothing is said of how a source with a fault is refused.
+-- What a reading call gives is what the plain reader gives. Nothing is said of how a source with a
+-- fault is refused.
 abbrev pub Gives : {X Y E : Type 0} → (X → Y) → (E → Cause) → Front Y → Source → Result X E → Source → Type 0
 Gives means cause read s (Ok x) t = Reads means read s x t
 Gives means cause read s (Err e) t = IsRefused s.missing (cause e) (read s.left)
 
--- The plain reader refuses too, also the bytes of a source with a fault, and where there is none with the fault that was answered.
+-- The plain reader refuses too, also the bytes of a source with a fault, and where there is none
+-- with the fault that was answered.
 pub record Refuses {Y : Type 0} (missing : ℕ) (cause : Cause) (found : Result Y Fault) : Type 0 where
   pub met : Fault
   pub is : found ≡ Err met
@@ -33,7 +36,8 @@ abbrev pub GivesAlways : {X Y E : Type 0} → (X → Y) → (E → Cause) → Fr
 GivesAlways means cause read s (Ok x) t = Reads means read s x t
 GivesAlways means cause read s (Err e) t = Refuses s.missing (cause e) (read s.left)
 
--- What a call gives that moves a reader, whose source is given, and refuses with an error of the encoding.
+-- What a call gives that moves a reader, whose source is given, and refuses with an error of the
+-- encoding.
 abbrev pub Decodes : {R X Y : Type 0} → (X → Y) → Front Y → (R → Source) → R → Result X Error → R → Type 0
 Decodes means read source before result after = Gives means encoding_cause read (source before) result (source after)
 
@@ -75,7 +79,8 @@ pub record Accepted {X Y : Type 0} (means : X → Y) (Spells : Y → List ℕ �
 abbrev pub NoFront : {Y : Type 0} → (Y → List ℕ → Type 0) → List ℕ → Type 0
 NoFront {Y} Spells bytes = (y : Y) (front rest : List ℕ) → Spells y front → bytes ≢ front ++ rest
 
--- A front is accepted if it is a spelling. A sound source is refused when out of memory, or because no front is one.
+-- A front is accepted if it is a spelling. A sound source is refused when out of memory, or because
+-- no front is one.
 abbrev pub AcceptsFront : {X Y E : Type 0} → (X → Y) → (Y → List ℕ → Type 0) → (E → Cause) → Source → Result X E → Source → Type 0
 AcceptsFront means Spells cause s (Ok x) t = Accepted means Spells s x t
 AcceptsFront means Spells cause s (Err e) t = cause e ≢ NoMemory → IsSound s → NoFront Spells s.left
@@ -96,7 +101,8 @@ pub record SpelledWhole {X Y : Type 0} (means : X → Y) (Spells : Y → List �
 abbrev pub NoSpelling : {Y : Type 0} → (Y → List ℕ → Type 0) → List ℕ → Type 0
 NoSpelling {Y} Spells bytes = (y : Y) → Spells y bytes → ⊥
 
--- All the bytes are accepted exactly if they are a spelling and none is missing, out of memory aside.
+-- All the bytes are accepted exactly if they are a spelling and none is missing, out of memory
+-- aside.
 abbrev pub AcceptsWhole : {X Y E : Type 0} → (X → Y) → (Y → List ℕ → Type 0) → (E → Cause) → Source → Result X E → Type 0
 AcceptsWhole means Spells cause s (Ok x) = SpelledWhole means Spells s x
 AcceptsWhole means Spells cause s (Err e) = cause e ≢ NoMemory → IsSound s → NoSpelling Spells s.left

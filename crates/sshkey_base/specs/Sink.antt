@@ -67,7 +67,8 @@ abbrev pub MeasuresBoxed : Parts → Result ℕ Error → Type 0
 MeasuresBoxed p (Ok n) = BoxesFit (box p) × (n ≡ length (flat p))
 MeasuresBoxed p (Err e) = (BoxesFit (box p) → ⊥) × (e ≡ Length)
 
--- What a call gives that makes the bytes of the parts: `Length` exactly where a box of them is too long, else only out of memory.
+-- What a call gives that makes the bytes of the parts: `Length` exactly where a box of them is too
+-- long, else only out of memory.
 abbrev pub MakesBytes : {Z : Type 0} → Parts → Result (Vec ℕ Z) Error → Type 0
 MakesBytes p (Ok v) = Fits p × (v.items ≡ flat p)
 MakesBytes p (Err e) = ((BoxesFit p → ⊥) × (e ≡ Length)) ⊎ (BoxesFit p × (e ≡ Memory))

@@ -4,13 +4,15 @@ use Rattle.sshkey_model.specs.Parts.{are_bytes}
 use Rattle.sshkey_base.specs.declared.encoding.Error.{Error}
 use Rattle.sshkey_base.specs.declared.encoding.Error.TheVariants.{Length}
 
--- A reader of which a part is being read: its name, the bytes behind that part, and how many it lacks.
+-- A reader of which a part is being read: its name, the bytes behind that part, and how many it
+-- lacks.
 pub record Outer : Type 0 where
   pub name : ℕ
   pub rest : List ℕ
   pub missing : ℕ
 
--- The bytes left before the end or the fault, how many more were announced and cannot be read, and the readers around this one.
+-- The bytes left before the end or the fault, how many more were announced and cannot be read, and
+-- the readers around this one.
 pub record Source : Type 0 where
   pub left : List ℕ
   pub missing : ℕ
@@ -40,7 +42,8 @@ pub record TooFew (s : Source) (count : ℕ) (e : Error) : Type 0 where
   pub few : length s.left < count
   pub sound : IsSound s → e ≡ Length
 
--- The same source, at the same place or at a later one: some bytes were passed, and nothing else changed.
+-- The same source, at the same place or at a later one: some bytes were passed, and nothing else
+-- changed.
 pub record Later (s t : Source) : Type 0 where
   pub passed : List ℕ
   pub left : s.left ≡ passed ++ t.left

@@ -5,8 +5,8 @@ use Rattle.sshkey_model.specs.Reading.{Length, Front, number_at}
 use Rattle.sshkey_base.specs.Causes.{Cause, NoMemory, Faulty}
 use Rattle.sshkey_base.specs.Source.{Source}
 
--- Each of these is asked about the bytes before the end or the fault, and how many more were announced behind them: a
--- stated length passes all of that.
+-- Each of these is asked about the bytes before the end or the fault, and how many more were
+-- announced behind them: a stated length passes all of that.
 
 -- no length stands in it
 abbrev pub NoOverrun : List ℕ → ℕ → Type 0
@@ -20,7 +20,8 @@ OverrunsString b m = IsOkAnd (number_at w32 b) (λ x. length x.1 + m < x.0)
 abbrev pub OverrunsBytes : ℕ → List ℕ → ℕ → Type 0
 OverrunsBytes n b m = length b + m < n
 
--- The first value overruns, or it stands there and the second overruns behind it, which may depend on the first.
+-- The first value overruns, or it stands there and the second overruns behind it, which may depend
+-- on the first.
 abbrev pub OverrunsThen : {A : Type 0} → (List ℕ → ℕ → Type 0) → Front A → (A → List ℕ → ℕ → Type 0) → List ℕ → ℕ → Type 0
 OverrunsThen first read second b m = first b m ⊎ IsOkAnd (read b) (λ x. second x.0 x.1 m)
 
@@ -28,8 +29,8 @@ OverrunsThen first read second b m = first b m ⊎ IsOkAnd (read b) (λ x. secon
 abbrev pub OverrunsBoxed : (List ℕ → ℕ → Type 0) → List ℕ → ℕ → Type 0
 OverrunsBoxed inner b m = OverrunsString b m ⊎ IsOkAnd (number_at w32 b) (λ x. (x.0 ≤ length x.1 + m) × inner (take x.0 x.1) (x.0 - length x.1))
 
--- Of values one behind the other, each of which may depend on the one before it, one overruns; the number bounds how many
--- stand before it.
+-- Of values one behind the other, each of which may depend on the one before it, one overruns; the
+-- number bounds how many stand before it.
 abbrev pub OverrunsWithin : {A : Type 0} → (Option A → Front A) → (List ℕ → ℕ → Type 0) → ℕ → Option A → List ℕ → ℕ → Type 0
 OverrunsWithin item over n before [] m = ⊥
 OverrunsWithin item over zero before (b ∷ rest) m = ⊥
@@ -49,18 +50,21 @@ pub record RanOut (cause : Cause) (needs : List ℕ → ℕ → Type 0) (s : Sou
 
 -- What is said of a refusal.
 pub record Stopped {Y : Type 0} (cause : Cause) (read : Front Y) (needs overruns : List ℕ → ℕ → Type 0) (s : Source) : Type 0 where
-  -- What the plain reader takes of the bytes before the fault is refused only for memory that it needs.
+  -- What the plain reader takes of the bytes before the fault is refused only for memory that it
+  -- needs.
   pub takes : IsOk (read s.left) → RanOut cause needs s
-  -- A length that passes all that was announced is `Length`, unless memory ran out for a value before it.
+  -- A length that passes all that was announced is `Length`, unless memory ran out for a value
+  -- before it.
   pub past : overruns s.left s.missing → (cause ≡ Faulty Length) ⊎ RanOut cause needs s
 
--- What is said of a refusal by a call that reads to the end, which has no use for the first half: memory may run out
--- for any value.
+-- What is said of a refusal by a call that reads to the end, which has no use for the first half:
+-- memory may run out for any value.
 abbrev pub StopsToEnd : {X E : Type 0} → (E → Cause) → (overruns : List ℕ → ℕ → Type 0) → Source → Result X E → Type 0
 StopsToEnd cause overruns s (Ok x) = Unit {0}
 StopsToEnd cause overruns s (Err e) = overruns s.left s.missing → (cause e ≡ Faulty Length) ⊎ (cause e ≡ NoMemory)
 
--- What is said of a refusal where a length passes alone: it is `Length`, unless memory ran out for a value before it.
+-- What is said of a refusal where a length passes alone: it is `Length`, unless memory ran out for
+-- a value before it.
 abbrev pub StopsPast : {X E : Type 0} → (E → Cause) → (needs overruns : List ℕ → ℕ → Type 0) → Source → Result X E → Type 0
 StopsPast cause needs overruns s (Ok x) = Unit {0}
 StopsPast cause needs overruns s (Err e) = overruns s.left s.missing → (cause e ≡ Faulty Length) ⊎ RanOut (cause e) needs s

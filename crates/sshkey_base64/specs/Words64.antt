@@ -7,7 +7,8 @@ use Rattle.sshkey_base.specs.Source.{Source, IsSound, Advances, announced_len}
 use Rattle.sshkey_base.specs.declared.encoding.Error as narrow
 use Rattle.sshkey_base.specs.declared.encoding.Error.TheVariants as encoding
 
--- It is sound exactly if the word is that of some bytes, padded and canonical, and then those bytes are left.
+-- It is sound exactly if the word is that of some bytes, padded and canonical, and then those bytes
+-- are left.
 pub record IsSourceOf (word : List ℕ) (s : Source) : Type 0 where
   pub only : IsSound s → word ≡ encode_of standard s.left
   pub every : (b : List ℕ) → IsBytes b → word ≡ encode_of standard b → IsSound s × (s.left ≡ b)
@@ -64,6 +65,7 @@ abbrev pub Holds : Source → Result (Unit {0}) narrow.Error → Source → ℕ 
 Holds s (Ok _) t from to = (t ≡ s) × (from ≡ 0) × ((to ≡ 3) ⊎ (to ≡ announced_len s))
 Holds s (Err e) t from to = (e ≡ encoding.Base64) × (length s.left ≡ 0) × (t ≡ s)
 
--- The word announces too few bytes, and none is taken; or it announces enough, and a group of those that are wanted has a fault.
+-- The word announces too few bytes, and none is taken; or it announces enough, and a group of those
+-- that are wanted has a fault.
 abbrev pub IsWordFault : Source → ℕ → narrow.Error → Source → Type 0
 IsWordFault s count e t = ((announced_len s < count) × (e ≡ encoding.Length) × (t ≡ s)) ⊎ ((count ≤ announced_len s) × (length s.left < count) × (e ≡ encoding.Base64))

@@ -1,4 +1,5 @@
--- What the walks of the chained setters cite: each calls a function that answers the builder in a struct, and hands it back. Assumes `Logic`.
+-- What the walks of the chained setters cite: each calls a function that answers the builder in a
+-- struct, and hands it back. Assumes `Logic`.
 pub use mathlib.Core.Path.{◌≡◌, refl, sym}
 pub use mathlib.Core.List.{[], ◌∷◌}
 pub use mir.Syntax.{named, w64}

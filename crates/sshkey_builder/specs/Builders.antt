@@ -62,7 +62,8 @@ no_principals = field_error PrincipalsField
 
 -- ---- steps
 
--- A step that is taken is refused only when out of memory, and another one with the field that it names.
+-- A step that is taken is refused only when out of memory, and another one with the field that it
+-- names.
 abbrev pub Refuses : Result Draft DraftField → Error → Type 0
 Refuses (Ok d) e = e ≡ wide.Memory
 Refuses (Err f) e = e ≡ field_error f
@@ -135,6 +136,7 @@ BeginsInMemory bad d (Err e) = e ≡ why_not bad
 abbrev pub MaySign : {S : Type 0} → (S → List ℕ → Type 0) → (S → KeyData) → S → Builder → Type 0
 MaySign permits public_of s b = IsSome (draft_of b).valid_principals → PermitsToSign (permits s) (drafted (draft_of b) (key_of (public_of s)))
 
--- It is valid exactly at the times from the first one on and before the second, for whoever has that fingerprint.
+-- It is valid exactly at the times from the first one on and before the second, for whoever has
+-- that fingerprint.
 abbrev pub IsValidExactlyIn : (Question → Bool) → Fingerprint → ℕ → ℕ → Certificate → Type 0
 IsValidExactlyIn accepts print after before c = (fingerprints : List Fingerprint) (t : ℕ) → IsValid accepts fingerprints t c ↔ (Contains fingerprints print × (t < 2 ^ 63) × (after ≤ t) × (t < before))

@@ -74,8 +74,8 @@ impl Builder {
     /// before the beginning.
     ///
     /// Takes a key under a private-use name too. Where that is another kind's name, as
-    /// `ssh-ed25519@openssh.com` is, what is signed is a certificate of that kind's key: refuse such
-    /// keys (`KeyData::is_other`), as `Limits::check` of `authority` does.
+    /// `ssh-ed25519@openssh.com` is, what is signed is a certificate of that kind's key: refuse
+    /// such keys (`KeyData::is_other`), as `Limits::check` of `authority` does.
     pub fn new(
         alloc: Global,
         nonce: Vec<u8>,

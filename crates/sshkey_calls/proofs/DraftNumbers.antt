@@ -1,4 +1,5 @@
--- Nothing is wrong with a draft that tells a certificate; and what is wrong first with one that tells none.
+-- Nothing is wrong with a draft that tells a certificate; and what is wrong first with one that
+-- tells none.
 use Rattle.std.proofs.Common.{◌≡◌, ◌≢◌, ◌==◌, ◌↔◌, inl, inr, ◌<◌, ℕ, zero, suc, List, [], ◌∷◌, length, Bool, true, false, cond, nat_lt, Result, Ok, Err, refl, sym, ap, subst, ◌∙◌, arith, lt-ltb}
 use Rattle.std.proofs.Math.Bool.{beq}
 use Rattle.std.proofs.lemmas.Bool.{cases_lt, eqb-true, eqb-false}

@@ -33,7 +33,8 @@ key_number (Opaque name k) = 12
 abbrev pub IsCertifiable : Key → Type 0
 IsCertifiable k = key_number k ≡ 0
 
--- The fields are those that the draft tells, and a certificate may have them: its window is not empty, and it lists no principals exactly if all are to be allowed.
+-- The fields are those that the draft tells, and a certificate may have them: its window is not
+-- empty, and it lists no principals exactly if all are to be allowed.
 pub record Tells (d : CertificateDraft) (f : SignedFields) : Type 0 where
   pub nonce : f.nonce ≡ d.nonce.now
   pub key : SpellsKey f.key d.key.now × IsCertifiable f.key
@@ -56,7 +57,8 @@ IsToBeSigned d s = (f : SignedFields) × Tells d f × Fits (normal_to_be_signed 
 
 -- ---- its numbers
 
--- The type and the times are those that the draft tells, and they and the choice of principals are right.
+-- The type and the times are those that the draft tells, and they and the choice of principals are
+-- right.
 pub record TellsNumbers (d : CertificateDraft) (t : CertType) (after : UnixTime) (before : EndTime) : Type 0 where
   pub certificate_type : type_number (type_of t) ≡ d.certificate_type
   pub valid_after : (time_of after ≡ d.valid_after) × IsTime (time_of after)
@@ -73,7 +75,8 @@ abbrev pub first_of : List ℕ → ℕ
 first_of [] = 0
 first_of (n ∷ ns) = if n == 0 then first_of ns else n
 
--- what is wrong with the type, the times, the window and the principals first, and 0 where nothing is
+-- what is wrong with the type, the times, the window and the principals first, and 0 where nothing
+-- is
 abbrev pub draft_fault : CertificateDraft → ℕ
 draft_fault d = first_of (
     number_of (type_from d.certificate_type)
@@ -101,7 +104,8 @@ string_number b = if nat_lt (length b) (2 ^ 32) then 0 else 13
 abbrev pub list_number : {A : Type 0} → Front A → List ℕ → ℕ
 list_number read b = first_of (string_number b ∷ number_of (whole read (flat (string b))) ∷ [])
 
--- what is wrong with the keys, the key id, the principals and the options first, and 0 where nothing is
+-- what is wrong with the keys, the key id, the principals and the options first, and 0 where
+-- nothing is
 abbrev pub parts_fault : CertificateDraft → ℕ
 parts_fault d = first_of (
     certifiable_number (whole key_data_at d.key.now)
@@ -112,7 +116,8 @@ parts_fault d = first_of (
     ∷ list_number options_value_at d.extensions.now
     ∷ [])
 
--- Every number but 0, 1 and 2 is that of what is wrong first: with the numbers, then with the parts; where nothing is, the nonce or the key id is too long for a string.
+-- Every number but 0, 1 and 2 is that of what is wrong first: with the numbers, then with the
+-- parts; where nothing is, the nonce or the key id is too long for a string.
 abbrev pub TellsWrong : CertificateDraft → ℕ → Type 0
 TellsWrong d n = n ≢ 0 → n ≢ 1 → n ≢ 2 → n ≡ first_of (draft_fault d ∷ parts_fault d ∷ 13 ∷ [])
 
@@ -120,7 +125,8 @@ TellsWrong d n = n ≢ 0 → n ≢ 1 → n ≢ 2 → n ≡ first_of (draft_fault
 abbrev pub IsWrong : ℕ → ℕ → Type 0 → Type 0
 IsWrong n wrong asks = ((n ≡ 1) × asks) ⊎ ((2 < n) × (n ≡ wrong))
 
--- What a call gives that looks for the value that `Is` tells: the value, and nothing is wrong; or the number of what is wrong first.
+-- What a call gives that looks for the value that `Is` tells: the value, and nothing is wrong; or
+-- the number of what is wrong first.
 abbrev pub FindsOr : {X Y : Type 0} → (Y → Type 0) → (X → Y) → ℕ → Type 0 → Result X ℕ → Type 0
 FindsOr Is means wrong asks (Ok x) = Is (means x) × (wrong ≡ 0)
 FindsOr Is means wrong asks (Err n) = IsWrong n wrong asks

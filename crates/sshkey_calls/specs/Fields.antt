@@ -17,7 +17,8 @@ pub record AreFieldsOf (c : Certificate) (f : CertificateFields) : Type 0 where
   pub lists_principals : IsNumberOf (c.signed.valid_principals ≢ []) f.lists_principals
   pub has_critical_options : IsNumberOf (c.signed.critical_options ≢ []) f.has_critical_options
 
--- 0 and the fields of the certificate that the bytes spell, and every other number where they spell none.
+-- 0 and the fields of the certificate that the bytes spell, and every other number where they spell
+-- none.
 pub record GivesFields (bytes : List ℕ) (n : ℕ) (f : CertificateFields) : Type 0 where
   pub given : n ≡ 0 → (c : Certificate) × SpellsCertificate c bytes × AreFieldsOf c f
   pub none : n ≢ 0 → (c : Certificate) → SpellsCertificate c bytes → ⊥

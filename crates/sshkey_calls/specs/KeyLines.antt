@@ -30,7 +30,8 @@ IsLineWith {V} name Spells text x = (v : V) × Spells v x.blob × IsLine text (n
 abbrev pub Holds : List ℕ → Content → Type 0
 Holds text x = ((x.kind ≡ 1) × IsLineWith key_name SpellsKey text x) ⊎ ((x.kind ≡ 2) × IsLineWith name_of_certificate SpellsCertificate text x)
 
--- Memory may be asked for: by the bytes of the second word, as those of a key or of a certificate, or for what the line holds.
+-- Memory may be asked for: by the bytes of the second word, as those of a key or of a certificate,
+-- or for what the line holds.
 abbrev pub NeedsLine : List ℕ → Type 0
 NeedsLine text = NeedsValue key_format.needs text ⊎ (NeedsValue certificate_format.needs text ⊎ ((x : Content) × Holds text x))
 
@@ -47,7 +48,8 @@ pub record ArePlaced (x : Content) (line : Line) : Type 0 where
   pub comment : IsPlaced (length x.blob) x.comment line.comment
   pub length : line.length ≡ length (line_bytes x)
 
--- What a call answers that looks for the one content that `Wanted` tells. Where there is none, the number is from 10 to 29.
+-- What a call answers that looks for the one content that `Wanted` tells. Where there is none, the
+-- number is from 10 to 29.
 pub record Reads (Wanted : Content → Type 0) (n : ℕ) (was line : Line) (before after : List ℕ) : Type 0 where
   pub gives : Gives Wanted line_bytes ArePlaced (λ (a : Line). a.length) n was line before after
   pub fault : n ≢ 0 → n ≢ 1 → n ≢ 2 → (9 < n) × (n < 30)
@@ -62,7 +64,8 @@ NumbersKeyFault text n = (e : Error) × HasFaultOfLine (whole key_format.read) k
 abbrev pub NumbersCertificateFault : List ℕ → ℕ → Type 0
 NumbersCertificateFault text n = (e : Error) × HasFaultOfLine (whole certificate_format.read) name_of_certificate SpellsCertificate text e × (n ≡ error_number e)
 
--- the fault as a key's line, but where that is 12, for a name that no key has, the one as a certificate's
+-- the fault as a key's line, but where that is 12, for a name that no key has, the one as a
+-- certificate's
 abbrev pub fault_of_either : ℕ → ℕ → ℕ
 fault_of_either of_key of_certificate = if of_key == 12 then of_certificate else of_key
 

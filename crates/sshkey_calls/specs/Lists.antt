@@ -30,7 +30,10 @@ beginning c = certificate_algorithm (key_algorithm c.signed.key)
 abbrev pub end_of : Part → ℕ
 end_of part = part.start + part.length
 
--- Each part stands behind its length, which has four bytes: the key id behind all that the certificate begins with, the principals behind the key id, the critical options behind these and the window of sixteen bytes, the extensions behind them, and the authority's key behind these and the reserved string.
+-- Each part stands behind its length, which has four bytes: the key id behind all that the
+-- certificate begins with, the principals behind the key id, the critical options behind these and
+-- the window of sixteen bytes, the extensions behind them, and the authority's key behind these and
+-- the reserved string.
 pub record ArePlaced (c : Certificate) (p : CertificateParts) : Type 0 where
   pub key_id : p.key_id.start ≡ length (flat (beginning c)) + 4
   pub principals : p.principals.start ≡ end_of p.key_id + 4
@@ -48,7 +51,8 @@ pub record ArePartsOf (c : Certificate) (bytes : List ℕ) (p : CertificateParts
   pub placed : ArePlaced c p
   pub within : IsWithin p.key_id bytes × IsWithin p.principals bytes × IsWithin p.critical_options bytes × IsWithin p.extensions bytes × IsWithin p.authority bytes
 
--- 0 and the parts of the certificate that the bytes spell, and every other number where they spell none.
+-- 0 and the parts of the certificate that the bytes spell, and every other number where they spell
+-- none.
 pub record GivesParts (bytes : List ℕ) (n : ℕ) (p : CertificateParts) : Type 0 where
   pub given : n ≡ 0 → (c : Certificate) × SpellsCertificate c bytes × ArePartsOf c bytes p
   pub none : n ≢ 0 → (c : Certificate) → SpellsCertificate c bytes → ⊥

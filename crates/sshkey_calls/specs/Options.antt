@@ -12,7 +12,9 @@ pub record BeginsWithOption (name value : List ℕ) (bytes rest : List ℕ) : Ty
   pub fits : Fits (option (record { name = name; value = value }) nesting)
   pub all : bytes ≡ flat (option (record { name = name; value = value }) nesting) ++ rest
 
--- 0 and the name and the value of the option that begins there, the one behind its length of four bytes and the other last, 3 exactly at the end of the bytes, and 13 where none begins. But for 0, the answer stays as it was.
+-- 0 and the name and the value of the option that begins there, the one behind its length of four
+-- bytes and the other last, 3 exactly at the end of the bytes, and 13 where none begins. But for 0,
+-- the answer stays as it was.
 pub record FindsOption (bytes : List ℕ) (place n : ℕ) (was o : OptionParts) : Type 0 where
   pub found : n ≡ 0 → BeginsWithOption (bytes_of o.name bytes) (bytes_of o.value bytes) (drop place bytes) (drop o.next bytes)
   pub within : n ≡ 0 → IsWithin o.name bytes × IsWithin o.value bytes × (o.next ≤ length bytes)

@@ -14,7 +14,8 @@ IsWithin part bytes = part.start + part.length ≤ length bytes
 abbrev pub IsPlaced : ℕ → List ℕ → Part → Type 0
 IsPlaced start bytes part = (part.start ≡ start) × (part.length ≡ length bytes)
 
--- The content stands at the front of the room, and nothing else changed; or nothing did, for it is longer than the room.
+-- The content stands at the front of the room, and nothing else changed; or nothing did, for it is
+-- longer than the room.
 abbrev pub Fills : List ℕ → List ℕ → Bool → List ℕ → Type 0
 Fills content before true after = after ≡ content ++ drop (length content) before
 Fills content before false after = (after ≡ before) × (length before < length content)
@@ -30,7 +31,10 @@ pub record LacksRoom (bytes : List ℕ) (len : ℕ) (before after : List ℕ) : 
   pub short : length before < length bytes
   pub stays : after ≡ before
 
--- What a call answers that looks for the one value that `Wanted` tells: 0 with its bytes in the room, where the answer says, 1 for memory, which says nothing, 2 where there is one, and the room is too short for it; and every other number where there is none. But for 0 and 2, answer and room stay as they were.
+-- What a call answers that looks for the one value that `Wanted` tells: 0 with its bytes in the
+-- room, where the answer says, 1 for memory, which says nothing, 2 where there is one, and the room
+-- is too short for it; and every other number where there is none. But for 0 and 2, answer and room
+-- stay as they were.
 pub record Gives {X A : Type 0} (Wanted : X → Type 0) (bytes : X → List ℕ) (ArePlaced : X → A → Type 0) (needed : A → ℕ) (n : ℕ) (was answer : A) (before after : List ℕ) : Type 0 where
   pub given : n ≡ 0 → (x : X) × Wanted x × IsFront (bytes x) (ArePlaced x answer) before after
   pub short : n ≡ 2 → (x : X) × Wanted x × LacksRoom (bytes x) (needed answer) before after
@@ -43,7 +47,8 @@ pub record Gives {X A : Type 0} (Wanted : X → Type 0) (bytes : X → List ℕ)
 abbrev pub IsLaidOut : {X A : Type 0} → (X → List ℕ) → (X → A → Type 0) → X → List ℕ → A → Type 0
 IsLaidOut bytes ArePlaced x content answer = (content ≡ bytes x) × ArePlaced x answer
 
--- The answer is what was laid out, and its bytes stand at the front of the room, with 0, or are too many for it, with 2; or memory ran out, and nothing changed.
+-- The answer is what was laid out, and its bytes stand at the front of the room, with 0, or are too
+-- many for it, with 2; or memory ran out, and nothing changed.
 abbrev pub AnswersWith : {A Z E : Type 0} → Result (Vec ℕ Z × A) E → ℕ → A → A → List ℕ → List ℕ → Type 0
 AnswersWith (Ok laid) n was answer before after = (answer ≡ laid.1) × (filled : Bool) × Fills laid.0.items before filled after × (n ≡ (if filled then 0 else 2))
 AnswersWith (Err e) n was answer before after = (n ≡ 1) × (answer ≡ was) × (after ≡ before)

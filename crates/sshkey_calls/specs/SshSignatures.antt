@@ -9,7 +9,8 @@ use Rattle.sshkey_sshsig.specs.SshSignatureFormats.{ssh_signature_format}
 use Rattle.sshkey_sshsig.specs.SshSignatureReaders.{SpellsSshSignature}
 use Rattle.sshkey_calls.specs.Fingerprints.{GivesDigestOf}
 
--- the bytes spell an SSH signature in the namespace that raises the question, over what is signed in place of the message
+-- the bytes spell an SSH signature in the namespace that raises the question, over what is signed
+-- in place of the message
 pub record RaisedBySshSignature (bytes namespace message : List ℕ) (q : model.Question) : Type 0 where
   pub signature : SshSignature
   pub spelled : SpellsSshSignature signature bytes
@@ -24,6 +25,7 @@ TellsNoneOfSshSignature bytes namespace message n = (f : SshSignature) → Spell
 abbrev pub IsSignerOf : List ℕ → List ℕ → Type 0
 IsSignerOf bytes digest = (f : SshSignature) → SpellsSshSignature f bytes → GivesDigestOf Sha256 f.key digest
 
--- Memory may be asked for: by a part that stands whole before the first fault, or for the SSH signature that the bytes spell.
+-- Memory may be asked for: by a part that stands whole before the first fault, or for the SSH
+-- signature that the bytes spell.
 abbrev pub NeedsSshSignature : List ℕ → Type 0
 NeedsSshSignature bytes = ssh_signature_format.needs bytes 0 ⊎ SpellsSome SpellsSshSignature bytes

@@ -20,7 +20,8 @@ use Rattle.sshkey_calls.specs.declared.digest.Sha256Digest.{Sha256Digest}
 abbrev pub is_yes : ℕ → Bool
 is_yes is_verified = is_verified == 1
 
--- That verifier says so about the question of the certificate that the bytes spell, if it raises one, and may say anything about all others.
+-- That verifier says so about the question of the certificate that the bytes spell, if it raises
+-- one, and may say anything about all others.
 abbrev pub Verified : (Question → Bool) → List ℕ → ℕ → Type 0
 Verified accepts bytes is_verified = (c : Certificate) → SpellsCertificate c bytes → (q : Question) → certificate_question c ≡ Some q → accepts q ≡ is_yes is_verified
 
@@ -58,6 +59,7 @@ abbrev pub FindsFirstOr : Type 0 → Option Refusal → Result (Option Certifica
 FindsFirstOr asks first (Ok found) = option_map refusal_of found ≡ first
 FindsFirstOr asks first (Err e) = asks
 
--- The bytes spell a certificate in which the name of the key that signed is not the one of its normal form: it is an RSA key under the name of one with a hash.
+-- The bytes spell a certificate in which the name of the key that signed is not the one of its
+-- normal form: it is an RSA key under the name of one with a hash.
 abbrev pub HasRenamedAuthority : List ℕ → Type 0
 HasRenamedAuthority bytes = (c : Certificate) × (spelled : SpellsCertificate c bytes) × (spelled.choices.signature_key ≢ Plain)

@@ -1,4 +1,5 @@
--- No bytes spell a key and a certificate: the name of a key that is not opaque is none of a certificate, and an opaque key is two strings.
+-- No bytes spell a key and a certificate: the name of a key that is not opaque is none of a
+-- certificate, and an opaque key is two strings.
 use Rattle.std.proofs.Common.{◌≡◌, ℕ, List, [], ◌++◌, length, Result, Ok, sym, ap, ◌∙◌, arith, append_assoc, append-nil}
 use Rattle.std.proofs.lemmas.List.{length-append}
 use Rattle.sshkey_model.specs.Parts.{Parts, box, ◌&◌, flat, Fits}

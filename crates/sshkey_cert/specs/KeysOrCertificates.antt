@@ -17,7 +17,8 @@ use Rattle.sshkey_cert.specs.declared.key_or_certificate.KeyOrCertificate.TheVar
 abbrev pub names_certificate : List ℕ → Bool
 names_certificate bytes = is_ok (certificate_algorithm_at bytes)
 
--- The bytes spell the certificate, which has no comment, or begin with no certificate's name and spell the key.
+-- The bytes spell the certificate, which has no comment, or begin with no certificate's name and
+-- spell the key.
 abbrev pub SpellsEither : KeyOrCertificate → List ℕ → Type 0
 SpellsEither (either.Key k) bytes = (names_certificate bytes ≡ false) × SpellsKey (key_of k) bytes
 SpellsEither (either.Certificate c) bytes = SpellsCertificate (certificate_of c) bytes × (comment_of c ≡ [])

@@ -14,7 +14,8 @@ use Rattle.sshkey_cert.specs.CertificateReaders.{SpellsCertificate}
 use Rattle.sshkey_cert.specs.CertificateValues.{certificate_of, comment_of}
 use Rattle.sshkey_cert.specs.declared.certificate.Certificate.{Certificate}
 
--- Accepted is the certificate and the comment of the line. Refused for anything but memory, it is a line of no certificate.
+-- Accepted is the certificate and the comment of the line. Refused for anything but memory, it is a
+-- line of no certificate.
 abbrev pub ReadsCertificate : List ℕ → Result Certificate Error → Type 0
 ReadsCertificate text (Ok c) = IsCertificateLine text (certificate_of c) (comment_of c)
 ReadsCertificate text (Err e) = cause e ≢ NoMemory → IsNoLine name_of_certificate SpellsCertificate text

@@ -8,7 +8,8 @@ use Rattle.sshkey_keys.specs.Keys.{key_of}
 use Rattle.sshkey_keys.specs.Signatures.{signature_of}
 use Rattle.sshkey_cert.specs.declared.certificate.question.CertificateQuestion.{CertificateQuestion}
 
--- the one question that a certificate raises, if it raises any: about its signature over all other fields
+-- the one question that a certificate raises, if it raises any: about its signature over all other
+-- fields
 abbrev pub certificate_question : Certificate → Option Question
 certificate_question c = question c.signed.signature_key (flat (normal_to_be_signed c.signed)) c.signature
 

@@ -18,10 +18,12 @@ IsSignatureOf accepts key c g = IsAccepted accepts (key_of key) (flat (normal_to
 abbrev pub PermitsToSign : (List ℕ → Type 0) → SignedFields → Type 0
 PermitsToSign permits c = BoxesFit (normal_to_be_signed c) → permits (flat (normal_to_be_signed c))
 
--- Where the bytes to be signed do not fit it is `Length`, and else `Memory` or an error that the signer has for these bytes.
+-- Where the bytes to be signed do not fit it is `Length`, and else `Memory` or an error that the
+-- signer has for these bytes.
 abbrev pub RefusesExactly : (List ℕ → Error → Type 0) → SignedFields → Error → Type 0
 RefusesExactly refuses c e = ((BoxesFit (normal_to_be_signed c) → ⊥) × (e ≡ Encoding Length)) ⊎ (BoxesFit (normal_to_be_signed c) × ((e ≡ Memory) ⊎ refuses (flat (normal_to_be_signed c)) e))
 
--- Memory aside, where the bytes to be signed do not fit it is `Length`, and else an error that the signer has for these bytes.
+-- Memory aside, where the bytes to be signed do not fit it is `Length`, and else an error that the
+-- signer has for these bytes.
 abbrev pub RefusesToSign : (List ℕ → Error → Type 0) → SignedFields → Error → Type 0
 RefusesToSign refuses c e = e ≢ Memory → ((BoxesFit (normal_to_be_signed c) → ⊥) × (e ≡ Encoding Length)) ⊎ (BoxesFit (normal_to_be_signed c) × refuses (flat (normal_to_be_signed c)) e)

@@ -1,4 +1,5 @@
--- The fields of a certificate behind its key, with the choices of their spelling, by the term that they are read as.
+-- The fields of a certificate behind its key, with the choices of their spelling, by the term that
+-- they are read as.
 use Rattle.std.specs.Prelude.{ℕ, List, []}
 use Rattle.sshkey_model.specs.Grammar.{SpellsAs}
 use Rattle.sshkey_model.specs.Keys.{Head, Key, IsKey, HasKeyPlaces, Opaque, Plain, key, key_at}
@@ -52,7 +53,7 @@ no_signature = record { algorithm = Dsa; blob = [] }
 abbrev pub spelled_signature_of : SignatureRef → Signature
 spelled_signature_of r = found_or no_signature (whole signature_at (signature_bytes r))
 
--- the serial number, the type, the key id and the principals; the two times; the options; the reserved bytes and the key
--- that signs
+-- the serial number, the type, the key id and the principals; the two times; the options; the
+-- reserved bytes and the key that signs
 abbrev pub behind_key_format : Format (Grant × (Window × ((OptionsAsSpelled × OptionsAsSpelled) × (List ℕ × (Key × Head)))))
 behind_key_format = grant_format then window_format then (spelled_options_format then spelled_options_format) then string_format then boxed_key_format

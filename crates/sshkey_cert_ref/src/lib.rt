@@ -1,5 +1,5 @@
-//! Certificates and their lists as slices of the bytes that they were read from (PROTOCOL.certkeys).
-//! Reading takes no memory.
+//! Certificates and their lists as slices of the bytes that they were read from
+//! (PROTOCOL.certkeys). Reading takes no memory.
 #![tactic(auto)]
 
 mod certificate_name;

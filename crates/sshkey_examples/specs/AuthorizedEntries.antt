@@ -1,4 +1,5 @@
--- Which entries of authorized_keys are for whoever holds a key (sshd(8), "AUTHORIZED_KEYS FILE FORMAT").
+-- Which entries of authorized_keys are for whoever holds a key (sshd(8), "AUTHORIZED_KEYS FILE
+-- FORMAT").
 use Rattle.std.specs.Prelude.{◌≡◌, ℕ, List, [], ◌∷◌, ◌++◌, All, Option, Some, None, Result, Ok, Err, codes}
 use Rattle.ssh_key.specs.authorized_keys.OpenSshEntries.{openssh_entry_of}
 use Rattle.ssh_key.specs.authorized_keys.OpenSshItems.{HasOtherName}
@@ -23,7 +24,8 @@ pub record IsForHolder (key : Key) (a : AuthorizedKey) : Type 0 where
   pub own_key : a.key ≡ key
   pub options : AreForHolders a.options
 
--- The line is an entry for whoever holds the key. No byte of it is 0, where sshd takes the line to end.
+-- The line is an entry for whoever holds the key. No byte of it is 0, where sshd takes the line to
+-- end.
 pub record IsEntryFor (key : Key) (line : List ℕ) (a : AuthorizedKey) : Type 0 where
   pub no_zero : IsWithout 0 line
   pub entry : IsAuthorizedLine line a
@@ -50,7 +52,8 @@ pub record IsNext (key : Key) (lines : List (List ℕ)) (line : List ℕ) (left 
   pub is : lines ≡ before ++ (line ∷ left)
   pub others : All (IsForOthers key) before
 
--- What is answered of the first line of which something is; or no line is an entry for the key, and none is left.
+-- What is answered of the first line of which something is; or no line is an entry for the key, and
+-- none is left.
 abbrev pub AnswersNext : Key → List (List ℕ) → Option (Result OpenSshEntry Error) → List (List ℕ) → Type 0
 AnswersNext key lines (Some answer) left = (line : List ℕ) × IsNext key lines line left × IsAnswerFor key line answer
 AnswersNext key lines None left = All (IsForOthers key) lines × (left ≡ [])

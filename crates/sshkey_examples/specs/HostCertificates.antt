@@ -31,13 +31,15 @@ pub record IsCertifiedHost (accepts : Question → Bool) (authorities : List Fin
 
 -- ---- why it is refused
 
--- What is wrong with the certificate first: it is for users, it has critical options, or it is not valid at that time for the host.
+-- What is wrong with the certificate first: it is for users, it has critical options, or it is not
+-- valid at that time for the host.
 pub data IsBadFor (accepts : Question → Bool) (authorities : List Fingerprint) (t : ℕ) (host : List ℕ) (c : Certificate) : Error → Type 0 where
   ForUsers : c.signed.certificate_type ≢ Host → IsBadFor accepts authorities t host c (CertificateFieldInvalid field.CertType)
   SomeOption : c.signed.certificate_type ≡ Host → c.signed.critical_options ≢ [] → IsBadFor accepts authorities t host c (CertificateFieldInvalid field.CriticalOptions)
   NotValid : IsPlainForHosts c → (e : Error) → option_map refusal_error (first_refusal_for accepts authorities t host c) ≡ Some e → IsBadFor accepts authorities t host c e
 
--- The bytes spell no certificate, and have that fault first, from the left; or they spell one that is bad.
+-- The bytes spell no certificate, and have that fault first, from the left; or they spell one that
+-- is bad.
 abbrev pub IsWhyNot : (Question → Bool) → List Fingerprint → ℕ → List ℕ → List ℕ → Error → Type 0
 IsWhyNot accepts authorities t shown host e = IsErrAnd (whole certificate_at shown) (λ fault. cause e ≡ Faulty fault) ⊎ ((c : Certificate) × SpellsCertificate c shown × IsBadFor accepts authorities t host c e)
 

@@ -21,12 +21,14 @@ use Rattle.ssh_key.specs.types.Algorithm.{Algorithm}
 use Rattle.ssh_key.specs.types.Error.{Error}
 use Rattle.ssh_key.specs.types.Error.TheVariants.{AlgorithmUnsupported, Crypto, Namespace, PublicKey}
 
--- The signature of the content is verified under the key and in the namespace, with nothing reserved (ssh-keygen takes that field to be empty).
+-- The signature of the content is verified under the key and in the namespace, with nothing
+-- reserved (ssh-keygen takes that field to be empty).
 pub record HasSigned (accepts : Question → Bool) (namespace content : List ℕ) (k : Key) (f : SshSignature) : Type 0 where
   pub nothing_reserved : f.reserved ≡ []
   pub verified : IsVerified accepts k namespace content f
 
--- The text is the line of a key, and the bytes spell an SSH signature of the content that is verified under it.
+-- The text is the line of a key, and the bytes spell an SSH signature of the content that is
+-- verified under it.
 pub record IsSignedFile (accepts : Question → Bool) (text namespace content bytes : List ℕ) : Type 0 where
   pub key : Key
   pub comment : List ℕ
@@ -37,12 +39,14 @@ pub record IsSignedFile (accepts : Question → Bool) (text namespace content by
 
 -- ---- why a file is not accepted
 
--- Nothing can be asked about the signature under the key, and its algorithm or the key's is named; or the verifier says no.
+-- Nothing can be asked about the signature under the key, and its algorithm or the key's is named;
+-- or the verifier says no.
 pub data IsNotAccepted (accepts : Question → Bool) (k : Key) (message : List ℕ) (g : Signature) : Error → Type 0 where
   Unsupported : question k message g ≡ None → (a : Algorithm) → (algorithm_of a ≡ g.algorithm) ⊎ (algorithm_name (algorithm_of a) ≡ key_name k) → IsNotAccepted accepts k message g (AlgorithmUnsupported a)
   SaysNo : (q : Question) → question k message g ≡ Some q → accepts q ≡ false → IsNotAccepted accepts k message g Crypto
 
--- What is wrong with the SSH signature first: bytes are reserved, it is another key's, it is in another namespace, or the signature in it is not accepted.
+-- What is wrong with the SSH signature first: bytes are reserved, it is another key's, it is in
+-- another namespace, or the signature in it is not accepted.
 pub data IsBadFor (accepts : Question → Bool) (namespace content : List ℕ) (k : Key) (f : SshSignature) : Error → Type 0 where
   Reserved : f.reserved ≢ [] → IsBadFor accepts namespace content k f Crypto
   OtherKey : f.reserved ≡ [] → f.key ≢ k → IsBadFor accepts namespace content k f PublicKey
@@ -55,7 +59,8 @@ pub data IsWhyNot (accepts : Question → Bool) (text namespace content bytes : 
   NoSignature : {k : Key} {comment : List ℕ} → IsKeyLine text k comment → IsErrAnd (whole ssh_signature_value_at bytes) (λ fault. cause e ≡ Faulty fault) → IsWhyNot accepts text namespace content bytes e
   BadSignature : {k : Key} {comment : List ℕ} {f : SshSignature} → IsKeyLine text k comment → SpellsSshSignature f bytes → IsBadFor accepts namespace content k f e → IsWhyNot accepts text namespace content bytes e
 
--- What stands in the line needs memory, or its comment does; or it is a key's, and what stands in the bytes up to their fault needs memory, or they spell a signature, which is verified then.
+-- What stands in the line needs memory, or its comment does; or it is a key's, and what stands in
+-- the bytes up to their fault needs memory, or they spell a signature, which is verified then.
 abbrev pub NeedsMemory : List ℕ → List ℕ → Type 0
 NeedsMemory text bytes = NeedsValue key_format.needs text ⊎ HasComment key_name SpellsKey text ⊎ ((k : Key) × (comment : List ℕ) × IsKeyLine text k comment × (ssh_signature_format.needs bytes 0 ⊎ SpellsSome SpellsSshSignature bytes))
 

@@ -6,7 +6,8 @@ use Rattle.sshkey_files.specs.OptionItems.{HasKeyOptions, KeyOption}
 use Rattle.sshkey_file_calls.specs.Options.{FindsOption, IsNumbered, IsOptionOf, TellsOption, found_option}
 use Rattle.sshkey_file_calls.specs.declared.options.OptionParts.{OptionParts}
 
--- So many options were read, and of them it is the one of that number, or so many are still to be passed over.
+-- So many options were read, and of them it is the one of that number, or so many are still to be
+-- passed over.
 abbrev pub IsCounted : ℕ → List KeyOption → Option OpenSshOption → ℕ → Type 0
 IsCounted number options None passing = length options + passing ≡ number
 IsCounted number options (Some o) passing = IsNumbered number options (Some (key_option_of o))

@@ -177,7 +177,8 @@ has_end end behind (inr (inr both)) more = omega (arith, ap length both)
 
 -- ---- where it is
 
--- what is left stands behind what was passed, which has none of the lines that are asked for, and has all of these
+-- what is left stands behind what was passed, which has none of the lines that are asked for, and
+-- has all of these
 pub record IsLeft (text : List ℕ) (place : ℕ) (left : List ℕ) : Type 0 where
   pub before : List ℕ
   pub is : text ≡ before ++ left

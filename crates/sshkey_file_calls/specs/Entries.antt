@@ -11,7 +11,8 @@ use Rattle.sshkey_calls.specs.Numbers.{error_number}
 use Rattle.sshkey_calls.specs.Rooms.{Gives, IsPlaced}
 use Rattle.sshkey_file_calls.specs.declared.entries.EntryParts.{EntryParts}
 
--- what is told of an entry: what stands before the key, the key's normal form, the comment, and the marker's number
+-- what is told of an entry: what stands before the key, the key's normal form, the comment, and the
+-- marker's number
 pub record EntryText : Type 0 where
   pub front : List ℕ
   pub key : List ℕ

@@ -42,7 +42,9 @@ pub record ArePlaced (o : KeyOption) (answer : OptionParts) : Type 0 where
 abbrev pub GivesOption : (KeyOption → Type 0) → ℕ → OptionParts → OptionParts → List ℕ → List ℕ → Type 0
 GivesOption Wanted = Gives Wanted option_bytes ArePlaced (λ (a : OptionParts). a.length)
 
--- 0 and the option of that number, 2 where there is one, and the room is too short for it, 3 where there are no more, 15 where the text is no list of options; and 1 is memory, and only where there is one. But for 0 and 2, answer and room stay as they were.
+-- 0 and the option of that number, 2 where there is one, and the room is too short for it, 3 where
+-- there are no more, 15 where the text is no list of options; and 1 is memory, and only where there
+-- is one. But for 0 and 2, answer and room stay as they were.
 pub record FindsOption (text : List ℕ) (number n : ℕ) (was answer : OptionParts) (before after : List ℕ) : Type 0 where
   pub found : n ≡ 0 → (o : KeyOption) × IsOptionOf text number (Some o) × IsFront (option_bytes o) (ArePlaced o answer) before after
   pub short : n ≡ 2 → (o : KeyOption) × IsOptionOf text number (Some o) × LacksRoom (option_bytes o) answer.length before after

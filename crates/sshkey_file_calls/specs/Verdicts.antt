@@ -29,7 +29,8 @@ is_grave verdict.Trusted = false
 is_grave verdict.Changed = false
 is_grave verdict.Unknown = false
 
--- The verdict on the key of an authority, in place of a host's: an entry of an authority for the name has it. No key is changed.
+-- The verdict on the key of an authority, in place of a host's: an entry of an authority for the
+-- name has it. No key is changed.
 abbrev pub IsAuthorityVerdict : (List ℕ → List ℕ → List ℕ) → List ℕ → Key → List (List ℕ) → Verdict → Type 0
 IsAuthorityVerdict hmac name key lines verdict.Revoked = IsRevoked hmac name key lines
 IsAuthorityVerdict hmac name key lines verdict.Unreadable = ¬ IsRevoked hmac name key lines × HidesSome hmac name lines
@@ -39,7 +40,8 @@ IsAuthorityVerdict hmac name key lines verdict.Unknown = ¬ IsRevoked hmac name 
 
 -- ---- what is told
 
--- For the key that the bytes spell, the number is that of the one verdict that the lines of the text give under HMAC-SHA1, memory aside.
+-- For the key that the bytes spell, the number is that of the one verdict that the lines of the
+-- text give under HMAC-SHA1, memory aside.
 abbrev pub TellsBy : ((List ℕ → List ℕ → List ℕ) → List ℕ → Key → List (List ℕ) → Verdict → Type 0) → List ℕ → List ℕ → ℕ → List ℕ → ℕ → Type 0
 TellsBy Is text host port bytes n = (k : Key) → SpellsKey k bytes → n ≢ 1 → (v : Verdict) × Is hmac_sha1 (known_name host port) k (filled_lines text) v × (n ≡ verdict_number v)
 

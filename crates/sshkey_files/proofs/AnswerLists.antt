@@ -27,7 +27,8 @@ module _ {X : Type 0} (R : List ℕ → X → Type 0) where
       let step = steps.1 in
       subst (λ (l : List (List ℕ)). AllZip R l (x ∷ xs)) (sym step.1) (step.2, all_answered steps.0 end after xs steps.2 none)
 
--- Lines were read, so that the first has a value; or none was, and the next has a value or needs memory.
+-- Lines were read, so that the first has a value; or none was, and the next has a value or needs
+-- memory.
 pub needed_first : {X Y : Type 0} (means : X → Y) (IsEntry : List ℕ → Y → Type 0) (Needs : List ℕ → Type 0) (all before left rest : List (List ℕ)) (xs : List X) (line : List ℕ) → all ≡ before ++ left → AreEntries means IsEntry before xs → left ≡ line ∷ rest
     → ((y : Y) × IsEntry line y) ⊎ Needs line → NeedsFirst IsEntry Needs all
 needed_first means IsEntry Needs all [] left rest xs line e read next need = subst (NeedsFirst IsEntry Needs) (sym (e ∙ next)) need

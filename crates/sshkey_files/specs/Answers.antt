@@ -22,7 +22,8 @@ abbrev pub AsksEntry : {X : Type 0} → (List ℕ → Type 0) → List ℕ → R
 AsksEntry Needs line (Ok x) = Unit {0}
 AsksEntry Needs line (Err e) = cause e ≡ NoMemory → Needs line
 
--- All of them: the value of the line; or it has none, and that fault; and memory was refused only where it was needed.
+-- All of them: the value of the line; or it has none, and that fault; and memory was refused only
+-- where it was needed.
 abbrev pub AnswersEntry : {X Y : Type 0} → (X → Y) → (List ℕ → Y → Type 0) → (List ℕ → Error → Type 0) → (List ℕ → Type 0) → List ℕ → Result X Error → Type 0
 AnswersEntry means IsEntry HasFault Needs line r = ReadsEntry means IsEntry line r × RefusesFor HasFault line r × AsksEntry Needs line r
 
@@ -30,8 +31,8 @@ AnswersEntry means IsEntry HasFault Needs line r = ReadsEntry means IsEntry line
 abbrev pub AreParts : List ℕ → Bor (List ℕ) × Bor (List ℕ) → Type 0
 AreParts line parts = (parts.0.now ≡ uncommented line) × (line ≡ parts.0.now ++ parts.1.now)
 
--- One call of an iterator over entries, of which it is seen as the list that is left: `None` where none is left,
--- and else the first is taken off and answered.
+-- One call of an iterator over entries, of which it is seen as the list that is left: `None` where
+-- none is left, and else the first is taken off and answered.
 abbrev pub YieldsAnswers : {X : Type 0} → (List ℕ → X → Type 0) → List (List ℕ) → Option X → List (List ℕ) → Type 0
 YieldsAnswers Answers old None new = (old ≡ []) × (new ≡ [])
 YieldsAnswers Answers old (Some answer) new = (entry : List ℕ) × (old ≡ entry ∷ new) × Answers entry answer
@@ -53,19 +54,22 @@ pub record FirstIsNone {X Y : Type 0} (means : X → Y) (IsEntry : List ℕ → 
   pub none : IsNoEntry IsEntry entry
   pub fault : HasFault entry e
 
--- Accepted are the values of all entries. Refused for anything but memory, the first entry that has none has that fault.
+-- Accepted are the values of all entries. Refused for anything but memory, the first entry that has
+-- none has that fault.
 abbrev pub ReadsEntries : {X Y Z : Type 0} → (X → Y) → (List ℕ → Y → Type 0) → (List ℕ → Error → Type 0) → List (List ℕ) → Result (Vec X Z) Error → Type 0
 ReadsEntries means IsEntry HasFault all (Ok v) = AreEntries means IsEntry all v.items
 ReadsEntries means IsEntry HasFault all (Err e) = cause e ≢ NoMemory → FirstIsNone means IsEntry HasFault all e
 
--- Accepted are the values of all entries of some text, which the file holds. Refused, the machine failed, or the first entry of some text that has none has that fault.
+-- Accepted are the values of all entries of some text, which the file holds. Refused, the machine
+-- failed, or the first entry of some text that has none has that fault.
 abbrev pub ReadsFile : {X Y Z : Type 0} → (X → Y) → (List ℕ → Y → Type 0) → (List ℕ → Error → Type 0) → Result (Vec X Z) Error → Type 0
 ReadsFile means IsEntry HasFault (Ok v) = (text : List ℕ) × AreEntries means IsEntry (entries text) v.items
 ReadsFile means IsEntry HasFault (Err e) = IsMachineFault e ⊎ ((text : List ℕ) × FirstIsNone means IsEntry HasFault (entries text) e)
 
 -- ---- memory
 
--- The first line has a value, which is kept, or needs memory itself. No other line counts: what stands behind a line without a value is not read.
+-- The first line has a value, which is kept, or needs memory itself. No other line counts: what
+-- stands behind a line without a value is not read.
 abbrev pub NeedsFirst : {Y : Type 0} → (List ℕ → Y → Type 0) → (List ℕ → Type 0) → List (List ℕ) → Type 0
 NeedsFirst IsEntry Needs [] = ⊥
 NeedsFirst {Y} IsEntry Needs (line ∷ lines) = ((y : Y) × IsEntry line y) ⊎ Needs line

@@ -1,4 +1,5 @@
--- The options before a key (sshd(8), "AUTHORIZED_KEYS FILE FORMAT"): a text of some characters. Which they are is the rule of the crate ssh-key.
+-- The options before a key (sshd(8), "AUTHORIZED_KEYS FILE FORMAT"): a text of some characters.
+-- Which they are is the rule of the crate ssh-key.
 use Rattle.std.specs.Prelude.{◌≡◌, ℕ, List, Bool, true, ◌||◌, ◌==◌, EachIndex, slice_index}
 use Rattle.std.specs.Char.{is_ascii_alphanumeric}
 use Rattle.std.specs.Int.{is_in_range}

@@ -11,7 +11,8 @@ use Rattle.sshkey_files.specs.StrictReading.{IsReadStrictly, IsLineReadStrictly}
 abbrev pub authorized : List ℕ → List ℕ → AuthorizedKey
 authorized options comment = record { options = options; key = rsa_key; comment = comment }
 
--- Options need a comment behind the key, or at least a space; without, the line is a key's or nothing.
+-- Options need a comment behind the key, or at least a space; without, the line is a key's or
+-- nothing.
 abbrev pub Options : Type 0
 Options = IsAuthorizedKey rsa_line (authorized [] [])
     × IsAuthorizedKey (rsa_line ++ codes " me") (authorized [] (codes "me"))
@@ -30,7 +31,8 @@ quoted_line = codes "c=\"x " ++ rsa_line ++ codes " y\" ssh-rsa B z"
 abbrev pub no_break_space : List ℕ
 no_break_space = hex "c2a0"
 
--- Options that end inside quotes, a comment that `#` begins, and white space beyond ASCII at the end: each line is read, and not strictly.
+-- Options that end inside quotes, a comment that `#` begins, and white space beyond ASCII at the
+-- end: each line is read, and not strictly.
 abbrev pub Strict : Type 0
 Strict = IsAuthorizedKey quoted_line (authorized (codes "c=\"x") (codes "y\" ssh-rsa B z"))
     × IsNoEntry IsReadStrictly quoted_line

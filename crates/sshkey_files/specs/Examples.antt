@@ -11,13 +11,15 @@ use Rattle.sshkey_files.specs.StrictReading.{is_inside}
 abbrev line_end : List ℕ
 line_end = 10 ∷ []
 
--- one on each line, with or without a line end at the last; a carriage return before a line end is cut
+-- one on each line, with or without a line end at the last; a carriage return before a line end is
+-- cut
 abbrev pub Lines : Type 0
 Lines = (entries (codes "a" ++ line_end ++ codes "b") ≡ codes "a" ∷ codes "b" ∷ [])
     × (entries (codes "a" ++ (13 ∷ 10 ∷ codes "b") ++ line_end) ≡ codes "a" ∷ codes "b" ∷ [])
     × (entries [] ≡ [])
 
--- A comment is cut, wherever its `#` stands, and white space before it and at the end, also a no-break space; at the front it stays. What is empty then is no entry.
+-- A comment is cut, wherever its `#` stands, and white space before it and at the end, also a
+-- no-break space; at the front it stays. What is empty then is no entry.
 abbrev pub Cuts : Type 0
 Cuts = (entries (codes "a #b#c") ≡ codes "a" ∷ [])
     × (entries (codes "#a" ++ line_end ++ (32 ∷ 9 ∷ []) ++ line_end ++ line_end ++ codes "b") ≡ codes "b" ∷ [])
@@ -50,7 +52,8 @@ Characters = filter is_option_character (rising 0 256) ≡ codes "!\"#$%&'()*+,-
 abbrev pub HashedName : Type 0
 HashedName = hashed_text (hex "25f29374187bacd6d7915010091a78390a0f7e62") (hex "512102af74967f52543ec9ace40a9f0f941fc643") ≡ codes "|1|JfKTdBh7rNbXkVAQCRp4OQoPfmI=|USECr3SWf1JUPsms5AqfD5QfxkM="
 
--- The first space of the first line is quoted, and that of the others is not: a quote behind a backslash is none.
+-- The first space of the first line is quoted, and that of the others is not: a quote behind a
+-- backslash is none.
 abbrev pub Quoted : Type 0
 Quoted = (is_inside (codes "c=\"x ssh-rsa A y\" ssh-rsa B z") 4 ≡ true)
     × (is_inside (codes "c=\"x\" ssh-rsa B z") 5 ≡ false)

@@ -1,4 +1,5 @@
--- Fields of a line, and a key in them: spaces or tabs stand between (sshd(8), "AUTHORIZED_KEYS FILE FORMAT" and "SSH_KNOWN_HOSTS FILE FORMAT").
+-- Fields of a line, and a key in them: spaces or tabs stand between (sshd(8), "AUTHORIZED_KEYS FILE
+-- FORMAT" and "SSH_KNOWN_HOSTS FILE FORMAT").
 use Rattle.std.specs.Prelude.{◌≡◌, ◌⊎◌, ℕ, List, [], ◌∷◌, ◌++◌, slice_index, EachIndex, Bool, true, false, not, ◌&&◌, if◌then◌else◌, map, filter}
 use Rattle.std.specs.Str.Lines.{lines}
 use Rattle.base64.specs.Engines.{standard}
@@ -22,7 +23,8 @@ IsField text = EachIndex text (λ i. is_blank (slice_index text i) ≡ false)
 abbrev pub EndsField : List ℕ → Type 0
 EndsField text = (text ≡ []) ⊎ (is_blank (slice_index text 0) ≡ true)
 
--- The text is the name of the key's algorithm, the key in Base64 and a comment, which is all that follows.
+-- The text is the name of the key's algorithm, the key in Base64 and a comment, which is all that
+-- follows.
 pub record AreKeyFields (text : List ℕ) (k : Key) (comment : List ℕ) : Type 0 where
   pub blob : List ℕ
   pub behind_name : List ℕ

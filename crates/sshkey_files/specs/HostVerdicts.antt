@@ -1,4 +1,5 @@
--- What the lines of known_hosts say of a host's key (sshd(8), "SSH_KNOWN_HOSTS FILE FORMAT"; ssh(1), "VERIFYING HOST KEYS").
+-- What the lines of known_hosts say of a host's key (sshd(8), "SSH_KNOWN_HOSTS FILE FORMAT";
+-- ssh(1), "VERIFYING HOST KEYS").
 use Rattle.std.specs.Prelude.{◌≡◌, ℕ, List, [], ◌∷◌, ◌++◌, Option, Some, None}
 use Rattle.std.specs.List.{Any}
 use Rattle.sshkey_model.specs.Keys.{Key}
@@ -17,7 +18,8 @@ pub record Lists (hmac : List ℕ → List ℕ → List ℕ) (name : List ℕ) (
   pub key_is : entry.key ≡ key
   pub is_for : AreFor hmac name entry.hosts
 
--- Hosts stand in the line, behind a marker or none, and they are not for the name. No byte is 0, where ssh takes the hosts to end.
+-- Hosts stand in the line, behind a marker or none, and they are not for the name. No byte is 0,
+-- where ssh takes the hosts to end.
 pub record IsForOthers (hmac : List ℕ → List ℕ → List ℕ) (name line : List ℕ) : Type 0 where
   pub no_zero : IsWithout 0 line
   pub marker : Option Marker

@@ -17,7 +17,8 @@ use Rattle.sshkey_public.specs.PublicKeys.{public_of, comment_of}
 use Rattle.sshkey_public.specs.declared.public_key.PublicKey.{PublicKey}
 use Rattle.sshkey_files.specs.Cuts.{CutsField}
 
--- Accepted is the key and the comment of the fields. Refused for anything but memory, they are those of no key.
+-- Accepted is the key and the comment of the fields. Refused for anything but memory, they are
+-- those of no key.
 abbrev pub ReadsKeyFields : List ℕ → Result PublicKey Error → Type 0
 ReadsKeyFields text (Ok k) = AreKeyFields text (public_of k) (comment_of k)
 ReadsKeyFields text (Err e) = cause e ≢ NoMemory → AreNoKeyFields text
@@ -28,7 +29,8 @@ pub record AreFields (text name word rest : List ℕ) : Type 0 where
   pub first : CutsField text name behind
   pub second : CutsField (without_blanks behind) word rest
 
--- `Length` where the Base64 is missing, the fault of a word that spells no key, and `AlgorithmUnknown` where it spells a key of another name.
+-- `Length` where the Base64 is missing, the fault of a word that spells no key, and
+-- `AlgorithmUnknown` where it spells a key of another name.
 pub record HasKeyFault (text : List ℕ) (e : Error) : Type 0 where
   pub no_word : (name rest : List ℕ) → CutsField text name rest → without_blanks rest ≡ [] → e ≡ Encoding Length
   pub bad_word : (name word rest : List ℕ) → AreFields text name word rest → 0 < length word → IsNoWord SpellsKey word → HasFaultOfWord (whole key_format.read) word e

@@ -1,4 +1,6 @@
--- The entries of known_hosts: a marker or none, hosts, and a key's line (sshd(8), "SSH_KNOWN_HOSTS FILE FORMAT"). That one space stands between them, and nothing in front, is the rule of the crate ssh-key.
+-- The entries of known_hosts: a marker or none, hosts, and a key's line (sshd(8), "SSH_KNOWN_HOSTS
+-- FILE FORMAT"). That one space stands between them, and nothing in front, is the rule of the crate
+-- ssh-key.
 use Rattle.std.specs.Prelude.{◌≡◌, ◌≢◌, ℕ, ◌<◌, List, ◌∷◌, ◌++◌, length, codes, slice_index, Option, Some, None}
 use Rattle.std.specs.List.{join_with_byte}
 use Rattle.base64.specs.Engines.{standard}

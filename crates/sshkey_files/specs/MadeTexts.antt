@@ -6,7 +6,8 @@ use Rattle.sshkey_base.specs.declared.encoding.Error.TheVariants.{Length}
 use Rattle.sshkey_base.specs.declared.error.Error.{Error}
 use Rattle.sshkey_base.specs.declared.error.Error.TheVariants.{Encoding, Memory}
 
--- The text, in which the key stands. `Length` exactly where a part of the key is too long, else only out of memory.
+-- The text, in which the key stands. `Length` exactly where a part of the key is too long, else
+-- only out of memory.
 abbrev pub MakesEntry : {Z : Type 0} → Key → List ℕ → Result (String Z) Error → Type 0
 MakesEntry k text (Ok s) = BoxesFit (normal_key k) × (string_bytes s ≡ text)
 MakesEntry k text (Err e) = ((BoxesFit (normal_key k) → ⊥) × (e ≡ Encoding Length)) ⊎ (BoxesFit (normal_key k) × (e ≡ Memory))

@@ -3,7 +3,8 @@ use Rattle.std.specs.Prelude.{◌≡◌, ◌≢◌, ◌↔◌, ℕ, ◌≤◌, L
 use Rattle.sshkey_files.specs.Patterns.{Matches, star}
 use denote.Ref.{Bor}
 
--- What is left matches exactly if all does, and whatever else the pattern matches, what is left of it matches what stands behind as many characters.
+-- What is left matches exactly if all does, and whatever else the pattern matches, what is left of
+-- it matches what stands behind as many characters.
 pub record GoesOn (fold : ℕ → ℕ) (pattern text rest left : List ℕ) : Type 0 where
   pub steps : ℕ
   pub is : left ≡ drop steps text

@@ -1,4 +1,6 @@
--- The lines of authorized_keys and known_hosts as OpenSSH reads them (sshd(8), "AUTHORIZED_KEYS FILE FORMAT" and "SSH_KNOWN_HOSTS FILE FORMAT"): a line that begins with a `#` is a comment, and fields are separated by spaces or tabs, of which some may stand in front.
+-- The lines of authorized_keys and known_hosts as OpenSSH reads them (sshd(8), "AUTHORIZED_KEYS
+-- FILE FORMAT" and "SSH_KNOWN_HOSTS FILE FORMAT"): a line that begins with a `#` is a comment, and
+-- fields are separated by spaces or tabs, of which some may stand in front.
 use Rattle.std.specs.Prelude.{◌≡◌, ◌≢◌, ◌⊎◌, ℕ, List, [], ◌++◌, length, slice_index, Option, Some, None}
 use Rattle.sshkey_model.specs.Lines.{IsWithout}
 use Rattle.sshkey_files.specs.AuthorizedKeys.{AuthorizedKey}
@@ -14,7 +16,8 @@ pub record IsKeyAlone (text : List ℕ) (a : AuthorizedKey) : Type 0 where
   pub options : a.options ≡ []
   pub fields : AreKeyFields text a.key a.comment
 
--- The text begins with no key. It is options, which end at the first space or tab outside quotes, and a key's fields.
+-- The text begins with no key. It is options, which end at the first space or tab outside quotes,
+-- and a key's fields.
 pub record IsBehindOptions (text : List ℕ) (a : AuthorizedKey) : Type 0 where
   pub rest : List ℕ
   pub is : text ≡ a.options ++ rest
@@ -28,7 +31,8 @@ pub record IsAuthorizedLine (line : List ℕ) (a : AuthorizedKey) : Type 0 where
 
 -- ---- known_hosts
 
--- one marker before the rest, which is a field of its own; or none, and then no at sign at the front
+-- one marker before the rest, which is a field of its own; or none, and then no at sign at the
+-- front
 abbrev pub IsMarkedLine : Option Marker → List ℕ → List ℕ → Type 0
 IsMarkedLine None text rest = (text ≡ rest) × (slice_index text 0 ≢ at_sign)
 IsMarkedLine (Some m) text rest = (behind : List ℕ) × (text ≡ marker_text m ++ behind) × EndsField behind × (rest ≡ without_blanks behind) × (slice_index rest 0 ≢ at_sign)

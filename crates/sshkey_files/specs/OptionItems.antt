@@ -1,4 +1,7 @@
--- The options before a key as items (sshd(8), "AUTHORIZED_KEYS FILE FORMAT"): comma-separated option specifications, without spaces but within double quotes. Each is a keyword, or a keyword, `=` and a value in double quotes, in which a quote stands behind a backslash. OpenSSH passes over commas that stand in a row, or at either end.
+-- The options before a key as items (sshd(8), "AUTHORIZED_KEYS FILE FORMAT"): comma-separated
+-- option specifications, without spaces but within double quotes. Each is a keyword, or a keyword,
+-- `=` and a value in double quotes, in which a quote stands behind a backslash. OpenSSH passes over
+-- commas that stand in a row, or at either end.
 use Rattle.std.specs.Prelude.{◌≡◌, ◌⊎◌, ℕ, ◌<◌, List, [], ◌∷◌, ◌++◌, length, map, slice_index, EachIndex, Bool, true, false, not, ◌&&◌, ◌||◌, ◌==◌, if◌then◌else◌, Option, Some, None}
 use Rattle.std.specs.Char.{to_ascii_lowercase}
 use Rattle.sshkey_files.specs.Items.{is_comma, is_quote}
@@ -31,7 +34,8 @@ pub record IsQuoted (text : List ℕ) : Type 0 where
   pub inner : (i : ℕ) → i < length text → is_mark text i ≡ false
   pub ends : is_mark (text ++ (quote ∷ [])) (length text) ≡ true
 
--- the text without each backslash that stands before a quote; every other backslash stands for itself
+-- the text without each backslash that stands before a quote; every other backslash stands for
+-- itself
 unfoldable pub unescaped : List ℕ → List ℕ
 unescaped [] = []
 unescaped (c ∷ text) = if c == backslash && is_quote (slice_index text 0) then unescaped text else c ∷ unescaped text
@@ -74,6 +78,7 @@ AreKeyOptions text (o ∷ more) = (rest : List ℕ) × IsOptionAt (without_comma
 abbrev pub HasKeyOptions : List ℕ → Type 0
 HasKeyOptions text = (options : List KeyOption) × AreKeyOptions text options
 
--- The names are the same, letters of ASCII without case (sshd(8): option keywords are case-insensitive).
+-- The names are the same, letters of ASCII without case (sshd(8): option keywords are
+-- case-insensitive).
 abbrev pub IsSameName : List ℕ → List ℕ → Type 0
 IsSameName a b = map to_ascii_lowercase a ≡ map to_ascii_lowercase b

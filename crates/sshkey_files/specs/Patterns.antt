@@ -1,4 +1,5 @@
--- Which texts a pattern matches, and which ones a list of patterns is for (ssh_config(5), "PATTERNS").
+-- Which texts a pattern matches, and which ones a list of patterns is for (ssh_config(5),
+-- "PATTERNS").
 use Rattle.std.specs.Prelude.{◌≡◌, ◌≢◌, ◌⊎◌, ◌<◌, ◌==◌, ℕ, List, [], ◌∷◌, ◌++◌, length, slice_index, if◌then◌else◌}
 use Rattle.std.specs.List.{All, Any}
 use Rattle.sshkey_files.specs.Items.{patterns}
@@ -12,7 +13,9 @@ question_mark = 0x3f
 abbrev pub exclamation_mark : ℕ
 exclamation_mark = 0x21
 
--- A character of a pattern stands for a part of a text: a star for any, also for an empty one, a question mark for one character, and each character for those that `fold` takes for the same, as it does a letter's two cases, or none but itself.
+-- A character of a pattern stands for a part of a text: a star for any, also for an empty one, a
+-- question mark for one character, and each character for those that `fold` takes for the same, as
+-- it does a letter's two cases, or none but itself.
 abbrev pub StandsFor : (ℕ → ℕ) → ℕ → List ℕ → Type 0
 StandsFor fold c part = (c ≡ star) ⊎ ((c ≡ question_mark) × (length part ≡ 1)) ⊎ ((x : ℕ) × (part ≡ x ∷ []) × (fold c ≡ fold x))
 

@@ -1,4 +1,6 @@
--- The key that sshd(8) reads of a line of authorized_keys ("AUTHORIZED_KEYS FILE FORMAT"): a line that begins with a `#` is a comment; in others options, which may be missing, keytype, base64-encoded key and comment are separated by spaces or tabs.
+-- The key that sshd(8) reads of a line of authorized_keys ("AUTHORIZED_KEYS FILE FORMAT"): a line
+-- that begins with a `#` is a comment; in others options, which may be missing, keytype,
+-- base64-encoded key and comment are separated by spaces or tabs.
 use Rattle.std.specs.Prelude.{◌≡◌, ◌≢◌, ◌⊎◌, ℕ, List, [], ◌∷◌, ◌++◌, length, slice_index, true}
 use Rattle.base64.specs.Engines.{standard}
 use Rattle.base64.specs.GeneralPurpose.{encode_of}
@@ -25,7 +27,8 @@ pub record HasKeyFields (text : List ℕ) (k : Key) : Type 0 where
   pub spelled : SpellsWith IsKey HasKeyPlaces key k blob
   pub ends : EndsKey rest
 
--- The line begins with no `#`, and the fields of the key stand at its front; or behind options, which end at the first blank outside quotes.
+-- The line begins with no `#`, and the fields of the key stand at its front; or behind options,
+-- which end at the first blank outside quotes.
 pub record IsSshdKey (line : List ℕ) (k : Key) : Type 0 where
   pub no_comment : slice_index line 0 ≢ hash
   pub is : HasKeyFields line k ⊎ ((options : List ℕ) × (fields : List ℕ) × (line ≡ options ++ (space ∷ fields)) × EndsOptions line (length options) × HasKeyFields fields k)

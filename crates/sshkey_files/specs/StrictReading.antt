@@ -1,4 +1,6 @@
--- Where OpenSSH ends the options of a line of authorized_keys, and the entries and lines of which it reads the same key (sshd(8): no spaces are permitted in options, except within double quotes; a double quote in a quoted string stands behind a backslash).
+-- Where OpenSSH ends the options of a line of authorized_keys, and the entries and lines of which
+-- it reads the same key (sshd(8): no spaces are permitted in options, except within double quotes;
+-- a double quote in a quoted string stands behind a backslash).
 use Rattle.std.specs.Prelude.{◌≡◌, ◌≢◌, ◌⊎◌, ℕ, ◌-◌, ◌<◌, List, ◌∷◌, ◌++◌, length, count_by, slice_index, nat_lt, EachIndex, Bool, true, false, not, ◌&&◌, ◌||◌, ◌==◌}
 use Rattle.std.specs.Int.{is_in_range}
 use Rattle.std.specs.List.{range_with_len}
@@ -50,7 +52,8 @@ IsLeftOut text = AreAsciiSpaces text ⊎ ((spaces : List ℕ) × (comment : List
 
 -- ---- what is read strictly
 
--- The entry is no comment, has no options or OpenSSH ends them where they end, and ends in no white space beyond ASCII.
+-- The entry is no comment, has no options or OpenSSH ends them where they end, and ends in no white
+-- space beyond ASCII.
 pub record IsReadStrictly (entry : List ℕ) (a : AuthorizedKey) : Type 0 where
   pub no_comment : slice_index entry 0 ≢ hash
   pub is : IsWithoutOptions entry a ⊎ (HasOptions entry a × EndsOptions entry (length a.options))

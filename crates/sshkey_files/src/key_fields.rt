@@ -18,8 +18,8 @@ fn is_named(key: &KeyData, name: &str) -> bool
     name == key.algorithm_name()
 }
 
-/// The key of a text that is a key's fields: the name of its algorithm, the key in padded Base64 and
-/// a comment, which is all that follows. Spaces or tabs stand between.
+/// The key of a text that is a key's fields: the name of its algorithm, the key in padded Base64
+/// and a comment, which is all that follows. Spaces or tabs stand between.
 ///
 /// Unless memory runs out, it fails exactly if the text is the fields of no key: `Length` where the
 /// Base64 is missing, the errors of `sshkey_public::read_word`, and `AlgorithmUnknown` where the

@@ -1,4 +1,5 @@
--- Which texts are those of fingerprints, and why others are refused (unpadded Base64, RFC 4648, sections 3.2 and 3.5).
+-- Which texts are those of fingerprints, and why others are refused (unpadded Base64, RFC 4648,
+-- sections 3.2 and 3.5).
 use Rattle.std.specs.Prelude.{◌≡◌, ◌≢◌, ◌<◌, ◌≤◌, ◌⊎◌, ◌++◌, ℕ, List, length, Result, Ok, Err}
 use Rattle.base64.specs.Engines.{standard_no_pad}
 use Rattle.base64.specs.GeneralPurpose.{IsBytes, encode_of}
@@ -25,7 +26,8 @@ pub record IsEncoded (text b : List ℕ) : Type 0 where
   pub bytes : IsBytes b
   pub is : text ≡ encode_of standard_no_pad b
 
--- Why it encodes no digest of that size: it is longer than the text of any digest; it is not Base64; or of another size.
+-- Why it encodes no digest of that size: it is longer than the text of any digest; it is not
+-- Base64; or of another size.
 abbrev pub IsRefusedDigest : ℕ → List ℕ → Error → Type 0
 IsRefusedDigest size text e =
     ((86 < length text) × (e ≡ Encoding Length))

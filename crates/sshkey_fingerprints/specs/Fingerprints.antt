@@ -37,7 +37,8 @@ pub record IsDigestOf (h : Hash) (p : Parts) (f : Fingerprint) : Type 0 where
 abbrev pub AreShort : Parts → Type 0
 AreShort p = length (flat p) ≤ 256
 
--- It is that digest. Exactly where a box of the parts is too long, it is `Length`, and else it is refused only when out of memory.
+-- It is that digest. Exactly where a box of the parts is too long, it is `Length`, and else it is
+-- refused only when out of memory.
 abbrev pub GivesDigest : Hash → Parts → Result Fingerprint Error → Type 0
 GivesDigest h p (Ok f) = IsDigestOf h p f
 GivesDigest h p (Err e) = ((BoxesFit p → ⊥) × (e ≡ Encoding Length)) ⊎ (BoxesFit p × (e ≡ Memory))

@@ -1,4 +1,5 @@
--- Random art: a walk through a field of 17 columns and 9 rows, led by a digest (OpenSSH, sshkey.c, `fingerprint_randomart`).
+-- Random art: a walk through a field of 17 columns and 9 rows, led by a digest (OpenSSH, sshkey.c,
+-- `fingerprint_randomart`).
 use Rattle.std.specs.Prelude.{◌<◌, ◌==◌, ◌+◌, ◌-◌, ◌/◌, ◌%◌, ℕ, List, [], ◌∷◌, ◌++◌, Bool, true, false, ◌&&◌, if◌then◌else◌, codes, get_or, map, min, replicate}
 use Rattle.std.specs.Fmt.{char_count}
 use Rattle.std.specs.List.{count_by, flat_map, range_with_len}
@@ -69,7 +70,8 @@ bar shades = codes "|" ++ (map symbol shades ++ codes "|\n")
 unfoldable pub row_line : List ℕ → ℕ → List ℕ
 row_line d row = bar (map (λ column. shade d (record { column = column; row = row })) (range_with_len 0 17))
 
--- The text between dashes, 17 characters in all if it has no more, and between two crosses. Of an odd number of dashes fewer stand before it.
+-- The text between dashes, 17 characters in all if it has no more, and between two crosses. Of an
+-- odd number of dashes fewer stand before it.
 unfoldable pub title : List ℕ → List ℕ
 title text =
     let dashes = 17 - char_count text in

@@ -1,5 +1,5 @@
--- A record that its first value calls for: what the call says that reads that value, and what the call says that reads
--- the record behind it, is said of the whole.
+-- A record that its first value calls for: what the call says that reads that value, and what the
+-- call says that reads the record behind it, is said of the whole.
 use Rattle.std.proofs.Common.{◌≡◌, ◌⊎◌, inl, inr, ℕ, List, IsErrAnd, Result, Ok, Err, ◌∙◌}
 use Rattle.std.specs.Prelude.{IsOkAnd}
 use Rattle.sshkey_model.specs.Reading.{Length, Front}

@@ -1,4 +1,5 @@
--- A loop that reads values up to the end: it leaves less each time, and asks for memory where its first value does, or stands.
+-- A loop that reads values up to the end: it leaves less each time, and asks for memory where its
+-- first value does, or stands.
 use Rattle.std.proofs.Common.{◌≡◌, ◌≢◌, ◌⊎◌, inl, inr, ◌<◌, ◌+◌, Bool, true, false, ℕ, zero, suc, Option, Some, List, [], ◌∷◌, length, IsOk, Result, Ok, Err, refl, ap, arith}
 use Rattle.std.specs.Prelude.{IsOkAnd}
 use Rattle.std.proofs.lemmas.List.{length-append}

@@ -1,5 +1,5 @@
--- A record that is read as a term: where its plain reader is the term's and then a test of the parts, what a call says
--- of the term it says of the record.
+-- A record that is read as a term: where its plain reader is the term's and then a test of the
+-- parts, what a call says of the term it says of the record.
 use Rattle.std.proofs.Common.{◌≡◌, ℕ, List, Result, Ok, Err, IsErrAnd, refl}
 use Rattle.sshkey_model.specs.Reading.{Fault, Front}
 use Rattle.sshkey_base.specs.Causes.{Cause}

@@ -1,5 +1,5 @@
--- Two values, one behind the other: how they are read and spelled, once for all records. The grammars at the end are
--- proved, and need not be believed.
+-- Two values, one behind the other: how they are read and spelled, once for all records. The
+-- grammars at the end are proved, and need not be believed.
 use Rattle.std.proofs.Common.{◌≡◌, ℕ, List, ◌++◌, Ok, refl, sym, ap, subst, ◌∙◌, append_assoc}
 use Rattle.sshkey_model.specs.Reading.{◌>>=◌, Front}
 use Rattle.sshkey_model.specs.Grammar.{IsGrammar}
@@ -12,7 +12,8 @@ behind_at read next b = do
   y ← next x.0 x.1
   Ok ((x.0, y.0), y.1)
 
--- The bytes spell the first value, and behind it the second, whose spelling may depend on the first.
+-- The bytes spell the first value, and behind it the second, whose spelling may depend on the
+-- first.
 pub record SpellsThen {A B : Type 0} (First : A → List ℕ → Type 0) (Second : A → B → List ℕ → Type 0) (value : A × B) (bytes : List ℕ) : Type 0 where
   pub front : List ℕ
   pub behind : List ℕ

@@ -1,5 +1,5 @@
--- What a string holds, read to its end: there values may stand without their number. The grammars are proved, and need not
--- be believed.
+-- What a string holds, read to its end: there values may stand without their number. The grammars
+-- are proved, and need not be believed.
 use Rattle.std.proofs.Common.{◌≡◌, ◌≤◌, ◌<◌, ◌+◌, ◌⊎◌, ◌^◌, inl, inr, ℕ, zero, suc, Option, None, Some, List, [], ◌∷◌, ◌++◌, append-nil, length, take, drop, IsOk, Result, Ok, Err, refl, sym, ap, subst, ◌∙◌, arith}
 use Rattle.std.specs.Int.{w32, to_be_bytes}
 use Rattle.std.proofs.lemmas.Bool.{cases_lt, lt-ltb, le-ltb}
@@ -26,7 +26,8 @@ pub record IsWhole {A : Type 0} (Spells : A → List ℕ → Type 0) (read : Fro
   pub takes : (b : List ℕ) (value : A) → read b ≡ Ok (value, []) → Spells value b
   pub again : (value : A) (b : List ℕ) → Spells value b → read b ≡ Ok (value, [])
 
--- All that is said of the bytes that fill a string, as a format says it of bytes that others may follow.
+-- All that is said of the bytes that fill a string, as a format says it of bytes that others may
+-- follow.
 pub record Contents (A : Type 0) : Type 1 where
   pub Spells : A → List ℕ → Type 0
   pub read : Front A

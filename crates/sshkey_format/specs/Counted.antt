@@ -1,5 +1,5 @@
--- A counted list: a number of four bytes, and so many values, one behind the other, of at least a byte each. The grammars
--- are proved, and need not be believed.
+-- A counted list: a number of four bytes, and so many values, one behind the other, of at least a
+-- byte each. The grammars are proved, and need not be believed.
 use Rattle.std.proofs.Common.{◌≡◌, ◌≤◌, ◌<◌, ◌+◌, ◌⊎◌, ℕ, zero, suc, false, ltb, List, [], ◌∷◌, ◌++◌, length, map, IsOk, Result, Ok, Err, refl, sym, ap, subst, ◌∙◌, append_assoc, arith}
 use Rattle.std.specs.Prelude.{nat_lt, if◌then◌else◌}
 use Rattle.std.specs.Int.{w32}

@@ -33,7 +33,8 @@ pub record IsSplit (IsSpelling : List ℕ → Type 0) (b rest : List ℕ) : Type
   pub spelled : IsSpelling front
   pub all : b ≡ front ++ rest
 
--- What stands before the bytes that are left spells the value; and where it is refused, no front of the bytes spells any.
+-- What stands before the bytes that are left spells the value; and where it is refused, no front of
+-- the bytes spells any.
 abbrev pub AcceptsSplit : {X Y E : Type 0} → (X → Y) → (Y → List ℕ → Type 0) → List ℕ → Result (X × Bor (List ℕ)) E → Type 0
 AcceptsSplit means Spells b (Ok p) = IsSplit (Spells (means p.0)) b p.1.now
 AcceptsSplit means Spells b (Err e) = NoFront Spells b

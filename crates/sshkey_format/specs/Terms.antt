@@ -1,5 +1,5 @@
--- The terms that formats are made of. A format is read aloud as it stands: `mpint_format then mpint_format` is two
--- numbers, one behind the other.
+-- The terms that formats are made of. A format is read aloud as it stands: `mpint_format then
+-- mpint_format` is two numbers, one behind the other.
 use Rattle.std.proofs.Common.{◌≡◌, inl, inr, ℕ, List, Result, Ok, Err, refl}
 use Rattle.std.specs.Prelude.{IsOkAnd}
 use Rattle.sshkey_model.specs.Reading.{Fault, Length, ◌>>=◌, Front, whole, box_at, checked_at, literal_at}

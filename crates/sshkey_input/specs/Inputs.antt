@@ -15,7 +15,8 @@ IsPassed old new = (passed : List ℕ) × Consumes old new passed
 abbrev pub IsNoText : Option (List ℕ) → Type 0
 IsNoText known = IfSome known (λ bytes. IsUtf8 bytes → ⊥)
 
--- The text is all that the input has left; or that is no text, and `CharacterEncoding`; or the machine failed.
+-- The text is all that the input has left; or that is no text, and `CharacterEncoding`; or the
+-- machine failed.
 abbrev pub ReadsText : {Z : Type 0} → Option (List ℕ) → Result (String Z) Error → Type 0
 ReadsText known (Ok s) = IfSome known (λ bytes. string_bytes s ≡ bytes)
 ReadsText known (Err e) = IsMachineFault e ⊎ ((e ≡ Encoding CharacterEncoding) × IsNoText known)

@@ -1,4 +1,5 @@
--- What stands behind the name of each kind of pair, and a pair behind its name, by the terms that they are read as.
+-- What stands behind the name of each kind of pair, and a pair behind its name, by the terms that
+-- they are read as.
 use Rattle.std.proofs.Common.{ℕ, List, [], Option, Some, Result, Ok, Err, refl}
 use Rattle.std.specs.Int.{w8}
 use Rattle.sshkey_model.specs.Reading.{Fault, Length, number_at, string_at}
@@ -23,7 +24,8 @@ use Rattle.sshkey_pairs.specs.PairFormats.{dsa_pair_format, ecdsa_pair_format, e
 use Rattle.sshkey_pairs.specs.PairReaders.{SpellsPair, pair_grammar}
 use Rattle.sshkey_keypairs.specs.KeypairReaders.{some_at, keypair_data_at, keypair_grammar, ecdsa_under_read}
 
--- ---- what is kept of a key that a security key holds: the flags, the key handle and the reserved bytes
+-- ---- what is kept of a key that a security key holds: the flags, the key handle and the reserved
+-- bytes
 
 abbrev pub SpellsHeld : SecurityPrivate → List ℕ → Type 0
 SpellsHeld = Spells Any security_private

@@ -61,7 +61,8 @@ trailer_stopped judge s t b c read h = record {
   past = λ o. read_past (λ x. x) string_at OverrunsString s t b string_lengths read o;
 }
 
--- it may stand before the trailer, so memory is needed: for its own bytes, or where it has none for the trailer
+-- it may stand before the trailer, so memory is needed: for its own bytes, or where it has none for
+-- the trailer
 module _ (judge : Whole (List ℕ)) (s t : Source) (b : List ℕ) (read : Reads (λ x. x) string_at s b t) (ok : IsOk (judge b)) where
   judged_needs : NeedsTrailed judge s.left s.missing
   unfolding string_at bytes_at

@@ -15,7 +15,8 @@ pub record ReadsFrontOf {X Y E : Type 0} (means : X → Y) (read : Front Y) (Spe
   pub gives : Gives means cause read (all_of b) r rest
   pub accepts : AcceptsFront means Spells cause (all_of b) r rest
 
--- The vector holds the bytes of the parts. `Length` exactly where a box of them is too long, else only out of memory.
+-- The vector holds the bytes of the parts. `Length` exactly where a box of them is too long, else
+-- only out of memory.
 abbrev pub MakesBlob : {Z : Type 0} → Parts → Result (Vec ℕ Z) Error → Type 0
 MakesBlob p (Ok v) = Fits p × (v.items ≡ flat p)
 MakesBlob p (Err e) = ((BoxesFit p → ⊥) × (e ≡ Encoding Length)) ⊎ (BoxesFit p × (e ≡ Memory))

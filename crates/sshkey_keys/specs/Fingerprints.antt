@@ -14,6 +14,7 @@ IsFingerprint h k = IsDigestOf h (normal_key k)
 abbrev pub IsShort : Key → Type 0
 IsShort k = AreShort (normal_key k)
 
--- It is that fingerprint. Exactly where a part of the key is too long, it is `Length`, and else it is refused only when out of memory.
+-- It is that fingerprint. Exactly where a part of the key is too long, it is `Length`, and else it
+-- is refused only when out of memory.
 abbrev pub GivesFingerprint : Hash → Key → Result Fingerprint Error → Type 0
 GivesFingerprint h k = GivesDigest h (normal_key k)

@@ -74,7 +74,8 @@ key_chosen = record { same = λ b. after_name (label_at algorithm_from b) }
 abbrev pub key_format : Format Key
 key_format = chosen_of name_format body_format key_chosen key_grammar
 
--- ---- a signature: the name, and then a string of bytes that are well-formed, with a trailer behind it for security keys
+-- ---- a signature: the name, and then a string of bytes that are well-formed, with a trailer
+-- behind it for security keys
 
 pub trailed_lengths : (judge : Whole (List ℕ)) → AreLengths (trailed_at judge) OverrunsString
 trailed_lengths judge b m o = rw (string_lengths b m o) refl

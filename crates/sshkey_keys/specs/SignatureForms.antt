@@ -37,7 +37,8 @@ trailed_from judge b = if nat_lt (length b) 5 then Err Length else (judge (witho
 abbrev pub joined_from : Whole (List ℕ) → List ℕ → Whole (List ℕ)
 joined_from judge trailer b = judge b >>= λ string. Ok (string ++ trailer)
 
--- Memory is needed for a string of one byte or more, and for the trailer alone where a string of none may stand before it.
+-- Memory is needed for a string of one byte or more, and for the trailer alone where a string of
+-- none may stand before it.
 abbrev pub NeedsTrailed : Whole (List ℕ) → List ℕ → ℕ → Type 0
 NeedsTrailed judge b m = NeedsString b m ⊎ (HasString b m × IsOk (judge []))
 

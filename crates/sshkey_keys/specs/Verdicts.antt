@@ -21,7 +21,8 @@ abbrev pub judged : (Question → Bool) → Algorithm → Option Question → Re
 judged accepts algorithm None = Err (Unsupported algorithm)
 judged accepts algorithm (Some q) = if accepts q then Ok tt else Err NotAccepted
 
--- A key under a private-use name verifies nothing, and its algorithm is named. Else that of the signature is.
+-- A key under a private-use name verifies nothing, and its algorithm is named. Else that of the
+-- signature is.
 abbrev pub unsupported_of : KeyData → Signature → Algorithm
 unsupported_of (kinds.Dsa key) g = g.algorithm
 unsupported_of (kinds.Ecdsa key) g = g.algorithm

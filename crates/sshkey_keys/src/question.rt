@@ -34,7 +34,8 @@ enum Contents<'a> {
 }
 
 impl<'a> Question<'a> {
-    /// The algorithm by which the message was signed. RSA comes with its hash, ECDSA with its curve.
+    /// The algorithm by which the message was signed. RSA comes with its hash, ECDSA with its
+    /// curve.
     pub fn algorithm(&self) -> &Algorithm
         ensures { algorithm_of result.now ≡ (question_of self.now).algorithm }
     {

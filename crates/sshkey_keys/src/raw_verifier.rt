@@ -12,11 +12,11 @@ use std::alloc::AllocError;
 /// The mathematics of signatures, which is the caller's. None of it is here.
 ///
 /// These crates call `verify` with the parts of a question alone, with a signature that is
-/// well-formed for the algorithm: `Dsa` with 40 bytes, r and s (RFC 4253, section 6.6); `Ecdsa` with
-/// a key on the same curve, r and s as two positive mpints (RFC 5656, section 3.1.2); `Ed25519` with
-/// 64 bytes (RFC 8709, section 6); and `Rsa` with a hash, by PKCS#1 v1.5, with any number of bytes
-/// (RFC 8332, section 3). The numbers of DSA and RSA keys may be zero or negative, and a point need
-/// not lie on its curve: return `Ok(false)` for such a key.
+/// well-formed for the algorithm: `Dsa` with 40 bytes, r and s (RFC 4253, section 6.6); `Ecdsa`
+/// with a key on the same curve, r and s as two positive mpints (RFC 5656, section 3.1.2);
+/// `Ed25519` with 64 bytes (RFC 8709, section 6); and `Rsa` with a hash, by PKCS#1 v1.5, with any
+/// number of bytes (RFC 8332, section 3). The numbers of DSA and RSA keys may be zero or negative,
+/// and a point need not lie on its curve: return `Ok(false)` for such a key.
 pub trait RawVerifier {
     /// Which signatures it accepts, a function of its value and the question.
     ghost accepts: { Self → Question → Bool };

@@ -50,9 +50,9 @@ impl Signature {
 
     /// The signature by that algorithm that has these bytes, where they are well-formed for it.
     ///
-    /// Fails with the first fault from the left of an ECDSA signature: `FormatEncoding` for a number
-    /// with a needless leading 00, `Crypto` for one that is not positive; and with `Length` for all
-    /// else that is not well-formed. Does not allocate.
+    /// Fails with the first fault from the left of an ECDSA signature: `FormatEncoding` for a
+    /// number with a needless leading 00, `Crypto` for one that is not positive; and with `Length`
+    /// for all else that is not well-formed. Does not allocate.
     #[inline(always)]
     pub fn new(algorithm: Algorithm, bytes: Vec<u8>) -> Result<Signature>
         ensures exactly { IsOk result ↔ IsSignatureBlob (algorithm_of algorithm) bytes.items }

@@ -65,8 +65,8 @@ impl<'a> KeyDataRef<'a> {
     /// The bytes that the key was read from where they are its normal form, which is what
     /// `encode_vec` makes of the `KeyData` and fingerprints digest. Does not allocate.
     ///
-    /// `None` exactly for an RSA key under another name than `ssh-rsa`: RFC 8332, section 3, has the
-    /// name stay `ssh-rsa`, so its bytes are read, but are not the normal form.
+    /// `None` exactly for an RSA key under another name than `ssh-rsa`: RFC 8332, section 3, has
+    /// the name stay `ssh-rsa`, so its bytes are read, but are not the normal form.
     pub fn normal_bytes(&self) -> Option<&'a [u8]>
         ensures { GivesNormal (key_bytes self.now) result }
     {

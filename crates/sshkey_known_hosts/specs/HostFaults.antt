@@ -46,7 +46,8 @@ RefusesHosts text (Encoding Length) = HasOtherSize text
 RefusesHosts text Memory = HasNoParts text → ⊥
 RefusesHosts text _ = ⊥
 
--- `FormatEncoding` for another marker and for a space that is missing behind the hosts, and then the fault of the hosts. Of others the fault of the key's line is open.
+-- `FormatEncoding` for another marker and for a space that is missing behind the hosts, and then
+-- the fault of the hosts. Of others the fault of the key's line is open.
 pub record HasFault (line : List ℕ) (e : Error) : Type 0 where
   pub no_marker : ((m : Option Marker) (rest : List ℕ) → IsMarked m line rest → ⊥) → e ≡ FormatEncoding
   pub no_space : (m : Option Marker) (rest : List ℕ) → IsMarked m line rest → IsWithout space rest → e ≡ FormatEncoding

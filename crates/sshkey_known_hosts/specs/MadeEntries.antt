@@ -23,7 +23,8 @@ pub record IsReadBack (h : KnownHost) : Type 0 where
 abbrev pub known_host_from : Option Marker → HostPatterns → PublicKey → KnownHost
 known_host_from m hosts k = record { marker = option_map marker_of m; hosts = hosts_of hosts; key = public_of k; comment = comment_of k }
 
--- For each error, why an entry is refused with it. That its line is not one, and then that a part of the key is too long, is told first, whatever memory there is.
+-- For each error, why an entry is refused with it. That its line is not one, and then that a part
+-- of the key is too long, is told first, whatever memory there is.
 abbrev pub RefusesMade : KnownHost → Error → Type 0
 RefusesMade h FormatEncoding = ¬ IsReadBack h × (IsOneLine (known_text h) → BoxesFit (normal_key h.key))
 RefusesMade h (Encoding Length) = IsOneLine (known_text h) × ¬ BoxesFit (normal_key h.key)

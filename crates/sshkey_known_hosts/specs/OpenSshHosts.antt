@@ -29,7 +29,8 @@ pub record HasHostsField (text hosts rest : List ℕ) : Type 0 where
   pub one_word : IsField hosts
   pub ends : EndsField rest
 
--- `FormatEncoding` for another marker, then the fault of the hosts, and then that of the key's fields.
+-- `FormatEncoding` for another marker, then the fault of the hosts, and then that of the key's
+-- fields.
 pub record HasTextFault (text : List ℕ) (e : Error) : Type 0 where
   pub no_marker : ((m : Option known.Marker) (rest : List ℕ) → IsMarkedLine m text rest → ⊥) → e ≡ FormatEncoding
   pub no_hosts : (hosts rest : List ℕ) → HasHostsField text hosts rest → IsNoEntry IsHosts hosts → RefusesHosts hosts e
@@ -43,7 +44,8 @@ pub record HasLineFault (line : List ℕ) (e : Error) : Type 0 where
 
 -- ---- memory
 
--- Reading the line needs memory: it has no zero byte and is no comment, and parts of hosts stand in it, behind a marker or none.
+-- Reading the line needs memory: it has no zero byte and is no comment, and parts of hosts stand in
+-- it, behind a marker or none.
 pub record NeedsHostLine (line : List ℕ) : Type 0 where
   pub hosts : List ℕ
   pub rest : List ℕ
@@ -52,6 +54,7 @@ pub record NeedsHostLine (line : List ℕ) : Type 0 where
   pub field : HasHostsField (without_blanks line) hosts rest
   pub some : HasNoParts hosts → ⊥
 
--- One answer of a reader of lines: the entry of the line, or why it is none; and memory was refused only where it was needed.
+-- One answer of a reader of lines: the entry of the line, or why it is none; and memory was refused
+-- only where it was needed.
 abbrev pub AnswersHostLine : List ℕ → Result Entry Error → Type 0
 AnswersHostLine line r = ReadsEntry known_host_of IsHostLine line r × RefusesFor HasLineFault line r × IfErr r (λ e. cause e ≡ NoMemory → NeedsHostLine line)

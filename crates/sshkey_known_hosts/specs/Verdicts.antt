@@ -12,7 +12,8 @@ use Rattle.sshkey_known_hosts.specs.declared.marker.Marker.TheVariants as marker
 use Rattle.sshkey_known_hosts.specs.declared.verdict.Verdict.{Verdict}
 use Rattle.sshkey_known_hosts.specs.declared.verdict.Verdict.TheVariants.{Revoked, Unreadable, Trusted, Changed, Unknown}
 
--- The first of these that holds: a line revokes the key; one may be hidden; one has the key; one has another; none has any.
+-- The first of these that holds: a line revokes the key; one may be hidden; one has the key; one
+-- has another; none has any.
 abbrev pub IsVerdict : (List ℕ → List ℕ → List ℕ) → List ℕ → Key → List (List ℕ) → Verdict → Type 0
 IsVerdict hmac name key lines Revoked = IsRevoked hmac name key lines
 IsVerdict hmac name key lines Unreadable = ¬ IsRevoked hmac name key lines × HidesSome hmac name lines
@@ -60,7 +61,8 @@ is_authority_of (Some marker.CertAuthority) = true
 is_authority_of (Some marker.Revoked) = false
 is_authority_of None = false
 
--- The key and the comment of the line, which is an entry of an authority for the name; or it is none.
+-- The key and the comment of the line, which is an entry of an authority for the name; or it is
+-- none.
 abbrev pub IsAuthorityLine : (List ℕ → List ℕ → List ℕ) → List ℕ → List ℕ → Option PublicKey → Type 0
 IsAuthorityLine hmac name line None = (key : Key) → Lists hmac name (Some CertAuthority) key line → ⊥
 IsAuthorityLine hmac name line (Some k) = (l : Lists hmac name (Some CertAuthority) (public_of k) line) × (comment_of k ≡ l.entry.comment)
@@ -69,7 +71,8 @@ abbrev pub in_front : Option PublicKey → List PublicKey → List PublicKey
 in_front None keys = keys
 in_front (Some k) keys = k ∷ keys
 
--- They are the keys and the comments of these lines, in the order of the lines, one for each that is such an entry.
+-- They are the keys and the comments of these lines, in the order of the lines, one for each that
+-- is such an entry.
 abbrev pub AreInOrder : (List ℕ → List ℕ → List ℕ) → List ℕ → List (List ℕ) → List PublicKey → Type 0
 AreInOrder hmac name [] keys = keys ≡ []
 AreInOrder hmac name (line ∷ lines) keys = (found : Option PublicKey) × (rest : List PublicKey) × IsAuthorityLine hmac name line found × AreInOrder hmac name lines rest × (keys ≡ in_front found rest)

@@ -78,8 +78,8 @@ impl Entry {
     /// another marker or a space that is missing, and else the errors of `HostPatterns::from_text`
     /// and then of `PublicKey::from_openssh`.
     ///
-    /// Memory is taken for the hosts and what follows them: another marker, a space that is missing,
-    /// and hosts that are empty or have no `|` after their salt never fail with `Memory`.
+    /// Memory is taken for the hosts and what follows them: another marker, a space that is
+    /// missing, and hosts that are empty or have no `|` after their salt never fail with `Memory`.
     ///
     /// A line that is rejected says nothing of its hosts. OpenSSH also takes tabs and several
     /// spaces between the fields, so the line may be a revocation to it: treat an `Err` as no

@@ -52,8 +52,8 @@ impl Entry {
     /// The entry of a line as OpenSSH reads it (sshd(8), "SSH_KNOWN_HOSTS FILE FORMAT").
     ///
     /// Spaces and tabs in front are passed over, and any number of them stands between the fields:
-    /// a marker, where an `@` stands at the front, the hosts, the name of the key's algorithm and its
-    /// padded Base64. All the rest is the comment, a `#` too.
+    /// a marker, where an `@` stands at the front, the hosts, the name of the key's algorithm and
+    /// its padded Base64. All the rest is the comment, a `#` too.
     ///
     /// Unless memory runs out, it fails exactly if the line is no such entry: `FormatEncoding`
     /// where a zero byte stands in it, at which OpenSSH takes the hosts to end, where a `#` begins

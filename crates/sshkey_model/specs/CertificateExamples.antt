@@ -68,7 +68,8 @@ openssh_certificate = certificate_with User [] []
 abbrev pub openssh_choices : CertificateChoices
 openssh_choices = record { critical_options = Nesting.Plain ∷ []; extensions = []; signature_key = Plain }
 
--- The fields stand at 0 (name), 36, 72 (key), 108, 116 (type), 120 (key id), 127 (principals), 131, 139 (times), 147, 186 (options), 190 (reserved), 194 (signature key) and 249 (signature).
+-- The fields stand at 0 (name), 36, 72 (key), 108, 116 (type), 120 (key id), 127 (principals), 131,
+-- 139 (times), 147, 186 (options), 190 (reserved), 194 (signature key) and 249 (signature).
 abbrev pub openssh_bytes : List ℕ
 openssh_bytes = hex "00000020 7373682d656432353531392d636572742d763031406f70656e7373682e636f6d"
     ++ hex "00000020 15bfe332ea5d644e5a6375b0f81dc929c7d4652c10506316b47028ac3bd41a01"
@@ -163,7 +164,8 @@ rsa_certificate = record { signed = small_certificate rsa_key; signature = recor
 abbrev pub rsa_signature_box : List ℕ
 rsa_signature_box = hex "00000015 0000000c 7273612d736861322d323536 00000001 00"
 
--- A signature key under a name with a hash is read as the key, and signed and written under its own name.
+-- A signature key under a name with a hash is read as the key, and signed and written under its own
+-- name.
 abbrev pub SignatureKeyNames : Type 0
 SignatureKeyNames = (certificate_at (small_bytes ++ hex "0000001d" ++ rsa_256_bytes ++ rsa_signature_box) ≡ Ok ((rsa_certificate, small_choices), []))
     × (length (small_bytes ++ hex "0000001d" ++ rsa_256_bytes) ≡ 158)

@@ -28,7 +28,8 @@ certificate_name (Other n) = with_suffix (cut n) n
 abbrev pub certified : List Algorithm
 certified = Dsa ∷ Ecdsa Nistp256 ∷ Ecdsa Nistp384 ∷ Ecdsa Nistp521 ∷ Ed25519 ∷ Rsa None ∷ SkEcdsa ∷ SkEd25519 ∷ []
 
--- A certificate's own key has an algorithm without a hash; a private-use name is one of the fixed ones in neither form.
+-- A certificate's own key has an algorithm without a hash; a private-use name is one of the fixed
+-- ones in neither form.
 abbrev pub IsCertified : Algorithm → Type 0
 IsCertified Dsa = Unit {0}
 IsCertified (Ecdsa c) = Unit {0}

@@ -58,7 +58,8 @@ PlainQuestions = IsAskedItself dsa_key Dsa
 abbrev pub empty_digest : List ℕ
 empty_digest = hex "e3b0c44298fc1c149afbf4c8996fb92427ae41e4649b934ca495991b7852b855"
 
--- A security key with no application, and the empty message: the digest of nothing, the trailer, and the digest again, under the plain key.
+-- A security key with no application, and the empty message: the digest of nothing, the trailer,
+-- and the digest again, under the plain key.
 abbrev pub SecurityKeyQuestions : Type 0
 SecurityKeyQuestions = (question sk_ed25519_key [] sk_ed25519_signature ≡ Some (record { algorithm = Ed25519; key = Key.Ed25519 ed25519_point; message = empty_digest ++ hex "01 00000009" ++ empty_digest; blob = sk_ed25519_within }))
     × (length (security_key_message [] [] sk_ed25519_signature.blob) ≡ 69)

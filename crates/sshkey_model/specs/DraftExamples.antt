@@ -33,7 +33,8 @@ DraftWindows = (bad_window 10 20 ≡ None)
 abbrev pub draft : Draft
 draft = begun (hex "01") ed25519_key 10 20
 
--- A field is set once, and a name of an option given once; principals are added, or all of them made valid.
+-- A field is set once, and a name of an option given once; principals are added, or all of them
+-- made valid.
 abbrev pub DraftSteps : Type 0
 DraftSteps = (after_step (Serial 5) draft ≡ Ok (record draft { serial = Some 5 }))
     × (after_step (Serial 5) (record draft { serial = Some 0 }) ≡ Err SerialField)

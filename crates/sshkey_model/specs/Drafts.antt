@@ -105,7 +105,8 @@ drafted d signature_key = record {
   signature_key = signature_key;
 }
 
--- The certificate has the fields of the draft under the signer's key, and a signature of them that is accepted.
+-- The certificate has the fields of the draft under the signer's key, and a signature of them that
+-- is accepted.
 pub record IsSignedDraft (accepts : Question → Bool) (k : Key) (d : Draft) (c : Certificate) : Type 0 where
   pub fields : c.signed ≡ drafted d k
   pub signature : IsAccepted accepts k (flat (normal_to_be_signed (drafted d k))) c.signature

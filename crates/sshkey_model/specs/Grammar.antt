@@ -9,7 +9,8 @@ pub record Spells {V : Type 0} (Is : V → Type 0) (spell : V → Parts) (value 
   pub fits : Fits (spell value)
   pub shape : b ≡ flat (spell value)
 
--- The same of a value some parts of which may be spelled in several ways: each choice has its place.
+-- The same of a value some parts of which may be spelled in several ways: each choice has its
+-- place.
 pub record SpellsWith {V S : Type 0} (Is : V → Type 0) (HasPlace : V → S → Type 0) (spell : V → S → Parts) (value : V) (b : List ℕ) : Type 0 where
   pub is : Is value
   pub choices : S

@@ -1,4 +1,5 @@
--- Ciphers and key derivation of private keys (PROTOCOL.key; RFC 4253, section 6.3; RFC 4344, section 4; PROTOCOL; PROTOCOL.chacha20poly1305).
+-- Ciphers and key derivation of private keys (PROTOCOL.key; RFC 4253, section 6.3; RFC 4344,
+-- section 4; PROTOCOL; PROTOCOL.chacha20poly1305).
 use Rattle.std.specs.Prelude.{ℕ, ◌-◌, ◌%◌, List, [], ◌∷◌, Result, Ok, Err, ◌==◌, if◌then◌else◌, codes}
 use Rattle.std.specs.Int.{w32}
 use Rattle.sshkey_model.specs.Parts.{Parts, number, box, ◌&◌}

@@ -48,7 +48,8 @@ rsa_256_bytes = hex "0000000c 7273612d736861322d323536 00000003 010001 00000002 
 abbrev pub rsa_512_bytes : List ℕ
 rsa_512_bytes = hex "0000000c 7273612d736861322d353132 00000003 010001 00000002 00ff"
 
--- The name before an RSA key may be one with a hash; the key is the same, and so is its normal form.
+-- The name before an RSA key may be one with a hash; the key is the same, and so is its normal
+-- form.
 abbrev pub RsaNames : Type 0
 RsaNames = (length rsa_bytes ≡ 24)
     × (length rsa_256_bytes ≡ 29)
@@ -89,7 +90,8 @@ p256_string = hex "00000021" ++ p256_point
 abbrev pub p384_string : List ℕ
 p384_string = hex "00000031 03" ++ replicate 48 9
 
--- The curve of the algorithm, the one that is stated and that of the point are one; the point is judged before they are compared.
+-- The curve of the algorithm, the one that is stated and that of the point are one; the point is
+-- judged before they are compared.
 abbrev pub EcdsaKeys : Type 0
 EcdsaKeys = (key_at (hex "00000013 65636473612d736861322d6e69737470323536" ++ nistp256_string ++ p256_string) ≡ Ok ((Ecdsa Nistp256 p256_point, Plain), []))
     × (body_at (Algorithm.Ecdsa Nistp256) (nistp256_string ++ p256_string) ≡ Ok (Ecdsa Nistp256 p256_point, []))

@@ -1,4 +1,5 @@
--- Key pairs (PROTOCOL.key; the SSH agent protocol, draft-miller-ssh-agent-04, section 4.2; PROTOCOL.u2f).
+-- Key pairs (PROTOCOL.key; the SSH agent protocol, draft-miller-ssh-agent-04, section 4.2;
+-- PROTOCOL.u2f).
 use Rattle.std.specs.Prelude.{◌≡◌, ◌<◌, ℕ, suc, ◌-◌, List, [], ◌∷◌, ◌++◌, length, take, drop, replicate, Bool, true, false, ◌&&◌, not, Option, Some, None, Result, Ok, Err, nat_lt, ◌==◌, if◌then◌else◌, bytes_eq, bit_xor}
 use Rattle.std.specs.Int.{w8, w32, from_be_bytes}
 use Rattle.sshkey_model.specs.Parts.{Parts, number, ◌&◌}
@@ -11,8 +12,10 @@ use Rattle.sshkey_model.specs.Keys.{Key, Dsa, Ecdsa, Ed25519, Rsa, SkEcdsa, SkEd
 
 -- ---- private scalars of ECDSA
 
--- A private scalar has the size of the field. It is written with a 00 before it exactly if its first bit is set.
--- Third spelling, by the zero bytes in front: that 00 may be missing, or stand where none is wanted; or the scalar stands as the shortest mpint of its number, where that has fewer bytes than the field.
+-- A private scalar has the size of the field. It is written with a 00 before it exactly if its
+-- first bit is set. Third spelling, by the zero bytes in front: that 00 may be missing, or stand
+-- where none is wanted; or the scalar stands as the shortest mpint of its number, where that has
+-- fewer bytes than the field.
 pub data LeadingZeros : Type 0 where
   Plain WithoutZero WithZero Short : LeadingZeros
 
@@ -93,7 +96,8 @@ private_half (SkEcdsaPair k r) zeros = security_private r
 private_half (SkEd25519Pair k r) zeros = security_private r
 private_half (OpaquePair name public private) zeros = string private
 
--- What stands behind the name: the body of the public key, and then the private half. Of RSA, n stands before e here.
+-- What stands behind the name: the body of the public key, and then the private half. Of RSA, n
+-- stands before e here.
 abbrev pub pair : KeyPair → LeadingZeros → Parts
 pair (RsaPair k r) zeros = string k.n & string k.e & private_half (RsaPair k r) zeros
 pair k zeros = body (public_half k) & private_half k zeros

@@ -17,7 +17,8 @@ pub record RsaKey : Type 0 where
   pub e : List ℕ
   pub n : List ℕ
 
--- the public half of a key that a security key holds, a P-256 point or 32 bytes of Ed25519, and the application that it is for
+-- the public half of a key that a security key holds, a P-256 point or 32 bytes of Ed25519, and the
+-- application that it is for
 pub record SecurityKey : Type 0 where
   pub key : List ℕ
   pub application : List ℕ

@@ -22,7 +22,8 @@ ReadBackPlain {V} Is spell plain read = (v : V) → Is v → Fits (spell v (plai
 abbrev pub NormalFits : {V S : Type 0} → (V → Type 0) → (V → S → Type 0) → (V → S → Parts) → (V → Parts) → Type 0
 NormalFits {V} {S} Is HasPlace spell normal = (v : V) (s : S) → Is v → HasPlace v s → Fits (spell v s) → Fits (normal v)
 
--- Equal signed bytes, in any spelling, are of certificates that are equal in all that is signed, and spelled alike.
+-- Equal signed bytes, in any spelling, are of certificates that are equal in all that is signed,
+-- and spelled alike.
 abbrev pub DetermineFields : Type 0
 DetermineFields = (c d : SignedFields) (s u : CertificateChoices) → AreSignedFields c → HaveSignedPlaces c s → Fits (to_be_signed c s) → AreSignedFields d → HaveSignedPlaces d u → Fits (to_be_signed d u) → flat (to_be_signed c s) ≡ flat (to_be_signed d u) → (c ≡ d) × (s ≡ u)
 

@@ -21,7 +21,8 @@ rsa_word = codes "AAAAB3NzaC1yc2EAAAADAQABAAAAAgD/"
 abbrev pub rsa_line : List ℕ
 rsa_line = codes "ssh-rsa " ++ rsa_word
 
--- White space at the end is cut: a space, a line end with a carriage return and without, and U+00A0. U+200B is none.
+-- White space at the end is cut: a space, a line end with a carriage return and without, and
+-- U+00A0. U+200B is none.
 abbrev pub LineEnds : Type 0
 LineEnds = IsKeyLine rsa_line rsa_key (codes "")
     × IsKeyLine (rsa_line ++ codes " ") rsa_key (codes "")

@@ -1,4 +1,5 @@
--- Lines of a text, as OpenSSH writes public keys: a first word, a blob in Base64 (RFC 4648, section 4) and a comment, with a space between.
+-- Lines of a text, as OpenSSH writes public keys: a first word, a blob in Base64 (RFC 4648, section
+-- 4) and a comment, with a space between.
 use Rattle.std.specs.Prelude.{◌≡◌, ◌≢◌, ℕ, ◌<◌, ◌||◌, ◌==◌, true, Bool, List, [], ◌∷◌, ◌++◌, length, EachIndex, slice_index}
 use Rattle.std.specs.Char.{is_ascii_alphanumeric}
 use Rattle.std.specs.Str.{trim_end}
@@ -39,7 +40,8 @@ HasWordCharacters word = EachIndex word (λ i. is_word_character (slice_index wo
 abbrev pub IsWithout : ℕ → List ℕ → Type 0
 IsWithout c text = EachIndex text (λ i. slice_index text i ≢ c)
 
--- The text, without the white space at its end, is two words and a comment; neither word is empty or holds a space.
+-- The text, without the white space at its end, is two words and a comment; neither word is empty
+-- or holds a space.
 pub record IsCut (text first word comment : List ℕ) : Type 0 where
   pub is : trim_end text ≡ joined first word comment
   pub some_first : 0 < length first
@@ -53,7 +55,8 @@ pub record IsBlob {V : Type 0} (Spelling : V → List ℕ → Type 0) : Type 0 w
   pub some : (value : V) (blob : List ℕ) → Spelling value blob → 0 < length blob
   pub one : (v w : V) (blob : List ℕ) → Spelling v blob → Spelling w blob → v ≡ w
 
--- A text that, without the white space at its end, is the line of that first word, blob and comment.
+-- A text that, without the white space at its end, is the line of that first word, blob and
+-- comment.
 pub record IsLine (text first blob comment : List ℕ) : Type 0 where
   pub utf8 : IsText text
   pub is : trim_end text ≡ written first blob comment
@@ -61,7 +64,8 @@ pub record IsLine (text first blob comment : List ℕ) : Type 0 where
   pub some_blob : 0 < length blob
   pub characters : HasWordCharacters first
 
--- The text is a line of the value with that comment: the first word is the value's, and the blob spells it.
+-- The text is a line of the value with that comment: the first word is the value's, and the blob
+-- spells it.
 pub record IsLineOf {V : Type 0} (first : V → List ℕ) (Spelling : V → List ℕ → Type 0) (text : List ℕ) (value : V) (comment : List ℕ) : Type 0 where
   pub blob : List ℕ
   pub spelled : Spelling value blob

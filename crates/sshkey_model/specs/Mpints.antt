@@ -2,7 +2,8 @@
 use Rattle.std.specs.Prelude.{◌≡◌, ℕ, zero, suc, List, [], ◌∷◌, Bool, true, false, Option, Some, None, Result, Ok, Err, nat_lt, if◌then◌else◌}
 use Rattle.sshkey_model.specs.Reading.{Fault, FormatEncoding, Front, string_at, checked_at}
 
--- Not the byte 00 alone, nor 00 before a byte below 80. (The RFC forbids a needless leading ff too; it is let through.)
+-- Not the byte 00 alone, nor 00 before a byte below 80. (The RFC forbids a needless leading ff too;
+-- it is let through.)
 abbrev pub is_mpint : List ℕ → Bool
 is_mpint [] = true
 is_mpint (zero ∷ []) = false
@@ -12,7 +13,8 @@ is_mpint (suc a ∷ rest) = true
 abbrev pub IsMpint : List ℕ → Type 0
 IsMpint b = is_mpint b ≡ true
 
--- the bytes of a positive number, without the 00 that may stand first; zero and negative numbers have none
+-- the bytes of a positive number, without the 00 that may stand first; zero and negative numbers
+-- have none
 abbrev pub positive_part : List ℕ → Option (List ℕ)
 positive_part [] = None
 positive_part (zero ∷ rest) = Some rest

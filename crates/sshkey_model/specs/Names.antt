@@ -39,7 +39,8 @@ pub data Algorithm : Type 0 where
   SkEcdsa SkEd25519 : Algorithm
   Other : List ℕ → Algorithm
 
--- RFC 4253, section 6.6; RFC 5656, section 6.2; RFC 8332, section 3; RFC 8709, section 3; PROTOCOL.u2f
+-- RFC 4253, section 6.6; RFC 5656, section 6.2; RFC 8332, section 3; RFC 8709, section 3;
+-- PROTOCOL.u2f
 abbrev pub algorithm_name : Algorithm → List ℕ
 algorithm_name Dsa = codes "ssh-dss"
 algorithm_name (Ecdsa Nistp256) = codes "ecdsa-sha2-nistp256"

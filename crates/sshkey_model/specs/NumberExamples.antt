@@ -62,7 +62,8 @@ PositiveParts = (positive_part [] ≡ None)
 abbrev pub tagged : ℕ → ℕ → List ℕ
 tagged tag n = tag ∷ replicate n 1
 
--- Of a curve with coordinates of n bytes: each tag with its size, one byte off, and the tags that are none.
+-- Of a curve with coordinates of n bytes: each tag with its size, one byte off, and the tags that
+-- are none.
 abbrev pub PointsOf : Curve → ℕ → Type 0
 PointsOf c n = (is_point (field_size c) (tagged 2 n) ≡ true)
     × (is_point (field_size c) (tagged 3 n) ≡ true)
@@ -108,7 +109,8 @@ PointReading = (point_from (tagged 2 32) ≡ Ok (Nistp256, tagged 2 32))
     × (point_from (tagged 4 66) ≡ Err Length)
     × (point_from (tagged 4 10) ≡ Err Length)
 
--- A point string has at most 133 bytes, and that of a security key 65: more is too long, whatever its tag.
+-- A point string has at most 133 bytes, and that of a security key 65: more is too long, whatever
+-- its tag.
 abbrev pub LongPoints : Type 0
 LongPoints = (point_from (tagged 4 133) ≡ Err Length)
     × (point_from (tagged 7 132) ≡ Err Ecdsa)

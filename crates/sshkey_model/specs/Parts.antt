@@ -12,7 +12,8 @@ pub data Parts : Type 0 where
   box : Parts → Parts
   ◌&◌ : Parts → Parts → Parts
 
--- A number stands most significant byte first. A box is the number of its bytes, in four, and then its bytes.
+-- A number stands most significant byte first. A box is the number of its bytes, in four, and then
+-- its bytes.
 unfoldable pub flat : Parts → List ℕ
 flat nothing = []
 flat (bytes b) = b

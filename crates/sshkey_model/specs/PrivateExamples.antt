@@ -123,7 +123,8 @@ RsaPairs = (keypair_at (short_string 12 (codes "rsa-sha2-512") ++ small_rsa_byte
 abbrev pub p384_bytes : List ℕ → List ℕ
 p384_bytes s = short_string 8 (codes "nistp384") ++ short_string 49 (2 ∷ replicate 48 1) ++ short_string 48 s
 
--- The stated curve and the point's are compared before the scalar is read, the algorithm's curve after it.
+-- The stated curve and the point's are compared before the scalar is read, the algorithm's curve
+-- after it.
 abbrev pub EcdsaPairs : Type 0
 EcdsaPairs = (pair_at (Algorithm.Ecdsa Nistp384) (p384_bytes (replicate 48 1)) ≡ Ok ((EcdsaPair Nistp384 (2 ∷ replicate 48 1) (replicate 48 1), Plain), []))
     × (pair_at (Algorithm.Ecdsa Nistp256) (p384_bytes (replicate 48 1)) ≡ Err AlgorithmUnknown)

@@ -190,8 +190,9 @@ private_key_at b = do
 
 -- ---- decoding
 
--- The tag of an encrypted key stands behind the private part with no length of its own, so a byte too much there might be taken for the beginning of something else.
--- Hence an encrypted key must be the last thing there is; bytes behind an unencrypted one are left to what reads on.
+-- The tag of an encrypted key stands behind the private part with no length of its own, so a byte
+-- too much there might be taken for the beginning of something else. Hence an encrypted key must be
+-- the last thing there is; bytes behind an unencrypted one are left to what reads on.
 abbrev pub may_precede : PrivateKey → List ℕ → Bool
 may_precede (Unencrypted k) rest = true
 may_precede (Encrypted k) [] = true

@@ -5,7 +5,8 @@ use Rattle.sshkey_model.specs.Parts.{are_bytes}
 
 -- Why bytes are refused, by the names of the errors.
 pub data Fault : Type 0 where
-  -- of the encoding: a length, a text that is not UTF-8, a name, a rest of so many bytes in a box or behind a value
+  -- of the encoding: a length, a text that is not UTF-8, a name, a rest of so many bytes in a box
+  -- or behind a value
   Length CharacterEncoding Label : Fault
   TrailingData : ℕ → Fault
   -- of what it carries; `PublicKey` is of a private key that has another one
@@ -91,7 +92,8 @@ literal_at text = checked_at (literal_from text) (bytes_at (length text))
 abbrev pub checked_whole : {A B : Type 0} → (A → Result B Fault) → Whole A → Whole B
 checked_whole check read b = read b >>= check
 
--- One after the other up to the end; each may depend on the one before. The number bounds how many there are.
+-- One after the other up to the end; each may depend on the one before. The number bounds how many
+-- there are.
 unfoldable pub list_within : {A : Type 0} → (Option A → Front A) → ℕ → Option A → Whole (List A)
 list_within item n before [] = Ok []
 list_within item zero before (b ∷ rest) = Err Length

@@ -13,7 +13,8 @@ other_fingerprint = record { hash = Sha256; digest = replicate 32 0 }
 abbrev pub refused_at : Bool → List Fingerprint → ℕ → Option Refusal
 refused_at answer fingerprints t = first_refusal (λ q. answer) fingerprints t zero_signed
 
--- From 10 on and before 20; the signature comes first, then the fingerprint, then whether there is such a time.
+-- From 10 on and before 20; the signature comes first, then the fingerprint, then whether there is
+-- such a time.
 abbrev pub RefusalOrder : Type 0
 RefusalOrder = (refused_at true (right_fingerprint ∷ []) 9 ≡ Some OutOfWindow)
     × (refused_at true (right_fingerprint ∷ []) 10 ≡ None)

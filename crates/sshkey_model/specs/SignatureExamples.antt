@@ -88,7 +88,8 @@ SecurityKeySizes = (trailed 63 5 ≡ Err Length)
 abbrev pub components : List ℕ → List ℕ → List ℕ
 components r s = flat (string r & string s)
 
--- Of a curve with coordinates of n bytes: numbers of n bytes, with a 00 before the first too, and no longer ones.
+-- Of a curve with coordinates of n bytes: numbers of n bytes, with a 00 before the first too, and
+-- no longer ones.
 abbrev pub ComponentsOf : ℕ → ℕ → Type 0
 ComponentsOf size n = (ecdsa_blob_from size (components (replicate n 1) (hex "01")) ≡ Ok (components (replicate n 1) (hex "01")))
     × (ecdsa_blob_from size (components (1 ∷ replicate n 1) (hex "01")) ≡ Err Length)

@@ -1,4 +1,5 @@
--- Signatures (RFC 4253, section 6.6; RFC 5656, section 3.1.2; RFC 8332, section 3; RFC 8709, section 6; PROTOCOL.u2f).
+-- Signatures (RFC 4253, section 6.6; RFC 5656, section 3.1.2; RFC 8332, section 3; RFC 8709,
+-- section 6; PROTOCOL.u2f).
 use Rattle.std.specs.Prelude.{◌≡◌, ℕ, suc, ◌-◌, ◌<◌, ◌≤◌, List, ◌++◌, length, take, drop, Bool, true, false, Option, Some, None, Result, Ok, Err, nat_lt, ◌==◌, if◌then◌else◌}
 use Rattle.sshkey_model.specs.Parts.{Parts, bytes, ◌&◌, flat, Fits}
 use Rattle.sshkey_model.specs.Reading.{Fault, Length, Crypto, ◌>>=◌, Front, Whole, string_at, bytes_at, checked_at}

@@ -34,7 +34,8 @@ Boxes = (box_at (whole (bytes_at 2)) (hex "00000002 0102 aa") ≡ Ok (hex "0102"
     × (box_at (whole (bytes_at 2)) (hex "00000003 0102 aa") ≡ Err (TrailingData 1))
     × (box_at (whole (bytes_at 2)) (hex "00000004 0102 aa") ≡ Err Length)
 
--- Texts are UTF-8: no single ff, no half a character, none in more bytes than it needs, no surrogate.
+-- Texts are UTF-8: no single ff, no half a character, none in more bytes than it needs, no
+-- surrogate.
 abbrev pub Texts : Type 0
 Texts = (text_at (hex "00000002 c3a9 aa") ≡ Ok (hex "c3a9", hex "aa"))
     × (text_at (hex "00000004 f09f9880") ≡ Ok (hex "f09f9880", []))

@@ -31,7 +31,8 @@ Window = (IsValidAt 9 → ⊥) × IsValidAt 10 × IsValidAt 19 × (IsValidAt 20 
 abbrev pub longer_digest : List ℕ
 longer_digest = hex "f079b878d4e2624f65e9647ce48a98f942b80176a345fe5ab8b0ff408c426502f01a90e210389767466db4fba1c86f081ec59bb76ceef06d3e1ba548557a0784"
 
--- The right SHA-512 digest is no SHA-256 fingerprint, whatever hash it is given with; nor is the right SHA-256 digest given with the other hash.
+-- The right SHA-512 digest is no SHA-256 fingerprint, whatever hash it is given with; nor is the
+-- right SHA-256 digest given with the other hash.
 abbrev pub OtherHash : Type 0
 OtherHash = (IsValid (λ q. true) (record { hash = Sha512; digest = longer_digest } ∷ []) 10 zero_signed → ⊥)
     × (IsValid (λ q. true) (record { hash = Sha256; digest = longer_digest } ∷ []) 10 zero_signed → ⊥)

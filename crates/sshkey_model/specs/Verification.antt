@@ -16,7 +16,8 @@ pub record Question : Type 0 where
 abbrev pub asked : Key → List ℕ → Signature → Question
 asked k message g = record { algorithm = g.algorithm; key = k; message = message; blob = g.blob }
 
--- What a security key signs in place of the message (PROTOCOL.u2f): the digest of the application, flags and counter, and the digest of the message.
+-- What a security key signs in place of the message (PROTOCOL.u2f): the digest of the application,
+-- flags and counter, and the digest of the message.
 abbrev pub security_key_message : List ℕ → List ℕ → List ℕ → List ℕ
 security_key_message application message blob = sha256 application ++ trailer blob ++ sha256 message
 
@@ -24,7 +25,9 @@ security_key_message application message blob = sha256 application ++ trailer bl
 abbrev pub asked_within : Algorithm → Key → List ℕ → List ℕ → Signature → Question
 asked_within a k application message g = record { algorithm = a; key = k; message = security_key_message application message g.blob; blob = without_trailer g.blob }
 
--- The dispatch: a signature is asked about under these pairs of a key and an algorithm, and under no others (RFC 4253, section 6.6; RFC 5656, section 3.1; RFC 8332, section 3; RFC 8709, section 6; PROTOCOL.u2f). An RSA signature without a hash, by SHA-1, is not among them.
+-- The dispatch: a signature is asked about under these pairs of a key and an algorithm, and under
+-- no others (RFC 4253, section 6.6; RFC 5656, section 3.1; RFC 8332, section 3; RFC 8709, section
+-- 6; PROTOCOL.u2f). An RSA signature without a hash, by SHA-1, is not among them.
 abbrev pub question_under : Algorithm → Key → List ℕ → Signature → Option Question
 question_under Algorithm.Dsa (Dsa k) m g = Some (asked (Dsa k) m g)
 question_under Algorithm.Dsa _ m g = None

@@ -146,7 +146,8 @@ pub fn normal_ssh_signatures()
     ensures { DetermineValues IsSshSignature normal_ssh_signature }
 {}
 
-/// The normal form of a public key is read as that key with the plain name: normalising twice is normalising once.
+/// The normal form of a public key is read as that key with the plain name: normalising twice is
+/// normalising once.
 pub fn read_back_key()
     ensures { ReadBackPlain IsKey key (λ _. Plain) key_at }
 {}

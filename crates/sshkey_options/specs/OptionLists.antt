@@ -1,5 +1,5 @@
--- Options are read as the model reads them, without the choices of their spelling; and their format. What is proved here
--- need not be believed.
+-- Options are read as the model reads them, without the choices of their spelling; and their
+-- format. What is proved here need not be believed.
 use Rattle.std.proofs.Common.{◌≡◌, ℕ, zero, suc, Bool, true, false, Option, Some, None, List, [], ◌∷◌, length, Result, Ok, Err, refl, sym, ◌∙◌, cond, inl, inr}
 use Rattle.std.specs.Prelude.{IsOkAnd}
 use Rattle.sshkey_model.specs.Reading.{Fault, Length, FormatEncoding, ◌>>=◌, whole, number_at, bytes_at, box_at, list_within, list_whole}
@@ -142,6 +142,7 @@ option_lengths before b m (inr o) = go (text_at b) o
 pub options_lengths : AreLengths options_value_at (OverrunsBoxed (OverrunsList item OverrunsOption))
 options_lengths b m o = sym (options_is b) ∙ box_list_lengths option_lengths b m o
 
--- options up to the end of a string (PROTOCOL.certkeys): memory is needed where the name of the first stands in it
+-- options up to the end of a string (PROTOCOL.certkeys): memory is needed where the name of the
+-- first stands in it
 abbrev pub options_format : Format (List CertificateOption)
 options_format = record { Spells = SpellsOptions; read = options_value_at; needs = NeedsBoxed HasString; overruns = OverrunsBoxed (OverrunsList item OverrunsOption); grammar = options_grammar; lengths = options_lengths }

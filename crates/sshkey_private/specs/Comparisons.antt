@@ -9,7 +9,8 @@ use Rattle.sshkey_public.specs.Comparisons.{IsOfKey, content_of}
 use Rattle.sshkey_private.specs.declared.private_key.PrivateKey.{PrivateKey}
 use Rattle.sshkey_private.specs.PrivateKeys.{key_fields, data_of, outer_of}
 
--- What is compared of a private key: all but checkint and tag. A pair has its ciphertext's place empty, and a ciphertext the pair's.
+-- What is compared of a private key: all but checkint and tag. A pair has its ciphertext's place
+-- empty, and a ciphertext the pair's.
 pub record Seen : Type 0 where
   pub cipher : Cipher
   pub kdf : Kdf

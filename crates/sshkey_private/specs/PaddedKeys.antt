@@ -1,4 +1,5 @@
--- Private keys that end in more padding than is written (PROTOCOL.key): other programs pad to 16 bytes, or by a whole block more.
+-- Private keys that end in more padding than is written (PROTOCOL.key): other programs pad to 16
+-- bytes, or by a whole block more.
 use Rattle.std.specs.Prelude.{◌≡◌, ℕ, ◌+◌, ◌%◌, ◌<◌, List, length}
 use Rattle.std.specs.Int.{w32}
 use Rattle.sshkey_model.specs.Parts.{Parts, bytes, number, box, ◌&◌, flat}
@@ -13,7 +14,8 @@ pub record PaddedChoices : Type 0 where
   pub key : PrivateKeyChoices
   pub padding : ℕ
 
--- the checkint twice, the pair, the comment and so many bytes 01, 02, 03 and so on, in a string; or the ciphertext and its tag
+-- the checkint twice, the pair, the comment and so many bytes 01, 02, 03 and so on, in a string; or
+-- the ciphertext and its tag
 abbrev pub padded_content : PrivateKey → KeyPairChoices → ℕ → Parts
 padded_content (Unencrypted k) s n = box (private_part k s & bytes (rising 1 n))
 padded_content (Encrypted k) s n = content (Encrypted k) s

@@ -1,4 +1,5 @@
--- A `&mut [u8]` is lent to a call, and then shared for all the time that it has left. Assumes `Logic`.
+-- A `&mut [u8]` is lent to a call, and then shared for all the time that it has left. Assumes
+-- `Logic`.
 use Rattle.std.proofs.Common.{◌∙◌, arith}
 use Rattle.std.proofs.lemmas.List.{length-take, take-append-drop}
 use Rattle.std.specs.Prelude.{Result, Ok, Err, ◌++◌, drop}
@@ -64,7 +65,8 @@ module _ {M : Type 1} {𝓤 : Ura M} (𝓛 : Logic 𝓤) (κ : Lft) (q : Share) 
       use2 𝓛 (later (some (λ (δ : GName). ‵ ((bare.MutSlice erased κ' u8).own_val (record s { ghost_name = δ })) ⊛ Kept δ))) (sl_relend 𝓛 u8 κ q κ' b o s.ghost_name s.now) $ await ! tt $ pick ! (λ δ. split ! $ fsplit ! $
       feq_i ! (List Val) word word refl $ fjoin ! $ fjoin ! $ now ! $ show ! (Lent ℓ') δ $ done !)))
 
-  -- The loan is over, and left the slice with those elements: it is a `&[u8]` from here on, and its name ends at them.
+  -- The loan is over, and left the slice with those elements: it is a `&[u8]` from here on, and its
+  -- name ends at them.
   abbrev pub Shared : Lifetime → List ℕ → Fml
   Shared ℓ ys = (ShrSlice ℓ κ u8).own_val (record { ref_ptr = s.ref_ptr; now = ys }) word
 

@@ -12,8 +12,8 @@ use Rattle.sshkey_base.specs.declared.error.Error.TheVariants.{AlgorithmUnknown,
 use Rattle.sshkey_public.specs.Lines.{IsWordOf, IsNoWord}
 use Rattle.sshkey_public.specs.Words.{HasFaultOfWords}
 
--- `Base64` of a length that is no multiple of four, and the first fault of the bytes whose word it is. Of another word the
--- fault is open.
+-- `Base64` of a length that is no multiple of four, and the first fault of the bytes whose word it
+-- is. Of another word the fault is open.
 pub record HasFaultOfWord {Y : Type 0} (read : Whole Y) (word : List ℕ) (e : Error) : Type 0 where
   pub odd : length word % 4 ≢ 0 → e ≡ Encoding Base64
   pub first : (blob : List ℕ) → IsBytes blob → word ≡ encode_of standard blob → IsErrAnd (read blob) (λ fault. cause e ≡ Faulty fault)
@@ -23,8 +23,8 @@ abbrev pub RefusesWord : {X Y : Type 0} → Format Y → List ℕ → Result X E
 RefusesWord f word (Ok x) = Unit {0}
 RefusesWord f word (Err e) = cause e ≢ NoMemory → HasFaultOfWord (whole f.read) word e
 
--- The fault of the words where the text is not cut into them, that of the second where it is the word of no value, and
--- `AlgorithmUnknown` where the first is not the value's name.
+-- The fault of the words where the text is not cut into them, that of the second where it is the
+-- word of no value, and `AlgorithmUnknown` where the first is not the value's name.
 pub record HasFaultOfLine {V Y : Type 0} (read : Whole Y) (name : V → List ℕ) (Spelling : V → List ℕ → Type 0) (text : List ℕ) (e : Error) : Type 0 where
   pub words : ((first word comment : List ℕ) → IsCut text first word comment → ⊥) → HasFaultOfWords text e
   pub second : (first word comment : List ℕ) → IsCut text first word comment → IsNoWord Spelling word → HasFaultOfWord read word e

@@ -23,18 +23,21 @@ signed_parts f message = signed_message (ssh_signature_of f).namespace (ssh_sign
 abbrev pub is_security_key : Key → Bool
 is_security_key k = is_sk_ecdsa k || is_sk_ed25519 k
 
--- It is an SSH signature of the message, in the namespace, with nothing reserved, that the verifier accepts under the key.
+-- It is an SSH signature of the message, in the namespace, with nothing reserved, that the verifier
+-- accepts under the key.
 pub record IsMade (accepts : Question → Bool) (k : Key) (n message : List ℕ) (h : HashAlg) (f : SshSig) : Type 0 where
   pub verified : IsVerified accepts k n message (ssh_signature_of f)
   pub version : (ssh_signature_of f).version ≡ 1
   pub reserved : (ssh_signature_of f).reserved ≡ []
   pub by : (ssh_signature_of f).hash ≡ hash_of h
 
--- What a call may ask the signer to sign: these bytes, where there is a namespace, no security key holds the key, and they fit.
+-- What a call may ask the signer to sign: these bytes, where there is a namespace, no security key
+-- holds the key, and they fit.
 abbrev pub MaySign : {S : Type 0} → (S → List ℕ → Type 0) → (S → KeyData) → S → List ℕ → List ℕ → HashAlg → Type 0
 MaySign permits public_of s n message h = n ≢ [] → is_security_key (key_of (public_of s)) ≡ false → BoxesFit (signed_message n [] (hash_of h) message) → permits s (flat (signed_message n [] (hash_of h) message))
 
--- Why nothing was made: `Length` where the parts do not fit, else memory was refused, or the signer may refuse their bytes so.
+-- Why nothing was made: `Length` where the parts do not fit, else memory was refused, or the signer
+-- may refuse their bytes so.
 abbrev pub IsNotMade : (List ℕ → Error → Type 0) → Parts → Error → Type 0
 IsNotMade refuses parts e = ((BoxesFit parts → ⊥) × (e ≡ Encoding Length)) ⊎ (BoxesFit parts × ((e ≡ Memory) ⊎ refuses (flat parts) e))
 

@@ -1,4 +1,5 @@
--- The format of SSH signatures, by the terms that it is read as. The grammars are proved, and need not be believed.
+-- The format of SSH signatures, by the terms that it is read as. The grammars are proved, and need
+-- not be believed.
 use Rattle.std.proofs.Common.{◌≡◌, ℕ, ltb, Bool, true, false, cond, List, length, Result, Ok, Err, refl, subst}
 use Rattle.std.specs.Int.{w32}
 use Rattle.sshkey_model.specs.Parts.{number}

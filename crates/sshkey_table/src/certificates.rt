@@ -9,8 +9,8 @@ use sshkey_public::PublicKey;
 use sshkey_testing::AcceptAll;
 use std::alloc::Global;
 
-/// The algorithm of the key in the certificate of a line, which a verifier that accepts all accepts,
-/// and the line that is written of it.
+/// The algorithm of the key in the certificate of a line, which a verifier that accepts all
+/// accepts, and the line that is written of it.
 pub(crate) fn line(alloc: Global, line: &str) -> Result<String> {
     let certificate = Certificate::from_openssh(alloc, line)?;
     algorithm_and_line(alloc, &certificate)

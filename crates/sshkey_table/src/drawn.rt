@@ -10,8 +10,8 @@ use sshkey_kinds::Ed25519PublicKey;
 use sshkey_testing::Count;
 use std::alloc::Global;
 
-/// The certificate of a nonce that is drawn for the key that the bytes are, from second 10 to 20, for
-/// all principals, signed by that key.
+/// The certificate of a nonce that is drawn for the key that the bytes are, from second 10 to 20,
+/// for all principals, signed by that key.
 pub(crate) fn certificate(alloc: Global, bytes: &[u8]) -> Result<String> {
     let key = Ed25519PublicKey::try_from(bytes)?;
     let builder = for_all(begun(alloc, key)?)?;

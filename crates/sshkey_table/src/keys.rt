@@ -68,8 +68,8 @@ pub(crate) fn art(alloc: Global, parts: &[Vec<u8>]) -> Result<String> {
     Ok(art.replace(alloc, '\n', "; ")?)
 }
 
-/// The fingerprint of the key whose algorithm the first byte string names, and whose body the second
-/// one begins with.
+/// The fingerprint of the key whose algorithm the first byte string names, and whose body the
+/// second one begins with.
 pub(crate) fn named(alloc: Global, parts: &[Vec<u8>]) -> Result<String> {
     let algorithm = Algorithm::new(alloc, text(parts, 0)?)?;
     let key = KeyData::decode_as(alloc, &mut part(parts, 1), algorithm)?;

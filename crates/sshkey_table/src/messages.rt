@@ -16,7 +16,8 @@ pub(crate) fn data(alloc: Global, parts: &[Vec<u8>]) -> Result<String> {
     Ok(hex::encode(alloc, &signed)?)
 }
 
-/// What the SSH signature that the first byte string spells signs of the message that is the second.
+/// What the SSH signature that the first byte string spells signs of the message that is the
+/// second.
 pub(crate) fn bytes(alloc: Global, parts: &[Vec<u8>]) -> Result<String> {
     let signature = SshSig::from_bytes(alloc, part(parts, 0))?;
     signed(alloc, &signature, part(parts, 1))

@@ -67,8 +67,8 @@ fn held_by(key: &PrivateKey) -> &'static str {
     }
 }
 
-/// The comment of the private key that the first byte string spells, whether a copy with the comment
-/// that the second one is equals it, and the public line of that copy.
+/// The comment of the private key that the first byte string spells, whether a copy with the
+/// comment that the second one is equals it, and the public line of that copy.
 pub(crate) fn commented(alloc: Global, parts: &[Vec<u8>]) -> Result<String> {
     let comment = text(parts, 1)?;
     let key = PrivateKey::from_bytes(alloc, part(parts, 0))?;
@@ -98,8 +98,8 @@ fn line_of(alloc: Global, key: PrivateKey) -> Result<String> {
     PublicKey::from(key).to_openssh(alloc)
 }
 
-/// The bytes of the private key that is made of a pair, which the first byte string spells, and of a
-/// comment, where there is one.
+/// The bytes of the private key that is made of a pair, which the first byte string spells, and of
+/// a comment, where there is one.
 pub(crate) fn of_pair(alloc: Global, parts: &[Vec<u8>]) -> Result<String> {
     let key = key_of_pair(alloc, parts)?;
     written(alloc, &key)

@@ -34,9 +34,9 @@ pub(crate) fn made(alloc: Global, parts: &[Vec<u8>]) -> Result<String> {
     Ok(format!(in alloc; "{} bytes", signature.as_bytes().len())?)
 }
 
-/// Whether the key that the first byte string spells accepts the signature that the third one spells
-/// of the message that is the second, where the verifier accepts all that it is asked; or the name of
-/// the algorithm for which it asks nothing.
+/// Whether the key that the first byte string spells accepts the signature that the third one
+/// spells of the message that is the second, where the verifier accepts all that it is asked; or
+/// the name of the algorithm for which it asks nothing.
 pub(crate) fn accepted(alloc: Global, parts: &[Vec<u8>]) -> Result<String> {
     let key: KeyData = decode_whole(alloc, part(parts, 0))?;
     answer(alloc, verify(alloc, &key, parts))

@@ -1,5 +1,5 @@
-//! Keys, signatures, certificates and lists that are slices of their input. A key, a signature and a
-//! certificate are answered as their owned values are.
+//! Keys, signatures, certificates and lists that are slices of their input. A key, a signature and
+//! a certificate are answered as their owned values are.
 
 use crate::bytes::{part, text};
 use crate::signatures;

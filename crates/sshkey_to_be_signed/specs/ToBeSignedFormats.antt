@@ -1,5 +1,5 @@
--- What a certificate's signature is over (PROTOCOL.certkeys), by the terms that it is read as. What is proved here need
--- not be believed.
+-- What a certificate's signature is over (PROTOCOL.certkeys), by the terms that it is read as. What
+-- is proved here need not be believed.
 use Rattle.std.proofs.Common.{◌≡◌, ℕ, List, ◌++◌, Result, Ok, refl, sym, subst, ◌∙◌}
 use Rattle.sshkey_model.specs.Certificates.{CertificateType, SignedFields, signed_fields_at}
 use Rattle.sshkey_model.specs.Grammar.{IsGrammar}

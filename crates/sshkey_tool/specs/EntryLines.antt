@@ -4,7 +4,8 @@ use Rattle.std.specs.List.{AllZip, list_any}
 use Rattle.sshkey_files.specs.Entries.{entries, IsNoEntry}
 use Rattle.sshkey_tool.specs.Lines.{IsOneLine, in_lines, refusal_line}
 
--- The text of the entry; or that it is refused, and a reason of one line. The second half says whether it is.
+-- The text of the entry; or that it is refused, and a reason of one line. The second half says
+-- whether it is.
 abbrev pub ShowsEntry : {Y : Type 0} → (List ℕ → Y → Type 0) → (Y → List ℕ) → List ℕ → List ℕ × Bool → Type 0
 ShowsEntry {Y} IsEntry text_of entry (line, false) = (y : Y) × IsEntry entry y × (line ≡ text_of y)
 ShowsEntry IsEntry text_of entry (line, true) = IsNoEntry IsEntry entry × ((why : List ℕ) × IsOneLine why × (line ≡ refusal_line why))

@@ -11,6 +11,7 @@ abbrev pub WritesLine : Option (List ℕ) → Option (List ℕ) → List ℕ →
 WritesLine old new line true = Appends old new line
 WritesLine old new line false = IsBegun old new line
 
--- A line is written whole with its status, or only a beginning of it is written and the status is 1.
+-- A line is written whole with its status, or only a beginning of it is written and the status is
+-- 1.
 abbrev pub Writes : Option (List ℕ) → Option (List ℕ) → List ℕ → ℕ → ℕ → Type 0
 Writes old new line wanted status = (Appends old new line × (status ≡ wanted)) ⊎ (IsBegun old new line × (status ≡ 1))

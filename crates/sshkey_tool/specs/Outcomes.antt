@@ -69,7 +69,8 @@ abbrev pub PushesLine : {U E : Type 0} → List ℕ → List ℕ → List ℕ �
 PushesLine old new text (Ok _) = new ≡ old ++ (text ++ line_end)
 PushesLine old new text (Err _) = new ≡ old
 
--- The line of an entry stands behind what stood, and whether the entry is refused is said; or the machine failed, and nothing does.
+-- The line of an entry stands behind what stood, and whether the entry is refused is said; or the
+-- machine failed, and nothing does.
 abbrev pub PushesEntry : EntryFile → List ℕ → List ℕ → List ℕ → Result Bool Error → Type 0
 PushesEntry file entry old new (Ok refused) = (line : List ℕ) × ShowsFileEntry file entry (line, refused) × (new ≡ old ++ (line ++ line_end))
 PushesEntry file entry old new (Err e) = IsMachineFault e × (new ≡ old)

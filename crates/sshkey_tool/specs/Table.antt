@@ -61,7 +61,8 @@ abbrev pub ShowsFileEntry : EntryFile → List ℕ → List ℕ × Bool → Type
 ShowsFileEntry AuthorizedKeys = ShowsEntry IsAuthorizedKey authorized_text
 ShowsFileEntry KnownHosts = ShowsEntry IsKnownHost known_text
 
--- The bytes are the line that the command asks for, or a file of its entries, and this text is shown of it.
+-- The bytes are the line that the command asks for, or a file of its entries, and this text is
+-- shown of it.
 abbrev pub IsOfLine : Command → List ℕ → List ℕ → Type 0
 IsOfLine (commands.Key c) bytes text =
     (k : Key) × (comment : List ℕ) × IsKeyLine bytes k comment × (text ≡ key_text c k comment)
@@ -151,7 +152,8 @@ pub record FailsWithin (file : EntryFile) (entry : List ℕ) (old new : Option (
   pub begun : IsBegun old new (line ++ line_end)
   pub one : status ≡ 1
 
--- An entry is left behind the lines of the first ones: the output failed within its line, or the line of a fault stands there.
+-- An entry is left behind the lines of the first ones: the output failed within its line, or the
+-- line of a fault stands there.
 pub record IsCutShort (file : EntryFile) (input old new : Option (List ℕ)) (status : ℕ) : Type 0 where
   pub shown : List ℕ
   pub entry : List ℕ
@@ -161,7 +163,8 @@ pub record IsCutShort (file : EntryFile) (input old new : Option (List ℕ)) (st
   pub written : Appends old between shown
   pub ends : FailsWithin file entry between new status ⊎ WritesFault between new status
 
--- The table's line is written with its status, or that of a fault. What is shown of a file is written as it is made.
+-- The table's line is written with its status, or that of a fault. What is shown of a file is
+-- written as it is made.
 abbrev pub Runs : List (List ℕ) → Option (List ℕ) → Option (List ℕ) → Option (List ℕ) → ℕ → Type 0
 Runs words input old new status =
     ((a : Answer) × IsAnswer words input a × Writes old new (answer_line a) (status_of a) status)

@@ -25,11 +25,12 @@ impl Builder {
     /// revoke: set another.
     ///
     /// A key under a private-use name is not refused. Under that of another kind, as
-    /// `ssh-ed25519@openssh.com`, what is signed is a certificate of that kind's key, as `new` says.
+    /// `ssh-ed25519@openssh.com`, what is signed is a certificate of that kind's key, as `new`
+    /// says.
     ///
-    /// The certificate is valid, as `validate_at` has it, at each time of its window and at no other,
-    /// by the signer's `raw`, for whoever gives the fingerprint of the signer's key and for nobody
-    /// else.
+    /// The certificate is valid, as `validate_at` has it, at each time of its window and at no
+    /// other, by the signer's `raw`, for whoever gives the fingerprint of the signer's key and for
+    /// nobody else.
     ///
     /// Fails with `CertificateFieldInvalid(Field::ValidPrincipals)` if no principal was named and
     /// not all were made valid, whatever memory there is. Else, unless memory runs out, with

@@ -20,8 +20,9 @@ impl Certificate {
     /// The certificate of these fields, with the signer's signature and that comment.
     ///
     /// A key under a private-use name is not refused. Where that is another kind's name, as
-    /// `ssh-ed25519@openssh.com` is, the signed bytes are those of a certificate of that kind's key,
-    /// and so is the certificate to whoever reads it: refuse such keys before (`KeyData::is_other`).
+    /// `ssh-ed25519@openssh.com` is, the signed bytes are those of a certificate of that kind's
+    /// key, and so is the certificate to whoever reads it: refuse such keys before
+    /// (`KeyData::is_other`).
     ///
     /// Fails with `Length` if a string in the bytes to be signed would exceed 2^32 - 1 bytes, and
     /// then the signer is not asked. Any other failure is `Memory`, or an error of the signer's

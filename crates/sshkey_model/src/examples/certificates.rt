@@ -59,7 +59,8 @@ pub fn signed_bytes()
     ensures { SignedBytes }
 {}
 
-/// A certificate of 183 bytes whose signature key has a name with a hash: 153 bytes are signed, and 178 are written.
+/// A certificate of 183 bytes whose signature key has a name with a hash: 153 bytes are signed, and
+/// 178 are written.
 pub fn signature_key_names()
     ensures { SignatureKeyNames }
 {}

@@ -12,7 +12,8 @@ pub fn ed25519_sizes()
     ensures { Ed25519Sizes }
 {}
 
-/// An RSA key of 29 bytes under a name with a hash (RFC 8332, section 3), and its normal form of 24 bytes.
+/// An RSA key of 29 bytes under a name with a hash (RFC 8332, section 3), and its normal form of 24
+/// bytes.
 pub fn rsa_names()
     ensures { RsaNames }
 {}
@@ -22,7 +23,8 @@ pub fn mpint_keys()
     ensures { MpintKeys }
 {}
 
-/// An ECDSA key states its curve (RFC 5656, section 3.1), which its algorithm and its point have too.
+/// An ECDSA key states its curve (RFC 5656, section 3.1), which its algorithm and its point have
+/// too.
 pub fn ecdsa_keys()
     ensures { EcdsaKeys }
 {}

@@ -17,12 +17,14 @@ pub fn algorithm_names()
     ensures { AlgorithmNames }
 {}
 
-/// Each algorithm is written and read by its fixed name in certificates; RSA has one there, with a hash and without.
+/// Each algorithm is written and read by its fixed name in certificates; RSA has one there, with a
+/// hash and without.
 pub fn certificate_names()
     ensures { CertificateNames }
 {}
 
-/// Private-use names (RFC 4251, section 6): 64 bytes and 65, ASCII and not, no at sign, one and two.
+/// Private-use names (RFC 4251, section 6): 64 bytes and 65, ASCII and not, no at sign, one and
+/// two.
 pub fn own_names()
     ensures { OwnNames }
 {}

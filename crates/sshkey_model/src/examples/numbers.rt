@@ -2,7 +2,8 @@
 
 ghost use Rattle.sshkey_model.specs.NumberExamples.{MpintForms, MpintReading, PositiveParts, Points, PointReading, LongPoints};
 
-/// Which byte strings are mpints (RFC 4251, section 5): none with a needless 00, but those with a needless ff.
+/// Which byte strings are mpints (RFC 4251, section 5): none with a needless 00, but those with a
+/// needless ff.
 pub fn mpint_forms()
     ensures { MpintForms }
 {}

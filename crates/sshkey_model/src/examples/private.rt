@@ -47,7 +47,8 @@ pub fn read_short_scalars()
     ensures { ReadShortScalars }
 {}
 
-/// Where 32 bytes are wanted: fewer that are no mpint or a negative one, 33 that begin with 01, and 34.
+/// Where 32 bytes are wanted: fewer that are no mpint or a negative one, 33 that begin with 01, and
+/// 34.
 pub fn refused_scalars()
     ensures { RefusedScalars }
 {}

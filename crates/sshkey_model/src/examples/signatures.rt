@@ -8,12 +8,14 @@ pub fn security_key_signatures()
     ensures { SecurityKeySignatures }
 {}
 
-/// Signatures of Ed25519 and RSA keys (RFC 8709, section 6; RFC 8332, section 3); none under `ssh-rsa`.
+/// Signatures of Ed25519 and RSA keys (RFC 8709, section 6; RFC 8332, section 3); none under
+/// `ssh-rsa`.
 pub fn plain_signatures()
     ensures { PlainSignatures }
 {}
 
-/// The sizes of signatures: 40 bytes of DSA, 64 of Ed25519, any of RSA with a hash, at least 1 of a private-use algorithm.
+/// The sizes of signatures: 40 bytes of DSA, 64 of Ed25519, any of RSA with a hash, at least 1 of a
+/// private-use algorithm.
 pub fn signature_sizes()
     ensures { SignatureSizes }
 {}
@@ -23,7 +25,8 @@ pub fn security_key_sizes()
     ensures { SecurityKeySizes }
 {}
 
-/// The numbers of an ECDSA signature (RFC 5656, section 3.1.2) have at most as many bytes as a coordinate.
+/// The numbers of an ECDSA signature (RFC 5656, section 3.1.2) have at most as many bytes as a
+/// coordinate.
 pub fn component_sizes()
     ensures { ComponentSizes }
 {}

@@ -2,7 +2,8 @@
 
 ghost use Rattle.sshkey_model.specs.SshSignatureExamples.{SignedData, SignedMessage, KeyLine, Versions, SshSignatureFaults, SignerNames};
 
-/// The 64 bytes that a signature in the namespace `file` over the empty message is over (PROTOCOL.sshsig).
+/// The 64 bytes that a signature in the namespace `file` over the empty message is over
+/// (PROTOCOL.sshsig).
 pub fn signed_data()
     ensures { SignedData }
 {}

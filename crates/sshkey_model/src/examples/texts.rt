@@ -2,7 +2,8 @@
 
 ghost use Rattle.sshkey_model.specs.TextExamples.{Fingerprint, RsaFingerprint, WrittenLines};
 
-/// The fingerprints of an Ed25519 key by both hashes, and their texts in unpadded Base64 (RFC 4648, section 3.2).
+/// The fingerprints of an Ed25519 key by both hashes, and their texts in unpadded Base64 (RFC 4648,
+/// section 3.2).
 pub fn fingerprint()
     ensures { Fingerprint }
 {}

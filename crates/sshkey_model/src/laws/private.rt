@@ -1,4 +1,5 @@
-//! Laws of key derivations, key pairs and private keys: each stands for all values and all bytes, and makes no call.
+//! Laws of key derivations, key pairs and private keys: each stands for all values and all bytes,
+//! and makes no call.
 
 ghost use Rattle.std.specs.Prelude.{ℕ};
 ghost use Rattle.sshkey_model.specs.Parts.{IsPrefixFree, Any};
@@ -76,17 +77,20 @@ pub fn read_back_kdf()
     ensures { ReadBack Any kdf kdf_at }
 {}
 
-/// The normal form of a key pair is read as that pair with plain choices: normalising twice is normalising once.
+/// The normal form of a key pair is read as that pair with plain choices: normalising twice is
+/// normalising once.
 pub fn read_back_keypair()
     ensures { ReadBackPlain IsKeyPair keypair (λ _. plain_pair) keypair_at }
 {}
 
-/// The normal form of a private key is read as that key with plain choices: normalising twice is normalising once.
+/// The normal form of a private key is read as that key with plain choices: normalising twice is
+/// normalising once.
 pub fn read_back_private_key()
     ensures { ReadBackPlain IsPrivateKey private_key (λ _. plain_private_key) private_key_at }
 {}
 
-/// A private key is decoded exactly where it may stand before what follows: an encrypted one must be the last.
+/// A private key is decoded exactly where it may stand before what follows: an encrypted one must
+/// be the last.
 pub fn decode_private_key()
     ensures { IsDecoder decoded_private_key_at }
 {}

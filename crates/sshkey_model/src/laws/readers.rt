@@ -1,5 +1,6 @@
-//! Laws of the plain readers: each takes exactly the spellings of its kind from the front of any list of bytes, and where
-//! a value may be spelled in several ways, it also gives the choices that were made.
+//! Laws of the plain readers: each takes exactly the spellings of its kind from the front of any
+//! list of bytes, and where a value may be spelled in several ways, it also gives the choices that
+//! were made.
 
 ghost use Rattle.std.specs.Prelude.{ℕ};
 ghost use Rattle.sshkey_model.specs.Parts.{Any, number};
@@ -153,8 +154,8 @@ pub fn exact_kdf()
     ensures { IsGrammar (Spells Any kdf) kdf_at }
 {}
 
-/// Private scalars of a size are read exactly where they are spelled, with a leading 00 and without,
-/// and as the shortest mpint.
+/// Private scalars of a size are read exactly where they are spelled, with a leading 00 and
+/// without, and as the shortest mpint.
 pub fn exact_scalar()
     ensures { (size : ℕ) → IsGrammar (SpellsAs (IsScalar size) HasScalarPlaces scalar)
         (scalar_at size) }

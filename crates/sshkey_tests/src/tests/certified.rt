@@ -186,7 +186,8 @@ pub(crate) fn dsa_user() -> Certified {
     }
 }
 
-/// `-I sk -n s -O clear -O no-touch-required -V 20200101000000Z:20300101000000Z`, by an Ed25519 key.
+/// `-I sk -n s -O clear -O no-touch-required -V 20200101000000Z:20300101000000Z`, by an Ed25519
+/// key.
 pub(crate) fn sk_ecdsa_user() -> Certified {
     Certified {
         base64: "AAAAK3NrLWVjZHNhLXNoYTItbmlzdHAyNTYtY2VydC12MDFAb3BlbnNzaC5jb20AAAAg8gPHBfCsQ3dZDroa7rIVAMHfu9nsw1JEK9RL28LECDwAAAAIbmlzdHAyNTYAAABBBHlnZDcA+zy0u2fcCWtSpQcE+0W+21PLdrzpUXqqAP/NptKnbkSLGOlLh+7rDTgXoMl/VFQf/zSCLlajhgY2T44AAAAEc3NoOgAAAAAAAAAAAAAAAQAAAAJzawAAAAUAAAABcwAAAABeC+EAAAAAAHDb2IAAAAAAAAAAGQAAABFuby10b3VjaC1yZXF1aXJlZAAAAAAAAAAAAAAAMwAAAAtzc2gtZWQyNTUxOQAAACBpxvBgPkFccKMd9mrPcvlu00WOy1i9GBgHYXnHoseU+wAAAFMAAAALc3NoLWVkMjU1MTkAAABAshGStxLjOhX0ptwCpsGORP3OJFabLulsIbCU1imZmhPB+i3cdwIYq/guld953V6TgzkSdPpXE1/aySvFtyEWBA==",

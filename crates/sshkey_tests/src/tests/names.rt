@@ -1,4 +1,5 @@
-//! Names that have no line in the table: defaults, copies, parsing, and names in a room of one's own.
+//! Names that have no line in the table: defaults, copies, parsing, and names in a room of one's
+//! own.
 
 use super::support::{are_alike, is_wanted};
 use sshkey_base::{

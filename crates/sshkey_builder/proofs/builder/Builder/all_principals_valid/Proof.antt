@@ -1,4 +1,5 @@
--- `all_principals_valid` hands back the builder that `chain_all_principals_valid` answers. Assumes `Logic`.
+-- `all_principals_valid` hands back the builder that `chain_all_principals_valid` answers. Assumes
+-- `Logic`.
 use Rattle.sshkey_builder.proofs.Chained.{◌≡◌, refl, sym, [], ◌∷◌, named, id⊢, ftrue, flft, fact, tables, ‵, ◌⊛◌, raw, some, later, ◌$◌, ◌∵◌, !, qed, move, split, join, fjoin, rewrite, use1, suffices, frame, pick, await, drop, done, stop, addr, returns, enter, and_then, no_more, alloc_all, pass_all, free_all, look_at, get, through, sets, lands_as, RefMutOf, no, Is, shows, NamedLft, mut_vals, mut_Tells, plain, nothing, heard, peeks, calls_at, lasts, Lasts, triple_of, framed, Stays, stay_dropped, ends_at, Goes-spent_ref, proved, ChainsAlways, handed_back, R, Said, LoanResult, BackResult, loan_result_laws, back_result_laws}
 use Rattle.sshkey_builder.specs.contracts.builder.Builder.all_principals_valid as F
 use Rattle.sshkey_builder.specs.contracts.builder.Builder.chain_all_principals_valid as g

@@ -1,4 +1,5 @@
--- `encode_openssh` lends its slice to `write_openssh`, and then hands it to `filled_text` as it stands. Assumes `Logic`.
+-- `encode_openssh` lends its slice to `write_openssh`, and then hands it to `filled_text` as it
+-- stands. Assumes `Logic`.
 use mathlib.Core.Path.{refl}
 use Prim.Native.Nat.{ℕ}
 use mathlib.Core.List.{List, [], ◌∷◌}
@@ -97,10 +98,12 @@ encode_openssh_spec 𝓤 𝓛 𝓜 𝓡 wired =
     await ! tt $ pick ! (λ h. split ! $ split ! $ move ! (2 ∷ []) $ pick ! (λ ws. split ! $ move ! (1 ∷ []) $ split ! $ heard ! _ (λ fills. heard ! _ (λ is_text.
     -- [what the parameters leave; the tokens; the result; what is kept]
     fsplit ! $ drop ! $ fsplit ! $ fsplit ! $ fsplit ! $ move ! (4 ∷ []) $ split ! $ move ! (1 ∷ []) $ split ! $ lft_end ! tt $
-    -- [α is over; nothing; self's token; what the loan ends as; its length; its borrow; nothing; the result; what is kept]
+    -- [α is over; nothing; self's token; what the loan ends as; its length; its borrow; nothing;
+    -- the result; what is kept]
     let new = ws.1.0 in
     move ! (0 ∷ 8 ∷ 3 ∷ []) $ use3 𝓛 (later (‵ (Shared 𝓛 κ q (α ∷ []) s (named 1) new) ⊛ ‵ (fres s.ghost_name ((coded_list u8.coded).code new)) ⊛ token)) (shares_slice 𝓛 κ q (α ∷ []) s (named 1) δ new) $ await ! tt $ split ! $ move ! (1 ∷ []) $ split ! $
-    -- [how the slice ends; the token of κ; the `&`; nothing; self's token; two entries; nothing; the result]
+    -- [how the slice ends; the token of κ; the `&`; nothing; self's token; two entries; nothing;
+    -- the result]
     move ! (8 ∷ []) $ peeks ! Filled (Is Filled) (shows 𝓛 Filled) h (v ∷ []) (λ is. let typed = ((filled_laws.lawful 𝓛).typed h (v ∷ []) is).0 in
     lands_as ! refl refl typed $ sets ! (of_opd ! (get ! refl)) refl typed $
     sets ! (addr ! (from ! (fld ! refl (hop ! (look_in_at ! 2 (sub ! 0 refl (whole !))) (stop !))))) refl (tt, tt) $
