@@ -22,13 +22,6 @@ module _ (Says : List ℕ → Verdict → Type 0) (host : List ℕ) (port : ℕ)
   settled v (inl e) s = at_standard v e s
   settled v (inr some) s = inl (some, s)
 
-  pub unsettled : (v w : Verdict) → (IsSettled v port → ⊥) → Says (known_name host port) v → Says (known_name host standard_port) w → IsSaid Says host port w
-  unsettled Unknown w more s t = inr (s, t)
-  unsettled Revoked w more s t = absurd (more (inr (λ u. cc u)))
-  unsettled Unreadable w more s t = absurd (more (inr (λ u. cc u)))
-  unsettled Trusted w more s t = absurd (more (inr (λ u. cc u)))
-  unsettled Changed w more s t = absurd (more (inr (λ u. cc u)))
-
   module _ (one : (name : List ℕ) (v w : Verdict) → Says name v → Says name w → v ≡ w) where
     one_said : (v w : Verdict) → IsSaid Says host port v → IsSaid Says host port w → v ≡ w
     one_said v w (inl s) (inl t) = one _ v w s.1 t.1

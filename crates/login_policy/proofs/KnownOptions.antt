@@ -43,12 +43,6 @@ pub argument : (value : List ℕ) (empty found : Bool) → empty ≡ (length val
 argument value empty true judged some zeros = (λ yes. absurd cc, λ is. let here = zeros.0 refl in absurd (is.no_zero here.0 here.1 here.2))
 argument value empty false judged some zeros = (λ yes. record { some = filled value empty judged some; no_zero = λ i l e. other (zeros.1 i l e) }, λ is. refl)
 
-pub no_argument : (value : List ℕ) (empty : Bool) → empty ≡ (length value == 0) → empty ≡ true → IsTrue false ↔ IsArgument value
-no_argument [] empty judged none = (λ yes. absurd cc, λ is. absurd (is.some refl))
-no_argument (x ∷ value) empty judged none =
-    let none_long : length (x ∷ value) ≡ 0 = grind arith in
-    absurd (omega (arith, none_long))
-
 no_command : force_command ≡ verify_required → ⊥
 no_command = differ force_command verify_required refl
 

@@ -1,8 +1,8 @@
 -- What is found among options, one by one.
-use Rattle.std.proofs.Common.{◌≡◌, ℕ, List, [], ◌∷◌, ◌++◌, None, Some, refl, sym, ap, subst, ◌∙◌, append_assoc, append-nil}
+use Rattle.std.proofs.Common.{◌≡◌, ℕ, List, [], ◌∷◌, ◌++◌, Some, sym, ap, subst, ◌∙◌, append_assoc, append-nil}
 use Rattle.std.specs.List.{All}
 use Rattle.std.proofs.lemmas.List.Elements.{All-push}
-use Rattle.sshkey_files.specs.OptionItems.{KeyOption, AreKeyOptions, IsSameName, IsOptionAt, without_commas}
+use Rattle.sshkey_files.specs.OptionItems.{KeyOption, AreKeyOptions, IsOptionAt, without_commas}
 use Rattle.sshkey_authorized_keys.specs.OpenSshItems.{key_option_of}
 use Rattle.sshkey_authorized_keys.specs.OpenSshItems.{HasOtherName, FindsAlso}
 use Rattle.sshkey_authorized_keys.specs.declared.openssh_option.OpenSshOption.{OpenSshOption}
@@ -10,12 +10,6 @@ use Rattle.sshkey_authorized_keys.specs.declared.openssh_option.OpenSshOption.{O
 module _ (name : List ℕ) where
   all_more : (options : List KeyOption) (o : KeyOption) → All (HasOtherName name) options → HasOtherName name o → All (HasOtherName name) (options ++ (o ∷ []))
   all_more options o h other = All-push (HasOtherName name) options o h other
-
-  pub found_now : (o : OpenSshOption) → IsSameName (key_option_of o).name name → FindsAlso name None o (Some o)
-  found_now o named options none = record { before = options; after = []; is = refl; named = named; others = none }
-
-  pub found_not : (o : OpenSshOption) → (IsSameName (key_option_of o).name name → ⊥) → FindsAlso name None o None
-  found_not o other options none = all_more options (key_option_of o) none other
 
   pub found_before : (p o : OpenSshOption) → FindsAlso name (Some p) o (Some p)
   found_before p o options is = record {

@@ -163,9 +163,6 @@ module _ (text name behind : List ℕ) (cut : CutsName text name behind) where
   same_parts : (o : KeyOption) (rest : List ℕ) (is : IsOptionAt text o rest) → (name ≡ o.name) × (behind ≡ is.behind)
   same_parts o rest is = same_name name o.name behind is.behind cut.characters is.characters cut.ends (value_ends is.behind o.value rest is.value is.ends) (sym cut.is ∙ is.is)
 
-  pub no_name_there : length name ≡ 0 → (o : KeyOption) (rest : List ℕ) → IsOptionAt text o rest → ⊥
-  no_name_there none o rest is = omega (arith, none, is.some, ap length (same_parts o rest is).0)
-
   pub no_value_there : ((v : Option (List ℕ)) (r : List ℕ) → IsValueAt behind v r → EndsOption r → ⊥) → (o : KeyOption) (rest : List ℕ) → IsOptionAt text o rest → ⊥
   no_value_there none o rest is = none o.value rest (subst (λ (t : List ℕ). IsValueAt t o.value rest) (sym (same_parts o rest is).1) is.value) is.ends
 
@@ -184,9 +181,6 @@ value_cut text behind quoted rest is cut = ((quoted, whole, cut.1, refl), one)
     one (Some v) r a m = (same_quoted a.0 quoted r rest a.2 cut.1 (ap (drop 2) (sym a.1 ∙ whole))).1
 
 -- ---- lists
-
-pub some_after : (text commas rest : List ℕ) (o : KeyOption) → commas ≡ without_commas text → IsOptionAt commas o rest → HasKeyOptions rest → HasKeyOptions text
-some_after text commas rest o skips is h = (o ∷ h.0, (rest, subst (λ (t : List ℕ). IsOptionAt t o rest) skips is, h.1))
 
 pub some_before : (text commas rest : List ℕ) (o : KeyOption) → commas ≡ without_commas text → IsOptionAt commas o rest → HasKeyOptions text → HasKeyOptions rest
 some_before text commas rest o skips is ([], h) = absurd (omega (arith, some_option commas o rest is, ap length (skips ∙ h)))

@@ -12,16 +12,14 @@ use Rattle.sshkey_model.proofs.CertificateNameReaders.{certified_checks}
 use Rattle.sshkey_model.proofs.CombinedReaders.{chosen}
 use Rattle.sshkey_model.proofs.NameReaders.{found}
 use Rattle.std.specs.Str.{IsUtf8}
-use Rattle.sshkey_base.specs.Causes.{Cause, NoMemory, Faulty, cause}
+use Rattle.sshkey_base.specs.Causes.{Cause, NoMemory, cause}
 use Rattle.sshkey_base.specs.declared.algorithm.Algorithm as value
 use Rattle.sshkey_base.specs.declared.encoding.Error.TheVariants as encoding
 use Rattle.sshkey_base.specs.declared.error.Error as wide-error
 use Rattle.sshkey_base.specs.declared.error.Error.TheVariants as wide
-use Rattle.sshkey_base.specs.Labels.{AsksNamed, label_at}
+use Rattle.sshkey_base.specs.Labels.{AsksNamed}
 use Rattle.sshkey_base.specs.NameNeeds.{NeedsCertified}
-use Rattle.sshkey_base.specs.Reading.{Reads, IsRefused}
-use Rattle.sshkey_base.specs.Source.{Source}
-use Rattle.sshkey_base.proofs.Labels.{not_named, text_refused}
+use Rattle.sshkey_base.proofs.Labels.{not_named}
 use Rattle.sshkey_base.specs.AlgorithmName.{HasCertificateName, JudgesCertified}
 use Rattle.sshkey_base.specs.Answers.{Judges}
 use Rattle.sshkey_base.proofs.AtSigns.{cut-at, cut-suffixed}
@@ -170,8 +168,3 @@ certified_asked t (Err e) fixed refused = λ memory b rest m read. by_table memo
             let none : certified_from t ≡ Err Label = from ∙ ap (λ (f : Fault). Err f) stripped in
             let label : e ≡ wide.Encoding encoding.Label = cc (refused none) in
             absurd (cc (memory, label))
-
--- a string that is no text is no name
-pub certificate_refused : (s t : Source) (x : List ℕ) (c : Cause) → Reads (λ b. b) string_at s x t → (IsUtf8 x → ⊥) → c ≡ Faulty Label → IsRefused s.missing c (certificate_algorithm_at s.left)
-unfolding label_at certificate_algorithm_at
-certificate_refused s t x c h no_text is = rw is (text_refused certified_checks certified_ascii certified_refusals s t x h no_text)

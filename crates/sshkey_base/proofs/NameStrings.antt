@@ -205,9 +205,6 @@ pub record Passed (n : ℕ) (s t : Source) : Type 0 where
   pub size : length front ≡ n
   pub advanced : Advances s front t
 
-pub passed_none : (s : Source) → Passed 0 s s
-passed_none s = record { front = []; size = refl; advanced = record { taken = refl; missing = refl; outer = refl; are = refl } }
-
 pub passed_more : (k n : ℕ) (s t u : Source) (b : List ℕ) → Passed k s t → length b ≡ n → Advances t b u → Passed (k + n) s u
 passed_more k n s t u b p size a = record {
   front = p.front ++ b;

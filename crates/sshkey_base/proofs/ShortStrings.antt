@@ -4,11 +4,10 @@ use Rattle.std.proofs.lemmas.Bool.{le-leb, lt-leb, leb-true, leb-false, ltb-fals
 use Rattle.std.proofs.lemmas.List.{length-take-le}
 use Rattle.sshkey_model.specs.Parts.{are_bytes}
 use Rattle.sshkey_model.specs.Reading.{Fault, Length, Front, bytes_at, checked_at}
-use Rattle.sshkey_base.specs.Causes.{Cause, Faulty}
+use Rattle.sshkey_base.specs.Causes.{Faulty}
 use Rattle.sshkey_base.specs.Source.{Source}
-use Rattle.sshkey_base.specs.Reading.{Reads, Refuses, IsRefused, Gives}
+use Rattle.sshkey_base.specs.Reading.{Reads, Refuses}
 use Rattle.sshkey_base.specs.ShortStrings.{at_most}
-use Rattle.sshkey_base.proofs.Steps.{refuses_first, refuses_sound}
 
 -- more bytes than may be are `Length`, whether they are there or not
 long_is_length : (max n : ℕ) (b : List ℕ) → max < n → checked_at (at_most max) (bytes_at n) b ≡ Err Length
@@ -50,9 +49,3 @@ bounded {C} max judge read b = go (read b) refl
 
 -- So a call that reads short bytes and judges them gives what the judgement of all bytes gives.
 module _ {C : Type 0} (max : ℕ) (judge : List ℕ → Result C Fault) (read : Front (List ℕ)) (s : Source) where
-  pub bounded_refused : (c : Cause) → Refuses s.missing c (checked_at (at_most max) read s.left) → IsRefused s.missing c (checked_at (λ x. cond (ltb max (length x)) (Err Length) (judge x)) read s.left)
-  bounded_refused c h = rw (bounded max judge read s.left) (refuses_sound _ _ _ (refuses_first _ _ _ _ h))
-
-  pub bounded_gives : {X E : Type 0} (means : X → C) (cause : E → Cause) (r : Result X E) (t : Source) → Gives means cause (checked_at judge (checked_at (at_most max) read)) s r t → Gives means cause (checked_at (λ x. cond (ltb max (length x)) (Err Length) (judge x)) read) s r t
-  bounded_gives means cause (Ok x) t h = record { value = bounded max judge read s.left ∙ h.value; missing = h.missing; outer = h.outer }
-  bounded_gives means cause (Err e) t h = rw (bounded max judge read s.left) h

@@ -110,7 +110,7 @@ pub fn erase_slice(bytes: &mut [u8])
 
 /// A length of four bytes, and the bytes (RFC 4251, section 5).
 ///
-/// A length larger than the remaining input fails with `Length`, and nothing is allocated for it.
+/// Fails with `Length`, and allocates nothing, if the length is larger than the remaining input.
 impl Decode for Bytes {
     type Error = Error;
 

@@ -197,7 +197,7 @@ pub fn decode_front<T: Decode, R: Reader>(alloc: Global, reader: &mut R) -> Resu
 ///
 /// Unless memory runs out, a sound source is accepted exactly if all its bytes together spell a
 /// value, which is then returned. Fails with `TrailingData` and the number of bytes after a value,
-/// and with `Length` for a stated length that exceeds what is left, for which nothing is allocated.
+/// and with `Length` for a stated length that exceeds what is left, without allocating that much.
 /// A source with a fault is never accepted; a stated length that exceeds all that was announced
 /// fails with `Length` there too, unless memory ran out for a value before it.
 pub fn decode_whole<T: Decode + Drop, R: Reader + Drop>(

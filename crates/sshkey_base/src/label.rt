@@ -66,8 +66,8 @@ pub trait Label: Sized {
     ghost refusals: { (text : List ℕ) (fault : Fault) → named text ≡ Err fault → fault ≡ label_fault };
 }
 
-/// The string of a name. Fails with `Label` for a string that is none of the names, for which
-/// nothing is allocated.
+/// The string of a name. Fails with `Label`, and allocates nothing, for a string that is none of
+/// the names.
 #[tactic(auto, using(crate::proofs::Steps::steps), unfolding(crate::specs::Labels::label_at, sshkey_model::specs::Reading::string_at))]
 impl<T: Label> Decode for T {
     type Error = Error;

@@ -89,9 +89,10 @@ fn texts_from<R: Reader>(alloc: Global, reader: &mut R) -> Result<Vec<String>>
 /// A list of texts in one string (RFC 4251, section 5; so a certificate holds its principals,
 /// PROTOCOL.certkeys): a length of four bytes, and strings up to the end of that part.
 ///
-/// A length larger than the remaining input fails with `Length`, and nothing is allocated for it;
-/// so does the length of a text that passes the list. A text that is not UTF-8 fails with
-/// `CharacterEncoding`. Fails with `Memory` only where the first string stands whole in the list.
+/// Fails with `Length` if the stated length is larger than the remaining input, and then allocates
+/// nothing, or if a text's length is larger than what is left of the list; with `CharacterEncoding`
+/// for a text that is not UTF-8. Over a sound source, fails with `Memory` only where the first text
+/// stands whole in the list.
 #[tactic(auto, using(crate::proofs::Boxes::boxes))]
 impl Decode for Vec<String> {
     type Error = Error;

@@ -221,8 +221,8 @@ impl fmt::Display for Mpint {
 
 /// A string whose bytes are those of a number (RFC 4251, section 5).
 ///
-/// Fails with `Length` if the string is longer than the remaining input, and nothing is allocated
-/// for it; with `FormatEncoding` if its bytes are those of no number.
+/// Fails with `Length`, and allocates nothing, if the string is longer than the remaining input;
+/// with `FormatEncoding` if its bytes are those of no number.
 #[tactic(auto, using(crate::proofs::Steps::steps, crate::proofs::Stopping::stopping), unfolding(sshkey_model::specs::Mpints::mpint_at))]
 impl Decode for Mpint {
     ghost use Rattle.std.specs.Prelude.{ℕ, List};

@@ -21,8 +21,8 @@ use std::alloc::Global;
 
 /// A string whose bytes are UTF-8 (RFC 4251, section 5).
 ///
-/// Fails with `CharacterEncoding` for bytes that are not. A length larger than the remaining input
-/// fails with `Length`, and nothing is allocated for it.
+/// Fails with `CharacterEncoding` for bytes that are not. Fails with `Length`, and allocates
+/// nothing, if the stated length is larger than the remaining input.
 #[tactic(auto, using(crate::proofs::Steps::steps, crate::proofs::Stopping::stopping))]
 impl Decode for String {
     type Error = Error;

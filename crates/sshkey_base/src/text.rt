@@ -68,8 +68,8 @@ impl Text {
 
 /// A string whose bytes are UTF-8 (RFC 4251, section 5).
 ///
-/// Fails with `CharacterEncoding` for bytes that are not. A length larger than the remaining input
-/// fails with `Length`, and nothing is allocated for it.
+/// Fails with `CharacterEncoding` for bytes that are not. Fails with `Length`, and allocates
+/// nothing, if the stated length is larger than the remaining input.
 #[tactic(auto, using(crate::proofs::Steps::steps, crate::proofs::Stopping::stopping), unfolding(sshkey_model::specs::Texts::text_at))]
 impl Decode for Text {
     type Error = Error;

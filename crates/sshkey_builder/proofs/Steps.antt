@@ -2,7 +2,7 @@
 use Rattle.std.proofs.Common.{◌≡◌, true, false, Option, Some, None, Ok, refl, option_map}
 use Rattle.std.specs.Prelude.{is_some}
 use Rattle.sshkey_model.specs.Drafts.{Draft, DraftField, once}
-use Rattle.sshkey_builder.specs.Builders.{field_error, Refuses, RefusesAlways}
+use Rattle.sshkey_builder.specs.Builders.{field_error, RefusesAlways}
 
 module _ {A : Type 0} (field : DraftField) (d : Draft) where
   pub once_taken : (x : Option A) → is_some x ≡ false → once x field d ≡ Ok d
@@ -12,11 +12,6 @@ module _ {A : Type 0} (field : DraftField) (d : Draft) where
   pub once_refused : (x : Option A) → is_some x ≡ true → RefusesAlways (once x field d) (field_error field)
   once_refused None e = absurd (cc e)
   once_refused (Some x) e = refl
-
-  -- of a step that may take memory
-  pub once_refuses : (x : Option A) → is_some x ≡ true → Refuses (once x field d) (field_error field)
-  once_refuses None e = absurd (cc e)
-  once_refuses (Some x) e = refl
 
 pub mapped_some : {A B : Type 0} (f : A → B) (x : Option A) → is_some (option_map f x) ≡ is_some x
 mapped_some f None = refl

@@ -159,9 +159,6 @@ module _ (b : Bool) (given : List Sha256Digest) (t : ℕ) (c : Certificate) wher
   after_authority : Option Refusal
   after_authority = unless (is_time t) InvalidTime (unless (is_within t c) OutOfWindow None)
 
-  pub first_unsigned : is_signed (λ _. b) c ≡ false → Some NotSigned ≡ first_refusal (λ _. b) (authorities_of given) t c
-  first_unsigned none = rw none refl
-
   module _ (f : code.Fingerprint) (is : IsFingerprint Sha256 c.signed.signature_key f) (signed : is_signed (λ _. b) c ≡ true) where
     trusted_is : list_any (λ d. bytes_eq (digest_of f) d.bytes) given ≡ has_trusted_authority (authorities_of given) c
     trusted_is = rw is.digest (listed_is _ given)

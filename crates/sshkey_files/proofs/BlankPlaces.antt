@@ -1,5 +1,5 @@
 -- The places of blanks in a text.
-use Rattle.std.proofs.Common.{◌≡◌, ℕ, zero, suc, ◌<◌, ◌≤◌, ◌+◌, List, [], ◌∷◌, ◌++◌, length, get_or, take, drop, slice_index, Bool, true, false, not, cond, Option, None, Some, position, refl, sym, ap, subst, ◌∙◌, arith, tests, inl, inr, lt-ltb, take-append-drop, append-nil}
+use Rattle.std.proofs.Common.{◌≡◌, ℕ, zero, suc, ◌<◌, ◌≤◌, ◌+◌, List, [], ◌∷◌, ◌++◌, length, get_or, take, drop, slice_index, Bool, true, false, not, cond, None, Some, position, refl, sym, ap, subst, ◌∙◌, arith, inl, inr, lt-ltb, take-append-drop, append-nil}
 use Rattle.std.proofs.lemmas.Bool.{cases_lt, not-true}
 use Rattle.std.proofs.lemmas.List.{get_or-take, get_or-drop, length-take-le}
 use Rattle.std.proofs.lemmas.List.Quantifiers.{position-Some}
@@ -7,7 +7,7 @@ use Rattle.std.proofs.lemmas.List.Sums.{fails_before_first}
 use Rattle.std.proofs.lemmas.Str.{IsCharBoundary-start, IsCharBoundary-before_ascii, IsCharBoundary-after_ascii}
 use Rattle.std.specs.List.{position_or_len}
 use Rattle.std.specs.Str.{IsUtf8, IsCharBoundary}
-use Rattle.sshkey_files.specs.Fields.{without_blanks, IsField, EndsField}
+use Rattle.sshkey_files.specs.Fields.{without_blanks}
 use Rattle.sshkey_files.specs.StrictReading.{is_blank}
 use Rattle.sshkey_files.proofs.Fields.{blanks_skipped, blanks_alone, blanks_are}
 use Rattle.sshkey_files.specs.Cuts.{CutsField}

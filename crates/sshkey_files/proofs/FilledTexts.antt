@@ -1,6 +1,6 @@
 -- The lines of a text that are neither empty nor comments, one by one.
 use Rattle.std.proofs.Common.{◌≡◌, ℕ, ◌<◌, List, ◌∷◌, length, map, filter, Bool, true, false, cond, sym, ap, ◌∙◌}
-use Rattle.std.specs.Str.Lines.{IsFirstLine, lines}
+use Rattle.std.specs.Str.Lines.{IsFirstLine}
 use Rattle.sshkey_files.specs.Fields.{without_blanks, is_filled, filled_lines}
 use Rattle.sshkey_files.proofs.TextLines.{lines_first}
 

@@ -44,23 +44,6 @@ module _ (fold : ℕ → ℕ) where
     shorter = omega (arith, g.shorter);
   }
 
-  pub goes_none : (pattern text : List ℕ) → GoesOn fold pattern text pattern text
-  goes_none pattern text = record {
-    steps = 0;
-    is = refl;
-    same = (λ m. m, λ m. m);
-    others = λ o m. (omega arith, m);
-    shorter = omega arith;
-  }
-
-  pub stuck_here : (c x : ℕ) (rest left : List ℕ) → (c ≢ star → StandsFor fold c (x ∷ []) → ⊥) → IsStuck fold (c ∷ rest) (x ∷ left)
-  stuck_here c x rest left other no_star m = absurd (other no_star (taken c rest (x ∷ left) no_star m).1)
-
-  pub stuck_at_end : (rest left : List ℕ) → (rest ≡ []) ⊎ (left ≡ []) → IsStuck fold rest left
-  stuck_at_end [] left e no_star m = (refl, m)
-  stuck_at_end (c ∷ rest) left (inl e) no_star m = absurd (omega (arith, ap length e))
-  stuck_at_end (c ∷ rest) left (inr e) no_star m = absurd (omega (arith, ap length e, (taken c rest left no_star m).0))
-
   -- ---- the places of a text
 
   -- a pattern that a star begins matches what it matches further on
@@ -96,13 +79,6 @@ module _ (fold : ℕ → ℕ) where
       shorter = goes.shorter;
     }
 
-    pub found_end : rest ≡ [] → left ≡ [] → HasFront fold pattern text rest left
-    found_end e f = record {
-      same = (λ _. subst (λ (r : List ℕ). Matches fold r left) (sym e) f, here);
-      stuck = stuck;
-      shorter = goes.shorter;
-    }
-
     pub no_more : slice_index rest 0 ≢ star → left ≡ [] → (rest ≡ [] → ⊥) → MatchesLater fold pattern text → ⊥
     no_more no_star f some m =
         let end : drop (m.0 - place) left ≡ left = ap (drop (m.0 - place)) f ∙ drop_of_length-le [] (omega arith) ∙ sym f in
@@ -121,10 +97,6 @@ module _ (fold : ℕ → ℕ) where
   pub goes_further : (pattern text rest left behind more : List ℕ) (c x : ℕ) → rest ≡ c ∷ behind → left ≡ x ∷ more → c ≢ star → StandsFor fold c (x ∷ []) → GoesOn fold pattern text rest left → GoesOn fold pattern text behind more
   goes_further pattern text rest left behind more c x rest_is left_is other stands g =
       goes_more pattern text c x behind more other stands (subst (GoesOn fold pattern text (c ∷ behind)) left_is (subst (λ (l : List ℕ). GoesOn fold pattern text l left) rest_is g))
-
-  pub stuck_on : (rest left behind more : List ℕ) (c x : ℕ) → rest ≡ c ∷ behind → left ≡ x ∷ more → (c ≢ star → StandsFor fold c (x ∷ []) → ⊥) → IsStuck fold rest left
-  stuck_on rest left behind more c x rest_is left_is never =
-      subst (IsStuck fold rest) (sym left_is) (subst (λ (l : List ℕ). IsStuck fold l (x ∷ more)) (sym rest_is) (stuck_here c x behind more never))
 
   -- a star at the front, and what stands behind it
   pub behind_star : (rest left : List ℕ) → 1 ≤ length rest → slice_index rest 0 ≡ star → Matches fold rest left ↔ MatchesLater fold (take (length rest - 1) (drop 1 rest)) left

@@ -1,5 +1,5 @@
 -- A list of patterns, one pattern after the other.
-use Rattle.std.proofs.Common.{◌≡◌, ◌⊎◌, ◌↔◌, ℕ, zero, suc, ◌<◌, List, [], ◌∷◌, length, slice_index_or, Bool, true, false, cond, IsTrue, Bor, None, Some, inl, inr, sym, ap, subst, ◌∙◌, refl, arith, ne_eqb, eqb-true, ◌==◌, ◌||◌}
+use Rattle.std.proofs.Common.{◌≡◌, ◌⊎◌, ◌↔◌, ℕ, zero, suc, ◌<◌, List, [], ◌∷◌, length, slice_index_or, Bool, true, false, IsTrue, Bor, None, Some, inl, inr, sym, ap, subst, ◌∙◌, refl, arith, ne_eqb, eqb-true, ◌==◌, ◌||◌}
 use Rattle.std.specs.List.{All, Any, slice_split, before_first, after_first}
 use Rattle.std.proofs.lemmas.List.Elements.{All-nil, All-cons, All-head, All-tail, All-from_get_or}
 use Rattle.std.proofs.lemmas.List.Splits.{slice_split_none, slice_split_first, length-slice_split}

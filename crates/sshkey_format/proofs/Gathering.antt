@@ -3,10 +3,10 @@ use Rattle.std.proofs.Common.{◌≡◌, ◌⊎◌, inl, inr, IsOk, ◌≤◌, �
 use Rattle.std.proofs.lemmas.List.{length-append}
 use Rattle.std.proofs.lemmas.Result.{err_from_is_err_and}
 use Rattle.sshkey_model.specs.Reading.{Fault, ◌>>=◌, Front}
-use Rattle.sshkey_base.specs.Causes.{Cause, NoMemory}
+use Rattle.sshkey_base.specs.Causes.{Cause}
 use Rattle.sshkey_base.specs.Formats.{Format}
 use Rattle.sshkey_base.specs.Reading.{Reads, IsRefused}
-use Rattle.sshkey_base.specs.Source.{Source, IsSound}
+use Rattle.sshkey_base.specs.Source.{Source}
 use Rattle.sshkey_base.specs.Stops.{NoOverrun, Stopped}
 use Rattle.sshkey_base.proofs.Stopping.{step_ok}
 use Rattle.sshkey_format.specs.Counted.{NeedsValues, times_at}
@@ -52,11 +52,6 @@ module _ {A : Type 0} (f : Format A) where
     pub rest : times_at item n s.left ≡ (times_at item (n - length done) t.left >>= onto done)
     pub begun : (t ≡ s) ⊎ IsOk (item s.left)
 
-  pub gathers_none : (n : ℕ) (s : Source) → Gathers n s [] s
-  gathers_none n s =
-      let all : n - 0 ≡ n = omega arith in
-      record { missing = refl; outer = refl; rest = rw all (same_step (times_at item n s.left)); begun = inl refl }
-
   module _ (n : ℕ) (s t : Source) (done : List A) (h : Gathers n s done t) where
     stands : {X : Type 0} (means : X → A) (x : X) (u : Source) → Reads means item t x u → IsOk (item s.left)
     stands means x u r = elim h.begun [
@@ -99,22 +94,12 @@ module _ {A : Type 0} (f : Format A) where
       ],
     )
 
-    pub gathers_asks : (c : Cause) → length done < n → (c ≡ NoMemory → IsSound t → f.needs t.left t.missing) → c ≡ NoMemory → IsSound s → NeedsValues f n s.left s.missing
-    gathers_asks c lt asks memory sound = needed lt (asks memory (h.missing ∙ sound))
-
     pub gathers_stopped : (c : Cause) → length done < n → Stopped c item f.needs f.overruns t → Stopped c (times_at item n) (NeedsValues f n) NoOverrun s
     gathers_stopped c lt k = record {
       takes = λ ok.
           let inner : IsOk (times_at item (suc (n - suc (length done))) t.left >>= onto done) = rw (h.rest, more lt) at ok in
           let m = k.takes (first_ok (n - suc (length done)) t.left done inner) in
           record { memory = m.memory; needed = needed lt m.needed };
-      past = λ o. absurd o;
-    }
-
-    -- there is no memory for a value that was read
-    pub gathers_full : {X : Type 0} (means : X → A) (x : X) (u : Source) (c : Cause) → length done < n → Reads means item t x u → c ≡ NoMemory → Stopped c (times_at item n) (NeedsValues f n) NoOverrun s
-    gathers_full means x u c lt r memory = record {
-      takes = λ ok. record { memory = memory; needed = (omega arith, inr (stands means x u r)) };
       past = λ o. absurd o;
     }
 

@@ -1,22 +1,20 @@
 -- How a call stops that reads what fills a string.
-use Rattle.std.proofs.Common.{◌≡◌, ◌⊎◌, inl, inr, ◌≤◌, ◌<◌, ◌+◌, ◌-◌, ℕ, List, IsOk, length, take, Result, Ok, Err, refl, ◌∙◌, arith}
-use Rattle.std.proofs.lemmas.Bool.{cases_lt, lt-ltb}
+use Rattle.std.proofs.Common.{◌≡◌, ◌⊎◌, inl, inr, ◌≤◌, ◌<◌, ◌+◌, ◌-◌, ℕ, List, Result, Ok, Err, refl, ◌∙◌}
 use denote.Ref.{MutBor}
 use denote.Param.Members.{Once}
-use Rattle.sshkey_base.specs.Causes.{Cause, NoMemory, Faulty, encoding_cause}
+use Rattle.sshkey_base.specs.Causes.{Cause, Faulty, encoding_cause}
 use Rattle.sshkey_base.specs.Formats.{Format, Stops}
-use Rattle.sshkey_base.specs.Needs.{NeedsBoxed, HasString, NeedsThen}
-use Rattle.sshkey_base.specs.Nested.{AsksBy, Calls, Prefixed, ReadsBy}
+use Rattle.sshkey_base.specs.Needs.{NeedsThen}
+use Rattle.sshkey_base.specs.Nested.{AsksBy, Prefixed, ReadsBy}
 use Rattle.sshkey_base.specs.Reading.{IsRefused, Reads}
-use Rattle.sshkey_base.specs.Source.{Source, part}
-use Rattle.sshkey_base.specs.Stops.{OverrunsBoxed, OverrunsThen, RanOut, Stopped, StopsToEnd}
+use Rattle.sshkey_base.specs.Source.{Source}
+use Rattle.sshkey_base.specs.Stops.{OverrunsThen, RanOut}
 use Rattle.sshkey_format.specs.Behind.{behind_at, both_at}
-use Rattle.sshkey_model.specs.Reading.{Front, Length, box_at, whole}
+use Rattle.sshkey_model.specs.Reading.{Front, Length}
 use Rattle.sshkey_base.specs.declared.encoding.Error.{Error}
 use Rattle.sshkey_base.specs.declared.encoding.Error.TheVariants as encoding
 use Rattle.sshkey_base.proofs.FilledBoxes.{filled_stops}
 use Rattle.sshkey_base.proofs.Steps.{refused_first, refused_later}
-use Rattle.sshkey_base.proofs.Stopping.{not_taken}
 use Rattle.sshkey_format.specs.Contents.{Contents, StopsIn, choice_to_end, held}
 
 -- ---- a value, and what stands behind it

@@ -3,12 +3,7 @@ use Rattle.std.proofs.Common.{◌≡◌, ◌+◌, ◌-◌, ℕ, length, Result, 
 use Rattle.sshkey_model.specs.Parts.{Parts, box, ◌&◌, flat, BoxesFit}
 use Rattle.sshkey_base.specs.declared.encoding.Error.{Error}
 use Rattle.sshkey_base.specs.Sink.{IsLength, MeasuresBoxed}
-use Rattle.sshkey_base.proofs.Writing.{boxes_both, boxes_box, boxes_first, boxes_second, boxes_inside, boxes_length, length_both, length_box}
-
--- without the length before them
-pub inside_measured : (p : Parts) (n : ℕ) (r : Result ℕ Error) → BoxesFit (box p) × (n ≡ length (flat (box p))) → IsLength (n - 4) r → MeasuresBoxed p r
-inside_measured p n (Ok m) h k = (h.0, omega (arith, k.0, h.1, length_box p))
-inside_measured p n (Err e) h k = absurd (omega (arith, k.0, h.1, length_box p, boxes_length p h.0))
+use Rattle.sshkey_base.proofs.Writing.{boxes_both, boxes_box, boxes_first, boxes_second, boxes_inside, boxes_length, length_both}
 
 -- what stands first does not fit
 pub first_misfit : (p q : Parts) → (BoxesFit p → ⊥) → BoxesFit (box (p & q)) → ⊥

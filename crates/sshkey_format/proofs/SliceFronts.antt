@@ -13,7 +13,7 @@ use Rattle.sshkey_base.specs.Answers.{AnswersAlways}
 use Rattle.sshkey_base.specs.Causes.{Cause, Faulty}
 use Rattle.sshkey_base.specs.Reading.{Refuses}
 use Rattle.sshkey_base.proofs.Judging.{answers_first, answers_later}
-use Rattle.sshkey_format.specs.Slices.{Splits, Keeps, is_taken, AcceptsSplit}
+use Rattle.sshkey_format.specs.Slices.{Splits, is_taken, AcceptsSplit}
 
 -- ---- what an answer says of the plain reader
 
@@ -87,9 +87,6 @@ box_string {Y} read b are = go (number_at w32 b) refl
 
 -- ---- what stands in a string is read
 
-box_refused : {Y : Type 0} (read : Whole Y) (b : List ℕ) (fault : Fault) → are_bytes b ≡ true → string_at b ≡ Err fault → box_at read b ≡ Err fault
-box_refused read b fault are e = box_string read b are ∙ rw e refl
-
 box_judged : {Y : Type 0} (read : Whole Y) (b s rest : List ℕ) (fault : Fault) → are_bytes b ≡ true → string_at b ≡ Ok (s, rest) → read s ≡ Err fault → box_at read b ≡ Err fault
 box_judged read b s rest fault are e f = box_string read b are ∙ rw (e, f) refl
 
@@ -99,12 +96,6 @@ box_taken read b s rest y are e f = box_string read b are ∙ rw (e, f) refl
 module _ {X Y D E : Type 0} (BelongsTo : X → Y → Type 0) (narrow : D → Cause) (cause : E → Cause) (read : Whole Y) (b : List ℕ) (are : are_bytes b ≡ true) where
   abbrev CutString : Result (Bor (List ℕ) × Bor (List ℕ)) D → Type 0
   CutString r = Splits (λ s. s.now) narrow string_at b r
-
-  -- there is no string
-  pub string_refused : (d : D) (e : E) → CutString (Err d) → cause e ≡ narrow d → Refuses 0 (cause e) (box_at read b)
-  string_refused d e h same =
-      let f = answers_err (λ (p : Bor (List ℕ) × Bor (List ℕ)). (p.0.now, p.1.now)) narrow (string_at b) d h in
-      record { met = f.0; is = box_refused read b f.0 are f.1; same = λ _. same ∙ f.2 }
 
   -- it is not the string of a value
   pub value_refused : (p : Bor (List ℕ) × Bor (List ℕ)) (e : E) → CutString (Ok p) → Refuses 0 (cause e) (read p.0.now) → Refuses 0 (cause e) (box_at read b)
@@ -138,11 +129,6 @@ module _ {A C X Z D F E : Type 0} (first : X → A) (narrow : D → Cause) (mean
 
   pub judge_taken : (p : X × Bor (List ℕ)) (z : Z) → Splits first narrow read b (Ok p) → AnswersAlways means inner (judge (first p.0)) (Ok z) → Splits means cause (checked_at judge read) b (Ok (z, p.1))
   judge_taken p z h judged = answers_later cut narrow made cause (read b) (λ x. judge x.0 >>= with x.1) p (Ok (z, p.1)) h (answers_later means inner made cause (judge (first p.0)) (with p.1.now) z (Ok (z, p.1)) judged refl)
-
--- what was not kept was refused
-pub refused_kept : {X Y Z E : Type 0} (bytes_of : X → List ℕ) (means : Z → Y) (cause : E → Cause) (found : Result Y Fault) (b : List ℕ) (e : E) → Keeps bytes_of cause found b (Err e) → AnswersAlways means cause found (Err e)
-refused_kept bytes_of means cause (Ok y) b e h = absurd h
-refused_kept bytes_of means cause (Err f) b e h = h
 
 -- ---- in the words of the grammar
 

@@ -1,10 +1,10 @@
 -- What a string holds, read to its end: there values may stand without their number. The grammars
 -- are proved, and need not be believed.
-use Rattle.std.proofs.Common.{◌≡◌, ◌≤◌, ◌<◌, ◌+◌, ◌⊎◌, ◌^◌, inl, inr, ℕ, zero, suc, Option, None, Some, List, [], ◌∷◌, ◌++◌, append-nil, length, take, drop, IsOk, Result, Ok, Err, refl, sym, ap, subst, ◌∙◌, arith}
+use Rattle.std.proofs.Common.{◌≡◌, ◌≤◌, ◌<◌, ◌+◌, ◌⊎◌, ◌^◌, inl, inr, ℕ, zero, suc, Option, None, Some, List, [], ◌∷◌, ◌++◌, append-nil, length, take, drop, IsOk, Result, Ok, refl, sym, ap, subst, ◌∙◌, arith}
 use Rattle.std.specs.Int.{w32, to_be_bytes}
 use Rattle.std.proofs.lemmas.Bool.{cases_lt, lt-ltb, le-ltb}
 use Rattle.std.proofs.lemmas.List.{length-append, length-take-le, take_at, drop_at, take-append-drop}
-use Rattle.sshkey_base.specs.Causes.{Cause, Faulty}
+use Rattle.sshkey_base.specs.Causes.{Cause}
 use Rattle.sshkey_base.specs.Formats.{Format}
 use Rattle.sshkey_base.specs.Leaves.{number32_grammar, number32_normal}
 use Rattle.sshkey_base.specs.Lengths.{boxed_lengths, checked_lengths, to_end_lengths}
@@ -18,7 +18,7 @@ use Rattle.sshkey_format.specs.Terms.{then_lengths}
 use Rattle.sshkey_format.specs.Tested.{SpellsTested}
 use Rattle.sshkey_model.specs.Grammar.{IsGrammar}
 use Rattle.sshkey_model.specs.Parts.{InRange, flat}
-use Rattle.sshkey_model.specs.Reading.{Fault, Length, ◌>>=◌, Front, checked_at, end_of, list_whole, list_within, number_at, box_at, whole}
+use Rattle.sshkey_model.specs.Reading.{Fault, ◌>>=◌, Front, checked_at, end_of, list_whole, list_within, number_at, box_at, whole}
 use Rattle.sshkey_model.proofs.CombinedReaders.{bind_ok, done, fits_number, ok_is}
 
 -- The reader takes exactly the spellings, where nothing stands behind them.

@@ -20,11 +20,11 @@ use std::convert::AsSlice;
 /// | Algorithm | Bytes |
 /// |---|---|
 /// | DSA | 40 |
-/// | ECDSA (RFC 5656, section 3.1.2) | two mpints with a positive part of at most the size of a coordinate, 32, 48 or 66 |
+/// | ECDSA (RFC 5656, section 3.1.2) | two positive mpints of at most a coordinate: 32, 48 or 66 |
 /// | Ed25519 (RFC 8709, section 6) | 64 |
 /// | RSA with a hash (RFC 8332, section 3) | any |
 /// | RSA without a hash | none are well-formed |
-/// | security keys (PROTOCOL.u2f) | those of ECDSA over P-256, or of Ed25519, then one byte of flags and four of a counter |
+/// | security keys (PROTOCOL.u2f) | as ECDSA over P-256 or Ed25519, then flags (1) and counter (4) |
 /// | private-use name | at least 1 |
 #[derive(Debug, PartialEq, Eq, PartialOrd, Ord)]
 pub struct Signature {

@@ -28,9 +28,6 @@ module _ (hmac : List ℕ → List ℕ → List ℕ) (name line text : List ℕ)
   in_text : (f : IsForOthers hmac name line) → IsMarkedLine f.marker text (f.hosts_part ++ f.behind)
   in_text f = subst (λ (t : List ℕ). IsMarkedLine f.marker t (f.hosts_part ++ f.behind)) (sym is) f.marked
 
-  pub without_marker : ((m : Option Marker) (rest : List ℕ) → IsMarkedLine m text rest → ⊥) → IsForOthers hmac name line → ⊥
-  without_marker none f = none f.marker (f.hosts_part ++ f.behind) (in_text f)
-
   module _ (m : Option Marker) (unmarked hosts rest : List ℕ) (is_marked : IsMarkedLine m text unmarked) (cut : CutsField unmarked hosts rest) where
     same_part : (f : IsForOthers hmac name line) → hosts ≡ f.hosts_part
     same_part f = (same_hosts text m unmarked hosts rest (without_blanks rest) is_marked cut refl f.hosts_part f.behind

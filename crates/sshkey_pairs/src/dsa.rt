@@ -80,8 +80,8 @@ impl fmt::Debug for DsaPrivateKey {
 
 /// The number as a string.
 ///
-/// Fails with `Length` if the string is longer than the remaining input, and nothing is allocated
-/// for it; with `FormatEncoding` if its bytes are those of no number.
+/// Fails with `Length`, and allocates nothing, if the string is longer than the remaining input;
+/// with `FormatEncoding` if its bytes are those of no number.
 #[tactic(auto, using(sshkey_base::proofs::Steps::steps, sshkey_format::proofs::Stopping::handed))]
 impl Decode for DsaPrivateKey {
     ghost use Rattle.sshkey_base.specs.Causes.{cause};

@@ -1,6 +1,6 @@
 -- What a private key is read as: the terms of its opening, and where its parts need memory or have
 -- lengths. The grammars are proved, and need not be believed.
-use Rattle.std.proofs.Common.{◌≡◌, ◌⊎◌, ℕ, List, Bool, true, false, ◌==◌, Result, Ok, Err, refl}
+use Rattle.std.proofs.Common.{◌≡◌, ◌⊎◌, ℕ, List, Bool, true, false, ◌==◌, Result, Ok, refl}
 use Rattle.std.specs.Int.{w32}
 use Rattle.sshkey_model.specs.Grammar.{IsGrammar, Spells}
 use Rattle.sshkey_model.specs.Keys.{Key}
@@ -10,13 +10,11 @@ use Rattle.sshkey_model.specs.PrivateKeys.{private_key_magic, one_key}
 use Rattle.sshkey_model.specs.Reading.{Fault, Length, number_at, literal_at}
 use Rattle.sshkey_model.proofs.CombinedReaders.{wide32, bind_assoc, number_reads, literal_reads, checked_reads, kept}
 use Rattle.sshkey_model.proofs.Grammars.{grammar}
-use Rattle.sshkey_base.specs.Causes.{Cause, Faulty}
 use Rattle.sshkey_base.specs.Formats.{Format, number32_format, label_format}
 use Rattle.sshkey_base.specs.Labels.{label_at}
 use Rattle.sshkey_base.specs.Lengths.{no_lengths}
 use Rattle.sshkey_base.specs.Needs.{NoNeed, HasString, NeedsString, NeedsBoxed, NeedsThen}
-use Rattle.sshkey_base.specs.Source.{Source}
-use Rattle.sshkey_base.specs.Stops.{NoOverrun, OverrunsString, OverrunsThen, RanOut}
+use Rattle.sshkey_base.specs.Stops.{NoOverrun, OverrunsString, OverrunsThen}
 use Rattle.sshkey_format.specs.Behind.{behind_at}
 use Rattle.sshkey_format.specs.Terms.{◌then◌, boxed, IsMapped, made_of}
 use Rattle.sshkey_keys.specs.KeyFormats.{key_format}

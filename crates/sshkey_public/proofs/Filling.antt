@@ -1,9 +1,8 @@
 -- A slice that is filled with the parts of a line.
 use Rattle.std.proofs.Common.{◌≡◌, ℕ, zero, suc, ◌<◌, ◌≤◌, ◌+◌, ◌-◌, List, [], ◌∷◌, ◌++◌, length, take, take_all, drop, refl, sym, ap, subst, ◌∙◌, arith, Some, inl, inr}
 use Rattle.std.specs.Prelude.{◌==◌, false, slice_index}
-use Rattle.std.proofs.lemmas.List.{length-append, append-nil, append_assoc, length-take-le, length-drop, drop-drop, drop_all}
+use Rattle.std.proofs.lemmas.List.{length-append, append_assoc, length-take-le, length-drop, drop-drop}
 use Rattle.std.proofs.lemmas.Slice.{take-put_mid, drop-put_mid}
-use Rattle.std.proofs.Math.Seq.{drop-append-add}
 use Rattle.std.specs.Str.{IsUtf8, IsAscii}
 use Rattle.std.proofs.lemmas.Str.{IsUtf8-append, IsUtf8-from_ascii}
 use Rattle.base64.specs.Engines.{standard}
@@ -49,12 +48,6 @@ fills p name other slice new k len none all within h =
 
 -- ---- a part of the slice is written
 
-pub part_length : (new : List ℕ) (start n : ℕ) → start + n ≤ length new → length (take n (drop start new)) ≡ n
-part_length new start n le = length-take-le n (drop start new) (omega (arith, le, length_dropped))
-  where
-    length_dropped : length (drop start new) ≡ length new - start
-    length_dropped = length-drop start new
-
 -- the part holds now the bytes that were to be added
 pub put_added : (slice put bytes : List ℕ) (start n end : ℕ) → start + n ≤ length slice → length bytes ≡ n → end ≡ start + n → put ≡ bytes → Added start slice bytes end (put_mid start n slice put)
 put_added slice put bytes start n end le long at same = rw same (record {
@@ -64,18 +57,7 @@ put_added slice put bytes start n end le long at same = rw same (record {
   behind = drop-put_mid start n slice bytes end (omega arith) (omega arith) long;
 })
 
--- the bytes at the end of a part are written
-pub last_put : (word put bytes : List ℕ) (gap n d : ℕ) → gap + n ≡ length word → length bytes ≡ n → put ≡ bytes → d ≡ gap → drop d (put_mid gap n word put) ≡ bytes
-last_put word put bytes gap n d all long same is =
-    let front : length (take gap word) ≡ gap = length-take-le gap word (omega arith) in
-    let none : drop n (drop gap word) ≡ [] = drop_all n (drop gap word) (omega (arith, length-drop gap word)) in
-    let at : d ≡ length (take gap word) + 0 = omega arith in
-    ap (λ (m : ℕ). drop m (put_mid gap n word put)) at ∙ drop-append-add (take gap word) (put ++ drop n (drop gap word)) 0 ∙ ap (λ (l : List ℕ). put ++ l) none ∙ append-nil put ∙ same
-
 -- ---- the line
-
-pub added_none : (n : ℕ) (slice : List ℕ) → Added n slice [] n slice
-added_none n slice = record { is = sym (append-nil (take n slice)); len = omega arith; room = refl; behind = refl }
 
 pub added_both : (k n m : ℕ) (slice new last a b : List ℕ) → Added k slice a n new → Added n new b m last → Added k slice (a ++ b) m last
 added_both k n m slice new last a b h l = record {

@@ -2,8 +2,7 @@
 use Rattle.std.proofs.Common.{◌≡◌, ℕ, ◌≤◌, ◌<◌, ◌+◌, ◌%◌, List, [], length, Result, Ok, Err, Some, inl, inr, sym, ap, ◌∙◌, subst, arith}
 use Rattle.std.specs.Prelude.{IfSome, true}
 use Rattle.std.specs.Str.{is_utf8}
-use Rattle.base64.specs.Engines.{standard}
-use Rattle.base64.specs.GeneralPurpose.{encode_of, IsBytes}
+use Rattle.base64.specs.GeneralPurpose.{IsBytes}
 use Rattle.sshkey_base.specs.Reading.{AcceptsWhole}
 use Rattle.sshkey_base.specs.Causes.{cause}
 use Rattle.sshkey_base.specs.Source.{Source}
@@ -20,11 +19,6 @@ use Rattle.sshkey_public.specs.Blobs.{StandsInLines}
 use Rattle.sshkey_public.specs.Lines.{IsCanonical, IsWordOf, IsNoWord, ReadsWord}
 use Rattle.sshkey_base64.proofs.GoodBytes.{length_word}
 use Rattle.sshkey_base64.specs.Words64.{IsSourceOf}
-use Rattle.sshkey_model.proofs.Base64Words.{one_blob}
-
--- all the bytes of a list that the word is of
-pub decoded_source : (w : List ℕ) (s : Source) → s.missing ≡ 0 → w ≡ encode_of standard s.left → IsBytes s.left → IsSourceOf w s
-decoded_source w s sound is are = record { only = λ _. is; every = λ b also e. (sound, one_blob s.left b are also (sym is ∙ e)) }
 
 module _ {X Y V : Type 0} {means : X → Y} {Spells : Y → List ℕ → Type 0} {value : X → V} {Spelling : V → List ℕ → Type 0} {name : V → List ℕ} (k : StandsInLines means Spells value Spelling name) where
   fits : (v : V) (blob : List ℕ) → Spelling v blob → IsBytes blob

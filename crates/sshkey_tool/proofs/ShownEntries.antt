@@ -1,6 +1,5 @@
 -- What is shown of the entries of a file.
 use Rattle.std.proofs.Common.{◌≡◌, ◌≢◌, ◌⊎◌, ◌<◌, ◌+◌, ℕ, List, [], ◌∷◌, ◌++◌, map, length, take, Bool, true, false, ◌||◌, inl, inr, Option, None, Some, Result, Ok, Err, String, refl, sym, ap, subst, ◌∙◌, append_assoc, append-nil, arith, length-append}
-use Rattle.std.specs.Prelude.{string_bytes}
 use Rattle.std.specs.Io.KnownBytes.{Appends, append_known}
 use Rattle.std.proofs.Math.Seq.{take-append-add}
 use Rattle.std.specs.List.{list_any}
@@ -51,11 +50,6 @@ pub writes_host : {Z : Type 0} (line : List ℕ) (a : KnownHost) (r : Result (St
 writes_host line a r is h = writes IsKnownHost known_text line a a.key r is (key_fits is.rest a.key a.comment is.line) h
 
 -- ---- its line
-
--- the text of an entry, behind what stood
-pub pushes_text : {Z : Type 0} (file : EntryFile) (entry old new : List ℕ) (s : String Z) → WritesEntryOf file entry (Ok s) → new ≡ old ++ (string_bytes s ++ line_end) → PushesEntry file entry old new (Ok false)
-pushes_text AuthorizedKeys entry old new s h is = (string_bytes s, h, is)
-pushes_text KnownHosts entry old new s h is = (string_bytes s, h, is)
 
 -- why it is refused
 pub pushes_refusal : (Z : Type 0) (file : EntryFile) (entry old new text : List ℕ) (e : Error) → WritesEntryOf {Z = Z} file entry (Err e) → cause e ≢ NoMemory → IsRefusalLine text → new ≡ old ++ text → PushesEntry file entry old new (Ok true)

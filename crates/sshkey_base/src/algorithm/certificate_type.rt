@@ -122,9 +122,8 @@ impl Algorithm {
 
     /// Reads the string of a name in a certificate from the front, and leaves what follows it.
     ///
-    /// Fails with `Length` if the string is not there whole, and nothing is allocated then; with
-    /// `Label` if it is no such name. After an error some of the remaining bytes may have been
-    /// consumed.
+    /// Fails with `Length`, and allocates nothing, if the string is not there whole; with `Label`
+    /// if it is no such name. After an error some of the remaining bytes may have been consumed.
     pub fn decode_certificate<R: Reader>(alloc: Global, reader: &mut R) -> Result<Algorithm>
         ensures past { Stops cause certified_format (R.source reader.old) result }
         ensures gives { DecodesWide algorithm_of certificate_algorithm_at

@@ -31,8 +31,8 @@ impl SshSig {
     /// Reads an SSH signature that all the bytes spell.
     ///
     /// Unless memory runs out, fails only if they spell none: with the errors of `decode`, and with
-    /// `TrailingData` and the number of bytes after a signature. A stated length that exceeds the
-    /// bytes fails with `Length`, and nothing is allocated for it.
+    /// `TrailingData` and the number of bytes after a signature. Fails with `Length` for a stated
+    /// length that exceeds the bytes, without allocating that much.
     pub fn from_bytes(alloc: Global, bytes: &[u8]) -> Result<SshSig>
         ensures gives { GivesWhole ssh_signature_of cause (whole ssh_signature_value_at)
             (all_of bytes.now) result }
