@@ -55,8 +55,8 @@ impl AsSlice<u8> for OpaquePublicKeyBytes {
     }
 }
 
-/// A string of any bytes. A length larger than the remaining input fails with `Length`, and nothing
-/// is allocated for it.
+/// A string of any bytes. Fails with `Length`, and allocates nothing, if the length is larger than
+/// the remaining input.
 #[tactic(auto, using(sshkey_base::proofs::Steps::steps))]
 impl Decode for OpaquePublicKeyBytes {
     ghost use Rattle.sshkey_base.specs.Causes.{encoding_cause};
