@@ -5,7 +5,7 @@ ghost use Rattle.std.specs.Prelude.{◌≡◌, ◌↔◌, ◌<◌, IfErr, IfOk, 
 ghost use Rattle.ssh_key.specs.entries.HostNames.{known_name};
 ghost use Rattle.ssh_key.specs.entries.HostVerdicts.{IsAuthority};
 ghost use Rattle.ssh_key.specs.keys.Keys.{key_of};
-ghost use Rattle.ssh_key.specs.known_hosts.Verdicts.{IsVerdict, graver_of};
+ghost use Rattle.ssh_key.specs.known_hosts.Verdicts.{IsVerdict};
 ghost use Rattle.ssh_key.specs.model.Keys.{IsKey};
 ghost use Rattle.ssh_key.specs.public.PublicKeys.{public_of};
 ghost use Rattle.ssh_key.specs.types.Error.TheVariants.{Memory};
@@ -34,22 +34,9 @@ pub(crate) fn judge_all<H: HmacSha1>(
 {
     let mut found = Verdict::Unknown;
     for text in texts {
-        found = graver(found, judge_key(alloc, text, host, port, key, hmac)?);
+        found = found.graver(judge_key(alloc, text, host, port, key, hmac)?);
     }
     Ok(found)
-}
-
-/// Of two verdicts the one that stands first.
-fn graver(one: Verdict, other: Verdict) -> Verdict
-    ensures { result ≡ graver_of one other }
-{
-    match (one, other) {
-        (Verdict::Revoked, _) | (_, Verdict::Revoked) => Verdict::Revoked,
-        (Verdict::Unreadable, _) | (_, Verdict::Unreadable) => Verdict::Unreadable,
-        (Verdict::Trusted, _) | (_, Verdict::Trusted) => Verdict::Trusted,
-        (Verdict::Changed, _) | (_, Verdict::Changed) => Verdict::Changed,
-        (Verdict::Unknown, Verdict::Unknown) => Verdict::Unknown,
-    }
 }
 
 /// Whether a line of one of the texts has the key as that of an authority of the host. Fails only

@@ -1,5 +1,5 @@
 -- What a verdict on a host's key means, and which keys are those of its authorities.
-use Rattle.std.specs.Prelude.{◌≡◌, ◌↔◌, ℕ, List, [], ◌∷◌, Option, Some, None, Bool, true, false}
+use Rattle.std.specs.Prelude.{◌≡◌, ◌↔◌, ℕ, List, [], ◌∷◌, ◌++◌, Option, Some, None, Bool, true, false}
 use Rattle.std.specs.List.{Any}
 use Rattle.sshkey_model.specs.Keys.{Key}
 use Rattle.sshkey_files.specs.Entries.{IsNoEntry}
@@ -44,6 +44,10 @@ graver_of v Trusted = Trusted
 graver_of Changed w = Changed
 graver_of v Changed = Changed
 graver_of Unknown Unknown = Unknown
+
+-- Where lines have the first verdict and other lines the second, all of them have the third.
+abbrev pub SayTogether : Verdict → Verdict → Verdict → Type 0
+SayTogether v w together = (hmac : List ℕ → List ℕ → List ℕ) (name : List ℕ) (key : Key) (lines others : List (List ℕ)) → IsVerdict hmac name key lines v → IsVerdict hmac name key others w → IsVerdict hmac name key (lines ++ others) together
 
 -- The value of the line; or it has none.
 abbrev pub ReadsOrNone : {X Y : Type 0} → (X → Y) → (List ℕ → Y → Type 0) → List ℕ → Option X → Type 0

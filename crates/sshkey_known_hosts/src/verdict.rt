@@ -9,7 +9,7 @@ ghost use Rattle.sshkey_files.specs.OpenSshLines.{IsHostLine};
 ghost use Rattle.sshkey_keys.specs.Keys.{key_of};
 ghost use Rattle.sshkey_model.specs.Keys.{IsKey};
 ghost use Rattle.sshkey_known_hosts.specs.HostEntries.{known_host_of};
-ghost use Rattle.sshkey_known_hosts.specs.Verdicts.{IsVerdict, ReadsOrNone, graver_of, marked_verdict_of};
+ghost use Rattle.sshkey_known_hosts.specs.Verdicts.{IsVerdict, ReadsOrNone, SayTogether, graver_of, marked_verdict_of};
 
 use crate::entry::Entry;
 use crate::hmac_sha1::HmacSha1;
@@ -38,6 +38,30 @@ pub enum Verdict {
     Unknown,
 }
 
+impl Verdict {
+    /// Returns the graver of the two, the one that stands first in the list above: what two texts
+    /// say together, by what each of them says of the same key, host and port.
+    pub fn graver(self, other: Verdict) -> Verdict
+        ensures first { result ≡ graver_of self other }
+        ensures together { SayTogether self other result }
+    {
+        graver(self, other)
+    }
+}
+
+/// Of two verdicts the one that stands first.
+fn graver(one: Verdict, other: Verdict) -> Verdict
+    ensures { result ≡ graver_of one other }
+{
+    match (one, other) {
+        (Verdict::Revoked, _) | (_, Verdict::Revoked) => Verdict::Revoked,
+        (Verdict::Unreadable, _) | (_, Verdict::Unreadable) => Verdict::Unreadable,
+        (Verdict::Trusted, _) | (_, Verdict::Trusted) => Verdict::Trusted,
+        (Verdict::Changed, _) | (_, Verdict::Changed) => Verdict::Changed,
+        (Verdict::Unknown, Verdict::Unknown) => Verdict::Unknown,
+    }
+}
+
 /// The entry of a line as OpenSSH reads it, or none.
 pub(crate) fn read_entry(alloc: Global, line: &str) -> Result<Option<Entry>>
     ensures answer { IfOk result (ReadsOrNone known_host_of IsHostLine line.now) }
@@ -54,18 +78,6 @@ pub(crate) fn read_entry(alloc: Global, line: &str) -> Result<Option<Entry>>
     }
 }
 
-/// Of two verdicts the one that stands first.
-fn graver(one: Verdict, other: Verdict) -> Verdict
-    ensures { result ≡ graver_of one other }
-{
-    match (one, other) {
-        (Verdict::Revoked, _) | (_, Verdict::Revoked) => Verdict::Revoked,
-        (Verdict::Unreadable, _) | (_, Verdict::Unreadable) => Verdict::Unreadable,
-        (Verdict::Trusted, _) | (_, Verdict::Trusted) => Verdict::Trusted,
-        (Verdict::Changed, _) | (_, Verdict::Changed) => Verdict::Changed,
-        (Verdict::Unknown, Verdict::Unknown) => Verdict::Unknown,
-    }
-}
 
 /// Whether the first key, which is well-formed, means the same as the other.
 fn is_same_key(one: &KeyData, other: &KeyData) -> bool
@@ -187,7 +199,7 @@ pub fn judge_key<H: HmacSha1>(
     let name = known_name(alloc, host, port)?;
     let mut found = Verdict::Unknown;
     for line in FilledLines::new(text) {
-        found = graver(found, line_verdict(alloc, line, name.as_str(), key, hmac)?);
+        found = found.graver(line_verdict(alloc, line, name.as_str(), key, hmac)?);
     }
     Ok(found)
 }

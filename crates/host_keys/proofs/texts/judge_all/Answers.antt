@@ -2,7 +2,7 @@ use Rattle.std.proofs.Common.{ℕ, List, sym, subst}
 use Rattle.ssh_key.specs.entries.HostNames.{known_name}
 use Rattle.ssh_key.specs.keys.Keys.{key_of}
 use Rattle.ssh_key.specs.known_hosts.Verdicts.{IsVerdict}
-use Rattle.host_keys.proofs.SeveralTexts.{all_lines, both, more_lines, of_error, some_line}
+use Rattle.host_keys.proofs.SeveralTexts.{all_lines, more_lines, of_error, some_line}
 use Rattle.host_keys.proofs.texts.judge_all.Goals as goal
 
 pub returns-in_err-judge_key-clause-asks : goal.returns-in_err-judge_key-clause-asks
@@ -14,7 +14,7 @@ loop-text-preserved g c =
     let name = known_name c.args.host.now c.args.port in
     let key = key_of c.args.key.now in
     subst (λ (lines : List (List ℕ)). IsVerdict hmac name key lines c.graver-found.result) (sym (more_lines c.args.texts.now c.loop-text.text-index _ c.loop-text-test.true))
-    (subst (IsVerdict hmac name key _) (sym c.graver-found.ensures) (both hmac name key _ _ c.loop-text.found c.in_ok-judge_key.field-0 c.loop-text.invariant c.in_ok-judge_key.ensures.answer))
+    (c.graver-found.ensures.together hmac name key _ _ c.loop-text.invariant c.in_ok-judge_key.ensures.answer)
 
 pub returns-clause-answer : goal.returns-clause-answer
 returns-clause-answer g c =

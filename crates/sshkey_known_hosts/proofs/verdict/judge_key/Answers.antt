@@ -4,7 +4,7 @@ use Rattle.sshkey_files.specs.HostNames.{known_name}
 use Rattle.sshkey_keys.specs.Keys.{key_of}
 use Rattle.sshkey_known_hosts.specs.Verdicts.{IsVerdict}
 use Rattle.sshkey_known_hosts.specs.declared.verdict.Verdict.TheVariants.{Unknown}
-use Rattle.sshkey_known_hosts.proofs.Verdicts.{both, no_lines, nothing}
+use Rattle.sshkey_known_hosts.proofs.Verdicts.{no_lines, nothing}
 use Rattle.sshkey_known_hosts.proofs.verdict.judge_key.Goals as goal
 
 pub loop-line-preserved : goal.loop-line-preserved
@@ -20,7 +20,7 @@ loop-line-preserved g c =
       (
         was.0 ++ (line ∷ []),
         was.1 ∙ ap (λ (l : List (List ℕ)). was.0 ++ l) c.in-Some.ensures.steps ∙ sym (append_assoc was.0 (line ∷ []) c.next.new.self),
-        subst (IsVerdict hmac name key (was.0 ++ (line ∷ []))) (sym c.graver-found.ensures) (both hmac name key was.0 (line ∷ []) c.loop-line.found c.in_ok-line_verdict.field-0 was.2 said),
+        c.graver-found.ensures.together hmac name key was.0 (line ∷ []) was.2 said,
       ),
     )
 
