@@ -3,6 +3,7 @@
  *
  *     certificate BYTES                      what has to be verified
  *     sshsig BYTES NAMESPACE MESSAGE         the same, and the signer
+ *     sshsig-of-digest BYTES NAMESPACE DIGEST
  *     validate BYTES SECOND PRINCIPAL|* AUTHORITY IS-VERIFIED
  *     fields BYTES                           numbers of a certificate
  *     key BYTES                              the fingerprint, and its text
@@ -95,15 +96,18 @@ static void ask_certificate(blob certificate) {
   free(room.bytes);
 }
 
-static void ask_sshsig(blob signature, blob space, blob message) {
+typedef uint32_t ask_of_sshsig(const uint8_t *, size_t, const uint8_t *, size_t, const uint8_t *,
+                               size_t, uint8_t *, size_t, sshkey_question *, sshkey_sha256 *);
+
+static void ask_sshsig(ask_of_sshsig *call, blob signature, blob space, blob covered) {
   blob room = made(2 * signature.length + space.length + 256);
   sshkey_question question;
   sshkey_sha256 signer;
   memset(&question, FILLED, sizeof question);
   memset(&signer, FILLED, sizeof signer);
-  uint32_t answer = sshkey_sshsig_question(
-      signature.bytes, signature.length, space.bytes, space.length, message.bytes, message.length,
-      room.bytes, room.length, &question, &signer);
+  uint32_t answer = call(signature.bytes, signature.length, space.bytes, space.length,
+                         covered.bytes, covered.length, room.bytes, room.length, &question,
+                         &signer);
   say_question(answer, &question, room);
   if (answer == SSHKEY_DONE) say_bytes(signer.bytes, sizeof signer.bytes);
   free(room.bytes);
@@ -319,11 +323,12 @@ static void ask(char **words) {
     ask_strings(first);
   } else if (!strcmp(what, "key")) {
     ask_key(first);
-  } else if (!strcmp(what, "sshsig")) {
-    blob space = bytes_of(words[2]), message = bytes_of(words[3]);
-    ask_sshsig(first, space, message);
+  } else if (!strcmp(what, "sshsig") || !strcmp(what, "sshsig-of-digest")) {
+    blob space = bytes_of(words[2]), covered = bytes_of(words[3]);
+    ask_sshsig(what[6] ? sshkey_sshsig_question_of_digest : sshkey_sshsig_question, first, space,
+               covered);
     free(space.bytes);
-    free(message.bytes);
+    free(covered.bytes);
   } else if (!strcmp(what, "validate")) {
     blob authority = bytes_of(words[4]);
     ask_validate(first, words[2], words[3], authority, words[5]);

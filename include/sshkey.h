@@ -11,7 +11,7 @@
  *
  * An SSH signature (`ssh-keygen -Y sign`) needs no third step: it is valid exactly if
  * sshkey_sshsig_question answers SSHKEY_DONE, your verification says yes, and the signer's key is
- * one that you trust for that namespace.
+ * one that you trust for that namespace. The digest of the message does in place of the message.
  *
  * What you owe, which nothing checks:
  *
@@ -69,7 +69,8 @@ enum {
   SSHKEY_CHARACTER_ENCODING = 11, /* a text is not UTF-8, or has a character that no name has */
   SSHKEY_LABEL = 12,              /* a name that is none of those that may stand there */
   SSHKEY_LENGTH = 13,             /* a stated length passes the bytes, or is not the one wanted; a
-                                     word of a line is missing */
+                                     word of a line is missing; a digest is not as long as one by
+                                     the signature's hash */
   SSHKEY_TRAILING_DATA = 14,      /* bytes stand behind the end */
   SSHKEY_FORMAT = 15,             /* a value does not keep the form of its kind */
   SSHKEY_ALGORITHM_UNKNOWN = 16,  /* two names differ that have to be one, or a point begins with 00
@@ -395,6 +396,16 @@ uint32_t sshkey_sshsig_question(const uint8_t *signature, size_t signature_lengt
                                 const uint8_t *name_space, size_t name_space_length,
                                 const uint8_t *message, size_t message_length, uint8_t *room,
                                 size_t room_length, sshkey_question *answer, sshkey_sha256 *signer);
+
+/* The same with the digest of the message in place of the message, so that a long one need not be
+ * in memory. The hash is the one that the signature names, in its fourth string from byte 10 on
+ * (sshkey_next_string): sha256 or sha512. Where a digest has not the 32 or 64 bytes of that hash,
+ * SSHKEY_LENGTH; else what sshkey_sshsig_question answers of each message with that digest. */
+uint32_t sshkey_sshsig_question_of_digest(const uint8_t *signature, size_t signature_length,
+                                          const uint8_t *name_space, size_t name_space_length,
+                                          const uint8_t *digest, size_t digest_length,
+                                          uint8_t *room, size_t room_length,
+                                          sshkey_question *answer, sshkey_sha256 *signer);
 
 /* ---- normal forms ---------------------------------------------------------------------------- */
 

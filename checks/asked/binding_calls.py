@@ -8,6 +8,10 @@ none), numbers and names:
 
     certificate BYTES | signature KEY MESSAGE SIGNATURE      0 ALGORITHM KEY MESSAGE SIGNATURE
     sshsig BYTES NAMESPACE MESSAGE                           the same, and the SIGNER
+    sshsig-of-digest BYTES NAMESPACE DIGEST
+    sshsig-hash BYTES                                        0 NAME
+    is-sshsig BYTES NAMESPACE MESSAGE SIGNERS                0, or what is wrong first
+    is-sshsig-of-digest BYTES NAMESPACE DIGEST SIGNERS
     is-signature KEY MESSAGE SIGNATURE                       0 and 1 if it verifies, else 0
     validate BYTES SECOND PRINCIPAL|* AUTHORITIES 0|1        0, or what is wrong first, where a verification says no or yes
     user BYTES KEY SECOND USER AUTHORITIES OPTION            what validate_user says, as check.py prints it, where the critical
@@ -41,7 +45,7 @@ from dataclasses import dataclass
 
 from lib.harness import string
 
-from . import entry_calls, host_calls
+from . import digest_calls, entry_calls, host_calls
 from .certificate_calls import CASES, certificate_of, fields_in
 from .key_calls import COMMENTS, encoded, numbers_of_keys, points_of_keys, signed_by, signed_by_hand, turned
 from .linked import run
@@ -101,6 +105,20 @@ class Answers:
 
     def sshsig(self, *given):
         return self.asked(*self.sshkey.sshsig_question(*map(data_of, given)))
+
+    def sshsig_of_digest(self, *given):
+        return self.asked(*self.sshkey.sshsig_question_of_digest(*map(data_of, given)))
+
+    def sshsig_hash(self, data):
+        return ["0", self.sshkey.sshsig_hash(data_of(data))]
+
+    def is_sshsig(self, *given):
+        *words, by = given
+        return [str(int(self.check.judge_signature(*map(data_of, words), self.digests(by))))]
+
+    def is_sshsig_of_digest(self, *given):
+        *words, by = given
+        return [str(int(self.check.judge_signature_of_digest(*map(data_of, words), self.digests(by))))]
 
     def is_signature(self, *given):
         return ["0", str(int(self.check.is_signature(self.sshkey.signature_question(*map(data_of, given)))))]
@@ -233,7 +251,10 @@ def check_hostile(judge):
     """Bytes of checks/hostile, of each kind by each call that reads it."""
     asked = {
         "certificate": ["certificate {}", "fields {}", "lists {}", "normal certificate {}"], "key": ["key {}", "normal key {}"],
-        "ssh-signature": [f"sshsig {{}} {b'file'.hex()} {b'message'.hex()}", "normal sshsig {}"],
+        "ssh-signature": [
+            f"sshsig {{}} {b'file'.hex()} {b'message'.hex()}", f"sshsig-of-digest {{}} {b'file'.hex()} {'a5' * 64}", "sshsig-hash {}",
+            "normal sshsig {}",
+        ],
     }  # fmt: skip
     for kind, calls in asked.items():
         some = [data for of, data, _ in judge.made.hostile if of == kind][::HOSTILE]
@@ -323,6 +344,12 @@ def check_keys(judge):
     judge.ask("keys made by hand", questions, wanted)
 
 
+def check_digests(judge):
+    """What keys signed, by the digest of the text."""
+    questions, wanted = digest_calls.questions_of(judge.made)
+    judge.ask("digests of what keys signed", questions, wanted)
+
+
 def check_lines(judge):
     """Lines of keys and of certificates, with comments and with a byte turned."""
     made = judge.made
@@ -367,6 +394,7 @@ def check_binding(count, asker, made):
     check_certificates(judge)
     check_logins(judge)
     check_keys(judge)
+    check_digests(judge)
     check_lines(judge)
     check_entries(judge)
     check_hosts(judge)
@@ -382,6 +410,8 @@ def check_stub(count, asker, made, number):
     by, name = "00" * 32, b"alice".hex()
     questions = [
         f"certificate {blob}", f"signature {key} 00 {key}", f"sshsig {key} {name} 00", f"is-signature {key} 00 {key}",
+        f"sshsig-of-digest {key} {name} {by}", f"sshsig-hash {key}", f"is-sshsig {key} {name} 00 {by}",
+        f"is-sshsig-of-digest {key} {name} {by} {by}",
         f"validate {blob} 7 * {by} 1", f"validate {blob} 7 {name} {by} 1", f"fields {blob}", f"lists {blob}",
         f"certificate-options {blob}", f"strings {blob}", f"key {key}", f"line {name}", f"normal key {key}",
         f"normal certificate {blob}", f"normal sshsig {key}", f"normal signature {key}", f"join {blob} {key}", f"entry {name}",

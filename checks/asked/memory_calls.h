@@ -95,6 +95,8 @@ typedef struct {
   CALL(fingerprint_sha512_text, (const sshkey_sha512 *)it->spans[0].bytes, ROOM)                 \
   CALL(signature_question, BYTES(0), BYTES(1), BYTES(2), ROOM, &it->question)                    \
   CALL(sshsig_question, BYTES(0), BYTES(1), BYTES(2), ROOM, &it->question, &it->sha256)          \
+  CALL(sshsig_question_of_digest, BYTES(0), BYTES(1), BYTES(2), ROOM, &it->question,             \
+       &it->sha256)                                                                              \
   CALL(key_normal, BYTES(0), ROOM, &it->length)                                                  \
   CALL(certificate_normal, BYTES(0), ROOM, &it->length)                                          \
   CALL(sshsig_normal, BYTES(0), ROOM, &it->length)                                               \

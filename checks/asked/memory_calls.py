@@ -12,8 +12,8 @@ SPANS, NUMBERS = 7, 5
 # with a room, and so with one that is too short
 ROOMS = {
     "certificate_question", "certificate_key", "certificate_to_be_signed", "certificate_make", "read_line", "fingerprint_text",
-    "fingerprint_sha512_text", "signature_question", "sshsig_question", "key_normal", "certificate_normal", "sshsig_normal",
-    "signature_normal", "authorized_entry", "known_host", "nth_option",
+    "fingerprint_sha512_text", "signature_question", "sshsig_question", "sshsig_question_of_digest", "key_normal",
+    "certificate_normal", "sshsig_normal", "signature_normal", "authorized_entry", "known_host", "nth_option",
 }  # fmt: skip
 # those that take memory only where the bytes are values, and of these those that take it only for a key under another name than
 # its own, as the header says
@@ -67,6 +67,11 @@ def of_signature(maker, key):
     yield "sshsig_question", [file, b"file", b"text"], [], "DONE"
     yield "sshsig_question", [file, b"git", b"text"], [], "OTHER_NAMESPACE"
     yield "sshsig_question", [file[:-1], b"file", b"text"], [], "LENGTH"
+    digest = hashlib.sha512(b"text").digest()
+    yield "sshsig_question_of_digest", [file, b"file", digest], [], "DONE"
+    yield "sshsig_question_of_digest", [file, b"git", digest], [], "OTHER_NAMESPACE"
+    yield "sshsig_question_of_digest", [file, b"file", digest[:32]], [], "LENGTH"
+    yield "sshsig_question_of_digest", [file[:-1], b"file", digest], [], "LENGTH"
     yield "sshsig_normal", [file], [], "DONE"
     yield "sshsig_normal", [file + b"!"], [], "TRAILING_DATA"
     yield "signature_question", [blob, message, signature], [], "DONE"

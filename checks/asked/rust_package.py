@@ -1,5 +1,6 @@
 """The package in Rust of examples/rust, and its program check, for checks/bindings: how they are built, their own tests, what
 docs/FOREIGN.md shows of them, and what the program has beside check.py."""
+import hashlib
 import os
 import re
 import time
@@ -86,7 +87,8 @@ def check_under_valgrind(count, asker, made):
         questions += [f"{it} {blob}" for it in ("certificate", "fields", "lists", "strings", "normal certificate")]
         questions += [f"{it} {key}" for it in ("key", "normal key")]
         questions += [f"{it} {key} {message} {signature}" for it in ("signature", "is-signature")]
-        questions += [f"sshsig {sshsig} {file} {text}", f"normal sshsig {sshsig}", f"normal signature {signature}"]
+        questions += [f"sshsig {sshsig} {file} {text}", f"sshsig-of-digest {sshsig} {file} {hashlib.sha512(b'text').hexdigest()}"]
+        questions += [f"sshsig-hash {sshsig}", f"normal sshsig {sshsig}", f"normal signature {signature}"]
         questions += [f"validate {blob} {made.middle} {it} {by} 1" for it in ("*", alice, eve)]
         questions += [f"user {blob} {key} {made.middle} {alice} {by} -"]
         questions += [f"join {signed.hex()} {kind.blob[len(signed) + 4 :].hex()}", f"line {line.hex()}"]

@@ -174,8 +174,18 @@ def validate_host(certificate: bytes, now: int, host: str | bytes, port: int, te
 
 def judge_signature(signature: bytes, namespace: str, message: bytes, signers: Collection[bytes]) -> Status:
     """Status.DONE, or what is wrong first. The signers, by the fingerprints of their keys, are those of that namespace."""
+    return judge_question(lambda: sshkey.sshsig_question(signature, namespace, message), signers)
+
+
+def judge_signature_of_digest(signature: bytes, namespace: str, digest: bytes, signers: Collection[bytes]) -> Status:
+    """The same of a message with that digest, by the hash that sshkey.sshsig_hash names."""
+    return judge_question(lambda: sshkey.sshsig_question_of_digest(signature, namespace, digest), signers)
+
+
+def judge_question(ask: Callable[[], tuple[sshkey.Question, bytes]], signers: Collection[bytes]) -> Status:
+    """The same of the question that is asked."""
     try:
-        question, signer = sshkey.sshsig_question(signature, namespace, message)
+        question, signer = ask()
     except sshkey.Refused as refused:
         return refused.status
     if not is_signature(question):

@@ -4,6 +4,7 @@ package main
 
 import (
 	"bufio"
+	"crypto"
 	"encoding/hex"
 	"errors"
 	"fmt"
@@ -21,7 +22,8 @@ type answer func(words []string) ([]string, error)
 
 var answers = map[string]answer{
 	"certificate": certificate, "signature": signature, "sshsig": sshsig,
-	"is-signature": isSignature, "validate": validate, "user": user, "fields": fields,
+	"sshsig-of-digest": sshsigOfDigest, "sshsig-hash": sshsigHash, "is-sshsig": isSSHSig,
+	"is-sshsig-of-digest": isSSHSigOfDigest, "is-signature": isSignature, "validate": validate, "user": user, "fields": fields,
 	"lists": lists, "certificate-options": certificateOptions, "strings": stringsOf, "key": key,
 	"line": line, "normal": normal, "draft": draft, "join": join, "lines": lines, "entry": entry,
 	"host": host, "options": options, "host-certificate": hostCertificate,
@@ -142,6 +144,35 @@ func sshsig(words []string) ([]string, error) {
 	question, signer, err := sshkey.SSHSigQuestion(data(words[0]), text(words[1]), data(words[2]))
 	found, err := asked(question, err)
 	return append(found, word(signer[:])), err
+}
+
+func sshsigOfDigest(words []string) ([]string, error) {
+	question, signer, err := sshkey.SSHSigQuestionOfDigest(
+		data(words[0]), text(words[1]), data(words[2]),
+	)
+	found, err := asked(question, err)
+	return append(found, word(signer[:])), err
+}
+
+func sshsigHash(words []string) ([]string, error) {
+	hash, err := sshkey.SSHSigHash(data(words[0]))
+	names := map[crypto.Hash]string{crypto.SHA256: "sha256", crypto.SHA512: "sha512"}
+	if err == nil && !hash.Available() {
+		panic(hash)
+	}
+	return []string{names[hash]}, err
+}
+
+func isSSHSig(words []string) ([]string, error) {
+	return nil, judge.ValidateSSHSig(
+		data(words[0]), text(words[1]), data(words[2]), digests(words[3]),
+	)
+}
+
+func isSSHSigOfDigest(words []string) ([]string, error) {
+	return nil, judge.ValidateSSHSigOfDigest(
+		data(words[0]), text(words[1]), data(words[2]), digests(words[3]),
+	)
 }
 
 func isSignature(words []string) ([]string, error) {

@@ -4,7 +4,7 @@
 
 use std::io::{self, BufRead};
 
-use sshkey::{CertificateType, Draft, Listed, Principal, Question, Sha256, Status};
+use sshkey::{CertificateType, Draft, HashAlgorithm, Listed, Principal, Question, Sha256, Status};
 
 #[allow(dead_code)]
 #[path = "../../../examples/rust/src/bin/check.rs"]
@@ -71,6 +71,29 @@ fn asked(question: &Question, signer: Option<Sha256>) -> Answer {
 fn sshsig(signature: &[u8], namespace: &[u8], message: &[u8]) -> Answer {
     let (question, signer) = sshkey::sshsig_question(signature, namespace, message)?;
     asked(&question, Some(signer))
+}
+
+fn sshsig_of_digest(signature: &[u8], namespace: &[u8], digest: &[u8]) -> Answer {
+    let (question, signer) = sshkey::sshsig_question_of_digest(signature, namespace, digest)?;
+    asked(&question, Some(signer))
+}
+
+fn sshsig_hash(signature: &[u8]) -> Answer {
+    let name = match sshkey::sshsig_hash(signature)? {
+        HashAlgorithm::Sha256 => "sha256",
+        HashAlgorithm::Sha512 => "sha512",
+    };
+    words([String::from(name)])
+}
+
+fn is_sshsig(what: &str, given: &[&str]) -> Answer {
+    let (signature, space, covered) = (data(given[0]), data(given[1]), data(given[2]));
+    let (by, verifies) = (digests(given[3]), check::verify::verifies);
+    Ok(number_of(if what == "is-sshsig" {
+        sshkey::judge_sshsig(&signature, space, &covered, &by, verifies)
+    } else {
+        sshkey::judge_sshsig_of_digest(&signature, space, &covered, &by, verifies)
+    }))
 }
 
 fn is_signature(key: &[u8], message: &[u8], signature: &[u8]) -> Answer {
@@ -290,6 +313,11 @@ fn answer(question: &str) -> Answer {
             asked(&sshkey::signature_question(key, message, signature)?, None)
         }
         ("sshsig", [signature, namespace, message]) => sshsig(signature, namespace, message),
+        ("sshsig-of-digest", [signature, namespace, digest]) => {
+            sshsig_of_digest(signature, namespace, digest)
+        }
+        ("sshsig-hash", [signature]) => sshsig_hash(signature),
+        (what @ ("is-sshsig" | "is-sshsig-of-digest"), _) => is_sshsig(what, given),
         ("is-signature", [key, message, signature]) => is_signature(key, message, signature),
         ("validate", _) => validate(given),
         ("user", _) => user(given),

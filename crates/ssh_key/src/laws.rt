@@ -166,6 +166,7 @@ pub use sshkey_private::laws::plain_padded_private_key;
 pub use sshkey_private::laws::prefix_padded_private_key;
 pub use sshkey_public::laws::compared_public_keys;
 pub use sshkey_sshsig::laws::compared_ssh_signatures;
+pub use sshkey_sshsig::laws::digest_parts_fit;
 pub use sshkey_sshsig::laws::one_ssh_signature;
 pub use sshkey_sshsig::laws::signed_parts_fit;
 pub use sshkey_to_be_signed::laws::compared_signed_fields;

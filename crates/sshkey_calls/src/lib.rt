@@ -40,6 +40,6 @@ pub use part::Part;
 pub use question::{Question, certificate_question};
 pub use signature::signature_question;
 pub use signed::certificate_make;
-pub use sshsig::sshsig_question;
+pub use sshsig::{sshsig_question, sshsig_question_of_digest};
 pub use validity::{certificate_validate, certificate_validate_for};
 pub use walk::next_string;

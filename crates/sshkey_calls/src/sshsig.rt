@@ -1,6 +1,7 @@
 //! What has to be verified of an SSH signature.
 
-ghost use Rattle.std.specs.Prelude.{◌≡◌, ◌≢◌, ◌↔◌, Err, IfSome, IsTrue, None, Some};
+ghost use Rattle.std.specs.Prelude.{◌≡◌, ◌≢◌, ◌↔◌, Err, IfSome, IsTrue, None, Some, length};
+ghost use Rattle.sshkey_base.specs.Digests.{digest_len};
 ghost use Rattle.sshkey_keys.specs.Keys.{key_of};
 ghost use Rattle.sshkey_keys.specs.Questions.{question_of};
 ghost use Rattle.sshkey_model.specs.Names.{Sha256};
@@ -13,10 +14,10 @@ ghost use Rattle.sshkey_sshsig.specs.SshSignatures.{ssh_signature_of};
 ghost use Rattle.sshkey_calls.specs.Fingerprints.{GivesDigestOf};
 ghost use Rattle.sshkey_calls.specs.Numbers.{fault_number};
 ghost use Rattle.sshkey_calls.specs.Questions.{GivesQuestion};
-ghost use Rattle.sshkey_calls.specs.SshSignatures.{IsSignerOf, NeedsSshSignature, RaisedBySshSignature, TellsNoneOfSshSignature};
+ghost use Rattle.sshkey_calls.specs.SshSignatures.{IsSignerOf, NeedsSshSignature, RaisedByDigest, RaisedBySshSignature, RaisesOfDigest, TellsNoneOfDigest, TellsNoneOfSshSignature, signed_with_digest};
 
 use crate::digest::Sha256Digest;
-use crate::number::{DONE, MEMORY, OTHER_NAMESPACE, UNSUPPORTED, error_number};
+use crate::number::{DONE, LENGTH, MEMORY, OTHER_NAMESPACE, UNSUPPORTED, error_number};
 use crate::question::{Question, answer_with};
 use sshkey_base::HashAlg;
 use sshkey_keys::{KeyData, Question as Asked};
@@ -62,6 +63,45 @@ pub fn sshsig_question(
     }
 }
 
+/// The same with the digest of the message, by the hash that the signature names, in place of the
+/// message: who has digested a file piece by piece needs no more of it.
+///
+/// Returns what `sshsig_question` returns for each message that has this digest. And where the bytes
+/// spell an SSH signature in that namespace, 13 for a digest of another length than the hash's, 32
+/// bytes for SHA-256 and 64 for SHA-512.
+pub fn sshsig_question_of_digest(
+    alloc: Global,
+    signature: &[u8],
+    namespace: &[u8],
+    digest: &[u8],
+    room: &mut [u8],
+    answer: &mut Question,
+    signer: &mut Sha256Digest,
+) -> u32
+    ensures raised { GivesQuestion (RaisedByDigest signature.now namespace.now digest.now)
+        result answer.old answer.new room.old room.new }
+    ensures unsupported { TellsNoneOfDigest signature.now namespace.now digest.now result }
+    ensures signer { result ≡ 0 → IsSignerOf signature.now signer.new.bytes }
+    ensures stays { result ≢ 0 → signer.new ≡ signer.old }
+    ensures namespace { (f : SshSignature) → SpellsSshSignature f signature.now
+        → f.namespace ≢ namespace.now → result ≢ 1 → result ≡ 41 }
+    ensures length { (f : SshSignature) → SpellsSshSignature f signature.now
+        → f.namespace ≡ namespace.now → length digest.now ≢ digest_len f.hash
+        → result ≢ 1 → result ≡ 13 }
+    ensures fault { (fault : Fault) → whole ssh_signature_value_at signature.now ≡ Err fault
+        → result ≢ 1 → result ≡ fault_number fault }
+    ensures memory { result ≡ 1 → NeedsSshSignature signature.now }
+{
+    match SshSig::from_bytes(alloc, signature) {
+        Ok(read) => if is_in(&read, namespace) {
+            ask_of_digest(alloc, &read, digest, room, answer, signer)
+        } else {
+            OTHER_NAMESPACE
+        },
+        Err(error) => error_number(error),
+    }
+}
+
 /// Whether the signature is in the namespace.
 fn is_in(signature: &SshSig, namespace: &[u8]) -> bool
     ensures { IsTrue result
@@ -70,7 +110,7 @@ fn is_in(signature: &SshSig, namespace: &[u8]) -> bool
     signature.namespace().as_bytes() == namespace
 }
 
-/// The same of a signature that was read, and is in the namespace.
+/// The same of the message and a signature that was read, and is in the namespace.
 fn ask(
     alloc: Global,
     read: &SshSig,
@@ -93,7 +133,58 @@ fn ask(
     let Ok(signed) = read.signed_bytes(alloc, message) else {
         return MEMORY;
     };
-    match read.public_key().question(&signed, read.signature()) {
+    ask_about(alloc, read, &signed, room, answer, signer)
+}
+
+/// The same of the digest of the message. 13 where it has another length than the hash's.
+fn ask_of_digest(
+    alloc: Global,
+    read: &SshSig,
+    digest: &[u8],
+    room: &mut [u8],
+    answer: &mut Question,
+    signer: &mut Sha256Digest,
+) -> u32
+    ensures raised { GivesQuestion (RaisesOfDigest (ssh_signature_of read.now) digest.now)
+        result answer.old answer.new room.old room.new }
+    ensures unsupported { length digest.now ≡ digest_len (ssh_signature_of read.now).hash
+        → question (ssh_signature_of read.now).key
+        (signed_with_digest (ssh_signature_of read.now) digest.now)
+        (ssh_signature_of read.now).signature ≡ None → result ≢ 1 → result ≡ 40 }
+    ensures signer { result ≡ 0
+        → GivesDigestOf Sha256 (ssh_signature_of read.now).key signer.new.bytes }
+    ensures stays { result ≢ 0 → signer.new ≡ signer.old }
+    ensures length { length digest.now ≢ digest_len (ssh_signature_of read.now).hash
+        → result ≡ 13 }
+{
+    if digest.len() != read.hash_alg().digest_size() {
+        return LENGTH;
+    }
+    let Ok(signed) = read.signed_bytes_of_digest(alloc, digest) else {
+        return MEMORY;
+    };
+    ask_about(alloc, read, &signed, room, answer, signer)
+}
+
+/// The same of what is signed in place of the message.
+fn ask_about(
+    alloc: Global,
+    read: &SshSig,
+    signed: &[u8],
+    room: &mut [u8],
+    answer: &mut Question,
+    signer: &mut Sha256Digest,
+) -> u32
+    ensures raised { GivesQuestion (λ q. question (ssh_signature_of read.now).key signed.now
+        (ssh_signature_of read.now).signature ≡ Some q)
+        result answer.old answer.new room.old room.new }
+    ensures unsupported { question (ssh_signature_of read.now).key signed.now
+        (ssh_signature_of read.now).signature ≡ None → result ≢ 1 → result ≡ 40 }
+    ensures signer { result ≡ 0
+        → GivesDigestOf Sha256 (ssh_signature_of read.now).key signer.new.bytes }
+    ensures stays { result ≢ 0 → signer.new ≡ signer.old }
+{
+    match read.public_key().question(signed, read.signature()) {
         Some(question) => {
             let Some(digest) = digest_of(alloc, read.public_key()) else {
                 return MEMORY;

@@ -3,6 +3,7 @@ use Rattle.std.specs.Prelude.{◌≡◌, ◌≢◌, ◌⊎◌, ◌||◌, ℕ, Li
 use Rattle.sshkey_model.specs.Keys.{Key, key_algorithm}
 use Rattle.sshkey_model.specs.Parts.{Parts, flat, BoxesFit}
 use Rattle.sshkey_model.specs.SignedMessages.{signed_message, IsVerified}
+use Rattle.sshkey_model.specs.SshSignatures.{signed_data}
 use Rattle.sshkey_model.specs.Verification.{Question}
 use Rattle.sshkey_base.specs.Names.{hash_of, algorithm_of}
 use Rattle.sshkey_base.specs.declared.algorithm.hash.HashAlg.{HashAlg}
@@ -18,6 +19,10 @@ use Rattle.sshkey_sshsig.specs.SshSignatures.{ssh_signature_of}
 -- the parts that a signature of the message has signed
 abbrev pub signed_parts : SshSig → List ℕ → Parts
 signed_parts f message = signed_message (ssh_signature_of f).namespace (ssh_signature_of f).reserved (ssh_signature_of f).hash message
+
+-- the same of a message with the digest
+abbrev pub digest_parts : SshSig → List ℕ → Parts
+digest_parts f digest = signed_data (ssh_signature_of f).namespace (ssh_signature_of f).reserved (ssh_signature_of f).hash digest
 
 -- a key that a security key holds
 abbrev pub is_security_key : Key → Bool

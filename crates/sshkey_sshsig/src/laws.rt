@@ -1,11 +1,12 @@
 //! Laws of SSH signatures: each stands for all values, and makes no call.
 
-ghost use Rattle.std.specs.Prelude.{◌≡◌, ◌++◌, ℕ, List};
+ghost use Rattle.std.specs.Prelude.{◌≡◌, ◌++◌, ℕ, List, length};
 ghost use Rattle.sshkey_base.specs.Comparisons.{EqualMeanSame, IsEqualityAmong};
+ghost use Rattle.sshkey_base.specs.Digests.{digest_len};
 ghost use Rattle.sshkey_model.specs.Parts.{BoxesFit};
 ghost use Rattle.sshkey_model.specs.SshSignatures.{SshSignature};
 ghost use Rattle.sshkey_sshsig.specs.Comparisons.{IsByKey};
-ghost use Rattle.sshkey_sshsig.specs.Signing.{signed_parts};
+ghost use Rattle.sshkey_sshsig.specs.Signing.{digest_parts, signed_parts};
 ghost use Rattle.sshkey_sshsig.specs.SshSignatureReaders.{SpellsSshSignature};
 ghost use Rattle.sshkey_sshsig.specs.SshSignatures.{ssh_signature_of};
 
@@ -37,4 +38,12 @@ pub fn one_ssh_signature()
 pub fn signed_parts_fit()
     ensures { (f : SshSig) (bytes message : List ℕ) →
         SpellsSshSignature (ssh_signature_of f) bytes → BoxesFit (signed_parts f message) }
+{}
+
+/// The same of what it signs in place of a message with a digest: `signed_bytes_of_digest` of one
+/// that was read is rejected only for the digest's length, or when out of memory.
+pub fn digest_parts_fit()
+    ensures { (f : SshSig) (bytes digest : List ℕ) →
+        SpellsSshSignature (ssh_signature_of f) bytes →
+        length digest ≡ digest_len (ssh_signature_of f).hash → BoxesFit (digest_parts f digest) }
 {}

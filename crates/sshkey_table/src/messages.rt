@@ -27,6 +27,21 @@ fn signed(alloc: Global, signature: &SshSig, message: &[u8]) -> Result<String> {
     Ok(hex::encode(alloc, &signature.signed_bytes(alloc, message)?)?)
 }
 
+/// The same with the digest of the message in place of the message.
+pub(crate) fn data_of_digest(alloc: Global, parts: &[Vec<u8>]) -> Result<String> {
+    let hash = HashAlg::new(text(parts, 1)?)?;
+    let signed = SshSig::signed_data_of_digest(alloc, text(parts, 0)?, hash, part(parts, 2))?;
+    Ok(hex::encode(alloc, &signed)?)
+}
+
+/// What the SSH signature that the first byte string spells signs of a message with the digest that
+/// is the second.
+pub(crate) fn bytes_of_digest(alloc: Global, parts: &[Vec<u8>]) -> Result<String> {
+    let signature = SshSig::from_bytes(alloc, part(parts, 0))?;
+    let signed = signature.signed_bytes_of_digest(alloc, part(parts, 1))?;
+    Ok(hex::encode(alloc, &signed)?)
+}
+
 /// The SSH signature that the holder of the key which the first byte string is makes in the
 /// namespace that is the second, by the hash that the third names, of the message that is the
 /// fourth. It signs with 64 bytes 00.

@@ -181,6 +181,8 @@ fn answer_of_messages(alloc: Global, question: &str, parts: &[Vec<u8>]) -> Resul
         "ssh-signature" => wire::whole::<SshSig>(alloc, bytes),
         "signed-data" => messages::data(alloc, parts),
         "signed-bytes" => messages::bytes(alloc, parts),
+        "signed-data-of-digest" => messages::data_of_digest(alloc, parts),
+        "signed-bytes-of-digest" => messages::bytes_of_digest(alloc, parts),
         "ssh-signature-made" => messages::made(alloc, parts),
         "verified" => messages::verified(alloc, parts),
         "public-key" => certificates::public_key(alloc, bytes),

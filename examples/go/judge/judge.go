@@ -105,6 +105,23 @@ func ValidateSSHSig(
 	signature []byte, namespace string, message []byte, signers []sshkey.SHA256,
 ) error {
 	question, signer, err := sshkey.SSHSigQuestion(signature, namespace, message)
+	return judgeSSHSig(question, signer, err, signers)
+}
+
+// ValidateSSHSigOfDigest does the same with the digest of the message in place of the message, by
+// the hash that sshkey.SSHSigHash gives.
+func ValidateSSHSigOfDigest(
+	signature []byte, namespace string, digest []byte, signers []sshkey.SHA256,
+) error {
+	question, signer, err := sshkey.SSHSigQuestionOfDigest(signature, namespace, digest)
+	return judgeSSHSig(question, signer, err, signers)
+}
+
+// judgeSSHSig gives nil where the question was asked, the verification says yes and the signer is
+// one of those.
+func judgeSSHSig(
+	question sshkey.Question, signer sshkey.SHA256, err error, signers []sshkey.SHA256,
+) error {
 	if err != nil {
 		return err
 	}

@@ -1,6 +1,8 @@
 package judge_test
 
 import (
+	"crypto"
+	"crypto/sha256"
 	"encoding/base64"
 	"encoding/hex"
 	"errors"
@@ -151,6 +153,42 @@ func TestValidateSSHSig(t *testing.T) {
 	signature[len(signature)-1] ^= 1
 	err = judge.ValidateSSHSig(signature, "file", text, by)
 	same(t, "a turned bit", err, sshkey.ErrNotSigned)
+}
+
+// The same signature, which has a digest by SHA-512.
+func TestValidateSSHSigOfDigest(t *testing.T) {
+	text, rows := []byte(read(t, "text")), strings.Fields(read(t, "text.sig"))
+	signature, err := base64.StdEncoding.DecodeString(strings.Join(rows[3:len(rows)-3], ""))
+	if err != nil {
+		t.Fatal(err)
+	}
+	hash, err := sshkey.SSHSigHash(signature)
+	same(t, "error", err, nil)
+	same(t, "hash", hash, crypto.SHA512)
+	state := hash.New()
+	state.Write(text)
+	right, short := state.Sum(nil), sha256.Sum256(text)
+	other := append([]byte{right[0] ^ 1}, right[1:]...)
+	signer, _ := sshkey.Fingerprint(blob(t, "signer.pub"))
+	by := []sshkey.SHA256{signer}
+	for _, it := range []struct {
+		what, space string
+		digest      []byte
+		by          []sshkey.SHA256
+		wanted      error
+	}{
+		{"valid", "file", right, by, nil},
+		{"another namespace", "git", right, by, sshkey.ErrOtherNamespace},
+		{"another digest", "file", other, by, sshkey.ErrNotSigned},
+		{"by SHA-256", "file", short[:], by, sshkey.ErrLength},
+		{"no digest", "file", nil, by, sshkey.ErrLength},
+		{"no signer", "file", right, nil, sshkey.ErrUntrustedAuthority},
+	} {
+		found := judge.ValidateSSHSigOfDigest(signature, it.space, it.digest, it.by)
+		same(t, it.what, found, it.wanted)
+	}
+	_, err = sshkey.SSHSigHash(signature[1:])
+	same(t, "no signature", err, sshkey.ErrFormat)
 }
 
 func TestValidateUser(t *testing.T) {

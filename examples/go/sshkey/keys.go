@@ -4,6 +4,9 @@ package sshkey
 import "C"
 
 import (
+	"crypto"
+	_ "crypto/sha256" // for crypto.SHA256
+	_ "crypto/sha512" // for crypto.SHA512
 	"encoding/binary"
 	"math"
 )
@@ -115,6 +118,47 @@ func SSHSigQuestion(signature []byte, namespace string, message []byte) (Questio
 			of.pointer(), of.length(), to.at, to.length, answer, signer.pointer())
 	})
 	return asked, signer, err
+}
+
+// SSHSigQuestionOfDigest gives the same with the digest of the message in place of the message, so
+// that a long one need not be in memory: by the hash that SSHSigHash gives. It fails with ErrLength
+// also where the digest is not as long as one by that hash.
+func SSHSigQuestionOfDigest(
+	signature []byte, namespace string, digest []byte,
+) (Question, SHA256, error) {
+	var signer SHA256
+	in, space, of := inputOf(signature), inputOf(namespace), inputOf(digest)
+	asked, err := question(2*len(in)+256, func(to room, answer *C.sshkey_question) C.uint32_t {
+		return C.sshkey_sshsig_question_of_digest(in.pointer(), in.length(), space.pointer(),
+			space.length(), of.pointer(), of.length(), to.at, to.length, answer, signer.pointer())
+	})
+	return asked, signer, err
+}
+
+// sshsigFront is the length of what stands in front of the strings of an SSH signature: SSHSIG and
+// its version.
+const sshsigFront = 10
+
+// SSHSigHash gives the hash by which an SSH signature digests its message: crypto.SHA256 or
+// crypto.SHA512. It fails with a Status for bytes that are none, and with ErrMemory.
+func SSHSigHash(signature []byte) (crypto.Hash, error) {
+	normal, err := NormalSSHSig(signature)
+	if err != nil {
+		return 0, err
+	}
+	// the key, the namespace, what is reserved, the hash's name and the signature
+	parts, err := Strings(normal[sshsigFront:])
+	if err != nil {
+		return 0, err
+	}
+	switch string(parts[3]) {
+	case "sha256":
+		return crypto.SHA256, nil
+	case "sha512":
+		return crypto.SHA512, nil
+	default:
+		return 0, ErrLabel
+	}
 }
 
 // ---- normal forms

@@ -8,7 +8,7 @@ Cryptography is yours. A certificate takes two calls, with your verification bet
 
 It is valid exactly if `status == Status.DONE`; any other says what is wrong first. An SSH signature takes one call: it is valid
 exactly if sshsig_question gives a question, your verification of it says yes, and the signer is one that you trust for that
-namespace.
+namespace; sshsig_question_of_digest takes the digest of the message.
 
 Each call says what it raises: Refused, which is a ValueError, for bytes that are not what they have to be, and MemoryError, of
 which nothing follows about them. All raise TypeError for a text in place of bytes and for a number that is not whole, and
@@ -40,7 +40,9 @@ from ._keys import (
     normal_sshsig,
     read_line,
     signature_question,
+    sshsig_hash,
     sshsig_question,
+    sshsig_question_of_digest,
     string,
     strings,
 )
@@ -68,6 +70,6 @@ __all__ = [
     "authorized_entry", "certificate_contents", "certificate_fields", "certificate_question", "certificate_to_be_signed",
     "entry_lines", "entry_options", "fingerprint", "fingerprint_sha512", "fingerprint_sha512_text", "fingerprint_text",
     "host_verdict", "join_certificate", "known_host", "make_certificate", "normal_certificate", "normal_key", "normal_signature",
-    "normal_sshsig", "options", "read_line", "signature_question", "sshsig_question", "string", "strings",
-    "validate_certificate",
+    "normal_sshsig", "options", "read_line", "signature_question", "sshsig_hash", "sshsig_question", "sshsig_question_of_digest",
+    "string", "strings", "validate_certificate",
 ]  # fmt: skip

@@ -9,6 +9,8 @@ from ._library import LIBRARY, ask, bytes_of, digests_of, done, parts_of, text_o
 from ._values import Algorithm, BytesLike, Line, Question, Status
 
 FINGERPRINT_TEXT, FINGERPRINT_SHA512_TEXT = 50, 93
+# what stands in front of the strings of an SSH signature: SSHSIG and its version
+SSHSIG_FRONT = 10
 
 
 def question_of(call: Callable[..., int], length: int) -> Question:
@@ -79,11 +81,30 @@ def sshsig_question(
     """What has to be verified of an SSH signature (what stands in its armour, decoded) of the message in that namespace, and the
     fingerprint of the key that signed, which has to be one that you trust for that namespace. Raises Refused where the bytes are
     none or one for another namespace, or where key and signature do not go together, and MemoryError."""
-    given, signer = (*bytes_of(signature), *text_of(namespace), *bytes_of(message)), _library.Sha256()
-    question = question_of(
-        lambda *room: LIBRARY.sshkey_sshsig_question(*given, *room, ctypes.byref(signer)), sum(given[1::2]) + 256
-    )
+    return _sshsig_question(LIBRARY.sshkey_sshsig_question, signature, namespace, message)
+
+
+def sshsig_question_of_digest(
+    signature: BytesLike, namespace: str | BytesLike, digest: BytesLike
+) -> tuple[Question, bytes]:  # fmt: skip
+    """The same with the digest of the message in place of the message, so that a long one need not be in memory: by the hash that
+    sshsig_hash names. Raises Refused, with Status.LENGTH, also where the digest is not as long as one by that hash."""
+    return _sshsig_question(LIBRARY.sshkey_sshsig_question_of_digest, signature, namespace, digest)
+
+
+def _sshsig_question(
+    call: Callable[..., int], signature: BytesLike, namespace: str | BytesLike, covered: BytesLike
+) -> tuple[Question, bytes]:  # fmt: skip
+    given, signer = (*bytes_of(signature), *text_of(namespace), *bytes_of(covered)), _library.Sha256()
+    question = question_of(lambda *room: call(*given, *room, ctypes.byref(signer)), sum(given[1::2]) + 256)
     return question, bytes(signer.bytes)
+
+
+def sshsig_hash(signature: BytesLike) -> str:
+    """The hash by which an SSH signature digests its message, as hashlib names it: sha256 or sha512. Raises Refused where the
+    bytes are none, and MemoryError."""
+    _, _, _, name, _ = strings(normal_sshsig(signature)[SSHSIG_FRONT:])
+    return name.decode("ascii")
 
 
 # ---- normal forms

@@ -1,6 +1,5 @@
 //! Lines of keys and certificates, what keys sign, and normal forms.
 
-use crate::digests::Sha256;
 use crate::questions::Question;
 use crate::raw;
 use crate::rooms::{ask, written};
@@ -73,61 +72,6 @@ pub fn signature_question(
             )
         }
     })
-}
-
-/// What has to be verified of an SSH signature (what stands in its armour, Base64 decoded) of the
-/// message in that namespace, and the fingerprint of the key that signed, which has to be one that
-/// you trust for that namespace: [`judge_sshsig`] asks both. Fails with a number from 10 to 29
-/// where the bytes are none, with [`Status::OTHER_NAMESPACE`], with [`Status::UNSUPPORTED`] where
-/// key and signature do not go together, and with [`Status::MEMORY`].
-pub fn sshsig_question(
-    signature: &[u8],
-    namespace: impl AsRef<[u8]>,
-    message: &[u8],
-) -> Result<(Question, Sha256), Status> {
-    let namespace = namespace.as_ref();
-    let enough = signature.len().saturating_mul(2).saturating_add(256);
-    let mut signer = Sha256 { bytes: [0; 32] };
-    let question = Question::of_call(enough, |room, answer| {
-        // SAFETY: each pointer has the length of its slice beside it; the slices are lent for
-        // longer than the call, and room, answer and signer are each borrowed by it alone.
-        unsafe {
-            raw::sshkey_sshsig_question(
-                signature.as_ptr(),
-                signature.len(),
-                namespace.as_ptr(),
-                namespace.len(),
-                message.as_ptr(),
-                message.len(),
-                room.as_mut_ptr(),
-                room.len(),
-                answer,
-                &mut signer,
-            )
-        }
-    })?;
-    Ok((question, signer))
-}
-
-/// Whether an SSH signature is one of the message in that namespace, by one of the signers, which
-/// are those that you trust for it: `verify` answers its question. Fails as [`sshsig_question`]
-/// does, with [`Status::NOT_SIGNED`] where `verify` says no, and with
-/// [`Status::UNTRUSTED_AUTHORITY`] where another signed.
-pub fn judge_sshsig(
-    signature: &[u8],
-    namespace: impl AsRef<[u8]>,
-    message: &[u8],
-    signers: &[Sha256],
-    verify: impl FnOnce(&Question) -> bool,
-) -> Result<(), Status> {
-    let (question, signer) = sshsig_question(signature, namespace, message)?;
-    if !verify(&question) {
-        return Err(Status::NOT_SIGNED);
-    }
-    if !signers.contains(&signer) {
-        return Err(Status::UNTRUSTED_AUTHORITY);
-    }
-    Ok(())
 }
 
 /// A call that writes what it makes of some bytes to a room: bytes, room, and the length of what

@@ -46,6 +46,7 @@ mod questions;
 pub mod raw;
 mod refusal;
 mod rooms;
+mod sshsigs;
 mod status;
 mod strings;
 
@@ -63,11 +64,15 @@ pub use files::{
 };
 pub use hosts::{validate_host, Host};
 pub use keys::{
-    judge_sshsig, normal_certificate, normal_key, normal_signature, normal_sshsig, read_line,
-    signature_question, sshsig_question, Line,
+    normal_certificate, normal_key, normal_signature, normal_sshsig, read_line, signature_question,
+    Line,
 };
 pub use logins::{validate_user, Login};
 pub use questions::{Algorithm, Question};
 pub use refusal::Refusal;
+pub use sshsigs::{
+    judge_sshsig, judge_sshsig_of_digest, sshsig_hash, sshsig_question, sshsig_question_of_digest,
+    HashAlgorithm,
+};
 pub use status::Status;
 pub use strings::{string, strings, Strings};

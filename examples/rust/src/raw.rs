@@ -264,6 +264,18 @@ extern "C" {
         answer: *mut Question,
         signer: *mut Sha256,
     ) -> u32;
+    pub(crate) fn sshkey_sshsig_question_of_digest(
+        signature: *const u8,
+        signature_length: usize,
+        name_space: *const u8,
+        name_space_length: usize,
+        digest: *const u8,
+        digest_length: usize,
+        room: *mut u8,
+        room_length: usize,
+        answer: *mut Question,
+        signer: *mut Sha256,
+    ) -> u32;
     pub(crate) fn sshkey_key_normal(
         key: *const u8,
         key_length: usize,

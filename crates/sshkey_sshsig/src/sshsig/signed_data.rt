@@ -1,12 +1,15 @@
 //! What is signed in place of a message.
 
-ghost use Rattle.std.specs.Prelude.{◌≡◌, ◌+◌, ◌*◌, ◌^◌, ◌≢◌, [], Err};
+ghost use Rattle.std.specs.Prelude.{◌≡◌, ◌+◌, ◌*◌, ◌^◌, ◌≢◌, [], Err, length};
+ghost use Rattle.sshkey_base.specs.Digests.{digest_len};
 ghost use Rattle.sshkey_base.specs.Names.{hash_of};
+ghost use Rattle.sshkey_base.specs.declared.encoding.Error.TheVariants as encoding;
 ghost use Rattle.sshkey_base.specs.declared.error.Error.TheVariants as wide;
 ghost use Rattle.sshkey_keys.specs.Blobs.{MakesBlob};
 ghost use Rattle.sshkey_model.specs.SignedMessages.{signed_message};
 ghost use Rattle.sshkey_model.specs.SshSignatures.{signed_data};
-ghost use Rattle.sshkey_sshsig.specs.Signing.{signed_parts};
+ghost use Rattle.sshkey_sshsig.specs.Signing.{digest_parts, signed_parts};
+ghost use Rattle.sshkey_sshsig.specs.SshSignatures.{ssh_signature_of};
 
 use super::SshSig;
 use super::wire::MAGIC;
@@ -75,7 +78,26 @@ pub(super) fn signed_bytes(
     }
 }
 
-/// The same with the digest of the message.
+/// The same of a message with that digest. `Length` for a digest of another length than the hash's.
+fn bytes_of_digest(
+    alloc: Global,
+    namespace: &str,
+    reserved: &[u8],
+    hash_alg: HashAlg,
+    digest: &[u8],
+) -> Result<Vec<u8>>
+    ensures length { length digest.now ≢ digest_len (hash_of hash_alg)
+        → result ≡ Err (wide.Encoding encoding.Length) }
+    ensures bytes { length digest.now ≡ digest_len (hash_of hash_alg) → MakesBlob
+        (signed_data namespace.now reserved.now (hash_of hash_alg) digest.now) result }
+{
+    if digest.len() != hash_alg.digest_size() {
+        return Err(Error::Encoding(encoding::Error::Length));
+    }
+    bytes_with(alloc, namespace, reserved, hash_alg, digest)
+}
+
+/// The same with the digest of the message, whatever length it has.
 fn bytes_with(
     alloc: Global,
     namespace: &str,
@@ -117,6 +139,29 @@ impl SshSig {
         signed_bytes(alloc, namespace, &[], hash_alg, message)
     }
 
+    /// What `signed_data` returns for a message with that digest by the hash.
+    ///
+    /// Fails with `Namespace` exactly if the namespace is empty. Else fails with `Length` exactly
+    /// if the digest has another length than `HashAlg::digest_size`, or the namespace is longer
+    /// than 2^32 - 1 bytes, and otherwise only with `Memory`.
+    pub fn signed_data_of_digest(
+        alloc: Global,
+        namespace: &str,
+        hash_alg: HashAlg,
+        digest: &[u8],
+    ) -> Result<Vec<u8>>
+        ensures empty { namespace.now ≡ [] → result ≡ Err wide.Namespace }
+        ensures length { namespace.now ≢ [] → length digest.now ≢ digest_len (hash_of hash_alg)
+            → result ≡ Err (wide.Encoding encoding.Length) }
+        ensures bytes { namespace.now ≢ [] → length digest.now ≡ digest_len (hash_of hash_alg)
+            → MakesBlob (signed_data namespace.now [] (hash_of hash_alg) digest.now) result }
+    {
+        if namespace.is_empty() {
+            return Err(Error::Namespace);
+        }
+        bytes_of_digest(alloc, namespace, &[], hash_alg, digest)
+    }
+
     /// The bytes that this signature signs, if it is one of the message: `SSHSIG`, its own
     /// namespace, reserved bytes and hash's name, and the digest of the message by that hash.
     ///
@@ -131,6 +176,25 @@ impl SshSig {
             self.reserved(),
             self.hash_alg,
             message,
+        )
+    }
+    /// What `signed_bytes` returns for a message with that digest by the signature's own hash.
+    ///
+    /// Fails with `Length` exactly if the digest has another length than `HashAlg::digest_size`, or
+    /// the namespace or the reserved bytes are longer than 2^32 - 1 bytes, and otherwise only with
+    /// `Memory`.
+    pub fn signed_bytes_of_digest(&self, alloc: Global, digest: &[u8]) -> Result<Vec<u8>>
+        ensures length { length digest.now ≢ digest_len (ssh_signature_of self.now).hash
+            → result ≡ Err (wide.Encoding encoding.Length) }
+        ensures bytes { length digest.now ≡ digest_len (ssh_signature_of self.now).hash
+            → MakesBlob (digest_parts self.now digest.now) result }
+    {
+        bytes_of_digest(
+            alloc,
+            self.namespace(),
+            self.reserved(),
+            self.hash_alg,
+            digest,
         )
     }
 }

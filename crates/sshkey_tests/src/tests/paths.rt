@@ -96,6 +96,7 @@ pub mod laws {
     pub use ssh_key::laws::compared_times;
     pub use ssh_key::laws::compared_types;
     pub use ssh_key::laws::decode_private_key;
+    pub use ssh_key::laws::digest_parts_fit;
     pub use ssh_key::laws::equal_authorized_keys;
     pub use ssh_key::laws::equal_certificate_refusals;
     pub use ssh_key::laws::equal_config_opts;

@@ -116,7 +116,7 @@ fn calls_are_those_of_the_header() {
     let header = calls(HEADER, "uint32_t sshkey_", ");", parameter);
     let source = calls(SOURCE, "pub(crate) fn sshkey_", ") -> u32;", str::to_string);
     assert_eq!(source, header);
-    assert_eq!(source.len(), 27);
+    assert_eq!(source.len(), 28);
 }
 
 /// The numbers of the header by the rest of their names, of those that begin so.

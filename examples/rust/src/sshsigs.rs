@@ -1,0 +1,154 @@
+//! SSH signatures (PROTOCOL.sshsig), by their messages or the digests of these.
+
+use crate::digests::Sha256;
+use crate::keys::normal_sshsig;
+use crate::questions::Question;
+use crate::raw;
+use crate::status::Status;
+use crate::strings::strings;
+
+/// A call that asks for the question of an SSH signature: the signature, the namespace, the message
+/// or its digest, the room, and what is written.
+type Ask = unsafe extern "C" fn(
+    *const u8,
+    usize,
+    *const u8,
+    usize,
+    *const u8,
+    usize,
+    *mut u8,
+    usize,
+    *mut raw::Question,
+    *mut Sha256,
+) -> u32;
+
+/// What such a call writes. Fails with what it answers.
+fn question_by(
+    call: Ask,
+    signature: &[u8],
+    namespace: &[u8],
+    covered: &[u8],
+) -> Result<(Question, Sha256), Status> {
+    let enough = signature.len().saturating_mul(2).saturating_add(256);
+    let mut signer = Sha256 { bytes: [0; 32] };
+    let question = Question::of_call(enough, |room, answer| {
+        // SAFETY: `call` is one of sshkey.h, which takes these; each pointer has the length of its
+        // slice beside it; the slices are lent for longer than the call, and room, answer and
+        // signer are each borrowed by it alone.
+        unsafe {
+            call(
+                signature.as_ptr(),
+                signature.len(),
+                namespace.as_ptr(),
+                namespace.len(),
+                covered.as_ptr(),
+                covered.len(),
+                room.as_mut_ptr(),
+                room.len(),
+                answer,
+                &mut signer,
+            )
+        }
+    })?;
+    Ok((question, signer))
+}
+
+/// What has to be verified of an SSH signature (what stands in its armour, Base64 decoded) of the
+/// message in that namespace, and the fingerprint of the key that signed, which has to be one that
+/// you trust for that namespace: [`judge_sshsig`] asks both. Fails with a number from 10 to 29
+/// where the bytes are none, with [`Status::OTHER_NAMESPACE`], with [`Status::UNSUPPORTED`] where
+/// key and signature do not go together, and with [`Status::MEMORY`].
+pub fn sshsig_question(
+    signature: &[u8],
+    namespace: impl AsRef<[u8]>,
+    message: &[u8],
+) -> Result<(Question, Sha256), Status> {
+    let namespace = namespace.as_ref();
+    question_by(raw::sshkey_sshsig_question, signature, namespace, message)
+}
+
+/// The same with the digest of the message in place of the message, so that a long one need not be
+/// in memory: by the hash that [`sshsig_hash`] gives. Fails with [`Status::LENGTH`] also where the
+/// digest is not as long as one by that hash.
+pub fn sshsig_question_of_digest(
+    signature: &[u8],
+    namespace: impl AsRef<[u8]>,
+    digest: &[u8],
+) -> Result<(Question, Sha256), Status> {
+    let (call, namespace) = (raw::sshkey_sshsig_question_of_digest, namespace.as_ref());
+    question_by(call, signature, namespace, digest)
+}
+
+/// Whether an SSH signature is one of the message in that namespace, by one of the signers, which
+/// are those that you trust for it: `verify` answers its question. Fails as [`sshsig_question`]
+/// does, with [`Status::NOT_SIGNED`] where `verify` says no, and with
+/// [`Status::UNTRUSTED_AUTHORITY`] where another signed.
+pub fn judge_sshsig(
+    signature: &[u8],
+    namespace: impl AsRef<[u8]>,
+    message: &[u8],
+    signers: &[Sha256],
+    verify: impl FnOnce(&Question) -> bool,
+) -> Result<(), Status> {
+    judge(
+        sshsig_question(signature, namespace, message)?,
+        signers,
+        verify,
+    )
+}
+
+/// The same of a message with that digest. Fails as [`sshsig_question_of_digest`] and
+/// [`judge_sshsig`] do.
+pub fn judge_sshsig_of_digest(
+    signature: &[u8],
+    namespace: impl AsRef<[u8]>,
+    digest: &[u8],
+    signers: &[Sha256],
+    verify: impl FnOnce(&Question) -> bool,
+) -> Result<(), Status> {
+    judge(
+        sshsig_question_of_digest(signature, namespace, digest)?,
+        signers,
+        verify,
+    )
+}
+
+/// Whether the question is answered with yes, and the signer is one of those.
+fn judge(
+    (question, signer): (Question, Sha256),
+    signers: &[Sha256],
+    verify: impl FnOnce(&Question) -> bool,
+) -> Result<(), Status> {
+    if !verify(&question) {
+        return Err(Status::NOT_SIGNED);
+    }
+    if !signers.contains(&signer) {
+        return Err(Status::UNTRUSTED_AUTHORITY);
+    }
+    Ok(())
+}
+
+/// A hash by which SSH signatures digest their messages.
+#[derive(Clone, Copy, Debug, PartialEq, Eq, Hash)]
+pub enum HashAlgorithm {
+    /// SHA-256, 32 bytes.
+    Sha256,
+    /// SHA-512, 64 bytes.
+    Sha512,
+}
+
+/// What stands in front of the strings of an SSH signature: `SSHSIG` and its version.
+const FRONT: usize = 10;
+
+/// The hash by which an SSH signature digests its message. Fails with a number from 10 to 29 where
+/// the bytes are none, and with [`Status::MEMORY`].
+pub fn sshsig_hash(signature: &[u8]) -> Result<HashAlgorithm, Status> {
+    let normal = normal_sshsig(signature)?;
+    // behind the key, the namespace and what is reserved
+    let name = strings(normal.get(FRONT..).unwrap_or_default()).nth(3);
+    match name.transpose()? {
+        Some(b"sha256") => Ok(HashAlgorithm::Sha256),
+        Some(b"sha512") => Ok(HashAlgorithm::Sha512),
+        _ => Err(Status::LABEL),
+    }
+}
