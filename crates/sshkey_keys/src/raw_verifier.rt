@@ -3,6 +3,7 @@
 ghost use Rattle.std.specs.Prelude.{◌≡◌, Bool, IfOk};
 ghost use Rattle.sshkey_model.specs.Verification.{Question};
 ghost use Rattle.sshkey_base.specs.Names.{algorithm_of};
+ghost use Rattle.sshkey_keys.specs.Asked.{IsAsked};
 ghost use Rattle.sshkey_keys.specs.Keys.{key_of};
 
 use crate::key_data::KeyData;
@@ -31,6 +32,12 @@ pub trait RawVerifier {
         message: &[u8],
         signature: &[u8],
     ) -> std::result::Result<bool, AllocError>
+        requires { IsAsked (record {
+          algorithm = algorithm_of algorithm.now;
+          key = key_of key.now;
+          message = message.now;
+          blob = signature.now;
+        }) }
         ensures { IfOk result (λ yes. yes ≡ accepts self.now (record {
           algorithm = algorithm_of algorithm.now;
           key = key_of key.now;
