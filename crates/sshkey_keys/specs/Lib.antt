@@ -8,6 +8,7 @@ pub mod SignatureForms
 pub mod Signatures
 pub mod Questions
 pub mod Verdicts
+pub mod Asked
 pub mod Blobs
 pub mod SignatureReaders
 pub mod KeyFormats

@@ -1,8 +1,9 @@
 //! What a caller gives, to say whether a signature is valid.
 
-ghost use Rattle.std.specs.Prelude.{◌≡◌, Bool, IfOk};
+ghost use Rattle.std.specs.Prelude.{◌≡◌, Bool, IfOk, IfErr};
 ghost use Rattle.sshkey_model.specs.Verification.{Question};
 ghost use Rattle.sshkey_base.specs.Names.{algorithm_of};
+ghost use Rattle.sshkey_keys.specs.Asked.{IsAsked};
 ghost use Rattle.sshkey_keys.specs.Keys.{key_of};
 
 use crate::key_data::KeyData;
@@ -21,6 +22,9 @@ pub trait RawVerifier {
     /// Which signatures it accepts, a function of its value and the question.
     ghost accepts: { Self → Question → Bool };
 
+    /// Of which questions it may run out of memory; of all, unless an implementation says less.
+    ghost runs_out: { Self → Question → Type 0 } = { λ _ _. Unit {0} };
+
     /// Returns whether these bytes are a signature of the message under the key by the algorithm.
     ///
     /// Fails with `AllocError` if it runs out of memory; nothing is said of the signature then.
@@ -31,7 +35,19 @@ pub trait RawVerifier {
         message: &[u8],
         signature: &[u8],
     ) -> std::result::Result<bool, AllocError>
-        ensures { IfOk result (λ yes. yes ≡ accepts self.now (record {
+        requires { IsAsked (record {
+          algorithm = algorithm_of algorithm.now;
+          key = key_of key.now;
+          message = message.now;
+          blob = signature.now;
+        }) }
+        ensures answer { IfOk result (λ yes. yes ≡ accepts self.now (record {
+          algorithm = algorithm_of algorithm.now;
+          key = key_of key.now;
+          message = message.now;
+          blob = signature.now;
+        })) }
+        ensures memory { IfErr result (λ _. runs_out self.now (record {
           algorithm = algorithm_of algorithm.now;
           key = key_of key.now;
           message = message.now;

@@ -1,9 +1,10 @@
 //! How a signature is verified: by what the caller's verifier says to one question.
 
 ghost use Rattle.std.specs.Prelude.{◌≡◌};
-ghost use Rattle.sshkey_model.specs.Verification.{IsAccepted};
+ghost use Rattle.sshkey_model.specs.Verification.{IsAccepted, question};
 ghost use Rattle.sshkey_base.specs.Acceptance.{AcceptsExactly};
 ghost use Rattle.sshkey_base.specs.Names.{IsFixed, algorithm_of};
+ghost use Rattle.sshkey_keys.specs.Asked.{AsksVerifier};
 ghost use Rattle.sshkey_keys.specs.Keys.{key_of};
 ghost use Rattle.sshkey_keys.specs.Signatures.{signature_of};
 ghost use Rattle.sshkey_keys.specs.Verdicts.{IsUnsupported, NamesFixed, Verifies, unsupported_of, verdict};
@@ -35,6 +36,8 @@ impl KeyData {
         ensures exactly { AcceptsExactly (IsAccepted (V.accepts verifier.now) (key_of self.now)
             message.now (signature_of signature.now)) result }
         ensures unasked { NamesFixed self.now message.now signature.now result }
+        ensures memory { AsksVerifier (V.runs_out verifier.now)
+            (question (key_of self.now) message.now (signature_of signature.now)) result }
     {
         let Some(question) = self.question(message, signature) else {
             return Err(unsupported(alloc, self.unsupported_algorithm(signature)));

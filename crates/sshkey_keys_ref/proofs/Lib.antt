@@ -6,4 +6,5 @@ pub mod PlainHeads
 pub mod DigestedKeys
 pub mod KeysByKind
 pub mod Dispatching
+pub mod Asking
 pub mod KeysOfOneSize

@@ -1,10 +1,10 @@
 -- What is answered about a key and a signature that are slices.
-use Rattle.std.specs.Prelude.{◌≡◌, ◌≢◌, ℕ, List, [], Bool, None, Result, Ok, Err, IfOk}
+use Rattle.std.specs.Prelude.{◌≡◌, ◌≢◌, ℕ, List, [], Bool, Some, None, Result, Ok, Err, IfOk}
 use Rattle.sshkey_model.specs.Keys.{Key}
 use Rattle.sshkey_model.specs.Names.{Algorithm}
 use Rattle.sshkey_model.specs.Reading.{whole}
 use Rattle.sshkey_model.specs.Signatures.{Signature, IsSignatureBlob, signature_blob_at}
-use Rattle.sshkey_model.specs.Verification.{Question, question, is_yes, IsAccepted}
+use Rattle.sshkey_model.specs.Verification.{Question, asked, question, is_yes, IsAccepted}
 use Rattle.sshkey_keys.specs.Keys.{SpellsKey, key_data_at}
 use Rattle.sshkey_keys.specs.SignatureReaders.{SpellsSignature}
 
@@ -42,6 +42,14 @@ DispatchesKind Is accepts key message g r = (k : Key) → whole key_data_at key 
 -- The verifier's answer about a signature by this algorithm under the key that the bytes spell.
 abbrev pub Answered : {E : Type 0} → (Question → Bool) → List ℕ → List ℕ → Signature → Result Bool E → Type 0
 Answered accepts key message g r = (k : Key) → whole key_data_at key ≡ Ok k → IfOk r (λ answer. answer ≡ accepts (record { algorithm = g.algorithm; key = k; message = message; blob = g.blob }))
+
+-- So is the key that the bytes spell.
+abbrev pub IsOfKind : (Key → Type 0) → List ℕ → Type 0
+IsOfKind Is key = (k : Key) → whole key_data_at key ≡ Ok k → Is k
+
+-- A signature by that algorithm is asked about under the key itself.
+abbrev pub IsAskedItself : Algorithm → Key → Type 0
+IsAskedItself a k = (message blob : List ℕ) → question k message (signature_by a blob) ≡ Some (asked k message (signature_by a blob))
 
 -- These bytes stand behind the length of a string.
 abbrev pub IsBlobIn : List ℕ → List ℕ → Type 0

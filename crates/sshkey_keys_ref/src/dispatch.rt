@@ -6,7 +6,7 @@ ghost use Rattle.sshkey_model.specs.Signatures.{IsSignatureBlob};
 ghost use Rattle.sshkey_kinds.specs.EcdsaPublicKey.{ecdsa_key_of};
 ghost use Rattle.sshkey_kinds.specs.Kinds.{ed25519_of};
 ghost use Rattle.sshkey_keys.specs.KeyKinds.{is_dsa, is_rsa};
-ghost use Rattle.sshkey_keys_ref.specs.Dispatch.{Answered, AreAccepted, Dispatches, DispatchesBytes, DispatchesKey, DispatchesKind, IsBlobIn, signature_by};
+ghost use Rattle.sshkey_keys_ref.specs.Dispatch.{Answered, AreAccepted, Dispatches, DispatchesBytes, DispatchesKey, DispatchesKind, IsAskedItself, IsBlobIn, IsOfKind, signature_by};
 ghost use Rattle.sshkey_keys_ref.specs.KeyDataRef.{key_bytes};
 ghost use Rattle.sshkey_keys_ref.specs.Kinds.{sk_ecdsa_of, sk_ed25519_of};
 ghost use Rattle.sshkey_keys_ref.specs.NameRef.{named_of};
@@ -63,6 +63,7 @@ impl KeyDataRef<'_> {
         blob: &[u8],
         verifier: &V,
     ) -> std::result::Result<bool, AllocError>
+        requires { IsSignatureBlob (named_of name.now) blob.now }
         ensures { DispatchesKey (V.accepts verifier.now) (key_bytes self.now) message.now
             (named_of name.now) blob.now result }
     {
@@ -81,6 +82,7 @@ impl KeyDataRef<'_> {
         blob: &[u8],
         verifier: &V,
     ) -> std::result::Result<bool, AllocError>
+        requires { IsSignatureBlob (algorithm_of algorithm.now) blob.now }
         ensures { DispatchesKey (V.accepts verifier.now) (key_bytes self.now) message.now
             (algorithm_of algorithm.now) blob.now result }
     {
@@ -104,6 +106,8 @@ impl KeyDataRef<'_> {
         blob: &[u8],
         verifier: &V,
     ) -> std::result::Result<bool, AllocError>
+        requires form { IsSignatureBlob (algorithm_of algorithm.now) blob.now }
+        requires kind { IsOfKind (λ k. is_dsa k ≡ true) (key_bytes self.now) }
         ensures { DispatchesKind (λ k. is_dsa k ≡ true) (V.accepts verifier.now)
             (key_bytes self.now) message.now
             (signature_by (algorithm_of algorithm.now) blob.now) result }
@@ -123,6 +127,8 @@ impl KeyDataRef<'_> {
         blob: &[u8],
         verifier: &V,
     ) -> std::result::Result<bool, AllocError>
+        requires form { IsSignatureBlob (algorithm_of algorithm.now) blob.now }
+        requires kind { IsOfKind (λ k. is_rsa k ≡ true) (key_bytes self.now) }
         ensures { DispatchesKind (λ k. is_rsa k ≡ true) (V.accepts verifier.now)
             (key_bytes self.now) message.now
             (signature_by (algorithm_of algorithm.now) blob.now) result }
@@ -142,6 +148,8 @@ impl KeyDataRef<'_> {
         blob: &[u8],
         verifier: &V,
     ) -> std::result::Result<bool, AllocError>
+        requires form { IsSignatureBlob (algorithm_of algorithm.now) blob.now }
+        requires kind { IsOfKind (IsAskedItself (algorithm_of algorithm.now)) (key_bytes self.now) }
         ensures { Answered (V.accepts verifier.now) (key_bytes self.now) message.now
             (signature_by (algorithm_of algorithm.now) blob.now) result }
     {
@@ -163,6 +171,7 @@ fn blob_in(bytes: &[u8]) -> &[u8]
 }
 
 /// The answer of an ECDSA key.
+#[tactic(auto, using(crate::proofs::Asking::ecdsa_asked))]
 fn ask_ecdsa<V: RawVerifier>(
     key: EcdsaPublicKey,
     message: &[u8],
@@ -170,6 +179,7 @@ fn ask_ecdsa<V: RawVerifier>(
     blob: &[u8],
     verifier: &V,
 ) -> std::result::Result<bool, AllocError>
+    requires { IsSignatureBlob (algorithm_of algorithm.now) blob.now }
     ensures { Dispatches (V.accepts verifier.now) (ecdsa_key_of key) message.now
         (signature_by (algorithm_of algorithm.now) blob.now) result }
 {
@@ -180,6 +190,7 @@ fn ask_ecdsa<V: RawVerifier>(
 }
 
 /// The answer of an Ed25519 key.
+#[tactic(auto, using(crate::proofs::Asking::ed25519_asked))]
 fn ask_ed25519<V: RawVerifier>(
     key: Ed25519PublicKey,
     message: &[u8],
@@ -187,6 +198,7 @@ fn ask_ed25519<V: RawVerifier>(
     blob: &[u8],
     verifier: &V,
 ) -> std::result::Result<bool, AllocError>
+    requires { IsSignatureBlob (algorithm_of algorithm.now) blob.now }
     ensures { Dispatches (V.accepts verifier.now) (ed25519_of key) message.now
         (signature_by (algorithm_of algorithm.now) blob.now) result }
 {
@@ -197,6 +209,7 @@ fn ask_ed25519<V: RawVerifier>(
 }
 
 /// The answer of a P-256 key that a security key holds.
+#[tactic(auto, using(crate::proofs::Asking::sk_ecdsa_within))]
 fn ask_sk_ecdsa<V: RawVerifier>(
     key: &SkEcdsaRef<'_>,
     message: &[u8],
@@ -204,8 +217,8 @@ fn ask_sk_ecdsa<V: RawVerifier>(
     blob: &[u8],
     verifier: &V,
 ) -> std::result::Result<bool, AllocError>
-    ensures { IsSignatureBlob (algorithm_of algorithm.now) blob.now →
-        Dispatches (V.accepts verifier.now) (sk_ecdsa_of key.now) message.now
+    requires { IsSignatureBlob (algorithm_of algorithm.now) blob.now }
+    ensures { Dispatches (V.accepts verifier.now) (sk_ecdsa_of key.now) message.now
         (signature_by (algorithm_of algorithm.now) blob.now) result }
 {
     if !matches!(algorithm, Algorithm::SkEcdsaSha2NistP256) {
@@ -219,6 +232,7 @@ fn ask_sk_ecdsa<V: RawVerifier>(
 }
 
 /// The answer of an Ed25519 key that a security key holds.
+#[tactic(auto, using(crate::proofs::Asking::sk_ed25519_within))]
 fn ask_sk_ed25519<V: RawVerifier>(
     key: &SkEd25519Ref<'_>,
     message: &[u8],
@@ -226,10 +240,9 @@ fn ask_sk_ed25519<V: RawVerifier>(
     blob: &[u8],
     verifier: &V,
 ) -> std::result::Result<bool, AllocError>
-    ensures { IsSignatureBlob (algorithm_of algorithm.now) blob.now →
-        Dispatches (V.accepts verifier.now)
-        (sk_ed25519_of key.now) message.now (signature_by (algorithm_of algorithm.now) blob.now)
-        result }
+    requires { IsSignatureBlob (algorithm_of algorithm.now) blob.now }
+    ensures { Dispatches (V.accepts verifier.now) (sk_ed25519_of key.now) message.now
+        (signature_by (algorithm_of algorithm.now) blob.now) result }
 {
     if !matches!(algorithm, Algorithm::SkEd25519) {
         return Ok(false);

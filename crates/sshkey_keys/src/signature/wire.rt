@@ -31,7 +31,8 @@ impl Signature {
     /// Reads a signature from the front of the bytes, whatever follows it.
     ///
     /// It is rejected only if no front spells a signature, with the errors of `decode`, or for
-    /// memory that ran out, never where a stated length passes the bytes: that is `Length`.
+    /// memory that ran out. A stated length that passes the bytes is `Length`, unless memory ran
+    /// out for a private-use name before it.
     pub fn from_front(alloc: Global, bytes: &[u8]) -> Result<Signature>
         ensures reads { ReadsFrontOf signature_of signature_at SpellsSignature cause
             bytes.now result }
@@ -44,8 +45,8 @@ impl Signature {
     /// Reads a signature that all the bytes spell.
     ///
     /// They are rejected only if they spell no signature, `TrailingData` with the number of bytes
-    /// after one, else the errors of `decode`; or for memory that ran out, never where a stated
-    /// length passes the bytes: that is `Length`.
+    /// after one, else the errors of `decode`; or for memory that ran out. A stated length that
+    /// passes the bytes is `Length`, unless memory ran out for a private-use name before it.
     pub fn from_bytes(alloc: Global, bytes: &[u8]) -> Result<Signature>
         ensures gives { GivesWhole signature_of cause (whole signature_at)
             (all_of bytes.now) result }

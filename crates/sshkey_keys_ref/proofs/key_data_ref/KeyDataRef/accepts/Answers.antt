@@ -1,6 +1,7 @@
 use Rattle.sshkey_keys.specs.KeyReaders.{key_grammar}
 use Rattle.sshkey_keys.specs.SignatureReaders.{signature_grammar}
 use Rattle.sshkey_keys_ref.specs.NameRef.{named_of}
+use Rattle.sshkey_keys_ref.proofs.Asking.{blob_formed}
 use Rattle.sshkey_keys_ref.proofs.Dispatching.{dispatched, no_signature}
 use Rattle.sshkey_keys_ref.proofs.Spelled.{accepted_exactly, some_spelled}
 use Rattle.sshkey_keys_ref.proofs.key_data_ref.KeyDataRef.accepts.Goals as goal
@@ -18,3 +19,8 @@ pub returns-clause-exactly : goal.returns-clause-exactly
 returns-clause-exactly g c =
     let signature = some_spelled signature_grammar c.args.signature.now.bytes.now c.args.signature.now.form in
     no_signature c.args.signature.now.bytes.now c.in-Err.ensures.met signature.0 (rw c.as_bytes-behind_name.ensures.bytes at c.in-Err.ensures.is) signature.1
+
+pub ask_named-requires : goal.ask_named-requires
+ask_named-requires g c =
+    let signature = some_spelled signature_grammar c.args.signature.now.bytes.now c.args.signature.now.form in
+    blob_formed c.args.signature.now.bytes.now c.take_name.new.bytes.now c.blob_in.result.now (named_of c.in-Ok.name) signature.0 (rw c.as_bytes-behind_name.ensures.bytes at c.in-Ok.ensures.value) c.blob_in.ensures signature.1
