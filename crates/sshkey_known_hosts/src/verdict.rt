@@ -78,7 +78,6 @@ pub(crate) fn read_entry(alloc: Global, line: &str) -> Result<Option<Entry>>
     }
 }
 
-
 /// Whether the first key, which is well-formed, means the same as the other.
 fn is_same_key(one: &KeyData, other: &KeyData) -> bool
     ensures { IsKey (key_of one.now) → IsTrue result ↔ (key_of one.now ≡ key_of other.now) }
