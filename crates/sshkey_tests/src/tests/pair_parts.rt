@@ -45,6 +45,7 @@ fn ed25519_bytes(rt: HostRuntime) {
     assert!(rt; is_wanted(is_of_slices(&[7; 64]), Ok(true)));
     assert!(rt; Ed25519PrivateKey::try_from([7u8; 31].as_slice()).err() == short);
     assert!(rt; Ed25519Keypair::try_from([7u8; 65].as_slice()).err() == short);
+    assert!(rt; Ed25519PrivateKey::BYTE_SIZE == 32 && Ed25519Keypair::BYTE_SIZE == 64);
 }
 
 /// Which kinds the pair says that it is, as the variants stand.
