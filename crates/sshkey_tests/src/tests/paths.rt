@@ -14,32 +14,43 @@ pub mod root {
 /// Who may log in.
 pub mod authorized_keys {
     pub use ssh_key::authorized_keys::{
-        AuthorizedKeys, ConfigOpts, ConfigOptsIter, Entry, OpenSshAuthorizedKeys, OpenSshEntry,
-        OpenSshOptions, StrictAuthorizedKeys,
+        AuthorizedKeys, ConfigOpts, ConfigOptsIter, Entry, FilledLines, OpenSshAuthorizedKeys,
+        OpenSshEntry, OpenSshOption, OpenSshOptions, OpenSshOptionsIter, StrictAuthorizedKeys,
+        split_field,
     };
 }
 
 /// Certificates.
 pub mod certificate {
     pub use ssh_key::certificate::{
-        Builder, CertType, Certificate, CertificateRef, CertificateRefusal, EndTime, FOREVER,
-        Field, MAX_SECS, Options, OptionsMap, OptionsRef, Texts, TextsRef, ToBeSigned, UnixTime,
+        Builder, CertType, Certificate, CertificateQuestion, CertificateRef, CertificateRefusal,
+        EndTime, FOREVER, Field, KeyOrCertificate, MAX_SECS, Options, OptionsMap, OptionsRef,
+        Texts, TextsRef, ToBeSigned, UnixTime,
     };
 }
 
 /// The wire encoding.
 pub mod encoding {
     pub use ssh_key::encoding::{
-        Boxed, Bytes, Decode, DecodeError, Encode, Error, Label, LabelError, NestedReader,
+        Boxed, Bytes, Counted, Decode, DecodeError, Encode, Error, Label, LabelError, NestedReader,
         NormalForm, Reader, Result, ShortBytes, SliceWriter, Text, Then, Wide, Writer, array_from,
-        both_len, decode_boxed, decode_front, decode_whole, encode_both, encode_list,
-        encode_string, encode_vec, length_from, list_len, string_len,
+        both_len, counted_len, decode_boxed, decode_each, decode_front, decode_whole, each_len,
+        encode_both, encode_counted, encode_each, encode_list, encode_string, encode_vec,
+        erase_slice, length_from, list_len, string_len, u32_of,
     };
 }
 
 /// Which keys hosts have.
 pub mod known_hosts {
-    pub use ssh_key::known_hosts::{Entry, HostPatterns, KnownHosts, Marker, OpenSshKnownHosts};
+    pub use ssh_key::known_hosts::{
+        Entry, HmacSha1, HostPatterns, KnownHosts, Marker, OpenSshKnownHosts, Verdict, authorities,
+        judge_key,
+    };
+}
+
+/// Texts against patterns.
+pub mod patterns {
+    pub use ssh_key::patterns::{LetterCase, matches_pattern, matches_pattern_list};
 }
 
 /// Private keys.
@@ -64,6 +75,7 @@ pub mod public {
 /// The laws.
 pub mod laws {
     pub use ssh_key::laws::apart;
+    pub use ssh_key::laws::blobs_apart;
     pub use ssh_key::laws::certificate_fields;
     pub use ssh_key::laws::certificate_fits;
     pub use ssh_key::laws::certificates;
@@ -150,11 +162,13 @@ pub mod laws {
     pub use ssh_key::laws::one_hosts;
     pub use ssh_key::laws::one_key;
     pub use ssh_key::laws::one_key_line;
+    pub use ssh_key::laws::one_key_options;
     pub use ssh_key::laws::one_known_host;
     pub use ssh_key::laws::one_options;
     pub use ssh_key::laws::one_signature;
     pub use ssh_key::laws::one_ssh_signature;
     pub use ssh_key::laws::one_sshd_key;
+    pub use ssh_key::laws::one_verdict;
     pub use ssh_key::laws::options_fit;
     pub use ssh_key::laws::ordered_sk_ecdsa_pairs;
     pub use ssh_key::laws::ordered_sk_ed25519_pairs;
