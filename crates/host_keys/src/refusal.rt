@@ -10,13 +10,13 @@ use ssh_key::known_hosts::Verdict;
 /// Why what a host shows is not taken for the host's.
 #[derive(Debug, Drop)]
 pub enum Refusal {
-    /// The key, or the key that signed the certificate, is revoked.
+    /// The key is revoked: of a certificate, the certified key or the one that signed it.
     Revoked,
     /// A line can't be read that could be one for the host, perhaps a revocation.
     Unreadable,
     /// The host is known by other keys.
     Changed,
-    /// Nothing is known of the host, or of the authority that signed the certificate.
+    /// Nothing is known of the host, or the key that signed the certificate is no authority of it.
     Unknown,
     /// The certificate is by an authority of the host, but not good for it now.
     Certificate(Error),

@@ -20,9 +20,11 @@ use std::alloc::Global;
 
 /// Lets a user in who holds the offered key, if the line has a certificate for users of just that
 /// key, which lists the user's name, is valid at that time by one of the authorities with these
-/// fingerprints, and has options that sshd(8) reads: of critical ones only `force-command` and
-/// `source-address`, not empty and without a zero byte, and `verify-required`, and no data in it or
-/// in the extensions that are flags, as `permit-pty` (PROTOCOL.certkeys).
+/// fingerprints, and has options that sshd(8) reads (PROTOCOL.certkeys):
+///
+/// - critical options `force-command` and `source-address`, neither empty nor with a zero byte, and
+///   `verify-required`, which is empty, and no others;
+/// - extensions that are flags, as `permit-pty`, which are empty, and any others.
 ///
 /// Out of memory aside, it refuses all others with the first of these: the errors of
 /// `Certificate::from_openssh`; `CertificateFieldInvalid` with `CertType` for a certificate for
@@ -32,8 +34,9 @@ use std::alloc::Global;
 /// `TrustedUserCAKeys`); the errors of `Certificate::validate_principal_at`. Where the line is no
 /// certificate's, `Memory` means what it means of `Certificate::from_openssh`.
 ///
-/// Whoever calls it has asked the client for a signature under the offered key, and does what the
-/// grant says, the flags in a security key's signature included.
+/// Whoever calls it has a user with a name (a certificate may list the empty one), has asked the
+/// client for a signature under the offered key, and does what the grant says, the flags in a
+/// security key's signature included.
 pub fn log_in<V: RawVerifier>(
     alloc: Global,
     line: &str,
