@@ -11,5 +11,6 @@ pub mod Places
 pub mod ReadLists
 pub mod Steps
 pub mod Stopping
+pub mod Verdicts
 pub mod Writing
 mod NormalForms

@@ -46,6 +46,3 @@ bounded {C} max judge read b = go (read b) refl
         by_length false h =
             let long : ltb max (length x.0) ≡ true = lt-ltb _ _ (leb-false _ _ h) in
             rw (e, h, long) refl
-
--- So a call that reads short bytes and judges them gives what the judgement of all bytes gives.
-module _ {C : Type 0} (max : ℕ) (judge : List ℕ → Result C Fault) (read : Front (List ℕ)) (s : Source) where
