@@ -10,7 +10,7 @@ use Rattle.sshkey_files.specs.AuthorizedKeys.{AuthorizedKey, IsAuthorizedKey, Ha
 use Rattle.sshkey_files.specs.ConfigOptions.{AreOptions}
 use Rattle.sshkey_files.proofs.OneEntry.{no_space}
 use Rattle.sshkey_authorized_keys.specs.OptionAnswers.{IsNotAllowed}
-use Rattle.sshkey_authorized_keys.specs.EntryFaults.{HasFault}
+use Rattle.sshkey_authorized_keys.specs.EntryFaults.{HasFault, HasFaultOfKey}
 use Rattle.sshkey_authorized_keys.specs.EntryNeeds.{NeedsLine, NeedsOptions}
 use Rattle.sshkey_base.specs.declared.error.Error.TheVariants.{FormatEncoding, Memory}
 use Rattle.sshkey_files.specs.AuthorizedKeys.{IsNoKeyLine}
@@ -51,32 +51,51 @@ only_options line (Err e) none h = λ other a is. elim is [
 pub uncut_fault : (line : List ℕ) → IsSplitOnceResult space line None → 3 ≤ count_by is_space line → HasFault line FormatEncoding
 uncut_fault line none some = record {
   no_space = λ zero. refl;
+  no_key = λ one few. absurd (omega (arith, some, few));
   no_options = λ front rest is without many bad. absurd (split_after space line front rest None none (omega arith) is without);
+  no_key_behind = λ front rest is without many are. absurd (split_after space line front rest None none (omega arith) is without);
 }
 
 module _ (line : List ℕ) (options rest : Bor (List ℕ)) (cut : IsSplitOnceResult space line (Some (options, rest))) (some : 3 ≤ count_by is_space line) where
   pub options_fault : (e : Error) → (AreOptions options.now × (e ≡ Memory)) ⊎ IsNotAllowed options.now e → cause e ≢ NoMemory → HasFault line e
   options_fault e why other = record {
     no_space = λ zero. absurd (omega (arith, some, zero));
+    no_key = λ one few. absurd (omega (arith, some, few));
     no_options = λ front rest is without many bad. elim why [
       | inl full ↦ absurd (other (ap cause full.1))
       | inr not_allowed ↦ not_allowed.0
     ];
+    no_key_behind = λ front behind is without many are. elim why [
+      | inl full ↦ absurd (other (ap cause full.1))
+      | inr not_allowed ↦ absurd (not_allowed.1 (subst AreOptions (sym (split_after space line front behind (Some (options, rest)) cut (omega arith) is without).0) are))
+    ];
   }
 
   -- options that are allowed, and the fault of the key's line
-  pub key_fault : (e : Error) → AreOptions options.now → HasFault line e
-  key_fault e are = record {
+  pub key_fault : (e : Error) → AreOptions options.now → HasFaultOfKey rest.now e → HasFault line e
+  key_fault e are fault = record {
     no_space = λ zero. absurd (omega (arith, some, zero));
+    no_key = λ one few. absurd (omega (arith, some, few));
     no_options = λ front behind is without many bad. absurd (bad (subst AreOptions (split_after space line front behind (Some (options, rest)) cut (omega arith) is without).0 are));
+    no_key_behind = λ front behind is without many allowed. subst (λ (t : List ℕ). HasFaultOfKey t e) (split_after space line front behind (Some (options, rest)) cut (omega arith) is without).1 fault;
   }
 
 pub no_space_fault : (line : List ℕ) → count_by is_space line ≡ 0 → HasFault line FormatEncoding
-no_space_fault line zero = record { no_space = λ _. refl; no_options = λ front rest is without many bad. absurd (omega (arith, zero, many)) }
+no_space_fault line zero = record {
+  no_space = λ _. refl;
+  no_key = λ one few. absurd (omega (arith, zero, one));
+  no_options = λ front rest is without many bad. absurd (omega (arith, zero, many));
+  no_key_behind = λ front rest is without many are. absurd (omega (arith, zero, many));
+}
 
 -- one or two spaces: the fault of the key's line
-pub line_fault : (line : List ℕ) (e : Error) → count_by is_space line ≢ 0 → count_by is_space line < 3 → HasFault line e
-line_fault line e some few = record { no_space = λ zero. absurd (some zero); no_options = λ front rest is without many bad. absurd (omega (arith, few, many)) }
+pub line_fault : (line : List ℕ) (e : Error) → count_by is_space line ≢ 0 → count_by is_space line < 3 → HasFaultOfKey line e → HasFault line e
+line_fault line e some few fault = record {
+  no_space = λ zero. absurd (some zero);
+  no_key = λ _ _. fault;
+  no_options = λ front rest is without many bad. absurd (omega (arith, few, many));
+  no_key_behind = λ front rest is without many are. absurd (omega (arith, few, many));
+}
 
 -- ---- memory
 

@@ -1,19 +1,29 @@
 -- Why a line is no entry of authorized_keys.
-use Rattle.std.specs.Prelude.{◌≡◌, ℕ, ◌≤◌, List, ◌∷◌, ◌++◌, count_by}
+use Rattle.std.specs.Prelude.{◌≡◌, ℕ, ◌<◌, ◌≤◌, List, ◌∷◌, ◌++◌, count_by}
 use Rattle.sshkey_base.specs.declared.encoding.Error.TheVariants.{CharacterEncoding}
 use Rattle.sshkey_base.specs.declared.error.Error.{Error}
 use Rattle.sshkey_base.specs.declared.error.Error.TheVariants.{Encoding, FormatEncoding}
-use Rattle.sshkey_model.specs.Lines.{space, IsWithout}
+use Rattle.sshkey_keys.specs.KeyFormats.{key_format}
+use Rattle.sshkey_keys.specs.Keys.{SpellsKey}
+use Rattle.sshkey_model.specs.Lines.{space, key_name, IsWithout}
+use Rattle.sshkey_model.specs.Reading.{whole}
+use Rattle.sshkey_public.specs.LineFaults.{HasFaultOfLine}
 use Rattle.sshkey_files.specs.AuthorizedKeys.{AuthorizedKey, IsAuthorizedKey, is_space}
 use Rattle.sshkey_files.specs.ConfigOptions.{AreOptions}
 use Rattle.sshkey_files.specs.Entries.{IsNoEntry, uncommented}
 
--- `FormatEncoding` where there is no space, and `CharacterEncoding` where there are three or more
--- and options do not have what stands before the first. Of others the fault of the key's line is
--- open.
+-- The text has that fault as the line of a key.
+abbrev pub HasFaultOfKey : List ℕ → Error → Type 0
+HasFaultOfKey = HasFaultOfLine (whole key_format.read) key_name SpellsKey
+
+-- `FormatEncoding` where there is no space, and the fault of the key's line where there are one or
+-- two. Where there are more, `CharacterEncoding` if options do not have what stands before the
+-- first, and else the fault of the key's line behind it.
 pub record HasFault (line : List ℕ) (e : Error) : Type 0 where
   pub no_space : count_by is_space line ≡ 0 → e ≡ FormatEncoding
+  pub no_key : 0 < count_by is_space line → count_by is_space line < 3 → HasFaultOfKey line e
   pub no_options : (front rest : List ℕ) → line ≡ front ++ (space ∷ rest) → IsWithout space front → 3 ≤ count_by is_space line → (AreOptions front → ⊥) → e ≡ Encoding CharacterEncoding
+  pub no_key_behind : (front rest : List ℕ) → line ≡ front ++ (space ∷ rest) → IsWithout space front → 3 ≤ count_by is_space line → AreOptions front → HasFaultOfKey rest e
 
 -- The fault of an entry that is none, and `FormatEncoding` where it is one, but is not read
 -- strictly.

@@ -6,10 +6,15 @@ use Rattle.std.proofs.lemmas.Str.Pattern.{IsSplitOnceResult, split_after, split_
 use Rattle.sshkey_base.specs.Causes.{cause, NoMemory}
 use Rattle.sshkey_base.specs.declared.error.Error.{Error}
 use Rattle.sshkey_base.specs.declared.error.Error.TheVariants.{FormatEncoding}
+use Rattle.sshkey_keys.specs.KeyFormats.{key_format}
+use Rattle.sshkey_keys.specs.Keys.{SpellsKey}
 use Rattle.sshkey_model.specs.Keys.{Key}
-use Rattle.sshkey_model.specs.Lines.{space, IsKeyLine, IsWithout}
+use Rattle.sshkey_model.specs.Lines.{space, key_name, IsKeyLine, IsWithout}
+use Rattle.sshkey_model.specs.Reading.{whole}
+use Rattle.sshkey_public.specs.LineFaults.{HasFaultOfLine}
 use Rattle.sshkey_files.proofs.OneHost.{one_marker}
 use Rattle.sshkey_files.specs.AuthorizedKeys.{IsNoKeyLine}
+use Rattle.sshkey_files.specs.Entries.{IsNoEntry}
 use Rattle.sshkey_files.specs.KnownHosts.{Marker, Hosts, IsHosts, KnownHost, IsMarked, IsKnownHost}
 use Rattle.sshkey_known_hosts.specs.HostFaults.{HasFault, HasNoParts, NeedsLine, RefusesHosts}
 
@@ -48,6 +53,7 @@ marker_fault entry none = record {
   no_marker = λ _. refl;
   no_space = λ m rest is without. refl;
   no_hosts = λ m hosts rest is without bad. absurd (none m (hosts ++ (space ∷ rest)) is);
+  no_key = λ m hosts rest h is without are. absurd (none m (hosts ++ (space ∷ rest)) is);
 }
 
 module _ (entry : List ℕ) (m : Option Marker) (unmarked : List ℕ) (marked : IsMarked m entry unmarked) where
@@ -59,6 +65,7 @@ module _ (entry : List ℕ) (m : Option Marker) (unmarked : List ℕ) (marked : 
     no_marker = λ _. refl;
     no_space = λ n rest is without. refl;
     no_hosts = λ n hosts rest is without bad. absurd (split_after space unmarked hosts rest None none (omega arith) (same_rest n (hosts ++ (space ∷ rest)) is) without);
+    no_key = λ n hosts rest h is without are. absurd (split_after space unmarked hosts rest None none (omega arith) (same_rest n (hosts ++ (space ∷ rest)) is) without);
   }
 
   module _ (hosts rest : Bor (List ℕ)) (cut : IsSplitOnceResult space unmarked (Some (hosts, rest))) where
@@ -73,17 +80,22 @@ module _ (entry : List ℕ) (m : Option Marker) (unmarked : List ℕ) (marked : 
         without (length hosts.now) (omega (arith, ap length whole, length-append hosts.now (space ∷ rest.now)))
         (ap (λ (l : List ℕ). slice_index l (length hosts.now)) whole ∙ get_or-append_seam hosts.now space rest.now 0)
 
-    pub hosts_fault : (e : Error) → RefusesHosts hosts.now e → HasFault entry e
-    hosts_fault e h = record {
+    same_behind : (n : Option Marker) (other behind : List ℕ) → IsMarked n entry (other ++ (space ∷ behind)) → IsWithout space other → rest.now ≡ behind
+    same_behind n other behind is without = (split_after space unmarked other behind (Some (hosts, rest)) cut (omega arith) (same_rest n (other ++ (space ∷ behind)) is) without).1
+
+    pub hosts_fault : (e : Error) → IsNoEntry IsHosts hosts.now → RefusesHosts hosts.now e → HasFault entry e
+    hosts_fault e none_are h = record {
       no_marker = λ none. absurd (none m unmarked marked);
       no_space = λ n other is without. absurd (no_lone_word n other is without);
       no_hosts = λ n other behind is without bad. subst (λ (t : List ℕ). RefusesHosts t e) (same_hosts n other behind is without) h;
+      no_key = λ n other behind x is without are. absurd (none_are x (subst (λ (t : List ℕ). IsHosts t x) (sym (same_hosts n other behind is without)) are));
     }
 
     -- hosts that are some, and the fault of the key's line
-    pub host_key_fault : (e : Error) (x : Hosts) → IsHosts hosts.now x → HasFault entry e
-    host_key_fault e x h = record {
+    pub host_key_fault : (e : Error) (x : Hosts) → IsHosts hosts.now x → HasFaultOfLine (whole key_format.read) key_name SpellsKey rest.now e → HasFault entry e
+    host_key_fault e x h fault = record {
       no_marker = λ none. absurd (none m unmarked marked);
       no_space = λ n other is without. absurd (no_lone_word n other is without);
       no_hosts = λ n other behind is without bad. absurd (bad x (subst (λ (t : List ℕ). IsHosts t x) (same_hosts n other behind is without) h));
+      no_key = λ n other behind y is without are. subst (λ (t : List ℕ). HasFaultOfLine (whole key_format.read) key_name SpellsKey t e) (same_behind n other behind is without) fault;
     }

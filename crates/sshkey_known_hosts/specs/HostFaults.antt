@@ -5,9 +5,13 @@ use Rattle.base64.specs.GeneralPurpose.{encode_of, IsBytes}
 use Rattle.sshkey_base.specs.declared.encoding.Error.TheVariants.{Base64, Length}
 use Rattle.sshkey_base.specs.declared.error.Error.{Error}
 use Rattle.sshkey_base.specs.declared.error.Error.TheVariants.{Encoding, FormatEncoding, Memory}
-use Rattle.sshkey_model.specs.Lines.{space, IsWithout}
+use Rattle.sshkey_keys.specs.KeyFormats.{key_format}
+use Rattle.sshkey_keys.specs.Keys.{SpellsKey}
+use Rattle.sshkey_model.specs.Lines.{space, key_name, IsWithout}
+use Rattle.sshkey_model.specs.Reading.{whole}
+use Rattle.sshkey_public.specs.LineFaults.{HasFaultOfLine}
 use Rattle.sshkey_files.specs.Entries.{IsNoEntry}
-use Rattle.sshkey_files.specs.KnownHosts.{Marker, IsHosts, IsMarked, bar, hashed_mark, hashed_text}
+use Rattle.sshkey_files.specs.KnownHosts.{Hosts, Marker, IsHosts, IsMarked, bar, hashed_mark, hashed_text}
 
 -- The word is that of no bytes.
 abbrev pub IsNoBase64 : List ℕ → Type 0
@@ -46,12 +50,13 @@ RefusesHosts text (Encoding Length) = HasOtherSize text
 RefusesHosts text Memory = HasNoParts text → ⊥
 RefusesHosts text _ = ⊥
 
--- `FormatEncoding` for another marker and for a space that is missing behind the hosts, and then
--- the fault of the hosts. Of others the fault of the key's line is open.
+-- `FormatEncoding` for another marker and for a space that is missing behind the hosts, then the
+-- fault of the hosts, and then that of the key's line.
 pub record HasFault (line : List ℕ) (e : Error) : Type 0 where
   pub no_marker : ((m : Option Marker) (rest : List ℕ) → IsMarked m line rest → ⊥) → e ≡ FormatEncoding
   pub no_space : (m : Option Marker) (rest : List ℕ) → IsMarked m line rest → IsWithout space rest → e ≡ FormatEncoding
   pub no_hosts : (m : Option Marker) (hosts rest : List ℕ) → IsMarked m line (hosts ++ (space ∷ rest)) → IsWithout space hosts → IsNoEntry IsHosts hosts → RefusesHosts hosts e
+  pub no_key : (m : Option Marker) (hosts rest : List ℕ) (h : Hosts) → IsMarked m line (hosts ++ (space ∷ rest)) → IsWithout space hosts → IsHosts hosts h → HasFaultOfLine (whole key_format.read) key_name SpellsKey rest e
 
 -- ---- memory
 

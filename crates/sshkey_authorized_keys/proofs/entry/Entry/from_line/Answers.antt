@@ -15,7 +15,7 @@ pub returns-then-spaces-lt3-clause-reads : goal.returns-then-spaces-lt3-clause-r
 returns-then-spaces-lt3-clause-reads c = λ other. few_spaces c.args.line.now (c.in-Err.ensures.reads other) (omega (arith, c.if-spaces-lt3.true, c.count_spaces-spaces.ensures))
 
 pub returns-then-spaces-lt3-clause-fault : goal.returns-then-spaces-lt3-clause-fault
-returns-then-spaces-lt3-clause-fault c = λ _. line_fault c.args.line.now _ (λ zero. omega (arith, zero, c.if-spaces-eq0.false, c.count_spaces-spaces.ensures)) (omega (arith, c.if-spaces-lt3.true, c.count_spaces-spaces.ensures))
+returns-then-spaces-lt3-clause-fault c = λ other. line_fault c.args.line.now _ (λ zero. omega (arith, zero, c.if-spaces-eq0.false, c.count_spaces-spaces.ensures)) (omega (arith, c.if-spaces-lt3.true, c.count_spaces-spaces.ensures)) (c.in-Err.ensures.fault other)
 
 pub returns-clause-reads : goal.returns-clause-reads
 returns-clause-reads c = only_options c.args.line.now c.behind_options.result (c.in-Err.ensures.reads (λ memory. cc (sym c.if-is_memory.false ∙ c.is_memory.ensures.cause.1 memory))) c.behind_options.ensures.reads

@@ -17,7 +17,7 @@ returns-in_err-host_patterns-clause-reads c = let p = err_from_is_err_and c.from
 
 pub returns-in_err-host_patterns-clause-fault : goal.returns-in_err-host_patterns-clause-fault
 returns-in_err-host_patterns-clause-fault c = let p = err_from_is_err_and c.from_residual-in_err-host_patterns.result c.from_residual-in_err-host_patterns.ensures.1 in
-    rw (p.1, p.2) (λ _. hosts_fault c.args.line.now (option_map marker_of c.in_ok-marker.marker) c.in_ok-marker.unmarked.now c.in_ok-marker.ensures c.in-Some.hosts c.in-Some.rest c.in-Some.ensures.cases _ c.in_err-host_patterns.ensures.fault)
+    rw (p.1, p.2) (λ other. hosts_fault c.args.line.now (option_map marker_of c.in_ok-marker.marker) c.in_ok-marker.unmarked.now c.in_ok-marker.ensures c.in-Some.hosts c.in-Some.rest c.in-Some.ensures.cases _ (c.in_err-host_patterns.ensures.reads other) c.in_err-host_patterns.ensures.fault)
 
 pub returns-in_err-public_key-clause-reads : goal.returns-in_err-public_key-clause-reads
 returns-in_err-public_key-clause-reads c = let p = err_from_is_err_and c.from_residual-in_err-public_key.result c.from_residual-in_err-public_key.ensures.1 in
@@ -25,7 +25,7 @@ returns-in_err-public_key-clause-reads c = let p = err_from_is_err_and c.from_re
 
 pub returns-in_err-public_key-clause-fault : goal.returns-in_err-public_key-clause-fault
 returns-in_err-public_key-clause-fault c = let p = err_from_is_err_and c.from_residual-in_err-public_key.result c.from_residual-in_err-public_key.ensures.1 in
-    rw (p.1, p.2) (λ _. host_key_fault c.args.line.now (option_map marker_of c.in_ok-marker.marker) c.in_ok-marker.unmarked.now c.in_ok-marker.ensures c.in-Some.hosts c.in-Some.rest c.in-Some.ensures.cases _ (hosts_of c.in_ok-host_patterns.host_patterns) c.in_ok-host_patterns.ensures.reads)
+    rw (p.1, p.2) (λ other. host_key_fault c.args.line.now (option_map marker_of c.in_ok-marker.marker) c.in_ok-marker.unmarked.now c.in_ok-marker.ensures c.in-Some.hosts c.in-Some.rest c.in-Some.ensures.cases _ (hosts_of c.in_ok-host_patterns.host_patterns) c.in_ok-host_patterns.ensures.reads (c.in_err-public_key.ensures.fault other))
 
 pub returns-clause-reads : goal.returns-clause-reads
 returns-clause-reads c = known c.args.line.now (option_map marker_of c.in_ok-marker.marker) c.in_ok-marker.unmarked.now c.in_ok-marker.ensures c.in-Some.hosts c.in-Some.rest c.in-Some.ensures.cases _ _ _ c.in_ok-host_patterns.ensures.reads c.in_ok-public_key.ensures.reads
