@@ -1,6 +1,6 @@
 //! Critical options and extensions.
 
-ghost use Rattle.std.specs.Prelude.{◌≡◌, ◌+◌, ◌*◌, ◌^◌, ◌<◌, List, [], length, IfOk, IfErr, IsOk, OnErr, OnOk, map, option_map, is_some, IsTrue, ◌↔◌, All, String, string_bytes};
+ghost use Rattle.std.specs.Prelude.{◌≡◌, ◌+◌, ◌*◌, ◌^◌, ◌<◌, List, [], None, length, IfOk, IfErr, IsOk, OnErr, OnOk, map, option_map, is_some, IsTrue, ◌↔◌, All, String, string_bytes};
 ghost use Rattle.std.specs.Global.{Global};
 ghost use Rattle.std.specs.Map.Iter.{ShowsInOrder, deref_pair};
 ghost use Rattle.sshkey_model.specs.OptionMaps.{value_of, with_option, with_options};
@@ -82,7 +82,7 @@ impl OptionsMap {
     }
 
     /// Sets the value of that name, and returns the one before. Fails only when out of memory, and
-    /// then nothing is changed.
+    /// then nothing is changed. Never fails where there is an option of that name.
     pub fn insert(&mut self, name: String, value: String) -> Result<Option<String>>
         ensures old { IfOk result (λ before. option_map string_bytes before
             ≡ value_of (string_bytes name) (options_of self.old)) }
@@ -91,6 +91,7 @@ impl OptionsMap {
             (options_of self.old)) }
         ensures unchanged { OnErr result (options_of self.new ≡ options_of self.old) }
         ensures memory { IfErr result (λ e. e ≡ Error.Memory) }
+        ensures asks { OnErr result (value_of (string_bytes name) (options_of self.old) ≡ None) }
     {
         Ok(self.0.insert(name, value)?)
     }
