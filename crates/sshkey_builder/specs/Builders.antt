@@ -85,23 +85,24 @@ TakesStepAlways s b (Err e) after = (draft_of after ≡ draft_of b) × RefusesAl
 
 -- ---- steps that hand the builder back
 
--- The step was taken, and a reference to the builder is handed back, or it was refused.
+-- The step was taken, and a reference to the builder, which has its key, is handed back, or it was
+-- refused.
 abbrev pub Chains : Step → Builder → Result (MutBor Builder) Error → Type 0
-Chains s b (Ok r) = after_step s (draft_of b) ≡ Ok (draft_of r.now)
+Chains s b (Ok r) = (after_step s (draft_of b) ≡ Ok (draft_of r.now)) × (given_key r.now ≡ given_key b)
 Chains s b (Err e) = Refuses (after_step s (draft_of b)) e
 
 -- The same of a step that takes no memory.
 abbrev pub ChainsAlways : Step → Builder → Result (MutBor Builder) Error → Type 0
-ChainsAlways s b (Ok r) = after_step s (draft_of b) ≡ Ok (draft_of r.now)
+ChainsAlways s b (Ok r) = (after_step s (draft_of b) ≡ Ok (draft_of r.now)) × (given_key r.now ≡ given_key b)
 ChainsAlways s b (Err e) = RefusesAlways (after_step s (draft_of b)) e
 
 -- The reference that is handed back is the builder's own.
 abbrev pub IsTheBuilder : MutBor Builder → Result (MutBor Builder) Error → Type 0
 IsTheBuilder s r = IfOk r (λ b. b.ghost_name ≡ s.ghost_name)
 
--- Where nothing is handed back, the builder is left with the draft that it had.
+-- Where nothing is handed back, the builder is left with the draft and the key that it had.
 abbrev pub StaysIfRefused : MutBor Builder → Result (MutBor Builder) Error → Fml
-StaysIfRefused s r = RestsIfErr the_row s (λ b. b.ghost_name) r (λ last. draft_of last ≡ draft_of s.now)
+StaysIfRefused s r = RestsIfErr the_row s (λ b. b.ghost_name) r (λ last. (draft_of last ≡ draft_of s.now) × (given_key last ≡ given_key s.now))
 
 -- the builder itself, or the error
 abbrev pub handed_back : Result Loan Error → Result (MutBor Builder) Error

@@ -2,14 +2,14 @@
 
 ghost use Rattle.rand_core.specs.Stream.{fill_bytes};
 ghost use Rattle.std.specs.Borrow.{sem};
-ghost use Rattle.std.specs.Prelude.{◌≡◌, OnErr, OnOk, string_bytes};
+ghost use Rattle.std.specs.Prelude.{◌≡◌, IfOk, OnErr, OnOk, string_bytes};
 ghost use Rattle.sshkey_keys.specs.Keys.{key_of};
 ghost use Rattle.sshkey_model.specs.Certificates.{forever};
 ghost use Rattle.sshkey_model.specs.Drafts.{Serial, Kind, KeyId, Comment, Principal, AllPrincipals, Critical, Extension, begun, bad_start, bad_window};
 ghost use Rattle.sshkey_options.specs.CertTypes.{type_of};
 ghost use Rattle.sshkey_options.specs.OptionMaps.{option_of};
 ghost use Rattle.sshkey_options.specs.Times.{end_of, time_of};
-ghost use Rattle.sshkey_builder.specs.Builders.{draft_of, IsWindow, Begins, BeginsInMemory, Chains, ChainsAlways, IsTheBuilder, StaysIfRefused};
+ghost use Rattle.sshkey_builder.specs.Builders.{draft_of, IsWindow, Begins, BeginsInMemory, Chains, ChainsAlways, IsTheBuilder, StaysIfRefused, given_key};
 
 mod chain;
 mod set;
@@ -83,8 +83,9 @@ impl Builder {
         valid_after: u64,
         valid_before: u64,
     ) -> Result<Builder>
-        ensures { Begins (bad_window valid_after valid_before)
+        ensures begins { Begins (bad_window valid_after valid_before)
             (begun nonce.items (key_of public_key) valid_after valid_before) result }
+        ensures key { IfOk result (λ b. given_key b ≡ public_key) }
     {
         let (valid_after, valid_before) = window(valid_after, valid_before)?;
         Ok(Builder::begun(alloc, nonce, public_key, valid_after, valid_before))
@@ -100,8 +101,9 @@ impl Builder {
         public_key: KeyData,
         valid_after: u64,
     ) -> Result<Builder>
-        ensures { Begins (bad_start valid_after)
+        ensures begins { Begins (bad_start valid_after)
             (begun nonce.items (key_of public_key) valid_after forever) result }
+        ensures key { IfOk result (λ b. given_key b ≡ public_key) }
     {
         let Ok(valid_after) = UnixTime::new(valid_after) else {
             return Err(Error::CertificateFieldInvalid(Field::ValidAfter));
@@ -124,6 +126,7 @@ impl Builder {
         ensures begins { BeginsInMemory (bad_window valid_after valid_before)
             (begun (fill_bytes 16 (R.stream rng.old)).0 (key_of public_key) valid_after
             valid_before) result }
+        ensures key { IfOk result (λ b. given_key b ≡ public_key) }
     {
         let (after, before) = window(valid_after, valid_before)?;
         let mut nonce = vec![in alloc; 0u8; Builder::RECOMMENDED_NONCE_SIZE]?;
@@ -139,8 +142,9 @@ impl Builder {
         valid_after: UnixTime,
         valid_before: EndTime,
     ) -> Builder
-        ensures { draft_of result
+        ensures draft { draft_of result
             ≡ begun nonce.items (key_of public_key) (time_of valid_after) (end_of valid_before) }
+        ensures key { given_key result ≡ public_key }
     {
         Builder {
             alloc,

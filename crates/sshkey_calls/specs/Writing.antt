@@ -1,5 +1,9 @@
 -- What is answered of bytes that are written to a room.
-use Rattle.std.specs.Prelude.{◌≡◌, ◌≢◌, ℕ, List, length, Result, Ok, Err}
+use Rattle.std.specs.Prelude.{◌≡◌, ◌≢◌, ◌⊎◌, ℕ, List, length, Result, Ok, Err}
+use Rattle.sshkey_base.specs.declared.encoding.Error.TheVariants.{Length}
+use Rattle.sshkey_base.specs.declared.error.Error.{Error}
+use Rattle.sshkey_base.specs.declared.error.Error.TheVariants.{Encoding, Memory}
+use Rattle.sshkey_model.specs.Parts.{BoxesFit, Parts}
 use Rattle.sshkey_calls.specs.Rooms.{Gives}
 
 -- What a call answers that writes the one content that `Wanted` tells, and how many bytes it has.
@@ -11,3 +15,14 @@ Writes Wanted = Gives Wanted (λ content. content) (λ content len. len ≡ leng
 abbrev pub Finds : {X Y : Type 0} → (Y → Type 0) → (X → Y) → Result X ℕ → Type 0
 Finds Is means (Ok x) = Is (means x)
 Finds {Y = Y} Is means (Err n) = (n ≢ 0) × (n ≢ 2) × (n ≢ 1 → (y : Y) → Is y → ⊥)
+
+-- ---- laid out, before it is written
+
+-- There is no memory for the parts: `Length` exactly where a box of them is too long, else out of
+-- memory.
+abbrev pub IsNoRoomFor : Parts → Error → Type 0
+IsNoRoomFor p e = ((BoxesFit p → ⊥) × (e ≡ Encoding Length)) ⊎ (BoxesFit p × (e ≡ Memory))
+
+-- The parts were not added: a box of them is too long, and that is `Length`, or memory ran out.
+abbrev pub IsNotAdded : Parts → Error → Type 0
+IsNotAdded p e = ((BoxesFit p → ⊥) × (e ≡ Encoding Length)) ⊎ (e ≡ Memory)

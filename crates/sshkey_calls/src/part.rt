@@ -4,6 +4,7 @@ ghost use Rattle.std.specs.Prelude.{◌≡◌, ◌++◌, [], length, IfErr, IfOk
 ghost use Rattle.sshkey_base.specs.declared.error.Error.TheVariants as wide;
 ghost use Rattle.sshkey_model.specs.Parts.{flat};
 ghost use Rattle.sshkey_calls.specs.Rooms.{AnswersWith, Fills};
+ghost use Rattle.sshkey_calls.specs.Writing.{IsNoRoomFor, IsNotAdded};
 
 use crate::number::{DONE, MEMORY, ROOM};
 use sshkey_base::{Encode, Result};
@@ -20,9 +21,10 @@ pub struct Part {
 }
 
 /// No bytes yet, with memory for the value's normal form and for so many more. Fails with `Length`
-/// or `Memory`, as `encoded_len` does and where there is none.
+/// exactly where `encoded_len` does, and else only when out of memory.
 pub fn with_capacity<T: Encode>(alloc: Global, value: &T, more: usize) -> Result<Vec<u8>>
-    ensures { IfOk result (λ content. content.items ≡ []) }
+    ensures empty { IfOk result (λ content. content.items ≡ []) }
+    ensures refused { IfErr result (IsNoRoomFor (T.normal value.now)) }
 {
     let capacity = value.encoded_len()?.saturating_add(more);
     Ok(Vec::with_capacity(alloc, capacity)?)
@@ -45,12 +47,14 @@ pub fn add(bytes: &[u8], content: &mut Vec<u8>) -> Result<Part>
     })
 }
 
-/// Adds the value's normal form to the bytes that the room is to hold. Fails as `encode` does.
+/// Adds the value's normal form to the bytes that the room is to hold. Fails as `encode` does, with
+/// `Length` only where a string in it is too long, and else only when out of memory.
 pub fn add_encoded<T: Encode>(value: &T, content: &mut Vec<u8>) -> Result<Part>
     ensures added { IfOk result
         (λ _. content.new.items ≡ content.old.items ++ flat (T.normal value.now)) }
     ensures start { IfOk result (λ part. part.start ≡ length content.old.items) }
     ensures length { IfOk result (λ part. part.length ≡ length (flat (T.normal value.now))) }
+    ensures refused { IfErr result (IsNotAdded (T.normal value.now)) }
 {
     let start = content.len();
     value.encode(content)?;

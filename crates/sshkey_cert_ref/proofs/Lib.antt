@@ -12,3 +12,4 @@ pub mod Certificates
 pub mod Spellings
 pub mod Answered
 pub mod KeysInPlace
+pub mod Asking

@@ -1,6 +1,7 @@
 -- What contracts see of a certificate that is a slice.
-use Rattle.std.specs.Prelude.{ℕ, List}
-use Rattle.sshkey_model.specs.Certificates.{Certificate, CertificateChoices}
+use Rattle.std.specs.Prelude.{◌≢◌, ◌⊎◌, ℕ, List, None}
+use Rattle.sshkey_model.specs.Certificates.{Certificate, CertificateChoices, plain_choices}
+use Rattle.sshkey_cert.specs.Questions.{certificate_question}
 use Rattle.sshkey_cert_ref.specs.Spelled.{spelled_in}
 use Rattle.sshkey_cert_ref.specs.declared.certificate_ref.CertificateRef.{CertificateRef}
 
@@ -15,3 +16,11 @@ certificate_of r = (spelled_in r.bytes.now).0
 -- the choices of its spelling
 abbrev pub choices_of : CertificateRef → CertificateChoices
 choices_of r = (spelled_in r.bytes.now).1
+
+-- A part of it is spelled otherwise than in its normal form.
+abbrev pub IsUnplain : CertificateRef → Type 0
+IsUnplain r = choices_of r ≢ plain_choices (certificate_of r).signed
+
+-- Asking about its signature needs memory: what was signed is made anew, or a verifier is asked.
+abbrev pub NeedsAnswer : CertificateRef → Type 0
+NeedsAnswer r = IsUnplain r ⊎ (certificate_question (certificate_of r) ≢ None)

@@ -4,3 +4,4 @@ mod HostCertificates
 mod HostKeys
 mod Room
 mod SignedFiles
+mod Faults

@@ -1,10 +1,11 @@
 //! A verifier's question: is this blob a signature of the message under the key?
 
-ghost use Rattle.std.specs.Prelude.{◌↔◌, IsTrue, IfOk};
+ghost use Rattle.std.specs.Prelude.{◌≡◌, ◌↔◌, IsTrue, IfErr, IfOk};
 ghost use Rattle.ssh_key.specs.keys.Keys.{key_of};
 ghost use Rattle.ssh_key.specs.keys.SignatureReaders.{SpellsSignature};
 ghost use Rattle.ssh_key.specs.base.Acceptance.{AcceptsExactly, SpellsSome};
-ghost use Rattle.sshkey_examples.specs.Signed.{Answers, IsSigned};
+ghost use Rattle.ssh_key.specs.types.Error.TheVariants.{Memory};
+ghost use Rattle.sshkey_examples.specs.Signed.{Answers, HasFault, IsSigned, NeedsMemory};
 
 use ssh_key::laws::one_signature;
 use ssh_key::public::KeyData;
@@ -13,9 +14,10 @@ use std::alloc::Global;
 
 /// Whether the blob spells a signature of the message that the verifier accepts under the key.
 ///
-/// Unless memory runs out, it fails exactly if the blob spells no signature. A signature by an
-/// algorithm that does not go with the key is no signature of the message, and the verifier is not
-/// asked.
+/// Unless memory runs out, it fails exactly if the blob spells no signature, with its first fault
+/// from the left. Where it spells none, `Memory` means that an allocation for what stands in front
+/// of that fault failed. A signature by an algorithm that does not go with the key is no signature
+/// of the message, and the verifier is not asked.
 pub fn is_signed<V: RawVerifier>(
     alloc: Global,
     key: &KeyData,
@@ -26,6 +28,8 @@ pub fn is_signed<V: RawVerifier>(
     ensures answer { IfOk result (λ yes. IsTrue yes
         ↔ IsSigned (V.accepts verifier.now) (key_of key.now) message.now blob.now) }
     ensures readable { AcceptsExactly (SpellsSome SpellsSignature blob.now) result }
+    ensures fault { IfErr result (HasFault blob.now) }
+    ensures memory { IfErr result (λ e. e ≡ Memory → NeedsMemory blob.now) }
 {
     one_signature();
     let signature = Signature::from_bytes(alloc, blob)?;

@@ -1,10 +1,10 @@
 //! The setters of a builder that return no reference to it.
 
-ghost use Rattle.std.specs.Prelude.{string_bytes};
+ghost use Rattle.std.specs.Prelude.{◌≡◌, string_bytes};
 ghost use Rattle.sshkey_model.specs.Drafts.{Serial, Kind, KeyId, Comment, Principal, AllPrincipals, Critical, Extension};
 ghost use Rattle.sshkey_options.specs.CertTypes.{type_of};
 ghost use Rattle.sshkey_options.specs.OptionMaps.{option_of};
-ghost use Rattle.sshkey_builder.specs.Builders.{TakesStep, TakesStepAlways};
+ghost use Rattle.sshkey_builder.specs.Builders.{TakesStep, TakesStepAlways, given_key};
 
 use super::Builder;
 use sshkey_base::certificate::Field;
@@ -14,7 +14,8 @@ use sshkey_options::CertType;
 impl Builder {
     /// Sets the serial number and fails as `serial` does, and returns no reference.
     pub fn set_serial(&mut self, serial: u64) -> Result<()>
-        ensures { TakesStepAlways (Serial serial) self.old result self.new }
+        ensures step { TakesStepAlways (Serial serial) self.old result self.new }
+        ensures key { given_key self.new ≡ given_key self.old }
     {
         if self.serial.is_some() {
             return Err(Error::CertificateFieldInvalid(Field::Serial));
@@ -25,7 +26,8 @@ impl Builder {
 
     /// Sets the type and fails as `cert_type` does, and returns no reference.
     pub fn set_cert_type(&mut self, cert_type: CertType) -> Result<()>
-        ensures { TakesStepAlways (Kind (type_of cert_type)) self.old result self.new }
+        ensures step { TakesStepAlways (Kind (type_of cert_type)) self.old result self.new }
+        ensures key { given_key self.new ≡ given_key self.old }
     {
         if self.cert_type.is_some() {
             return Err(Error::CertificateFieldInvalid(Field::CertType));
@@ -36,7 +38,8 @@ impl Builder {
 
     /// Sets the key id and fails as `key_id` does, and returns no reference.
     pub fn set_key_id(&mut self, key_id: String) -> Result<()>
-        ensures { TakesStepAlways (KeyId (string_bytes key_id)) self.old result self.new }
+        ensures step { TakesStepAlways (KeyId (string_bytes key_id)) self.old result self.new }
+        ensures key { given_key self.new ≡ given_key self.old }
     {
         if self.key_id.is_some() {
             return Err(Error::CertificateFieldInvalid(Field::KeyId));
@@ -47,7 +50,8 @@ impl Builder {
 
     /// Sets the comment and fails as `comment` does, and returns no reference.
     pub fn set_comment(&mut self, comment: String) -> Result<()>
-        ensures { TakesStepAlways (Comment (string_bytes comment)) self.old result self.new }
+        ensures step { TakesStepAlways (Comment (string_bytes comment)) self.old result self.new }
+        ensures key { given_key self.new ≡ given_key self.old }
     {
         if self.comment.is_some() {
             return Err(Error::CertificateFieldInvalid(Field::Comment));
@@ -60,7 +64,8 @@ impl Builder {
     /// a zero byte is another user's to sshd, as there.
     #[tactic(auto, using(crate::proofs::Principals::map_added))]
     pub fn add_valid_principal(&mut self, principal: String) -> Result<()>
-        ensures { TakesStep (Principal (string_bytes principal)) self.old result self.new }
+        ensures step { TakesStep (Principal (string_bytes principal)) self.old result self.new }
+        ensures key { given_key self.new ≡ given_key self.old }
     {
         match &mut self.valid_principals {
             Some(principals) => principals.push(principal)?,
@@ -75,7 +80,8 @@ impl Builder {
 
     /// Makes all principals valid as `all_principals_valid` does, and returns no reference.
     pub fn set_all_principals_valid(&mut self) -> Result<()>
-        ensures { TakesStepAlways AllPrincipals self.old result self.new }
+        ensures step { TakesStepAlways AllPrincipals self.old result self.new }
+        ensures key { given_key self.new ≡ given_key self.old }
     {
         self.valid_principals = Some(Vec::new(self.alloc));
         Ok(())
@@ -83,7 +89,8 @@ impl Builder {
 
     /// Adds an option and fails as `critical_option` does, and returns no reference.
     pub fn add_critical_option(&mut self, name: String, value: String) -> Result<()>
-        ensures { TakesStep (Critical (option_of (name, value))) self.old result self.new }
+        ensures step { TakesStep (Critical (option_of (name, value))) self.old result self.new }
+        ensures key { given_key self.new ≡ given_key self.old }
     {
         if self.critical_options.contains_key(name.as_str()) {
             return Err(Error::CertificateFieldInvalid(Field::CriticalOptions));
@@ -94,7 +101,8 @@ impl Builder {
 
     /// Adds an option and fails as `extension` does, and returns no reference.
     pub fn add_extension(&mut self, name: String, value: String) -> Result<()>
-        ensures { TakesStep (Extension (option_of (name, value))) self.old result self.new }
+        ensures step { TakesStep (Extension (option_of (name, value))) self.old result self.new }
+        ensures key { given_key self.new ≡ given_key self.old }
     {
         if self.extensions.contains_key(name.as_str()) {
             return Err(Error::CertificateFieldInvalid(Field::Extensions));

@@ -7,7 +7,7 @@ ghost use Rattle.sshkey_base.specs.declared.error.Error.TheVariants as wide;
 ghost use Rattle.sshkey_cert.specs.Questions.{asks, certificate_question};
 ghost use Rattle.sshkey_model.specs.Certificates.{normal_to_be_signed};
 ghost use Rattle.sshkey_model.specs.Parts.{flat};
-ghost use Rattle.sshkey_cert_ref.specs.CertificateRef.{certificate_of};
+ghost use Rattle.sshkey_cert_ref.specs.CertificateRef.{IsUnplain, certificate_of};
 
 use super::CertificateRef;
 use sshkey_base::{Error, Result};
@@ -35,6 +35,7 @@ impl<'a> CertificateRef<'a> {
         ensures value { IfOk result (λ m. cow_slice_items m
             ≡ flat (normal_to_be_signed (certificate_of self.now).signed)) }
         ensures memory { IfErr result (λ e. e ≡ wide.Memory) }
+        ensures asks { IfErr result (λ _. IsUnplain self.now) }
     {
         if let Some(signed) = self.signed_bytes() {
             return Ok(CowSlice::Borrowed(signed));

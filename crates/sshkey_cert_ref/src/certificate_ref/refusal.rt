@@ -1,8 +1,9 @@
 //! What is wrong with a certificate, for logs.
 
+ghost use Rattle.std.specs.Prelude.{IfErr};
 ghost use Rattle.sshkey_cert.specs.Validity.{FindsFirst, fingerprints_of};
 ghost use Rattle.sshkey_model.specs.Refusals.{first_refusal, first_refusal_for};
-ghost use Rattle.sshkey_cert_ref.specs.CertificateRef.{certificate_of};
+ghost use Rattle.sshkey_cert_ref.specs.CertificateRef.{NeedsAnswer, certificate_of};
 
 use super::CertificateRef;
 use sshkey_base::Result;
@@ -22,8 +23,9 @@ impl CertificateRef<'_> {
         fingerprints: &[Fingerprint],
         verifier: &V,
     ) -> Result<Option<CertificateRefusal>>
-        ensures { FindsFirst (first_refusal (V.accepts verifier.now)
+        ensures first { FindsFirst (first_refusal (V.accepts verifier.now)
             (fingerprints_of fingerprints.now) unix_timestamp (certificate_of self.now)) result }
+        ensures asks { IfErr result (λ _. NeedsAnswer self.now) }
     {
         if !self.is_signed(alloc, verifier)? {
             return Ok(Some(CertificateRefusal::Signature));
@@ -43,9 +45,10 @@ impl CertificateRef<'_> {
         fingerprints: &[Fingerprint],
         verifier: &V,
     ) -> Result<Option<CertificateRefusal>>
-        ensures { FindsFirst (first_refusal_for (V.accepts verifier.now)
+        ensures first { FindsFirst (first_refusal_for (V.accepts verifier.now)
             (fingerprints_of fingerprints.now) unix_timestamp principal.now
             (certificate_of self.now)) result }
+        ensures asks { IfErr result (λ _. NeedsAnswer self.now) }
     {
         let first = self.first_refusal(alloc, unix_timestamp, fingerprints, verifier)?;
         Ok(refusal_with_principal(first, self.allows_principal(principal)))

@@ -1,13 +1,14 @@
 //! When a certificate is valid.
 
-ghost use Rattle.std.specs.Prelude.{◌≡◌, ◌↔◌, IsTrue, IfOk, IfErr, OnOk};
+ghost use Rattle.std.specs.Prelude.{◌≡◌, ◌≢◌, ◌↔◌, IsTrue, IfOk, IfErr, OnOk};
 ghost use Rattle.sshkey_base.specs.declared.error.Error.TheVariants as wide;
 ghost use Rattle.sshkey_cert.specs.Validity.{IsSigned, IsUnsigned, Judges, JudgesFor};
 ghost use Rattle.sshkey_keys.specs.Fingerprints.{IsFingerprint};
+ghost use Rattle.sshkey_model.specs.Keys.{Plain};
 ghost use Rattle.sshkey_model.specs.Names.{Sha256};
 ghost use Rattle.sshkey_model.specs.Principals.{Allows};
 ghost use Rattle.sshkey_model.specs.Refusals.{is_signed};
-ghost use Rattle.sshkey_cert_ref.specs.CertificateRef.{certificate_of};
+ghost use Rattle.sshkey_cert_ref.specs.CertificateRef.{NeedsAnswer, certificate_of, choices_of};
 
 use super::CertificateRef;
 use sshkey_base::{Error, HashAlg, Result};
@@ -22,12 +23,13 @@ impl CertificateRef<'_> {
     ///
     /// Unless memory runs out, `Ok` exactly if `KeyData::verify` under the signature key accepts
     /// it, else `CertificateValidation`. Where `signed_bytes` is `Some`, only a DSA or an RSA
-    /// key, and the verifier, need memory.
+    /// key, and the verifier, need memory, and none where no verifier is asked.
     pub fn verify_signature<V: RawVerifier>(&self, alloc: Global, verifier: &V) -> Result<()>
         ensures accepted { OnOk result
             (IsSigned (V.accepts verifier.now) (certificate_of self.now)) }
         ensures refused { IfErr result
             (IsUnsigned (V.accepts verifier.now) (certificate_of self.now)) }
+        ensures memory { IfErr result (λ e. e ≡ wide.Memory → NeedsAnswer self.now) }
     {
         if !self.is_signed(alloc, verifier)? {
             return Err(Error::CertificateValidation);
@@ -50,8 +52,9 @@ impl CertificateRef<'_> {
         fingerprints: &[Fingerprint],
         verifier: &V,
     ) -> Result<()>
-        ensures { Judges (V.accepts verifier.now) fingerprints.now unix_timestamp
+        ensures exactly { Judges (V.accepts verifier.now) fingerprints.now unix_timestamp
             (certificate_of self.now) result }
+        ensures memory { IfErr result (λ e. e ≡ wide.Memory → NeedsAnswer self.now) }
     {
         result_of_refusal(self.first_refusal(alloc, unix_timestamp, fingerprints, verifier)?)
     }
@@ -79,8 +82,9 @@ impl CertificateRef<'_> {
         fingerprints: &[Fingerprint],
         verifier: &V,
     ) -> Result<()>
-        ensures { JudgesFor (V.accepts verifier.now) fingerprints.now unix_timestamp principal.now
-            (certificate_of self.now) result }
+        ensures exactly { JudgesFor (V.accepts verifier.now) fingerprints.now unix_timestamp
+            principal.now (certificate_of self.now) result }
+        ensures memory { IfErr result (λ e. e ≡ wide.Memory → NeedsAnswer self.now) }
     {
         result_of_refusal(self.first_refusal_for(
             alloc,
@@ -96,6 +100,7 @@ impl CertificateRef<'_> {
         ensures yes { IfOk result
             (λ yes. yes ≡ is_signed (V.accepts verifier.now) (certificate_of self.now)) }
         ensures memory { IfErr result (λ e. e ≡ wide.Memory) }
+        ensures asks { IfErr result (λ _. NeedsAnswer self.now) }
     {
         let message = self.message(alloc)?;
         let key = self.parts.signature_key;
@@ -107,6 +112,7 @@ impl CertificateRef<'_> {
         ensures fingerprint { IfOk result
             (IsFingerprint Sha256 (certificate_of self.now).signed.signature_key) }
         ensures memory { IfErr result (λ e. e ≡ wide.Memory) }
+        ensures asks { IfErr result (λ _. (choices_of self.now).signature_key ≢ Plain) }
     {
         match self.parts.signature_key.fingerprint(alloc, HashAlg::Sha256) {
             Ok(fingerprint) => Ok(fingerprint),

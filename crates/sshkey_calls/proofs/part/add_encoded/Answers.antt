@@ -1,7 +1,12 @@
-use Rattle.std.proofs.Common.{◌≡◌, ◌+◌, List, ℕ, ◌++◌, length, ap, sym, arith, rules, ◌∙◌, refl}
+use Rattle.std.proofs.Common.{◌≡◌, ◌+◌, List, ℕ, ◌++◌, length, ap, sym, arith, rules, ◌∙◌, refl, inl, inr}
 use Rattle.std.proofs.lemmas.List.{length-append}
-use Rattle.sshkey_base.specs.Sink.{Sink, after}
+use Rattle.std.proofs.lemmas.Result.{err_from_is_err_and}
+use Rattle.sshkey_base.specs.Causes.{widened}
+use Rattle.sshkey_base.specs.declared.encoding.Error as narrow
+use Rattle.sshkey_base.specs.declared.encoding.Error.TheVariants.{Memory}
+use Rattle.sshkey_base.specs.Sink.{NotWritten, Sink, after}
 use Rattle.sshkey_model.specs.Parts.{Parts, flat}
+use Rattle.sshkey_calls.specs.Writing.{IsNotAdded}
 use Rattle.sshkey_calls.proofs.part.add_encoded.Goals as goal
 
 -- what the sink has then
@@ -29,3 +34,14 @@ returns-clause-length g c =
     let there : c.len.result ≡ length c.encode.new.writer.items = search rules in
     let all = counted (g.T.Encode.normal c.args.value.now) c.args.content.now.items c.encode.new.writer.items (added _ _ _ c.in_ok-encode.ensures.1) here there in
     omega (arith, all)
+
+-- why a vector does not take the parts
+not_added : (p : Parts) (s t : Sink) (e : narrow.Error) → NotWritten (λ own. own ≡ Memory) p s e t → IsNotAdded p (widened e)
+unfolding NotWritten
+not_added p s t e (inl long) = inl (long.misfit, ap widened long.is)
+not_added p s t e (inr stopped) = inr (ap widened stopped.own)
+
+pub returns-in_err-encode-clause-refused : goal.returns-in_err-encode-clause-refused
+returns-in_err-encode-clause-refused g c =
+    let p = err_from_is_err_and c.from_residual.result c.from_residual.ensures.1 in
+    rw (p.1, p.2) (not_added _ _ _ _ c.in_err-encode.ensures)

@@ -28,13 +28,13 @@ pub returns-clause-exactly : goal.returns-clause-exactly
 returns-clause-exactly g c =
     let hosts = sym c.cert_type.ensures ∙ c.is_host.ensures.0 c.if-not-is_host.false in
     let none = sym c.critical_options.ensures.options ∙ c.is_empty.ensures.0 c.if-not-is_empty.false in
-    certifies_host _ _ _ _ (certificate_of c.args.certificate.now) (record { for_hosts = hosts; no_options = none }) c.validate_principal_at.result c.validate_principal_at.ensures
+    certifies_host _ _ _ _ (certificate_of c.args.certificate.now) (record { for_hosts = hosts; no_options = none }) c.validate_principal_at.result c.validate_principal_at.ensures.exactly
 
 pub returns-clause-refused : goal.returns-clause-refused
 returns-clause-refused g c =
     let hosts = sym c.cert_type.ensures ∙ c.is_host.ensures.0 c.if-not-is_host.false in
     let none = sym c.critical_options.ensures.options ∙ c.is_empty.ensures.0 c.if-not-is_empty.false in
-    not_valid _ _ _ _ (certificate_of c.args.certificate.now) (record { for_hosts = hosts; no_options = none }) c.validate_principal_at.result c.validate_principal_at.ensures
+    not_valid _ _ _ _ (certificate_of c.args.certificate.now) (record { for_hosts = hosts; no_options = none }) c.validate_principal_at.result c.validate_principal_at.ensures.exactly
 
 pub returns-clause-memory : goal.returns-clause-memory
 returns-clause-memory g c =

@@ -3,8 +3,8 @@ use Rattle.sshkey_model.specs.Drafts.{SerialField}
 use Rattle.sshkey_builder.proofs.Steps.{once_taken, once_refused}
 use Rattle.sshkey_builder.proofs.builder.Builder.set_serial.Goals as goal
 
-pub returns-then-is_some : goal.returns-then-is_some
-returns-then-is_some c = (refl, once_refused SerialField _ _ (sym c.is_some.ensures ∙ c.if-is_some.true))
+pub returns-then-is_some-clause-step : goal.returns-then-is_some-clause-step
+returns-then-is_some-clause-step c = (refl, once_refused SerialField _ _ (sym c.is_some.ensures ∙ c.if-is_some.true))
 
-pub returns : goal.returns
-returns c = once_taken SerialField _ _ (sym c.is_some.ensures ∙ c.if-is_some.false)
+pub returns-clause-step : goal.returns-clause-step
+returns-clause-step c = once_taken SerialField _ _ (sym c.is_some.ensures ∙ c.if-is_some.false)

@@ -1,6 +1,10 @@
 use Rattle.sshkey_model.proofs.Refusals.{none_where_valid}
 use Rattle.sshkey_cert.proofs.Given.{exactly}
+use Rattle.sshkey_cert_ref.proofs.Asking.{told}
 use Rattle.sshkey_cert_ref.proofs.certificate_ref.CertificateRef.validate_at.Goals as goal
 
-pub returns : goal.returns
-returns g c = exactly _ _ _ c.in_ok-first_refusal.ensures (none_where_valid _ _ _ _) c.result_of_refusal.ensures
+pub returns-clause-exactly : goal.returns-clause-exactly
+returns-clause-exactly g c = exactly _ _ _ c.in_ok-first_refusal.ensures.first (none_where_valid _ _ _ _) c.result_of_refusal.ensures
+
+pub returns-clause-memory : goal.returns-clause-memory
+returns-clause-memory g c = told _ _ _ c.result_of_refusal.ensures
