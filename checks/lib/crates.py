@@ -30,6 +30,13 @@ class Crate:
             for at, _, files in os.walk(f"{self.folder}/{part}"):
                 yield from (f"{at}/{it}" for it in files)
 
+    def judged_by(self):
+        """The files by which the crates above are judged: those of the library, where it is the one
+        of the sources as they stand, and else the sources."""
+        if not self.is_left_by_ci():
+            return sorted(self.sources())
+        return sorted(f"{at}/{it}" for at, _, files in os.walk(self.library) for it in files)
+
     def is_left_by_ci(self):
         """Whether the library is one that rt ci has made, or found kept, of the sources as they
         stand: it is no older than they are, or has the mark that ./test gives where rt ci passed.

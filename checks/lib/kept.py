@@ -4,14 +4,22 @@ import os
 
 
 class Kept:
-    """What passed on this machine, by checksums of all that it was judged by."""
+    """What passed on this machine, by checksums of all that it was judged by: the crate's sources,
+    and of the crates below it the libraries, which the prover reads in their place."""
 
     def __init__(self, root, kit):
         cache = os.environ.get("XDG_CACHE_HOME") or os.path.expanduser("~/.cache")
         self.folder = f"{cache}/rafendilo/wrong-bodies"
         names = ("wrong-bodies", "lib/crates.py", "lib/edits.py", "lib/kept.py")
         scripts = [f"{root}/checks/{it}" for it in names]
+        self.libraries = {}
         self.common = self.sum_of([f"{kit}/WHAT", *scripts], root)
+
+    def of_library(self, crate, top):
+        """The sum of what the crates above are judged by, which each of them asks for."""
+        if crate.name not in self.libraries:
+            self.libraries[crate.name] = self.sum_of(crate.judged_by(), top)
+        return self.libraries[crate.name]
 
     @staticmethod
     def sum_of(files, top="", more=""):
@@ -27,8 +35,10 @@ class Kept:
         top = os.path.dirname(crate.folder)
         crates = [*crate.below(), crate]
         uses = repr([(it.name, [own.name for own in it.own], it.of_kit) for it in crates])
-        sources = [file for it in crates for file in sorted(it.sources())]
-        found = self.sum_of([*sources, *sorted(trial.files)], top, uses)
+        # a comment changes no library, so it opens no crate above
+        below = repr([self.of_library(it, top) for it in crate.below()])
+        files = [*sorted(crate.sources()), *sorted(trial.files)]
+        found = self.sum_of(files, top, uses + below)
         return f"{self.folder}/{crate.name}-{self.common[:16]}-{found}"
 
     def count(self, trial):
