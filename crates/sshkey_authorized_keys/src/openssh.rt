@@ -18,7 +18,7 @@ use sshkey_public::PublicKey;
 use std::alloc::Global;
 use std::marker::Model;
 
-/// An entry as sshd(8) reads it: options, which may be empty, and a key with its comment.
+/// An entry as sshd(8) reads it: options, if there are any, and a key with its comment.
 #[derive(Debug, Drop)]
 pub struct OpenSshEntry {
     options: OpenSshOptions,
@@ -81,6 +81,9 @@ impl Entry {
     /// The options are kept as they stand, also those that sshd does not know; sshd rejects a line
     /// with one of these. A key of whatever kind this library reads is read, private-use names too,
     /// and a name is compared as it stands.
+    ///
+    /// A zero byte is a byte like others here, while sshd(8) ends the line at it: for a login,
+    /// reject an entry whose options hold one.
     pub fn from_line_openssh(alloc: Global, line: &str) -> Result<OpenSshEntry>
         ensures reads { ReadsEntry openssh_entry_of IsAuthorizedLine line.now result }
         ensures fault { RefusesFor HasLineFault line.now result }

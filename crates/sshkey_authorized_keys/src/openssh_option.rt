@@ -55,7 +55,7 @@ impl<'a> OpenSshOption<'a> {
     /// A copy of the value, without its quotes and without each backslash before a quote; or none
     /// where there is no `=`. A value may be empty.
     ///
-    /// Fails only when out of memory. Without a value it takes none.
+    /// Fails only when out of memory. Allocates nothing where there is no value.
     pub fn value(&self, alloc: Global) -> Result<Option<String>>
         ensures value { IfOk result (λ v. option_map string_bytes v
             ≡ (key_option_of self.now).value) }

@@ -61,12 +61,12 @@ impl OpenSshOptions {
         OpenSshOptionsIter::new(self.as_str())
     }
 
-    /// The option of that name, letters of ASCII without case: the first where the same name stands
-    /// twice. Does not allocate.
+    /// Returns the first option of that name, ASCII letters in either case, or `None` if none has
+    /// it. Does not allocate.
     ///
     /// Fails with `FormatEncoding` exactly if the text is no list of options, also where what is
     /// none stands after the option that was asked for. sshd(8) rejects an entry that names
-    /// `command`, `from`, `principals` or `tunnel` twice: whoever wants that too counts by `iter`.
+    /// `command`, `from`, `principals` or `tunnel` twice: to do the same, count by `iter`.
     ///
     /// So `get` is not enough for a login. Of two options `expiry-time` sshd takes the earlier
     /// time; of `pty`, `no-pty` and `restrict` the last one counts, and their order is not told

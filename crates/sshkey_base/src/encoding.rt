@@ -13,7 +13,8 @@ pub enum Error {
     /// A text is not canonical Base64.
     #[error("Base64 encoding error")]
     Base64,
-    /// A text is not UTF-8.
+    /// A text is not UTF-8, or has a character that is not allowed where it stands: in the name
+    /// that begins a line, or in options.
     #[error("character encoding invalid")]
     CharacterEncoding,
     /// A name is not one of those allowed.

@@ -17,7 +17,8 @@ use std::str::Utf8Error;
 /// Every error of the crates.
 ///
 /// Where documentation says `Base64`, `CharacterEncoding`, `Label` or `Length`, it means `Encoding`
-/// of that fault; and so it does by `TrailingData`, but where it says `Error::TrailingData`.
+/// of that fault; and so it does by `TrailingData`, except where it says `Error::TrailingData`, a
+/// variant of its own.
 #[derive(Debug, Drop, PartialEq, Eq, thiserror::Error)]
 pub enum Error {
     /// The algorithm, the curve or the hash is not the one that was stated, or is none: the first

@@ -25,9 +25,9 @@ use std::alloc::Global;
 
 /// Collects the fields of a certificate, and signs them.
 ///
-/// Each setter stands here twice: `serial` returns the builder, so that calls can be chained;
-/// `set_serial` returns `Ok(())`. A call of either that fails leaves the builder as it was. In a
-/// caller's proof the search finds this of `set_serial`; of `serial` it has to be proved by hand.
+/// There are two of each setter: `serial` returns the builder, so that calls can be chained, and
+/// `set_serial` returns `Ok(())`. If either fails, the builder is as it was. In a caller's proof
+/// the search finds that of `set_serial`; of `serial` it has to be proved by hand.
 pub struct Builder {
     alloc: Global,
     nonce: Bytes,
@@ -111,9 +111,8 @@ impl Builder {
         Ok(Builder::begun(alloc, nonce, public_key, valid_after, EndTime::forever()))
     }
 
-    /// Does what `new` does, with the next 16 bytes of the generator as the nonce, for which it
-    /// allocates. Draws nothing if it fails: as `new` does, or, where both times are right, with
-    /// `Memory`.
+    /// As `new`, with the next 16 bytes of the generator as the nonce, which it allocates. Draws
+    /// nothing if it fails: as `new` does, or, where both times are right, with `Memory`.
     pub fn new_with_random_nonce<R: Rng + CryptoRng>(
         alloc: Global,
         rng: &mut R,
@@ -202,7 +201,8 @@ impl Builder {
         hand_back(self.chain_comment(comment))
     }
 
-    /// Names one more principal, also after all were made valid. Fails only when out of memory.
+    /// Adds a principal. After `all_principals_valid` the certificate is only for the principals
+    /// added since. Fails only when out of memory.
     ///
     /// Takes any text. sshd takes a name with a zero byte to end there, so that `root` with one
     /// behind it is root: refuse such names, which ssh-keygen can't make either.
@@ -214,7 +214,7 @@ impl Builder {
         hand_back(self.chain_valid_principal(principal))
     }
 
-    /// Makes all principals valid, whichever were named. Never fails, and does not allocate.
+    /// Makes all principals valid: drops those that were added. Never fails, and does not allocate.
     pub fn all_principals_valid(&mut self) -> Result<&mut Builder>
         ensures* stays { sem 𝓛 (StaysIfRefused self.entry result) }
         ensures same_reference { IsTheBuilder self.entry result }

@@ -18,16 +18,16 @@ fn is_named(key: &KeyData, name: &str) -> bool
     name == key.algorithm_name()
 }
 
-/// The key of a text that is a key's fields: the name of its algorithm, the key in padded Base64
-/// and a comment, which is all that follows. Spaces or tabs stand between.
+/// Reads a key's fields: the name of its algorithm, the key in padded Base64, and a comment, which
+/// is all that follows. Spaces or tabs stand between.
 ///
 /// Unless memory runs out, it fails exactly if the text is the fields of no key: `Length` where the
 /// Base64 is missing, the errors of `sshkey_public::read_word`, and `AlgorithmUnknown` where the
 /// first field is not the name of the key that the Base64 spells.
 ///
-/// It fails with `Memory` only if the second field is canonical Base64 and the key in it needs
-/// some, or for a comment that is not empty, of a text that is a key's fields: never for a length
-/// that the key's bytes only state.
+/// `Memory` means that the second field is canonical Base64 and an allocation for the key in it
+/// failed, or for the comment, if that is not empty, of a text that is a key's fields. A length
+/// that the key's bytes only state allocates nothing.
 pub fn read_key_fields(alloc: Global, text: &str) -> Result<PublicKey>
     ensures reads { ReadsKeyFields text.now result }
     ensures fault { RefusesFor HasKeyFault text.now result }

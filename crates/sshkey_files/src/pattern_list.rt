@@ -16,6 +16,9 @@ const TOO_LONG: usize = 1023;
 ///
 /// OpenSSH calls it `match_pattern_list`, and hands it a text in small letters where case does not
 /// count. As there, a list with a pattern of 1,023 bytes or more, the `!` aside, is for no text.
+///
+/// Knows no networks, which lists of the option `from` (sshd(8)) may hold: here `!10.0.0.0/8,*` is
+/// for 10.1.2.3, which sshd(8) rejects.
 pub fn matches_pattern_list(text: &str, list: &str, letter_case: LetterCase) -> bool
     ensures { IsTrue result ↔ MatchesList (fold_of letter_case) list.now text.now }
 {

@@ -204,7 +204,7 @@ impl fmt::Debug for OpaqueKeypair {
     }
 }
 
-/// The public key of the pair.
+/// The public key of the pair. A crate that calls it names `sshkey_keypairs` too.
 impl From<OpaqueKeypair> for OpaquePublicKey {
     ghost from_gives = { λ pair key. key ≡ pair.public };
 

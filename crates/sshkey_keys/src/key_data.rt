@@ -91,8 +91,8 @@ impl KeyData {
         }
     }
 
-    /// The key's algorithm. That of an opaque key is the one that is kept beside its bytes, and for
-    /// a well-formed key the one that its name tells.
+    /// The key's algorithm. An opaque key stores its algorithm beside its bytes; in a well-formed
+    /// key it is the one that its name tells.
     ///
     /// Fails only when out of memory, and only under a private-use name.
     #[tactic(auto, using(crate::proofs::OwnAlgorithms::well_formed_algorithm))]
@@ -138,7 +138,7 @@ impl KeyData {
     /// The fingerprint by that hash: the digest of the key's normal form.
     ///
     /// Fails with `Length` exactly if a part of the key is longer than 2^32 - 1 bytes, and
-    /// otherwise only when out of memory. A key of at most 256 bytes is never rejected.
+    /// otherwise only when out of memory. Never fails for a key of at most 256 bytes.
     pub fn fingerprint(&self, alloc: Global, hash_alg: HashAlg) -> Result<Fingerprint>
         ensures gives { GivesFingerprint (hash_of hash_alg) (key_of self.now) result }
         ensures short { IsShort (key_of self.now) → IsOk result }
@@ -146,8 +146,8 @@ impl KeyData {
         Fingerprint::new(alloc, hash_alg, self)
     }
 
-    /// Reads what stands after the name of that algorithm, an RSA key's with or without a hash,
-    /// which is not kept. The key's algorithm is that one, also beside an opaque key's bytes.
+    /// Reads the body of a key, which follows the name of that algorithm. The key has that
+    /// algorithm; the hash of an RSA name is not kept.
     ///
     /// The bytes taken spell the body. A sound source is rejected only if no front is the body of
     /// such a key, with the first fault from the left, or for memory that ran out, where the body

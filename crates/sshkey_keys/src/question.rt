@@ -34,8 +34,7 @@ enum Contents<'a> {
 }
 
 impl<'a> Question<'a> {
-    /// The algorithm by which the message was signed. RSA comes with its hash, ECDSA with its
-    /// curve.
+    /// The algorithm to verify by: RSA with its hash, ECDSA with its curve.
     pub fn algorithm(&self) -> &Algorithm
         ensures { algorithm_of result.now ≡ (question_of self.now).algorithm }
     {
@@ -55,7 +54,7 @@ impl<'a> Question<'a> {
         }
     }
 
-    /// The message that was signed. For a security key it has 69 bytes (PROTOCOL.u2f).
+    /// The message to verify the signature of. For a security key it has 69 bytes (PROTOCOL.u2f).
     pub fn message(&self) -> &[u8]
         ensures { result.now ≡ (question_of self.now).message }
     {

@@ -24,6 +24,10 @@ impl KeyData {
     /// private-use name, with `AlgorithmUnsupported` and the signature's if `question` returns
     /// `None`, and with `Crypto` if the verifier returns false. Allocates for a private-use name
     /// that an error holds, and else only in the verifier.
+    ///
+    /// Does not check the flags in a security key's signature, which tell whether somebody touched
+    /// the key (PROTOCOL.u2f): check them yourself, in the fifth byte from the end of
+    /// `Signature::as_bytes`.
     pub fn verify<V: RawVerifier>(
         &self,
         alloc: Global,

@@ -35,6 +35,10 @@ impl KeyDataRef<'_> {
     ///
     /// Fails only when out of memory, and only where the verifier is asked. Memory is taken for a
     /// DSA or an RSA key, and else only by the verifier.
+    ///
+    /// Does not check the flags in a security key's signature, which tell whether somebody touched
+    /// the key (PROTOCOL.u2f): check them yourself, in the fifth byte from the end of
+    /// `SignatureRef::as_bytes`.
     pub fn accepts<V: RawVerifier>(
         &self,
         alloc: Global,

@@ -167,7 +167,7 @@ impl Entry {
     }
 }
 
-/// The marker.
+/// The marker. A crate that calls it names `sshkey_known_hosts` too.
 impl From<Entry> for Option<Marker> {
     ghost from_gives = { λ entry made. made ≡ marker_in entry };
 
@@ -185,7 +185,7 @@ impl From<Entry> for HostPatterns {
     }
 }
 
-/// The key and its comment.
+/// The key and its comment. A crate that calls it names `sshkey_known_hosts` too.
 impl From<Entry> for PublicKey {
     ghost from_gives = { λ entry made. made ≡ key_in entry };
 

@@ -37,7 +37,10 @@ impl<'a> Model for KnownHosts<'a> {
 }
 
 impl<'a> KnownHosts<'a> {
-    /// The entries of a text. Does not allocate.
+    /// The entries of a text as the crate ssh-key reads it. Does not allocate.
+    ///
+    /// Do not decide on a host by it: it rejects revocations that ssh(1) reads, as one with two
+    /// spaces after `@revoked`. Use `judge_key`, or `openssh`.
     pub fn new(alloc: Global, text: &'a str) -> KnownHosts<'a>
         ensures { result ≡ entries text.now }
     {
@@ -56,7 +59,8 @@ impl<'a> KnownHosts<'a> {
 }
 
 impl KnownHosts<'_> {
-    /// All entries of the text that a file holds, in order.
+    /// All entries of the text that a file holds, in order. Reads as `new` does: do not decide on a
+    /// host by it.
     ///
     /// Fails with `Io` and the machine's fault if the file could not be read, with
     /// `Io(InvalidData)` if it is not UTF-8, with `Io(Other)` if its end is not met in 2^32 reads,

@@ -58,13 +58,14 @@ fn is_read_back_openssh(alloc: Global, line: &str, entry: &Entry) -> Result<bool
 impl Entry {
     /// An entry of these parts, whose line is read back as it is.
     ///
-    /// Fails with `FormatEncoding` where `is_one_line` does not hold of it, and else with `Length`
-    /// exactly if a part of the key is longer than 2^32 - 1 bytes, whatever memory there is. Of any
-    /// other entry the line is made and read, and it fails with `FormatEncoding` exactly if one of
-    /// `from_line` and `from_line_openssh` rejects the line that `to_string` writes, or reads
-    /// another entry of it, or else only when out of memory. So patterns with a space, a tab or a
-    /// comma are rejected, no patterns and an empty one at the end, a first one that begins with a
-    /// `#`, an `@` or `|1|`, a comment with white space at its ends, and a line end anywhere.
+    /// Fails with `FormatEncoding` if `is_one_line` would return false, and else with `Length` if a
+    /// part of the key is longer than 2^32 - 1 bytes, both whatever memory there is. Else, unless
+    /// memory runs out, it fails with `FormatEncoding` exactly if `from_line` or
+    /// `from_line_openssh` rejects the line that `to_string` writes, or reads another entry of it.
+    ///
+    /// So patterns with a space, a tab or a comma are rejected, no patterns and an empty one at the
+    /// end, a first one that begins with a `#`, an `@` or `|1|`, a comment with white space at its
+    /// ends, and a line end anywhere.
     pub fn new(
         alloc: Global,
         marker: Option<Marker>,

@@ -34,7 +34,7 @@ pub enum Verdict {
     Trusted,
     /// An entry for the host has another key.
     Changed,
-    /// No entry without a marker is for the host.
+    /// None of the above: no entry without a marker is for the host.
     Unknown,
 }
 
@@ -176,6 +176,9 @@ pub(crate) fn has_lines(text: &str) -> bool
 /// host it is passed over, and never where a zero byte stands in it, at which ssh takes the hosts
 /// to end. Then an entry for the host with this key makes it `Trusted`, or else one with another
 /// key `Changed`, and else it is `Unknown`. Of authorities nothing is said here.
+///
+/// It judges this text alone, and another file may revoke the key: ask about every file that
+/// counts, and join the verdicts by `Verdict::graver`, as `host_keys::check_key` does.
 ///
 /// `HostPatterns::matches` says which entries are for a host at a port. Fails only when out of
 /// memory, and never of a text that is empty or has comments alone.

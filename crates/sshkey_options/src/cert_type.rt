@@ -46,6 +46,7 @@ impl Default for CertType {
     }
 }
 
+/// A crate that calls it names `sshkey_options` too.
 impl From<CertType> for u32 {
     ghost from_gives = { λ t n. n ≡ type_number (type_of t) };
 

@@ -157,6 +157,7 @@ impl From<BTreeMap<String, String>> for OptionsMap {
     }
 }
 
+/// A crate that calls it names `sshkey_options` too.
 impl From<OptionsMap> for BTreeMap<String, String> {
     ghost from_gives = { λ options map. map ≡ options.0 };
 

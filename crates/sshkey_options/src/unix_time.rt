@@ -47,6 +47,7 @@ impl UnixTime {
     }
 }
 
+/// A crate that calls it names `sshkey_options` too.
 impl From<UnixTime> for u64 {
     ghost use Rattle.sshkey_options.specs.Times.{time_of};
 

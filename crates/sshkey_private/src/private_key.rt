@@ -21,8 +21,8 @@ use std::alloc::Global;
 /// has one; nothing here encrypts or decrypts.
 ///
 /// Two are equal where the ciphers, the derivations, the public keys with their comments, and the
-/// pairs or ciphertexts are: checkint and tag are left out. What is shown of one has no private
-/// byte, and leaves out the checkint too, which is made of them.
+/// pairs or ciphertexts are: checkint and tag are left out. `Debug` shows no private byte, and no
+/// checkint, which is made of them.
 #[derive_where(Debug, PartialEq, Eq)]
 pub struct PrivateKey {
     cipher: Cipher,
@@ -119,18 +119,28 @@ impl PrivateKey {
     /// Reads a private key from the front, and leaves what follows it; nothing may follow an
     /// encrypted one, whose comment is empty.
     ///
-    /// It is what the plain reader gives of the bytes that are left. A sound source is rejected
-    /// with the first fault from the left, or for memory that ran out, where a part that stands
-    /// whole needs some: `FormatEncoding` for other magic bytes, `Label` for names of no cipher or
-    /// derivation, the errors of `Kdf`, `Length` for another number of keys than one, the errors of
-    /// `KeyData`, `Crypto` for a key derivation without a cipher, `Length` for a part that is no
-    /// multiple of eight bytes, `Crypto` where the checkint is not the same again, the errors of
-    /// `KeypairData`, `PublicKey` where the pair has another public half, `Length` for eight bytes
-    /// or more after the comment, `FormatEncoding` for other padding, `Crypto` for a ciphertext
-    /// that is not whole blocks, and `Error::TrailingData` with the number of bytes after an
-    /// encrypted key. Of a source with a fault, a stated length of the opening, or of the private
-    /// part, that passes all that was announced is `Length`, unless memory ran out for a value
-    /// before it; how else it is rejected is open.
+    /// It is what the plain reader gives of the bytes that are left. A sound source is rejected for
+    /// memory that ran out, where a part that stands whole needs some, or with the first of these
+    /// faults from the left:
+    ///
+    /// - `FormatEncoding`: other magic bytes
+    /// - `Label`: names of no cipher or derivation
+    /// - the errors of `Kdf`
+    /// - `Length`: another number of keys than one
+    /// - the errors of `KeyData`
+    /// - `Crypto`: a key derivation without a cipher
+    /// - `Length`: a part that is no multiple of eight bytes
+    /// - `Crypto`: the checkint is not the same again
+    /// - the errors of `KeypairData`
+    /// - `PublicKey`: the pair has another public half
+    /// - `Length`: eight bytes or more after the comment
+    /// - `FormatEncoding`: other padding
+    /// - `Crypto`: a ciphertext that is not whole blocks
+    /// - `Error::TrailingData`, with their number: bytes after an encrypted key
+    ///
+    /// Of a source with a fault, a stated length of the opening, or of the private part, that
+    /// passes all that was announced is `Length`, unless memory ran out for a value before it; how
+    /// else it is rejected is open.
     pub fn decode<R: Reader>(alloc: Global, reader: &mut R) -> Result<PrivateKey>
         ensures gives { Gives private_of cause private_value_at
             (R.source reader.old) result (R.source reader.new) }
@@ -241,7 +251,8 @@ impl PrivateKey {
         self.public_key.comment()
     }
 
-    /// The key's algorithm. That of an opaque key is the one that is kept beside its bytes.
+    /// The key's algorithm. An opaque key stores its algorithm beside its bytes; in a well-formed
+    /// key it is the one that its name tells.
     ///
     /// Fails only when out of memory, and only under a private-use name.
     pub fn algorithm(&self, alloc: Global) -> Result<Algorithm>
@@ -257,7 +268,7 @@ impl PrivateKey {
     /// The fingerprint of the public key by that hash: the digest of its normal form.
     ///
     /// Fails with `Length` exactly if a part of the key is longer than 2^32 - 1 bytes, and
-    /// otherwise only when out of memory. A key of at most 256 bytes is never rejected.
+    /// otherwise only when out of memory. Never fails for a key of at most 256 bytes.
     pub fn fingerprint(&self, alloc: Global, hash_alg: HashAlg) -> Result<Fingerprint>
         ensures gives { GivesFingerprint (hash_of hash_alg) (public_key (private_of self.now))
             result }
@@ -312,7 +323,7 @@ impl PrivateKey {
     }
 }
 
-/// The public key, with the comment.
+/// The public key, with the comment. A crate that calls it names `sshkey_private` too.
 impl From<PrivateKey> for PublicKey {
     ghost use Rattle.sshkey_private.specs.PrivateKeys.{outer_of};
 
@@ -323,7 +334,7 @@ impl From<PrivateKey> for PublicKey {
     }
 }
 
-/// The public key, without the comment.
+/// The public key, without the comment. A crate that calls it names `sshkey_private` too.
 impl From<PrivateKey> for KeyData {
     ghost use Rattle.sshkey_private.specs.PrivateKeys.{outer_of};
     ghost use Rattle.sshkey_public.specs.PublicKeys.{data_of as key_data_of};

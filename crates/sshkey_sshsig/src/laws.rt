@@ -34,14 +34,14 @@ pub fn one_ssh_signature()
 {}
 
 /// What a signature that some bytes spell signs in place of a message has no part that is too long:
-/// `signed_bytes` of one that was read is rejected only when out of memory.
+/// `signed_bytes` of one that was read fails only when out of memory.
 pub fn signed_parts_fit()
     ensures { (f : SshSig) (bytes message : List ℕ) →
         SpellsSshSignature (ssh_signature_of f) bytes → BoxesFit (signed_parts f message) }
 {}
 
 /// The same of what it signs in place of a message with a digest: `signed_bytes_of_digest` of one
-/// that was read is rejected only for the digest's length, or when out of memory.
+/// that was read fails only for the digest's length, or when out of memory.
 pub fn digest_parts_fit()
     ensures { (f : SshSig) (bytes digest : List ℕ) →
         SpellsSshSignature (ssh_signature_of f) bytes →

@@ -60,8 +60,8 @@ impl Builder {
         Ok(())
     }
 
-    /// Names a principal and fails as `valid_principal` does, and returns no reference. A name with
-    /// a zero byte is another user's to sshd, as there.
+    /// Adds a principal and fails as `valid_principal` does, and returns no reference. Reject names
+    /// with a zero byte, as it says.
     #[tactic(auto, using(crate::proofs::Principals::map_added))]
     pub fn add_valid_principal(&mut self, principal: String) -> Result<()>
         ensures step { TakesStep (Principal (string_bytes principal)) self.old result self.new }

@@ -18,8 +18,8 @@ use sshkey_options::{CertType, OptionsMap};
 use std::alloc::Global;
 
 impl Certificate {
-    /// The algorithm of the certified key. For an opaque key it is the one stored beside its bytes,
-    /// which for a well-formed key is the one that its name tells.
+    /// The algorithm of the certified key. An opaque key stores its algorithm beside its bytes; in
+    /// a well-formed key it is the one that its name tells.
     ///
     /// Fails only when out of memory, and only under a private-use name.
     pub fn algorithm(&self, alloc: Global) -> Result<Algorithm>

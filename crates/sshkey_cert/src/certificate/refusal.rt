@@ -13,7 +13,8 @@ use sshkey_base::{Error, Result};
 /// from a forged one. Whoever shows a certificate need not learn it.
 #[derive(Debug, Clone, Copy, Drop, PartialEq, Eq)]
 pub enum CertificateRefusal {
-    /// The verifier does not accept the signature, or is not asked about it.
+    /// The verifier rejects the signature, or the key and the signature's algorithm do not go
+    /// together, as `KeyData::question` says.
     Signature,
     /// No fingerprint that was given is the signature key's.
     Authority,

@@ -35,8 +35,8 @@ impl CertificateRef<'_> {
         Ok(refusal_of_authority_or_time(authority.as_bytes(), window, fingerprints, unix_timestamp))
     }
 
-    /// The same for a principal, which is looked at last: `None` exactly if
-    /// `validate_principal_at` is `Ok`.
+    /// As `first_refusal`, and last `Principal` if the certificate does not allow the principal:
+    /// `None` exactly if `validate_principal_at` is `Ok`.
     pub fn first_refusal_for<V: RawVerifier>(
         &self,
         alloc: Global,

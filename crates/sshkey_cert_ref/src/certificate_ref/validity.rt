@@ -45,6 +45,9 @@ impl CertificateRef<'_> {
     /// the signature key's, `Time` for a time above 2^63 - 1, `CertificateValidation` for a time
     /// before `valid_after`, or not before `valid_before`. It allocates where `verify_signature`
     /// does, and for an RSA signature key under another name than `ssh-rsa`.
+    ///
+    /// Does not check the type, the principals, the critical options or revocation: check them
+    /// yourself.
     pub fn validate_at<V: RawVerifier>(
         &self,
         alloc: Global,
@@ -74,6 +77,9 @@ impl CertificateRef<'_> {
     ///
     /// Unless memory runs out, `Ok` exactly if it is; else the error of `validate_at`, and last
     /// `CertificateFieldInvalid(Field::ValidPrincipals)` for the principal.
+    ///
+    /// Does not check the type, the critical options or revocation: check them yourself. A
+    /// certificate without principals allows everybody: see `allows_principal`.
     pub fn validate_principal_at<V: RawVerifier>(
         &self,
         alloc: Global,

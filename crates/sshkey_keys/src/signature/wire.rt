@@ -30,9 +30,9 @@ use std::alloc::Global;
 impl Signature {
     /// Reads a signature from the front of the bytes, whatever follows it.
     ///
-    /// It is rejected only if no front spells a signature, with the errors of `decode`, or for
-    /// memory that ran out. A stated length that passes the bytes is `Length`, unless memory ran
-    /// out for a private-use name before it.
+    /// Unless memory runs out, it fails exactly if no front spells a signature, with the errors of
+    /// `decode`. A stated length that exceeds the bytes fails with `Length`, unless memory runs out
+    /// for a private-use name before it.
     pub fn from_front(alloc: Global, bytes: &[u8]) -> Result<Signature>
         ensures reads { ReadsFrontOf signature_of signature_at SpellsSignature cause
             bytes.now result }
@@ -44,9 +44,10 @@ impl Signature {
 
     /// Reads a signature that all the bytes spell.
     ///
-    /// They are rejected only if they spell no signature, `TrailingData` with the number of bytes
-    /// after one, else the errors of `decode`; or for memory that ran out. A stated length that
-    /// passes the bytes is `Length`, unless memory ran out for a private-use name before it.
+    /// Unless memory runs out, it fails exactly if they spell no signature: with `TrailingData` and
+    /// the number of bytes after one, and else with the errors of `decode`. A stated length that
+    /// exceeds the bytes fails with `Length`, unless memory runs out for a private-use name before
+    /// it.
     pub fn from_bytes(alloc: Global, bytes: &[u8]) -> Result<Signature>
         ensures gives { GivesWhole signature_of cause (whole signature_at)
             (all_of bytes.now) result }

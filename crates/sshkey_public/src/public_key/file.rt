@@ -17,8 +17,10 @@ impl PublicKey {
     /// was read before, with `Io(InvalidData)` if it is not UTF-8, with `Io(Other)` if its end is
     /// not met in 2^32 reads, and else as `from_openssh` does.
     ///
-    /// Of a file of many lines this reads the first as the key, and keeps the others as its
-    /// comment: `is_one_line` tells. `AuthorizedKeys` and `KnownHosts` read files of many lines.
+    /// If text follows the first line, that line is read as the key only if a comment, or a space,
+    /// follows its key, and all further lines are part of the comment: check `is_one_line`.
+    /// Otherwise such a file is rejected. `AuthorizedKeys` and `KnownHosts` read files of several
+    /// lines.
     pub fn read_openssh_file<R: Files>(rt: &R, alloc: Global, path: &str) -> Result<PublicKey>
         ensures { IfOk result IsOfSomeLine }
     {

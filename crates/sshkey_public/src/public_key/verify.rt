@@ -36,6 +36,9 @@ impl PublicKey {
     ///
     /// So under a key and for a signature that readers gave, unless memory runs out: `Ok` exactly
     /// if the signature is by this key, in this namespace, and the verifier says yes to it.
+    ///
+    /// Does not check the flags in a security key's signature, which tell whether somebody touched
+    /// the key (PROTOCOL.u2f): check them yourself, as `KeyData::verify` says.
     pub fn verify<V: RawVerifier>(
         &self,
         alloc: Global,

@@ -9,7 +9,7 @@ use sshkey_base::{Error, Result};
 use std::alloc::Global;
 
 impl SshSig {
-    /// A copy of the signature. The copy of an opaque key keeps the algorithm that stands beside
+    /// A copy of the signature. The copy of an opaque key keeps the algorithm that is stored beside
     /// its bytes. Fails only when out of memory.
     pub fn try_clone(&self, alloc: Global) -> Result<SshSig>
         ensures same { IfOk result (λ f. ssh_signature_of f ≡ ssh_signature_of self.now) }
