@@ -23,11 +23,13 @@ pub record RaisedBySshSignature (bytes namespace message : List ℕ) (q : model.
 abbrev pub TellsNoneOfSshSignature : List ℕ → List ℕ → List ℕ → ℕ → Type 0
 TellsNoneOfSshSignature bytes namespace message n = (f : SshSignature) → SpellsSshSignature f bytes → f.namespace ≡ namespace → model.question f.key (signed_by f message) f.signature ≡ None → n ≢ 1 → n ≡ 40
 
--- what a signature of a message with the digest has signed, which stands where the model's signed_by has the digest of the message
+-- what a signature of a message with the digest has signed: the model's signed_by, with it in the
+-- place of the message's digest
 abbrev pub signed_with_digest : SshSignature → List ℕ → List ℕ
 signed_with_digest f digest = flat (signed_data f.namespace f.reserved f.hash digest)
 
--- the SSH signature raises the question of a message with the digest, which is as long as one by the signature's hash
+-- the SSH signature raises the question of a message with the digest, which is as long as one by
+-- the signature's hash
 abbrev pub RaisesOfDigest : SshSignature → List ℕ → model.Question → Type 0
 RaisesOfDigest f digest q = (length digest ≡ digest_len f.hash) × (model.question f.key (signed_with_digest f digest) f.signature ≡ Some q)
 

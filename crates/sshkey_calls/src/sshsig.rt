@@ -66,9 +66,9 @@ pub fn sshsig_question(
 /// The same with the digest of the message, by the hash that the signature names, in place of the
 /// message: who has digested a file piece by piece needs no more of it.
 ///
-/// Returns what `sshsig_question` returns for each message that has this digest. And where the bytes
-/// spell an SSH signature in that namespace, 13 for a digest of another length than the hash's, 32
-/// bytes for SHA-256 and 64 for SHA-512.
+/// Returns what `sshsig_question` returns for each message that has this digest. Where the bytes
+/// spell an SSH signature in that namespace, returns 13 for a digest of another length than the
+/// hash's: 32 bytes for SHA-256 and 64 for SHA-512.
 pub fn sshsig_question_of_digest(
     alloc: Global,
     signature: &[u8],
