@@ -38,8 +38,8 @@ use std::alloc::Global;
 ///
 /// Whoever calls it has asked the client for a signature under the offered key, and does what the
 /// grant says, the flags in a security key's signature included. The options of a line
-/// `cert-authority` of authorized_keys, by which sshd trusts an authority for one user, bind a login
-/// besides: of an authority that stands there they are the caller's to judge.
+/// `cert-authority` of authorized_keys, by which sshd trusts an authority for one user, bind a
+/// login besides: of an authority that stands there they are the caller's to judge.
 pub fn log_in<V: RawVerifier>(
     alloc: Global,
     line: &str,
