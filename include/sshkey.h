@@ -491,8 +491,9 @@ typedef struct {
  * option that is asked for, and SSHKEY_TEXT for bytes that are not UTF-8. A room of the options'
  * length is enough. A `front` of no bytes has no options. Each call reads all of them, so do not go
  * on for ever: refuse an entry with an option that you do not know, one that names an option twice,
- * but for environment, permitlisten and permitopen, which may come more than once, and one that has
- * no value where sshd wants one, as command alone, or has one where it wants none. */
+ * but for environment, permitlisten and permitopen, which may come more than once, one that has no
+ * value where sshd wants one, as command alone, or has one where it wants none, and one that has
+ * principals without cert-authority. */
 uint32_t sshkey_nth_option(const uint8_t *options, size_t options_length, size_t number,
                            uint8_t *room, size_t room_length, sshkey_entry_option_parts *answer);
 

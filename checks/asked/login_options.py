@@ -12,12 +12,15 @@ from lib.signatures import signed
 from .security_key_agent import Agent
 from .security_key_calls import TOUCHED, VERIFIED, SecurityKey
 
-CRITICAL, EXTENSIONS = ("refused: certificate field invalid: " + it for it in ("critical options", "extensions"))
+CRITICAL, EXTENSIONS, KEY_ID, PRINCIPALS = (
+    "refused: certificate field invalid: " + it for it in ("critical options", "extensions", "key id", "valid principals")
+)
 INVALID = "refused: certificate validation failed"
 FLAGS = [
     "no-touch-required", "permit-X11-forwarding", "permit-agent-forwarding", "permit-port-forwarding", "permit-pty", "permit-user-rc",
 ]  # fmt: skip
 DATA, ADDRESSES, UNREAD = "corrupt (extra data)", "source-address contents invalid", 'parse "{}"'
+NO_OPTIONS = "parse certificate options"
 # how many principals OpenSSH reads
 MOST = 256
 # what sshd says where it lets the user in
@@ -34,12 +37,27 @@ CASES = [
     ("an empty string in a flag", {}, {"permit-pty": string(b"")}, INVALID, DATA),
     ("a flag", {}, {"permit-pty": b""}, "ok touch-required permit-pty=", LET_IN),
     ("data in an extension that is not known", {}, {"x@example.com": string(b"1")}, "ok touch-required x@example.com=1", LET_IN),
-    # stricter here: an empty value is refused in either spelling
+    ("a zero byte in the name of an extension", {}, {"x\0y": b""}, EXTENSIONS, NO_OPTIONS),
+    ("data behind the name of a flag and a zero byte", {}, {"permit-pty\0": string(b"1")}, EXTENSIONS, DATA),
+    # stricter here: a zero byte that ends a text is refused, and an empty value in either spelling
+    ("a zero byte behind the name of a flag", {}, {"permit-pty\0": b""}, EXTENSIONS, LET_IN),
     ("an empty string as a command", {"force-command": string(b"")}, {}, CRITICAL, LET_IN),
     ("a zero byte behind a command", {"force-command": string(b"true\0")}, {}, CRITICAL, LET_IN),
     # the caller's to refuse
     ("addresses that are none", {"source-address": string(b"nowhere")}, {}, "ok source-address=nowhere touch-required", ADDRESSES),
     ("addresses, one of them none", {"source-address": string(b"0.0.0.0/0,x")}, {}, "ok source-address=0.0.0.0/0,x touch-required", ADDRESSES),
+]  # fmt: skip
+# names, the key id, what stands before the user in the list, what the program answers, and the status of `ssh-keygen -L`
+TEXTS = [
+    (f"{MOST} principals", b"id", [b"x"] * (MOST - 1), "ok touch-required", 0),
+    (f"{MOST + 1} principals", b"id", [b"x"] * MOST, PRINCIPALS, 1),
+    ("an empty principal", b"id", [b""], "ok touch-required", 0),
+    ("a zero byte in a principal", b"id", [b"a\0b"], PRINCIPALS, 1),
+    ("a zero byte in the key id", b"a\0b", [], KEY_ID, 1),
+    ("a line end in the key id", b"a\nb", [], "ok touch-required", 0),
+    # stricter here
+    ("a zero byte behind a principal", b"id", [b"a\0"], PRINCIPALS, 0),
+    ("a zero byte behind the key id", b"a\0", [], KEY_ID, 0),
 ]  # fmt: skip
 # by a security key: names, ssh-keygen's words, the flags that the key signs with, and what the program answers
 BY_DEVICE = [
@@ -57,11 +75,11 @@ def pairs(options):
     return string(b"".join(string(name.encode()) + string(data) for name, data in options.items()))
 
 
-def certificate(maker, authority, key, users, critical, extensions):
+def certificate(maker, authority, key, users, critical, extensions, key_id=b"id"):
     """The line of a certificate for these users with these options, valid now, put together here (PROTOCOL.certkeys)."""
     signer, now = maker.read(f"{authority}.pub"), int(time.time())
     fields = [string(b"ssh-ed25519-cert-v01@openssh.com"), string(os.urandom(16)), take(base64.b64decode(key.split()[1]))[1]]
-    fields += [(1).to_bytes(8, "big"), (1).to_bytes(4, "big"), string(b"id"), string(users)]
+    fields += [(1).to_bytes(8, "big"), (1).to_bytes(4, "big"), string(key_id), string(users)]
     fields += [(now - 300).to_bytes(8, "big"), (now + 300).to_bytes(8, "big"), pairs(critical), pairs(extensions), string(b"")]
     message = b"".join([*fields, string(base64.b64decode(signer.split()[1]))])
     blob = message + string(signed(maker.path(authority), signer, message))
@@ -107,10 +125,15 @@ def login_options(maker, sshd, user, authority, told_of_certificate):
         log = said(maker, sshd, user, "user", line)
         is_same = says in log and (says == LET_IN) == (LET_IN in log)
         yield question(name, key, line, compared(wanted, log, is_same))
-    for number, status in ((MOST, 0), (MOST + 1, 1)):
-        line = certificate(maker, authority, key, string(user.encode()) * number, {}, {})
+    for name, key_id, others, wanted, status in TEXTS:
+        users = b"".join(map(string, [*others, user.encode()]))
+        line = certificate(maker, authority, key, users, {}, {}, key_id)
         shown = maker.run("-L", "-f", "-", input=f"{line}\n".encode(), check=False)
-        yield question(f"{number} principals", key, line, compared("ok touch-required", shown, shown.returncode == status))
+        yield question(name, key, line, compared(wanted, shown, shown.returncode == status))
+    # sshd knows no such user, whom a certificate may list
+    line = certificate(maker, authority, key, string(b""), {}, {})
+    asked = "\t".join(["login", "", str(int(time.time())), key, line, trusted])
+    yield "login of a user without a name", [told_of_certificate(line)], asked, PRINCIPALS
     for kind in ("Ed25519", "ECDSA P-256"):
         yield from (question(*it) for it in by_device(maker, sshd, user, authority, kind))
 

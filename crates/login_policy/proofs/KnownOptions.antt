@@ -32,7 +32,7 @@ ended P all left decides is = decides.1 (subst (λ (os : List CertificateOption)
 other : false ≡ true → ⊥
 other same = cc
 
-filled : (value : List ℕ) (empty : Bool) → empty ≡ (length value == 0) → empty ≡ false → value ≢ []
+pub filled : (value : List ℕ) (empty : Bool) → empty ≡ (length value == 0) → empty ≡ false → value ≢ []
 filled [] empty judged some = λ none. cc
 filled (x ∷ value) empty judged some = λ none. cc
 

@@ -1,7 +1,6 @@
 -- What the validation of a certificate decides.
-use Rattle.std.proofs.Common.{◌≡◌, ◌≢◌, ◌⊎◌, ℕ, List, [], ◌∷◌, length, Bool, true, false, Result, Ok, Err, IfOk, IfErr, inl, inr, refl, subst, sym, arith}
-use Rattle.std.proofs.lemmas.Bool.Decides.{nat_tests}
-use Rattle.std.specs.Prelude.{◌==◌, All, Contains, String, map, string_bytes}
+use Rattle.std.proofs.Common.{◌≡◌, ◌≢◌, ◌⊎◌, ℕ, List, Bool, Result, Ok, Err, IfOk, IfErr, inl, inr, refl, subst}
+use Rattle.std.specs.Prelude.{All, Contains}
 use Rattle.ssh_key.specs.base.Acceptance.{AcceptsExactly}
 use Rattle.ssh_key.specs.base.Causes.{NoMemory, cause}
 use Rattle.ssh_key.specs.cert.CertificateFormats.{certificate_format}
@@ -10,7 +9,7 @@ use Rattle.ssh_key.specs.cert.Validity.{JudgesFor, fingerprints_of}
 use Rattle.ssh_key.specs.model.Certificates.{Certificate, User}
 use Rattle.ssh_key.specs.model.Fingerprints.{Fingerprint}
 use Rattle.ssh_key.specs.model.Keys.{Key}
-use Rattle.ssh_key.specs.model.Lines.{name_of_certificate, IsCertificateLine, IsNoLine, LinesDetermineValues}
+use Rattle.ssh_key.specs.model.Lines.{name_of_certificate, IsCertificateLine, IsNoLine, IsWithout, LinesDetermineValues}
 use Rattle.ssh_key.specs.model.Principals.{Allows}
 use Rattle.ssh_key.specs.model.Verification.{Question}
 use Rattle.ssh_key.specs.public.LineNeeds.{HasComment, NeedsValue}
@@ -18,36 +17,26 @@ use Rattle.ssh_key.specs.types.Error.{Error}
 use Rattle.ssh_key.specs.types.Error.TheVariants.{Memory}
 use Rattle.ssh_key.specs.types.Fingerprint as code
 use Rattle.ssh_key.proofs.Acceptance.{other_cause}
-use Rattle.login_policy.specs.KnownOptions.{IsEmptyIfFlag, IsKnown}
+use Rattle.login_policy.specs.KnownOptions.{IsKnown, IsPlainExtension}
 use Rattle.login_policy.specs.Logins.{GrantsExactly, IsGrantOf, IsLogin, LetsIn, NeedsMemory, NotValid, Refuses}
+use Rattle.login_policy.specs.Principals.{AreFor}
 use Rattle.login_policy.specs.declared.grant.Grant.{Grant}
 
 -- a certificate that lists somebody allows those alone that it lists
-listed : {Y : Type 0} (names : List (String Y)) (c : Certificate) (user : List ℕ) → map string_bytes names ≡ c.signed.valid_principals → (length names == 0) ≡ false → Allows c user → Contains c.signed.valid_principals user
-listed [] c user is some allowed = absurd cc
-listed (n ∷ names) c user is some (inl none) = absurd cc
-listed (n ∷ names) c user is some (inr among) = among
+listed : (c : Certificate) (user : List ℕ) → AreFor user c.signed.valid_principals → Allows c user → Contains c.signed.valid_principals user
+listed c user names (inl none) = absurd (names.listed.some none)
+listed c user names (inr among) = among
 
 -- the validation decides
-pub lets_in : {Y : Type 0} (accepts : Question → Bool) (given : List code.Fingerprint) (t : ℕ) (user : List ℕ) (offered : Key) (c : Certificate) (names : List (String Y)) → c.signed.certificate_type ≡ User → c.signed.key ≡ offered → All IsKnown c.signed.critical_options → All IsEmptyIfFlag c.signed.extensions → map string_bytes names ≡ c.signed.valid_principals → (length names == 0) ≡ false → (r : Result (Unit {0}) Error) → JudgesFor accepts given t user c r → AcceptsExactly (LetsIn accepts (fingerprints_of given) t user offered c) r
-lets_in accepts given t user offered c names users own known flags is some (Ok u) valid = record { for_users = users; own_key = own; known = known; flags = flags; listed = listed names c user is some valid.allowed; valid = valid.valid }
-lets_in accepts given t user offered c names users own known flags is some (Err e) judged = λ other lets. (judged other).0 (record { valid = lets.valid; allowed = inr lets.listed })
+pub lets_in : (accepts : Question → Bool) (given : List code.Fingerprint) (t : ℕ) (user : List ℕ) (offered : Key) (c : Certificate) → c.signed.certificate_type ≡ User → c.signed.key ≡ offered → All IsKnown c.signed.critical_options → All IsPlainExtension c.signed.extensions → IsWithout 0 c.signed.key_id → AreFor user c.signed.valid_principals → (r : Result (Unit {0}) Error) → JudgesFor accepts given t user c r → AcceptsExactly (LetsIn accepts (fingerprints_of given) t user offered c) r
+lets_in accepts given t user offered c users own known plain id names (Ok u) valid = record { for_users = users; own_key = own; known = known; plain = plain; key_id = id; principals = names; listed = listed c user names valid.allowed; valid = valid.valid }
+lets_in accepts given t user offered c users own known plain id names (Err e) judged = λ other lets. (judged other).0 (record { valid = lets.valid; allowed = inr lets.listed })
 
 -- ---- why it is refused
 
-pub nobody : {Y : Type 0} (names : List (String Y)) (listed : List (List ℕ)) → map string_bytes names ≡ listed → (length names == 0) ≡ true → listed ≡ []
-nobody [] listed is none = sym is
-nobody (n ∷ names) listed is none =
-    let zero : length (n ∷ names) ≡ 0 = grind (arith, nat_tests) in
-    absurd (omega (arith, zero))
-
-somebody : {Y : Type 0} (names : List (String Y)) (listed : List (List ℕ)) → map string_bytes names ≡ listed → (length names == 0) ≡ false → listed ≢ []
-somebody [] listed is some = absurd cc
-somebody (n ∷ names) listed is some = λ none. absurd cc
-
-pub not_valid : {Y : Type 0} (accepts : Question → Bool) (given : List code.Fingerprint) (t : ℕ) (user : List ℕ) (offered : Key) (c : Certificate) (names : List (String Y)) → c.signed.certificate_type ≡ User → c.signed.key ≡ offered → All IsKnown c.signed.critical_options → All IsEmptyIfFlag c.signed.extensions → map string_bytes names ≡ c.signed.valid_principals → (length names == 0) ≡ false → (r : Result (Unit {0}) Error) → JudgesFor accepts given t user c r → IfErr r (λ e. e ≢ Memory → Refuses accepts (fingerprints_of given) t user offered c e)
-not_valid accepts given t user offered c names users own known flags is some (Ok u) valid = tt
-not_valid accepts given t user offered c names users own known flags is some (Err e) judged = λ other. NotValid users own known flags (somebody names _ is some) e (judged other).1
+pub not_valid : (accepts : Question → Bool) (given : List code.Fingerprint) (t : ℕ) (user : List ℕ) (offered : Key) (c : Certificate) → c.signed.certificate_type ≡ User → c.signed.key ≡ offered → All IsKnown c.signed.critical_options → All IsPlainExtension c.signed.extensions → IsWithout 0 c.signed.key_id → AreFor user c.signed.valid_principals → (r : Result (Unit {0}) Error) → JudgesFor accepts given t user c r → IfErr r (λ e. e ≢ Memory → Refuses accepts (fingerprints_of given) t user offered c e)
+not_valid accepts given t user offered c users own known plain id names (Ok u) valid = tt
+not_valid accepts given t user offered c users own known plain id names (Err e) judged = λ other. NotValid users own known plain id names e (judged other).1
 
 pub only_memory : {T : Type 0} (P : Error → Type 0) (r : Result T Error) → IfErr r (λ e. e ≡ Memory) → IfErr r (λ e. e ≢ Memory → P e)
 only_memory P (Ok x) memory = tt

@@ -1,13 +1,13 @@
 -- Who may log in with a certificate, and what the login is bound to (PROTOCOL.certkeys;
 -- sshd_config(5), TrustedUserCAKeys).
-use Rattle.std.specs.Prelude.{◌≡◌, ◌≢◌, ◌⊎◌, ℕ, List, [], Bool, not, All, Contains, Some, Result, Ok, Err, is_some, option_map, string_bytes}
+use Rattle.std.specs.Prelude.{◌≡◌, ◌≢◌, ◌⊎◌, ℕ, List, Bool, not, All, Contains, Some, Result, Ok, Err, is_some, option_map, string_bytes}
 use Rattle.ssh_key.specs.cert.CertificateFormats.{certificate_format}
 use Rattle.ssh_key.specs.cert.CertificateReaders.{SpellsCertificate}
 use Rattle.ssh_key.specs.cert.Validity.{refusal_error}
 use Rattle.ssh_key.specs.model.Certificates.{Certificate, User}
 use Rattle.ssh_key.specs.model.Fingerprints.{Fingerprint}
 use Rattle.ssh_key.specs.model.Keys.{Key}
-use Rattle.ssh_key.specs.model.Lines.{IsCertificateLine, IsNoLine, name_of_certificate}
+use Rattle.ssh_key.specs.model.Lines.{IsCertificateLine, IsNoLine, IsWithout, name_of_certificate}
 use Rattle.ssh_key.specs.model.OptionMaps.{value_of}
 use Rattle.ssh_key.specs.model.Reading.{whole}
 use Rattle.ssh_key.specs.model.Refusals.{first_refusal_for}
@@ -20,18 +20,21 @@ use Rattle.ssh_key.specs.types.Error.{Error}
 use Rattle.ssh_key.specs.types.Error.TheVariants.{CertificateFieldInvalid, Memory}
 use Rattle.ssh_key.specs.types.certificate.Field.{Field}
 use Rattle.ssh_key.specs.types.certificate.Field.TheVariants as field
-use Rattle.login_policy.specs.KnownOptions.{IsEmptyIfFlag, IsKnown}
+use Rattle.login_policy.specs.KnownOptions.{IsKnown, IsPlainExtension}
 use Rattle.login_policy.specs.KnownOptions as options
+use Rattle.login_policy.specs.Principals.{AreFor}
 use Rattle.login_policy.specs.declared.grant.Grant.{Grant}
 
 -- The certificate lets the user in who holds the offered key: it is for users, of that very key,
--- lists the user, has only critical options that are known, nothing in a flag, and is valid at that
--- time by one of the authorities.
+-- lists the user, has only critical options that are known, nothing in a flag, texts and principals
+-- that sshd reads, and is valid at that time by one of the authorities.
 pub record LetsIn (accepts : Question → Bool) (authorities : List Fingerprint) (t : ℕ) (user : List ℕ) (offered : Key) (c : Certificate) : Type 0 where
   pub for_users : c.signed.certificate_type ≡ User
   pub own_key : c.signed.key ≡ offered
   pub known : All IsKnown c.signed.critical_options
-  pub flags : All IsEmptyIfFlag c.signed.extensions
+  pub plain : All IsPlainExtension c.signed.extensions
+  pub key_id : IsWithout 0 c.signed.key_id
+  pub principals : AreFor user c.signed.valid_principals
   pub listed : Contains c.signed.valid_principals user
   pub valid : IsValid accepts authorities t c
 
@@ -69,9 +72,10 @@ pub data Refuses (accepts : Question → Bool) (authorities : List Fingerprint) 
   ForHosts : c.signed.certificate_type ≢ User → Refuses accepts authorities t user offered c (invalid field.CertType)
   OtherKey : c.signed.certificate_type ≡ User → c.signed.key ≢ offered → Refuses accepts authorities t user offered c (invalid field.PublicKey)
   UnknownOption : c.signed.certificate_type ≡ User → c.signed.key ≡ offered → (All IsKnown c.signed.critical_options → ⊥) → Refuses accepts authorities t user offered c (invalid field.CriticalOptions)
-  DataInFlag : c.signed.certificate_type ≡ User → c.signed.key ≡ offered → All IsKnown c.signed.critical_options → (All IsEmptyIfFlag c.signed.extensions → ⊥) → Refuses accepts authorities t user offered c (invalid field.Extensions)
-  NobodyListed : c.signed.certificate_type ≡ User → c.signed.key ≡ offered → All IsKnown c.signed.critical_options → All IsEmptyIfFlag c.signed.extensions → c.signed.valid_principals ≡ [] → Refuses accepts authorities t user offered c (invalid field.ValidPrincipals)
-  NotValid : c.signed.certificate_type ≡ User → c.signed.key ≡ offered → All IsKnown c.signed.critical_options → All IsEmptyIfFlag c.signed.extensions → c.signed.valid_principals ≢ [] → (e : Error) → option_map refusal_error (first_refusal_for accepts authorities t user c) ≡ Some e → Refuses accepts authorities t user offered c e
+  OtherExtension : c.signed.certificate_type ≡ User → c.signed.key ≡ offered → All IsKnown c.signed.critical_options → (All IsPlainExtension c.signed.extensions → ⊥) → Refuses accepts authorities t user offered c (invalid field.Extensions)
+  OtherKeyId : c.signed.certificate_type ≡ User → c.signed.key ≡ offered → All IsKnown c.signed.critical_options → All IsPlainExtension c.signed.extensions → (IsWithout 0 c.signed.key_id → ⊥) → Refuses accepts authorities t user offered c (invalid field.KeyId)
+  OtherPrincipals : c.signed.certificate_type ≡ User → c.signed.key ≡ offered → All IsKnown c.signed.critical_options → All IsPlainExtension c.signed.extensions → IsWithout 0 c.signed.key_id → (AreFor user c.signed.valid_principals → ⊥) → Refuses accepts authorities t user offered c (invalid field.ValidPrincipals)
+  NotValid : c.signed.certificate_type ≡ User → c.signed.key ≡ offered → All IsKnown c.signed.critical_options → All IsPlainExtension c.signed.extensions → IsWithout 0 c.signed.key_id → AreFor user c.signed.valid_principals → (e : Error) → option_map refusal_error (first_refusal_for accepts authorities t user c) ≡ Some e → Refuses accepts authorities t user offered c e
 
 -- The text is the line of no certificate, and has that fault; or of one that is refused for that.
 abbrev pub RefusesLine : (Question → Bool) → List Fingerprint → ℕ → List ℕ → Key → List ℕ → Error → Type 0

@@ -6,6 +6,7 @@
 mod grant;
 mod login;
 mod options;
+mod principals;
 
 pub use grant::Grant;
 pub use login::log_in;

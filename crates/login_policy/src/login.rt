@@ -11,7 +11,8 @@ ghost use Rattle.ssh_key.specs.types.Error.TheVariants.{Memory};
 ghost use Rattle.login_policy.specs.Logins.{GrantsExactly, LetsIn, NeedsMemory, Refuses, RefusesLine};
 
 use crate::grant::{Grant, grant_of};
-use crate::options::{are_flags_empty, are_known};
+use crate::options::{are_known, are_plain};
+use crate::principals::{are_for, is_without_zero};
 use ssh_key::certificate::Field;
 use ssh_key::laws::{compared_keys, lines};
 use ssh_key::public::KeyData;
@@ -20,8 +21,10 @@ use std::alloc::Global;
 
 /// Lets a user in who holds the offered key, if the line has a certificate for users of just that
 /// key, which lists the user's name, is valid at that time by one of the authorities with these
-/// fingerprints, and has options that sshd(8) reads (PROTOCOL.certkeys):
+/// fingerprints, and has texts and options that sshd(8) reads (PROTOCOL.certkeys):
 ///
+/// - no zero byte in the key id, a principal, or the name of an extension, and at most 256
+///   principals;
 /// - critical options `force-command` and `source-address`, neither empty nor with a zero byte, and
 ///   `verify-required`, which is empty, and no others;
 /// - extensions that are flags, as `permit-pty`, which are empty, and any others.
@@ -29,14 +32,17 @@ use std::alloc::Global;
 /// Out of memory aside, it refuses all others with the first of these: the errors of
 /// `Certificate::from_openssh`; `CertificateFieldInvalid` with `CertType` for a certificate for
 /// hosts, with `PublicKey` for one of another key, with `CriticalOptions` where an option is not
-/// known or sshd reads no such value, with `Extensions` where data stand in a flag, and with
-/// `ValidPrincipals` if it lists no principal (such a certificate lets nobody in: sshd_config(5),
-/// `TrustedUserCAKeys`); the errors of `Certificate::validate_principal_at`. Where the line is no
-/// certificate's, `Memory` means what it means of `Certificate::from_openssh`.
+/// known or sshd reads no such value, with `Extensions` where data stand in a flag or a name has a
+/// zero byte, with `KeyId` where the key id has one, and with `ValidPrincipals` if it lists no
+/// principal (such a certificate lets nobody in: sshd_config(5), `TrustedUserCAKeys`), more than
+/// 256, or one with a zero byte, and if the user's name is empty, which a certificate may list; the
+/// errors of `Certificate::validate_principal_at`. Where the line is no certificate's, `Memory`
+/// means what it means of `Certificate::from_openssh`.
 ///
-/// Whoever calls it has a user with a name (a certificate may list the empty one), has asked the
-/// client for a signature under the offered key, and does what the grant says, the flags in a
-/// security key's signature included.
+/// Whoever calls it has asked the client for a signature under the offered key, and does what the
+/// grant says, the flags in a security key's signature included. The options of a line
+/// `cert-authority` of authorized_keys, by which sshd trusts an authority for one user, bind a
+/// login besides: of an authority that stands there they are the caller's to judge.
 pub fn log_in<V: RawVerifier>(
     alloc: Global,
     line: &str,
@@ -95,10 +101,13 @@ fn check<V: RawVerifier>(
     if !are_known(certificate.critical_options()) {
         return Err(Error::CertificateFieldInvalid(Field::CriticalOptions));
     }
-    if !are_flags_empty(certificate.extensions()) {
+    if !are_plain(certificate.extensions()) {
         return Err(Error::CertificateFieldInvalid(Field::Extensions));
     }
-    if certificate.valid_principals().is_empty() {
+    if !is_without_zero(certificate.key_id()) {
+        return Err(Error::CertificateFieldInvalid(Field::KeyId));
+    }
+    if !are_for(certificate.valid_principals(), user) {
         return Err(Error::CertificateFieldInvalid(Field::ValidPrincipals));
     }
     certificate.validate_principal_at(alloc, unix_timestamp, user, authorities, verifier)

@@ -3,8 +3,9 @@
 ghost use Rattle.std.specs.Prelude.{◌≡◌, ◌↔◌, IsTrue, All, bytes_eq, map};
 ghost use Rattle.std.specs.List.{list_any};
 ghost use Rattle.ssh_key.specs.options.OptionMaps.{options_of};
-ghost use Rattle.login_policy.specs.KnownOptions.{IsArgument, IsEmptyIfFlag, IsKnown, flags};
+ghost use Rattle.login_policy.specs.KnownOptions.{IsArgument, IsEmptyIfFlag, IsKnown, IsPlainExtension, flags};
 
+use crate::principals::is_without_zero;
 use ssh_key::certificate::OptionsMap;
 
 /// The one command that may run, whatever the client asks for.
@@ -32,12 +33,13 @@ pub(crate) fn are_known(options: &OptionsMap) -> bool
     true
 }
 
-/// Whether nothing stands in the extensions that are flags. Does not allocate.
-pub(crate) fn are_flags_empty(extensions: &OptionsMap) -> bool
-    ensures { IsTrue result ↔ All IsEmptyIfFlag (options_of extensions.now) }
+/// Whether no name of an extension has a byte 0, and nothing stands in those that are flags. Does
+/// not allocate.
+pub(crate) fn are_plain(extensions: &OptionsMap) -> bool
+    ensures { IsTrue result ↔ All IsPlainExtension (options_of extensions.now) }
 {
     for (name, value) in extensions.iter() {
-        if !is_empty_if_flag(name, value) {
+        if !is_plain(name, value) {
             return false;
         }
     }
@@ -65,6 +67,14 @@ fn is_argument(value: &str) -> bool
     ensures { IsTrue result ↔ IsArgument value.now }
 {
     !value.is_empty() && !value.contains('\0')
+}
+
+/// Whether the name has no byte 0, and nothing stands in the value if it is that of a flag.
+fn is_plain(name: &str, value: &str) -> bool
+    ensures { IsTrue result
+        ↔ IsPlainExtension (record { name = name.now; value = value.now }) }
+{
+    is_without_zero(name) && is_empty_if_flag(name, value)
 }
 
 /// Whether nothing stands in the value, if the name is that of a flag.

@@ -2,7 +2,7 @@
 use Rattle.std.proofs.Common.{◌≡◌, ◌↔◌, ◌<◌, ℕ, List, [], ◌∷◌, ◌++◌, length, slice_index, Bool, true, false, IsTrue, Option, None, Some, Result, Ok, Err, is_some, not, refl, sym, ap, subst, ◌∙◌, arith, append_assoc, append-nil, inl, inr}
 use Rattle.std.proofs.lemmas.List.{length-append}
 use Rattle.std.proofs.lemmas.List.Elements.{All-head, All-nil, All-push, All-tail}
-use Rattle.std.specs.Prelude.{All, ⊤, codes}
+use Rattle.std.specs.Prelude.{All, ⊤}
 use Rattle.std.specs.Iterator.{MakesProgress, item_count}
 use Rattle.ssh_key.specs.authorized_keys.OpenSshItems.{FindsIn, HasOtherName}
 use Rattle.ssh_key.specs.entries.AuthorizedKeys.{AuthorizedKey}
@@ -14,12 +14,9 @@ use Rattle.ssh_key.specs.model.Keys.{IsKey, Key}
 use Rattle.ssh_key.specs.types.Error.{Error}
 use Rattle.ssh_key.specs.types.authorized_keys.OpenSshEntry.{OpenSshEntry}
 use Rattle.ssh_key.specs.types.authorized_keys.OpenSshOption.{OpenSshOption}
-use Rattle.sshkey_examples.specs.AuthorizedEntries.{AnswersFor, AnswersNext, AreForHolders, Entries, IsForHolder, IsForOthers}
+use Rattle.sshkey_examples.specs.AuthorizedEntries.{AnswersFor, AnswersNext, AreWithout, Entries, IsForHolder, IsForOthers}
 
 -- ---- options
-
-abbrev pub authority : List ℕ
-authority = codes "cert-authority"
 
 is_no : false ≡ true → ⊥
 is_no same = cc
@@ -29,18 +26,18 @@ not_others : (name : List ℕ) (before after : List KeyOption) (o : KeyOption) �
 not_others name [] after o named others = All-head (HasOtherName name) o after others named
 not_others name (p ∷ before) after o named others = not_others name before after o named (All-tail (HasOtherName name) p (before ++ (o ∷ after)) others)
 
-pub no_options : (text name : List ℕ) (e : Error) → FindsIn text name (Err e) → IsTrue false ↔ AreForHolders text
+pub no_options : (text name : List ℕ) (e : Error) → FindsIn text name (Err e) → IsTrue false ↔ AreWithout name text
 no_options text name e none = (λ yes. absurd (is_no yes), λ are. absurd (none.1 (are.0, are.1)))
 
-pub found : OneKeyOptions → (text : List ℕ) (o : Option OpenSshOption) (none : Bool) → FindsIn text authority (Ok o) → not none ≡ is_some o → IsTrue none ↔ AreForHolders text
-found one text None true is same = (λ yes. is, λ are. refl)
-found one text None false is same = absurd cc
-found one text (Some o) true is same = absurd cc
-found one text (Some o) false is same = (
+pub found : OneKeyOptions → (text name : List ℕ) (o : Option OpenSshOption) (none : Bool) → FindsIn text name (Ok o) → not none ≡ is_some o → IsTrue none ↔ AreWithout name text
+found one text name None true is same = (λ yes. is, λ are. refl)
+found one text name None false is same = absurd cc
+found one text name (Some o) true is same = absurd cc
+found one text name (Some o) false is same = (
   λ yes. absurd (is_no yes),
   λ are.
       let all = one text are.0 is.0 are.1 is.1 in
-      absurd (not_others authority is.2.before is.2.after _ is.2.named (subst (All (HasOtherName authority)) (all ∙ is.2.is) are.2)),
+      absurd (not_others name is.2.before is.2.after _ is.2.named (subst (All (HasOtherName name)) (all ∙ is.2.is) are.2)),
 )
 
 -- ---- a line

@@ -15,9 +15,14 @@ use Rattle.ssh_key.specs.types.authorized_keys.OpenSshEntry.{OpenSshEntry}
 
 -- ---- a line
 
--- The text is options, and none of them says that the key is an authority's.
-abbrev pub AreForHolders : List ℕ → Type 0
-AreForHolders text = (options : List KeyOption) × AreKeyOptions text options × All (HasOtherName (codes "cert-authority")) options
+-- The text is options, and none of them has the name.
+abbrev pub AreWithout : List ℕ → List ℕ → Type 0
+AreWithout name text = (options : List KeyOption) × AreKeyOptions text options × All (HasOtherName name) options
+
+-- None says that the key is an authority's, or for whom an authority may sign.
+pub record AreForHolders (text : List ℕ) : Type 0 where
+  pub no_authority : AreWithout (codes "cert-authority") text
+  pub no_principals : AreWithout (codes "principals") text
 
 -- The entry has the key, and its options are such.
 pub record IsForHolder (key : Key) (a : AuthorizedKey) : Type 0 where

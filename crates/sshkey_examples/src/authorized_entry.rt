@@ -6,7 +6,7 @@ ghost use Rattle.ssh_key.specs.authorized_keys.OpenSshEntries.{openssh_entry_of}
 ghost use Rattle.ssh_key.specs.entries.Fields.{filled_lines};
 ghost use Rattle.ssh_key.specs.keys.Keys.{key_of};
 ghost use Rattle.ssh_key.specs.model.Keys.{IsKey};
-ghost use Rattle.sshkey_examples.specs.AuthorizedEntries.{AnswersFor, AnswersNext, AreForHolders, Entries, IsForHolder, YieldsEntry};
+ghost use Rattle.sshkey_examples.specs.AuthorizedEntries.{AnswersFor, AnswersNext, AreForHolders, AreWithout, Entries, IsForHolder, YieldsEntry};
 
 use ssh_key::Result;
 use ssh_key::authorized_keys::{Entry, FilledLines, OpenSshEntry, OpenSshOptions};
@@ -19,18 +19,19 @@ use std::marker::Model;
 /// as sshd(8) reads the text ("AUTHORIZED_KEYS FILE FORMAT").
 ///
 /// Passed over, as sshd does, are a line that is no entry; one with malformed options, as
-/// `command=ls` without quotes; and one with the option `cert-authority`, by which the key is an
-/// authority's and logs nobody in. So is a line with a zero byte, where sshd takes the line to end:
-/// one that stands behind the key is passed over here alone.
+/// `command=ls` without quotes; one with the option `cert-authority`, by which the key is an
+/// authority's and logs nobody in; and one with `principals`, which sshd takes of an authority
+/// alone. So is a line with a zero byte, where sshd takes the line to end: one that stands behind
+/// the key is passed over here alone.
 ///
 /// Whoever calls it has asked the client for a signature under the offered key, and judges the
 /// options of each entry: an entry with an option that is not known, or that this login does not
 /// meet, as `from` or `expiry-time`, lets nobody in, and sshd goes on to the next. The first entry
 /// whose options permit the login binds it to what they say, and sshd looks at no other. By that
 /// entry refuse a security key's signature whose flags lack the bit 0x01, that somebody touched the
-/// key, unless the option `no-touch-required` stands there, or 0x04, that it verified its user,
-/// where `verify-required` does; the flags are the fifth byte from the end of
-/// `Signature::as_bytes`. Where no entry is left, the key lets nobody in.
+/// key, unless the option `no-touch-required` stands there and no `touch-required` after it, or
+/// 0x04, that it verified its user, where `verify-required` does; the flags are the fifth byte from
+/// the end of `Signature::as_bytes`. Where no entry is left, the key lets nobody in.
 pub fn entries_for<'a>(alloc: Global, text: &'a str, offered: &'a KeyData) -> EntriesFor<'a>
     ensures { result ≡ record { lines = filled_lines text.now; key = key_of offered.now } }
 {
@@ -130,12 +131,20 @@ fn has_key(entry: &OpenSshEntry, offered: &KeyData) -> bool
     entry.public_key().key_data() == offered
 }
 
-/// Whether all is options, and none of them says that the key is an authority's.
+/// Whether all is options, and none of them says that the key is an authority's, or for whom an
+/// authority may sign.
 fn are_for_holders(options: &OpenSshOptions) -> bool
     ensures { IsTrue result ↔ AreForHolders options.now }
 {
+    are_without(options, "cert-authority") && are_without(options, "principals")
+}
+
+/// Whether all is options, and none of them has that name, letters of ASCII without case.
+fn are_without(options: &OpenSshOptions, name: &str) -> bool
+    ensures { IsTrue result ↔ AreWithout name.now options.now }
+{
     one_key_options();
-    let Ok(found) = options.get("cert-authority") else {
+    let Ok(found) = options.get(name) else {
         return false;
     };
     found.is_none()
