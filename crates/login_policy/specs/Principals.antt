@@ -2,7 +2,8 @@
 use Rattle.std.specs.Prelude.{◌≢◌, ◌≤◌, ℕ, List, [], All, length}
 use Rattle.ssh_key.specs.model.Lines.{IsWithout}
 
--- One name or more, up to 256. No byte of one is 0: sshd takes a name to end at the last one, and reads none with another.
+-- One name or more, up to 256. No byte of one is 0: sshd takes a name to end at the last one, and
+-- reads none with another.
 pub record AreListed (names : List (List ℕ)) : Type 0 where
   pub some : names ≢ []
   pub few : length names ≤ 256

@@ -69,10 +69,11 @@ impl OpenSshOptions {
     /// `command`, `from`, `principals` or `tunnel` twice: to do the same, count by `iter`.
     ///
     /// So `get` is not enough for a login. Of two options `expiry-time` sshd takes the earlier
-    /// time; of `pty`, `no-pty` and `restrict` the last one counts, and their order is not told
-    /// here. And sshd rejects an entry with `command`, `from`, `expiry-time` or `principals`
-    /// without a value, of which `value` is `None` here, and one with a value in a flag, as
-    /// `restrict="x"`.
+    /// time; of `pty`, `no-pty` and `restrict` the last one counts, and so does that of
+    /// `touch-required` and `no-touch-required`, and their order is not told here. And sshd rejects
+    /// an entry with `command`, `from`, `expiry-time` or `principals` without a value, of which
+    /// `value` is `None` here, one with a value in a flag, as `restrict="x"`, and one with
+    /// `principals` and without `cert-authority`.
     pub fn get(&self, name: &str) -> Result<Option<OpenSshOption<'_>>>
         ensures { FindsIn self.now name.now result }
     {

@@ -18,8 +18,8 @@ use std::alloc::Global;
 ///
 /// Unless memory runs out, it fails exactly if the blob spells no key, with its first fault from
 /// the left. `Memory` means that an allocation failed for what stands in front of that fault or for
-/// a key in the blob, or for the fingerprint of the known key: of an ECDSA or an Ed25519 key that is
-/// another one it is never answered.
+/// a key in the blob, or for the fingerprint of the known key: of an ECDSA or an Ed25519 key that
+/// is another one it is never answered.
 pub fn fingerprint_if_known(
     alloc: Global,
     blob: &[u8],

@@ -17,7 +17,8 @@ use std::alloc::AllocError;
 /// with a key on the same curve, r and s as two positive mpints (RFC 5656, section 3.1.2);
 /// `Ed25519` with 64 bytes (RFC 8709, section 6); and `Rsa` with a hash, by PKCS#1 v1.5, with any
 /// number of bytes (RFC 8332, section 3). The numbers of DSA and RSA keys may be zero or negative,
-/// and a point need not lie on its curve: return `Ok(false)` for such a key.
+/// and a point need not lie on its curve, and may be compressed, which OpenSSH does not read:
+/// return `Ok(false)` for such a key.
 pub trait RawVerifier {
     /// Which signatures it accepts, a function of its value and the question.
     ghost accepts: { Self → Question → Bool };

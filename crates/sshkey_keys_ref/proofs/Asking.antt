@@ -4,7 +4,7 @@ use Rattle.sshkey_model.specs.Names.{Curve, Nistp256, Hash, Algorithm, algorithm
 use Rattle.sshkey_model.specs.Points.{curve_eq}
 use Rattle.sshkey_model.specs.Keys.{Key, Dsa, Ecdsa, Ed25519, Rsa, SkEcdsa, SkEd25519, Opaque, SecurityKey}
 use Rattle.sshkey_model.specs.Signatures.{Signature, IsSignatureBlob, signature_at, signature_blob_at, without_trailer}
-use Rattle.sshkey_model.specs.Verification.{Question, asked, question, security_key_message}
+use Rattle.sshkey_model.specs.Verification.{security_key_message}
 use Rattle.sshkey_model.proofs.CombinedReaders.{bind_ok, ok_is}
 use Rattle.sshkey_base.specs.Labels.{label_at}
 use Rattle.sshkey_base.proofs.Accepted.{spelled_whole}
@@ -47,9 +47,6 @@ rsa_itself h (Ed25519 d) is = absurd (cc is)
 rsa_itself h (SkEcdsa d) is = absurd (cc is)
 rsa_itself h (SkEd25519 d) is = absurd (cc is)
 rsa_itself h (Opaque n d) is = absurd (cc is)
-
-pub ecdsa_itself : (c d : Curve) (point : List ℕ) → curve_eq c d ≡ true → IsAskedItself (Algorithm.Ecdsa d) (Ecdsa c point)
-ecdsa_itself c d point on = λ m b. rw on refl
 
 pub itself_asked : (a : Algorithm) (k : Key) (m blob : List ℕ) → IsSignatureBlob a blob → IsAskedItself a k → IsAsked (record { algorithm = a; key = k; message = m; blob = blob })
 itself_asked a k m blob form itself = record { key = k; message = m; signature = signature_by a blob; form = form; is = itself m blob }
