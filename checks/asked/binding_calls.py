@@ -49,7 +49,7 @@ from . import digest_calls, entry_calls, host_calls
 from .certificate_calls import CASES, certificate_of, fields_in
 from .key_calls import COMMENTS, encoded, numbers_of_keys, points_of_keys, signed_by, signed_by_hand, turned
 from .linked import run
-from .login_calls import REFUSALS, cases, extensions
+from .login_calls import REFUSALS, all_cases
 from .security_key_calls import SecurityKey, signatures
 
 # every how many-th is asked about
@@ -304,7 +304,7 @@ def check_logins(judge):
     """validate_user, of certificates in which one thing is wrong each."""
     window = (judge.made.foreign.MIDDLE, judge.made.foreign.WINDOW)
     questions, wanted = [], []
-    for _, blob, key, second, user, by, known, status in [*cases(judge.made.maker, window), *extensions(judge.made.maker, window)]:
+    for _, blob, key, second, user, by, known, status in all_cases(judge.made.maker, window):
         user = user.encode() if isinstance(user, str) else user
         questions.append(f"user {blob.hex()} {key.hex()} {second} {word(user)} {word(by)} {word(known.encode())}")
         wanted.append(judge.said_of(status))

@@ -7,9 +7,12 @@ import time
 from lib.harness import ROOT, blob_of, string
 
 from .linked import EXAMPLES, SANITIZED, VALGRIND, C, run
-from .login_options import FLAGS, certificate
+from .login_options import CASES, FLAGS, MOST, TEXTS, certificate
 
-REFUSALS = {"NOT_FOR_USERS": 100, "NOBODY_LISTED": 101, "UNMET_OPTION": 102, "OTHER_KEY": 103, "FLAG_DATA": 104, "NOT_FOR_HOSTS": 105}
+REFUSALS = {
+    "NOT_FOR_USERS": 100, "NOBODY_LISTED": 101, "UNMET_OPTION": 102, "OTHER_KEY": 103, "FLAG_DATA": 104, "NOT_FOR_HOSTS": 105,
+    "UNREADABLE": 106,
+}  # fmt: skip
 SOURCE, COMMAND = "source-address=192.0.2.0/24", "force-command=true"
 
 
@@ -83,6 +86,38 @@ def extensions(maker, window):
     yield "an empty string in a flag", blob_of(line), own, int(time.time()), "alice", by, "", "NOT_SIGNED"
 
 
+def texts(maker):
+    """The same with texts and principals that sshd does not read, or takes to end at a zero byte: those about which checks/callers
+    asks it, and more."""
+    key = maker.read("user0.pub")
+    own, other = (blob_of(maker.read(f"user{it}.pub")) for it in (0, 1))
+    by = hashlib.sha256(blob_of(maker.read("authority0.pub"))).digest()
+    alice, zero = string(b"alice"), string(b"a\0b")
+    for name, principals, critical, more, key_id, held, wanted in (
+        *((name, b"".join(map(string, it)) + alice, {}, {}, key_id, own, wanted) for name, key_id, it, wanted, _ in TEXTS),
+        *((name, alice, {}, it, b"id", own, wanted) for name, _, it, wanted, _ in CASES if "\0" in "".join(it)),
+        ("a zero byte in a principal behind the user", alice + zero, {}, {}, b"id", own, "UNREADABLE"),
+        ("a zero byte for a principal", alice + string(b"\0"), {}, {}, b"id", own, "UNREADABLE"),
+        ("the user among too many principals at first", alice + string(b"x") * MOST, {}, {}, b"id", own, "UNREADABLE"),
+        ("a zero byte for a key id", alice, {}, {}, b"\0", own, "UNREADABLE"),
+        ("a zero byte in the second of two extensions", alice, {}, {"permit-pty": b"", "x\0y": b""}, b"id", own, "UNREADABLE"),
+        ("a zero byte in the data of an extension that is not known", alice, {}, {"x@example.com": zero}, b"id", own, "DONE"),
+        ("a zero byte in the key id, and another key", alice, {}, {}, b"a\0b", other, "UNREADABLE"),
+        ("a zero byte in the key id, and data in a flag", alice, {}, {"permit-pty": string(b"1")}, b"a\0b", own, "FLAG_DATA"),
+        ("a zero byte in an extension, and data in a flag", alice, {}, {"a\0b": b"", "permit-pty": string(b"1")}, b"id", own, "FLAG_DATA"),
+        ("a zero byte in the key id, and an option", alice, {"force-command": string(b"true")}, {}, b"a\0b", own, "UNMET_OPTION"),
+        ("a zero byte behind the name of an option", alice, {"source-address\0": string(b"::/0")}, {}, b"id", own, "UNMET_OPTION"),
+    ):  # fmt: skip
+        line = certificate(maker, "authority0", key, principals, critical, more, key_id)
+        # of the rows of checks/callers what the program there answers
+        status = {"ok": "DONE", "refused:": "UNREADABLE"}.get(wanted.split()[0], wanted)
+        yield name, blob_of(line), held, int(time.time()), "alice", by, "source-address", status
+
+
+def all_cases(maker, window):
+    return [*cases(maker, window), *extensions(maker, window), *texts(maker)]
+
+
 def turned(blob):
     """With a bit turned in the first principal's last letter, so that it is not signed."""
     at = blob.index(string(b"alice")) + 8
@@ -91,7 +126,7 @@ def turned(blob):
 
 def check_users(count, built, modules, maker, window):
     sshkey, check = modules
-    asked = [*cases(maker, window), *extensions(maker, window)]
+    asked = all_cases(maker, window)
     lines = ""
     for _, blob, key, second, user, by, known, _ in asked:
         words = (user.encode() if isinstance(user, str) else user, by, known.encode())

@@ -124,18 +124,53 @@ static bool is_empty_if_flag(const uint8_t *name, size_t name_length, const uint
   return true;
 }
 
-/* SSHKEY_DONE where each critical option is met, and sshd reads the extensions. */
-static uint32_t judge_options(blob certificate, const login_request *asked) {
+/* Whether no byte of the text is 0. */
+static bool is_without_zero(const uint8_t *text, size_t length) {
+  return !length || !memchr(text, 0, length);
+}
+
+/* The same of the name of an extension. */
+static bool is_name_without_zero(const uint8_t *name, size_t name_length, const uint8_t *value,
+                                 size_t value_length, void *given) {
+  (void)value;
+  (void)value_length;
+  (void)given;
+  return is_without_zero(name, name_length);
+}
+
+/* SSHKEY_DONE where sshd reads the principals: up to 256 of them, and no byte of one is 0. */
+static uint32_t judge_principals(const uint8_t *principals, size_t length) {
+  sshkey_part name;
+  uint32_t answer;
+  size_t place = 0, count = 0;
+  memset(&name, 0, sizeof name);
+  while ((answer = sshkey_next_string(principals, length, place, &name)) == SSHKEY_DONE) {
+    if (++count > 256 || !is_without_zero(principals + name.start, name.length))
+      return JUDGE_UNREADABLE;
+    place = name.start + name.length;
+  }
+  return answer == SSHKEY_END ? SSHKEY_DONE : answer;
+}
+
+/* SSHKEY_DONE where each critical option is met, and sshd reads extensions, key id and
+ * principals. */
+static uint32_t judge_lists(blob certificate, const login_request *asked) {
   sshkey_parts parts;
   memset(&parts, 0, sizeof parts);
   uint32_t answer = sshkey_certificate_parts(certificate.bytes, certificate.length, &parts);
   if (answer != SSHKEY_DONE) return answer;
   sshkey_part critical = parts.critical_options, extensions = parts.extensions;
+  const uint8_t *names = certificate.bytes + extensions.start;
   answer = judge_list(certificate.bytes + critical.start, critical.length, asked->is_met,
                       asked->given, JUDGE_UNMET_OPTION);
+  if (answer == SSHKEY_DONE)
+    answer = judge_list(names, extensions.length, is_empty_if_flag, NULL, JUDGE_FLAG_DATA);
+  if (answer == SSHKEY_DONE)
+    answer = judge_list(names, extensions.length, is_name_without_zero, NULL, JUDGE_UNREADABLE);
   if (answer != SSHKEY_DONE) return answer;
-  return judge_list(certificate.bytes + extensions.start, extensions.length, is_empty_if_flag,
-                    NULL, JUDGE_FLAG_DATA);
+  if (!is_without_zero(certificate.bytes + parts.key_id.start, parts.key_id.length))
+    return JUDGE_UNREADABLE;
+  return judge_principals(certificate.bytes + parts.principals.start, parts.principals.length);
 }
 
 /* SSHKEY_DONE where the key is the certificate's own: the digests of their normal forms are the
@@ -167,7 +202,7 @@ uint32_t validate_user(blob certificate, const login_request *asked) {
   if (answer != SSHKEY_DONE) return answer;
   if (fields.certificate_type != SSHKEY_USER) return JUDGE_NOT_FOR_USERS;
   if (!fields.lists_principals) return JUDGE_NOBODY_LISTED;
-  answer = judge_options(certificate, asked);
+  answer = judge_lists(certificate, asked);
   return answer == SSHKEY_DONE ? judge_key(certificate, asked->key) : answer;
 }
 
@@ -262,6 +297,7 @@ const char *meaning(uint32_t answer) {
   case JUDGE_OTHER_KEY: return "another key";
   case JUDGE_FLAG_DATA: return "data in an extension that is a flag";
   case JUDGE_NOT_FOR_HOSTS: return "not for hosts";
+  case JUDGE_UNREADABLE: return "texts or principals that sshd does not read";
   case SSHKEY_HOST_REVOKED: return "revoked";
   case SSHKEY_HOST_UNREADABLE: return "a line that may revoke it and can't be read";
   case SSHKEY_HOST_UNKNOWN: return "no authority of the host";

@@ -58,7 +58,8 @@ enum {
   JUDGE_UNMET_OPTION = 102,   /* a critical option is not known, or not met */
   JUDGE_OTHER_KEY = 103,      /* it is one of another key than the client holds */
   JUDGE_FLAG_DATA = 104,      /* data stand in an extension that is a flag */
-  JUDGE_NOT_FOR_HOSTS = 105   /* it is one for users */
+  JUDGE_NOT_FOR_HOSTS = 105,  /* it is one for users */
+  JUDGE_UNREADABLE = 106      /* it has texts or principals that sshd does not read */
 };
 
 /* Whether the certificate logs the user in: SSHKEY_DONE, or what is wrong first, a number of

@@ -44,6 +44,7 @@ class Refusal(enum.IntEnum):
     OTHER_KEY = 103
     FLAG_DATA = 104
     NOT_FOR_HOSTS = 105
+    UNREADABLE = 106
 
     def __bool__(self) -> NoReturn:
         raise TypeError("compare with Status.DONE: a Refusal is no truth value")
@@ -59,6 +60,7 @@ MEANING = {
     Refusal.NOT_FOR_USERS: "not for users", Refusal.NOBODY_LISTED: "no principals", Refusal.OTHER_KEY: "another key",
     Refusal.UNMET_OPTION: "a critical option that is not known or not met",
     Refusal.FLAG_DATA: "data in an extension that is a flag", Refusal.NOT_FOR_HOSTS: "not for hosts",
+    Refusal.UNREADABLE: "texts or principals that sshd does not read",
     Status.HOST_REVOKED: "revoked", Status.HOST_UNREADABLE: "a line that may revoke it and can't be read",
     Status.HOST_UNKNOWN: "no authority of the host", Status.OTHER_NAMESPACE: "another namespace",
     Status.UNSUPPORTED: "key and signature do not go together",
@@ -68,6 +70,8 @@ FLAGS = {
     "no-touch-required", "permit-X11-forwarding", "permit-agent-forwarding", "permit-port-forwarding", "permit-pty",
     "permit-user-rc",
 }  # fmt: skip
+# how many principals sshd reads
+MOST_PRINCIPALS = 256
 ECDSA = {
     Algorithm.P256: (ec.SECP256R1(), hashes.SHA256()), Algorithm.P384: (ec.SECP384R1(), hashes.SHA384()),
     Algorithm.P521: (ec.SECP521R1(), hashes.SHA512()),
@@ -122,6 +126,13 @@ def judge(certificate: bytes, now: int, principal: str | bytes | None, authoriti
     return sshkey.validate_certificate(certificate, now, authorities, is_verified, principal)
 
 
+def is_readable(contents: sshkey.Contents) -> bool:
+    """Whether sshd reads the texts and the principals: it reads up to 256 of these, and no byte 0 within one, in the key id or in
+    the name of an extension."""
+    texts = (contents.key_id, *contents.principals, *contents.extensions)
+    return len(contents.principals) <= MOST_PRINCIPALS and not any("\0" in it for it in texts)
+
+
 def validate_user(
     certificate: bytes, key: bytes, now: int, user: str | bytes, authorities: Collection[bytes],
     is_met: Callable[[str, str], bool] = lambda name, value: False,
@@ -145,6 +156,8 @@ def validate_user(
         return Refusal.UNMET_OPTION
     if any(contents.extensions.get(it) for it in FLAGS):
         return Refusal.FLAG_DATA
+    if not is_readable(contents):
+        return Refusal.UNREADABLE
     try:
         return Status.DONE if sshkey.normal_key(key) == contents.key else Refusal.OTHER_KEY
     except sshkey.Refused as refused:

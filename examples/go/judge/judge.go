@@ -4,6 +4,7 @@
 package judge
 
 import (
+	"strings"
 	"time"
 
 	"rafendilo.example/go/sshkey"
@@ -31,6 +32,9 @@ var flags = []string{
 	"no-touch-required", "permit-X11-forwarding", "permit-agent-forwarding",
 	"permit-port-forwarding", "permit-pty", "permit-user-rc",
 }
+
+// mostPrincipals is how many sshd reads.
+const mostPrincipals = 256
 
 // ValidateUser gives nil exactly if the certificate, given as its blob, logs the user in; else what
 // is wrong first: a sshkey.Status or a Refusal. It fails with sshkey.ErrMemory, which says nothing
@@ -67,6 +71,9 @@ func ValidateUser(certificate []byte, login Login) error {
 	if err := judgeOptions(contents, login.IsMet); err != nil {
 		return err
 	}
+	if !isReadable(contents) {
+		return ErrUnreadable
+	}
 	return judgeKey(contents.Key, login.Key)
 }
 
@@ -83,6 +90,24 @@ func judgeOptions(contents sshkey.Contents, isMet func(name, value string) bool)
 		}
 	}
 	return nil
+}
+
+// isReadable says whether sshd reads the texts and the principals: it reads up to 256 of these, and
+// no byte 0 within one, in the key id or in the name of an extension.
+func isReadable(contents sshkey.Contents) bool {
+	if len(contents.Principals) > mostPrincipals {
+		return false
+	}
+	texts := append([]string{contents.KeyID}, contents.Principals...)
+	for name := range contents.Extensions {
+		texts = append(texts, name)
+	}
+	for _, text := range texts {
+		if strings.IndexByte(text, 0) >= 0 {
+			return false
+		}
+	}
+	return true
 }
 
 // judgeKey gives nil where the key that is held is the certificate's own.

@@ -25,6 +25,8 @@ const (
 	ErrFlagData
 	// ErrNotForHosts is for a certificate of a user.
 	ErrNotForHosts
+	// ErrUnreadable is for one with texts or principals that sshd does not read.
+	ErrUnreadable
 )
 
 // Error is what is wrong, in words, and the number.
@@ -56,6 +58,7 @@ var meanings = map[error]string{
 	ErrOtherKey:                  "another key",
 	ErrFlagData:                  "data in an extension that is a flag",
 	ErrNotForHosts:               "not for hosts",
+	ErrUnreadable:                "texts or principals that sshd does not read",
 }
 
 // Said is what check.py prints of an answer: "valid" for nil, else what it means in words and its

@@ -94,8 +94,8 @@ func (digest SHA512) String() string {
 //
 // Of a key whose blob begins with a name sk-..@openssh.com, and of no other, byte 32 of the message
 // is the device's flags: refuse a login where nobody touched it (0x01), unless the certificate or
-// the line has no-touch-required, and one where it has not verified its user (0x04), if
-// verify-required asks for that.
+// the line has no-touch-required and no touch-required behind it, and one where it has not verified
+// its user (0x04), if verify-required asks for that.
 func SignatureQuestion(key, message, signature []byte) (Question, error) {
 	in, of, by := inputOf(key), inputOf(message), inputOf(signature)
 	length := len(in) + len(of) + len(by) + 256

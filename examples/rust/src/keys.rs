@@ -45,8 +45,8 @@ pub fn read_line(line: impl AsRef<[u8]>) -> Result<Line, Status> {
 ///
 /// Of a key whose blob begins with a name `sk-..@openssh.com`, and of no other, byte 32 of the
 /// message is the device's flags: refuse a login where nobody touched it (0x01), unless the
-/// certificate or the line has `no-touch-required`, and one that it has not verified (0x04) where
-/// `verify-required` asks for that.
+/// certificate or the line has `no-touch-required` and no `touch-required` behind it, and one that
+/// it has not verified (0x04) where `verify-required` asks for that.
 pub fn signature_question(
     key: &[u8],
     message: &[u8],

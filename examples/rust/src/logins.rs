@@ -1,8 +1,8 @@
 //! Whether a certificate logs a user in.
 
 use crate::certificates::{
-    certificate_contents, certificate_fields, certificate_key, judge_certificate, CertificateType,
-    Principal,
+    certificate_contents, certificate_fields, certificate_key, judge_certificate,
+    CertificateContents, CertificateType, Principal,
 };
 use crate::digests::Sha256;
 use crate::keys::normal_key;
@@ -19,6 +19,9 @@ const FLAGS: [&str; 6] = [
     "permit-pty",
     "permit-user-rc",
 ];
+
+/// How many principals sshd reads.
+const MOST_PRINCIPALS: usize = 256;
 
 /// A login by a certificate.
 #[derive(Clone, Copy, Debug)]
@@ -40,9 +43,9 @@ pub struct Login<'a> {
 /// `verify-required`.
 ///
 /// Fails with what is wrong first: as [`judge_certificate`] does, which may be [`Status::MEMORY`];
-/// with [`Refusal::NotForUsers`], [`Refusal::NobodyListed`], [`Refusal::UnmetOption`] and
-/// [`Refusal::FlagData`]; and with [`Refusal::OtherKey`], or as [`normal_key`] does, where the key
-/// is not the certificate's own.
+/// with [`Refusal::NotForUsers`], [`Refusal::NobodyListed`], [`Refusal::UnmetOption`],
+/// [`Refusal::FlagData`] and [`Refusal::Unreadable`]; and with [`Refusal::OtherKey`], or as
+/// [`normal_key`] does, where the key is not the certificate's own.
 ///
 /// Whether the certificate is revoked, whether somebody touched a security key, and what its
 /// extensions say is not looked at (docs/FOREIGN.md).
@@ -66,20 +69,46 @@ pub fn validate_user(
         // it would be for everybody
         return Err(Refusal::NobodyListed);
     }
-    for option in contents.critical_options {
-        let option = option?;
-        if !is_met(option.name, option.value) {
-            return Err(Refusal::UnmetOption);
-        }
-    }
-    for extension in contents.extensions {
-        let extension = extension?;
-        if FLAGS.contains(&extension.name) && !extension.value.is_empty() {
-            return Err(Refusal::FlagData);
-        }
+    judge_options(&contents, is_met)?;
+    if !is_readable(&contents)? {
+        return Err(Refusal::Unreadable);
     }
     if normal_key(login.key)? != certificate_key(certificate)? {
         return Err(Refusal::OtherKey);
     }
     Ok(())
+}
+
+/// Fails with [`Refusal::UnmetOption`] unless each critical option is met, and with
+/// [`Refusal::FlagData`] unless nothing stands in the extensions that are flags.
+fn judge_options(
+    contents: &CertificateContents<'_>,
+    is_met: impl Fn(&str, &str) -> bool,
+) -> Result<(), Refusal> {
+    for option in contents.critical_options.clone() {
+        let option = option?;
+        if !is_met(option.name, option.value) {
+            return Err(Refusal::UnmetOption);
+        }
+    }
+    for extension in contents.extensions.clone() {
+        let extension = extension?;
+        if FLAGS.contains(&extension.name) && !extension.value.is_empty() {
+            return Err(Refusal::FlagData);
+        }
+    }
+    Ok(())
+}
+
+/// Whether sshd reads the texts and the principals: it reads up to 256 of these, and no byte 0
+/// within one, in the key id or in the name of an extension.
+fn is_readable(contents: &CertificateContents<'_>) -> Result<bool, Status> {
+    let mut is_read = !contents.key_id.contains('\0');
+    for (at, principal) in contents.principals.clone().enumerate() {
+        is_read &= at < MOST_PRINCIPALS && !principal?.contains('\0');
+    }
+    for extension in contents.extensions.clone() {
+        is_read &= !extension?.name.contains('\0');
+    }
+    Ok(is_read)
 }

@@ -23,6 +23,8 @@ pub enum Refusal {
     FlagData,
     /// It is one for users.
     NotForHosts,
+    /// It has texts or principals that sshd does not read.
+    Unreadable,
 }
 
 impl Refusal {
@@ -37,6 +39,7 @@ impl Refusal {
             Refusal::OtherKey => "another key",
             Refusal::FlagData => "data in an extension that is a flag",
             Refusal::NotForHosts => "not for hosts",
+            Refusal::Unreadable => "texts or principals that sshd does not read",
         }
     }
 
@@ -51,6 +54,7 @@ impl Refusal {
             Refusal::OtherKey => 103,
             Refusal::FlagData => 104,
             Refusal::NotForHosts => 105,
+            Refusal::Unreadable => 106,
         }
     }
 }

@@ -7,7 +7,7 @@
 
 use sshkey::{
     Algorithm, AuthorizedEntry, CertificateOption, CertificateType, Draft, EntryOption, Listed,
-    Marker, Principal, Question, Sha256, Status,
+    Login, Marker, Principal, Question, Refusal, Sha256, Status,
 };
 
 const AUTHORITY: &str =
@@ -206,6 +206,73 @@ fn drafts_are_refused_where_something_is_left_out() {
         long.len(),
         sshkey::certificate_to_be_signed(&draft).unwrap().len() + 5000
     );
+}
+
+/// What a login by a certificate of the draft says, whose signature is taken to be one.
+fn logged_in(draft: &Draft<'_>) -> Result<(), Refusal> {
+    let signature = [
+        sshkey::string("ssh-ed25519").unwrap(),
+        sshkey::string([0; 64]).unwrap(),
+    ];
+    let made = sshkey::make_certificate(draft, |_| Ok::<_, Status>(signature.concat())).unwrap();
+    let login = Login {
+        user: b"alice",
+        key: &blob(ALICE),
+        unix_timestamp: FIRST,
+        authorities: &[authority()],
+    };
+    sshkey::validate_user(&made, &login, |_| true, |_, _| false)
+}
+
+/// sshd reads none of those that are refused, or takes a text to end at the zero byte.
+#[test]
+fn logins_are_by_certificates_that_sshd_reads() {
+    let (key, by) = (blob(ALICE), blob(AUTHORITY));
+    let draft = Draft {
+        key: &key,
+        authority: &by,
+        nonce: &[0; 32],
+        principals: Listed::Names(&["alice"]),
+        valid_before: END,
+        ..Draft::default()
+    };
+    let unreadable = Err(Refusal::Unreadable);
+    assert_eq!(logged_in(&draft), Ok(()));
+    for key_id in ["a\0b", "a\0", "\0"] {
+        assert_eq!(logged_in(&Draft { key_id, ..draft }), unreadable);
+    }
+    let most = [["alice"; 1].as_slice(), &["bob"; 255]].concat();
+    let principals = Listed::Names(&most);
+    assert_eq!(
+        logged_in(&Draft {
+            principals,
+            ..draft
+        }),
+        Ok(())
+    );
+    let more = [&most[..], &["eve"]].concat();
+    let principals = Listed::Names(&more);
+    assert_eq!(
+        logged_in(&Draft {
+            principals,
+            ..draft
+        }),
+        unreadable
+    );
+    for (extensions, wanted) in [
+        (&[("x\0y", "")], unreadable),
+        (&[("permit-pty\0", "")], unreadable),
+        (&[("x", "a\0b")], Ok(())),
+        (&[("permit-pty", "1")], Err(Refusal::FlagData)),
+    ] {
+        assert_eq!(
+            logged_in(&Draft {
+                extensions,
+                ..draft
+            }),
+            wanted
+        );
+    }
 }
 
 #[test]
