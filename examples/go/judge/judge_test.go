@@ -227,8 +227,8 @@ func TestValidateUser(t *testing.T) {
 	same(t, "a turned bit", judge.ValidateUser(certificate, good), sshkey.ErrNotSigned)
 }
 
-// sshd reads none of the first: checks/callers asks one. It reads up to 256 principals, and ignores
-// extensions that it does not know, whatever stands in them.
+// sshd reads up to 256 principals, and no zero byte within a text; it ignores what stands in an
+// extension that it does not know (checks/callers asks one). A zero byte at the end is refused too.
 func TestValidateUserUnreadable(t *testing.T) {
 	public, private, err := ed25519.GenerateKey(nil)
 	if err != nil {
@@ -248,16 +248,18 @@ func TestValidateUserUnreadable(t *testing.T) {
 		change func(*sshkey.Draft)
 		wanted error
 	}{
-		"a key id":  {func(it *sshkey.Draft) { it.KeyID = "a\x00b" }, judge.ErrUnreadable},
-		"a key id'": {func(it *sshkey.Draft) { it.KeyID = "a\x00" }, judge.ErrUnreadable},
-		"257":       {func(it *sshkey.Draft) { it.Principals = append(most, "eve") }, judge.ErrUnreadable},
-		"an extension": {
+		"plain":          {func(*sshkey.Draft) {}, nil},
+		"in a key id":    {func(it *sshkey.Draft) { it.KeyID = "a\x00b" }, judge.ErrUnreadable},
+		"behind one":     {func(it *sshkey.Draft) { it.KeyID = "a\x00" }, judge.ErrUnreadable},
+		"256 are listed": {func(it *sshkey.Draft) { it.Principals = most }, nil},
+		"257 are listed": {
+			func(it *sshkey.Draft) { it.Principals = append(most, "eve") }, judge.ErrUnreadable,
+		},
+		"in the name of an extension": {
 			func(it *sshkey.Draft) { it.Extensions = map[string]string{"x\x00y": ""} },
 			judge.ErrUnreadable,
 		},
-		"256":   {func(it *sshkey.Draft) { it.Principals = most }, nil},
-		"plain": {func(*sshkey.Draft) {}, nil},
-		"data": {
+		"in the data of an extension": {
 			func(it *sshkey.Draft) { it.Extensions = map[string]string{"x": "a\x00b"} }, nil,
 		},
 	} {

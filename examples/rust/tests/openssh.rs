@@ -224,7 +224,8 @@ fn logged_in(draft: &Draft<'_>) -> Result<(), Refusal> {
     sshkey::validate_user(&made, &login, |_| true, |_, _| false)
 }
 
-/// sshd reads none of those that are refused, or takes a text to end at the zero byte.
+/// sshd reads up to 256 principals, and no zero byte within a text; it ignores what stands in an
+/// extension that it does not know. A zero byte at the end is refused too.
 #[test]
 fn logins_are_by_certificates_that_sshd_reads() {
     let (key, by) = (blob(ALICE), blob(AUTHORITY));
