@@ -227,14 +227,23 @@ func TestValidateUser(t *testing.T) {
 	same(t, "a turned bit", judge.ValidateUser(certificate, good), sshkey.ErrNotSigned)
 }
 
-// sshd reads up to 256 principals, and no zero byte within a text; it ignores what stands in an
-// extension that it does not know (checks/callers asks one). A zero byte at the end is refused too.
-func TestValidateUserUnreadable(t *testing.T) {
-	public, private, err := ed25519.GenerateKey(nil)
+// certified is a certificate of the draft that the key signs.
+func certified(t *testing.T, draft sshkey.Draft, private ed25519.PrivateKey) []byte {
+	t.Helper()
+	made, err := sshkey.MakeCertificate(draft, func(message []byte) ([]byte, error) {
+		return sshkey.JoinStrings([]byte("ssh-ed25519"), ed25519.Sign(private, message))
+	})
 	if err != nil {
 		t.Fatal(err)
 	}
-	key := joined(t, []byte("ssh-ed25519"), public)
+	return made
+}
+
+// sshd reads up to 256 principals, and no zero byte within a text; it ignores what stands in an
+// extension that it does not know (checks/callers asks one). A zero byte at the end is refused too.
+func TestValidateUserUnreadable(t *testing.T) {
+	private := ed25519.NewKeyFromSeed(make([]byte, ed25519.SeedSize))
+	key := joined(t, []byte("ssh-ed25519"), private.Public().(ed25519.PublicKey))
 	authority, _ := sshkey.Fingerprint(key)
 	draft := sshkey.Draft{
 		Key: key, Authority: key, Type: sshkey.User, KeyID: "id", Serial: 1,
@@ -265,13 +274,7 @@ func TestValidateUserUnreadable(t *testing.T) {
 	} {
 		changed := draft
 		it.change(&changed)
-		certificate, err := sshkey.MakeCertificate(changed, func(message []byte) ([]byte, error) {
-			return sshkey.JoinStrings([]byte("ssh-ed25519"), ed25519.Sign(private, message))
-		})
-		if err != nil {
-			t.Fatal(err)
-		}
-		same(t, what, judge.ValidateUser(certificate, login), it.wanted)
+		same(t, what, judge.ValidateUser(certified(t, changed, private), login), it.wanted)
 	}
 }
 

@@ -208,16 +208,32 @@ fn drafts_are_refused_where_something_is_left_out() {
     );
 }
 
-/// What a login by a certificate of the draft says, whose signature is taken to be one.
-fn logged_in(draft: &Draft<'_>) -> Result<(), Refusal> {
+/// What a login says by a certificate with that text, for these and with these extensions. Its
+/// signature is taken to be one.
+fn logged_in(
+    key_id: &str,
+    principals: &[&str],
+    extensions: &[(&str, &str)],
+) -> Result<(), Refusal> {
+    let (key, by) = (blob(ALICE), blob(AUTHORITY));
+    let draft = Draft {
+        key: &key,
+        authority: &by,
+        nonce: &[0; 32],
+        principals: Listed::Names(principals),
+        key_id,
+        valid_before: END,
+        extensions,
+        ..Draft::default()
+    };
     let signature = [
         sshkey::string("ssh-ed25519").unwrap(),
         sshkey::string([0; 64]).unwrap(),
     ];
-    let made = sshkey::make_certificate(draft, |_| Ok::<_, Status>(signature.concat())).unwrap();
+    let made = sshkey::make_certificate(&draft, |_| Ok::<_, Status>(signature.concat())).unwrap();
     let login = Login {
         user: b"alice",
-        key: &blob(ALICE),
+        key: &key,
         unix_timestamp: FIRST,
         authorities: &[authority()],
     };
@@ -228,51 +244,22 @@ fn logged_in(draft: &Draft<'_>) -> Result<(), Refusal> {
 /// extension that it does not know. A zero byte at the end is refused too.
 #[test]
 fn logins_are_by_certificates_that_sshd_reads() {
-    let (key, by) = (blob(ALICE), blob(AUTHORITY));
-    let draft = Draft {
-        key: &key,
-        authority: &by,
-        nonce: &[0; 32],
-        principals: Listed::Names(&["alice"]),
-        valid_before: END,
-        ..Draft::default()
-    };
     let unreadable = Err(Refusal::Unreadable);
-    assert_eq!(logged_in(&draft), Ok(()));
+    assert_eq!(logged_in("id", &["alice"], &[]), Ok(()));
     for key_id in ["a\0b", "a\0", "\0"] {
-        assert_eq!(logged_in(&Draft { key_id, ..draft }), unreadable);
+        assert_eq!(logged_in(key_id, &["alice"], &[]), unreadable);
     }
-    let most = [["alice"; 1].as_slice(), &["bob"; 255]].concat();
-    let principals = Listed::Names(&most);
-    assert_eq!(
-        logged_in(&Draft {
-            principals,
-            ..draft
-        }),
-        Ok(())
-    );
+    let most = [&["alice"][..], &["bob"; 255]].concat();
+    assert_eq!(logged_in("id", &most, &[]), Ok(()));
     let more = [&most[..], &["eve"]].concat();
-    let principals = Listed::Names(&more);
-    assert_eq!(
-        logged_in(&Draft {
-            principals,
-            ..draft
-        }),
-        unreadable
-    );
-    for (extensions, wanted) in [
-        (&[("x\0y", "")], unreadable),
-        (&[("permit-pty\0", "")], unreadable),
-        (&[("x", "a\0b")], Ok(())),
-        (&[("permit-pty", "1")], Err(Refusal::FlagData)),
+    assert_eq!(logged_in("id", &more, &[]), unreadable);
+    for (extension, wanted) in [
+        (("x\0y", ""), unreadable),
+        (("permit-pty\0", ""), unreadable),
+        (("x", "a\0b"), Ok(())),
+        (("permit-pty", "1"), Err(Refusal::FlagData)),
     ] {
-        assert_eq!(
-            logged_in(&Draft {
-                extensions,
-                ..draft
-            }),
-            wanted
-        );
+        assert_eq!(logged_in("id", &["alice"], &[extension]), wanted);
     }
 }
 
