@@ -9,7 +9,7 @@ use Rattle.ssh_key.specs.model.Keys.{IsKey, Key}
 use Rattle.ssh_key.specs.model.Verification.{Question}
 use Rattle.ssh_key.specs.types.Certificate.{Certificate}
 use Rattle.ssh_key.specs.types.Error.{Error}
-use Rattle.authority.specs.Requests.{CertifiesExactly, IsLeft, IsWithin, IssuesExactly, OtherExtensions, OtherKey, OtherUsers, OtherWindow, RefusesRequest}
+use Rattle.authority.specs.Requests.{CertifiesExactly, IsLeft, IsWithin, IssuesExactly, OtherExtensions, OtherKey, OtherKeyId, OtherUsers, OtherWindow, RefusesRequest}
 use Rattle.authority.specs.Serials.{IsHistory, serial_of}
 use Rattle.authority.specs.declared.limits.Limits.{Limits}
 use Rattle.authority.specs.declared.request.Request.{Request}
@@ -25,9 +25,10 @@ used accepts authority refuses r serial next nonce more (Err e) refused = omega 
 -- a request is refused for what is outside the limits
 pub outside : (limits : Limits) (t : ℕ) (r : Request) (e : Error) → RefusesRequest limits t r e → IsWithin limits t r → ⊥
 outside limits t r e (OtherKey none) within = none within.key
-outside limits t r e (OtherUsers key none) within = none within.users
-outside limits t r e (OtherExtensions key names none) within = none within.extensions
-outside limits t r e (OtherWindow key names extensions none) within = none within.window
+outside limits t r e (OtherKeyId key none) within = none within.key_id
+outside limits t r e (OtherUsers key key_id none) within = none within.users
+outside limits t r e (OtherExtensions key key_id names none) within = none within.extensions
+outside limits t r e (OtherWindow key key_id names extensions none) within = none within.window
 
 window : (after before : ℕ) → before < 2 ^ 63 → after < before → bad_window after before ≡ None
 window after before time less =

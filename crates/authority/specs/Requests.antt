@@ -1,6 +1,6 @@
 -- What an authority certifies.
-use Rattle.std.specs.Prelude.{◌≡◌, ◌≢◌, ◌⊎◌, ℕ, ◌+◌, ◌^◌, ◌<◌, ◌≤◌, List, [], ◌∷◌, Bool, false, All, Contains, Option, Result, Ok, Err, None, Some, String, map, string_bytes, bytes_eq}
-use Rattle.std.specs.List.{list_any}
+use Rattle.std.specs.Prelude.{◌≡◌, ◌≢◌, ◌⊎◌, ◌==◌, ◌&&◌, ℕ, ◌+◌, ◌^◌, ◌<◌, ◌≤◌, List, [], ◌∷◌, length, Bool, false, not, All, Contains, Option, Result, Ok, Err, None, Some, String, map, string_bytes, bytes_eq}
+use Rattle.std.specs.List.{list_all, list_any}
 use Rattle.std.specs.NonZero.{non_zero_u64_get}
 use Rattle.ssh_key.specs.builder.Builders.{IsValidExactlyIn, draft_of}
 use Rattle.ssh_key.specs.cert.CertificateValues.{certificate_of, comment_of}
@@ -11,6 +11,7 @@ use Rattle.ssh_key.specs.model.Certificates.{SignedFields, User}
 use Rattle.ssh_key.specs.model.Drafts.{Extension, Principal, Step, after_steps, bad_window}
 use Rattle.ssh_key.specs.model.Fingerprints.{fingerprint}
 use Rattle.ssh_key.specs.model.Keys.{Key}
+use Rattle.ssh_key.specs.model.Lines.{IsWithout}
 use Rattle.ssh_key.specs.model.Names.{Sha256}
 use Rattle.ssh_key.specs.model.OptionMaps.{value_of, with_option}
 use Rattle.ssh_key.specs.model.Options.{CertificateOption}
@@ -39,19 +40,33 @@ IsListed listed name = Contains (map string_bytes listed) name
 abbrev pub is_listed : {Y : Type 0} → List (String Y) → List ℕ → Bool
 is_listed listed name = list_any (λ it. bytes_eq name (string_bytes it)) listed
 
+-- The test of a text without a zero byte: sshd(8) takes a text to end at one that stands last, and
+-- reads no certificate with another one.
+abbrev pub has_no_zero : List ℕ → Bool
+has_no_zero text = list_all (λ b. not (b == 0)) text
+
+-- The name is listed, and no byte of it is 0.
+abbrev pub IsAllowed : {Y : Type 0} → List (String Y) → List ℕ → Type 0
+IsAllowed listed name = IsWithout 0 name × IsListed listed name
+
+-- the test of it
+abbrev pub is_allowed : {Y : Type 0} → List (String Y) → List ℕ → Bool
+is_allowed listed name = has_no_zero name && is_listed listed name
+
 abbrev pub names_of : Request → List (List ℕ)
 names_of r = map string_bytes r.principals.items
 
--- There are some users, and each is listed.
+-- There are some users, up to 256: sshd reads no certificate with more. Each is listed, and no byte
+-- of a name is 0.
 abbrev pub AreAllowed : Limits → Request → Type 0
-AreAllowed limits r = (names_of r ≢ []) × All (IsListed limits.principals.items) (names_of r)
+AreAllowed limits r = (names_of r ≢ []) × (length (names_of r) ≤ 256) × All (IsAllowed limits.principals.items) (names_of r)
 
 abbrev pub extensions_of : Request → List (List ℕ)
 extensions_of r = map string_bytes r.extensions.items
 
--- Each extension is listed.
+-- Each extension is listed, and no byte of its name is 0.
 abbrev pub ArePermitted : Limits → Request → Type 0
-ArePermitted limits r = All (IsListed limits.extensions.items) (extensions_of r)
+ArePermitted limits r = All (IsAllowed limits.extensions.items) (extensions_of r)
 
 -- The window ends at a time, has a second and at most `longest`, is not over at t, and ends at most
 -- `longest` seconds later. It may begin before t, and these seconds count too.
@@ -61,17 +76,19 @@ HasRoom limits t r = (r.valid_before < 2 ^ 63) × (r.valid_after < r.valid_befor
 -- At the second t the request is within the limits.
 pub record IsWithin (limits : Limits) (t : ℕ) (r : Request) : Type 0 where
   pub key : IsCertifiable (key_of r.key)
+  pub key_id : IsWithout 0 (string_bytes r.key_id)
   pub users : AreAllowed limits r
   pub extensions : ArePermitted limits r
   pub window : HasRoom limits t r
 
--- The error says what is outside the limits first: the key, the users, the extensions or the
--- window.
+-- The error says what is outside the limits first: the key, the key id, the users, the extensions or
+-- the window.
 pub data RefusesRequest (limits : Limits) (t : ℕ) (r : Request) : Error → Type 0 where
   OtherKey : (IsCertifiable (key_of r.key) → ⊥) → RefusesRequest limits t r (CertificateFieldInvalid field.PublicKey)
-  OtherUsers : IsCertifiable (key_of r.key) → (AreAllowed limits r → ⊥) → RefusesRequest limits t r (CertificateFieldInvalid field.ValidPrincipals)
-  OtherExtensions : IsCertifiable (key_of r.key) → AreAllowed limits r → (ArePermitted limits r → ⊥) → RefusesRequest limits t r (CertificateFieldInvalid field.Extensions)
-  OtherWindow : IsCertifiable (key_of r.key) → AreAllowed limits r → ArePermitted limits r → (HasRoom limits t r → ⊥) → RefusesRequest limits t r (CertificateFieldInvalid field.ValidBefore)
+  OtherKeyId : IsCertifiable (key_of r.key) → (IsWithout 0 (string_bytes r.key_id) → ⊥) → RefusesRequest limits t r (CertificateFieldInvalid field.KeyId)
+  OtherUsers : IsCertifiable (key_of r.key) → IsWithout 0 (string_bytes r.key_id) → (AreAllowed limits r → ⊥) → RefusesRequest limits t r (CertificateFieldInvalid field.ValidPrincipals)
+  OtherExtensions : IsCertifiable (key_of r.key) → IsWithout 0 (string_bytes r.key_id) → AreAllowed limits r → (ArePermitted limits r → ⊥) → RefusesRequest limits t r (CertificateFieldInvalid field.Extensions)
+  OtherWindow : IsCertifiable (key_of r.key) → IsWithout 0 (string_bytes r.key_id) → AreAllowed limits r → ArePermitted limits r → (HasRoom limits t r → ⊥) → RefusesRequest limits t r (CertificateFieldInvalid field.ValidBefore)
 
 -- ---- what is certified
 

@@ -1,19 +1,22 @@
 //! What an authority may certify.
 
 ghost use Rattle.std.specs.List.{list_all};
-ghost use Rattle.std.specs.Prelude.{◌≡◌, ◌≢◌, ◌↔◌, ◌≤◌, ◌<◌, ◌+◌, ◌^◌, [], IfErr, IsTrue, All, map, string_bytes};
+ghost use Rattle.std.specs.Prelude.{◌≡◌, ◌≢◌, ◌↔◌, ◌≤◌, ◌<◌, ◌+◌, ◌^◌, [], IfErr, IsTrue, All, length, map, string_bytes};
 ghost use Rattle.ssh_key.specs.base.Acceptance.{AcceptsExactly};
-ghost use Rattle.authority.specs.Requests.{IsListed, IsWithin, RefusesRequest, is_listed};
+ghost use Rattle.authority.specs.Requests.{IsAllowed, IsWithin, RefusesRequest, has_no_zero, is_allowed, is_listed};
 
 use crate::request::Request;
 use ssh_key::certificate::{Field, MAX_SECS};
 use ssh_key::{Error, Result};
 
+/// How many principals sshd reads of a certificate.
+const MOST: usize = 256;
+
 /// What may be asked for.
 #[derive(Debug, Drop)]
 pub struct Limits {
-    /// The users whom a certificate may be for. List no name with a zero byte: sshd takes the name
-    /// to end there, and so for another user's. What is not listed is not certified.
+    /// The users whom a certificate may be for. What is not listed is not certified, nor is a name
+    /// with a zero byte, which sshd does not read or takes for another user's.
     pub principals: Vec<String>,
     /// The extensions that a certificate may have, as `permit-pty`.
     pub extensions: Vec<String>,
@@ -23,12 +26,14 @@ pub struct Limits {
 
 impl Limits {
     /// Whether the request is within the limits, at that time in seconds since 1970: its key is
-    /// under no private-use name; it is for some users, each of whom is listed; each extension is
-    /// listed; and its window has a second and no more than `longest`, is not over, and ends
-    /// `longest` seconds from now or before. Does not allocate.
+    /// under no private-use name; it is for some users, up to 256, each of whom is listed; each
+    /// extension is listed; the key id, the users and the extensions have no zero byte; and its
+    /// window has a second and no more than `longest`, is not over, and ends `longest` seconds
+    /// from now or before. Does not allocate.
     ///
-    /// Else `CertificateFieldInvalid`, with `PublicKey` for the key, `ValidPrincipals` for the
-    /// users, `Extensions` for the extensions and `ValidBefore` for the window, in that order.
+    /// Else `CertificateFieldInvalid`, with `PublicKey` for the key, `KeyId` for the key id,
+    /// `ValidPrincipals` for the users, `Extensions` for the extensions and `ValidBefore` for the
+    /// window, in that order.
     ///
     /// A window may begin before now, as that of `ssh-keygen -V -5m:+1h` does for machines whose
     /// clock is slow, and then these seconds count too: that one has 3,900.
@@ -39,10 +44,13 @@ impl Limits {
         if request.key.is_other() {
             return Err(Error::CertificateFieldInvalid(Field::PublicKey));
         }
+        if !is_without_zero(request.key_id.as_str()) {
+            return Err(Error::CertificateFieldInvalid(Field::KeyId));
+        }
         if !self.allows_principals(&request.principals) {
             return Err(Error::CertificateFieldInvalid(Field::ValidPrincipals));
         }
-        if !lists_each(&self.extensions, &request.extensions) {
+        if !allows_each(&self.extensions, &request.extensions) {
             return Err(Error::CertificateFieldInvalid(Field::Extensions));
         }
         if !self.allows_window(request.valid_after, request.valid_before, unix_timestamp) {
@@ -51,12 +59,19 @@ impl Limits {
         Ok(())
     }
 
-    /// Whether there are names, and each is listed.
+    /// Whether there are names, up to 256, and each may be asked for.
     fn allows_principals(&self, names: &[String]) -> bool
         ensures { IsTrue result ↔ ((map string_bytes names.now ≢ [])
-            × All (IsListed self.now.principals.items) (map string_bytes names.now)) }
+            × (length (map string_bytes names.now) ≤ 256)
+            × All (IsAllowed self.now.principals.items) (map string_bytes names.now)) }
     {
-        !names.is_empty() && lists_each(&self.principals, names)
+        if names.is_empty() {
+            return false;
+        }
+        if names.len() > MOST {
+            return false;
+        }
+        allows_each(&self.principals, names)
     }
 
     /// Whether the window ends at a time, has a second and no more than `longest`, is not over, and
@@ -74,11 +89,18 @@ impl Limits {
     }
 }
 
-/// Whether each of the names is listed.
-fn lists_each(listed: &[String], names: &[String]) -> bool
-    ensures { result ≡ list_all (λ name. is_listed listed.now (string_bytes name)) names.now }
+/// Whether each of the names may be asked for.
+fn allows_each(listed: &[String], names: &[String]) -> bool
+    ensures { result ≡ list_all (λ name. is_allowed listed.now (string_bytes name)) names.now }
 {
-    names.iter().all(|name| lists(listed, name.as_str()))
+    names.iter().all(|name| allows(listed, name.as_str()))
+}
+
+/// Whether the name is listed and has no zero byte.
+fn allows(listed: &[String], name: &str) -> bool
+    ensures { result ≡ is_allowed listed.now name.now }
+{
+    is_without_zero(name) && lists(listed, name)
 }
 
 /// Whether the name is listed.
@@ -86,4 +108,11 @@ fn lists(listed: &[String], name: &str) -> bool
     ensures { result ≡ is_listed listed.now name.now }
 {
     listed.iter().any(|it| name == it.as_str())
+}
+
+/// Whether the text has no zero byte.
+fn is_without_zero(text: &str) -> bool
+    ensures { result ≡ has_no_zero text.now }
+{
+    text.as_bytes().iter().all(|byte| *byte != 0)
 }

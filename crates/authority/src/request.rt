@@ -7,8 +7,8 @@ use ssh_key::public::KeyData;
 pub struct Request {
     /// The key that is to be certified.
     pub key: KeyData,
-    /// A text that names whom it is for, for logs. No `Limits` judge it, so it may have line ends
-    /// and the name of another.
+    /// A text that names whom it is for, for logs. All that `Limits` refuse of it is a zero byte,
+    /// so it may have line ends and the name of another.
     pub key_id: String,
     /// The users who may log in with it.
     pub principals: Vec<String>,
