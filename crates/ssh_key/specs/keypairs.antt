@@ -1,6 +1,3 @@
-pub use Rattle.sshkey_keypairs.specs.SkEcdsaSha2NistP256
-pub use Rattle.sshkey_keypairs.specs.SkEd25519
-pub use Rattle.sshkey_keypairs.specs.SecurityPairs
 pub use Rattle.sshkey_keypairs.specs.OpaquePairs
 pub use Rattle.sshkey_keypairs.specs.KeypairFormats
 pub use Rattle.sshkey_keypairs.specs.KeypairReaders

@@ -1,2 +1,1 @@
-mod HeldOrders
 pub mod SameReaders

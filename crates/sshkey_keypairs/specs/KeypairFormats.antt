@@ -1,68 +1,22 @@
--- What stands behind the name of each kind of pair, and a pair behind its name, by the terms that
+-- What stands behind a private-use name, behind a name, and a pair with its name, by the terms that
 -- they are read as.
 use Rattle.std.proofs.Common.{ℕ, List, [], Option, Some, Result, Ok, Err, refl}
-use Rattle.std.specs.Int.{w8}
-use Rattle.sshkey_model.specs.Reading.{Fault, Length, number_at, string_at}
-use Rattle.sshkey_model.specs.Grammar.{IsGrammar, Spells, value_at}
+use Rattle.sshkey_model.specs.Reading.{Fault, string_at}
+use Rattle.sshkey_model.specs.Grammar.{value_at}
 use Rattle.sshkey_model.specs.Names.{Algorithm, algorithm_from}
 use Rattle.sshkey_model.specs.Names as names
-use Rattle.sshkey_model.specs.Parts.{Any}
-use Rattle.sshkey_model.specs.Keys.{Key, SkEcdsa, SkEd25519, sk_ecdsa_at, sk_ed25519_at}
-use Rattle.sshkey_model.specs.KeyPairs.{KeyPair, SkEcdsaPair, SkEd25519Pair, OpaquePair, SecurityPrivate, security_private, security_private_at, sk_ecdsa_pair_at, sk_ed25519_pair_at, opaque_pair_at, pair_at}
+use Rattle.sshkey_model.specs.KeyPairs.{KeyPair, OpaquePair, opaque_pair_at, pair_at}
 use Rattle.sshkey_model.proofs.CombinedReaders.{bind_assoc}
-use Rattle.sshkey_model.proofs.Grammars.{grammar}
-use Rattle.sshkey_model.proofs.KeyPairReaders.{security_private_reads}
-use Rattle.sshkey_base.specs.Formats.{Format, byte_format, string_format}
+use Rattle.sshkey_base.specs.Formats.{Format, string_format}
 use Rattle.sshkey_base.specs.Labels.{label_at}
 use Rattle.sshkey_base.specs.Needs.{NoNeed}
 use Rattle.sshkey_base.specs.Stops.{AreLengths}
 use Rattle.sshkey_format.specs.Behind.{both_at, behind_at}
 use Rattle.sshkey_format.specs.Terms.{◌then◌, chosen_of, tested, IsChosen, IsMapped, made_of, mapped_lengths}
-use Rattle.sshkey_kinds.specs.KeyFormats.{sk_ecdsa_format, sk_ed25519_format}
 use Rattle.sshkey_keys.specs.KeyFormats.{name_format}
-use Rattle.sshkey_pairs.specs.PairFormats.{dsa_pair_format, ecdsa_pair_format, ed25519_pair_format, rsa_pair_format}
+use Rattle.sshkey_pairs.specs.PairFormats.{dsa_pair_format, ecdsa_pair_format, ed25519_pair_format, rsa_pair_format, sk_ecdsa_pair_format, sk_ed25519_pair_format}
 use Rattle.sshkey_pairs.specs.PairReaders.{SpellsPair, pair_grammar}
 use Rattle.sshkey_keypairs.specs.KeypairReaders.{some_at, keypair_data_at, keypair_grammar, ecdsa_under_read}
-
--- ---- what is kept of a key that a security key holds: the flags, the key handle and the reserved
--- bytes
-
-abbrev pub SpellsHeld : SecurityPrivate → List ℕ → Type 0
-SpellsHeld = Spells Any security_private
-
-pub held_grammar : IsGrammar SpellsHeld security_private_at
-held_grammar = grammar security_private_reads
-
-abbrev pub held_of_parts : ℕ × (List ℕ × List ℕ) → Result SecurityPrivate Fault
-held_of_parts a = Ok (record { flags = a.0; handle = a.1.0; reserved = a.1.1 })
-
-pub held_parts_read : IsMapped security_private_at held_of_parts (both_at (number_at w8) (both_at string_at string_at))
-unfolding security_private_at behind_at
-held_parts_read = record { same = λ b. simp bind_assoc }
-
-abbrev pub held_format : Format SecurityPrivate
-held_format = made_of (byte_format then string_format then string_format) held_parts_read held_grammar
-
--- ---- the public key of a security key, and what is kept of it
-
-abbrev pub security_pair_of_parts : Key × SecurityPrivate → Result KeyPair Fault
-security_pair_of_parts (SkEcdsa k, r) = Ok (SkEcdsaPair k r)
-security_pair_of_parts (SkEd25519 k, r) = Ok (SkEd25519Pair k r)
-security_pair_of_parts _ = Err Length
-
-pub sk_ecdsa_pair_parts_read : IsMapped (value_at sk_ecdsa_pair_at) security_pair_of_parts (both_at sk_ecdsa_at security_private_at)
-unfolding sk_ecdsa_pair_at sk_ecdsa_at behind_at
-sk_ecdsa_pair_parts_read = record { same = λ b. simp bind_assoc }
-
-abbrev pub sk_ecdsa_pair_format : Format KeyPair
-sk_ecdsa_pair_format = made_of (sk_ecdsa_format then held_format) sk_ecdsa_pair_parts_read (pair_grammar names.SkEcdsa)
-
-pub sk_ed25519_pair_parts_read : IsMapped (value_at sk_ed25519_pair_at) security_pair_of_parts (both_at sk_ed25519_at security_private_at)
-unfolding sk_ed25519_pair_at sk_ed25519_at behind_at
-sk_ed25519_pair_parts_read = record { same = λ b. simp bind_assoc }
-
-abbrev pub sk_ed25519_pair_format : Format KeyPair
-sk_ed25519_pair_format = made_of (sk_ed25519_format then held_format) sk_ed25519_pair_parts_read (pair_grammar names.SkEd25519)
 
 -- ---- the public and the private bytes, under that name
 

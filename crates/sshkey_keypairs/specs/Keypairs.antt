@@ -16,7 +16,7 @@ use Rattle.sshkey_base.specs.Stops.{StopsBy}
 use Rattle.sshkey_keypairs.specs.KeypairFormats.{NeedsPair, OverrunsPair}
 use Rattle.sshkey_keypairs.specs.KeypairReaders.{some_at, steps_at}
 use Rattle.sshkey_pairs.specs.Pairs.{dsa_pair_of, rsa_pair_of, ecdsa_pair_of, ed25519_pair_of}
-use Rattle.sshkey_keypairs.specs.SecurityPairs.{sk_ecdsa_pair_of, sk_ed25519_pair_of}
+use Rattle.sshkey_pairs.specs.SecurityPairs.{sk_ecdsa_pair_of, sk_ed25519_pair_of}
 use Rattle.sshkey_keypairs.specs.OpaquePairs.{opaque_pair_of}
 
 -- the pair; of an encrypted one nothing is known

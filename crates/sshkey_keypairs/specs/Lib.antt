@@ -1,6 +1,3 @@
-pub mod SkEcdsaSha2NistP256
-pub mod SkEd25519
-pub mod SecurityPairs
 pub mod OpaquePairs
 pub mod KeypairReaders
 pub mod KeypairFormats

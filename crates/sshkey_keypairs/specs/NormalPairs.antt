@@ -6,7 +6,7 @@ use Rattle.sshkey_model.specs.KeyPairs.{KeyPair, IsKeyPair, HasKeyPairPlaces, ke
 use Rattle.sshkey_model.proofs.KeyPairReaders.{plain_keypair_has}
 use Rattle.sshkey_pairs.specs.Pairs.{dsa_pair_of, ecdsa_pair_of, ed25519_pair_of, rsa_pair_of}
 use Rattle.sshkey_keypairs.specs.OpaquePairs.{opaque_pair_of}
-use Rattle.sshkey_keypairs.specs.SecurityPairs.{sk_ecdsa_pair_of, sk_ed25519_pair_of}
+use Rattle.sshkey_pairs.specs.SecurityPairs.{sk_ecdsa_pair_of, sk_ed25519_pair_of}
 use Rattle.sshkey_keypairs.specs.declared.keypair_data.KeypairData.{KeypairData}
 use Rattle.sshkey_keypairs.specs.declared.keypair_data.KeypairData.TheVariants as kinds
 use Rattle.sshkey_keypairs.specs.KeypairReaders.{SpellsKeypair}

@@ -18,7 +18,6 @@ mod from;
 mod kinds;
 
 use crate::opaque::{OpaqueKeypair, OpaquePrivateKeyBytes};
-use crate::security_pair::{SkEcdsaSha2NistP256, SkEd25519};
 use sshkey_base::{
     Algorithm, Decode, EcdsaCurve, Encode, Error, NormalForm, Reader, Result, Writer, both_len,
     encode_both, encoding,
@@ -26,7 +25,9 @@ use sshkey_base::{
 use sshkey_format::{Then, Wide};
 use sshkey_keys::KeyData;
 use sshkey_kinds::{OpaquePublicKey, OpaquePublicKeyBytes};
-use sshkey_pairs::{DsaKeypair, EcdsaKeypair, Ed25519Keypair, RsaKeypair};
+use sshkey_pairs::{
+    DsaKeypair, EcdsaKeypair, Ed25519Keypair, RsaKeypair, SkEcdsaSha2NistP256, SkEd25519,
+};
 use std::alloc::Global;
 
 /// A key pair of any kind, or one that is encrypted (OpenSSH, PROTOCOL.key).

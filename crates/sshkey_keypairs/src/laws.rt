@@ -1,44 +1,16 @@
-//! Laws of spelling, equality and order. They make no call: each is a fact about the definitions.
+//! Laws of spelling and equality. They make no call: each is a fact about the definitions.
 
-ghost use Rattle.sshkey_base.specs.Comparisons.{IsEqualityOf, IsOrderByParts};
+ghost use Rattle.sshkey_base.specs.Comparisons.{IsEqualityOf};
 ghost use Rattle.sshkey_keypairs.specs.Keypairs.{pair_fields};
 ghost use Rattle.sshkey_keypairs.specs.OpaquePairs.{nameless_pair_of, opaque_pair_fields, opaque_private_of};
-ghost use Rattle.sshkey_keypairs.specs.SecurityPairs.{sk_ecdsa_pair_of, sk_ecdsa_pair_parts, sk_ed25519_pair_of, sk_ed25519_pair_parts};
 
 use crate::keypair_data::KeypairData;
 use crate::opaque::{OpaqueKeypair, OpaqueKeypairBytes, OpaquePrivateKeyBytes};
-use crate::security_pair::{SkEcdsaSha2NistP256, SkEd25519};
-use sshkey_kinds::laws::{compared_sk_ecdsa_keys, compared_sk_ed25519_keys};
 pub use sshkey_model::laws::private::{prefix_keypair, prefix_pair};
 use sshkey_pairs::laws::{
-    equal_dsa_pairs, equal_ecdsa_pairs, equal_ed25519_pairs, equal_rsa_pairs,
+    equal_dsa_pairs, equal_ecdsa_pairs, equal_ed25519_pairs, equal_rsa_pairs, equal_sk_ecdsa_pairs,
+    equal_sk_ed25519_pairs,
 };
-
-/// Two P-256 pairs of security keys are equal exactly if they mean the same.
-pub fn equal_sk_ecdsa_pairs()
-    ensures { IsEqualityOf sk_ecdsa_pair_of ⟦<SkEcdsaSha2NistP256 as PartialEq>⟧.eq }
-{}
-
-/// Two Ed25519 pairs of security keys are equal exactly if they mean the same.
-pub fn equal_sk_ed25519_pairs()
-    ensures { IsEqualityOf sk_ed25519_pair_of ⟦<SkEd25519 as PartialEq>⟧.eq }
-{}
-
-/// P-256 pairs of security keys are ordered by the point and the application of the public key, and
-/// then by the flags, the key handle and the reserved bytes.
-pub fn ordered_sk_ecdsa_pairs()
-    ensures { IsOrderByParts sk_ecdsa_pair_parts ⟦<SkEcdsaSha2NistP256 as Ord>⟧.cmp }
-{
-    compared_sk_ecdsa_keys();
-}
-
-/// Ed25519 pairs of security keys are ordered by the bytes and the application of the public key,
-/// and then by the flags, the key handle and the reserved bytes.
-pub fn ordered_sk_ed25519_pairs()
-    ensures { IsOrderByParts sk_ed25519_pair_parts ⟦<SkEd25519 as Ord>⟧.cmp }
-{
-    compared_sk_ed25519_keys();
-}
 
 /// The private bytes of two pairs of an unknown format are equal exactly if they are the same.
 pub fn equal_opaque_private_keys()

@@ -5,18 +5,17 @@ use Rattle.std.specs.Int.{w32}
 use Rattle.sshkey_model.specs.Grammar.{IsGrammar, Spells}
 use Rattle.sshkey_model.specs.Keys.{Key}
 use Rattle.sshkey_model.specs.KeyDerivation.{Cipher, NoCipher, Kdf, NoKdf, Bcrypt}
-use Rattle.sshkey_model.specs.Parts.{Any, bytes, number}
+use Rattle.sshkey_model.specs.Parts.{Any, number}
 use Rattle.sshkey_model.specs.PrivateKeys.{private_key_magic, one_key}
-use Rattle.sshkey_model.specs.Reading.{Fault, Length, number_at, literal_at}
-use Rattle.sshkey_model.proofs.CombinedReaders.{wide32, bind_assoc, number_reads, literal_reads, checked_reads, kept}
+use Rattle.sshkey_model.specs.Reading.{Fault, Length, number_at}
+use Rattle.sshkey_model.proofs.CombinedReaders.{wide32, bind_assoc, number_reads, checked_reads, kept}
 use Rattle.sshkey_model.proofs.Grammars.{grammar}
 use Rattle.sshkey_base.specs.Formats.{Format, number32_format, label_format}
 use Rattle.sshkey_base.specs.Labels.{label_at}
-use Rattle.sshkey_base.specs.Lengths.{no_lengths}
 use Rattle.sshkey_base.specs.Needs.{NoNeed, HasString, NeedsString, NeedsBoxed, NeedsThen}
-use Rattle.sshkey_base.specs.Stops.{NoOverrun, OverrunsString, OverrunsThen}
+use Rattle.sshkey_base.specs.Stops.{OverrunsString, OverrunsThen}
 use Rattle.sshkey_format.specs.Behind.{behind_at}
-use Rattle.sshkey_format.specs.Terms.{◌then◌, boxed, IsMapped, made_of}
+use Rattle.sshkey_format.specs.Terms.{◌then◌, boxed, literal_format, IsMapped, made_of}
 use Rattle.sshkey_keys.specs.KeyFormats.{key_format}
 use Rattle.sshkey_ciphers.specs.Ciphers.{cipher_checks}
 use Rattle.sshkey_ciphers.specs.KdfFormats.{kdf_format}
@@ -25,11 +24,8 @@ use Rattle.sshkey_private.specs.PrivateKeyReaders.{Opening, cipher_at, one_at, o
 
 -- ---- the magic bytes
 
-pub magic_grammar : IsGrammar (Spells (λ b. b ≡ private_key_magic) bytes) (literal_at private_key_magic)
-magic_grammar = grammar (literal_reads private_key_magic)
-
 abbrev pub magic_format : Format (List ℕ)
-magic_format = record { Spells = Spells (λ b. b ≡ private_key_magic) bytes; read = literal_at private_key_magic; needs = NoNeed; overruns = NoOverrun; grammar = magic_grammar; lengths = no_lengths (literal_at private_key_magic) }
+magic_format = literal_format private_key_magic
 
 -- ---- the number of keys, which is 1
 

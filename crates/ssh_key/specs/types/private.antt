@@ -2,9 +2,9 @@ pub use Rattle.sshkey_keypairs.specs.declared.keypair_data.KeypairData
 pub use Rattle.sshkey_keypairs.specs.declared.opaque.OpaqueKeypair
 pub use Rattle.sshkey_keypairs.specs.declared.opaque.OpaqueKeypairBytes
 pub use Rattle.sshkey_keypairs.specs.declared.opaque.OpaquePrivateKeyBytes
-pub use Rattle.sshkey_keypairs.specs.declared.security_pair.SecurityPair
-pub use Rattle.sshkey_keypairs.specs.SkEcdsaSha2NistP256
-pub use Rattle.sshkey_keypairs.specs.SkEd25519
+pub use Rattle.sshkey_pairs.specs.declared.security_pair.SecurityPair
+pub use Rattle.sshkey_pairs.specs.SkEcdsaSha2NistP256
+pub use Rattle.sshkey_pairs.specs.SkEd25519
 pub use Rattle.sshkey_pairs.specs.declared.dsa.DsaKeypair
 pub use Rattle.sshkey_pairs.specs.declared.dsa.DsaPrivateKey
 pub use Rattle.sshkey_pairs.specs.declared.ecdsa.EcdsaKeypair

@@ -5,8 +5,9 @@ ghost use Rattle.sshkey_keypairs.specs.declared.keypair_data.KeypairData.TheVari
 
 use super::KeypairData;
 use crate::opaque::OpaqueKeypair;
-use crate::security_pair::{SkEcdsaSha2NistP256, SkEd25519};
-use sshkey_pairs::{DsaKeypair, EcdsaKeypair, Ed25519Keypair, RsaKeypair};
+use sshkey_pairs::{
+    DsaKeypair, EcdsaKeypair, Ed25519Keypair, RsaKeypair, SkEcdsaSha2NistP256, SkEd25519,
+};
 
 /// That DSA pair. Does not allocate.
 impl From<DsaKeypair> for KeypairData {

@@ -5,8 +5,9 @@ ghost use Rattle.sshkey_keypairs.specs.PairKinds.{is_dsa, is_ecdsa, is_ed25519, 
 
 use super::KeypairData;
 use crate::opaque::OpaqueKeypair;
-use crate::security_pair::{SkEcdsaSha2NistP256, SkEd25519};
-use sshkey_pairs::{DsaKeypair, EcdsaKeypair, Ed25519Keypair, RsaKeypair};
+use sshkey_pairs::{
+    DsaKeypair, EcdsaKeypair, Ed25519Keypair, RsaKeypair, SkEcdsaSha2NistP256, SkEd25519,
+};
 
 impl KeypairData {
     /// Whether it is a DSA pair.

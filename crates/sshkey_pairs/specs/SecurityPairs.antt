@@ -4,10 +4,10 @@ use Rattle.sshkey_model.specs.KeyPairs.{KeyPair, SkEcdsaPair, SkEd25519Pair, Sec
 use Rattle.sshkey_kinds.specs.Comparisons.{sk_ecdsa_parts, sk_ed25519_parts}
 use Rattle.sshkey_kinds.specs.EcPoint.{point_of}
 use Rattle.sshkey_kinds.specs.Kinds.{sk_ecdsa_point, sk_ecdsa_application, sk_ed25519_key, sk_ed25519_application}
-use Rattle.sshkey_keypairs.specs.SkEcdsaSha2NistP256.{SkEcdsaSha2NistP256}
-use Rattle.sshkey_keypairs.specs.SkEd25519.{SkEd25519}
-use Rattle.sshkey_keypairs.specs.declared.held.Held.{Held}
-use Rattle.sshkey_keypairs.specs.declared.security_pair.SecurityPair.{SecurityPair}
+use Rattle.sshkey_pairs.specs.SkEcdsaSha2NistP256.{SkEcdsaSha2NistP256}
+use Rattle.sshkey_pairs.specs.SkEd25519.{SkEd25519}
+use Rattle.sshkey_pairs.specs.declared.held.Held.{Held}
+use Rattle.sshkey_pairs.specs.declared.security_pair.SecurityPair.{SecurityPair}
 
 -- ---- what is kept of a key that a security key holds
 

@@ -4,7 +4,7 @@ ghost use Rattle.std.specs.Prelude.{◌≡◌, ◌≤◌, ◌+◌, ◌*◌, ◌^
 ghost use Rattle.sshkey_base.specs.declared.error.Error.TheVariants as wide;
 ghost use Rattle.sshkey_base.specs.declared.encoding.Error.TheVariants as encoding;
 ghost use Rattle.sshkey_model.specs.KeyPairs.{KeyPair, pair, Plain};
-ghost use Rattle.sshkey_keypairs.specs.SecurityPairs.{sk_ecdsa_pair_of, sk_ed25519_pair_of, sk_public, sk_held, held_anew};
+ghost use Rattle.sshkey_pairs.specs.SecurityPairs.{sk_ecdsa_pair_of, sk_ed25519_pair_of, sk_public, sk_held, held_anew};
 
 use crate::held::Held;
 use sshkey_base::{Decode, Encode, Error, Reader, Result, Writer, both_len, encode_both, encoding};
@@ -111,9 +111,9 @@ impl fmt::Debug for SkEd25519 {
 ///
 /// Fails with the errors of the public key, and then with `Length` where a string passes what is
 /// left. The key handle may have any number of bytes.
-#[tactic(auto, using(sshkey_format::proofs::Mapped::mapped, crate::specs::KeypairFormats::sk_ecdsa_pair_parts_read))]
+#[tactic(auto, using(sshkey_format::proofs::Mapped::mapped, crate::specs::PairFormats::sk_ecdsa_pair_parts_read))]
 impl Decode for SkEcdsaSha2NistP256 {
-    ghost use Rattle.sshkey_keypairs.specs.KeypairFormats.{sk_ecdsa_pair_format};
+    ghost use Rattle.sshkey_pairs.specs.PairFormats.{sk_ecdsa_pair_format};
 
     type Error = Error;
 
@@ -133,9 +133,9 @@ impl Decode for SkEcdsaSha2NistP256 {
 ///
 /// Fails with the errors of the public key, and then with `Length` where a string passes what is
 /// left. The key handle may have any number of bytes.
-#[tactic(auto, using(sshkey_format::proofs::Mapped::mapped, crate::specs::KeypairFormats::sk_ed25519_pair_parts_read))]
+#[tactic(auto, using(sshkey_format::proofs::Mapped::mapped, crate::specs::PairFormats::sk_ed25519_pair_parts_read))]
 impl Decode for SkEd25519 {
-    ghost use Rattle.sshkey_keypairs.specs.KeypairFormats.{sk_ed25519_pair_format};
+    ghost use Rattle.sshkey_pairs.specs.PairFormats.{sk_ed25519_pair_format};
 
     type Error = Error;
 

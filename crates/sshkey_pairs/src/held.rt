@@ -4,7 +4,7 @@ ghost use Rattle.std.specs.Prelude.{◌≡◌, ◌≤◌, ◌+◌, ◌*◌, ◌^
 ghost use Rattle.sshkey_base.specs.declared.error.Error.TheVariants as wide;
 ghost use Rattle.sshkey_base.specs.declared.encoding.Error.TheVariants as encoding;
 ghost use Rattle.sshkey_model.specs.KeyPairs.{SecurityPrivate, security_private};
-ghost use Rattle.sshkey_keypairs.specs.SecurityPairs.{held_anew, held_of};
+ghost use Rattle.sshkey_pairs.specs.SecurityPairs.{held_anew, held_of};
 
 use sshkey_base::{Bytes, Decode, Encode, Error, Reader, Result, Writer, encoding};
 use sshkey_format::Then;
@@ -64,9 +64,9 @@ impl Held {
 }
 
 /// The flags, the key handle and the reserved bytes.
-#[tactic(auto, using(sshkey_format::proofs::Mapped::mapped, crate::specs::KeypairFormats::held_parts_read))]
+#[tactic(auto, using(sshkey_format::proofs::Mapped::mapped, crate::specs::PairFormats::held_parts_read))]
 impl Decode for Held {
-    ghost use Rattle.sshkey_keypairs.specs.KeypairFormats.{held_format};
+    ghost use Rattle.sshkey_pairs.specs.PairFormats.{held_format};
 
     type Error = encoding::Error;
 

@@ -5,7 +5,7 @@ use Rattle.std.specs.declared.cmp.Ordering.TheVariants.{Less, Equal, Greater}
 use Rattle.std.specs.Ordering.{nat_cmp, ordering_then}
 use Rattle.sshkey_base.specs.Comparisons.{bytes_cmp}
 use Rattle.sshkey_base.proofs.Comparisons.{after, last_of_all}
-use Rattle.sshkey_keypairs.specs.declared.held.Held.{Held}
+use Rattle.sshkey_pairs.specs.declared.held.Held.{Held}
 
 -- three parts, the first as a list of one number
 three_parts : (f h r : Ordering) → ordering_then f (ordering_then h r) ≡ ordering_then (ordering_then f Equal) (ordering_then h (ordering_then r Equal))
