@@ -98,9 +98,6 @@ def check_under_valgrind(count, asker, made):
     judge.ask("questions", questions)
 
 
-# ---- validate_host
-
-
 # ---- the command `user`, which check.py does not have
 
 
