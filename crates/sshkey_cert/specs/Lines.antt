@@ -1,19 +1,15 @@
 -- Certificates stand in lines; what is read of a line.
-use Rattle.std.proofs.Common.{◌≢◌, ◌⊎◌, ℕ, ◌≤◌, List, length, Result, Ok, Err, arith}
+use Rattle.std.proofs.Common.{◌≢◌, ℕ, ◌≤◌, List, length, Result, Ok, Err, arith}
 use Rattle.sshkey_model.specs.CertificateNames.{certificate_name, IsCertified}
 use Rattle.sshkey_model.specs.Keys.{key_algorithm}
 use Rattle.sshkey_model.specs.Lines.{name_of_certificate, IsCertificateLine, IsNoLine}
 use Rattle.std.proofs.lemmas.Bool.{and_parts}
 use Rattle.sshkey_model.specs.Names.{Algorithm, Dsa, Ecdsa, Ed25519, Rsa, SkEcdsa, SkEd25519, Other, Nistp256, Nistp384, Nistp521, is_other_name, is_own_name}
-use Rattle.sshkey_model.specs.Reading.{whole}
 use Rattle.sshkey_model.proofs.Blobs.{certificate_blobs}
 use Rattle.sshkey_base.specs.Causes.{cause, NoMemory}
-use Rattle.sshkey_base.specs.Faults.{IsMachineFault}
 use Rattle.sshkey_base.specs.declared.error.Error.{Error}
 use Rattle.sshkey_base.proofs.CertificateTypes.{certificate_length}
 use Rattle.sshkey_public.specs.Blobs.{StandsInLines}
-use Rattle.sshkey_public.specs.LineFaults.{HasFaultOfLine}
-use Rattle.sshkey_cert.specs.CertificateFormats.{certificate_format}
 use Rattle.sshkey_cert.specs.CertificateReaders.{SpellsCertificate}
 use Rattle.sshkey_cert.specs.CertificateValues.{certificate_of, comment_of}
 use Rattle.sshkey_cert.specs.declared.certificate.Certificate.{Certificate}
@@ -27,10 +23,6 @@ ReadsCertificate text (Err e) = cause e ≢ NoMemory → IsNoLine name_of_certif
 -- some text is the line of it
 abbrev pub IsOfSomeLine : Certificate → Type 0
 IsOfSomeLine c = (text : List ℕ) × IsCertificateLine text (certificate_of c) (comment_of c)
-
--- The machine failed, or some text is a line of no certificate, and has that fault.
-abbrev pub IsOfNoFile : Error → Type 0
-IsOfNoFile e = IsMachineFault e ⊎ ((text : List ℕ) × IsNoLine name_of_certificate SpellsCertificate text × HasFaultOfLine (whole certificate_format.read) name_of_certificate SpellsCertificate text e)
 
 -- ---- names are short
 

@@ -1,10 +1,10 @@
 //! Certificates in files.
 
-ghost use Rattle.std.specs.Prelude.{IfErr, IfOk};
+ghost use Rattle.std.specs.Prelude.{IfOk};
 ghost use Rattle.sshkey_model.specs.Certificates.{normal_certificate};
 ghost use Rattle.sshkey_public.specs.PublicKeys.{WritesFile};
 ghost use Rattle.sshkey_cert.specs.CertificateValues.{certificate_of};
-ghost use Rattle.sshkey_cert.specs.Lines.{IsOfNoFile, IsOfSomeLine};
+ghost use Rattle.sshkey_cert.specs.Lines.{IsOfSomeLine};
 
 use super::Certificate;
 use sshkey_base::Result;
@@ -19,8 +19,7 @@ impl Certificate {
     /// `Io(InvalidData)` if it is not UTF-8, with `Io(Other)` if its end is not met in 2^32 reads,
     /// with `Memory`, and else as `from_openssh` does.
     pub fn read_file<R: Files>(rt: &R, alloc: Global, path: &str) -> Result<Certificate>
-        ensures line { IfOk result IsOfSomeLine }
-        ensures refused { IfErr result IsOfNoFile }
+        ensures { IfOk result IsOfSomeLine }
     {
         let text = text_of_file(rt, alloc, path)?;
         Certificate::from_openssh(alloc, text.as_str())
