@@ -14,7 +14,7 @@ ghost use Rattle.sshkey_sshsig.specs.SshSignatures.{ssh_signature_of};
 ghost use Rattle.sshkey_calls.specs.Fingerprints.{GivesDigestOf};
 ghost use Rattle.sshkey_calls.specs.Numbers.{fault_number};
 ghost use Rattle.sshkey_calls.specs.Questions.{GivesQuestion};
-ghost use Rattle.sshkey_calls.specs.SshSignatures.{IsSignerOf, NeedsSshSignature, RaisedByDigest, RaisedBySshSignature, RaisesOfDigest, TellsNoneOfDigest, TellsNoneOfSshSignature, signed_with_digest};
+ghost use Rattle.sshkey_calls.specs.SshSignatures.{FindsSshSignature, IsSignerOf, NeedsSshSignature, RaisedByDigest, RaisedBySshSignature, RaisesOfDigest, RaisesOfMessage, TellsNoneOfDigest, TellsNoneOfSshSignature, signed_with_digest};
 
 use crate::digest::Sha256Digest;
 use crate::number::{DONE, LENGTH, MEMORY, OTHER_NAMESPACE, UNSUPPORTED, error_number};
@@ -53,13 +53,9 @@ pub fn sshsig_question(
         → result ≢ 1 → result ≡ fault_number fault }
     ensures memory { result ≡ 1 → NeedsSshSignature signature.now }
 {
-    match SshSig::from_bytes(alloc, signature) {
-        Ok(read) => if is_in(&read, namespace) {
-            ask(alloc, &read, message, room, answer, signer)
-        } else {
-            OTHER_NAMESPACE
-        },
-        Err(error) => error_number(error),
+    match find_signature(alloc, signature, namespace) {
+        Ok(found) => ask(alloc, &found, message, room, answer, signer),
+        Err(number) => number,
     }
 }
 
@@ -92,13 +88,23 @@ pub fn sshsig_question_of_digest(
         → result ≢ 1 → result ≡ fault_number fault }
     ensures memory { result ≡ 1 → NeedsSshSignature signature.now }
 {
+    match find_signature(alloc, signature, namespace) {
+        Ok(found) => ask_of_digest(alloc, &found, digest, room, answer, signer),
+        Err(number) => number,
+    }
+}
+
+/// The SSH signature in that namespace that all the bytes spell, or the number to answer with.
+fn find_signature(alloc: Global, signature: &[u8], namespace: &[u8]) -> Result<SshSig, u32>
+    ensures { FindsSshSignature signature.now namespace.now result }
+{
     match SshSig::from_bytes(alloc, signature) {
         Ok(read) => if is_in(&read, namespace) {
-            ask_of_digest(alloc, &read, digest, room, answer, signer)
+            Ok(read)
         } else {
-            OTHER_NAMESPACE
+            Err(OTHER_NAMESPACE)
         },
-        Err(error) => error_number(error),
+        Err(error) => Err(error_number(error)),
     }
 }
 
@@ -119,9 +125,7 @@ fn ask(
     answer: &mut Question,
     signer: &mut Sha256Digest,
 ) -> u32
-    ensures raised { GivesQuestion (λ q. question (ssh_signature_of read.now).key
-        (signed_by (ssh_signature_of read.now) message.now)
-        (ssh_signature_of read.now).signature ≡ Some q)
+    ensures raised { GivesQuestion (RaisesOfMessage (ssh_signature_of read.now) message.now)
         result answer.old answer.new room.old room.new }
     ensures unsupported { question (ssh_signature_of read.now).key
         (signed_by (ssh_signature_of read.now) message.now)

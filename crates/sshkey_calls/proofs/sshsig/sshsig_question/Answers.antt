@@ -1,46 +1,47 @@
-use Rattle.std.proofs.Common.{inl, inr, refl}
-use Rattle.sshkey_base.specs.Causes.{cause}
+use Rattle.std.proofs.Common.{◌≡◌, None, inr, refl}
+use Rattle.sshkey_model.specs.Names.{Sha256}
+use Rattle.sshkey_model.specs.SignedMessages.{signed_by}
+use Rattle.sshkey_model.specs.SshSignatures.{SshSignature}
+use Rattle.sshkey_model.specs.Verification.{question}
 use Rattle.sshkey_sshsig.specs.SshSignatures.{ssh_signature_of}
-use Rattle.sshkey_calls.proofs.Kept.{only_memory}
-use Rattle.sshkey_calls.proofs.SshSignatures.{asked_by, digest_of_each, in_its_namespace, namespace_of_each, none_asked, none_of_each, other_namespace}
+use Rattle.sshkey_calls.specs.Fingerprints.{GivesDigestOf}
+use Rattle.sshkey_calls.specs.SshSignatures.{RaisesOfMessage}
+use Rattle.sshkey_calls.proofs.SshSignatures.{asked_in, none_asked, of_each}
 use Rattle.sshkey_calls.proofs.sshsig.sshsig_question.Goals as goal
 
-pub returns-then-is_in-clause-raised : goal.returns-then-is_in-clause-raised
-returns-then-is_in-clause-raised c = asked_by (ssh_signature_of c.in-Ok.read) c.args.signature.now c.args.namespace.now c.args.message.now c.in-Ok.ensures.accepts.spelled _ _ _ _ _ (c.is_in.ensures.0 c.if-is_in.true) c.ask.ensures.raised
-
-pub returns-then-is_in-clause-unsupported : goal.returns-then-is_in-clause-unsupported
-returns-then-is_in-clause-unsupported c g spelled _ none = c.ask.ensures.unsupported (none_of_each (ssh_signature_of c.in-Ok.read) c.args.signature.now c.args.namespace.now c.args.message.now c.in-Ok.ensures.accepts.spelled c.ask.result c.args.answer.now c.ask.new.answer c.args.room.now c.ask.new.room g spelled none)
-
-pub returns-then-is_in-clause-signer : goal.returns-then-is_in-clause-signer
-returns-then-is_in-clause-signer c zero_ = digest_of_each (ssh_signature_of c.in-Ok.read) c.args.signature.now c.args.namespace.now c.args.message.now c.in-Ok.ensures.accepts.spelled c.ask.result c.args.answer.now c.ask.new.answer c.args.room.now c.ask.new.room _ (c.ask.ensures.signer zero_)
-
-pub returns-then-is_in-clause-namespace : goal.returns-then-is_in-clause-namespace
-returns-then-is_in-clause-namespace c g spelled other _ = absurd (in_its_namespace (ssh_signature_of c.in-Ok.read) c.args.signature.now c.args.namespace.now c.args.message.now c.in-Ok.ensures.accepts.spelled c.ask.result c.args.answer.now c.ask.new.answer c.args.room.now c.ask.new.room (c.is_in.ensures.0 c.if-is_in.true) g spelled other)
-
 pub returns-in-Ok-clause-raised : goal.returns-in-Ok-clause-raised
-returns-in-Ok-clause-raised c = other_namespace (ssh_signature_of c.in-Ok.read) c.args.signature.now c.args.namespace.now c.args.message.now c.in-Ok.ensures.accepts.spelled _ _ _ _ _ (refl, refl) (λ e. cc e) (λ e. cc e) (λ same. let yes_ = c.is_in.ensures.1 same in cc (yes_, c.if-is_in.false))
+returns-in-Ok-clause-raised c = asked_in (λ f. RaisesOfMessage f c.args.message.now) _ _ _ _ _ _ _ (ssh_signature_of c.in-Ok.found) c.in-Ok.ensures c.ask.ensures.raised
 
 pub returns-in-Ok-clause-unsupported : goal.returns-in-Ok-clause-unsupported
-returns-in-Ok-clause-unsupported c g spelled same _ _ =
-    let yes_ = c.is_in.ensures.1 (namespace_of_each (ssh_signature_of c.in-Ok.read) c.args.signature.now c.args.namespace.now g c.in-Ok.ensures.accepts.spelled spelled same) in
-    cc (yes_, c.if-is_in.false)
+returns-in-Ok-clause-unsupported c g spelled _ none = c.ask.ensures.unsupported
+    (of_each (λ (f : SshSignature). question f.key (signed_by f c.args.message.now) f.signature ≡ None) g (ssh_signature_of c.in-Ok.found) _ spelled c.in-Ok.ensures.spelled none)
 
-pub returns-clause-unsupported : goal.returns-clause-unsupported
-returns-clause-unsupported c g spelled _ _ not_memory = absurd (c.in-Err.ensures.accepts (λ memory. not_memory (c.error_number.ensures.memory memory)) refl g spelled)
+pub returns-in-Ok-clause-signer : goal.returns-in-Ok-clause-signer
+returns-in-Ok-clause-signer c zero_ g spelled = of_each (λ (f : SshSignature). GivesDigestOf Sha256 f.key c.ask.new.signer.bytes) (ssh_signature_of c.in-Ok.found) g _ c.in-Ok.ensures.spelled spelled (c.ask.ensures.signer zero_)
+
+pub returns-in-Ok-clause-namespace : goal.returns-in-Ok-clause-namespace
+returns-in-Ok-clause-namespace c g spelled other _ = absurd (other (of_each (λ (f : SshSignature). f.namespace ≡ c.args.namespace.now) (ssh_signature_of c.in-Ok.found) g _ c.in-Ok.ensures.spelled spelled c.in-Ok.ensures.in_namespace))
+
+pub returns-in-Ok-clause-fault : goal.returns-in-Ok-clause-fault
+returns-in-Ok-clause-fault c fault is _ = absurd (cc (is, c.in-Ok.ensures.read))
+
+pub returns-in-Ok-clause-memory : goal.returns-in-Ok-clause-memory
+returns-in-Ok-clause-memory c _ = inr (ssh_signature_of c.in-Ok.found, c.in-Ok.ensures.spelled)
 
 pub returns-clause-raised : goal.returns-clause-raised
-returns-clause-raised c = none_asked c.args.signature.now c.args.namespace.now c.args.message.now _ _ _ _ _ (refl, refl) c.error_number.ensures.some c.error_number.ensures.apart (λ not_memory. c.in-Err.ensures.accepts (λ memory. not_memory (c.error_number.ensures.memory memory)) refl)
+returns-clause-raised c = none_asked (λ f. RaisesOfMessage f c.args.message.now) _ _ _ _ _ _ _ (refl, refl) c.in-Err.ensures
+
+pub returns-clause-unsupported : goal.returns-clause-unsupported
+returns-clause-unsupported c g spelled same _ not_memory = absurd ((c.in-Err.ensures.other not_memory g spelled).0 same)
+
+pub returns-clause-signer : goal.returns-clause-signer
+returns-clause-signer c zero_ = absurd (c.in-Err.ensures.some zero_)
 
 pub returns-clause-namespace : goal.returns-clause-namespace
-returns-clause-namespace c g spelled _ not_memory = absurd (c.in-Err.ensures.accepts (λ memory. not_memory (c.error_number.ensures.memory memory)) refl g spelled)
+returns-clause-namespace c g spelled _ not_memory = (c.in-Err.ensures.other not_memory g spelled).1
 
 pub returns-clause-fault : goal.returns-clause-fault
-returns-clause-fault c fault is not_memory =
-    let met = c.in-Err.ensures.gives.fault (λ memory. not_memory (c.error_number.ensures.memory memory)) refl in
-    c.error_number.ensures.fault fault (rw is at met)
-
-pub returns-then-is_in-clause-memory : goal.returns-then-is_in-clause-memory
-returns-then-is_in-clause-memory c _ = inr (ssh_signature_of c.in-Ok.read, c.in-Ok.ensures.accepts.spelled)
+returns-clause-fault c fault is not_memory = c.in-Err.ensures.fault not_memory fault is
 
 pub returns-clause-memory : goal.returns-clause-memory
-returns-clause-memory c one = inl (c.in-Err.ensures.asks (only_memory (cause c.in-Err.error) _ c.error_number.ensures.range one) refl)
+returns-clause-memory c = c.in-Err.ensures.memory
