@@ -10,7 +10,7 @@ ghost use Rattle.sshkey_testing.specs.Doubles.{is_asked};
 
 use rand_core::utils::NextWord;
 use rand_core::{CryptoRng, Rng, utils};
-use sshkey_base::{Algorithm, Error, Result};
+use sshkey_base::{Algorithm, Result};
 use sshkey_keys::{KeyData, RawVerifier, Signature, SigningKey};
 use sshkey_kinds::Ed25519PublicKey;
 use std::alloc::{AllocError, Global};
@@ -157,49 +157,6 @@ impl SigningKey for Fixed {
     /// 64 bytes 00 under Ed25519, whatever the message. Fails only when out of memory.
     fn try_sign(&self, alloc: Global, _: &[u8]) -> Result<Signature> {
         Signature::new(Algorithm::Ed25519, vec![in alloc; 0; 64]?)
-    }
-}
-
-/// A signer that signs nothing, as a device that is not there: every message fails with `Crypto`.
-#[derive(Debug, Drop)]
-pub struct Absent {
-    key: KeyData,
-    raw: RefuseAll,
-}
-
-impl Absent {
-    /// The signer with that public key.
-    pub fn new(key: KeyData) -> Absent
-        ensures { result.key ≡ key }
-    {
-        Absent {
-            key,
-            raw: RefuseAll,
-        }
-    }
-}
-
-impl SigningKey for Absent {
-    type Raw = RefuseAll;
-
-    ghost raw_of = { λ s. s.raw };
-
-    ghost public_of = { λ s. s.key };
-
-    ghost refuses = { λ _ _ e. e ≡ wide.Crypto };
-
-    ghost permits = { λ _ _. Unit {0} };
-
-    fn raw(&self) -> &RefuseAll {
-        &self.raw
-    }
-
-    fn public_key(&self) -> &KeyData {
-        &self.key
-    }
-
-    fn try_sign(&self, _: Global, _: &[u8]) -> Result<Signature> {
-        Err(Error::Crypto)
     }
 }
 

@@ -6,6 +6,6 @@ mod doubles;
 mod faulty;
 mod tally;
 
-pub use doubles::{Absent, AcceptAll, Count, Fixed, Only, OutOfMemory, RefuseAll};
+pub use doubles::{AcceptAll, Count, Fixed, Only, OutOfMemory, RefuseAll};
 pub use faulty::Faulty;
 pub use tally::Tally;

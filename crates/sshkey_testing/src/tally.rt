@@ -9,7 +9,8 @@ use sshkey_keys::{KeyData, Signature, SigningKey};
 use std::alloc::Global;
 use std::cell::Cell;
 
-/// A signer that signs nothing, as `Absent`, and counts how often it is asked to.
+/// A signer that signs nothing, as a device that is not there: every message fails with `Crypto`.
+/// It counts how often it is asked.
 #[derive(Drop)]
 pub struct Tally {
     key: KeyData,

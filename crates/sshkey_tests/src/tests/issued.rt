@@ -8,7 +8,7 @@ use sshkey_cert::Certificate;
 use sshkey_keys::{Fingerprint, KeyData};
 use sshkey_kinds::Ed25519PublicKey;
 use sshkey_options::{FOREVER, MAX_SECS};
-use sshkey_testing::{Absent, AcceptAll, Fixed, RefuseAll, Tally};
+use sshkey_testing::{AcceptAll, Fixed, RefuseAll, Tally};
 use std::alloc::Global;
 
 /// The bytes of an Ed25519 key that ssh-keygen made.
@@ -96,13 +96,13 @@ fn one_is_issued_down_to_the_byte(rt: HostRuntime) {
 }
 
 /// What a signer that refuses makes of the builder of the first lines.
-fn by_absent_signer(alloc: Global) -> Result<Certificate, Error> {
-    for_all(builder(alloc, 10, 20)?)?.sign(alloc, &Absent::new(KEY))
+fn by_refusing_signer(alloc: Global) -> Result<Certificate, Error> {
+    for_all(builder(alloc, 10, 20)?)?.sign(alloc, &Tally::new(KEY))
 }
 
 #[test]
 fn a_signer_that_refuses_is_handed_on(rt: HostRuntime) {
-    assert!(rt; is_wanted(by_absent_signer(rt.alloc()).err(), Some(Error::Crypto)));
+    assert!(rt; is_wanted(by_refusing_signer(rt.alloc()).err(), Some(Error::Crypto)));
 }
 
 /// The fingerprint of `KEY`.

@@ -4,7 +4,7 @@ use super::signed_files::{MESSAGE, SIGNED, SIGNED_FILES, SignedFile};
 use super::support::{is_text, is_wanted};
 use ssh_key::public::{Ed25519PublicKey, KeyData, SkEd25519};
 use ssh_key::{Algorithm, Error, HashAlg, PublicKey, Result, Signature, SshSig};
-use sshkey_testing::{Absent, AcceptAll, Fixed, Only, OutOfMemory, RefuseAll};
+use sshkey_testing::{AcceptAll, Fixed, Only, OutOfMemory, RefuseAll, Tally};
 use std::alloc::Global;
 
 /// An Ed25519 key.
@@ -165,7 +165,7 @@ fn files_that_openssh_signed_are_verified(rt: HostRuntime) {
 
 /// A signer that refuses makes no signature, and its error is handed on.
 fn is_handed_on(alloc: Global) -> bool {
-    let signer = Absent::new(KeyData::from(Ed25519PublicKey(K)));
+    let signer = Tally::new(KeyData::from(Ed25519PublicKey(K)));
     is_wanted(
         SshSig::sign(alloc, &signer, "file", HashAlg::Sha256, b"").err(),
         Some(Error::Crypto),
