@@ -178,6 +178,7 @@ impl SshSig {
             message,
         )
     }
+
     /// What `signed_bytes` returns for a message with that digest by the signature's own hash.
     ///
     /// Fails with `Length` exactly if the digest has another length than `HashAlg::digest_size`, or
