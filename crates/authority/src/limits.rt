@@ -10,7 +10,7 @@ use ssh_key::certificate::{Field, MAX_SECS};
 use ssh_key::{Error, Result};
 
 /// How many principals sshd reads of a certificate.
-const MOST: usize = 256;
+const MOST_PRINCIPALS: usize = 256;
 
 /// What may be asked for.
 #[derive(Debug, Drop)]
@@ -68,7 +68,7 @@ impl Limits {
         if names.is_empty() {
             return false;
         }
-        if names.len() > MOST {
+        if names.len() > MOST_PRINCIPALS {
             return false;
         }
         allows_each(&self.principals, names)

@@ -5,7 +5,7 @@ ghost use Rattle.ssh_key.specs.model.Lines.{IsWithout};
 ghost use Rattle.login_policy.specs.Principals.{AreFor, AreListed};
 
 /// How many principals sshd reads of a certificate.
-const MOST: usize = 256;
+const MOST_PRINCIPALS: usize = 256;
 
 /// Whether the user has a name, and the principals are such as sshd reads. Does not allocate.
 pub(crate) fn are_for(names: &[String], user: &str) -> bool
@@ -24,7 +24,7 @@ fn are_listed(names: &[String]) -> bool
     if names.is_empty() {
         return false;
     }
-    if names.len() > MOST {
+    if names.len() > MOST_PRINCIPALS {
         return false;
     }
     are_without_zero(names)
