@@ -1,13 +1,19 @@
 -- What is said of a key and of the key that signed it.
-use Rattle.std.proofs.Common.{◌≡◌, ℕ, List, inl, inr, refl, subst}
+use Rattle.std.proofs.Common.{◌≡◌, ◌≢◌, ℕ, List, Ok, Err, inl, inr, refl, subst}
 use Rattle.ssh_key.specs.entries.HostVerdicts.{HidesSome, IsAuthority, IsRevoked}
 use Rattle.ssh_key.specs.known_hosts.Verdicts.{IsVerdict}
+use Rattle.ssh_key.specs.model.Certificates.{Certificate}
 use Rattle.ssh_key.specs.model.Keys.{HasKeyPlaces, IsKey, Key, key, normal_key}
 use Rattle.ssh_key.specs.model.Laws.{NormalFits}
 use Rattle.ssh_key.specs.model.Parts.{BoxesFit}
+use Rattle.ssh_key.specs.types.Error.{Error}
 use Rattle.ssh_key.specs.types.known_hosts.Verdict.{Verdict}
 use Rattle.ssh_key.specs.types.known_hosts.Verdict.TheVariants.{Changed, Revoked, Trusted, Unknown, Unreadable}
+use Rattle.host_keys.specs.Answers.{IsWhy, answer_of}
 use Rattle.host_keys.specs.Hosts.{IsEitherRevoked, IsSaidOfSigned, IsVerdictOfSigned}
+use Rattle.host_keys.specs.declared.refusal.Refusal.{Refusal}
+use Rattle.host_keys.specs.declared.refusal.Refusal.TheVariants as refusal
+use Rattle.host_keys.proofs.Said.{is_trusted, refused, why_refused}
 
 module _ (hmac : List ℕ → List ℕ → List ℕ) (name : List ℕ) (lines : List (List ℕ)) where
   pub revoked : (k : Key) (v : Verdict) → v ≡ Revoked → IsVerdict hmac name k lines v → IsRevoked hmac name k lines
@@ -68,7 +74,17 @@ pub signer_fits : (hmac : List ℕ → List ℕ → List ℕ) (host : List ℕ) 
 signer_fits hmac host port k signer lines fits (inl s) = authority_fits hmac _ lines signer fits s.1.2
 signer_fits hmac host port k signer lines fits (inr s) = authority_fits hmac _ lines signer fits s.1.2
 
--- the same of the keys that a certificate names
-pub said_of_both : (hmac : List ℕ → List ℕ → List ℕ) (host : List ℕ) (port : ℕ) (k signer j by : Key) (lines : List (List ℕ)) (v : Verdict) → k ≡ j → signer ≡ by → IsSaidOfSigned hmac host port k signer lines v → IsSaidOfSigned hmac host port j by lines v
-said_of_both hmac host port k signer j by lines v own signed said =
-    subst (λ (s : Key). IsSaidOfSigned hmac host port j s lines v) signed (subst (λ (x : Key). IsSaidOfSigned hmac host port x signer lines v) own said)
+-- ---- the keys that a certificate names
+
+module _ (hmac : List ℕ → List ℕ → List ℕ) (host : List ℕ) (port : ℕ) (c : Certificate) (lines : List (List ℕ)) (k signer : Key) (v : Verdict) (own : k ≡ c.signed.key) (by : signer ≡ c.signed.signature_key) (said : IsSaidOfSigned hmac host port k signer lines v) where
+  said_of_both : IsSaidOfSigned hmac host port c.signed.key c.signed.signature_key lines v
+  said_of_both = subst (λ (s : Key). IsSaidOfSigned hmac host port c.signed.key s lines v) by (subst (λ (x : Key). IsSaidOfSigned hmac host port x signer lines v) own said)
+
+  pub refused_keys : {Also : Type 0} (e : Refusal) → answer_of v ≡ Err e → e ≢ refusal.Memory → IsSaidOfSigned hmac host port c.signed.key c.signed.signature_key lines Trusted × Also → ⊥
+  refused_keys e = refused (λ (name : List ℕ). IsVerdictOfSigned hmac name c.signed.key c.signed.signature_key lines) host port (λ name. one_verdict hmac name lines c.signed.key c.signed.signature_key) v e said_of_both
+
+  pub why_keys : (Bad : Error → Type 0) (e : Refusal) → answer_of v ≡ Err e → IsWhy (IsSaidOfSigned hmac host port c.signed.key c.signed.signature_key lines) Bad e
+  why_keys Bad e = why_refused (IsSaidOfSigned hmac host port c.signed.key c.signed.signature_key lines) Bad v e said_of_both
+
+  pub trusted_keys : (u : Unit {0}) → answer_of v ≡ Ok u → IsSaidOfSigned hmac host port c.signed.key c.signed.signature_key lines Trusted
+  trusted_keys u = is_trusted (IsSaidOfSigned hmac host port c.signed.key c.signed.signature_key lines) v u said_of_both
