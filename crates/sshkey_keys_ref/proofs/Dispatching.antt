@@ -1,5 +1,5 @@
 -- What the verifier is asked about a key and a signature that are slices.
-use Rattle.std.proofs.Common.{◌≡◌, ℕ, ◌≤◌, ◌-◌, List, [], ◌++◌, length, drop, append-nil, Bool, true, false, Some, None, Result, Ok, Err, IfOk, refl, sym, ap, subst, arith, ◌∙◌}
+use Rattle.std.proofs.Common.{◌≡◌, ℕ, ◌≤◌, ◌-◌, List, [], ◌++◌, length, drop, append-nil, Bool, ◌||◌, true, false, Option, Some, None, ◌≢◌, IsTrue, inl, Result, Ok, Err, IfOk, IfErr, refl, sym, ap, subst, arith, ◌∙◌}
 use Rattle.std.specs.Int.{w32, to_be_bytes}
 use Rattle.std.proofs.lemmas.List.{take-append-drop, length-append}
 use Rattle.sshkey_model.specs.Parts.{flat}
@@ -15,7 +15,7 @@ use Rattle.sshkey_base.proofs.Accepted.{spelled_whole}
 use Rattle.sshkey_keys.specs.KeyKinds.{is_dsa, is_rsa, is_opaque}
 use Rattle.sshkey_keys.specs.KeyReaders.{key_grammar}
 use Rattle.sshkey_keys.specs.SignatureReaders.{SpellsSignature, signature_grammar}
-use Rattle.sshkey_keys_ref.specs.Dispatch.{Dispatches, DispatchesBytes, DispatchesKey, DispatchesKind, Answered, IsBlobIn, signature_by}
+use Rattle.sshkey_keys_ref.specs.Dispatch.{AsksBytes, AsksKey, Dispatches, DispatchesBytes, DispatchesKey, DispatchesKind, Answered, IsBlobIn, RunsOutFor, signature_by}
 use Rattle.sshkey_keys_ref.proofs.PlainHeads.{broken, whole_is}
 
 -- ---- the bytes of a signature
@@ -46,9 +46,10 @@ blob_behind a b x e = go a (((signature_blob_reads a).takes b x [] e).2)
 
 -- ---- from parts to the whole
 
-pub dispatched : {E : Type 0} (accepts : Question → Bool) (key m s behind blob : List ℕ) (a : Algorithm) (r : Result Bool E) → label_at algorithm_from s ≡ Ok (a, behind) → IsBlobIn behind blob → DispatchesKey accepts key m a blob r → DispatchesBytes accepts key m s r
+-- what is said of the parts of a signature is said of it
+from_parts : (Says : Signature → Type 0) (s behind blob : List ℕ) (a : Algorithm) (g : Signature) → label_at algorithm_from s ≡ Ok (a, behind) → IsBlobIn behind blob → SpellsSignature g s → (IsSignatureBlob a blob → Says (signature_by a blob)) → Says g
 unfolding signature_at algorithm_at label_at
-dispatched accepts key m s behind blob a r named holds answered k g ks gs =
+from_parts Says s behind blob a g named holds gs said =
     let read = whole_is signature_at s g (spelled_whole signature_grammar s g gs) in
     let x = bind_ok (signature_blob_at a behind) (λ y. Ok (signature_by a y.0, y.1)) (g, []) (rw named at read) in
     let both = ok_is (signature_by a x.0.0, x.0.1) (g, []) x.2 in
@@ -56,8 +57,13 @@ dispatched accepts key m s behind blob a r named holds answered k g ks gs =
     let ends : x.0.1 ≡ [] = ap (λ (z : Signature × List ℕ). z.1) both in
     let blob_is : blob ≡ x.0.0 = holds a x.0.0 (x.1 ∙ ap (λ (l : List ℕ). Ok (x.0.0, l)) ends) in
     let same : signature_by a blob ≡ g = ap (signature_by a) blob_is ∙ is in
-    let well = subst (λ (z : Signature). IsSignatureBlob z.algorithm z.blob) (sym same) gs.is.1 in
-    subst (λ (z : Signature). Dispatches accepts k m z r) same (answered k (spelled_whole key_grammar key k ks) well)
+    subst Says same (said (subst (λ (z : Signature). IsSignatureBlob z.algorithm z.blob) (sym same) gs.is.1))
+
+pub dispatched : {E : Type 0} (accepts : Question → Bool) (key m s behind blob : List ℕ) (a : Algorithm) (r : Result Bool E) → label_at algorithm_from s ≡ Ok (a, behind) → IsBlobIn behind blob → DispatchesKey accepts key m a blob r → DispatchesBytes accepts key m s r
+dispatched accepts key m s behind blob a r named holds answered k g ks gs = from_parts (λ z. Dispatches accepts k m z r) s behind blob a g named holds gs (answered k (spelled_whole key_grammar key k ks))
+
+pub asked_bytes : {E : Type 0} (runs_out : Question → Type 0) (key m s behind blob : List ℕ) (a : Algorithm) (r : Result Bool E) → label_at algorithm_from s ≡ Ok (a, behind) → IsBlobIn behind blob → AsksKey runs_out key m a blob r → AsksBytes runs_out key m s r
+asked_bytes runs_out key m s behind blob a r named holds asked k g ks gs = from_parts (λ z. IfErr r (λ _. RunsOutFor runs_out k (question k m z))) s behind blob a g named holds gs (asked k (spelled_whole key_grammar key k ks))
 
 pub no_signature : {X : Type 0} (s : List ℕ) (f : Fault) (g : Signature) → label_at algorithm_from s ≡ Err f → SpellsSignature g s → X
 unfolding signature_at algorithm_at label_at
@@ -90,6 +96,25 @@ rsa_asked {E} accepts a hash key m blob r under h k e is = rw under (go k r (rw 
     go (SkEcdsa d) r h is = absurd (cc is)
     go (SkEd25519 d) r h is = absurd (cc is)
     go (Opaque n d) r h is = absurd (cc is)
+
+-- memory may run out for such a key
+pub made_asks : {E : Type 0} (accepts : Question → Bool) (runs_out : Question → Type 0) (k : Key) (m : List ℕ) (g : Signature) (r : Result Bool E) → IsTrue (is_dsa k || is_rsa k) → Dispatches accepts k m g r → IfErr r (λ _. RunsOutFor runs_out k (question k m g))
+made_asks accepts runs_out k m g (Ok x) is h = tt
+made_asks accepts runs_out k m g (Err e) is h = go (question k m g) h
+  where
+    go : (q : Option Question) → q ≢ None → RunsOutFor runs_out k q
+    go None other = absurd (other refl)
+    go (Some q) other = inl is
+
+pub dsa_made : (k : Key) → is_dsa k ≡ true → IsTrue (is_dsa k || is_rsa k)
+dsa_made k is = rw is refl
+
+pub rsa_made : (k : Key) → is_rsa k ≡ true → IsTrue (is_dsa k || is_rsa k)
+rsa_made k is = rw is (go (is_dsa k))
+  where
+    go : (b : Bool) → IsTrue (b || true)
+    go true = refl
+    go false = refl
 
 -- nothing is asked under a private-use name
 pub never_asked : (accepts : Question → Bool) (a : Algorithm) (k : Key) (m blob : List ℕ) → is_opaque k ≡ true → false ≡ is_yes accepts (question k m (signature_by a blob))

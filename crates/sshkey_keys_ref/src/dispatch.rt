@@ -1,12 +1,13 @@
 //! Which question the caller's verifier is asked about a signature, without a copy of either.
 
-ghost use Rattle.std.specs.Prelude.{◌≡◌, ◌↔◌, true, IfOk, IsTrue};
+ghost use Rattle.std.specs.Prelude.{◌≡◌, ◌↔◌, true, IfOk, IfErr, IsTrue};
 ghost use Rattle.sshkey_base.specs.Names.{algorithm_of};
 ghost use Rattle.sshkey_model.specs.Signatures.{IsSignatureBlob};
+ghost use Rattle.sshkey_model.specs.Verification.{question};
 ghost use Rattle.sshkey_kinds.specs.EcdsaPublicKey.{ecdsa_key_of};
 ghost use Rattle.sshkey_kinds.specs.Kinds.{ed25519_of};
 ghost use Rattle.sshkey_keys.specs.KeyKinds.{is_dsa, is_rsa};
-ghost use Rattle.sshkey_keys_ref.specs.Dispatch.{Answered, AreAccepted, Dispatches, DispatchesBytes, DispatchesKey, DispatchesKind, IsAskedItself, IsBlobIn, IsOfKind, signature_by};
+ghost use Rattle.sshkey_keys_ref.specs.Dispatch.{Answered, AreAccepted, AsksBytes, AsksKey, Dispatches, DispatchesBytes, DispatchesKey, DispatchesKind, IsAskedItself, IsBlobIn, IsOfKind, RunsOutFor, signature_by};
 ghost use Rattle.sshkey_keys_ref.specs.KeyDataRef.{key_bytes};
 ghost use Rattle.sshkey_keys_ref.specs.Kinds.{sk_ecdsa_of, sk_ed25519_of};
 ghost use Rattle.sshkey_keys_ref.specs.NameRef.{named_of};
@@ -50,6 +51,8 @@ impl KeyDataRef<'_> {
             (signature_bytes signature.now) result }
         ensures exactly { IfOk result (λ yes. IsTrue yes ↔ AreAccepted (V.accepts verifier.now)
             (key_bytes self.now) message.now (signature_bytes signature.now)) }
+        ensures asks { AsksBytes (V.runs_out verifier.now) (key_bytes self.now) message.now
+            (signature_bytes signature.now) result }
     {
         let mut behind_name = signature.as_bytes();
         match take_name(&mut behind_name) {
@@ -68,7 +71,9 @@ impl KeyDataRef<'_> {
         verifier: &V,
     ) -> std::result::Result<bool, AllocError>
         requires { IsSignatureBlob (named_of name.now) blob.now }
-        ensures { DispatchesKey (V.accepts verifier.now) (key_bytes self.now) message.now
+        ensures answer { DispatchesKey (V.accepts verifier.now) (key_bytes self.now) message.now
+            (named_of name.now) blob.now result }
+        ensures asks { AsksKey (V.runs_out verifier.now) (key_bytes self.now) message.now
             (named_of name.now) blob.now result }
     {
         match name {
@@ -87,7 +92,9 @@ impl KeyDataRef<'_> {
         verifier: &V,
     ) -> std::result::Result<bool, AllocError>
         requires { IsSignatureBlob (algorithm_of algorithm.now) blob.now }
-        ensures { DispatchesKey (V.accepts verifier.now) (key_bytes self.now) message.now
+        ensures answer { DispatchesKey (V.accepts verifier.now) (key_bytes self.now) message.now
+            (algorithm_of algorithm.now) blob.now result }
+        ensures asks { AsksKey (V.runs_out verifier.now) (key_bytes self.now) message.now
             (algorithm_of algorithm.now) blob.now result }
     {
         match key_in(self.as_bytes()) {
@@ -184,8 +191,11 @@ fn ask_ecdsa<V: RawVerifier>(
     verifier: &V,
 ) -> std::result::Result<bool, AllocError>
     requires { IsSignatureBlob (algorithm_of algorithm.now) blob.now }
-    ensures { Dispatches (V.accepts verifier.now) (ecdsa_key_of key) message.now
+    ensures answer { Dispatches (V.accepts verifier.now) (ecdsa_key_of key) message.now
         (signature_by (algorithm_of algorithm.now) blob.now) result }
+    ensures asks { IfErr result (λ _. RunsOutFor (V.runs_out verifier.now) (ecdsa_key_of key)
+        (question (ecdsa_key_of key) message.now
+        (signature_by (algorithm_of algorithm.now) blob.now))) }
 {
     if !matches!(algorithm, Algorithm::Ecdsa { curve } if key.is_on(*curve)) {
         return Ok(false);
@@ -203,8 +213,11 @@ fn ask_ed25519<V: RawVerifier>(
     verifier: &V,
 ) -> std::result::Result<bool, AllocError>
     requires { IsSignatureBlob (algorithm_of algorithm.now) blob.now }
-    ensures { Dispatches (V.accepts verifier.now) (ed25519_of key) message.now
+    ensures answer { Dispatches (V.accepts verifier.now) (ed25519_of key) message.now
         (signature_by (algorithm_of algorithm.now) blob.now) result }
+    ensures asks { IfErr result (λ _. RunsOutFor (V.runs_out verifier.now) (ed25519_of key)
+        (question (ed25519_of key) message.now
+        (signature_by (algorithm_of algorithm.now) blob.now))) }
 {
     if !matches!(algorithm, Algorithm::Ed25519) {
         return Ok(false);
@@ -222,8 +235,11 @@ fn ask_sk_ecdsa<V: RawVerifier>(
     verifier: &V,
 ) -> std::result::Result<bool, AllocError>
     requires { IsSignatureBlob (algorithm_of algorithm.now) blob.now }
-    ensures { Dispatches (V.accepts verifier.now) (sk_ecdsa_of key.now) message.now
+    ensures answer { Dispatches (V.accepts verifier.now) (sk_ecdsa_of key.now) message.now
         (signature_by (algorithm_of algorithm.now) blob.now) result }
+    ensures asks { IfErr result (λ _. RunsOutFor (V.runs_out verifier.now) (sk_ecdsa_of key.now)
+        (question (sk_ecdsa_of key.now) message.now
+        (signature_by (algorithm_of algorithm.now) blob.now))) }
 {
     if !matches!(algorithm, Algorithm::SkEcdsaSha2NistP256) {
         return Ok(false);
@@ -245,8 +261,11 @@ fn ask_sk_ed25519<V: RawVerifier>(
     verifier: &V,
 ) -> std::result::Result<bool, AllocError>
     requires { IsSignatureBlob (algorithm_of algorithm.now) blob.now }
-    ensures { Dispatches (V.accepts verifier.now) (sk_ed25519_of key.now) message.now
+    ensures answer { Dispatches (V.accepts verifier.now) (sk_ed25519_of key.now) message.now
         (signature_by (algorithm_of algorithm.now) blob.now) result }
+    ensures asks { IfErr result (λ _. RunsOutFor (V.runs_out verifier.now) (sk_ed25519_of key.now)
+        (question (sk_ed25519_of key.now) message.now
+        (signature_by (algorithm_of algorithm.now) blob.now))) }
 {
     if !matches!(algorithm, Algorithm::SkEd25519) {
         return Ok(false);
