@@ -1,7 +1,9 @@
 -- What contracts see of a certificate that is a slice.
-use Rattle.std.specs.Prelude.{◌≢◌, ◌⊎◌, ℕ, List, None}
+use Rattle.std.specs.Prelude.{◌≢◌, ◌⊎◌, ℕ, List}
 use Rattle.sshkey_model.specs.Certificates.{Certificate, CertificateChoices, plain_choices}
+use Rattle.sshkey_model.specs.Verification.{Question}
 use Rattle.sshkey_cert.specs.Questions.{certificate_question}
+use Rattle.sshkey_keys_ref.specs.Dispatch.{RunsOutFor}
 use Rattle.sshkey_cert_ref.specs.Spelled.{spelled_in}
 use Rattle.sshkey_cert_ref.specs.declared.certificate_ref.CertificateRef.{CertificateRef}
 
@@ -21,6 +23,7 @@ choices_of r = (spelled_in r.bytes.now).1
 abbrev pub IsUnplain : CertificateRef → Type 0
 IsUnplain r = choices_of r ≢ plain_choices (certificate_of r).signed
 
--- Asking about its signature needs memory: what was signed is made anew, or a verifier is asked.
-abbrev pub NeedsAnswer : CertificateRef → Type 0
-NeedsAnswer r = IsUnplain r ⊎ (certificate_question (certificate_of r) ≢ None)
+-- Asking about its signature needs memory: what was signed is made anew, or a verifier is asked that
+-- runs out of it, or under a key of DSA or RSA.
+abbrev pub NeedsAnswer : (Question → Type 0) → CertificateRef → Type 0
+NeedsAnswer runs_out r = IsUnplain r ⊎ RunsOutFor runs_out (certificate_of r).signed.signature_key (certificate_question (certificate_of r))

@@ -25,7 +25,7 @@ impl CertificateRef<'_> {
     ) -> Result<Option<CertificateRefusal>>
         ensures first { FindsFirst (first_refusal (V.accepts verifier.now)
             (fingerprints_of fingerprints.now) unix_timestamp (certificate_of self.now)) result }
-        ensures asks { IfErr result (λ _. NeedsAnswer self.now) }
+        ensures asks { IfErr result (λ _. NeedsAnswer (V.runs_out verifier.now) self.now) }
     {
         if !self.is_signed(alloc, verifier)? {
             return Ok(Some(CertificateRefusal::Signature));
@@ -48,7 +48,7 @@ impl CertificateRef<'_> {
         ensures first { FindsFirst (first_refusal_for (V.accepts verifier.now)
             (fingerprints_of fingerprints.now) unix_timestamp principal.now
             (certificate_of self.now)) result }
-        ensures asks { IfErr result (λ _. NeedsAnswer self.now) }
+        ensures asks { IfErr result (λ _. NeedsAnswer (V.runs_out verifier.now) self.now) }
     {
         let first = self.first_refusal(alloc, unix_timestamp, fingerprints, verifier)?;
         Ok(refusal_with_principal(first, self.allows_principal(principal)))

@@ -29,7 +29,8 @@ impl CertificateRef<'_> {
             (IsSigned (V.accepts verifier.now) (certificate_of self.now)) }
         ensures refused { IfErr result
             (IsUnsigned (V.accepts verifier.now) (certificate_of self.now)) }
-        ensures memory { IfErr result (λ e. e ≡ wide.Memory → NeedsAnswer self.now) }
+        ensures memory { IfErr result
+            (λ e. e ≡ wide.Memory → NeedsAnswer (V.runs_out verifier.now) self.now) }
     {
         if !self.is_signed(alloc, verifier)? {
             return Err(Error::CertificateValidation);
@@ -57,7 +58,8 @@ impl CertificateRef<'_> {
     ) -> Result<()>
         ensures exactly { Judges (V.accepts verifier.now) fingerprints.now unix_timestamp
             (certificate_of self.now) result }
-        ensures memory { IfErr result (λ e. e ≡ wide.Memory → NeedsAnswer self.now) }
+        ensures memory { IfErr result
+            (λ e. e ≡ wide.Memory → NeedsAnswer (V.runs_out verifier.now) self.now) }
     {
         result_of_refusal(self.first_refusal(alloc, unix_timestamp, fingerprints, verifier)?)
     }
@@ -90,7 +92,8 @@ impl CertificateRef<'_> {
     ) -> Result<()>
         ensures exactly { JudgesFor (V.accepts verifier.now) fingerprints.now unix_timestamp
             principal.now (certificate_of self.now) result }
-        ensures memory { IfErr result (λ e. e ≡ wide.Memory → NeedsAnswer self.now) }
+        ensures memory { IfErr result
+            (λ e. e ≡ wide.Memory → NeedsAnswer (V.runs_out verifier.now) self.now) }
     {
         result_of_refusal(self.first_refusal_for(
             alloc,
@@ -106,7 +109,7 @@ impl CertificateRef<'_> {
         ensures yes { IfOk result
             (λ yes. yes ≡ is_signed (V.accepts verifier.now) (certificate_of self.now)) }
         ensures memory { IfErr result (λ e. e ≡ wide.Memory) }
-        ensures asks { IfErr result (λ _. NeedsAnswer self.now) }
+        ensures asks { IfErr result (λ _. NeedsAnswer (V.runs_out verifier.now) self.now) }
     {
         let message = self.message(alloc)?;
         let key = self.parts.signature_key;

@@ -23,4 +23,4 @@ returns-in_err-accepts-clause-asks g c =
     let x = spelled_in r.bytes.now in
     let s = spelled_by r.bytes.now r.form in
     let p = err_from_is_err_and c.from_residual-in_err-accepts.result c.from_residual-in_err-accepts.ensures.1 in
-    rw p.1 (inr (rw (c.deref.ensures.value, c.in_ok-message.ensures.value) at (c.in_err-accepts.ensures.answer x.0.signed.signature_key x.0.signature (signer_spells r.bytes.now x s _ r.fields.signature_key) (signature_spells r.bytes.now x s _ r.last))))
+    rw p.1 (inr (rw (c.deref.ensures.value, c.in_ok-message.ensures.value) at (c.in_err-accepts.ensures.asks x.0.signed.signature_key x.0.signature (signer_spells r.bytes.now x s _ r.fields.signature_key) (signature_spells r.bytes.now x s _ r.last))))
