@@ -28,7 +28,10 @@ pub struct Grant {
     /// counter, and byte 32 of the message that the verifier is asked about (PROTOCOL.u2f). Nothing
     /// here looks at them, and a key that is none of a device has none.
     pub touch_required: bool,
-    /// What is permitted besides. An extension that is not known is to be ignored.
+    /// What is permitted besides: a terminal by `permit-pty`; forwarding of ports, of an agent and
+    /// of X11 by `permit-port-forwarding`, `permit-agent-forwarding` and `permit-X11-forwarding`;
+    /// that the user's `~/.ssh/rc` runs by `permit-user-rc`. What has no extension here is not
+    /// permitted, and an extension that is not known is to be ignored.
     pub extensions: OptionsMap,
 }
 

@@ -20,8 +20,9 @@ use ssh_key::{Certificate, Error, Fingerprint, RawVerifier, Result};
 use std::alloc::Global;
 
 /// Lets a user in who holds the offered key, if the line has a certificate for users of just that
-/// key, which lists the user's name, is valid at that time by one of the authorities with these
-/// fingerprints, and has texts and options that sshd(8) reads (PROTOCOL.certkeys):
+/// key, which lists the user's name, is valid at that time, in seconds since 1970, by one of the
+/// authorities with these SHA-256 fingerprints (others count for nothing), and has texts and
+/// options that sshd(8) reads (PROTOCOL.certkeys):
 ///
 /// - no zero byte in the key id, a principal, or the name of an extension, and at most 256
 ///   principals;
@@ -37,7 +38,9 @@ use std::alloc::Global;
 /// principal (such a certificate lets nobody in: sshd_config(5), `TrustedUserCAKeys`), more than
 /// 256, or one with a zero byte, and if the user's name is empty, which a certificate may list; the
 /// errors of `Certificate::validate_principal_at`. Where the line is no certificate's, `Memory`
-/// means what it means of `Certificate::from_openssh`.
+/// means what it means of `Certificate::from_openssh`. `CertificateValidation` stands for a bad
+/// signature, for another authority and for a time out of the window alike: for a log
+/// `Certificate::first_refusal_for` tells which.
 ///
 /// Whoever calls it has asked the client for a signature under the offered key, and does what the
 /// grant says, the flags in a security key's signature included. The options of a line
