@@ -29,7 +29,7 @@
  *
  * In return no call keeps a pointer or hands one out, and there is no state: threads may call at
  * once. No call writes more than `room_length` bytes to a room. All that a call tells lies in the
- * room, from its front on, one part behind the other in the order in which the answer names them,
+ * room, from its front on, one part after the other in the order in which the answer names them,
  * and a part is a place and a number of bytes. Where the room is too short, the call returns
  * SSHKEY_ROOM, leaves the room as it was, and sets `length` to the number of bytes that are needed,
  * so a room of 0 bytes asks for that number; do not rely on the other fields of `*answer` then.
@@ -71,7 +71,7 @@ enum {
   SSHKEY_LENGTH = 13,             /* a stated length passes the bytes, or is not the one wanted; a
                                      word of a line is missing; a digest is not as long as one by
                                      the signature's hash */
-  SSHKEY_TRAILING_DATA = 14,      /* bytes stand behind the end */
+  SSHKEY_TRAILING_DATA = 14,      /* bytes follow the end */
   SSHKEY_FORMAT = 15,             /* a value does not keep the form of its kind */
   SSHKEY_ALGORITHM_UNKNOWN = 16,  /* two names differ that have to be one, or a point begins with 00
                                      or 05 */
@@ -145,7 +145,7 @@ typedef struct {
   uint8_t bytes[64];
 } sshkey_sha512;
 
-/* How a signature is made. A key's blob (RFC 4253, section 6.6) is strings, one behind the other:
+/* How a signature is made. A key's blob (RFC 4253, section 6.6) is strings, one after the other:
  * four bytes of length, big-endian, and so many bytes. The first is the name of the key's type. So
  * are the signatures of ECDSA. sshkey_next_string goes over them.
  *
@@ -155,16 +155,16 @@ typedef struct {
  * its curve, and may be compressed, which OpenSSH does not read: say no to one that does not begin
  * with 04, or else a key has two fingerprints. */
 enum {
-  /* with SHA-1; behind the name p, q, g, y; signature: r and s, unsigned, 20 bytes each */
+  /* with SHA-1; after the name p, q, g, y; signature: r and s, unsigned, 20 bytes each */
   SSHKEY_ASK_DSA = 1,
-  /* ECDSA; behind the name the curve's name, and the point as in SEC 1; signature: two strings, r
+  /* ECDSA; after the name the curve's name, and the point as in SEC 1; signature: two strings, r
    * and s */
   SSHKEY_ASK_P256 = 2, /* with SHA-256 */
   SSHKEY_ASK_P384 = 3, /* with SHA-384 */
   SSHKEY_ASK_P521 = 4, /* with SHA-512 */
-  /* behind the name the key, 32 bytes; signature: 64 bytes */
+  /* after the name the key, 32 bytes; signature: 64 bytes */
   SSHKEY_ASK_ED25519 = 5,
-  /* PKCS#1 v1.5; behind the name e and n; signature: an unsigned number, any bytes */
+  /* PKCS#1 v1.5; after the name e and n; signature: an unsigned number, any bytes */
   SSHKEY_ASK_RSA_SHA256 = 6, /* with SHA-256 */
   SSHKEY_ASK_RSA_SHA512 = 7  /* with SHA-512 */
 };
@@ -252,7 +252,7 @@ enum { SSHKEY_USER = 1, SSHKEY_HOST = 2 };
 typedef struct {
   uint64_t serial;
   uint64_t valid_after;          /* the first second of its window */
-  uint64_t valid_before;         /* the first second behind its window, or SSHKEY_FOREVER */
+  uint64_t valid_before;         /* the first second after its window, or SSHKEY_FOREVER */
   uint32_t certificate_type;     /* SSHKEY_USER or SSHKEY_HOST */
   uint32_t lists_principals;     /* 0 where it lists none, and so allows everybody; else 1 */
   uint32_t has_critical_options; /* 0 where it has none; else 1: refuse it unless you know each */
@@ -265,13 +265,13 @@ uint32_t sshkey_certificate_fields(const uint8_t *certificate, size_t certificat
 
 /* ---- what a certificate lists ---------------------------------------------------------------- */
 
-/* Where parts of a certificate stand in its bytes, in this order, each behind its length of four
+/* Where parts of a certificate stand in its bytes, in this order, each after its length of four
  * bytes. Between principals and critical options stands the window, and before the authority a
  * reserved string. */
 typedef struct {
   sshkey_part key_id;           /* a text, for logs */
   sshkey_part principals;       /* strings: sshkey_next_string goes over them */
-  sshkey_part critical_options; /* one behind the other: sshkey_next_option goes over them */
+  sshkey_part critical_options; /* one after the other: sshkey_next_option goes over them */
   sshkey_part extensions;       /* likewise */
   sshkey_part authority;        /* the blob of the key that signed */
 } sshkey_parts;
@@ -282,7 +282,7 @@ uint32_t sshkey_certificate_parts(const uint8_t *certificate, size_t certificate
                                   sshkey_parts *answer);
 
 /* Where the name and the value of an option stand, and the place of the next one. The name stands
- * behind its length of four bytes, and the next one begins where the value ends. */
+ * after its length of four bytes, and the next one begins where the value ends. */
 typedef struct {
   sshkey_part name;
   sshkey_part value; /* of no bytes where the option has none */
@@ -315,14 +315,14 @@ typedef struct {
   sshkey_span key;              /* the blob of the key that is certified */
   sshkey_span nonce;            /* random bytes of yours: 16 or 32 */
   sshkey_span key_id;           /* a text, for logs */
-  sshkey_span principals;       /* strings, one behind the other: refuse a zero byte in one, since
+  sshkey_span principals;       /* strings, one after the other: refuse a zero byte in one, since
                                    sshd takes the name to end there, and so for another user's */
   sshkey_span critical_options; /* as sshkey_next_option reads them, with rising names */
   sshkey_span extensions;       /* likewise */
   sshkey_span authority;        /* the blob of the key that is to sign */
   uint64_t serial;           /* not 0: to OpenSSH that is none, and no KRL can name it */
   uint64_t valid_after;      /* the first second of its window, since 1970 */
-  uint64_t valid_before;     /* the first second behind its window, or SSHKEY_FOREVER */
+  uint64_t valid_before;     /* the first second after its window, or SSHKEY_FOREVER */
   uint32_t certificate_type; /* SSHKEY_USER or SSHKEY_HOST */
   uint32_t all_principals;   /* 1 where it lists no principals, and so allows everybody; else 0 */
 } sshkey_draft;
@@ -357,7 +357,7 @@ uint32_t sshkey_fingerprint(const uint8_t *key, size_t key_length, sshkey_sha256
  * characters. */
 #define SSHKEY_FINGERPRINT_TEXT 50
 
-/* Writes that text to the front of the room, without a zero behind it. SSHKEY_DONE, or SSHKEY_ROOM
+/* Writes that text to the front of the room, without a zero after it. SSHKEY_DONE, or SSHKEY_ROOM
  * where the room has fewer bytes. Takes no memory. */
 uint32_t sshkey_fingerprint_text(const sshkey_sha256 *digest, uint8_t *room, size_t room_length);
 
@@ -487,7 +487,7 @@ typedef struct {
 
 /* The option of that number, the first being 0, of the options of an entry. SSHKEY_DONE exactly if
  * they are a list of options, all of them, and have more than that number (memory and room aside);
- * SSHKEY_END if they have no more, SSHKEY_FORMAT if they are no list of options, also behind the
+ * SSHKEY_END if they have no more, SSHKEY_FORMAT if they are no list of options, also after the
  * option that is asked for, and SSHKEY_TEXT for bytes that are not UTF-8. A room of the options'
  * length is enough. A `front` of no bytes has no options. Each call reads all of them, so do not go
  * on for ever: refuse an entry with an option that you do not know, one that names an option twice,

@@ -283,7 +283,7 @@ const char *meaning(uint32_t answer) {
   case SSHKEY_CHARACTER_ENCODING: return "a text that is not UTF-8";
   case SSHKEY_LABEL: return "a name that may not stand there";
   case SSHKEY_LENGTH: return "a length that passes the bytes";
-  case SSHKEY_TRAILING_DATA: return "bytes behind the end";
+  case SSHKEY_TRAILING_DATA: return "bytes after the end";
   case SSHKEY_NOT_SIGNED: return "not signed";
   case SSHKEY_UNTRUSTED_AUTHORITY: return "another authority";
   case SSHKEY_INVALID_TIME: return "no time that a certificate has";

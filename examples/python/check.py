@@ -53,7 +53,7 @@ class Refusal(enum.IntEnum):
 MEANING = {
     Status.TEXT: "a principal that is not UTF-8", Status.BASE64: "not Base64",
     Status.CHARACTER_ENCODING: "a text that is not UTF-8", Status.LABEL: "a name that may not stand there",
-    Status.LENGTH: "a length that passes the bytes", Status.TRAILING_DATA: "bytes behind the end",
+    Status.LENGTH: "a length that passes the bytes", Status.TRAILING_DATA: "bytes after the end",
     Status.NOT_SIGNED: "not signed", Status.UNTRUSTED_AUTHORITY: "another authority",
     Status.INVALID_TIME: "no time that a certificate has", Status.OUT_OF_WINDOW: "not valid at that time",
     Status.UNLISTED_PRINCIPAL: "another principal",
@@ -263,7 +263,7 @@ def unarmoured(text: str) -> bytes:
     # bytes are split at the white space that is ASCII, a text also at other, which ssh-keygen does not take
     digits = b"".join(parts[2].encode().split())
     blob = base64.b64decode(digits, validate=True)
-    if base64.b64encode(blob) != digits:  # bits stand behind the last byte
+    if base64.b64encode(blob) != digits:  # bits stand after the last byte
         raise ValueError("no SSH signature was given")
     return blob
 

@@ -27,7 +27,7 @@ fn main() {
     }
     println!("cargo:rustc-link-search=native={}", folder.display());
     println!("cargo:rustc-link-lib=static:-bundle=sshkey");
-    // the library again, since verify.o takes a call of it, and linkers look only behind a use
+    // the library again, since verify.o takes a call of it, and linkers look only after a use
     for part in [verifier, library] {
         println!("cargo:rustc-link-arg-bin=check={}", part.display());
     }

@@ -41,7 +41,7 @@ var meanings = map[error]string{
 	sshkey.ErrCharacterEncoding:  "a text that is not UTF-8",
 	sshkey.ErrLabel:              "a name that may not stand there",
 	sshkey.ErrLength:             "a length that passes the bytes",
-	sshkey.ErrTrailingData:       "bytes behind the end",
+	sshkey.ErrTrailingData:       "bytes after the end",
 	sshkey.ErrNotSigned:          "not signed",
 	sshkey.ErrUntrustedAuthority: "another authority",
 	sshkey.ErrInvalidTime:        "no time that a certificate has",

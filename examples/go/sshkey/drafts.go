@@ -4,7 +4,7 @@ package sshkey
 //
 // enum { SPANS = 7 };
 //
-// // A draft whose spans lie in the bytes, one behind the other: Go hands over no pointers to
+// // A draft whose spans lie in the bytes, one after the other: Go hands over no pointers to
 // // pointers.
 // static uint32_t to_be_signed(const uint8_t *bytes, const size_t *lengths, sshkey_draft draft,
 //                              uint8_t *room, size_t room_length, size_t *length) {
@@ -37,7 +37,7 @@ type Draft struct {
 	// for everybody, and where there are some it may not.
 	Principals    []string
 	AllPrincipals bool
-	// ValidAfter is the first second of the window, and ValidBefore the first one behind it, or
+	// ValidAfter is the first second of the window, and ValidBefore the first one after it, or
 	// Forever.
 	ValidAfter, ValidBefore Second
 	// CriticalOptions and Extensions are values by names, empty for an option that has none.
@@ -71,7 +71,7 @@ func (draft *Draft) ToBeSigned() ([]byte, error) {
 	})
 }
 
-// spans is the draft's bytes, one behind the other, and the length of each.
+// spans is the draft's bytes, one after the other, and the length of each.
 func (draft *Draft) spans() (input, [C.SPANS]C.size_t, error) {
 	var lengths [C.SPANS]C.size_t
 	nonce, err := draft.nonce()

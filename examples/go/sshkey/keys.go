@@ -94,7 +94,7 @@ func (digest SHA512) String() string {
 //
 // Of a key whose blob begins with a name sk-..@openssh.com, and of no other, byte 32 of the message
 // is the device's flags: refuse a login where nobody touched it (0x01), unless the certificate or
-// the line has no-touch-required and no touch-required behind it, and one where it has not verified
+// the line has no-touch-required and no touch-required after it, and one where it has not verified
 // its user (0x04), if verify-required asks for that.
 func SignatureQuestion(key, message, signature []byte) (Question, error) {
 	in, of, by := inputOf(key), inputOf(message), inputOf(signature)
@@ -201,7 +201,7 @@ func NormalSignature(signature []byte) ([]byte, error) {
 
 // ---- strings
 
-// Strings gives the contents of the strings (RFC 4251, section 5), one behind the other, that the
+// Strings gives the contents of the strings (RFC 4251, section 5), one after the other, that the
 // bytes of a question's key or of an ECDSA signature are. It fails with ErrLength where they are
 // none.
 func Strings(data []byte) ([][]byte, error) {
@@ -219,8 +219,8 @@ func Strings(data []byte) ([][]byte, error) {
 	}
 }
 
-// JoinStrings gives the bytes that have these contents as strings, one behind the other: each
-// behind its length of four bytes. It fails with ErrLength for a content of 2^32 bytes or more.
+// JoinStrings gives the bytes that have these contents as strings, one after the other: each
+// after its length of four bytes. It fails with ErrLength for a content of 2^32 bytes or more.
 func JoinStrings(contents ...[]byte) ([]byte, error) {
 	return joined(contents...)
 }

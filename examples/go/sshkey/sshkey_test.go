@@ -204,7 +204,7 @@ func draftOf(t *testing.T, certificate []byte) sshkey.Draft {
 	same(t, "error", err, nil)
 	fields, err := sshkey.CertificateFields(certificate)
 	same(t, "error", err, nil)
-	// the nonce stands behind the name (PROTOCOL.certkeys)
+	// the nonce stands after the name (PROTOCOL.certkeys)
 	parts, err := sshkey.Strings(certificate[:4+40+4+32])
 	same(t, "error", err, nil)
 	return sshkey.Draft{
@@ -344,7 +344,7 @@ func TestCopies(t *testing.T) {
 	same(t, "error", err, nil)
 	message := append([]byte(nil), question.Message...)
 	_ = append(question.Key, bytes.Repeat([]byte{1}, 100)...)
-	same(t, "the message behind the key", question.Message, message)
+	same(t, "the message after the key", question.Message, message)
 	for at := range contents.Authority {
 		contents.Authority[at] = 0
 	}

@@ -37,7 +37,7 @@ const (
 	// ErrLength is for a stated length that passes the bytes or is not the one wanted, for a word
 	// of a line that is missing, and for what is too long for a string.
 	ErrLength Status = C.SSHKEY_LENGTH
-	// ErrTrailingData is for bytes behind the end.
+	// ErrTrailingData is for bytes after the end.
 	ErrTrailingData Status = C.SSHKEY_TRAILING_DATA
 	// ErrFormat is for a value that does not keep the form of its kind.
 	ErrFormat Status = C.SSHKEY_FORMAT

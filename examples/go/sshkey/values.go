@@ -8,7 +8,7 @@ import (
 	"time"
 )
 
-// Algorithm is how a signature is made. Beside each stands what is in [Question.Key] behind the
+// Algorithm is how a signature is made. Beside each stands what is in [Question.Key] after the
 // name of its type, and what [Question.Signature] is; numbers are two's complement, big-endian, and
 // those of a key may be zero or negative: there is no such key, so a verifier says no.
 type Algorithm uint32
@@ -89,7 +89,7 @@ type Fields struct {
 	Serial uint64
 	// ValidAfter is the first second of the window.
 	ValidAfter Second
-	// ValidBefore is the first second behind the window, Forever if it has no end.
+	// ValidBefore is the first second after the window, Forever if it has no end.
 	ValidBefore Second
 	Type        CertificateType
 	// ListsPrincipals is false for a certificate that is for everybody.

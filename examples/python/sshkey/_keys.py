@@ -142,7 +142,7 @@ def normal_signature(signature: BytesLike) -> bytes:
 
 
 def strings(blob: BytesLike) -> list[bytes]:
-    """The strings, one behind the other, that the bytes of a question's key or of an ECDSA signature are. Raises Refused where
+    """The strings, one after the other, that the bytes of a question's key or of an ECDSA signature are. Raises Refused where
     they are none."""
     found, place, part = [], 0, _library.Part()
     data, length = bytes_of(blob)

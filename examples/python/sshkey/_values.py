@@ -127,7 +127,7 @@ class CertificateFields:
 
     serial: int
     valid_after: int  # the first second of its window
-    valid_before: int  # the first second behind its window, FOREVER if it has no end
+    valid_before: int  # the first second after its window, FOREVER if it has no end
     certificate_type: CertificateType
     lists_principals: bool  # one that lists none is for everybody
     has_critical_options: bool  # refuse one that has some unless you know each

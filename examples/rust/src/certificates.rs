@@ -140,7 +140,7 @@ pub struct CertificateFields {
     pub serial: u64,
     /// The first second of its window.
     pub valid_after: u64,
-    /// The first second behind its window, or [`FOREVER`].
+    /// The first second after its window, or [`FOREVER`].
     pub valid_before: u64,
     /// Whom it is for.
     pub certificate_type: CertificateType,

@@ -39,7 +39,7 @@ pub struct Draft<'a> {
     pub serial: u64,
     /// The first second (and not millisecond) of its window, since 1970.
     pub valid_after: u64,
-    /// The first second (and not millisecond) behind its window, since 1970, or
+    /// The first second (and not millisecond) after its window, since 1970, or
     /// [`FOREVER`](crate::FOREVER).
     pub valid_before: u64,
     /// Names and values of what whoever accepts it has to know and to meet.

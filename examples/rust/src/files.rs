@@ -144,7 +144,7 @@ pub struct EntryOptions<'a> {
     number: Option<usize>,
 }
 
-/// The options of an entry of authorized_keys. Where the text is no list of options, also behind
+/// The options of an entry of authorized_keys. Where the text is no list of options, also after
 /// its first ones, the only item is [`Status::FORMAT`], or [`Status::TEXT`] where it is not UTF-8;
 /// the last may be [`Status::MEMORY`].
 ///

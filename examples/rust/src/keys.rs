@@ -13,7 +13,7 @@ pub(crate) const CERTIFICATE: u32 = 2;
 pub struct Line {
     /// The blob of the key or of the certificate.
     pub blob: Vec<u8>,
-    /// What stands behind it, which may be empty.
+    /// What stands after it, which may be empty.
     pub comment: String,
     /// Whether the blob is one of a certificate.
     pub is_certificate: bool,
@@ -45,7 +45,7 @@ pub fn read_line(line: impl AsRef<[u8]>) -> Result<Line, Status> {
 ///
 /// Of a key whose blob begins with a name `sk-..@openssh.com`, and of no other, byte 32 of the
 /// message is the device's flags: refuse a login where nobody touched it (0x01), unless the
-/// certificate or the line has `no-touch-required` and no `touch-required` behind it, and one that
+/// certificate or the line has `no-touch-required` and no `touch-required` after it, and one that
 /// it has not verified (0x04) where `verify-required` asks for that.
 pub fn signature_question(
     key: &[u8],

@@ -14,7 +14,7 @@ pub struct Part {
 }
 
 impl Part {
-    /// The place behind its last byte.
+    /// The place after its last byte.
     pub(crate) fn end(self) -> usize {
         self.start + self.length
     }
@@ -152,7 +152,7 @@ sizes! {
     CertificateOptionParts 40 Span 16 Draft 144 Entry 64 EntryOptionParts 48
 }
 
-// each behind the parameters of sshkey.h, by the same names; the tests compare them
+// each after the parameters of sshkey.h, by the same names; the tests compare them
 extern "C" {
     pub(crate) fn sshkey_read_line(
         line: *const u8,

@@ -69,7 +69,7 @@ fn meaning(status: Status) -> &'static str {
         Status::CHARACTER_ENCODING => "a text that is not UTF-8",
         Status::LABEL => "a name that may not stand there",
         Status::LENGTH => "a length that passes the bytes",
-        Status::TRAILING_DATA => "bytes behind the end",
+        Status::TRAILING_DATA => "bytes after the end",
         Status::NOT_SIGNED => "not signed",
         Status::UNTRUSTED_AUTHORITY => "another authority",
         Status::INVALID_TIME => "no time that a certificate has",

@@ -144,7 +144,7 @@ const FRONT: usize = 10;
 /// the bytes are none, and with [`Status::MEMORY`].
 pub fn sshsig_hash(signature: &[u8]) -> Result<HashAlgorithm, Status> {
     let normal = normal_sshsig(signature)?;
-    // behind the key, the namespace and what is reserved
+    // after the key, the namespace and what is reserved
     let name = strings(normal.get(FRONT..).unwrap_or_default()).nth(3);
     match name.transpose()? {
         Some(b"sha256") => Ok(HashAlgorithm::Sha256),

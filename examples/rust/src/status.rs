@@ -65,7 +65,7 @@ statuses! {
     LABEL = 12;
     /// A stated length passes the bytes, or is not the one wanted; a word of a line is missing.
     LENGTH = 13;
-    /// Bytes stand behind the end.
+    /// Bytes follow the end.
     TRAILING_DATA = 14;
     /// A value does not keep the form of its kind.
     FORMAT = 15;

@@ -5,7 +5,7 @@ use std::iter::FusedIterator;
 use crate::raw;
 use crate::status::Status;
 
-/// The strings, one behind the other, that some bytes are; lent of these.
+/// The strings, one after the other, that some bytes are; lent of these.
 #[derive(Clone, Debug)]
 #[must_use = "an iterator asks nothing until it is asked"]
 pub struct Strings<'a> {

@@ -231,7 +231,7 @@ fn signature(signers: &OsStr, namespace: &OsStr, file: &OsStr) -> Result<bool, U
 }
 
 /// Whether the word is a network as sshd reads one: an address, and how many of its bits count, of
-/// which none stands behind those.
+/// which none stands after those.
 fn is_network(word: &str) -> bool {
     let (address, bits) = word
         .split_once('/')

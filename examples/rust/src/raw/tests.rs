@@ -100,7 +100,7 @@ fn parameter(c: &str) -> String {
 }
 
 /// The calls that a text declares, each as `name(parameter, ..)`, between what stands in front of
-/// a name and what stands behind the parameters.
+/// a name and what stands after the parameters.
 fn calls(text: &str, front: &str, end: &str, of: impl Fn(&str) -> String) -> BTreeSet<String> {
     let text = text.split_whitespace().collect::<Vec<_>>().join(" ");
     let call = |text: &str| {
