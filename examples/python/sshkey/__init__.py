@@ -15,7 +15,7 @@ which nothing follows about them. All raise TypeError for a text in place of byt
 UnicodeEncodeError, a ValueError too, for a text that UTF-8 can't write.
 
 The library is the file that SSHKEY_LIBRARY names in the environment, or else out/libsshkey.so in the folder examples (`make`
-there builds it), or else the system's. Whoever sets SSHKEY_LIBRARY has his code run, so clear it in a helper that keeps its
+there builds it), or else the system's. Whoever sets SSHKEY_LIBRARY has their code run, so clear it in a helper that keeps its
 caller's environment. Calls from several threads at once are fine.
 """
 from ._certificates import (
