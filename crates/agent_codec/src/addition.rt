@@ -54,7 +54,7 @@ impl Addition {
 /// The pair after its name, and a string. An encrypted pair is never read.
 ///
 /// What ssh-add(1) sends of a key with a certificate is no pair of the key. Where two strings stand
-/// behind the certificate's name, as of an ECDSA key, it is read as a pair under that name, so an
+/// after the certificate's name, as of an ECDSA key, it is read as a pair under that name, so an
 /// agent answers `Response::Failure` where `Algorithm::from_fixed_certificate_name` knows the name.
 /// Where there are more, bytes are left over, and reading the request fails.
 #[tactic(auto, using(ssh_key::proofs::Mapped::mapped, crate::specs::Records::addition_parts_read))]

@@ -76,7 +76,7 @@ impl Drop for Request {
 /// Fails with `Length` where a stated length passes what is left, unless memory ran out for a value
 /// before it, with `TrailingData` where bytes of the frame are left over, with `FormatEncoding` for
 /// the number of no request, and with the errors of what it holds. Such a length allocates nothing.
-/// Constraints stand up to the end of the frame, so bytes behind them are read as one more.
+/// Constraints stand up to the end of the frame, so bytes after them are read as one more.
 impl Decode for Request {
     type Error = Error;
 

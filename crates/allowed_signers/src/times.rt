@@ -45,11 +45,11 @@ pub(crate) fn read_time(text: &str) -> Option<u64>
     Some(seconds - epoch)
 }
 
-/// The digits in front of a text, and what stands behind them.
+/// The digits in front of a text, and what stands after them.
 fn split_digits(text: &[u8]) -> (&[u8], &[u8])
     // the digits
     ensures front { result.0.now ≡ digits text.now }
-    // what stands behind them
+    // what stands after them
     ensures rest { result.1.now ≡ zone text.now }
 {
     text.split_at(count_digits(text))
@@ -62,7 +62,7 @@ fn count_digits(text: &[u8]) -> usize
     text.iter().take_while(|c| c.is_ascii_digit()).count()
 }
 
-/// Whether what stands behind the digits is nothing, or UTC.
+/// Whether what stands after the digits is nothing, or UTC.
 fn is_zone(zone: &[u8]) -> bool
     ensures { IsTrue result ↔ IsZone zone.now }
 {

@@ -18,6 +18,6 @@ pub struct Request {
     pub extensions: Vec<String>,
     /// The first second of the window.
     pub valid_after: u64,
-    /// The second behind the window.
+    /// The first second after the window.
     pub valid_before: u64,
 }

@@ -205,7 +205,7 @@ impl Builder {
     /// added since. Fails only when out of memory.
     ///
     /// Takes any text. sshd takes a name with a zero byte to end there, so that `root` with one
-    /// behind it is root: refuse such names, which ssh-keygen can't make either.
+    /// after it is root: refuse such names, which ssh-keygen can't make either.
     pub fn valid_principal(&mut self, principal: String) -> Result<&mut Builder>
         ensures* stays { sem 𝓛 (StaysIfRefused self.entry result) }
         ensures same_reference { IsTheBuilder self.entry result }

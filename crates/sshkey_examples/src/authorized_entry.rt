@@ -21,7 +21,7 @@ use std::marker::Model;
 /// Passed over, as sshd does, are a line that is no entry; one with malformed options, as
 /// `command=ls` without quotes; one with the option `cert-authority`, by which the key is an
 /// authority's and logs nobody in; and one with `principals`, which sshd takes of an authority
-/// alone. So is a line with a zero byte, where sshd takes the line to end: one that stands behind
+/// alone. So is a line with a zero byte, where sshd takes the line to end: one that stands after
 /// the key is passed over here alone.
 ///
 /// Whoever calls it has asked the client for a signature under the offered key, and judges the
@@ -45,7 +45,7 @@ pub fn entries_for<'a>(alloc: Global, text: &'a str, offered: &'a KeyData) -> En
 /// The entries that `entries_for` answers, one by one. What an entry keeps is copied.
 ///
 /// An answer is an `Err` only where memory ran out. Refuse the login then: the next answer is of a
-/// line behind that one.
+/// line after that one.
 ///
 /// Contracts see the lines that are left, without the spaces and tabs at their front, and the key.
 #[derive(Drop)]

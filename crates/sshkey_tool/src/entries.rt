@@ -54,7 +54,7 @@ fn refused_entry(alloc: Global, error: &Error) -> Result<String, Error>
     }
 }
 
-/// Adds a text and a line end behind the lines, or nothing where memory runs out.
+/// Adds a text and a line end after the lines, or nothing where memory runs out.
 fn push_line(lines: &mut String, text: &str) -> Result<(), AllocError>
     ensures { PushesLine (string_bytes lines.old) (string_bytes lines.new) text.now result }
 {
@@ -63,7 +63,7 @@ fn push_line(lines: &mut String, text: &str) -> Result<(), AllocError>
     lines.push('\n')
 }
 
-/// Adds the line of an entry behind the lines: its text, or why it is rejected. Says whether it is
+/// Adds the line of an entry after the lines: its text, or why it is rejected. Says whether it is
 /// rejected. Adds nothing where memory runs out.
 fn push_entry(
     alloc: Global,

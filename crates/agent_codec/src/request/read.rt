@@ -1,4 +1,4 @@
-//! How what stands behind the number of a request is read.
+//! How what stands after the number of a request is read.
 
 ghost use Rattle.ssh_key.specs.base.Causes.{cause};
 ghost use Rattle.ssh_key.specs.base.Needs.{Asks};
