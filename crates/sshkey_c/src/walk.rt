@@ -1,4 +1,4 @@
-//! Strings that stand in bytes, one behind the other.
+//! Strings that stand in bytes, one after the other.
 
 ghost use Rattle.sshkey_calls.specs.Strings.{FindsString};
 

@@ -25,9 +25,9 @@ pub struct CertificateDraft<'a> {
     pub nonce: &'a [u8],
     /// The key id, a text for logs.
     pub key_id: &'a [u8],
-    /// The principals, each a string, one behind the other.
+    /// The principals, each a string, one after the other.
     pub principals: &'a [u8],
-    /// The critical options, one behind the other, by rising names: the string of a name, and a
+    /// The critical options, one after the other, by rising names: the string of a name, and a
     /// string that is empty or holds the string of a value.
     pub critical_options: &'a [u8],
     /// The extensions, likewise.

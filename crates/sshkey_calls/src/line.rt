@@ -129,7 +129,7 @@ fn tell(
     part::answer_with(lay_out(alloc, text, comment, kind), room, answer)
 }
 
-/// The blob of a line and the comment behind it, and where they are.
+/// The blob of a line and the comment after it, and where they are.
 fn lay_out(alloc: Global, text: &str, comment: &str, kind: u32) -> Result<(Vec<u8>, Line)>
     ensures { (first blob : List ℕ) → IsLine text.now first blob comment.now → IsBytes blob
         → IfOk result (λ laid. IsLaidOut line_bytes ArePlaced (content_of kind blob comment.now)
@@ -153,7 +153,7 @@ fn lay_out(alloc: Global, text: &str, comment: &str, kind: u32) -> Result<(Vec<u
     ))
 }
 
-/// The blob of a line, in memory that is enough for so many bytes behind it.
+/// The blob of a line, in memory that is enough for so many bytes after it.
 fn blob_in(alloc: Global, text: &str, behind: usize) -> Result<Vec<u8>>
     ensures { (first blob comment : List ℕ) → IsLine text.now first blob comment → IsBytes blob
         → IfOk result (λ read. read.items ≡ blob) }

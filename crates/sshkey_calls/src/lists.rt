@@ -17,11 +17,11 @@ use sshkey_cert_ref::CertificateRef;
 pub struct CertificateParts {
     /// The key id, a text.
     pub key_id: Part,
-    /// The principals, each a string, one behind the other.
+    /// The principals, each a string, one after the other.
     pub principals: Part,
-    /// The critical options, one behind the other.
+    /// The critical options, one after the other.
     pub critical_options: Part,
-    /// The extensions, one behind the other.
+    /// The extensions, one after the other.
     pub extensions: Part,
     /// The blob of the key that signed.
     pub authority: Part,

@@ -1,4 +1,4 @@
-//! Options of certificates that stand in bytes, one behind the other.
+//! Options of certificates that stand in bytes, one after the other.
 
 ghost use Rattle.std.specs.Prelude.{◌≡◌, ℕ, List, IfSome, IfNone};
 ghost use Rattle.sshkey_model.specs.Options.{HasNesting, Nesting, option_value};
@@ -22,7 +22,7 @@ pub struct OptionParts {
 }
 
 /// The option that begins at that place: the string of a name, and a string that is empty or holds
-/// the string of a value (PROTOCOL.certkeys). The next one begins behind it.
+/// the string of a value (PROTOCOL.certkeys). The next one begins after it.
 ///
 /// Returns 0, 3 exactly where the place is the end of the bytes, and 13 where no option begins.
 /// Does not allocate.
@@ -55,7 +55,7 @@ pub fn next_option(bytes: &[u8], place: usize, answer: &mut OptionParts) -> u32
     }
 }
 
-/// The name and the value of the option that the bytes begin with, and what stands behind it.
+/// The name and the value of the option that the bytes begin with, and what stands after it.
 fn split_option(bytes: &[u8]) -> Option<(&[u8], &[u8], &[u8])>
     ensures split { IfSome result
         (λ found. BeginsWithOption found.0.now found.1.now bytes.now found.2.now) }
@@ -74,7 +74,7 @@ fn split_option(bytes: &[u8]) -> Option<(&[u8], &[u8], &[u8])>
     }
 }
 
-/// The value in the string that stands behind a name: nothing, or what the one string in it holds.
+/// The value in the string that stands after a name: nothing, or what the one string in it holds.
 fn value_in(string: &[u8]) -> Option<&[u8]>
     ensures value { IfSome result (λ value. (nesting : Nesting) × HasNesting value.now nesting
         × Fits (option_value value.now nesting)

@@ -113,7 +113,7 @@ pub(crate) fn answer_with(
     part::answer_with(lay_out(alloc, question), room, answer)
 }
 
-/// The bytes of the question's parts, one behind the other, and where they are.
+/// The bytes of the question's parts, one after the other, and where they are.
 fn lay_out(alloc: Global, question: &Asked<'_>) -> Result<(Vec<u8>, Question)>
     ensures { IfOk result (λ laid. IsLaidOut question_bytes ArePlaced (question_of question.now)
         laid.0.items laid.1) }

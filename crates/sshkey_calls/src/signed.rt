@@ -40,7 +40,7 @@ pub fn certificate_make(
     }
 }
 
-/// The bytes, and the signature in a string behind them.
+/// The bytes, and the signature in a string after them.
 fn join(alloc: Global, to_be_signed: &[u8], signature: &[u8]) -> Result<Vec<u8>, u32>
     ensures { FindsOr (IsJoined to_be_signed.now signature.now) (λ joined. joined.items)
         (string_number signature.now) (FitsString signature.now) result }

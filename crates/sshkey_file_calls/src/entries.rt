@@ -170,7 +170,7 @@ fn answer_with(
     part::answer_with(lay_out(alloc, front, key, marker), room, answer)
 }
 
-/// The bytes of an entry's parts, one behind the other, and where they are.
+/// The bytes of an entry's parts, one after the other, and where they are.
 fn lay_out(
     alloc: Global,
     front: &str,

@@ -130,7 +130,7 @@ fn option_at(text: &str, number: usize) -> Result<Option<OpenSshOption<'_>>>
     Ok(found)
 }
 
-/// The bytes of an option's parts, one behind the other, and where they are.
+/// The bytes of an option's parts, one after the other, and where they are.
 fn lay_out(alloc: Global, option: &OpenSshOption<'_>) -> Result<(Vec<u8>, OptionParts)>
     ensures { IfOk result (λ laid. IsLaidOut option_bytes ArePlaced (key_option_of option.now)
         laid.0.items laid.1) }
