@@ -1,7 +1,8 @@
 //! Lists of patterns.
 
 ghost use Rattle.std.specs.Prelude.{◌≡◌, ◌<◌, ◌∷◌, ◌↔◌, length, slice_index, IsTrue};
-ghost use Rattle.sshkey_files.specs.Items.{patterns};
+ghost use Rattle.std.specs.List.{after_first, before_first};
+ghost use Rattle.sshkey_files.specs.Items.{is_comma, patterns};
 ghost use Rattle.sshkey_files.specs.Patterns.{IsShort, MatchesList, Names, Refuses, exclamation_mark, unmarked};
 ghost use Rattle.sshkey_files.specs.LetterCases.{fold_of};
 
@@ -56,7 +57,9 @@ pub fn is_refused_by(text: &str, pattern: &str, letter_case: LetterCase) -> bool
 /// A list up to its first comma, or all of it, and what follows that comma. Does not allocate.
 pub fn split_pattern(list: &str) -> (&str, &str)
     requires { 0 < length list.now }
-    ensures { patterns list.now ≡ result.0.now ∷ patterns result.1.now }
+    ensures patterns { patterns list.now ≡ result.0.now ∷ patterns result.1.now }
+    ensures pattern { result.0.now ≡ before_first is_comma list.now }
+    ensures rest { result.1.now ≡ after_first is_comma list.now }
 {
     match list.split_once(',') {
         Some((pattern, rest)) => (pattern, rest),

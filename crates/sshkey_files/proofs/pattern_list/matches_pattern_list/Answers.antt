@@ -13,8 +13,8 @@ returns-then-not-is_short_pattern c =
       λ is.
           let dead : ⊥
           = elim c.then-not-is_short_pattern.branch [
-            | then-not-is_short_pattern-via-then-not-is_short_pattern w ↦ too_long _ _ _ _ _ _ c.split_pattern.ensures (λ short. cc (sym w.if-not-is_short_pattern.true ∙ c.is_short_pattern.ensures.1 short)) (still.0 is)
-            | then-not-is_short_pattern-via-else-not-is_short_pattern+then-is_refused_by w ↦ refused _ _ _ _ _ _ c.split_pattern.ensures (w.is_refused_by.ensures.0 w.if-is_refused_by.true) (still.0 is)
+            | then-not-is_short_pattern-via-then-not-is_short_pattern w ↦ too_long _ _ _ _ _ _ c.split_pattern.ensures.patterns (λ short. cc (sym w.if-not-is_short_pattern.true ∙ c.is_short_pattern.ensures.1 short)) (still.0 is)
+            | then-not-is_short_pattern-via-else-not-is_short_pattern+then-is_refused_by w ↦ refused _ _ _ _ _ _ c.split_pattern.ensures.patterns (w.is_refused_by.ensures.0 w.if-is_refused_by.true) (still.0 is)
           ]
           in
           absurd dead,
@@ -25,7 +25,7 @@ patterns-preserved c =
     let still = c.patterns.invariant.same in
     let short : IsShort c.split_pattern.result.0.now = c.is_short_pattern.ensures.0 (let h = c.if-not-is_short_pattern.false in cc) in
     let kept : Refuses (fold_of c.args.letter_case) c.args.text.now c.split_pattern.result.0.now → ⊥ = λ r. cc (sym c.if-is_refused_by.false ∙ c.is_refused_by.ensures.1 r) in
-    let less = one_less (fold_of c.args.letter_case) c.patterns.is_named c.args.text.now c.split_pattern.result.0.now (patterns c.patterns.rest.now) (patterns c.split_pattern.result.1.now) c.split_pattern.ensures c.is_named_by-is_named.result short kept c.is_named_by-is_named.ensures in
+    let less = one_less (fold_of c.args.letter_case) c.patterns.is_named c.args.text.now c.split_pattern.result.0.now (patterns c.patterns.rest.now) (patterns c.split_pattern.result.1.now) c.split_pattern.ensures.patterns c.is_named_by-is_named.result short kept c.is_named_by-is_named.ensures in
     record { same = (λ is. less.0 (still.0 is), λ more. still.1 (less.1 more)); text = search rules }
 
 pub returns : goal.returns
