@@ -102,13 +102,6 @@ module _ (text front rest fields : List ℕ) (cut : (text ≡ front ++ rest) × 
 -- ---- a line
 
 module _ (line text : List ℕ) (skips : text ≡ without_blanks line) where
-  pub alone_needs : NeedsKeyFields text → NeedsEntry line
-  alone_needs needed = inl (subst NeedsKeyFields skips needed)
-
-  pub behind_needs : (r : Result OpenSshEntry Error) → AsksFor (NeedsBehind text) r → AsksFor (NeedsEntry line) r
-  behind_needs (Ok x) h = tt
-  behind_needs (Err e) h = λ memory. inr (subst NeedsBehind skips (h memory))
-
   pub comment_read : slice_index text 0 ≡ hash → (a : AuthorizedKey) → IsAuthorizedLine line a → ⊥
   comment_read here a is = is.no_comment (ap (λ (t : List ℕ). slice_index t 0) (sym skips) ∙ here)
 
@@ -118,6 +111,13 @@ module _ (line text : List ℕ) (skips : text ≡ without_blanks line) where
   module _ (no_comment : slice_index text 0 ≢ hash) where
     not_comment : slice_index (without_blanks line) 0 ≢ hash
     not_comment here = no_comment (ap (λ (t : List ℕ). slice_index t 0) skips ∙ here)
+
+    pub alone_needs : NeedsKeyFields text → NeedsEntry line
+    alone_needs needed = record { no_comment = not_comment; needed = inl (subst NeedsKeyFields skips needed) }
+
+    pub behind_needs : (r : Result OpenSshEntry Error) → AsksFor (NeedsBehind text) r → AsksFor (NeedsEntry line) r
+    behind_needs (Ok x) h = tt
+    behind_needs (Err e) h = λ memory. record { no_comment = not_comment; needed = inr (subst NeedsBehind skips (h memory)) }
 
     pub alone_read : (a : AuthorizedKey) → a.options ≡ [] → AreKeyFields text a.key a.comment → IsAuthorizedLine line a
     alone_read a none is = record { no_comment = not_comment; is = inl (record { options = none; fields = subst (λ (t : List ℕ). AreKeyFields t a.key a.comment) skips is }) }

@@ -1,9 +1,10 @@
 -- Where reading a line as sshd(8) reads it needs memory.
-use Rattle.std.specs.Prelude.{◌≡◌, ◌⊎◌, ℕ, List, ◌++◌, length, Result, Ok, Err}
+use Rattle.std.specs.Prelude.{◌≡◌, ◌≢◌, ◌⊎◌, ℕ, List, ◌++◌, length, slice_index, Result, Ok, Err}
 use Rattle.sshkey_base.specs.Causes.{cause, NoMemory}
 use Rattle.sshkey_base.specs.declared.error.Error.{Error}
 use Rattle.sshkey_model.specs.Keys.{Key}
 use Rattle.sshkey_files.specs.Answers.{ReadsEntry, RefusesFor}
+use Rattle.sshkey_files.specs.Entries.{hash}
 use Rattle.sshkey_files.specs.Fields.{without_blanks, AreKeyFields}
 use Rattle.sshkey_files.specs.OpenSshLines.{IsAuthorizedLine}
 use Rattle.sshkey_files.specs.StrictReading.{EndsOptions}
@@ -26,9 +27,10 @@ abbrev pub AsksFor : {X : Type 0} → Type 0 → Result X Error → Type 0
 AsksFor Needed (Ok x) = Unit {0}
 AsksFor Needed (Err e) = cause e ≡ NoMemory → Needed
 
--- A key at the front needs it, or options before a key.
-abbrev pub NeedsEntry : List ℕ → Type 0
-NeedsEntry line = NeedsKeyFields (without_blanks line) ⊎ NeedsBehind (without_blanks line)
+-- The line is no comment, and a key at its front needs it, or options before a key.
+pub record NeedsEntry (line : List ℕ) : Type 0 where
+  pub no_comment : slice_index (without_blanks line) 0 ≢ hash
+  pub needed : NeedsKeyFields (without_blanks line) ⊎ NeedsBehind (without_blanks line)
 
 -- One answer of a reader of lines: the entry of the line, or why it is none; and memory was refused
 -- only where it was needed.

@@ -76,7 +76,7 @@ impl Entry {
     /// stands; and else the errors of `sshkey_files::read_key_fields`.
     ///
     /// Fails with `Memory` only if `sshkey_files::read_key_fields` may answer it, of the line or
-    /// of what stands after its options, and for the options of an entry.
+    /// of what stands after its options, and for the options of an entry: never of a comment.
     ///
     /// The options are kept as they stand, also those that sshd does not know; sshd rejects a line
     /// with one of these. A key of whatever kind this library reads is read, private-use names too,

@@ -25,7 +25,7 @@ pub returns-clause-fault : goal.returns-clause-fault
 returns-clause-fault c = behind_fault c.args.line.now c.skip_blanks-text.result.now c.skip_blanks-text.ensures (λ here. cc (sym c.if-is_comment.false ∙ c.is_comment.ensures.1 here)) c.behind_options.result c.behind_options.ensures.fault
 
 pub returns-then-is_memory-clause-asks : goal.returns-then-is_memory-clause-asks
-returns-then-is_memory-clause-asks c = λ memory. alone_needs c.args.line.now c.skip_blanks-text.result.now c.skip_blanks-text.ensures (c.in-Err.ensures.asks memory)
+returns-then-is_memory-clause-asks c = λ memory. alone_needs c.args.line.now c.skip_blanks-text.result.now c.skip_blanks-text.ensures (λ here. cc (sym c.if-is_comment.false ∙ c.is_comment.ensures.1 here)) (c.in-Err.ensures.asks memory)
 
 pub returns-clause-asks : goal.returns-clause-asks
-returns-clause-asks c = behind_needs c.args.line.now c.skip_blanks-text.result.now c.skip_blanks-text.ensures c.behind_options.result c.behind_options.ensures.asks
+returns-clause-asks c = behind_needs c.args.line.now c.skip_blanks-text.result.now c.skip_blanks-text.ensures (λ here. cc (sym c.if-is_comment.false ∙ c.is_comment.ensures.1 here)) c.behind_options.result c.behind_options.ensures.asks
