@@ -1,5 +1,5 @@
 -- What is answered of bytes that are written to a room.
-use Rattle.std.specs.Prelude.{◌≡◌, ◌≢◌, ◌⊎◌, ℕ, List, length, Result, Ok, Err}
+use Rattle.std.specs.Prelude.{◌≡◌, ◌≢◌, ◌⊎◌, ℕ, List, ◌++◌, length, take, Result, Ok, Err}
 use Rattle.sshkey_base.specs.declared.encoding.Error.TheVariants.{Length}
 use Rattle.sshkey_base.specs.declared.error.Error.{Error}
 use Rattle.sshkey_base.specs.declared.error.Error.TheVariants.{Encoding, Memory}
@@ -26,3 +26,7 @@ IsNoRoomFor p e = ((BoxesFit p → ⊥) × (e ≡ Encoding Length)) ⊎ (BoxesFi
 -- The parts were not added: a box of them is too long, and that is `Length`, or memory ran out.
 abbrev pub IsNotAdded : Parts → Error → Type 0
 IsNotAdded p e = ((BoxesFit p → ⊥) × (e ≡ Encoding Length)) ⊎ (e ≡ Memory)
+
+-- A beginning of the bytes stands behind what stood before, which may be none of them.
+abbrev pub AddsBeginning : List ℕ → List ℕ → List ℕ → Type 0
+AddsBeginning before bytes after = (count : ℕ) × (after ≡ before ++ take count bytes)

@@ -1,13 +1,14 @@
 //! Parts of the caller's room.
 
-ghost use Rattle.std.specs.Prelude.{◌≡◌, ◌++◌, [], length, IfErr, IfOk, OnErr};
+ghost use Rattle.std.specs.Prelude.{◌≡◌, ◌++◌, ◌+◌, ◌≤◌, [], length, IfErr, IfOk, OnErr};
+ghost use Rattle.std.specs.Vec.{vec_capacity};
 ghost use Rattle.sshkey_base.specs.declared.error.Error.TheVariants as wide;
 ghost use Rattle.sshkey_model.specs.Parts.{flat};
 ghost use Rattle.sshkey_calls.specs.Rooms.{AnswersWith, Fills};
-ghost use Rattle.sshkey_calls.specs.Writing.{IsNoRoomFor, IsNotAdded};
+ghost use Rattle.sshkey_calls.specs.Writing.{AddsBeginning, IsNoRoomFor, IsNotAdded};
 
 use crate::number::{DONE, MEMORY, ROOM};
-use sshkey_base::{Encode, Result};
+use sshkey_base::{Encode, Error, Result};
 use std::alloc::Global;
 
 /// A part of bytes.
@@ -24,9 +25,13 @@ pub struct Part {
 /// exactly where `encoded_len` does, and else only when out of memory.
 pub fn with_capacity<T: Encode>(alloc: Global, value: &T, more: usize) -> Result<Vec<u8>>
     ensures empty { IfOk result (λ content. content.items ≡ []) }
+    ensures capacity { IfOk result
+        (λ content. length (flat (T.normal value.now)) + more ≤ vec_capacity content) }
     ensures refused { IfErr result (IsNoRoomFor (T.normal value.now)) }
 {
-    let capacity = value.encoded_len()?.saturating_add(more);
+    let Some(capacity) = value.encoded_len()?.checked_add(more) else {
+        return Err(Error::Memory);
+    };
     Ok(Vec::with_capacity(alloc, capacity)?)
 }
 
@@ -48,13 +53,16 @@ pub fn add(bytes: &[u8], content: &mut Vec<u8>) -> Result<Part>
 }
 
 /// Adds the value's normal form to the bytes that the room is to hold. Fails as `encode` does, with
-/// `Length` only where a string in it is too long, and else only when out of memory.
+/// `Length` only where a string in it is too long, and else only when out of memory; then a
+/// beginning of it may stand after these bytes.
 pub fn add_encoded<T: Encode>(value: &T, content: &mut Vec<u8>) -> Result<Part>
     ensures added { IfOk result
         (λ _. content.new.items ≡ content.old.items ++ flat (T.normal value.now)) }
     ensures start { IfOk result (λ part. part.start ≡ length content.old.items) }
     ensures length { IfOk result (λ part. part.length ≡ length (flat (T.normal value.now))) }
     ensures refused { IfErr result (IsNotAdded (T.normal value.now)) }
+    ensures begun { OnErr result (AddsBeginning content.old.items (flat (T.normal value.now))
+        content.new.items) }
 {
     let start = content.len();
     value.encode(content)?;

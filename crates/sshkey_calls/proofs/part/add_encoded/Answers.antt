@@ -6,7 +6,7 @@ use Rattle.sshkey_base.specs.declared.encoding.Error as narrow
 use Rattle.sshkey_base.specs.declared.encoding.Error.TheVariants.{Memory}
 use Rattle.sshkey_base.specs.Sink.{NotWritten, Sink, after}
 use Rattle.sshkey_model.specs.Parts.{Parts, flat}
-use Rattle.sshkey_calls.specs.Writing.{IsNotAdded}
+use Rattle.sshkey_calls.specs.Writing.{AddsBeginning, IsNotAdded}
 use Rattle.sshkey_calls.proofs.part.add_encoded.Goals as goal
 
 -- what the sink has then
@@ -45,3 +45,14 @@ pub returns-in_err-encode-clause-refused : goal.returns-in_err-encode-clause-ref
 returns-in_err-encode-clause-refused g c =
     let p = err_from_is_err_and c.from_residual.result c.from_residual.ensures.1 in
     rw (p.1, p.2) (not_added _ _ _ _ c.in_err-encode.ensures)
+
+-- what it holds where it does not
+begun : (p : Parts) (s t : Sink) (e : narrow.Error) → NotWritten (λ own. own ≡ Memory) p s e t → AddsBeginning s.written (flat p) t.written
+unfolding NotWritten
+begun p s t e (inl long) = (long.prefix.count, long.prefix.added)
+begun p s t e (inr stopped) = (stopped.prefix.count, stopped.prefix.added)
+
+pub returns-in_err-encode-clause-begun : goal.returns-in_err-encode-clause-begun
+returns-in_err-encode-clause-begun g c =
+    let p = err_from_is_err_and c.from_residual.result c.from_residual.ensures.1 in
+    rw p.1 (begun _ _ _ _ c.in_err-encode.ensures)
