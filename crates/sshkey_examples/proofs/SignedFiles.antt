@@ -6,7 +6,6 @@ use Rattle.std.specs.Prelude.{bytes_eq}
 use Rattle.ssh_key.specs.base.Acceptance.{AcceptsExactly, SpellsSome}
 use Rattle.ssh_key.specs.base.Causes.{NoMemory, cause}
 use Rattle.ssh_key.specs.base.Comparisons.{IsEqualityAmong}
-use Rattle.ssh_key.specs.base.Names.{algorithm_of}
 use Rattle.ssh_key.specs.base.Reading.{NoSpelling}
 use Rattle.ssh_key.specs.base.Source.{IsSound, all_of}
 use Rattle.ssh_key.specs.keys.Comparisons.{HasForm}
@@ -16,7 +15,6 @@ use Rattle.ssh_key.specs.keys.Signatures.{signature_of}
 use Rattle.ssh_key.specs.keys.Verdicts.{NotAccepted, Refusal, Says, judged, unsupported_of}
 use Rattle.ssh_key.specs.model.Keys.{Key}
 use Rattle.ssh_key.specs.model.Lines.{IsKeyLine, IsNoLine, LinesDetermineValues, key_name}
-use Rattle.ssh_key.specs.model.Names.{algorithm_name}
 use Rattle.ssh_key.specs.model.Parts.{BoxesFit, flat}
 use Rattle.ssh_key.specs.model.SignedMessages.{IsVerified}
 use Rattle.ssh_key.specs.model.SshSignatures.{SshSignature}
@@ -37,7 +35,7 @@ use Rattle.ssh_key.specs.types.SshSig.{SshSig}
 use Rattle.ssh_key.specs.types.public.KeyData.{KeyData}
 use Rattle.ssh_key.specs.types.public.KeyData.TheVariants as kinds
 use Rattle.ssh_key.proofs.Acceptance.{other_cause}
-use Rattle.sshkey_examples.specs.SignedFiles.{BadSignature, HasSigned, IsBadFor, IsNotAccepted, IsSignedFile, IsWhyNot, NeedsMemory, OtherKey, OtherNamespace, SaysNo, Unsupported}
+use Rattle.sshkey_examples.specs.SignedFiles.{BadSignature, HasSigned, IsBadFor, IsNamed, IsNotAccepted, IsSignedFile, IsWhyNot, NeedsMemory, OtherKey, OtherNamespace, SaysNo, Unsupported}
 use Rattle.sshkey_examples.specs.SignedFiles as why
 
 -- ---- what the verifier says
@@ -50,20 +48,20 @@ said_no : (b : Bool) → ◌≡◌ {A = Result (Unit {0}) Refusal} (if b then Ok
 said_no true same = absurd cc
 said_no false same = refl
 
--- the algorithm that is named is that of the signature or of the key
-named : (k : KeyData) (g : Signature) → (algorithm_of (unsupported_of k g) ≡ (signature_of g).algorithm) ⊎ (algorithm_name (algorithm_of (unsupported_of k g)) ≡ key_name (key_of k))
-named (kinds.Dsa k) g = inl refl
-named (kinds.Ecdsa k) g = inl refl
-named (kinds.Ed25519 k) g = inl refl
-named (kinds.Rsa k) g = inl refl
-named (kinds.SkEcdsaSha2NistP256 k) g = inl refl
-named (kinds.SkEd25519 k) g = inl refl
-named (kinds.Other k) g = inr refl
+-- the algorithm that is named
+named : (k : KeyData) (g : Signature) → IsNamed (key_of k) (signature_of g) (unsupported_of k g)
+named (kinds.Dsa k) g = record { opaque = λ is. absurd cc; other = λ _. refl }
+named (kinds.Ecdsa k) g = record { opaque = λ is. absurd cc; other = λ _. refl }
+named (kinds.Ed25519 k) g = record { opaque = λ is. absurd cc; other = λ _. refl }
+named (kinds.Rsa k) g = record { opaque = λ is. absurd cc; other = λ _. refl }
+named (kinds.SkEcdsaSha2NistP256 k) g = record { opaque = λ is. absurd cc; other = λ _. refl }
+named (kinds.SkEd25519 k) g = record { opaque = λ is. absurd cc; other = λ _. refl }
+named (kinds.Other k) g = record { opaque = λ _. refl; other = λ is. absurd cc }
 
 not_accepted : (accepts : Question → Bool) (k : KeyData) (message : List ℕ) (g : Signature) (o : Option Question) (e : Error) → question (key_of k) message (signature_of g) ≡ o → Says (judged accepts (unsupported_of k g) o) e → e ≢ error.Memory → IsNotAccepted accepts (key_of k) message (signature_of g) e
 not_accepted accepts k message g None (error.AlgorithmUnsupported a) none said other =
     let same : unsupported_of k g ≡ a = cc said in
-    Unsupported none a (subst (λ (b : Algorithm). (algorithm_of b ≡ (signature_of g).algorithm) ⊎ (algorithm_name (algorithm_of b) ≡ key_name (key_of k))) same (named k g))
+    Unsupported none a (subst (IsNamed (key_of k) (signature_of g)) same (named k g))
 not_accepted accepts k message g (Some q) (error.AlgorithmUnsupported a) asked said other = absurd (no_verdict (accepts q) a said)
 not_accepted accepts k message g None error.Crypto none said other = absurd cc
 not_accepted accepts k message g (Some q) error.Crypto asked said other = SaysNo q asked (said_no (accepts q) said)

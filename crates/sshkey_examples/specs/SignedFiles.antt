@@ -1,9 +1,10 @@
 -- What whoever is given a signed file learns.
-use Rattle.std.specs.Prelude.{◌≡◌, ◌≢◌, ◌⊎◌, ℕ, List, [], Bool, false, None, Some, IsErrAnd}
+use Rattle.std.specs.Prelude.{◌≡◌, ◌≢◌, ◌⊎◌, ℕ, List, [], Bool, true, false, None, Some, IsErrAnd}
 use Rattle.ssh_key.specs.base.Acceptance.{SpellsSome}
 use Rattle.ssh_key.specs.base.Causes.{Faulty, cause}
 use Rattle.ssh_key.specs.base.Names.{algorithm_of}
 use Rattle.ssh_key.specs.keys.KeyFormats.{key_format}
+use Rattle.ssh_key.specs.keys.KeyKinds.{is_opaque}
 use Rattle.ssh_key.specs.keys.Keys.{SpellsKey}
 use Rattle.ssh_key.specs.model.Keys.{Key}
 use Rattle.ssh_key.specs.model.Lines.{IsKeyLine, IsNoLine, key_name}
@@ -39,10 +40,15 @@ pub record IsSignedFile (accepts : Question → Bool) (text namespace content by
 
 -- ---- why a file is not accepted
 
--- Nothing can be asked about the signature under the key, and its algorithm or the key's is named;
--- or the verifier says no.
+-- It is the key's algorithm, if that is a private-use name, and else the signature's.
+pub record IsNamed (k : Key) (g : Signature) (a : Algorithm) : Type 0 where
+  pub opaque : is_opaque k ≡ true → algorithm_name (algorithm_of a) ≡ key_name k
+  pub other : is_opaque k ≡ false → algorithm_of a ≡ g.algorithm
+
+-- Nothing can be asked about the signature under the key, and that algorithm is named; or the
+-- verifier says no.
 pub data IsNotAccepted (accepts : Question → Bool) (k : Key) (message : List ℕ) (g : Signature) : Error → Type 0 where
-  Unsupported : question k message g ≡ None → (a : Algorithm) → (algorithm_of a ≡ g.algorithm) ⊎ (algorithm_name (algorithm_of a) ≡ key_name k) → IsNotAccepted accepts k message g (AlgorithmUnsupported a)
+  Unsupported : question k message g ≡ None → (a : Algorithm) → IsNamed k g a → IsNotAccepted accepts k message g (AlgorithmUnsupported a)
   SaysNo : (q : Question) → question k message g ≡ Some q → accepts q ≡ false → IsNotAccepted accepts k message g Crypto
 
 -- What is wrong with the SSH signature first: bytes are reserved, it is another key's, it is in
