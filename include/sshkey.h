@@ -493,7 +493,8 @@ typedef struct {
  * on for ever: refuse an entry with an option that you do not know, one that names an option twice,
  * but for environment, permitlisten and permitopen, which may come more than once, one that has no
  * value where sshd wants one, as command alone, or has one where it wants none, and one that has
- * principals without cert-authority. */
+ * principals without cert-authority. The lists of from and of principals are read wrongly with
+ * ease: docs/CALLING.md says how sshd reads them. */
 uint32_t sshkey_nth_option(const uint8_t *options, size_t options_length, size_t number,
                            uint8_t *room, size_t room_length, sshkey_entry_option_parts *answer);
 

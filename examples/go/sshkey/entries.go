@@ -70,8 +70,9 @@ func KnownHost(line string) (HostEntry, error) {
 // Refuse an entry with an option that you do not know, one that comes twice, also with other
 // capitals (but for environment, permitlisten and permitopen), one without a value that needs one,
 // as command alone, one with a value that takes none, as no-pty="x", and principals without
-// cert-authority. Each takes time for the whole text, so bound the length of lines that others
-// write.
+// cert-authority. The lists of from and of principals are read wrongly with ease: docs/CALLING.md
+// says how sshd reads them. Each option takes time for the whole text, so bound the length of lines
+// that others write.
 func EntryOptions(text string) ([]EntryOption, error) {
 	in, found := inputOf(text), []EntryOption{}
 	for {

@@ -151,8 +151,9 @@ pub struct EntryOptions<'a> {
 /// Refuse an entry with an option that you do not know, one that comes twice, also with other
 /// capitals (but for environment, permitlisten and permitopen), one without a value that needs one,
 /// as `command` alone, one with a value that takes none, as `no-pty="x"`, and `principals` without
-/// `cert-authority`. Do not `flatten()` the items: that passes over what fails, and so over
-/// options.
+/// `cert-authority`. The lists of `from` and of `principals` are read wrongly with ease:
+/// docs/CALLING.md says how sshd reads them. Do not `flatten()` the items: that passes over what
+/// fails, and so over options.
 pub fn entry_options(text: &[u8]) -> EntryOptions<'_> {
     EntryOptions {
         text,
