@@ -8,7 +8,7 @@ ghost use Rattle.sshkey_keys.specs.Signatures.{signature_of};
 ghost use Rattle.sshkey_model.specs.Certificates.{IsCertificate, is_time, is_end, forever};
 ghost use Rattle.sshkey_model.specs.Keys.{IsKey, key_algorithm};
 ghost use Rattle.sshkey_options.specs.CertTypes.{type_of};
-ghost use Rattle.sshkey_cert.specs.CertificateValues.{certificate_of, certified_key_of, comment_of};
+ghost use Rattle.sshkey_cert.specs.CertificateValues.{certificate_of, certified_key_of, comment_of, signer_of};
 ghost use Rattle.sshkey_options.specs.OptionMaps.{options_of};
 
 use super::Certificate;
@@ -49,6 +49,7 @@ impl Certificate {
     pub fn public_key(&self) -> &KeyData
         ensures value { key_of result.now ≡ (certificate_of self.now).signed.key }
         ensures well_formed { IsCertificate (certificate_of self.now) → IsKey (key_of result.now) }
+        ensures same { result.now ≡ certified_key_of self.now }
     {
         &self.fields.public_key
     }
@@ -123,6 +124,7 @@ impl Certificate {
     pub fn signature_key(&self) -> &KeyData
         ensures value { key_of result.now ≡ (certificate_of self.now).signed.signature_key }
         ensures well_formed { IsCertificate (certificate_of self.now) → IsKey (key_of result.now) }
+        ensures same { result.now ≡ signer_of self.now }
     {
         &self.fields.signature_key
     }
