@@ -1,87 +1,42 @@
--- The history that `and` makes has the bytes of both.
-use Rattle.std.proofs.Common.{List, [], ◌∷◌, ◌++◌, refl}
-use mir.Val.{Val, vptr}
-use types.Kit.{‵, raw, ◌⊛◌, prop, ◌$◌, ◌∵◌, !, qed, move, keep, drop, split, fsplit, fjoin, feq_l, regoal, suffices, done}
-use denote.Exit.{yes}
-use denote.Signature.{types_at, plain, named_lft}
-use denote.Builtin.{RefOf}
-use denote.Triple.Walked.{says, Stays, stay_dropped, walk_of, ends_at, walk_Meets, Goes-dropped}
-use Rattle.sshkey_base64.specs.contracts.history.Piece as Piece
-use seplogic.Ra.Ura.{Ura}
-use mir.Syntax.{Fn}
-use base.Logic.{SProp, ent}
-use prog.Memory.{Memory}
-use prog.Routine.{Routine}
-use prog.Wp.{Calls, Loops, WpFn, Tables}
-use contract.Monad.{Fun}
-use contract.Running.{tables, tables_of}
-use sound.WpLaws.{WpFn-mono}
-use types.Logic.{Logic}
+-- The history that `and` makes has the bytes of both. Assumes `Logic`.
+use Rattle.std.proofs.Common.{[], ◌∷◌, ◌++◌, refl}
+use Rattle.std.proofs.raw_atomic.Walks.{proved}
+use mir.Syntax.{named}
+use types.Kit.{‵, raw, ◌⊛◌, ◌$◌, ◌∵◌, !, qed, move, keep, split, fjoin, suffices, done}
 use types.Part.{agg}
 use types.Run.{enter, returns, no_more}
 use types.ByLocal.{alloc_all, pass_all, free_all, look_at, sets}
+use denote.Builtin.{RefOf}
+use denote.Exit.{yes}
 use denote.RattleType.{owns}
+use denote.Ref.{shr_vals, shr_Tells}
+use denote.Signature.{types_at, plain, named_lft}
 use denote.Steps.{nothing}
-use denote.Triple.Clauses.{Clauses, Ended, closing}
-use denote.Triple.Entry.{alive}
-use denote.Triple.Spec.{Meets, triple_of}
-use denote.Triple.Table.{entered}
+use denote.Triple.Entry.{Vals, alive}
+use denote.Triple.Walked.{says, Stays, stay_dropped, ends_at, Goes-dropped}
 use Rattle.sshkey_base64.proofs.Walks.{empty, made_empty}
 use Rattle.sshkey_base64.specs.contracts.history.History as History
 use Rattle.sshkey_base64.specs.contracts.history.History.and as F
-use Rattle.sshkey_base64.specs.contracts.history.History.and.Key.{name as #self}
-use Rattle.sshkey_base64.proofs.history.History.and.Statement as stated
+use Rattle.sshkey_base64.specs.contracts.history.Piece as Piece
+use Rattle.sshkey_base64.proofs.history.History.and.Statement.{statement}
 use Rattle.sshkey_base64.proofs.history.History.and.Code as code
 
-abbrev function : Fn
-function = code.function
-
-abbrev ended : Ended
-ended = F.ended
-
-abbrev stayed : Stays ended.signature.params ended.kept
+abbrev stayed : Stays F.ended.signature.params F.ended.kept
 stayed = (stay_dropped _ yes, (stay_dropped _ yes, tt))
 
-module _ {M : Type 1} {𝓤 : Ura M} (𝓛 : Logic 𝓤) (at_mem : Memory → SProp 𝓤) (run : Routine → Fun 𝓤) where
-  open 𝓛 use {H}
-
-  abbrev held : Clauses 𝓤 ended
-  held = F.clauses 𝓛 at_mem run
-
-  module _ (C : Calls 𝓤 H) (Λ : Loops 𝓤 H) (z : (walk_of 𝓛 ended stayed held).Ghost) where
-    abbrev Post : Val → SProp 𝓤
-    Post = (walk_of 𝓛 ended stayed held).post z
-
-    abbrev tokens : SProp 𝓤
-    tokens = alive 𝓛 ended.signature z.0.0 z.0.1
-
-    walks : ent 𝓤 ((walk_of 𝓛 ended stayed held).pre z) (WpFn 𝓤 H C Λ function ((walk_of 𝓛 ended stayed held).args z) Post)
-    walks =
-        let a = z.0.3 in
-        let vss = z.0.4 in
-        let p : Val = vptr a.0.ref_ptr.0 a.0.ref_ptr.1 in
-        let q : Val = vptr a.1.0.ref_ptr.0 a.1.0.ref_ptr.1 in
-        let made : (History.the_row).Denot = record { bytes = a.0.now.bytes ++ a.1.0.now.bytes.now } in
-        qed 𝓛 ((raw tokens ⊛ ‵ (owns (types_at ended.signature.params z.0.0) a vss)) ∷ raw ((held z.0.0 a).requires z.1) ∷ []) ∵
-        keep ! (0 ∷ []) $ split ! $ move ! (1 ∷ []) $ fsplit ! $ fsplit ! $ feq_l ! (λ is₀. drop ! $ fsplit ! $ fsplit ! $ feq_l ! (λ is₁. drop ! $ drop ! $
-        regoal ! (λ (us : List Val). prop (WpFn 𝓤 H C Λ function (us ++ (vss.1.0 ++ [])) Post)) is₀ refl $
-        regoal ! (λ (us : List Val). prop (WpFn 𝓤 H C Λ function ((p ∷ []) ++ (us ++ [])) Post)) is₁ refl $
-        enter ! C Λ function (p ∷ q ∷ []) Post $ alloc_all ! (λ l. pass_all ! refl ((tt, tt), ((tt, tt), tt)) $
-        sets ! (agg ! (no_more !)) refl (tt, tt) $
-        nothing ! $ made_empty ! $ fjoin ! $
-        returns ! (look_at ! 0 refl) $ free_all ! refl $
-        suffices ! _ (ends_at 𝓛 ended stayed held z empty made (tt, (tt, tt)) (tt, (tt, tt))) $ says ! refl $
-        nothing ! $ nothing ! $ fjoin ! $ nothing ! $ fjoin ! $ move ! (2 ∷ 0 ∷ 1 ∷ []) $ done !)))
-
-  meets : (𝓣 : Tables 𝓤 H) → Meets 𝓛 ended.signature (WpFn 𝓤 H 𝓣.C 𝓣.Λ function) (closing 𝓛 ended held)
-  meets 𝓣 =
-      walk_Meets 𝓛 ended stayed
-      (Goes-dropped 𝓛 3 (RefOf (0 ∷ []) tt (plain (λ _. History.the_row)) (λ _. tt)) yes (λ κs x f. refl), (Goes-dropped 𝓛 3 (RefOf (1 ∷ []) tt (plain (λ κs. Piece.the_row (named_lft 3 2 tt κs))) (λ _. tt)) yes (λ κs x f. refl), tt))
-      held (WpFn 𝓤 H 𝓣.C 𝓣.Λ function) (WpFn-mono 𝓤 H 𝓛.laws 𝓣 function) (walks 𝓣.C 𝓣.Λ)
-
-pub and_spec : {M : Type 1} → stated.statement M
-unfolding tables_of
+pub and_spec : {M : Type 1} → statement M
 and_spec 𝓤 𝓛 𝓜 𝓡 wired =
-    let 𝓣 : Tables 𝓤 𝓛.H = tables_of 𝓤 𝓛.H 𝓜 (tables 𝓤 𝓛.H 𝓜 𝓡 𝓡.env) in
-    entered 𝓤 𝓛.H (triple_of 𝓛 ended.signature (closing 𝓛 ended (held 𝓛 𝓜.mem 𝓡.returns))) 𝓣.C 𝓣.Λ #self function
-    (code.unfolded 𝓤 𝓛.H 𝓜 𝓡 wired) (meets 𝓛 𝓜.mem 𝓡.returns 𝓣)
+    let c = F.clauses 𝓛 𝓜.mem 𝓡.returns in
+    proved 𝓛 F.ended stayed c 𝓜 𝓡
+    (Goes-dropped 𝓛 3 (RefOf (0 ∷ []) tt (plain (λ _. History.the_row)) (λ _. tt)) yes (λ κs x f. refl), (Goes-dropped 𝓛 3 (RefOf (1 ∷ []) tt (plain (λ κs. Piece.the_row (named_lft 3 2 tt κs))) (λ _. tt)) yes (λ κs x f. refl), tt))
+    F.Key.name code.function (code.unfolded 𝓤 𝓛.H 𝓜 𝓡 wired) (λ κs. (shr_vals, (shr_vals, tt)))
+    (λ κs. (shr_Tells (named 0) κs.0 History.the_row, (shr_Tells (named 1) κs.1.0 (Piece.the_row (named_lft 3 2 tt κs)), tt))) (λ κs qs bounds a n are.
+    let vs : Vals F.ended.signature κs = (shr_vals a.0, (shr_vals a.1.0, tt)) in
+    let made : (History.the_row).Denot = record { bytes = a.0.now.bytes ++ a.1.0.now.bytes.now } in
+    qed 𝓛 ((raw (alive 𝓛 F.ended.signature κs qs) ⊛ ‵ (owns (types_at F.ended.signature.params κs) a vs)) ∷ raw ((c κs a).requires n) ∷ []) ∵
+    split ! $ keep ! (0 ∷ []) $ enter ! _ _ _ _ _ $ alloc_all ! (λ l. pass_all ! refl ((tt, tt), ((tt, tt), tt)) $
+    sets ! (agg ! (no_more !)) refl (tt, tt) $
+    nothing ! $ made_empty ! $ fjoin ! $
+    returns ! (look_at ! 0 refl) $ free_all ! refl $
+    suffices ! _ (ends_at 𝓛 F.ended stayed c ((κs, qs, bounds, a, vs), n) empty made (tt, (tt, tt)) (tt, (tt, tt))) $ says ! refl $
+    nothing ! $ nothing ! $ fjoin ! $ nothing ! $ fjoin ! $ move ! (2 ∷ 0 ∷ 1 ∷ []) $ done !))
