@@ -1,79 +1,39 @@
 -- How an option is cut off a text.
-use Rattle.std.proofs.Common.{◌≡◌, ◌&&◌, ◌==◌, ℕ, zero, suc, ◌<◌, ◌≤◌, ◌+◌, List, [], ◌∷◌, ◌++◌, ◌-◌, length, get_or, take, drop, slice_range, slice_index, Bool, true, false, not, cond, Option, None, Some, position, refl, sym, ap, subst, ◌∙◌, arith, tests, inl, inr, lt-ltb, eqb-true, take-append-drop, append-nil, append_assoc}
-use Rattle.std.proofs.lemmas.Bool.{cases_lt, not-true, and_parts}
-use Rattle.std.proofs.lemmas.List.{get_or-take, get_or-drop, length-take-le, length-append, at_drop_more, nil_from_length}
-use Rattle.std.proofs.lemmas.List.Quantifiers.{position-Some}
-use Rattle.std.proofs.lemmas.List.Sums.{fails_before_first}
-use Rattle.std.proofs.lemmas.Str.{IsCharBoundary-start, IsCharBoundary-before_ascii, IsCharBoundary-after_ascii}
-use Rattle.std.specs.List.{position_or_len}
+use Rattle.std.proofs.Common.{◌≡◌, ◌⊎◌, ◌&&◌, ◌==◌, ℕ, zero, suc, ◌<◌, ◌≤◌, ◌+◌, List, [], ◌∷◌, ◌++◌, ◌-◌, length, take, drop, slice_range, slice_index, Bool, true, false, not, cond, Option, None, Some, refl, sym, ap, subst, ◌∙◌, arith, tests, inl, inr, eqb-true, take-append-drop, append_assoc}
+use Rattle.std.proofs.lemmas.Bool.{cases_lt, not-false, not-true, and_parts}
+use Rattle.std.proofs.lemmas.List.{length-take-le, length-append, at_drop_more, nil_from_length}
+use Rattle.std.proofs.lemmas.Str.{IsCharBoundary-after_ascii}
 use Rattle.std.specs.Str.{IsUtf8, IsCharBoundary}
 use Rattle.sshkey_files.specs.Items.{is_comma, is_quote}
 use Rattle.sshkey_files.specs.OptionItems.{KeyOption, quote, equals_sign, backslash, is_name_character, IsQuoted, unescaped, IsValueAt, EndsOption, IsOptionAt, without_commas, AreKeyOptions}
 use Rattle.sshkey_files.specs.StrictReading.{is_mark}
 use Rattle.sshkey_files.specs.OptionItems.{HasKeyOptions}
 use Rattle.sshkey_authorized_keys.specs.OptionCuts.{CutsName, FindsFirst, is_escape}
-use Rattle.sshkey_files.proofs.OneOption.{commas_skipped, commas_alone, mark_front, comma_skipped, other_stays, nothing_stays, same_quoted, same_name, value_ends, no_value, one_option, some_option}
-
-no_place : (p : ℕ → Bool) (xs : List ℕ) → position p xs ≡ None → (k : ℕ) → k < length xs → p (get_or xs k 0) ≡ false
-no_place p xs none k l = elim (cases_lt (position_or_len p xs) (length xs)) [
-  | inl less ↦ cc (sym none ∙ ap (λ (b : Bool). cond b (Some (position_or_len p xs)) None) (lt-ltb _ _ less))
-  | inr above ↦ fails_before_first p xs k 0 (omega (arith, l, above))
-]
-
-by_not : (b : Bool) → not b ≡ false → b ≡ true
-by_not true e = refl
-by_not false e = cc e
+use Rattle.sshkey_files.proofs.Fronts.{IsCut, nothing_stays, skipped, stays}
+use Rattle.sshkey_files.proofs.OneOption.{mark_front, same_quoted, same_name, value_ends, no_value, one_option, some_option}
 
 -- ---- commas
 
-abbrev is_other : ℕ → Bool
-is_other c = not (is_comma c)
-
-comma_ascii : (c : ℕ) → is_comma c ≡ true → c < 128
+pub comma_ascii : (c : ℕ) → is_comma c ≡ true → c < 128
 comma_ascii c e = omega (arith, eqb-true c 0x2c e)
-
-behind_commas : (text : List ℕ) (n : ℕ) → IsUtf8 text → n ≤ length text → ((k : ℕ) → k < n → is_comma (slice_index text k) ≡ true) → IsCharBoundary text n
-behind_commas text zero utf8 l h = IsCharBoundary-start text utf8
-behind_commas text (suc n) utf8 l h =
-    let one : n + 1 ≡ suc n = omega arith in
-    subst (IsCharBoundary text) one (IsCharBoundary-after_ascii text n utf8 (omega (arith, l)) (comma_ascii (slice_index text n) (h n (omega arith))))
-
-pub skips : (text bytes : List ℕ) (n : ℕ) → IsUtf8 text → bytes ≡ text → Some n ≡ position (λ c. not (is_comma c)) bytes → IsCharBoundary text n × (without_commas text ≡ drop n text)
-skips text bytes n utf8 same is =
-    let place = position-Some is_other text n 0 (sym (is ∙ ap (position is_other) same)) in
-    let commas : (k : ℕ) → k < n → is_comma (slice_index text k) ≡ true = λ k l. by_not (is_comma (slice_index text k)) (place.2 k l) in
-    (behind_commas text n utf8 (omega (arith, place.0)) commas, commas_skipped n text commas (not-true _ place.1))
-
-pub skips_all : (text bytes : List ℕ) → bytes ≡ text → None ≡ position (λ c. not (is_comma c)) bytes → without_commas text ≡ []
-skips_all text bytes same is = commas_alone text (λ k l. by_not (is_comma (slice_index text k)) (no_place is_other text (sym (is ∙ ap (position is_other) same)) k l))
 
 -- ---- names
 
-abbrev ends_name : ℕ → Bool
+abbrev pub ends_name : ℕ → Bool
 ends_name c = not (is_name_character c)
 
-end_ascii : (c : ℕ) → is_name_character c ≡ false → c < 128
-end_ascii c e = grind (arith, tests)
+pub end_ascii : (c : ℕ) → ends_name c ≡ true → c < 128
+end_ascii c e = other c (not-true _ e)
+  where
+    other : (d : ℕ) → is_name_character d ≡ false → d < 128
+    other d is = grind (arith, tests)
 
-pub name_place : (text bytes : List ℕ) (n : ℕ) → bytes ≡ text → Some n ≡ position (λ c. not (is_name_character c)) bytes → IsCharBoundary text n
-name_place text bytes n same is =
-    let place = position-Some ends_name text n 0 (sym (is ∙ ap (position ends_name) same)) in
-    IsCharBoundary-before_ascii text n place.0 (end_ascii (slice_index text n) (not-true _ place.1))
-
-pub name_cut : (text bytes front back : List ℕ) (n : ℕ) → bytes ≡ text → Some n ≡ position (λ c. not (is_name_character c)) bytes → front ≡ take n text → back ≡ drop n text → CutsName text front back
-name_cut text bytes front back n same is first rest =
-    let place = position-Some ends_name text n 0 (sym (is ∙ ap (position ends_name) same)) in
-    let same_place : n + 0 ≡ n = omega arith in
-    let size : length (take n text) ≡ n = length-take-le n text (omega (arith, place.0)) in
-    record {
-      is = sym (take-append-drop n text) ∙ (λ j. sym first j ++ sym rest j);
-      characters = λ i l. let less : i < n = omega (arith, l, ap length first, size) in
-          ap (λ (t : List ℕ). is_name_character (slice_index t i)) first ∙ ap is_name_character (get_or-take n text i 0 less) ∙ by_not _ (place.2 i less);
-      ends = inr (ap (λ (t : List ℕ). is_name_character (slice_index t 0)) rest ∙ ap is_name_character (get_or-drop n text 0 0) ∙ ap (λ (k : ℕ). is_name_character (slice_index text k)) same_place ∙ not-true _ place.1);
-    }
-
-pub name_all : (text bytes : List ℕ) → bytes ≡ text → None ≡ position (λ c. not (is_name_character c)) bytes → CutsName text text []
-name_all text bytes same is = record { is = sym (append-nil text); characters = λ i l. by_not _ (no_place ends_name text (sym (is ∙ ap (position ends_name) same)) i l); ends = inl refl }
+pub cuts_name : (text name rest : List ℕ) → IsCut ends_name text name rest → CutsName text name rest
+cuts_name text name rest cut = record { is = cut.0; characters = λ i l. not-false _ (cut.1 i l); ends = end cut.2 }
+  where
+    end : (rest ≡ []) ⊎ (ends_name (slice_index rest 0) ≡ true) → (rest ≡ []) ⊎ (is_name_character (slice_index rest 0) ≡ false)
+    end (inl none) = inl none
+    end (inr is) = inr (not-true _ is)
 
 -- ---- quoted texts
 
@@ -194,11 +154,11 @@ none_left text commas skips none [] h = (refl, h)
 none_left text commas skips none (o ∷ more) h = absurd (none o h.0 (subst (λ (t : List ℕ). IsOptionAt t o h.0) (sym skips) h.1))
 
 at_most_by : (c : ℕ) (text : List ℕ) (b : Bool) → is_comma c ≡ b → length (without_commas text) ≤ length text → length (without_commas (c ∷ text)) ≤ suc (length text)
-at_most_by c text true e l = omega (arith, ap length (comma_skipped c text e), l)
-at_most_by c text false e l = omega (arith, ap length (other_stays c text e))
+at_most_by c text true e l = omega (arith, ap length (skipped is_comma c text e), l)
+at_most_by c text false e l = omega (arith, ap length (stays is_comma c text e))
 
 pub at_most : (text : List ℕ) → length (without_commas text) ≤ length text
-at_most [] = omega (arith, ap length nothing_stays)
+at_most [] = omega (arith, ap length (nothing_stays is_comma))
 at_most (c ∷ text) = at_most_by c text (is_comma c) refl (at_most text)
 
 not_longer : (behind : List ℕ) (v : Option (List ℕ)) (r : List ℕ) → IsValueAt behind v r → length r ≤ length behind

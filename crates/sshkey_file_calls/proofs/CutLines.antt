@@ -2,7 +2,7 @@
 use Rattle.std.proofs.Common.{◌≡◌, ◌⊎◌, ℕ, suc, ◌<◌, ◌≤◌, ◌+◌, ◌-◌, List, [], ◌∷◌, ◌++◌, length, get_or, take, drop, slice_index, filter, map, Bool, true, false, not, cond, eqb, None, Some, position, refl, sym, ap, lt-ltb, ne_eqb, zero, subst, ◌∙◌, arith, tests, inl, inr, append_assoc, append-nil, length-append, length-drop, take-append-drop}
 use Rattle.std.proofs.Math.ListN.{drop_of_length-le}
 use Rattle.std.proofs.Math.Seq.{drop-cons, drop-append-add, drop-append_seam, take-append_seam}
-use Rattle.std.proofs.lemmas.Bool.{cases_lt, not-true}
+use Rattle.std.proofs.lemmas.Bool.{cases_lt}
 use Rattle.std.proofs.lemmas.List.{take_all, get_or-take, length-take-le}
 use Rattle.std.proofs.lemmas.List.Elements.{All-cons, All-from_get_or, All-nil}
 use Rattle.std.proofs.lemmas.List.Quantifiers.{position-Some}
@@ -12,8 +12,7 @@ use Rattle.std.specs.List.{All, slice_split, position_or_len}
 use Rattle.std.specs.Str.Lines.{lines, lines_of_parts, strip_carriage_return}
 use Rattle.sshkey_files.specs.Fields.{without_blanks, is_filled, filled_lines}
 use Rattle.sshkey_files.specs.StrictReading.{is_blank}
-use Rattle.sshkey_files.proofs.Fields.{blank_skipped, blanks_skipped, nothing_stays, other_stays}
-use Rattle.sshkey_files.proofs.BlankPlaces.{skips_all}
+use Rattle.sshkey_files.proofs.Fronts as fronts
 use Rattle.sshkey_file_calls.specs.Lines.{CutsLine, FindsLine, IsLineEnd, is_line_end}
 use Rattle.sshkey_calls.specs.declared.part.Part.{Part}
 
@@ -26,17 +25,11 @@ nothing_behind b place h = sym (drop_of_length-le b h)
 
 -- ---- blanks
 
-blank_by : (b : Bool) → not b ≡ false → b ≡ true
-blank_by true e = refl
-blank_by false e = cc e
-
 pub skipped : (text : List ℕ) (n : ℕ) → Some n ≡ position (λ c. not (is_blank c)) text → take (length text - n) (drop n text) ≡ without_blanks text
-skipped text n is =
-    let place = position-Some (λ c. not (is_blank c)) text n 0 (sym is) in
-    whole_slice text n ∙ sym (blanks_skipped n text (λ k l. blank_by (is_blank (slice_index text k)) (place.2 k l)) (not-true _ place.1))
+skipped text n is = whole_slice text n ∙ sym (fronts.left_from is_blank text n is)
 
 pub skipped_all : (text : List ℕ) → None ≡ position (λ c. not (is_blank c)) text → [] ≡ without_blanks text
-skipped_all text is = sym (skips_all text text refl is)
+skipped_all text is = sym (fronts.nothing_left is_blank text is)
 
 -- spaces and tabs alone
 pub record AreBlanks (blanks : List ℕ) : Type 0 where
@@ -44,21 +37,21 @@ pub record AreBlanks (blanks : List ℕ) : Type 0 where
   pub one_line : All (λ c. is_line_end c ≡ false) blanks
 
 no_blanks : AreBlanks []
-no_blanks = record { skipped = nothing_stays; one_line = All-nil (λ c. is_line_end c ≡ false) }
+no_blanks = record { skipped = fronts.nothing_stays is_blank; one_line = All-nil (λ c. is_line_end c ≡ false) }
 
 no_end : (c : ℕ) → is_blank c ≡ true → is_line_end c ≡ false
 no_end c e = grind (arith, tests)
 
 more_blanks : (c : ℕ) (blanks : List ℕ) → is_blank c ≡ true → AreBlanks blanks → AreBlanks (c ∷ blanks)
-more_blanks c blanks e are = record { skipped = blank_skipped c blanks e ∙ are.skipped; one_line = All-cons (λ c. is_line_end c ≡ false) c blanks (no_end c e) are.one_line }
+more_blanks c blanks e are = record { skipped = fronts.skipped is_blank c blanks e ∙ are.skipped; one_line = All-cons (λ c. is_line_end c ≡ false) c blanks (no_end c e) are.one_line }
 
 -- what is skipped stands before what is left
 by_blank : (c : ℕ) (text : List ℕ) (b : Bool) → is_blank c ≡ b → (blanks : List ℕ) × (text ≡ blanks ++ without_blanks text) × AreBlanks blanks → (blanks : List ℕ) × (c ∷ text ≡ blanks ++ without_blanks (c ∷ text)) × AreBlanks blanks
-by_blank c text true e more = (c ∷ more.0, ap (λ (l : List ℕ). c ∷ l) more.1 ∙ ap (λ (l : List ℕ). c ∷ (more.0 ++ l)) (sym (blank_skipped c text e)), more_blanks c more.0 e more.2)
-by_blank c text false e more = ([], sym (other_stays c text e), no_blanks)
+by_blank c text true e more = (c ∷ more.0, ap (λ (l : List ℕ). c ∷ l) more.1 ∙ ap (λ (l : List ℕ). c ∷ (more.0 ++ l)) (sym (fronts.skipped is_blank c text e)), more_blanks c more.0 e more.2)
+by_blank c text false e more = ([], sym (fronts.stays is_blank c text e), no_blanks)
 
 pub front_blanks : (text : List ℕ) → (blanks : List ℕ) × (text ≡ blanks ++ without_blanks text) × AreBlanks blanks
-front_blanks [] = ([], sym nothing_stays, no_blanks)
+front_blanks [] = ([], sym (fronts.nothing_stays is_blank), no_blanks)
 front_blanks (c ∷ text) = by_blank c text (is_blank c) refl (front_blanks text)
 
 -- ---- the first line
@@ -151,7 +144,7 @@ fewer text line behind cut = omega (arith, ap length cut.first)
 unfilled : (front behind : List ℕ) → All (λ c. is_line_end c ≡ false) front → strip_carriage_return front ≡ [] → filled_lines (front ++ (10 ∷ behind)) ≡ filled_lines behind
 unfilled front behind none is =
     ap (λ (all : List (List ℕ)). filter is_filled (map without_blanks all)) (line_before front behind none ∙ ap (λ (l : List ℕ). l ∷ lines behind) is)
-    ∙ ap (λ (l : List ℕ). cond (is_filled l) (l ∷ filled_lines behind) (filled_lines behind)) nothing_stays
+    ∙ ap (λ (l : List ℕ). cond (is_filled l) (l ∷ filled_lines behind) (filled_lines behind)) (fronts.nothing_stays is_blank)
 
 only_return : (i : ℕ) → i < 1 → is_line_end (get_or (13 ∷ []) i 0) ≡ false
 only_return zero l = refl

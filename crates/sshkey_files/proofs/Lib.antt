@@ -1,5 +1,6 @@
 pub mod TextLines
 pub mod AnswerLists
+pub mod Fronts
 pub mod BlankPlaces
 pub mod FilledTexts
 pub mod Matching

@@ -1,63 +1,20 @@
 -- A text is one list of options at most.
-use Rattle.std.proofs.Common.{◌≡◌, ◌⊎◌, ◌||◌, ◌&&◌, ◌==◌, ℕ, zero, suc, ◌<◌, ◌≤◌, ◌-◌, List, [], ◌∷◌, ◌++◌, length, drop, slice_index, Bool, true, false, not, cond, Option, None, Some, refl, sym, ap, subst, ◌∙◌, arith, inl, inr, append_assoc}
+use Rattle.std.proofs.Common.{◌≡◌, ◌⊎◌, ◌||◌, ◌&&◌, ◌==◌, ℕ, zero, suc, ◌<◌, ◌≤◌, ◌-◌, List, [], ◌∷◌, ◌++◌, length, drop, slice_index, Bool, true, false, not, Option, None, Some, refl, sym, ap, subst, ◌∙◌, arith, inl, inr, append_assoc}
 use Rattle.std.proofs.lemmas.Bool.{cases_lt}
 use Rattle.std.proofs.lemmas.List.{length-append, get_or_append_left}
 use Rattle.sshkey_files.specs.Items.{is_comma, is_quote}
 use Rattle.sshkey_files.specs.OptionItems.{KeyOption, quote, equals_sign, is_name_character, AreNameCharacters, IsQuoted, unescaped, IsValueAt, EndsOption, IsOptionAt, without_commas, AreKeyOptions}
 use Rattle.sshkey_files.specs.StrictReading.{is_blank, is_mark}
+use Rattle.sshkey_files.proofs.Fronts.{same_word}
 use Rattle.sshkey_files.proofs.OneOpenSshLine.{same_front}
-
--- ---- the commas at the front
-
-pub comma_skipped : (c : ℕ) (text : List ℕ) → is_comma c ≡ true → without_commas (c ∷ text) ≡ without_commas text
-unfolding without_commas
-comma_skipped c text e = ap (λ (b : Bool). cond b (without_commas text) (c ∷ text)) e
-
-pub other_stays : (c : ℕ) (text : List ℕ) → is_comma c ≡ false → without_commas (c ∷ text) ≡ c ∷ text
-unfolding without_commas
-other_stays c text e = ap (λ (b : Bool). cond b (without_commas text) (c ∷ text)) e
-
-pub nothing_stays : without_commas [] ≡ []
-unfolding without_commas
-nothing_stays = refl
-
-all_stays : (text : List ℕ) → is_comma (slice_index text 0) ≡ false → without_commas text ≡ text
-all_stays [] e = nothing_stays
-all_stays (c ∷ text) e = other_stays c text e
-
--- so many commas at the front are left out, and then a text that none begins is left
-pub commas_skipped : (n : ℕ) (text : List ℕ) → ((i : ℕ) → i < n → is_comma (slice_index text i) ≡ true) → is_comma (slice_index text n) ≡ false → without_commas text ≡ drop n text
-commas_skipped zero text before here = all_stays text here
-commas_skipped (suc n) [] before here = nothing_stays
-commas_skipped (suc n) (c ∷ text) before here = comma_skipped c text (before 0 (omega arith)) ∙ commas_skipped n text (λ i l. before (suc i) (omega (arith, l))) here
-
--- and of commas alone nothing
-pub commas_alone : (text : List ℕ) → ((i : ℕ) → i < length text → is_comma (slice_index text i) ≡ true) → without_commas text ≡ []
-commas_alone [] h = nothing_stays
-commas_alone (c ∷ text) h = comma_skipped c text (h 0 (omega arith)) ∙ commas_alone text (λ i l. h (suc i) (omega (arith, l)))
 
 -- ---- names
 
 abbrev pub EndsName : List ℕ → Type 0
 EndsName text = (text ≡ []) ⊎ (is_name_character (slice_index text 0) ≡ false)
 
-later : (c : ℕ) (text : List ℕ) → AreNameCharacters (c ∷ text) → AreNameCharacters text
-later c text h i l = h (suc i) (omega (arith, l))
-
--- no name goes on where one ends
-no_name : (c : ℕ) (text rest : List ℕ) → AreNameCharacters (c ∷ text) → EndsName ((c ∷ text) ++ rest) → ⊥
-no_name c text rest h (inl none) = absurd (omega (arith, ap length none))
-no_name c text rest h (inr other) = cc (sym (h 0 (omega arith)) ∙ other)
-
 pub same_name : (a b r s : List ℕ) → AreNameCharacters a → AreNameCharacters b → EndsName r → EndsName s → a ++ r ≡ b ++ s → (a ≡ b) × (r ≡ s)
-same_name [] [] r s _ _ _ _ e = (refl, e)
-same_name [] (y ∷ b) r s _ k m _ e = absurd (no_name y b s k (subst EndsName e m))
-same_name (x ∷ a) [] r s h _ _ n e = absurd (no_name x a r h (subst EndsName (sym e) n))
-same_name (x ∷ a) (y ∷ b) r s h k m n e =
-    let here : x ≡ y = cc e in
-    let rest : a ++ r ≡ b ++ s = cc e in
-    let more = same_name a b r s (later x a h) (later y b k) m n rest in
-    (ap (λ (c : ℕ). c ∷ a) here ∙ ap (λ (l : List ℕ). y ∷ l) more.0, more.1)
+same_name = same_word is_name_character true false (λ e. cc e)
 
 -- ---- quoted texts
 

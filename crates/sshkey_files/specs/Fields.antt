@@ -1,6 +1,6 @@
 -- Fields of a line, and a key in them: spaces or tabs stand between (sshd(8), "AUTHORIZED_KEYS FILE
 -- FORMAT" and "SSH_KNOWN_HOSTS FILE FORMAT").
-use Rattle.std.specs.Prelude.{◌≡◌, ◌⊎◌, ℕ, List, [], ◌∷◌, ◌++◌, slice_index, EachIndex, Bool, true, false, not, ◌&&◌, if◌then◌else◌, map, filter}
+use Rattle.std.specs.Prelude.{◌≡◌, ◌⊎◌, ℕ, List, [], ◌++◌, slice_index, EachIndex, Bool, true, false, not, ◌&&◌, map, filter}
 use Rattle.std.specs.Str.Lines.{lines}
 use Rattle.base64.specs.Engines.{standard}
 use Rattle.base64.specs.GeneralPurpose.{encode_of}
@@ -8,12 +8,12 @@ use Rattle.sshkey_model.specs.Grammar.{SpellsWith}
 use Rattle.sshkey_model.specs.Keys.{Key, IsKey, HasKeyPlaces, key}
 use Rattle.sshkey_model.specs.Lines.{key_name}
 use Rattle.sshkey_files.specs.Entries.{is_hash, is_some_text}
+use Rattle.sshkey_files.specs.Fronts.{without_front}
 use Rattle.sshkey_files.specs.StrictReading.{is_blank}
 
 -- the text without the spaces and tabs at its front
-unfoldable pub without_blanks : List ℕ → List ℕ
-without_blanks [] = []
-without_blanks (c ∷ text) = if is_blank c then without_blanks text else c ∷ text
+abbrev pub without_blanks : List ℕ → List ℕ
+without_blanks = without_front is_blank
 
 -- No space and no tab stands in it.
 abbrev pub IsField : List ℕ → Type 0

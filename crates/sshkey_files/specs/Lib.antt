@@ -5,6 +5,7 @@ pub mod AuthorizedKeys
 pub mod KnownHosts
 pub mod StrictReading
 pub mod SshdReading
+pub mod Fronts
 pub mod Fields
 pub mod OpenSshLines
 pub mod OptionItems

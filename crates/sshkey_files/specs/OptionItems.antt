@@ -4,6 +4,7 @@
 -- commas that stand in a row, or at either end.
 use Rattle.std.specs.Prelude.{◌≡◌, ◌⊎◌, ℕ, ◌<◌, List, [], ◌∷◌, ◌++◌, length, map, slice_index, EachIndex, Bool, true, false, not, ◌&&◌, ◌||◌, ◌==◌, if◌then◌else◌, Option, Some, None}
 use Rattle.std.specs.Char.{to_ascii_lowercase}
+use Rattle.sshkey_files.specs.Fronts.{without_front}
 use Rattle.sshkey_files.specs.Items.{is_comma, is_quote}
 use Rattle.sshkey_files.specs.StrictReading.{is_blank, is_mark}
 
@@ -65,9 +66,8 @@ abbrev pub IsNoOption : List ℕ → Type 0
 IsNoOption text = (o : KeyOption) (rest : List ℕ) → IsOptionAt text o rest → ⊥
 
 -- the text without the commas at its front
-unfoldable pub without_commas : List ℕ → List ℕ
-without_commas [] = []
-without_commas (c ∷ text) = if is_comma c then without_commas text else c ∷ text
+abbrev pub without_commas : List ℕ → List ℕ
+without_commas = without_front is_comma
 
 -- The text is these options, one behind the other.
 abbrev pub AreKeyOptions : List ℕ → List KeyOption → Type 0

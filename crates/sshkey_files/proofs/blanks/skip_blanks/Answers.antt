@@ -1,12 +1,14 @@
-use Rattle.std.proofs.Common.{◌∙◌, sym}
-use Rattle.sshkey_files.proofs.BlankPlaces.{skips, skips_all}
+use Rattle.std.proofs.Common.{◌∙◌, ap, not, position, sym}
+use Rattle.sshkey_files.specs.StrictReading.{is_blank}
+use Rattle.sshkey_files.proofs.BlankPlaces.{blank_ascii}
+use Rattle.sshkey_files.proofs.Fronts.{left_from, left_place, nothing_left}
 use Rattle.sshkey_files.proofs.blanks.skip_blanks.Goals as goal
 
 pub range_from-requires : goal.range_from-requires
-range_from-requires c = λ _. (skips c.args.text.now c.as_bytes.result.now c.in-Some.start c.utf8.text c.as_bytes.ensures.value c.in-Some.ensures).0
+range_from-requires c = λ _. left_place is_blank blank_ascii c.args.text.now c.in-Some.start c.utf8.text (c.in-Some.ensures ∙ ap (position (λ b. not (is_blank b))) c.as_bytes.ensures.value)
 
 pub returns-in-Some : goal.returns-in-Some
-returns-in-Some c = c.range_from.ensures.value ∙ sym (skips c.args.text.now c.as_bytes.result.now c.in-Some.start c.utf8.text c.as_bytes.ensures.value c.in-Some.ensures).1
+returns-in-Some c = c.range_from.ensures.value ∙ sym (left_from is_blank c.args.text.now c.in-Some.start (c.in-Some.ensures ∙ ap (position (λ b. not (is_blank b))) c.as_bytes.ensures.value))
 
 pub returns-in-None : goal.returns-in-None
-returns-in-None c = sym (skips_all c.args.text.now c.as_bytes.result.now c.as_bytes.ensures.value c.in-None.ensures)
+returns-in-None c = sym (nothing_left is_blank c.args.text.now (c.in-None.ensures ∙ ap (position (λ b. not (is_blank b))) c.as_bytes.ensures.value))

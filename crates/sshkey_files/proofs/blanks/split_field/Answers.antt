@@ -1,11 +1,14 @@
-use Rattle.sshkey_files.proofs.BlankPlaces.{field_place, field_cut, field_all}
+use Rattle.std.proofs.Common.{ap, position, ◌∙◌}
+use Rattle.sshkey_files.specs.StrictReading.{is_blank}
+use Rattle.sshkey_files.proofs.BlankPlaces.{blank_ascii, cuts_field}
+use Rattle.sshkey_files.proofs.Fronts.{cut_at, end_place, uncut}
 use Rattle.sshkey_files.proofs.blanks.split_field.Goals as goal
 
 pub split_at-requires : goal.split_at-requires
-split_at-requires c = field_place c.args.text.now c.as_bytes.result.now c.in-Some.end c.as_bytes.ensures.value c.in-Some.ensures
+split_at-requires c = end_place is_blank c.args.text.now c.in-Some.end blank_ascii (c.in-Some.ensures ∙ ap (position is_blank) c.as_bytes.ensures.value)
 
 pub returns-in-Some : goal.returns-in-Some
-returns-in-Some c = field_cut c.args.text.now c.as_bytes.result.now c.split_at.result.0.now c.split_at.result.1.now c.in-Some.end c.as_bytes.ensures.value c.in-Some.ensures c.split_at.ensures.front c.split_at.ensures.back
+returns-in-Some c = cuts_field _ _ _ (cut_at is_blank c.args.text.now _ _ c.in-Some.end (c.in-Some.ensures ∙ ap (position is_blank) c.as_bytes.ensures.value) c.split_at.ensures.front c.split_at.ensures.back)
 
 pub returns-in-None : goal.returns-in-None
-returns-in-None c = field_all c.args.text.now c.as_bytes.result.now c.as_bytes.ensures.value c.in-None.ensures
+returns-in-None c = cuts_field _ _ _ (uncut is_blank c.args.text.now (c.in-None.ensures ∙ ap (position is_blank) c.as_bytes.ensures.value))
