@@ -35,7 +35,12 @@ FROM = {
 # lists of `principals` in the line of an authority, and whether one lets in by a certificate that lists a
 PRINCIPALS = {
     "a": True, "x,a": True, "a,": True, "a,,x": True, ",a": False, "x,,a": False, "A": False, " a": False, "a ": False, "*": False,
-    "a*": False, "!x,a": True, "": False, ",".join([*(f"x{number}" for number in range(50)), "a"]): True,
+    "a*": False, "!x,a": True, "": False,
+}  # fmt: skip
+# networks that the critical option source-address of a certificate lists, and whether one lets in who has the address 127.0.0.1
+SOURCES = {
+    "127.0.0.1": True, "127.0.0.0/8": True, "10.0.0.0/8,127.0.0.1": True, "0.0.0.0/0": True, "10.0.0.0/8": False, "::/0": False,
+    "::ffff:0:0/96": False, "::ffff:127.0.0.1": False,
 }  # fmt: skip
 
 
@@ -54,14 +59,23 @@ class Logins:
     def __init__(self, folder, configuration):
         self.folder, self.numbers = folder, itertools.count()
         self.fields = {}
-        for name in ("host", "own", "certified", "authority"):
-            self.fields[name] = " ".join(new_key(self.path(name), "ed25519").decode().split()[:2])
-        ssh_keygen("-q", "-s", self.path("authority"), "-I", "id", "-n", "a,b", "-V", "-5m:+5m", self.path("certified.pub"))
+        for name in ("host", "own", "authority"):
+            self.fields[name] = self.new(name)
+        self.certify("certified")
         with open(self.path("conf"), "w", encoding="ascii") as file:
             file.write(configuration.format(folder))
 
     def path(self, name):
         return os.path.join(self.folder, name)
+
+    def new(self, name):
+        """The fields of a new key of that name."""
+        return " ".join(new_key(self.path(name), "ed25519").decode().split()[:2])
+
+    def certify(self, name, *words):
+        """A new key of that name with a certificate that lists a and b."""
+        self.new(name)
+        ssh_keygen("-q", "-s", self.path("authority"), "-I", "id", "-n", "a,b", "-V", "-5m:+5m", *words, self.path(f"{name}.pub"))
 
     def serve(self, server, name):
         """Serves one client; sshd hangs up where it refuses, or when the command has ended."""
@@ -122,5 +136,10 @@ def check_option_lists(count, program, folder, configuration):
         # it reads the names up to an empty one
         listed = "a" in itertools.takewhile(bool, items.split(","))
         count.check(f"principals={items[-20:]!r}", is_let_in == listed == wanted, is_let_in, listed)
+    for number, (items, wanted) in enumerate(SOURCES.items()):
+        logins.certify(f"bound{number}", "-O", f"source-address={items}")
+        line = f'cert-authority,principals="a" {logins.fields["authority"]}'
+        is_let_in, _ = logins.log_in("127.0.0.1", line, f"bound{number}")
+        count.check(f"source-address={items}", is_let_in == wanted, is_let_in)
     is_let_in, written = logins.log_in("127.0.0.1", f'environment="RAFENDILO=set" {logins.fields["own"]}', command="env")
     count.check("environment sets nothing", is_let_in and written and b"RAFENDILO" not in written, written)
