@@ -31,8 +31,8 @@ impl KeyDataRef<'_> {
     /// for a key on the same curve: about the message and the signature's bytes. For a security
     /// key and its algorithm it is asked under the plain algorithm and the plain key within: about
     /// the SHA-256 digest of the application, the flags and the counter, and the digest of the
-    /// message (PROTOCOL.u2f), and the bytes before flags and counter. No other
-    /// answer of it plays a part.
+    /// message (PROTOCOL.u2f), and the bytes before flags and counter. The result rests on that
+    /// one question.
     ///
     /// Fails only when out of memory, and only where the verifier is asked. Memory is taken for a
     /// DSA or an RSA key, and else only by the verifier.
