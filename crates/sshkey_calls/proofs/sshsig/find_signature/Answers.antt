@@ -9,8 +9,8 @@ use Rattle.sshkey_calls.proofs.sshsig.find_signature.Goals as goal
 pub returns-then-is_in : goal.returns-then-is_in
 returns-then-is_in c = record { spelled = c.in-Ok.ensures.accepts.spelled; read = c.in-Ok.ensures.gives.value; in_namespace = c.is_in.ensures.0 c.if-is_in.true }
 
-pub returns-in-Ok : goal.returns-in-Ok
-returns-in-Ok c = record {
+pub returns-else-is_in : goal.returns-else-is_in
+returns-else-is_in c = record {
   some = λ e. cc e;
   apart = λ e. cc e;
   memory = λ e. absurd (cc e);
@@ -23,8 +23,8 @@ returns-in-Ok c = record {
   fault = λ _ fault is. absurd (cc (is, c.in-Ok.ensures.gives.value));
 }
 
-pub returns : goal.returns
-returns c = record {
+pub returns-in-Err : goal.returns-in-Err
+returns-in-Err c = record {
   some = c.error_number.ensures.some;
   apart = c.error_number.ensures.apart;
   memory = λ one. inl (c.in-Err.ensures.asks (only_memory (cause c.in-Err.error) _ c.error_number.ensures.range one) refl);

@@ -28,20 +28,11 @@ returns-in-Ok-clause-fault c fault is _ = absurd (cc (is, c.in-Ok.ensures.read))
 pub returns-in-Ok-clause-memory : goal.returns-in-Ok-clause-memory
 returns-in-Ok-clause-memory c _ = inr (ssh_signature_of c.in-Ok.found, c.in-Ok.ensures.spelled)
 
-pub returns-clause-raised : goal.returns-clause-raised
-returns-clause-raised c = none_asked (λ f. RaisesOfMessage f c.args.message.now) _ _ _ _ _ _ _ (refl, refl) c.in-Err.ensures
+pub returns-in-Err-clause-raised : goal.returns-in-Err-clause-raised
+returns-in-Err-clause-raised c = none_asked (λ f. RaisesOfMessage f c.args.message.now) _ _ _ _ _ _ _ (refl, refl) c.in-Err.ensures
 
-pub returns-clause-unsupported : goal.returns-clause-unsupported
-returns-clause-unsupported c g spelled same _ not_memory = absurd ((c.in-Err.ensures.other not_memory g spelled).0 same)
+pub returns-in-Err-clause-unsupported : goal.returns-in-Err-clause-unsupported
+returns-in-Err-clause-unsupported c g spelled same _ not_memory = absurd ((c.in-Err.ensures.other not_memory g spelled).0 same)
 
-pub returns-clause-signer : goal.returns-clause-signer
-returns-clause-signer c zero_ = absurd (c.in-Err.ensures.some zero_)
-
-pub returns-clause-namespace : goal.returns-clause-namespace
-returns-clause-namespace c g spelled _ not_memory = (c.in-Err.ensures.other not_memory g spelled).1
-
-pub returns-clause-fault : goal.returns-clause-fault
-returns-clause-fault c fault is not_memory = c.in-Err.ensures.fault not_memory fault is
-
-pub returns-clause-memory : goal.returns-clause-memory
-returns-clause-memory c = c.in-Err.ensures.memory
+pub returns-in-Err-clause-namespace : goal.returns-in-Err-clause-namespace
+returns-in-Err-clause-namespace c g spelled _ not_memory = (c.in-Err.ensures.other not_memory g spelled).1
