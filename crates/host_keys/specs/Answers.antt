@@ -7,7 +7,7 @@ use Rattle.ssh_key.specs.types.Error.{Error}
 use Rattle.ssh_key.specs.types.Error.TheVariants.{Memory}
 use Rattle.ssh_key.specs.types.known_hosts.Verdict.{Verdict}
 use Rattle.ssh_key.specs.types.known_hosts.Verdict.TheVariants.{Changed, Revoked, Trusted, Unknown, Unreadable}
-use Rattle.host_keys.specs.Hosts.{IsBadFor, IsSaidOfKey, IsSaidOfSigned}
+use Rattle.host_keys.specs.Hosts.{IsBadFor, IsSaidOfKey, IsSaidOfSigned, plain_name}
 use Rattle.host_keys.specs.declared.refusal.Refusal.{Refusal}
 use Rattle.host_keys.specs.declared.refusal.Refusal.TheVariants as refusal
 
@@ -47,4 +47,4 @@ abbrev pub IsWhyNoKey : (List ℕ → List ℕ → List ℕ) → List ℕ → �
 IsWhyNoKey hmac host port key lines = IsWhy (IsSaidOfKey hmac host port key lines) (λ e. ⊥)
 
 abbrev pub IsWhyNoCertificate : (List ℕ → List ℕ → List ℕ) → (Question → Bool) → ℕ → List ℕ → ℕ → Certificate → List (List ℕ) → Refusal → Type 0
-IsWhyNoCertificate hmac accepts t host port c lines = IsWhy (IsSaidOfSigned hmac host port c.signed.key c.signed.signature_key lines) (IsBadFor accepts t host c)
+IsWhyNoCertificate hmac accepts t host port c lines = IsWhy (IsSaidOfSigned hmac host port c.signed.key c.signed.signature_key lines) (IsBadFor accepts t (plain_name host) c)

@@ -27,6 +27,12 @@ use Rattle.ssh_key.specs.types.known_hosts.Verdict.TheVariants.{Changed, Revoked
 abbrev pub lines_of : List (Bor (List ℕ)) → List (List ℕ)
 lines_of texts = flat_map (λ text. filled_lines text.now) texts
 
+-- ---- names
+
+-- the name for which the certificate of a host is asked, at whatever port: in small letters
+abbrev pub plain_name : List ℕ → List ℕ
+plain_name host = known_name host standard_port
+
 -- ---- what is said
 
 -- Something is said of the host at that port, or there is no other name to ask about.
@@ -36,7 +42,7 @@ IsSettled v port = (port ≡ standard_port) ⊎ (v ≢ Unknown)
 -- It is said of the host at that port. Where nothing is, it is what is said of the host's plain
 -- name.
 abbrev pub IsSaid : (List ℕ → Verdict → Type 0) → List ℕ → ℕ → Verdict → Type 0
-IsSaid Says host port v = ((v ≢ Unknown) × Says (known_name host port) v) ⊎ (Says (known_name host port) Unknown × Says (known_name host standard_port) v)
+IsSaid Says host port v = ((v ≢ Unknown) × Says (known_name host port) v) ⊎ (Says (known_name host port) Unknown × Says (plain_name host) v)
 
 abbrev pub IsSaidOfKey : (List ℕ → List ℕ → List ℕ) → List ℕ → ℕ → Key → List (List ℕ) → Verdict → Type 0
 IsSaidOfKey hmac host port key lines = IsSaid (λ name. IsVerdict hmac name key lines) host port
@@ -76,7 +82,7 @@ IsTrustedKey hmac host port key lines = IsSaidOfKey hmac host port key lines Tru
 
 -- The certificate is the host's: by an authority of the host, and good for it.
 abbrev pub IsTrustedCertificate : (List ℕ → List ℕ → List ℕ) → (Question → Bool) → ℕ → List ℕ → ℕ → Certificate → List (List ℕ) → Type 0
-IsTrustedCertificate hmac accepts t host port c lines = IsSaidOfSigned hmac host port c.signed.key c.signed.signature_key lines Trusted × IsGoodFor accepts t host c
+IsTrustedCertificate hmac accepts t host port c lines = IsSaidOfSigned hmac host port c.signed.key c.signed.signature_key lines Trusted × IsGoodFor accepts t (plain_name host) c
 
 -- ---- what is wrong with a certificate first
 

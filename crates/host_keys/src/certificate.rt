@@ -8,7 +8,7 @@ ghost use Rattle.ssh_key.specs.model.Keys.{normal_key};
 ghost use Rattle.ssh_key.specs.model.Parts.{BoxesFit};
 ghost use Rattle.ssh_key.specs.types.Error.TheVariants.{Memory};
 ghost use Rattle.host_keys.specs.Answers.{AsksOfLines, IsWhyNoCertificate, OkExactly};
-ghost use Rattle.host_keys.specs.Hosts.{IsBadFor, IsGoodFor, IsTrustedCertificate, lines_of};
+ghost use Rattle.host_keys.specs.Hosts.{IsBadFor, IsGoodFor, IsTrustedCertificate, lines_of, plain_name};
 
 use crate::refusal::{Refusal, answer};
 use crate::verdict::signed_verdict;
@@ -21,8 +21,8 @@ use std::alloc::Global;
 /// Accepts the certificate that a host shows if a line `@cert-authority` of the texts of
 /// known_hosts, as OpenSSH reads them, has the key that signed it for the host at that port, no
 /// line for it revokes that key or the certified one, and the certificate is one for hosts, without
-/// critical options, valid at that time for the host's name, which is given as the certificate
-/// lists it.
+/// critical options, valid at that time for the host's name in small letters, for which ssh(1) asks
+/// it too. So one that lists the name with capitals alone is not the host's.
 ///
 /// The texts are those of all the files that count, as for `check_key`, and are given at once.
 ///
@@ -77,10 +77,10 @@ fn validate<V: RawVerifier>(
     verifier: &V,
 ) -> ssh_key::Result<()>
     requires { BoxesFit (normal_key (certificate_of certificate.now).signed.signature_key) }
-    ensures exactly { AcceptsExactly (IsGoodFor (V.accepts verifier.now) unix_timestamp host.now
-        (certificate_of certificate.now)) result }
+    ensures exactly { AcceptsExactly (IsGoodFor (V.accepts verifier.now) unix_timestamp
+        (plain_name host.now) (certificate_of certificate.now)) result }
     ensures refused { IfErr result (λ e. e ≢ Memory → IsBadFor (V.accepts verifier.now)
-        unix_timestamp host.now (certificate_of certificate.now) e) }
+        unix_timestamp (plain_name host.now) (certificate_of certificate.now) e) }
 {
     if !certificate.cert_type().is_host() {
         return Err(Error::CertificateFieldInvalid(Field::CertType));
@@ -91,5 +91,6 @@ fn validate<V: RawVerifier>(
     let signer = certificate
         .signature_key()
         .fingerprint(alloc, HashAlg::Sha256)?;
-    certificate.validate_principal_at(alloc, unix_timestamp, host, &[signer], verifier)
+    let name = host.to_ascii_lowercase(alloc)?;
+    certificate.validate_principal_at(alloc, unix_timestamp, name.as_str(), &[signer], verifier)
 }

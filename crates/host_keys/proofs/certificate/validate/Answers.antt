@@ -20,9 +20,11 @@ returns-then-not-is_empty-clause-refused g c = λ other. SomeOption (sym c.cert_
 pub returns-clause-exactly : goal.returns-clause-exactly
 returns-clause-exactly g c =
     let is = subst (λ (k : Key). IsFingerprint Sha256 k c.in_ok-signer.signer) c.signature_key.ensures.value c.in_ok-signer.ensures.gives in
-    good _ _ _ (certificate_of c.args.certificate.now) c.in_ok-signer.signer is (sym c.cert_type.ensures ∙ c.is_host.ensures.0 c.if-not-is_host.false) (sym c.critical_options.ensures ∙ c.is_empty.ensures.0 c.if-not-is_empty.false) c.validate_principal_at.result c.validate_principal_at.ensures
+    let judged = rw (c.as_str.ensures.value, c.in_ok-name.ensures.ok) at c.validate_principal_at.ensures in
+    good _ _ _ (certificate_of c.args.certificate.now) c.in_ok-signer.signer is (sym c.cert_type.ensures ∙ c.is_host.ensures.0 c.if-not-is_host.false) (sym c.critical_options.ensures ∙ c.is_empty.ensures.0 c.if-not-is_empty.false) c.validate_principal_at.result judged
 
 pub returns-clause-refused : goal.returns-clause-refused
 returns-clause-refused g c =
     let is = subst (λ (k : Key). IsFingerprint Sha256 k c.in_ok-signer.signer) c.signature_key.ensures.value c.in_ok-signer.ensures.gives in
-    bad _ _ _ (certificate_of c.args.certificate.now) c.in_ok-signer.signer is (sym c.cert_type.ensures ∙ c.is_host.ensures.0 c.if-not-is_host.false) (sym c.critical_options.ensures ∙ c.is_empty.ensures.0 c.if-not-is_empty.false) c.validate_principal_at.result c.validate_principal_at.ensures
+    let judged = rw (c.as_str.ensures.value, c.in_ok-name.ensures.ok) at c.validate_principal_at.ensures in
+    bad _ _ _ (certificate_of c.args.certificate.now) c.in_ok-signer.signer is (sym c.cert_type.ensures ∙ c.is_host.ensures.0 c.if-not-is_host.false) (sym c.critical_options.ensures ∙ c.is_empty.ensures.0 c.if-not-is_empty.false) c.validate_principal_at.result judged
