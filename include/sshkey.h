@@ -519,8 +519,8 @@ uint32_t sshkey_host_verdict(const uint8_t *known_hosts, size_t known_hosts_leng
  *
  * A host's certificate has to meet more: sshkey_host_verdict of the certified key may not be
  * SSHKEY_HOST_REVOKED, in any file, certificate_type has to be SSHKEY_HOST, has_critical_options 0,
- * and sshkey_certificate_validate_for, with the host's name and this key's fingerprint alone,
- * SSHKEY_DONE (docs/FOREIGN.md, "A host's certificate"). */
+ * and sshkey_certificate_validate_for, with the host's name in small letters and this key's
+ * fingerprint alone, SSHKEY_DONE (docs/FOREIGN.md, "A host's certificate"). */
 uint32_t sshkey_authority_verdict(const uint8_t *known_hosts, size_t known_hosts_length,
                                   const uint8_t *host, size_t host_length, uint16_t port,
                                   const uint8_t *key, size_t key_length);

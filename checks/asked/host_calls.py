@@ -4,7 +4,7 @@ import time
 
 from lib.harness import blob_of
 
-from .hosts import AUTHORITY, BROKEN, CERTIFICATES, CERTIFICATES_OF_FILES, HOST, INVALID, NAMED, field, in_one_file, written
+from .hosts import AROUND_NOW, AUTHORITY, BROKEN, CERTIFICATES, CERTIFICATES_OF_FILES, HOST, INVALID, NAMED, field, in_one_file, written
 from .linked import EXAMPLES, SANITIZED, VALGRIND, C, run
 from .login_calls import REFUSALS, blocks
 
@@ -24,7 +24,9 @@ def cases(maker):
         yield name, blob, HOST, port, [written(maker, lines, keys) for lines in files], WANTED[wanted]
     good, texts = blob_of(maker.certificate("host-authority", "host-key", *NAMED)), [written(maker, [AUTHORITY], keys)]
     turned, revoked = good[:-1] + bytes([good[-1] ^ 1]), written(maker, ["@revoked * {key}"], keys)
+    capitals = blob_of(maker.certificate("host-authority", "host-key", "-h", "-n", "H.Example", *AROUND_NOW))
     for name, blob, host, given, wanted in (
+        ("asked for in capitals", good, "H.EXAMPLE", texts, "DONE"), ("and listed so", capitals, "H.Example", texts, "UNLISTED_PRINCIPAL"),
         ("no file", good, HOST, [], "HOST_UNKNOWN"), ("another host", good, "g.example", texts, "HOST_UNKNOWN"),
         ("a turned bit", turned, HOST, texts, "NOT_SIGNED"), ("no certificate", good[:-1], HOST, texts, "LENGTH"),
         ("a key in its place", blob_of(keys["key"]), HOST, texts, "LABEL"), ("no bytes", b"", HOST, texts, "LENGTH"),

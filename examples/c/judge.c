@@ -251,6 +251,20 @@ static uint32_t judge_keys(blob certificate, const host_request *asked, blob aut
   return answer;
 }
 
+/* Judges the certificate for the name in small letters, whatever the locale is. */
+static uint32_t judge_name(blob certificate, const host_request *asked, authorities by) {
+  size_t length = strlen(asked->host);
+  char *name = malloc(length + 1);
+  if (!name) return SSHKEY_MEMORY;
+  for (size_t at = 0; at <= length; at++) {
+    char letter = asked->host[at];
+    name[at] = letter >= 'A' && letter <= 'Z' ? (char)(letter - 'A' + 'a') : letter;
+  }
+  uint32_t answer = judge(certificate, asked->unix_timestamp, name, by);
+  free(name);
+  return answer;
+}
+
 uint32_t validate_host(blob certificate, const host_request *asked) {
   sshkey_fields fields;
   sshkey_parts parts;
@@ -270,7 +284,7 @@ uint32_t validate_host(blob certificate, const host_request *asked) {
   if (fields.has_critical_options) return JUDGE_UNMET_OPTION;
   answer = sshkey_fingerprint(authority.bytes, authority.length, &signer);
   if (answer != SSHKEY_DONE) return answer;
-  return judge(certificate, asked->unix_timestamp, asked->host, (authorities){&signer, 1});
+  return judge_name(certificate, asked, (authorities){&signer, 1});
 }
 
 const char *meaning(uint32_t answer) {

@@ -69,7 +69,7 @@ uint32_t validate_user(blob certificate, const login_request *asked);
 
 /* A host that shows a certificate. */
 typedef struct {
-  const char *host;        /* the name that was asked for, as the certificate lists it */
+  const char *host;        /* the name that was asked for */
   uint16_t port;           /* where it was asked */
   uint64_t unix_timestamp; /* when that is */
   const blob *texts;       /* those of all the known_hosts files that count */
@@ -77,8 +77,9 @@ typedef struct {
 } host_request;
 
 /* Whether the certificate is that of the host: SSHKEY_DONE, or what is wrong first, a number of
- * SSHKEY_* or of JUDGE_*. One that lists no principals is for each host of its authority. That the
- * host holds the certified key is not looked at (docs/FOREIGN.md). */
+ * SSHKEY_* or of JUDGE_*. It has to list the name in small letters, as ssh(1) asks; one that lists
+ * no principals is for each host of its authority. That the host holds the certified key is not
+ * looked at (docs/FOREIGN.md). */
 uint32_t validate_host(blob certificate, const host_request *asked);
 
 /* What an answer means, in words. */

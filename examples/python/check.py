@@ -14,6 +14,7 @@ from __future__ import annotations
 import base64
 import enum
 import os
+import string
 import sys
 import time
 from collections.abc import Callable, Collection
@@ -72,6 +73,8 @@ FLAGS = {
 }  # fmt: skip
 # how many principals sshd reads
 MOST_PRINCIPALS = 256
+# the letters of the ASCII, and no others, have two cases in names of hosts
+SMALL = str.maketrans(string.ascii_uppercase, string.ascii_lowercase)
 ECDSA = {
     Algorithm.P256: (ec.SECP256R1(), hashes.SHA256()), Algorithm.P384: (ec.SECP384R1(), hashes.SHA384()),
     Algorithm.P521: (ec.SECP521R1(), hashes.SHA512()),
@@ -169,8 +172,8 @@ def validate_host(certificate: bytes, now: int, host: str | bytes, port: int, te
     Refusal.
 
     `texts` are those of all the known_hosts files that count, the user's and the machine's, and `host` is the name that was asked
-    for, as the certificate lists it: one that lists none is for each host of its authority. That the host holds the certified key
-    is not looked at (docs/FOREIGN.md)."""
+    for. The certificate has to list it in small letters, as ssh(1) asks; one that lists none is for each host of its authority.
+    That the host holds the certified key is not looked at (docs/FOREIGN.md)."""
     try:
         fields, contents = sshkey.certificate_fields(certificate), sshkey.certificate_contents(certificate)
         verdict = judge_signed(texts, host, port, contents.key, contents.authority)
@@ -182,7 +185,9 @@ def validate_host(certificate: bytes, now: int, host: str | bytes, port: int, te
         return Refusal.NOT_FOR_HOSTS
     if fields.has_critical_options:
         return Refusal.UNMET_OPTION
-    return judge(certificate, now, host or "", {sshkey.fingerprint(contents.authority)})
+    # of bytes these are the ASCII letters
+    name = host.lower() if isinstance(host, bytes) else host.translate(SMALL)
+    return judge(certificate, now, name, {sshkey.fingerprint(contents.authority)})
 
 
 def judge_signature(signature: bytes, namespace: str, message: bytes, signers: Collection[bytes]) -> Status:

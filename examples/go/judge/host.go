@@ -20,9 +20,9 @@ var places = map[error]int{
 // which says nothing of the certificate.
 //
 // The texts are those of all the files of known_hosts that count, the user's and the machine's, and
-// the host is the name that was asked for, as the certificate lists it: one that lists none is for
-// each host of its authority. That the host holds the certified key is not looked at
-// (docs/FOREIGN.md).
+// the host is the name that was asked for. The certificate has to list it in small letters, as
+// ssh(1) asks; one that lists none is for each host of its authority. That the host holds the
+// certified key is not looked at (docs/FOREIGN.md).
 func ValidateHost(
 	certificate []byte, now time.Time, host string, port uint16, texts []string,
 ) error {
@@ -54,7 +54,18 @@ func ValidateHost(
 		return err
 	}
 	by := []sshkey.SHA256{authority}
-	return sshkey.ValidateCertificateFor(certificate, now, host, by, IsSignature)
+	return sshkey.ValidateCertificateFor(certificate, now, inSmallLetters(host), by, IsSignature)
+}
+
+// inSmallLetters is the name with its ASCII letters small: strings.ToLower has others.
+func inSmallLetters(host string) string {
+	name := []byte(host)
+	for at, letter := range name {
+		if 'A' <= letter && letter <= 'Z' {
+			name[at] = letter - 'A' + 'a'
+		}
+	}
+	return string(name)
 }
 
 // judgeSigned gives what the texts say at that port of a key that the authority signed:

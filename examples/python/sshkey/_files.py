@@ -88,5 +88,5 @@ def authority_verdict(known_hosts: BytesLike, host: str | BytesLike, port: int, 
 
     That is not all that a host's certificate has to meet: host_verdict of the certified key (`certificate_contents`) may not be
     HOST_REVOKED, the certificate has to be one for hosts, without critical options, and valid by that authority for the host's
-    name. `validate_host` of examples/python/check.py asks all of it, of several files (docs/FOREIGN.md)."""
+    name in small letters. `validate_host` of examples/python/check.py asks all of it, of several files (docs/FOREIGN.md)."""
     return _judged(LIBRARY.sshkey_authority_verdict, known_hosts, host, port, key)

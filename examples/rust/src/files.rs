@@ -257,8 +257,8 @@ pub fn host_verdict(
 ///
 /// It is asked of each file, as [`host_verdict`] is, and alone it trusts no certificate: that has
 /// to be of type [`CertificateType::Host`](crate::CertificateType::Host), without critical options,
-/// valid ([`validate_certificate`](crate::validate_certificate)) for the host's name by the
-/// fingerprint of this key and no other, and of a key
+/// valid ([`validate_certificate`](crate::validate_certificate)) for the host's name in small
+/// letters by the fingerprint of this key and no other, and of a key
 /// ([`certificate_key`](crate::certificate_key)) of which [`host_verdict`] says
 /// [`Status::HOST_REVOKED`] in no file. [`validate_host`](crate::validate_host) asks all of it.
 pub fn authority_verdict(

@@ -13,7 +13,7 @@ use crate::status::Status;
 /// A host that shows a certificate.
 #[derive(Clone, Copy, Debug)]
 pub struct Host<'a> {
-    /// The name that was asked for, as the certificate lists it.
+    /// The name that was asked for. A certificate has to list it in small letters, as ssh(1) asks.
     pub name: &'a [u8],
     /// Where it was asked.
     pub port: u16,
@@ -82,12 +82,12 @@ pub fn validate_host(
     if fields.has_critical_options {
         return Err(Refusal::UnmetOption);
     }
-    let (second, name) = (host.unix_timestamp, Principal::Named(host.name));
+    let (second, name) = (host.unix_timestamp, host.name.to_ascii_lowercase());
     let signer = fingerprint(authority)?;
     Ok(judge_certificate(
         certificate,
         second,
-        name,
+        Principal::Named(&name),
         &[signer],
         verify,
     )?)
