@@ -1,6 +1,6 @@
 -- What stands behind a private-use name, behind a name, and a pair with its name, by the terms that
 -- they are read as.
-use Rattle.std.proofs.Common.{ℕ, List, [], Option, Some, Result, Ok, Err, refl}
+use Rattle.std.proofs.Common.{ℕ, List, [], Option, Some, Result, Ok, refl}
 use Rattle.sshkey_model.specs.Reading.{Fault, string_at}
 use Rattle.sshkey_model.specs.Grammar.{value_at}
 use Rattle.sshkey_model.specs.Names.{Algorithm, algorithm_from}

@@ -1,6 +1,6 @@
 -- What a private key is read as: the terms of its opening, and where its parts need memory or have
 -- lengths. The grammars are proved, and need not be believed.
-use Rattle.std.proofs.Common.{◌≡◌, ◌⊎◌, ℕ, List, Bool, true, false, ◌==◌, Result, Ok, refl}
+use Rattle.std.proofs.Common.{◌≡◌, ℕ, List, Bool, true, false, ◌==◌, Result, Ok, refl}
 use Rattle.std.specs.Int.{w32}
 use Rattle.sshkey_model.specs.Grammar.{IsGrammar, Spells}
 use Rattle.sshkey_model.specs.Keys.{Key}
