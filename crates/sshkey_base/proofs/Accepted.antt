@@ -1,6 +1,7 @@
 -- A call that gives what a lawful plain reader gives accepts exactly the spellings.
 use Rattle.std.proofs.Common.{◌≡◌, ℕ, List, [], ◌∷◌, ◌++◌, append-nil, Result, Ok, Err, refl, subst, sym, cond, eqb, Bool, true, false, ◌<◌, length, arith, ap, ◌∙◌}
 use Rattle.std.proofs.lemmas.Bool.{eqb-false}
+use Rattle.std.proofs.lemmas.List.{append_cancel_right}
 use Rattle.std.proofs.lemmas.Result.{err_from_is_err_and}
 use Rattle.sshkey_model.specs.Reading.{Front, whole, end_of}
 use Rattle.sshkey_model.specs.Grammar.{IsGrammar}
@@ -10,7 +11,10 @@ use Rattle.sshkey_base.proofs.Boxes.{some_behind}
 use Rattle.sshkey_base.specs.declared.encoding.Error.{Error}
 use Rattle.sshkey_base.specs.declared.encoding.Error.TheVariants as encoding
 use Rattle.sshkey_base.specs.Causes.{Cause, NoMemory, encoding_cause}
+use Rattle.sshkey_base.specs.Formats.{Format, Begins, AcceptsBeginning}
+use Rattle.sshkey_base.specs.Grammars.{Grammar, by_itself, taken_before}
 use Rattle.sshkey_base.specs.Source.{Source, announced_len}
+use Rattle.sshkey_base.specs.Laws.{HasOneFront}
 use Rattle.sshkey_base.specs.Reading.{Gives, GivesWhole, Reads, IsRefused, AcceptsFront, AcceptsWhole}
 
 -- nothing stands behind what ended
@@ -18,19 +22,55 @@ ended : {Y : Type 0} (y : Y) (rest : List ℕ) (z : Y) → end_of y rest ≡ Ok 
 ended y [] z e = (refl, ok_is y z e)
 ended y (b ∷ rest) z e = absurd cc
 
-module _ {Y : Type 0} {Spells : Y → List ℕ → Type 0} {read : Front Y} (g : IsGrammar Spells read) where
-  -- what the plain reader takes whole is a spelling
-  pub whole_spelled : (b : List ℕ) (y : Y) → whole read b ≡ Ok y → Spells y b
-  whole_spelled b y e =
+-- what begins with a value is read as that value
+pub begun : {Y : Type 0} (f : Format Y) (y : Y) (bytes rest : List ℕ) → Begins f y bytes rest → f.read bytes ≡ Ok (y, rest)
+begun f y bytes rest h = ap f.read h.all ∙ taken_before f.grammar y h.front rest h.spelled h.ends
+
+-- so bytes begin with one value alone
+pub one_beginning : {Y : Type 0} (f : Format Y) → HasOneFront f
+one_beginning {Y} f x y bytes r q h k =
+    let both : (x, r) ≡ (y, q) = ok_is (x, r) (y, q) (sym (begun f x bytes r h) ∙ begun f y bytes q k) in
+    let rests : r ≡ q = ap (λ (p : Y × List ℕ). p.1) both in
+    let fronts : h.front ++ q ≡ k.front ++ q = ap (λ (l : List ℕ). h.front ++ l) (sym rests) ∙ sym h.all ∙ k.all in
+    (ap (λ (p : Y × List ℕ). p.0) both, append_cancel_right h.front k.front q fronts, rests)
+
+-- What the plain reader takes whole is a spelling, and a spelling is taken whole: of any values, and
+-- of those that all end by themselves.
+module _ {Y : Type 0} {Spells : Y → List ℕ → Type 0} {read : Front Y} where
+  pub whole_spelled_by : Grammar Spells read → (b : List ℕ) (y : Y) → whole read b ≡ Ok y → Spells y b
+  whole_spelled_by g b y e =
       let x = bind_ok (read b) (λ x. end_of x.0 x.1) y e in
       let end = ended x.0.0 x.0.1 y x.2 in
       let a = g.takes b x.0.0 x.0.1 x.1 in
       let all : b ≡ a.0 = a.2 ∙ ap (λ (rest : List ℕ). a.0 ++ rest) end.0 ∙ append-nil a.0 in
       subst (λ (bytes : List ℕ). Spells y bytes) (sym all) (subst (λ (v : Y). Spells v a.0) end.1 a.1)
 
-  -- and a spelling is taken whole
-  pub spelled_whole : (b : List ℕ) (y : Y) → Spells y b → whole read b ≡ Ok y
-  spelled_whole b y spelled = ap (whole read) (sym (append-nil b)) ∙ rw (g.again y b [] spelled) refl
+  pub spelled_whole_by : Grammar Spells read → (b : List ℕ) (y : Y) → Spells y b → whole read b ≡ Ok y
+  spelled_whole_by g b y spelled = rw (g.alone y b spelled) refl
+
+  pub whole_spelled : IsGrammar Spells read → (b : List ℕ) (y : Y) → whole read b ≡ Ok y → Spells y b
+  whole_spelled g = whole_spelled_by (by_itself g)
+
+  pub spelled_whole : IsGrammar Spells read → (b : List ℕ) (y : Y) → Spells y b → whole read b ≡ Ok y
+  spelled_whole g = spelled_whole_by (by_itself g)
+
+module _ {X Y E : Type 0} (means : X → Y) (cause : E → Cause) where
+  pub accepts_beginning : (f : Format Y) (s t : Source) (r : Result X E) → Gives means cause f.read s r t → AcceptsBeginning means f cause s r t
+  accepts_beginning f s t (Ok x) h =
+      let a = f.grammar.takes s.left (means x) t.left h.value in
+      record { front = a.0; spelled = a.1; all = a.2; ends = a.3 }
+  accepts_beginning f s t (Err e) h = λ other sound y rest begins.
+      let refused = err_from_is_err_and (f.read s.left) (h.fault other sound) in
+      let taken = begun f y s.left rest begins in
+      let is = refused.1 in cc
+
+  module _ {Spells : Y → List ℕ → Type 0} {read : Front Y} where
+    pub accepts_whole_by : Grammar Spells read → (s : Source) (r : Result X E) → GivesWhole means cause (whole read) s r → AcceptsWhole means Spells cause s r
+    accepts_whole_by g s (Ok x) h = record { spelled = whole_spelled_by g s.left (means x) h.value; sound = h.sound }
+    accepts_whole_by g s (Err e) h = λ other sound y spelled.
+        let refused = err_from_is_err_and (whole read s.left) (h.fault other sound) in
+        let taken = spelled_whole_by g s.left y spelled in
+        let is = refused.1 in cc
 
 module _ {X Y E : Type 0} {Spells : Y → List ℕ → Type 0} {read : Front Y} (g : IsGrammar Spells read) (means : X → Y) (cause : E → Cause) where
   pub accepts_front : (s t : Source) (r : Result X E) → Gives means cause read s r t → AcceptsFront means Spells cause s r t
@@ -42,11 +82,7 @@ module _ {X Y E : Type 0} {Spells : Y → List ℕ → Type 0} {read : Front Y} 
       none_spelled g s.left refused.0 refused.1 y front rest spelled is
 
   pub accepts_whole : (s : Source) (r : Result X E) → GivesWhole means cause (whole read) s r → AcceptsWhole means Spells cause s r
-  accepts_whole s (Ok x) h = record { spelled = whole_spelled g s.left (means x) h.value; sound = h.sound }
-  accepts_whole s (Err e) h = λ other sound y spelled.
-      let refused = err_from_is_err_and (whole read s.left) (h.fault other sound) in
-      let taken = spelled_whole g s.left y spelled in
-      let is = refused.1 in cc
+  accepts_whole = accepts_whole_by means cause (by_itself g)
 
 -- What is read from the front and then finished is what the plain reader takes whole.
 module _ {X Y E : Type 0} (means : X → Y) (cause : E → Cause) (read : Front Y) where

@@ -7,11 +7,12 @@ use Rattle.sshkey_model.specs.Parts.{InRange, flat}
 use Rattle.sshkey_model.specs.Reading.{Fault, ◌>>=◌, Front, whole, number_at, box_at}
 use Rattle.sshkey_model.specs.Grammar.{IsGrammar}
 use Rattle.sshkey_model.proofs.CombinedReaders.{bind_ok, ok_is, fits_number}
+use Rattle.sshkey_base.specs.Grammars.{Grammar}
 use Rattle.sshkey_base.specs.Reading.{SpellsBoxed}
 use Rattle.sshkey_base.specs.Leaves.{number32_grammar, number32_normal}
-use Rattle.sshkey_base.proofs.Accepted.{whole_spelled, spelled_whole}
+use Rattle.sshkey_base.proofs.Accepted.{whole_spelled_by, spelled_whole_by}
 
-module _ {Y : Type 0} {Spells : Y → List ℕ → Type 0} {read : Front Y} (g : IsGrammar Spells read) where
+module _ {Y : Type 0} {Spells : Y → List ℕ → Type 0} {read : Front Y} (g : Grammar Spells read) where
   abbrev Taken : List ℕ → Y → List ℕ → Type 0
   Taken b y rest = (front : List ℕ) × SpellsBoxed Spells y front × (b ≡ front ++ rest)
 
@@ -30,7 +31,7 @@ module _ {Y : Type 0} {Spells : Y → List ℕ → Type 0} {read : Front Y} (g :
       let lt : n.0 < 2 ^ 32 = num.1.fits.range in
       let parts : n.1 ≡ take n.0 n.1 ++ rest = sym (take-append-drop n.0 n.1) ∙ ap (λ (l : List ℕ). take n.0 n.1 ++ l) behind in (
         to_be_bytes w32 (length (take n.0 n.1)) ++ take n.0 n.1,
-        record { inside = take n.0 n.1; spelled = rw (← value) (whole_spelled g _ x.0 x.1); short = rw len lt; whole = refl },
+        record { inside = take n.0 n.1; spelled = rw (← value) (whole_spelled_by g _ x.0 x.1); short = rw len lt; whole = refl },
         num.2 ∙ ap (λ (f : List ℕ). f ++ n.1) num.1.shape ∙ ap (λ (l : List ℕ). to_be_bytes w32 n.0 ++ l) parts ∙ ap (λ (k : ℕ). to_be_bytes w32 k ++ take n.0 n.1 ++ rest) (sym len),
       )
 
@@ -50,7 +51,7 @@ module _ {Y : Type 0} {Spells : Y → List ℕ → Type 0} {read : Front Y} (g :
       let num : number_at w32 (to_be_bytes w32 n ++ s.inside ++ rest) ≡ Ok (n, s.inside ++ rest) = number32_grammar.again n (to_be_bytes w32 n) (s.inside ++ rest) (number32_normal n tt (fits_number w32 n s.short)) in
       let long : n ≤ length (s.inside ++ rest) = omega (arith, length-append s.inside rest) in
       let all : front ++ rest ≡ to_be_bytes w32 n ++ s.inside ++ rest = ap (λ (f : List ℕ). f ++ rest) s.whole in
-      rw (all, num, le-ltb _ _ long, take_at s.inside rest n refl, drop_at s.inside rest n refl, spelled_whole g s.inside y s.spelled) refl
+      rw (all, num, le-ltb _ _ long, take_at s.inside rest n refl, drop_at s.inside rest n refl, spelled_whole_by g s.inside y s.spelled) refl
 
   pub box_grammar : IsGrammar (SpellsBoxed Spells) (box_at (whole read))
   box_grammar = record { takes = box_takes; again = box_again }

@@ -34,8 +34,8 @@ module _ {A : Type 0} (read : Front A) (s t : Source) (begun : Begun read s t) w
     pub first_asks : (c : Cause) → t.missing ≡ s.missing → (c ≡ NoMemory → IsSound t → needs t.left t.missing) → c ≡ NoMemory → IsSound s → NeedsFirst needs read s.left s.missing
     first_asks c same asks memory sound = needed (asks memory (rw same sound))
 
-    pub first_stopped : (over : List ℕ → ℕ → Type 0) (lengths : AreLengths read over) (c : Cause) (before : Option A) → StillOverruns (λ _. read) over (λ _. lengths) s before t → Stopped c read needs over t → OverrunsList (λ _. read) over s.left s.missing → (c ≡ Faulty Length) ⊎ RanOut c (NeedsFirst needs read) s
-    first_stopped over lengths c before still h o = go (still o).0 before t.left refl (still o).1
+    pub first_stopped : (over : List ℕ → ℕ → Type 0) (c : Cause) (before : Option A) → StillOverruns (λ _. read) over s before t → Stopped c read needs over t → OverrunsList (λ _. read) over s.left s.missing → (c ≡ Faulty Length) ⊎ RanOut c (NeedsFirst needs read) s
+    first_stopped over c before still h o = go (still o).0 before t.left refl (still o).1
       where
         more : RanOut c needs t → RanOut c (NeedsFirst needs read) s
         more m = record { memory = m.memory; needed = needed m.needed }

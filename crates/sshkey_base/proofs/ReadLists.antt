@@ -1,10 +1,11 @@
 -- A loop that reads values up to the end of a source.
-use Rattle.std.proofs.Common.{◌≡◌, ◌≢◌, inl, inr, ◌≤◌, ◌<◌, ◌+◌, ℕ, zero, suc, Option, None, Some, List, [], ◌∷◌, ◌++◌, append-nil, append_assoc, length, Result, Ok, Err, refl, sym, ap, ◌∙◌, arith}
+use Rattle.std.proofs.Common.{◌≡◌, ◌≢◌, inl, inr, ◌≤◌, ◌<◌, ◌+◌, ℕ, zero, suc, Option, None, Some, List, [], ◌∷◌, ◌++◌, append-nil, append_assoc, length, Result, Ok, Err, refl, sym, ap, subst, ◌∙◌, arith}
+use Rattle.std.specs.Prelude.{IsOkAnd}
 use Rattle.std.proofs.lemmas.List.{nil_from_length, length-append}
 use Rattle.std.proofs.lemmas.Result.{err_from_is_err_and}
 use Rattle.sshkey_model.specs.Reading.{Fault, ◌>>=◌, Front, Whole, whole, box_at, list_within, list_whole}
 use Rattle.sshkey_model.specs.Parts.{Parts, flat}
-use Rattle.sshkey_model.proofs.CombinedReaders.{ReadsFront}
+use Rattle.sshkey_model.proofs.CombinedReaders.{ReadsFront, ok_is}
 use Rattle.sshkey_base.specs.Causes.{Cause}
 use Rattle.sshkey_base.specs.Source.{Source, announced_len}
 use Rattle.sshkey_base.specs.Reading.{Reads, IsRefused, Gives, to_end}
@@ -80,20 +81,27 @@ module _ {A : Type 0} (item : Option A → Front A) where
 
 -- ---- how they stop
 
-module _ {A : Type 0} (item : Option A → Front A) (over : List ℕ → ℕ → Type 0) (lengths : (before : Option A) → AreLengths (item before) over) where
+module _ {A : Type 0} (item : Option A → Front A) (over : List ℕ → ℕ → Type 0) where
   -- Where a value of the list overruns, one does of what is left of it.
   abbrev pub StillOverruns : Source → Option A → Source → Type 0
   StillOverruns s before t = OverrunsList item over s.left s.missing → (n : ℕ) × OverrunsWithin item over n before t.left t.missing
 
-  -- a value was read
-  pub overruns_more : {X : Type 0} (means : X → A) (s t u : Source) (before : Option A) (x : X) → StillOverruns s before t → Reads means (item before) t x u → StillOverruns s (Some (means x)) u
-  overruns_more means s t u before x still h o = next (still o).0 t.left refl (still o).1
-    where
-      next : (n : ℕ) (b : List ℕ) → b ≡ t.left → OverrunsWithin item over n before b t.missing → (k : ℕ) × OverrunsWithin item over k (Some (means x)) u.left u.missing
-      next n [] is w = absurd w
-      next zero (c ∷ b) is w = absurd w
-      next (suc n) (c ∷ b) is (inl w) = let e = lengths before (c ∷ b) t.missing w in let v = h.value in absurd (cc (is, e, v))
-      next (suc n) (c ∷ b) is (inr w) = (n, rw (is, h.value, ← h.missing) at w)
+  -- A value was read, by a reader that takes what the list's reader takes.
+  module _ {X : Type 0} (means : X → A) (read : Front A) (lengths : AreLengths read over) (s t u : Source) (before : Option A) (same : (b : List ℕ) (y : A × List ℕ) → item before b ≡ Ok y → read b ≡ Ok y) (x : X) where
+    pub overruns_more : StillOverruns s before t → Reads means read t x u → StillOverruns s (Some (means x)) u
+    overruns_more still h o = next (still o).0 t.left refl (still o).1
+      where
+        behind : (n : ℕ) (r : Result (A × List ℕ) Fault) → item before t.left ≡ r → IsOkAnd r (λ y. OverrunsWithin item over n (Some y.0) y.1 t.missing) → OverrunsWithin item over n (Some (means x)) u.left u.missing
+        behind n (Ok y) e w =
+            let is : y ≡ (means x, u.left) = ok_is y (means x, u.left) (sym (same t.left y e) ∙ h.value) in
+            rw h.missing (subst (λ (p : A × List ℕ). OverrunsWithin item over n (Some p.0) p.1 t.missing) is w)
+        behind n (Err f) e w = absurd w
+
+        next : (n : ℕ) (b : List ℕ) → b ≡ t.left → OverrunsWithin item over n before b t.missing → (k : ℕ) × OverrunsWithin item over k (Some (means x)) u.left u.missing
+        next n [] is w = absurd w
+        next zero (c ∷ b) is w = absurd w
+        next (suc n) (c ∷ b) is (inl w) = let e = lengths (c ∷ b) t.missing w in let v = h.value in absurd (cc (is, e, v))
+        next (suc n) (c ∷ b) is (inr w) = (n, behind n (item before t.left) refl (rw is at w))
 
 -- a value that has bytes leaves less
 pub leaves_less : {A : Type 0} {Is : A → Type 0} {spell : A → Parts} {read : Front A} → ReadsFront Is spell read → ((x : A) → 0 < length (flat (spell x))) → (b : List ℕ) (x : A) (rest : List ℕ) → read b ≡ Ok (x, rest) → length rest < length b

@@ -6,6 +6,7 @@ pub mod Reading
 pub mod Needs
 pub mod Stops
 pub mod Lengths
+pub mod Grammars
 pub mod Formats
 pub mod Nested
 pub mod Sink

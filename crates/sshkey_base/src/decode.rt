@@ -4,7 +4,7 @@ ghost use Rattle.std.specs.Prelude.{ℕ, List};
 ghost use Rattle.std.specs.Int.{w8, w32, w64};
 ghost use Rattle.sshkey_model.specs.Reading.{whole, bytes_at, number_at, box_at};
 ghost use Rattle.sshkey_base.specs.Reading.{Decodes, DecodesAlways, AcceptsFront, AcceptsWhole, SpellsBoxed, Gives, GivesWhole};
-ghost use Rattle.sshkey_base.specs.Formats.{Format, Stops, byte_format, number32_format, number64_format, array_format};
+ghost use Rattle.sshkey_base.specs.Formats.{AcceptsBeginning, Format, Stops, byte_format, number32_format, number64_format, array_format};
 ghost use Rattle.sshkey_base.specs.Stops.{StopsBy, StopsPast, OverrunsBoxed};
 ghost use Rattle.sshkey_base.specs.Causes.{encoding_cause};
 ghost use Rattle.sshkey_base.specs.Nested.{nested_source};
@@ -187,7 +187,7 @@ pub fn decode_front<T: Decode, R: Reader>(alloc: Global, reader: &mut R) -> Resu
     ensures later { Later (R.source reader.old) (R.source reader.new) }
     ensures asks { Asks T.Error.cause T.format.needs (R.source reader.old) result }
     ensures past { Stops T.Error.cause T.format (R.source reader.old) result }
-    ensures accepts { AcceptsFront T.means T.format.Spells T.Error.cause
+    ensures accepts { AcceptsBeginning T.means T.format T.Error.cause
         (R.source reader.old) result (R.source reader.new) }
 {
     T::decode(alloc, reader)

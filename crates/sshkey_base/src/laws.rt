@@ -2,7 +2,7 @@
 //! make no call: each is a fact about the definitions.
 
 ghost use Rattle.sshkey_base.specs.Comparisons.{IsEqualityOf, IsOrderOf};
-ghost use Rattle.sshkey_base.specs.Laws.{ReadBackBefore, OneFront};
+ghost use Rattle.sshkey_base.specs.Laws.{ReadBack, HasOneFront};
 ghost use Rattle.sshkey_base.specs.Mpint.{mpint_of};
 
 mod errors;
@@ -21,14 +21,16 @@ pub use sshkey_model::laws::{
     prefix_texts,
 };
 
-/// What is written of a well-formed value that fits is read back as that value, whatever follows.
+/// What is written of a well-formed value that fits is read back as that value, where nothing
+/// follows, and whatever follows a value that ends by itself.
 pub fn read_back<T: NormalForm>()
-    ensures { ReadBackBefore T.IsWellFormed T.normal T.means T.format.read }
+    ensures { ReadBack T.IsWellFormed T.normal T.means T.format }
 {}
 
-/// No spelling begins another, and no bytes spell two values.
+/// Bytes begin with one value at most, and with one spelling of it. So no bytes spell two values,
+/// and where values end by themselves no spelling begins another.
 pub fn one_front<T: Decode>()
-    ensures { OneFront T.format.Spells }
+    ensures { HasOneFront T.format }
 {}
 
 /// Two numbers are equal exactly if their bytes are. They are ordered by the first byte that

@@ -1,8 +1,9 @@
 -- A loop that reads so many values, one behind the other.
-use Rattle.std.proofs.Common.{◌≡◌, ◌⊎◌, inl, inr, IsOk, ◌≤◌, ◌<◌, ◌-◌, ℕ, suc, List, [], ◌∷◌, ◌++◌, append-nil, append_assoc, length, Result, Ok, Err, refl, ◌∙◌, arith}
+use Rattle.std.proofs.Common.{◌≡◌, ◌⊎◌, inl, inr, IsOk, ◌≤◌, ◌<◌, ◌-◌, ℕ, suc, List, [], ◌∷◌, ◌++◌, append-nil, append_assoc, length, Result, Ok, Err, refl, sym, ap, ◌∙◌, arith}
 use Rattle.std.proofs.lemmas.List.{length-append}
 use Rattle.std.proofs.lemmas.Result.{err_from_is_err_and}
 use Rattle.sshkey_model.specs.Reading.{Fault, ◌>>=◌, Front}
+use Rattle.sshkey_model.proofs.CombinedReaders.{ok_is}
 use Rattle.sshkey_base.specs.Causes.{Cause}
 use Rattle.sshkey_base.specs.Formats.{Format}
 use Rattle.sshkey_base.specs.Reading.{Reads, IsRefused}
@@ -17,6 +18,9 @@ onto done xs = Ok (done ++ xs.0, xs.1)
 module _ {A : Type 0} (f : Format A) where
   abbrev item : Front A
   item = f.read
+
+  abbrev delimited : Front A
+  delimited = f.grammar.delimited
 
   same_step : (r : Result (List A × List ℕ) Fault) → r ≡ (r >>= onto [])
   same_step (Ok xs) = refl
@@ -38,9 +42,21 @@ module _ {A : Type 0} (f : Format A) where
   unfolding times_at
   last_step b done = rw append-nil refl
 
-  first_ok : (k : ℕ) (b : List ℕ) (done : List A) → IsOk (times_at item (suc k) b >>= onto done) → IsOk (item b)
+  -- of values that end by themselves, the first one does, and those behind it
+  first_ok : (k : ℕ) (b : List ℕ) → IsOk (times_at delimited (suc k) b) → IsOk (delimited b)
   unfolding times_at
-  first_ok k b done ok = step_ok (item b) _ (step_ok (times_at item (suc k) b) (onto done) ok)
+  first_ok k b ok = step_ok (delimited b) _ ok
+
+  rest_ok : (k : ℕ) (b rest : List ℕ) (x : A) → item b ≡ Ok (x, rest) → IsOk (times_at delimited (suc k) b) → IsOk (times_at delimited k rest)
+  unfolding times_at
+  rest_ok k b rest x e ok = go (delimited b) refl ok
+    where
+      go : (r : Result (A × List ℕ) Fault) → delimited b ≡ r → IsOk (r >>= λ y. times_at delimited k y.1 >>= λ ys. Ok (y.0 ∷ ys.0, ys.1)) → IsOk (times_at delimited k rest)
+      go (Ok y) is ok =
+          let same : y ≡ (x, rest) = ok_is y (x, rest) (sym (f.grammar.same b y is) ∙ e) in
+          let behind : rest ≡ y.1 = sym (ap (λ (p : A × List ℕ). p.1) same) in
+          rw behind (step_ok (times_at delimited k y.1) _ ok)
+      go (Err fault) is ok = absurd cc
 
   is_ok : {B : Type 0} (r : Result B Fault) (x : B) → r ≡ Ok x → IsOk r
   is_ok r x e = rw e refl
@@ -51,6 +67,7 @@ module _ {A : Type 0} (f : Format A) where
     pub outer : t.outer ≡ s.outer
     pub rest : times_at item n s.left ≡ (times_at item (n - length done) t.left >>= onto done)
     pub begun : (t ≡ s) ⊎ IsOk (item s.left)
+    pub delimits : IsOk (times_at delimited n s.left) → IsOk (times_at delimited (n - length done) t.left)
 
   module _ (n : ℕ) (s t : Source) (done : List A) (h : Gathers n s done t) where
     stands : {X : Type 0} (means : X → A) (x : X) (u : Source) → Reads means item t x u → IsOk (item s.left)
@@ -64,7 +81,13 @@ module _ {A : Type 0} (f : Format A) where
         let k = n - length (done ++ means x ∷ []) in
         let is : n - length done ≡ suc k = omega (arith, length-append done (means x ∷ [])) in
         let step : (times_at item (n - length done) t.left >>= onto done) ≡ (times_at item k u.left >>= onto (done ++ means x ∷ [])) = rw is (one_more k t.left u.left (means x) done r.value) in
-        record { missing = r.missing ∙ h.missing; outer = r.outer ∙ h.outer; rest = h.rest ∙ step; begun = inr (stands means x u r) }
+        record {
+          missing = r.missing ∙ h.missing;
+          outer = r.outer ∙ h.outer;
+          rest = h.rest ∙ step;
+          begun = inr (stands means x u r);
+          delimits = λ ok. rest_ok k t.left u.left (means x) r.value (rw is at h.delimits ok);
+        }
 
     pub gathers_end : {V : Type 0} (means : V → List A) (v : V) → means v ≡ done → n ≤ length done → Reads means (times_at item n) s v t
     gathers_end means v is all =
@@ -94,11 +117,11 @@ module _ {A : Type 0} (f : Format A) where
       ],
     )
 
-    pub gathers_stopped : (c : Cause) → length done < n → Stopped c item f.needs f.overruns t → Stopped c (times_at item n) (NeedsValues f n) NoOverrun s
+    pub gathers_stopped : (c : Cause) → length done < n → Stopped c delimited f.needs f.overruns t → Stopped c (times_at delimited n) (NeedsValues f n) NoOverrun s
     gathers_stopped c lt k = record {
       takes = λ ok.
-          let inner : IsOk (times_at item (suc (n - suc (length done))) t.left >>= onto done) = rw (h.rest, more lt) at ok in
-          let m = k.takes (first_ok (n - suc (length done)) t.left done inner) in
+          let inner : IsOk (times_at delimited (suc (n - suc (length done))) t.left) = rw (more lt) at h.delimits ok in
+          let m = k.takes (first_ok (n - suc (length done)) t.left inner) in
           record { memory = m.memory; needed = needed lt m.needed };
       past = λ o. absurd o;
     }

@@ -1,6 +1,6 @@
 pub mod Behind
 pub mod Tested
 pub mod Terms
-pub mod Contents
+pub mod ToEnd
 pub mod Counted
 pub mod Slices

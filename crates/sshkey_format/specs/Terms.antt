@@ -8,50 +8,44 @@ use Rattle.sshkey_model.specs.Parts.{bytes}
 use Rattle.sshkey_model.proofs.CombinedReaders.{literal_reads}
 use Rattle.sshkey_model.proofs.Grammars.{grammar}
 use Rattle.sshkey_base.specs.Formats.{Format}
+use Rattle.sshkey_base.specs.Grammars.{Grammar, by_itself}
 use Rattle.sshkey_base.specs.Lengths.{boxed_lengths, checked_lengths, no_lengths}
 use Rattle.sshkey_base.specs.Needs.{NoNeed, NeedsThen, NeedsBoxed}
 use Rattle.sshkey_base.specs.Reading.{SpellsBoxed}
 use Rattle.sshkey_base.specs.Stops.{NoOverrun, OverrunsThen, OverrunsBoxed, AreLengths}
 use Rattle.sshkey_base.proofs.BoxGrammars.{box_grammar}
-use Rattle.sshkey_format.specs.Behind.{behind_at, both_at, SpellsThen, SpellsBoth, then_grammar, both_grammar}
+use Rattle.sshkey_format.specs.Behind.{behind_at, SpellsThen, then_grammar}
 use Rattle.sshkey_format.specs.Tested.{SpellsTested, tested_grammar}
 
 abbrev with_first : {A B : Type 0} → A → B × List ℕ → Result ((A × B) × List ℕ) Fault
 with_first a y = Ok ((a, y.0), y.1)
 
 -- Where a length passes in the first value, or behind it in the second, `Length` is met.
-module _ {A B : Type 0} {over : List ℕ → ℕ → Type 0} {read : Front A} {overs : A → List ℕ → ℕ → Type 0} {next : A → Front B} where
-  pub then_lengths : AreLengths read over → ((a : A) → AreLengths (next a) (overs a)) → AreLengths (behind_at read next) (OverrunsThen over read overs)
+module _ {A B : Type 0} {over : List ℕ → ℕ → Type 0} {S : A → List ℕ → Type 0} {read : Front A} {overs : A → List ℕ → ℕ → Type 0} {next : A → Front B} where
+  pub then_lengths : (f : Grammar S read) → AreLengths read over → ((a : A) → AreLengths (next a) (overs a)) → AreLengths (behind_at read next) (OverrunsThen over f.delimited overs)
   unfolding behind_at
-  then_lengths f g b m (inl o) = rw (f b m o) refl
-  then_lengths f g b m (inr o) = go (read b) o
+  then_lengths f first g b m (inl o) = rw (first b m o) refl
+  then_lengths f first g b m (inr o) = go (f.delimited b) refl o
     where
-      go : (r : Result (A × List ℕ) Fault) → IsOkAnd r (λ x. overs x.0 x.1 m) → (r >>= λ x. next x.0 x.1 >>= with_first x.0) ≡ Err Length
-      go (Ok x) o = rw (g x.0 x.1 m o) refl
-      go (Err e) o = absurd o
-
--- a value, and another one behind it
-infixr 5 ◌then◌
-abbrev pub ◌then◌ : {A B : Type 0} → Format A → Format B → Format (A × B)
-first then second = record {
-  Spells = SpellsBoth first.Spells second.Spells;
-  read = both_at first.read second.read;
-  needs = NeedsThen first.needs first.read (λ _. second.needs);
-  overruns = OverrunsThen first.overruns first.read (λ _. second.overruns);
-  grammar = both_grammar first.grammar second.grammar;
-  lengths = then_lengths first.lengths (λ _. second.lengths);
-}
+      go : (r : Result (A × List ℕ) Fault) → f.delimited b ≡ r → IsOkAnd r (λ x. overs x.0 x.1 m) → (read b >>= λ x. next x.0 x.1 >>= with_first x.0) ≡ Err Length
+      go (Ok x) e o = rw (f.same b x e, g x.0 x.1 m o) refl
+      go (Err f) e o = absurd o
 
 -- a value, and behind it what that value calls for
 abbrev pub choice : {A B : Type 0} → Format A → (A → Format B) → Format (A × B)
 choice first second = record {
-  Spells = SpellsThen first.Spells (λ a. (second a).Spells);
+  Spells = SpellsThen first.Spells first.grammar.delimited (λ a. (second a).Spells);
   read = behind_at first.read (λ a. (second a).read);
   needs = NeedsThen first.needs first.read (λ a. (second a).needs);
-  overruns = OverrunsThen first.overruns first.read (λ a. (second a).overruns);
+  overruns = OverrunsThen first.overruns first.grammar.delimited (λ a. (second a).overruns);
   grammar = then_grammar first.grammar (λ a. (second a).grammar);
-  lengths = then_lengths first.lengths (λ a. (second a).lengths);
+  lengths = then_lengths first.grammar first.lengths (λ a. (second a).lengths);
 }
+
+-- a value, and another one behind it
+infixr 5 ◌then◌
+abbrev pub ◌then◌ : {A B : Type 0} → Format A → Format B → Format (A × B)
+first then second = choice first (λ _. second)
 
 -- a value, and what a test makes of it
 abbrev pub tested : {A B : Type 0} → (A → Result B Fault) → Format A → Format B
@@ -75,7 +69,7 @@ boxed inner = record {
   read = box_at (whole inner.read);
   needs = NeedsBoxed inner.needs;
   overruns = OverrunsBoxed inner.overruns;
-  grammar = box_grammar inner.grammar;
+  grammar = by_itself (box_grammar inner.grammar);
   lengths = boxed_lengths inner.lengths;
 }
 
@@ -86,7 +80,7 @@ literal_format text = record {
   read = literal_at text;
   needs = NoNeed;
   overruns = NoOverrun;
-  grammar = grammar (literal_reads text);
+  grammar = by_itself (grammar (literal_reads text));
   lengths = no_lengths (literal_at text);
 }
 
@@ -106,7 +100,7 @@ made_of {Y} {Z} {record_at} {form} {Spells} parts mapped grammar = record {
   read = record_at;
   needs = parts.needs;
   overruns = parts.overruns;
-  grammar = grammar;
+  grammar = by_itself grammar;
   lengths = mapped_lengths mapped parts.lengths;
 }
 
@@ -116,14 +110,14 @@ made_of {Y} {Z} {record_at} {form} {Spells} parts mapped grammar = record {
 pub record IsChosen {A Z : Type 0} (record_at : Front Z) (read : Front A) (next : A → Front Z) : Type 0 where
   pub same : (b : List ℕ) → record_at b ≡ (read b >>= λ x. next x.0 x.1)
 
-module _ {A Z : Type 0} {record_at : Front Z} {read : Front A} {next : A → Front Z} {over : List ℕ → ℕ → Type 0} {overs : A → List ℕ → ℕ → Type 0} where
-  pub chosen_lengths : IsChosen record_at read next → AreLengths read over → ((a : A) → AreLengths (next a) (overs a)) → AreLengths record_at (OverrunsThen over read overs)
-  chosen_lengths same f g b m (inl o) = rw (same.same b, f b m o) refl
-  chosen_lengths same f g b m (inr o) = rw (same.same b) (go (read b) o)
+module _ {A Z : Type 0} {record_at : Front Z} {S : A → List ℕ → Type 0} {read : Front A} {next : A → Front Z} {over : List ℕ → ℕ → Type 0} {overs : A → List ℕ → ℕ → Type 0} where
+  pub chosen_lengths : (f : Grammar S read) → IsChosen record_at read next → AreLengths read over → ((a : A) → AreLengths (next a) (overs a)) → AreLengths record_at (OverrunsThen over f.delimited overs)
+  chosen_lengths f same first g b m (inl o) = rw (same.same b, first b m o) refl
+  chosen_lengths f same first g b m (inr o) = rw (same.same b) (go (f.delimited b) refl o)
     where
-      go : (r : Result (A × List ℕ) Fault) → IsOkAnd r (λ x. overs x.0 x.1 m) → (r >>= λ x. next x.0 x.1) ≡ Err Length
-      go (Ok x) o = g x.0 x.1 m o
-      go (Err e) o = absurd o
+      go : (r : Result (A × List ℕ) Fault) → f.delimited b ≡ r → IsOkAnd r (λ x. overs x.0 x.1 m) → (read b >>= λ x. next x.0 x.1) ≡ Err Length
+      go (Ok x) e o = rw (f.same b x e) (g x.0 x.1 m o)
+      go (Err f) e o = absurd o
 
 -- The first value is no part of the record, or stands in it.
 abbrev pub chosen_of : {A Z : Type 0} {record_at : Front Z} {Spells : Z → List ℕ → Type 0} (first : Format A) (second : A → Format Z) → IsChosen record_at first.read (λ a. (second a).read) → IsGrammar Spells record_at → Format Z
@@ -131,7 +125,27 @@ chosen_of {A} {Z} {record_at} {Spells} first second same grammar = record {
   Spells = Spells;
   read = record_at;
   needs = NeedsThen first.needs first.read (λ a. (second a).needs);
-  overruns = OverrunsThen first.overruns first.read (λ a. (second a).overruns);
-  grammar = grammar;
-  lengths = chosen_lengths same first.lengths (λ a. (second a).lengths);
+  overruns = OverrunsThen first.overruns first.grammar.delimited (λ a. (second a).overruns);
+  grammar = by_itself grammar;
+  lengths = chosen_lengths first.grammar same first.lengths (λ a. (second a).lengths);
 }
+
+-- what the first value calls for, without that value
+abbrev pub called : {A B : Type 0} → Format A → (A → Format B) → Format B
+called first second = tested (λ x. Ok x.1) (choice first second)
+
+module _ {A B : Type 0} where
+  abbrev second_of : (A × B) × List ℕ → Result (B × List ℕ) Fault
+  second_of z = Ok (z.0.1, z.1)
+
+  pub called_chosen : (first : Front A) (second : A → Front B) → IsChosen (checked_at (λ (x : A × B). Ok x.1) (behind_at first second)) first second
+  unfolding behind_at
+  called_chosen first second = record { same = λ b. go (first b) }
+    where
+      behind : (a : A) (r : Result (B × List ℕ) Fault) → ((r >>= with_first a) >>= second_of) ≡ r
+      behind a (Ok y) = refl
+      behind a (Err e) = refl
+
+      go : (r : Result (A × List ℕ) Fault) → ((r >>= λ x. second x.0 x.1 >>= with_first x.0) >>= second_of) ≡ (r >>= λ x. second x.0 x.1)
+      go (Ok x) = behind x.0 (second x.0 x.1)
+      go (Err e) = refl

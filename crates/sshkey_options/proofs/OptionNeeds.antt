@@ -87,7 +87,7 @@ module _ {P : Type 0} (done : List P) (s t : Source) (begun : Begun done s t) wh
   option_stands means before x u r = first_stands (text_stands t.left t.missing (step_ok (text_at t.left) _ (is_ok (option_behind before t.left) (means x, u.left) r.value)))
 
   -- an option is refused
-  pub options_stopped : (c : Cause) (before : Option CertificateOption) → StillOverruns item OverrunsOption option_lengths s before t → Stopped c (item before) NeedsOption OverrunsOption t → OverrunsList item OverrunsOption s.left s.missing → (c ≡ Faulty Length) ⊎ RanOut c HasString s
+  pub options_stopped : (c : Cause) (before : Option CertificateOption) → StillOverruns item OverrunsOption s before t → Stopped c (item before) NeedsOption OverrunsOption t → OverrunsList item OverrunsOption s.left s.missing → (c ≡ Faulty Length) ⊎ RanOut c HasString s
   options_stopped c before still h o = go (still o).0 t.left refl (still o).1
     where
       more : RanOut c NeedsOption t → RanOut c HasString s

@@ -5,7 +5,7 @@ ghost use Rattle.sshkey_base.specs.Needs.{Asks};
 ghost use Rattle.sshkey_base.specs.Reading.{Gives};
 ghost use Rattle.sshkey_base.specs.Source.{Later};
 ghost use Rattle.sshkey_base.specs.Stops.{StopsPast};
-ghost use Rattle.sshkey_format.specs.Contents.{HasBytes, NeedsEach, OverrunsEach, each_at};
+ghost use Rattle.sshkey_format.specs.ToEnd.{HasBytes, NeedsEach, OverrunsEach, each_at};
 
 use crate::counted::read::add;
 use sshkey_base::{Decode, Reader};

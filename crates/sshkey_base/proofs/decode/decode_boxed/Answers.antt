@@ -1,14 +1,15 @@
 use Rattle.std.proofs.Common.{rules}
 use Rattle.sshkey_base.proofs.Accepted.{accepts_front}
 use Rattle.sshkey_base.proofs.BoxGrammars.{box_grammar}
-use Rattle.sshkey_base.proofs.Boxes.{prefixed_asks, prefixed_gives, prefixed_stops}
+use Rattle.sshkey_base.proofs.Boxes.{prefixed_asks, prefixed_gives}
+use Rattle.sshkey_base.proofs.FilledBoxes.{boxed_stops}
 use Rattle.sshkey_base.proofs.decode.decode_boxed.Goals as goal
 
 pub returns-clause-gives : goal.returns-clause-gives
 returns-clause-gives g c = prefixed_gives _ _ _ _ _ g.T.Decode.means g.T.Decode.format.read g.met.T.Error.DecodeError.keeps_causes (search rules) _ _ _ c.read_prefixed.ensures.calls
 
 pub returns-clause-past : goal.returns-clause-past
-returns-clause-past g c = prefixed_stops _ _ _ _ _ g.T.Decode.means g.T.Decode.format.read g.met.T.Error.DecodeError.keeps_causes g.T.Decode.format.needs g.T.Decode.format.overruns g.T.Decode.format.lengths (search rules) (search rules) (g.R.Reader.source c.args.reader.now) _ _ c.read_prefixed.ensures.calls
+returns-clause-past g c = boxed_stops _ _ _ _ _ g.T.Decode.means g.T.Decode.format g.met.T.Error.DecodeError.keeps_causes (search rules) (search rules) (search rules) (g.R.Reader.source c.args.reader.now) _ _ c.read_prefixed.ensures.calls
 
 pub returns-clause-asks : goal.returns-clause-asks
 returns-clause-asks g c = prefixed_asks _ _ _ _ _ g.T.Decode.means g.T.Decode.format.read g.met.T.Error.DecodeError.keeps_causes g.T.Decode.format.needs (search rules) _ _ _ c.read_prefixed.ensures.calls

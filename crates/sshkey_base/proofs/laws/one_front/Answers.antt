@@ -1,5 +1,5 @@
-use Rattle.sshkey_model.proofs.Grammars.{one_front}
+use Rattle.sshkey_base.proofs.Accepted.{one_beginning}
 use Rattle.sshkey_base.proofs.laws.one_front.Goals as goal
 
 pub returns : goal.returns
-returns g c = one_front g.T.Decode.format.grammar
+returns g c = one_beginning g.T.Decode.format

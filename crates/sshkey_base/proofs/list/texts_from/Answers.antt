@@ -33,7 +33,7 @@ reads-preserved g c =
     let r = c.in_ok-decode.ensures.gives in
     let less = leaves_less text_reads (λ t. box_shows (bytes t)) _ _ _ r.value in
     let all : map string_bytes c.push.new.self.items ≡ map string_bytes c.reads.texts.items ++ string_bytes c.in_ok-decode.field-0 ∷ [] = ap (λ (xs : _). map string_bytes xs) c.in_ok-push.ensures.items ∙ map-append string_bytes _ _ in
-    ((Some (string_bytes c.in_ok-decode.field-0), rw all (collects_more (λ _. text_at) string_bytes _ _ _ _ _ _ c.reads.invariant.0.1 r less), overruns_more (λ _. text_at) OverrunsString (λ _. text_lengths) string_bytes (g.R.Reader.source c.args.reader.now) _ _ _ _ c.reads.invariant.0.2 r), inr (still_begun text_at _ _ c.reads.invariant.1 string_bytes _ _ r), later_then _ _ _ c.reads.invariant.2 c.in_ok-decode.ensures.later)
+    ((Some (string_bytes c.in_ok-decode.field-0), rw all (collects_more (λ _. text_at) string_bytes _ _ _ _ _ _ c.reads.invariant.0.1 r less), overruns_more (λ _. text_at) OverrunsString string_bytes text_at text_lengths (g.R.Reader.source c.args.reader.now) _ _ _ (λ b y e. e) _ c.reads.invariant.0.2 r), inr (still_begun text_at _ _ c.reads.invariant.1 string_bytes _ _ r), later_then _ _ _ c.reads.invariant.2 c.in_ok-decode.ensures.later)
 
 pub returns-clause-gives : goal.returns-clause-gives
 returns-clause-gives g c = collects_end (λ _. text_at) texts_of _ _ _ _ c.reads.invariant.0.1 (c.is_finished.ensures.0 c.reads-test.false)
@@ -46,4 +46,4 @@ returns-in_err-decode-clause-asks g c =
 pub returns-in_err-decode-clause-past : goal.returns-in_err-decode-clause-past
 returns-in_err-decode-clause-past g c =
     let p = err_from_is_err_and c.from_residual.result c.from_residual.ensures.1 in
-    rw (p.1, p.2) (first_stopped text_at _ _ c.reads.invariant.1 NeedsString OverrunsString text_lengths _ _ c.reads.invariant.0.2 c.in_err-decode.ensures.past)
+    rw (p.1, p.2) (first_stopped text_at _ _ c.reads.invariant.1 NeedsString OverrunsString _ _ c.reads.invariant.0.2 c.in_err-decode.ensures.past)

@@ -10,7 +10,7 @@ use Rattle.sshkey_options.proofs.OptionNeeds.{Begun}
 use Rattle.sshkey_options.proofs.options_map.read.options_from.Given as goal
 
 abbrev pub invariant-reads : goal.invariant-reads
-invariant-reads g l = ((before : Option CertificateOption) × (name_before before ≡ name_at_end (gathered_pairs l.gathered)) × Collects item (g.R.Reader.source l.fn.reader) before (map option_of (gathered_pairs l.gathered)) (g.R.Reader.source l.reader) × StillOverruns item OverrunsOption option_lengths (g.R.Reader.source l.fn.reader) before (g.R.Reader.source l.reader)) × Later (g.R.Reader.source l.fn.reader) (g.R.Reader.source l.reader) × NamesRise (gathered_pairs l.gathered) × Begun (gathered_pairs l.gathered) (g.R.Reader.source l.fn.reader) (g.R.Reader.source l.reader)
+invariant-reads g l = ((before : Option CertificateOption) × (name_before before ≡ name_at_end (gathered_pairs l.gathered)) × Collects item (g.R.Reader.source l.fn.reader) before (map option_of (gathered_pairs l.gathered)) (g.R.Reader.source l.reader) × StillOverruns item OverrunsOption (g.R.Reader.source l.fn.reader) before (g.R.Reader.source l.reader)) × Later (g.R.Reader.source l.fn.reader) (g.R.Reader.source l.reader) × NamesRise (gathered_pairs l.gathered) × Begun (gathered_pairs l.gathered) (g.R.Reader.source l.fn.reader) (g.R.Reader.source l.reader)
 
 abbrev pub decreases-reads : goal.decreases-reads
 decreases-reads g l = announced_len (g.R.Reader.source l.reader)

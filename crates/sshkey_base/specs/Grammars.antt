@@ -1,0 +1,68 @@
+-- Which values end by themselves, and that a reading call takes exactly the spellings. The lemmas
+-- are proved, and need not be believed.
+use Rattle.std.proofs.Common.{◌≡◌, ◌⊎◌, inl, inr, ℕ, List, [], ◌++◌, append-nil, append_assoc, Result, Ok, Err, refl, sym, ap, ◌∙◌}
+use Rattle.sshkey_model.specs.Reading.{Length, Front}
+use Rattle.sshkey_model.specs.Grammar.{IsGrammar}
+
+-- Nothing stands behind the value, or it ends by itself.
+abbrev pub Ends : {A : Type 0} → Front A → A → List ℕ → List ℕ → Type 0
+Ends delimited value front rest = (rest ≡ []) ⊎ (delimited front ≡ Ok (value, []))
+
+pub record Grammar {A : Type 0} (Spells : A → List ℕ → Type 0) (read : Front A) : Type 0 where
+  -- the plain reader of the values that end by themselves; any other takes all the bytes left
+  pub delimited : Front A
+  -- `read` takes what it takes
+  pub same : (b : List ℕ) (x : A × List ℕ) → delimited b ≡ Ok x → read b ≡ Ok x
+  -- whatever follows
+  pub before : (b : List ℕ) (value : A) (rest more : List ℕ) → delimited b ≡ Ok (value, rest) → delimited (b ++ more) ≡ Ok (value, rest ++ more)
+  -- what `read` takes is a spelling
+  pub takes : (b : List ℕ) (value : A) (rest : List ℕ) → read b ≡ Ok (value, rest) → (front : List ℕ) × Spells value front × (b ≡ front ++ rest) × Ends delimited value front rest
+  -- and a spelling is taken
+  pub alone : (value : A) (front : List ℕ) → Spells value front → read front ≡ Ok (value, [])
+
+-- where no value does
+abbrev pub never_at : {A : Type 0} → Front A
+never_at b = Err Length
+
+pub never : {A Z : Type 0} (b : List ℕ) (x : A × List ℕ) → never_at b ≡ Ok x → Z
+never b x e = absurd cc
+
+module _ {A : Type 0} {Spells : A → List ℕ → Type 0} {read : Front A} where
+  pub read_alone : IsGrammar Spells read → (value : A) (front : List ℕ) → Spells value front → read front ≡ Ok (value, [])
+  read_alone g value front s = ap read (sym (append-nil front)) ∙ g.again value front [] s
+
+  pub read_before : IsGrammar Spells read → (b : List ℕ) (value : A) (rest more : List ℕ) → read b ≡ Ok (value, rest) → read (b ++ more) ≡ Ok (value, rest ++ more)
+  read_before g b value rest more e =
+      let t = g.takes b value rest e in
+      rw (t.2, append_assoc t.0 rest more) (g.again value t.0 (rest ++ more) t.1)
+
+  pub read_takes : IsGrammar Spells read → (b : List ℕ) (value : A) (rest : List ℕ) → read b ≡ Ok (value, rest) → (front : List ℕ) × Spells value front × (b ≡ front ++ rest) × Ends read value front rest
+  read_takes g b value rest e =
+      let t = g.takes b value rest e in
+      (t.0, t.1, t.2, inr (read_alone g value t.0 t.1))
+
+  -- all values end by themselves
+  abbrev pub by_itself : IsGrammar Spells read → Grammar Spells read
+  by_itself g = record { delimited = read; same = λ b x e. e; before = read_before g; takes = read_takes g; alone = read_alone g }
+
+  module _ (g : Grammar Spells read) where
+    -- a spelling is taken where it ends
+    pub taken_before : (value : A) (front rest : List ℕ) → Spells value front → Ends g.delimited value front rest → read (front ++ rest) ≡ Ok (value, rest)
+    taken_before value front rest s (inl none) = rw (none, append-nil front) (g.alone value front s)
+    taken_before value front rest s (inr ends) = g.same (front ++ rest) (value, rest) (g.before front value [] rest ends)
+
+    pub all_end : ((b : List ℕ) → g.delimited b ≡ read b) → IsGrammar Spells read
+    all_end same = record {
+      takes = λ b value rest e. let t = g.takes b value rest e in (t.0, t.1, t.2);
+      again = λ value front rest s. taken_before value front rest s (inr (same front ∙ g.alone value front s));
+    }
+
+  -- no value does
+  abbrev pub to_the_end : ((b : List ℕ) (value : A) (rest : List ℕ) → read b ≡ Ok (value, rest) → Spells value b × (rest ≡ [])) → ((value : A) (b : List ℕ) → Spells value b → read b ≡ Ok (value, [])) → Grammar Spells read
+  to_the_end takes alone = record {
+    delimited = never_at;
+    same = λ b x e. never b x e;
+    before = λ b value rest more e. never b (value, rest) e;
+    takes = λ b value rest e. let t = takes b value rest e in (b, t.0, rw (t.1, append-nil b) refl, inl t.1);
+    alone = alone;
+  }
