@@ -93,31 +93,6 @@ module _ {Y : Type 0} (read : Front Y) where
     no_length s c h (inl o) = absurd (rw h.is at o)
     no_length s c h (inr o) = absurd (rw h.is at o)
 
-    box_stopped : (c : Cause) (s t : Source) (n name : ℕ) → Reads (λ k. k) (number_at w32) s n t → n ≤ announced_len t → Stopped c read needs overruns (part name n t) → Stopped c (box_at (whole read)) (NeedsBoxed needs) (OverrunsBoxed overruns) s
-    unfolding box_at
-    box_stopped c s t n name a le k = record {
-      takes = λ ok. more (k.takes (inner_ok ok));
-      past = go;
-    }
-      where
-        more : RanOut c needs (part name n t) → RanOut c (NeedsBoxed needs) s
-        more m = record { memory = m.memory; needed = rw (a.value, ← a.missing) (le, m.needed) }
-
-        inner_ok : IsOk (box_at (whole read) s.left) → IsOk (read (take n t.left))
-        inner_ok ok = elim (cases_lt (length t.left) n) [
-          | inl lt ↦ not_taken (box_at (whole read) s.left) Length (rw (a.value, lt-ltb _ _ lt) refl) ok
-          | inr ge ↦ step_ok (read (take n t.left)) _ (step_ok (whole read (take n t.left)) _ (rw (a.value, le-ltb _ _ ge) at ok))
-        ]
-
-        go : OverrunsBoxed overruns s.left s.missing → (c ≡ Faulty Length) ⊎ RanOut c (NeedsBoxed needs) s
-        go (inl o) = absurd (within_not n s t a le o)
-        go (inr o) =
-            let i : (n ≤ length t.left + s.missing) × overruns (take n t.left) (n - length t.left) = rw a.value at o in
-            elim (k.past i.1) [
-              | inl is ↦ inl is
-              | inr m ↦ inr (more m)
-            ]
-
     took : {X Z : Type 0} (means : X → Y) (s t : Source) (n name other rest : ℕ) (u : Source) (x : X) → AreLengths read overruns → Reads (λ k. k) (number_at w32) s n t → n ≤ announced_len t → Reads means read (part name n t) x (part other rest u) → OverrunsBoxed overruns s.left s.missing → Z
     took means s t n name other rest u x never a le h (inl o) = absurd (within_not n s t a le o)
     took means s t n name other rest u x never a le h (inr o) =
@@ -232,23 +207,6 @@ module _ {F N T E Y : Type 0} (call : Once F (MutBor N × Unit {0}) (Result T E 
     prefixed_asks s u (Err e) (inr (inl h)) = λ memory _. let is = keeps encoding.Length e h.is in absurd cc
     prefixed_asks s u (Err e) (inr (inr (inl h))) = asks_inside s e h
     prefixed_asks s u (Err e) (inr (inr (inr h))) = λ memory _. let is = keeps (encoding.TrailingData h.rest) e h.is in absurd cc
-
-  -- A closure that stops as a format says makes the call stop as the box of it does.
-  abbrev pub StopsInside : (needs overruns : List ℕ → ℕ → Type 0) → Type 0
-  StopsInside needs overruns = (p q : MutBor N) (r : Result T E) → call.post f (p, tt) (r, (q, tt)) → StopsBy cause read needs overruns (source p.now) r
-
-  module _ (needs overruns : List ℕ → ℕ → Type 0) (never : AreLengths read overruns) (by : ReadsBy call source cause f means read) (stops : StopsInside needs overruns) where
-    pub prefixed_stops : (s u : Source) (r : Result T E) → Prefixed call source from_gives f s r u → StopsBy cause (box_at (whole read)) (NeedsBoxed needs) (OverrunsBoxed overruns) s r
-    prefixed_stops s u (Ok x) h = tt
-    prefixed_stops s u (Err e) (inl h) = refused_stopped _ _ _ _ s (of_length by s e h) (λ o. no_length read needs overruns s _ h.refused o)
-    prefixed_stops s u (Err e) (inr (inl h)) = refused_stopped _ _ _ _ s (of_past by s e h) (λ o. keeps encoding.Length e h.is)
-    prefixed_stops s u (Err e) (inr (inr (inl h))) =
-        let k : Stopped (cause e) read needs overruns (part h.name h.len h.after) = rw h.starts at (stops h.given h.left (Err e) h.met) in
-        box_stopped read needs overruns (cause e) s h.after h.len h.name h.number h.within k
-    prefixed_stops s u (Err e) (inr (inr (inr h))) =
-        let c = h.calls in
-        let g : Reads means read (part c.name c.len c.after) h.value (part h.other h.rest h.now) = rw (c.starts, h.ends) at (by c.given c.left (Ok h.value) c.met) in
-        refused_stopped _ _ _ _ s (of_trails by s e h) (λ o. took read needs overruns means s c.after c.len c.name h.other h.rest h.now h.value never c.number c.within g o)
 
   -- Of a closure that reads to the end.
   abbrev pub StopsInsideToEnd : (overruns : List ℕ → ℕ → Type 0) → Type 0

@@ -57,12 +57,17 @@ module _ {A : Type 0} {Spells : A → List ℕ → Type 0} {read : Front A} wher
       again = λ value front rest s. taken_before value front rest s (inr (same front ∙ g.alone value front s));
     }
 
+  pub end_takes : ((b : List ℕ) (value : A) (rest : List ℕ) → read b ≡ Ok (value, rest) → Spells value b × (rest ≡ [])) → (b : List ℕ) (value : A) (rest : List ℕ) → read b ≡ Ok (value, rest) → (front : List ℕ) × Spells value front × (b ≡ front ++ rest) × Ends never_at value front rest
+  end_takes takes b value rest e =
+      let t = takes b value rest e in
+      (b, t.0, rw (t.1, append-nil b) refl, inl t.1)
+
   -- no value does
   abbrev pub to_the_end : ((b : List ℕ) (value : A) (rest : List ℕ) → read b ≡ Ok (value, rest) → Spells value b × (rest ≡ [])) → ((value : A) (b : List ℕ) → Spells value b → read b ≡ Ok (value, [])) → Grammar Spells read
   to_the_end takes alone = record {
     delimited = never_at;
     same = λ b x e. never b x e;
     before = λ b value rest more e. never b (value, rest) e;
-    takes = λ b value rest e. let t = takes b value rest e in (b, t.0, rw (t.1, append-nil b) refl, inl t.1);
+    takes = end_takes takes;
     alone = alone;
   }

@@ -51,7 +51,7 @@ module _ {A : Type 0} (f : Format A) where
   unfolding times_at
   rest_ok k b rest x e ok = go (delimited b) refl ok
     where
-      go : (r : Result (A × List ℕ) Fault) → delimited b ≡ r → IsOk (r >>= λ y. times_at delimited k y.1 >>= λ ys. Ok (y.0 ∷ ys.0, ys.1)) → IsOk (times_at delimited k rest)
+      go : (r : Result (A × List ℕ) Fault) → delimited b ≡ r → IsOk {T = List A × List ℕ} (r >>= λ y. times_at delimited k y.1 >>= λ ys. Ok (y.0 ∷ ys.0, ys.1)) → IsOk (times_at delimited k rest)
       go (Ok y) is ok =
           let same : y ≡ (x, rest) = ok_is y (x, rest) (sym (f.grammar.same b y is) ∙ e) in
           let behind : rest ≡ y.1 = sym (ap (λ (p : A × List ℕ). p.1) same) in

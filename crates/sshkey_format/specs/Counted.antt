@@ -137,7 +137,7 @@ module _ {A : Type 0} {S : A → List ℕ → Type 0} {read : Front A} (g : Gram
       let f = were_filled n g.delimited b x.0 x.1 e in
       are_filled n read b x.0 x.1 (f.0, times_same n b x f.1, f.2)
 
-  values_before : (n : ℕ) (b : List ℕ) (xs : List A) (rest more : List ℕ) → values_at g.delimited n b ≡ Ok (xs, rest) → values_at g.delimited n (b ++ more) ≡ Ok (xs, rest ++ more)
+  pub values_before : (n : ℕ) (b : List ℕ) (xs : List A) (rest more : List ℕ) → values_at g.delimited n b ≡ Ok (xs, rest) → values_at g.delimited n (b ++ more) ≡ Ok (xs, rest ++ more)
   values_before n b xs rest more e =
       let f = were_filled n g.delimited b xs rest e in
       let first : ltb (length (b ++ more)) n ≡ false = le-ltb _ _ (omega (arith, ltb-false _ _ f.0, length-append b more)) in
@@ -146,21 +146,21 @@ module _ {A : Type 0} {S : A → List ℕ → Type 0} {read : Front A} (g : Gram
 
   values_end : (n : ℕ) (xs : List A) (front rest : List ℕ) → n ≤ length front → Ends (times_at g.delimited n) xs front rest → Ends (values_at g.delimited n) xs front rest
   values_end n xs front rest enough (inl none) = inl none
-  values_end n xs front rest enough (inr h) = inr (are_filled n g.delimited front xs [] (le-ltb _ _ enough, h, le-ltb _ _ enough))
+  values_end n xs front rest enough (inr h) = inr (are_filled n g.delimited front xs [] (le-ltb _ _ enough, h, le-ltb _ _ (omega (arith, enough))))
 
-  values_takes : (n : ℕ) (b : List ℕ) (xs : List A) (rest : List ℕ) → values_at read n b ≡ Ok (xs, rest) → (front : List ℕ) × SpellsValues S g.delimited n xs front × (b ≡ front ++ rest) × Ends (values_at g.delimited n) xs front rest
+  pub values_takes : (n : ℕ) (b : List ℕ) (xs : List A) (rest : List ℕ) → values_at read n b ≡ Ok (xs, rest) → (front : List ℕ) × SpellsValues S g.delimited n xs front × (b ≡ front ++ rest) × Ends (values_at g.delimited n) xs front rest
   values_takes n b xs rest e =
       let f = were_filled n read b xs rest e in
       let t = times_takes n b xs rest f.1 in
       let enough : n ≤ length t.0 = omega (arith, ltb-false _ _ f.2, ap length t.3, length-append t.0 rest) in
       (t.0, record { number = t.1; each = t.2; bytes = enough }, t.3, values_end n xs t.0 rest enough t.4)
 
-  values_alone : (n : ℕ) (xs : List A) (front : List ℕ) → SpellsValues S g.delimited n xs front → values_at read n front ≡ Ok (xs, [])
+  pub values_alone : (n : ℕ) (xs : List A) (front : List ℕ) → SpellsValues S g.delimited n xs front → values_at read n front ≡ Ok (xs, [])
   values_alone n xs front s =
       let is : times_at read n front ≡ Ok (xs, []) = subst (λ (k : ℕ). times_at read k front ≡ Ok (xs, [])) s.number (times_alone xs front s.each) in
-      are_filled n read front xs [] (le-ltb _ _ s.bytes, is, le-ltb _ _ s.bytes)
+      are_filled n read front xs [] (le-ltb _ _ s.bytes, is, le-ltb _ _ (omega (arith, s.bytes)))
 
-  pub values_grammar : (n : ℕ) → Grammar (SpellsValues S g.delimited n) (values_at read n)
+  abbrev pub values_grammar : (n : ℕ) → Grammar (SpellsValues S g.delimited n) (values_at read n)
   values_grammar n = record { delimited = values_at g.delimited n; same = values_same n; before = values_before n; takes = values_takes n; alone = values_alone n }
 
 -- ---- the formats

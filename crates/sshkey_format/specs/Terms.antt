@@ -17,7 +17,7 @@ use Rattle.sshkey_base.proofs.BoxGrammars.{box_grammar}
 use Rattle.sshkey_format.specs.Behind.{behind_at, SpellsThen, then_grammar}
 use Rattle.sshkey_format.specs.Tested.{SpellsTested, tested_grammar}
 
-abbrev with_first : {A B : Type 0} → A → B × List ℕ → Result ((A × B) × List ℕ) Fault
+abbrev pub with_first : {A B : Type 0} → A → B × List ℕ → Result ((A × B) × List ℕ) Fault
 with_first a y = Ok ((a, y.0), y.1)
 
 -- Where a length passes in the first value, or behind it in the second, `Length` is met.

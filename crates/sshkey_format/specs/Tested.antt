@@ -16,6 +16,9 @@ module _ {A B : Type 0} {S : A → List ℕ → Type 0} {read : Front A} (test :
   abbrev pub tested_delimited : Front B
   tested_delimited = checked_at test f.delimited
 
+  made : (b : List ℕ) (a : A) (value : B) (rest : List ℕ) → f.delimited b ≡ Ok (a, rest) → test a ≡ Ok value → tested_delimited b ≡ Ok (value, rest)
+  made b a value rest h makes = rw (h, makes) refl
+
   pub tested_same : (b : List ℕ) (x : B × List ℕ) → tested_delimited b ≡ Ok x → checked_at test read b ≡ Ok x
   tested_same b x e =
       let y = bind_ok (f.delimited b) _ x e in
@@ -25,11 +28,11 @@ module _ {A B : Type 0} {S : A → List ℕ → Type 0} {read : Front A} (test :
   tested_before b value rest more e =
       let x = bind_ok (f.delimited b) _ (value, rest) e in
       let y = bind_ok (test x.0.0) _ (value, rest) x.2 in
-      subst (λ (p : B × List ℕ). tested_delimited (b ++ more) ≡ Ok (p.0, p.1 ++ more)) (ok_is (y.0, x.0.1) (value, rest) y.2) (rw (f.before b x.0.0 x.0.1 more x.1, y.1) refl)
+      subst (λ (p : B × List ℕ). tested_delimited (b ++ more) ≡ Ok (p.0, p.1 ++ more)) (ok_is (y.0, x.0.1) (value, rest) y.2) (made (b ++ more) x.0.0 y.0 (x.0.1 ++ more) (f.before b x.0.0 x.0.1 more x.1) y.1)
 
   tested_ends : (a : A) (value : B) (front rest : List ℕ) → test a ≡ Ok value → Ends f.delimited a front rest → Ends tested_delimited value front rest
   tested_ends a value front rest makes (inl none) = inl none
-  tested_ends a value front rest makes (inr h) = inr (rw (h, makes) refl)
+  tested_ends a value front rest makes (inr h) = inr (made front a value [] h makes)
 
   pub tested_takes : (b : List ℕ) (value : B) (rest : List ℕ) → checked_at test read b ≡ Ok (value, rest) → (front : List ℕ) × SpellsTested S test value front × (b ≡ front ++ rest) × Ends tested_delimited value front rest
   tested_takes b value rest e =

@@ -68,17 +68,17 @@ module _ {A : Type 0} {S : A → List ℕ → Type 0} {read : Front A} (g : Gram
       let first : read (c ∷ b) ≡ Ok (x, s.1) = ap read s.4 ∙ taken_before g x s.0 s.1 s.2 s.5 in
       rw (first, each_again n (Some x) xs s.1 less s.3) refl
 
-  values_take : (b : List ℕ) (xs : List A) (rest : List ℕ) → to_end (list_whole (λ _. read)) b ≡ Ok (xs, rest) → SpellsEach S g.delimited xs b × (rest ≡ [])
+  pub values_take : (b : List ℕ) (xs : List A) (rest : List ℕ) → to_end (list_whole (λ _. read)) b ≡ Ok (xs, rest) → SpellsEach S g.delimited xs b × (rest ≡ [])
   values_take b xs rest e =
       let x = bind_ok (list_whole (λ _. read) b) _ (xs, rest) e in
       let both : (x.0, []) ≡ (xs, rest) = ok_is (x.0, []) (xs, rest) x.2 in
       let is : x.0 ≡ xs = ap (λ (p : List A × List ℕ). p.0) both in
       (each_takes (length b) None b xs (rw is at x.1), sym (ap (λ (p : List A × List ℕ). p.1) both))
 
-  values_again : (xs : List A) (b : List ℕ) → SpellsEach S g.delimited xs b → to_end (list_whole (λ _. read)) b ≡ Ok (xs, [])
+  pub values_again : (xs : List A) (b : List ℕ) → SpellsEach S g.delimited xs b → to_end (list_whole (λ _. read)) b ≡ Ok (xs, [])
   values_again xs b s = rw (each_again (length b) None xs b (omega arith) s) refl
 
-  pub values_whole : Grammar (SpellsEach S g.delimited) (to_end (list_whole (λ _. read)))
+  abbrev pub values_whole : Grammar (SpellsEach S g.delimited) (to_end (list_whole (λ _. read)))
   values_whole = to_the_end values_take values_again
 
   -- where a value ends by itself, it is read
@@ -86,11 +86,11 @@ module _ {A : Type 0} {S : A → List ℕ → Type 0} {read : Front A} (g : Gram
   over_read over n before [] m o = absurd o
   over_read over zero before (c ∷ b) m o = absurd o
   over_read over (suc n) before (c ∷ b) m (inl o) = inl o
-  over_read over (suc n) before (c ∷ b) m (inr o) = inr (go (g.delimited (c ∷ b)) refl o)
+  over_read over (suc n) before (c ∷ b) m (inr o) = inr (go (g.delimited (c ∷ b)) refl o (λ x. over_read over n (Some x.0) x.1 m))
     where
-      go : (r : Result (A × List ℕ) Fault) → g.delimited (c ∷ b) ≡ r → IsOkAnd r (λ x. OverrunsWithin (λ _. g.delimited) over n (Some x.0) x.1 m) → IsOkAnd (read (c ∷ b)) (λ x. OverrunsWithin (λ _. read) over n (Some x.0) x.1 m)
-      go (Ok x) e o = rw (g.same (c ∷ b) x e) (over_read over n (Some x.0) x.1 m o)
-      go (Err f) e o = absurd o
+      go : (r : Result (A × List ℕ) Fault) → g.delimited (c ∷ b) ≡ r → IsOkAnd r (λ x. OverrunsWithin (λ _. g.delimited) over n (Some x.0) x.1 m) → ((x : A × List ℕ) → OverrunsWithin (λ _. g.delimited) over n (Some x.0) x.1 m → OverrunsWithin (λ _. read) over n (Some x.0) x.1 m) → IsOkAnd (read (c ∷ b)) (λ x. OverrunsWithin (λ _. read) over n (Some x.0) x.1 m)
+      go (Ok x) e o behind = rw (g.same (c ∷ b) x e) (behind x o)
+      go (Err f) e o behind = absurd o
 
   pub each_lengths : (over : List ℕ → ℕ → Type 0) → AreLengths read over → AreLengths (to_end (list_whole (λ _. read))) (OverrunsList (λ _. g.delimited) over)
   each_lengths over lengths b m o = to_end_lengths (λ _. lengths) b m (o.0, over_read over o.0 None b m o.1)

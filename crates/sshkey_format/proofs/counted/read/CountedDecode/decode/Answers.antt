@@ -6,9 +6,10 @@ use Rattle.sshkey_base.specs.Lengths.{no_lengths}
 use Rattle.sshkey_base.specs.Needs.{NoNeed}
 use Rattle.sshkey_base.specs.Stops.{NoOverrun}
 use Rattle.sshkey_base.proofs.Places.{later_then}
+use Rattle.sshkey_base.proofs.Steps.{refused_later}
 use Rattle.sshkey_format.specs.Counted.{NeedsCounted, OverrunsCount, values_at}
 use Rattle.sshkey_format.specs.Terms.{called_chosen}
-use Rattle.sshkey_format.proofs.Chosen.{chosen_gives, chosen_refused, chosen_stopped, chosen_stops}
+use Rattle.sshkey_format.proofs.Chosen.{chosen_refused, chosen_stopped, chosen_stops}
 use Rattle.sshkey_format.proofs.counted.read.CountedDecode.decode.Goals as goal
 
 pub returns-in_err-count-clause-gives : goal.returns-in_err-count-clause-gives
@@ -24,7 +25,8 @@ returns-in_err-count-clause-past g c =
 pub returns-in_err-values_from-clause-gives : goal.returns-in_err-values_from-clause-gives
 returns-in_err-values_from-clause-gives g c =
     let p = err_from_is_err_and c.from_residual-in_err-values_from.result c.from_residual-in_err-values_from.ensures.1 in
-    rw (p.1, p.2) (chosen_gives {W = Unit {0}} (λ k. k) (number_at w32) (λ n. values_at g.T.Decode.format.read n) _ _ _ _ _ (Err _) (λ _. _) _ c.in_ok-count.ensures.gives (called_chosen (number_at w32) (λ n. values_at g.T.Decode.format.read n)) c.in_err-values_from.ensures.gives)
+    let same = (called_chosen (number_at w32) (λ n. values_at g.T.Decode.format.read n)).same (g.R.Reader.source c.args.reader.now).left in
+    rw (p.1, p.2) (rw same (refused_later (λ k. k) (number_at w32) _ _ _ _ (λ y. values_at g.T.Decode.format.read y.0 y.1) c.in_ok-count.ensures.gives c.in_err-values_from.ensures.gives))
 
 pub returns-in_err-values_from-clause-later : goal.returns-in_err-values_from-clause-later
 returns-in_err-values_from-clause-later g c = later_then _ _ _ c.in_ok-count.ensures.later c.in_err-values_from.ensures.later
