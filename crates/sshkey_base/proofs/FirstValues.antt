@@ -6,7 +6,7 @@ use Rattle.sshkey_base.specs.Causes.{Cause, NoMemory, Faulty}
 use Rattle.sshkey_base.specs.Needs.{NeedsFirst}
 use Rattle.sshkey_base.specs.Reading.{Reads}
 use Rattle.sshkey_base.specs.Source.{Source, IsSound}
-use Rattle.sshkey_base.specs.Stops.{AreLengths, OverrunsWithin, OverrunsList, RanOut, Stopped}
+use Rattle.sshkey_base.specs.Stops.{OverrunsWithin, OverrunsList, RanOut, Stopped}
 use Rattle.sshkey_base.proofs.ReadLists.{StillOverruns}
 
 -- Nothing was read yet, or the first value stands there.

@@ -36,14 +36,14 @@ pub record Format (A : Type 0) : Type 1 where
 
 -- How a call refuses that reads it, whatever the source.
 abbrev pub Stops : {X Y E : Type 0} → (E → Cause) → Format Y → Source → Result X E → Type 0
-Stops cause f s r = StopsBy cause f.grammar.delimited f.needs f.overruns s r
+Stops cause f s r = StopsBy cause f.grammar.delimited_at f.needs f.overruns s r
 
 -- The bytes begin with a spelling of the value, and the rest stands behind it.
 pub record Begins {Y : Type 0} (f : Format Y) (y : Y) (bytes rest : List ℕ) : Type 0 where
   pub front : List ℕ
   pub spelled : f.Spells y front
   pub all : bytes ≡ front ++ rest
-  pub ends : Ends f.grammar.delimited y front rest
+  pub ends : Ends f.grammar.delimited_at y front rest
 
 -- The bytes that were taken spell the value. A sound source is refused when out of memory, or
 -- because it begins with no value.

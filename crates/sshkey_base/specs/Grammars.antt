@@ -1,22 +1,22 @@
 -- Which values end by themselves, and that a reading call takes exactly the spellings. The lemmas
 -- are proved, and need not be believed.
-use Rattle.std.proofs.Common.{◌≡◌, ◌⊎◌, inl, inr, ℕ, List, [], ◌++◌, append-nil, append_assoc, Result, Ok, Err, refl, sym, ap, ◌∙◌}
+use Rattle.std.proofs.Common.{◌≡◌, ◌⊎◌, inl, inr, ℕ, List, [], ◌++◌, append-nil, append_assoc, Ok, Err, refl, sym, ap, ◌∙◌}
 use Rattle.sshkey_model.specs.Reading.{Length, Front}
 use Rattle.sshkey_model.specs.Grammar.{IsGrammar}
 
 -- Nothing stands behind the value, or it ends by itself.
 abbrev pub Ends : {A : Type 0} → Front A → A → List ℕ → List ℕ → Type 0
-Ends delimited value front rest = (rest ≡ []) ⊎ (delimited front ≡ Ok (value, []))
+Ends delimited_at value front rest = (rest ≡ []) ⊎ (delimited_at front ≡ Ok (value, []))
 
 pub record Grammar {A : Type 0} (Spells : A → List ℕ → Type 0) (read : Front A) : Type 0 where
   -- the plain reader of the values that end by themselves; any other takes all the bytes left
-  pub delimited : Front A
+  pub delimited_at : Front A
   -- `read` takes what it takes
-  pub same : (b : List ℕ) (x : A × List ℕ) → delimited b ≡ Ok x → read b ≡ Ok x
+  pub same : (b : List ℕ) (x : A × List ℕ) → delimited_at b ≡ Ok x → read b ≡ Ok x
   -- whatever follows
-  pub before : (b : List ℕ) (value : A) (rest more : List ℕ) → delimited b ≡ Ok (value, rest) → delimited (b ++ more) ≡ Ok (value, rest ++ more)
+  pub before : (b : List ℕ) (value : A) (rest more : List ℕ) → delimited_at b ≡ Ok (value, rest) → delimited_at (b ++ more) ≡ Ok (value, rest ++ more)
   -- what `read` takes is a spelling
-  pub takes : (b : List ℕ) (value : A) (rest : List ℕ) → read b ≡ Ok (value, rest) → (front : List ℕ) × Spells value front × (b ≡ front ++ rest) × Ends delimited value front rest
+  pub takes : (b : List ℕ) (value : A) (rest : List ℕ) → read b ≡ Ok (value, rest) → (front : List ℕ) × Spells value front × (b ≡ front ++ rest) × Ends delimited_at value front rest
   -- and a spelling is taken
   pub alone : (value : A) (front : List ℕ) → Spells value front → read front ≡ Ok (value, [])
 
@@ -43,15 +43,15 @@ module _ {A : Type 0} {Spells : A → List ℕ → Type 0} {read : Front A} wher
 
   -- all values end by themselves
   abbrev pub by_itself : IsGrammar Spells read → Grammar Spells read
-  by_itself g = record { delimited = read; same = λ b x e. e; before = read_before g; takes = read_takes g; alone = read_alone g }
+  by_itself g = record { delimited_at = read; same = λ b x e. e; before = read_before g; takes = read_takes g; alone = read_alone g }
 
   module _ (g : Grammar Spells read) where
     -- a spelling is taken where it ends
-    pub taken_before : (value : A) (front rest : List ℕ) → Spells value front → Ends g.delimited value front rest → read (front ++ rest) ≡ Ok (value, rest)
+    pub taken_before : (value : A) (front rest : List ℕ) → Spells value front → Ends g.delimited_at value front rest → read (front ++ rest) ≡ Ok (value, rest)
     taken_before value front rest s (inl none) = rw (none, append-nil front) (g.alone value front s)
     taken_before value front rest s (inr ends) = g.same (front ++ rest) (value, rest) (g.before front value [] rest ends)
 
-    pub all_end : ((b : List ℕ) → g.delimited b ≡ read b) → IsGrammar Spells read
+    pub all_end : ((b : List ℕ) → g.delimited_at b ≡ read b) → IsGrammar Spells read
     all_end same = record {
       takes = λ b value rest e. let t = g.takes b value rest e in (t.0, t.1, t.2);
       again = λ value front rest s. taken_before value front rest s (inr (same front ∙ g.alone value front s));
@@ -65,7 +65,7 @@ module _ {A : Type 0} {Spells : A → List ℕ → Type 0} {read : Front A} wher
   -- no value does
   abbrev pub to_the_end : ((b : List ℕ) (value : A) (rest : List ℕ) → read b ≡ Ok (value, rest) → Spells value b × (rest ≡ [])) → ((value : A) (b : List ℕ) → Spells value b → read b ≡ Ok (value, [])) → Grammar Spells read
   to_the_end takes alone = record {
-    delimited = never_at;
+    delimited_at = never_at;
     same = λ b x e. never b x e;
     before = λ b value rest more e. never b (value, rest) e;
     takes = end_takes takes;

@@ -15,7 +15,7 @@ OneFront {M} Spells = (x y : M) (a b r q : List ℕ) → Spells x a → Spells y
 
 -- What is written of a value is read back as that value, whatever follows it if it ends by itself.
 abbrev pub ReadBack : {X M : Type 0} → (X → Type 0) → (X → Parts) → (X → M) → Format M → Type 0
-ReadBack {X} IsWellFormed normal means f = (x : X) (rest : List ℕ) → IsWellFormed x → Fits (normal x) → Ends f.grammar.delimited (means x) (flat (normal x)) rest → f.read (flat (normal x) ++ rest) ≡ Ok (means x, rest)
+ReadBack {X} IsWellFormed normal means f = (x : X) (rest : List ℕ) → IsWellFormed x → Fits (normal x) → Ends f.grammar.delimited_at (means x) (flat (normal x)) rest → f.read (flat (normal x) ++ rest) ≡ Ok (means x, rest)
 
 -- Bytes begin with one value alone, and with one spelling of it.
 abbrev pub HasOneFront : {M : Type 0} → Format M → Type 0

@@ -36,11 +36,14 @@ pub trait Decode: Sized {
     /// sound source is rejected with the fault of the plain reader, and with `Memory` only if the
     /// value needs some.
     ///
-    /// On a source with a fault, a value that is complete before the fault fails only with
-    /// `Memory`, and only if it needs some; a stated length that exceeds all that was announced
-    /// fails with `Length`, unless memory ran out for a value before it. Nothing else is promised
-    /// of such a source. After an error some of the remaining bytes may have been consumed; nothing
-    /// else has changed.
+    /// A value that ends by itself may be followed by any bytes. So do all values but encrypted
+    /// private keys: such a value takes all the bytes left, and is rejected where others follow it.
+    ///
+    /// On a source with a fault, a value that is complete before the fault and ends by itself fails
+    /// only with `Memory`, and only if it needs some; a stated length that exceeds all that was
+    /// announced fails with `Length`, unless memory ran out for a value before it. Nothing else is
+    /// promised of such a source. After an error some of the remaining bytes may have been
+    /// consumed; nothing else has changed.
     fn decode<R: Reader>(alloc: Global, reader: &mut R) -> Result<Self, Self::Error>
         ensures gives { Gives means Self.Error.cause format.read
             (R.source reader.old) result (R.source reader.new) }
@@ -178,9 +181,10 @@ pub fn decode_boxed<T: Decode + Drop, R: Reader>(
 
 /// Reads a value from the front, in the words of the grammar.
 ///
-/// The bytes taken spell the value, and the rest is left. Unless memory runs out, a sound source is
-/// rejected only if no spelling of a value begins it, and with `Memory` only if the value needs
-/// some: a stated length that exceeds what is left fails with `Length`.
+/// The bytes taken spell the value, and the rest is left: nothing, unless the value ends by itself.
+/// Unless memory runs out, a sound source is rejected only if it begins with no value, and with
+/// `Memory` only if the value needs some: a stated length that exceeds what is left fails with
+/// `Length`.
 pub fn decode_front<T: Decode, R: Reader>(alloc: Global, reader: &mut R) -> Result<T, T::Error>
     ensures gives { Gives T.means T.Error.cause T.format.read
         (R.source reader.old) result (R.source reader.new) }

@@ -11,6 +11,7 @@ use Rattle.sshkey_model.proofs.Grammars.{grammar}
 use Rattle.sshkey_model.proofs.KeyReaders.{key_reads}
 use Rattle.sshkey_model.proofs.OptionReaders.{options_reads}
 use Rattle.sshkey_base.specs.Formats.{Format, string_format}
+use Rattle.sshkey_base.specs.Grammars.{by_itself}
 use Rattle.sshkey_base.specs.Lengths.{no_lengths}
 use Rattle.sshkey_base.specs.Needs.{NoNeed}
 use Rattle.sshkey_base.specs.Stops.{NoOverrun}
@@ -28,11 +29,11 @@ OptionsAsSpelled = List CertificateOption × List Nesting
 
 -- options in a string, each empty value as its choice says
 abbrev pub spelled_options_format : Format OptionsAsSpelled
-spelled_options_format = record { Spells = SpellsOptionString; read = options_at; needs = NoNeed; overruns = NoOverrun; grammar = grammar options_reads; lengths = no_lengths options_at }
+spelled_options_format = record { Spells = SpellsOptionString; read = options_at; needs = NoNeed; overruns = NoOverrun; grammar = by_itself (grammar options_reads); lengths = no_lengths options_at }
 
 -- a key, and how its name is spelled
 abbrev pub spelled_key_format : Format (Key × Head)
-spelled_key_format = record { Spells = SpellsAs IsKey HasKeyPlaces key; read = key_at; needs = NoNeed; overruns = NoOverrun; grammar = grammar key_reads; lengths = no_lengths key_at }
+spelled_key_format = record { Spells = SpellsAs IsKey HasKeyPlaces key; read = key_at; needs = NoNeed; overruns = NoOverrun; grammar = by_itself (grammar key_reads); lengths = no_lengths key_at }
 
 abbrev pub boxed_key_format : Format (Key × Head)
 boxed_key_format = boxed spelled_key_format

@@ -58,24 +58,24 @@ module _ {A : Type 0} (f : Format A) where
       pub each_asks : (c : Cause) → (c ≡ NoMemory → IsSound t → f.needs t.left t.missing) → c ≡ NoMemory → IsSound s → NeedsEach f s.left s.missing
       each_asks c asks memory sound = needed (asks memory (rw later.missing sound))
 
-      pub each_stopped : (c : Cause) (before : Option A) → StillOverruns (λ _. f.grammar.delimited) f.overruns s before t → Stopped c f.grammar.delimited f.needs f.overruns t → OverrunsEach f s.left s.missing → (c ≡ Faulty Length) ⊎ RanOut c (NeedsEach f) s
+      pub each_stopped : (c : Cause) (before : Option A) → StillOverruns (λ _. f.grammar.delimited_at) f.overruns s before t → Stopped c f.grammar.delimited_at f.needs f.overruns t → OverrunsEach f s.left s.missing → (c ≡ Faulty Length) ⊎ RanOut c (NeedsEach f) s
       each_stopped c before still h o = go (still o).0 before t.left refl (still o).1
         where
           more : RanOut c f.needs t → RanOut c (NeedsEach f) s
           more m = record { memory = m.memory; needed = needed m.needed }
 
-          taken : (n : ℕ) (r : Result (A × List ℕ) Fault) → IsOkAnd r (λ x. OverrunsWithin (λ _. f.grammar.delimited) f.overruns n (Some x.0) x.1 t.missing) → IsOk r
+          taken : (n : ℕ) (r : Result (A × List ℕ) Fault) → IsOkAnd r (λ x. OverrunsWithin (λ _. f.grammar.delimited_at) f.overruns n (Some x.0) x.1 t.missing) → IsOk r
           taken n (Ok x) w = refl
           taken n (Err e) w = absurd w
 
-          go : (n : ℕ) (before : Option A) (b : List ℕ) → b ≡ t.left → OverrunsWithin (λ _. f.grammar.delimited) f.overruns n before b t.missing → (c ≡ Faulty Length) ⊎ RanOut c (NeedsEach f) s
+          go : (n : ℕ) (before : Option A) (b : List ℕ) → b ≡ t.left → OverrunsWithin (λ _. f.grammar.delimited_at) f.overruns n before b t.missing → (c ≡ Faulty Length) ⊎ RanOut c (NeedsEach f) s
           go n before [] is w = absurd w
           go zero before (d ∷ b) is w = absurd w
           go (suc n) before (d ∷ b) is (inl w) = elim (h.past (rw is at w)) [
             | inl passes ↦ inl passes
             | inr m ↦ inr (more m)
           ]
-          go (suc n) before (d ∷ b) is (inr w) = inr (more (h.takes (taken n (f.grammar.delimited t.left) (rw is at w))))
+          go (suc n) before (d ∷ b) is (inr w) = inr (more (h.takes (taken n (f.grammar.delimited_at t.left) (rw is at w))))
 
       -- there is no memory for a value that was read
       pub full_needs : {X : Type 0} (means : X → A) (x : X) (u : Source) → Reads means f.read t x u → NeedsEach f s.left s.missing

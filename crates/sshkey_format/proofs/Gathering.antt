@@ -19,8 +19,8 @@ module _ {A : Type 0} (f : Format A) where
   abbrev item : Front A
   item = f.read
 
-  abbrev delimited : Front A
-  delimited = f.grammar.delimited
+  abbrev delimited_at : Front A
+  delimited_at = f.grammar.delimited_at
 
   same_step : (r : Result (List A × List ℕ) Fault) → r ≡ (r >>= onto [])
   same_step (Ok xs) = refl
@@ -43,19 +43,19 @@ module _ {A : Type 0} (f : Format A) where
   last_step b done = rw append-nil refl
 
   -- of values that end by themselves, the first one does, and those behind it
-  first_ok : (k : ℕ) (b : List ℕ) → IsOk (times_at delimited (suc k) b) → IsOk (delimited b)
+  first_ok : (k : ℕ) (b : List ℕ) → IsOk (times_at delimited_at (suc k) b) → IsOk (delimited_at b)
   unfolding times_at
-  first_ok k b ok = step_ok (delimited b) _ ok
+  first_ok k b ok = step_ok (delimited_at b) _ ok
 
-  rest_ok : (k : ℕ) (b rest : List ℕ) (x : A) → item b ≡ Ok (x, rest) → IsOk (times_at delimited (suc k) b) → IsOk (times_at delimited k rest)
+  rest_ok : (k : ℕ) (b rest : List ℕ) (x : A) → item b ≡ Ok (x, rest) → IsOk (times_at delimited_at (suc k) b) → IsOk (times_at delimited_at k rest)
   unfolding times_at
-  rest_ok k b rest x e ok = go (delimited b) refl ok
+  rest_ok k b rest x e ok = go (delimited_at b) refl ok
     where
-      go : (r : Result (A × List ℕ) Fault) → delimited b ≡ r → IsOk {T = List A × List ℕ} (r >>= λ y. times_at delimited k y.1 >>= λ ys. Ok (y.0 ∷ ys.0, ys.1)) → IsOk (times_at delimited k rest)
+      go : (r : Result (A × List ℕ) Fault) → delimited_at b ≡ r → IsOk {T = List A × List ℕ} (r >>= λ y. times_at delimited_at k y.1 >>= λ ys. Ok (y.0 ∷ ys.0, ys.1)) → IsOk (times_at delimited_at k rest)
       go (Ok y) is ok =
           let same : y ≡ (x, rest) = ok_is y (x, rest) (sym (f.grammar.same b y is) ∙ e) in
           let behind : rest ≡ y.1 = sym (ap (λ (p : A × List ℕ). p.1) same) in
-          rw behind (step_ok (times_at delimited k y.1) _ ok)
+          rw behind (step_ok (times_at delimited_at k y.1) _ ok)
       go (Err fault) is ok = absurd cc
 
   is_ok : {B : Type 0} (r : Result B Fault) (x : B) → r ≡ Ok x → IsOk r
@@ -67,7 +67,7 @@ module _ {A : Type 0} (f : Format A) where
     pub outer : t.outer ≡ s.outer
     pub rest : times_at item n s.left ≡ (times_at item (n - length done) t.left >>= onto done)
     pub begun : (t ≡ s) ⊎ IsOk (item s.left)
-    pub delimits : IsOk (times_at delimited n s.left) → IsOk (times_at delimited (n - length done) t.left)
+    pub delimits : IsOk (times_at delimited_at n s.left) → IsOk (times_at delimited_at (n - length done) t.left)
 
   module _ (n : ℕ) (s t : Source) (done : List A) (h : Gathers n s done t) where
     stands : {X : Type 0} (means : X → A) (x : X) (u : Source) → Reads means item t x u → IsOk (item s.left)
@@ -117,10 +117,10 @@ module _ {A : Type 0} (f : Format A) where
       ],
     )
 
-    pub gathers_stopped : (c : Cause) → length done < n → Stopped c delimited f.needs f.overruns t → Stopped c (times_at delimited n) (NeedsValues f n) NoOverrun s
+    pub gathers_stopped : (c : Cause) → length done < n → Stopped c delimited_at f.needs f.overruns t → Stopped c (times_at delimited_at n) (NeedsValues f n) NoOverrun s
     gathers_stopped c lt k = record {
       takes = λ ok.
-          let inner : IsOk (times_at delimited (suc (n - suc (length done))) t.left) = rw (more lt) at h.delimits ok in
+          let inner : IsOk (times_at delimited_at (suc (n - suc (length done))) t.left) = rw (more lt) at h.delimits ok in
           let m = k.takes (first_ok (n - suc (length done)) t.left inner) in
           record { memory = m.memory; needed = needed lt m.needed };
       past = λ o. absurd o;

@@ -23,13 +23,13 @@ counted spell xs = count (length xs) & each spell xs
 
 -- The bytes spell the values, one behind the other. Each that is followed by others ends by itself.
 abbrev pub SpellsEach : {A : Type 0} → (A → List ℕ → Type 0) → Front A → List A → List ℕ → Type 0
-SpellsEach Spells delimited [] b = b ≡ []
-SpellsEach Spells delimited (x ∷ xs) b = (front : List ℕ) × (behind : List ℕ) × Spells x front × SpellsEach Spells delimited xs behind × (b ≡ front ++ behind) × Ends delimited x front behind
+SpellsEach Spells delimited_at [] b = b ≡ []
+SpellsEach Spells delimited_at (x ∷ xs) b = (front : List ℕ) × (behind : List ℕ) × Spells x front × SpellsEach Spells delimited_at xs behind × (b ≡ front ++ behind) × Ends delimited_at x front behind
 
 -- So many values, with at least a byte each.
-pub record SpellsValues {A : Type 0} (Spells : A → List ℕ → Type 0) (delimited : Front A) (n : ℕ) (xs : List A) (b : List ℕ) : Type 0 where
+pub record SpellsValues {A : Type 0} (Spells : A → List ℕ → Type 0) (delimited_at : Front A) (n : ℕ) (xs : List A) (b : List ℕ) : Type 0 where
   pub number : length xs ≡ n
-  pub each : SpellsEach Spells delimited xs b
+  pub each : SpellsEach Spells delimited_at xs b
   pub bytes : n ≤ length b
 
 -- ---- reading
@@ -70,28 +70,28 @@ values_lengths item n b m o = let lt : length b < n = omega (arith, o) in rw (lt
 -- ---- what is read is what is spelled
 
 module _ {A : Type 0} {S : A → List ℕ → Type 0} {read : Front A} (g : Grammar S read) where
-  times_same : (n : ℕ) (b : List ℕ) (x : List A × List ℕ) → times_at g.delimited n b ≡ Ok x → times_at read n b ≡ Ok x
+  times_same : (n : ℕ) (b : List ℕ) (x : List A × List ℕ) → times_at g.delimited_at n b ≡ Ok x → times_at read n b ≡ Ok x
   unfolding times_at
   times_same zero b x e = e
   times_same (suc n) b x e =
-      let y = bind_ok (g.delimited b) _ x e in
-      let ys = bind_ok (times_at g.delimited n y.0.1) _ x y.2 in
+      let y = bind_ok (g.delimited_at b) _ x e in
+      let ys = bind_ok (times_at g.delimited_at n y.0.1) _ x y.2 in
       rw (g.same b y.0 y.1, times_same n y.0.1 ys.0 ys.1) ys.2
 
-  times_before : (n : ℕ) (b : List ℕ) (xs : List A) (rest more : List ℕ) → times_at g.delimited n b ≡ Ok (xs, rest) → times_at g.delimited n (b ++ more) ≡ Ok (xs, rest ++ more)
+  times_before : (n : ℕ) (b : List ℕ) (xs : List A) (rest more : List ℕ) → times_at g.delimited_at n b ≡ Ok (xs, rest) → times_at g.delimited_at n (b ++ more) ≡ Ok (xs, rest ++ more)
   unfolding times_at
-  times_before zero b xs rest more e = subst (λ (p : List A × List ℕ). times_at g.delimited 0 (b ++ more) ≡ Ok (p.0, p.1 ++ more)) (ok_is ([], b) (xs, rest) e) refl
+  times_before zero b xs rest more e = subst (λ (p : List A × List ℕ). times_at g.delimited_at 0 (b ++ more) ≡ Ok (p.0, p.1 ++ more)) (ok_is ([], b) (xs, rest) e) refl
   times_before (suc n) b xs rest more e =
-      let x = bind_ok (g.delimited b) _ (xs, rest) e in
-      let y = bind_ok (times_at g.delimited n x.0.1) _ (xs, rest) x.2 in
-      subst (λ (p : List A × List ℕ). times_at g.delimited (suc n) (b ++ more) ≡ Ok (p.0, p.1 ++ more)) (ok_is (x.0.0 ∷ y.0.0, y.0.1) (xs, rest) y.2)
+      let x = bind_ok (g.delimited_at b) _ (xs, rest) e in
+      let y = bind_ok (times_at g.delimited_at n x.0.1) _ (xs, rest) x.2 in
+      subst (λ (p : List A × List ℕ). times_at g.delimited_at (suc n) (b ++ more) ≡ Ok (p.0, p.1 ++ more)) (ok_is (x.0.0 ∷ y.0.0, y.0.1) (xs, rest) y.2)
       (rw (g.before b x.0.0 x.0.1 more x.1, times_before n x.0.1 y.0.0 y.0.1 more y.1) refl)
 
   abbrev Times : ℕ → List ℕ → List A → List ℕ → Type 0
-  Times n b xs rest = (front : List ℕ) × (length xs ≡ n) × SpellsEach S g.delimited xs front × (b ≡ front ++ rest) × Ends (times_at g.delimited n) xs front rest
+  Times n b xs rest = (front : List ℕ) × (length xs ≡ n) × SpellsEach S g.delimited_at xs front × (b ≡ front ++ rest) × Ends (times_at g.delimited_at n) xs front rest
 
   -- a value, and those behind it
-  one_more : (n : ℕ) (x : A) (xs : List A) (front behind rest : List ℕ) → Ends g.delimited x front (behind ++ rest) → Ends (times_at g.delimited n) xs behind rest → Ends g.delimited x front behind × Ends (times_at g.delimited (suc n)) (x ∷ xs) (front ++ behind) rest
+  one_more : (n : ℕ) (x : A) (xs : List A) (front behind rest : List ℕ) → Ends g.delimited_at x front (behind ++ rest) → Ends (times_at g.delimited_at n) xs behind rest → Ends g.delimited_at x front behind × Ends (times_at g.delimited_at (suc n)) (x ∷ xs) (front ++ behind) rest
   unfolding times_at
   one_more n x xs front behind rest (inl none) k = let both = none_in behind rest none in (inl both.0, inl both.1)
   one_more n x xs front behind rest (inr h) (inl none) = (inr h, inl none)
@@ -105,12 +105,12 @@ module _ {A : Type 0} {S : A → List ℕ → Type 0} {read : Front A} (g : Gram
       let y = bind_ok (times_at read n x.0.1) _ (xs, rest) x.2 in
       let t = g.takes b x.0.0 x.0.1 x.1 in
       let u = times_takes n x.0.1 y.0.0 y.0.1 y.1 in
-      let ends : Ends g.delimited x.0.0 t.0 (u.0 ++ y.0.1) = rw (← u.3) t.3 in
+      let ends : Ends g.delimited_at x.0.0 t.0 (u.0 ++ y.0.1) = rw (← u.3) t.3 in
       let both = one_more n x.0.0 y.0.0 t.0 u.0 y.0.1 ends u.4 in
       subst (λ (p : List A × List ℕ). Times (suc n) b p.0 p.1) (ok_is (x.0.0 ∷ y.0.0, y.0.1) (xs, rest) y.2)
       (t.0 ++ u.0, ap (λ (k : ℕ). suc k) u.1, (t.0, u.0, t.1, u.2, refl, both.0), t.2 ∙ ap (λ (l : List ℕ). t.0 ++ l) u.3 ∙ sym (append_assoc t.0 u.0 y.0.1), both.1)
 
-  times_alone : (xs : List A) (front : List ℕ) → SpellsEach S g.delimited xs front → times_at read (length xs) front ≡ Ok (xs, [])
+  times_alone : (xs : List A) (front : List ℕ) → SpellsEach S g.delimited_at xs front → times_at read (length xs) front ≡ Ok (xs, [])
   unfolding times_at
   times_alone [] front s = rw s refl
   times_alone (x ∷ xs) front s =
@@ -132,42 +132,42 @@ module _ {A : Type 0} {S : A → List ℕ → Type 0} {read : Front A} (g : Gram
   unfolding values_at
   are_filled n item b xs rest f = rw (f.0, f.1, f.2) refl
 
-  pub values_same : (n : ℕ) (b : List ℕ) (x : List A × List ℕ) → values_at g.delimited n b ≡ Ok x → values_at read n b ≡ Ok x
+  pub values_same : (n : ℕ) (b : List ℕ) (x : List A × List ℕ) → values_at g.delimited_at n b ≡ Ok x → values_at read n b ≡ Ok x
   values_same n b x e =
-      let f = were_filled n g.delimited b x.0 x.1 e in
+      let f = were_filled n g.delimited_at b x.0 x.1 e in
       are_filled n read b x.0 x.1 (f.0, times_same n b x f.1, f.2)
 
-  pub values_before : (n : ℕ) (b : List ℕ) (xs : List A) (rest more : List ℕ) → values_at g.delimited n b ≡ Ok (xs, rest) → values_at g.delimited n (b ++ more) ≡ Ok (xs, rest ++ more)
+  pub values_before : (n : ℕ) (b : List ℕ) (xs : List A) (rest more : List ℕ) → values_at g.delimited_at n b ≡ Ok (xs, rest) → values_at g.delimited_at n (b ++ more) ≡ Ok (xs, rest ++ more)
   values_before n b xs rest more e =
-      let f = were_filled n g.delimited b xs rest e in
+      let f = were_filled n g.delimited_at b xs rest e in
       let first : ltb (length (b ++ more)) n ≡ false = le-ltb _ _ (omega (arith, ltb-false _ _ f.0, length-append b more)) in
       let took : ltb (length (b ++ more)) (length (rest ++ more) + n) ≡ false = le-ltb _ _ (omega (arith, ltb-false _ _ f.2, length-append b more, length-append rest more)) in
-      are_filled n g.delimited (b ++ more) xs (rest ++ more) (first, times_before n b xs rest more f.1, took)
+      are_filled n g.delimited_at (b ++ more) xs (rest ++ more) (first, times_before n b xs rest more f.1, took)
 
-  values_end : (n : ℕ) (xs : List A) (front rest : List ℕ) → n ≤ length front → Ends (times_at g.delimited n) xs front rest → Ends (values_at g.delimited n) xs front rest
+  values_end : (n : ℕ) (xs : List A) (front rest : List ℕ) → n ≤ length front → Ends (times_at g.delimited_at n) xs front rest → Ends (values_at g.delimited_at n) xs front rest
   values_end n xs front rest enough (inl none) = inl none
-  values_end n xs front rest enough (inr h) = inr (are_filled n g.delimited front xs [] (le-ltb _ _ enough, h, le-ltb _ _ (omega (arith, enough))))
+  values_end n xs front rest enough (inr h) = inr (are_filled n g.delimited_at front xs [] (le-ltb _ _ enough, h, le-ltb _ _ (omega (arith, enough))))
 
-  pub values_takes : (n : ℕ) (b : List ℕ) (xs : List A) (rest : List ℕ) → values_at read n b ≡ Ok (xs, rest) → (front : List ℕ) × SpellsValues S g.delimited n xs front × (b ≡ front ++ rest) × Ends (values_at g.delimited n) xs front rest
+  pub values_takes : (n : ℕ) (b : List ℕ) (xs : List A) (rest : List ℕ) → values_at read n b ≡ Ok (xs, rest) → (front : List ℕ) × SpellsValues S g.delimited_at n xs front × (b ≡ front ++ rest) × Ends (values_at g.delimited_at n) xs front rest
   values_takes n b xs rest e =
       let f = were_filled n read b xs rest e in
       let t = times_takes n b xs rest f.1 in
       let enough : n ≤ length t.0 = omega (arith, ltb-false _ _ f.2, ap length t.3, length-append t.0 rest) in
       (t.0, record { number = t.1; each = t.2; bytes = enough }, t.3, values_end n xs t.0 rest enough t.4)
 
-  pub values_alone : (n : ℕ) (xs : List A) (front : List ℕ) → SpellsValues S g.delimited n xs front → values_at read n front ≡ Ok (xs, [])
+  pub values_alone : (n : ℕ) (xs : List A) (front : List ℕ) → SpellsValues S g.delimited_at n xs front → values_at read n front ≡ Ok (xs, [])
   values_alone n xs front s =
       let is : times_at read n front ≡ Ok (xs, []) = subst (λ (k : ℕ). times_at read k front ≡ Ok (xs, [])) s.number (times_alone xs front s.each) in
       are_filled n read front xs [] (le-ltb _ _ s.bytes, is, le-ltb _ _ (omega (arith, s.bytes)))
 
-  abbrev pub values_grammar : (n : ℕ) → Grammar (SpellsValues S g.delimited n) (values_at read n)
-  values_grammar n = record { delimited = values_at g.delimited n; same = values_same n; before = values_before n; takes = values_takes n; alone = values_alone n }
+  abbrev pub values_grammar : (n : ℕ) → Grammar (SpellsValues S g.delimited_at n) (values_at read n)
+  values_grammar n = record { delimited_at = values_at g.delimited_at n; same = values_same n; before = values_before n; takes = values_takes n; alone = values_alone n }
 
 -- ---- the formats
 
 abbrev pub values_format : {A : Type 0} → Format A → ℕ → Format (List A)
 values_format item n = record {
-  Spells = SpellsValues item.Spells item.grammar.delimited n;
+  Spells = SpellsValues item.Spells item.grammar.delimited_at n;
   read = values_at item.read n;
   needs = NeedsCounted item n;
   overruns = OverrunsCount n;
@@ -181,8 +181,8 @@ counted_format item = called number32_format (values_format item)
 
 -- ---- what is written is a spelling
 
-module _ {X A : Type 0} (means : X → A) (normal : X → Parts) (Is : X → Type 0) (item : Format A) (all : (b : List ℕ) → item.grammar.delimited b ≡ item.read b) (spelled : (x : X) → Is x → Fits (normal x) → item.Spells (means x) (flat (normal x))) (shows : (x : X) → 0 < length (flat (normal x))) where
-  pub each_normal : (xs : List X) → AllByRecursion Is xs → Fits (each normal xs) → SpellsEach item.Spells item.grammar.delimited (map means xs) (flat (each normal xs))
+module _ {X A : Type 0} (means : X → A) (normal : X → Parts) (Is : X → Type 0) (item : Format A) (all : (b : List ℕ) → item.grammar.delimited_at b ≡ item.read b) (spelled : (x : X) → Is x → Fits (normal x) → item.Spells (means x) (flat (normal x))) (shows : (x : X) → 0 < length (flat (normal x))) where
+  pub each_normal : (xs : List X) → AllByRecursion Is xs → Fits (each normal xs) → SpellsEach item.Spells item.grammar.delimited_at (map means xs) (flat (each normal xs))
   unfolding flat
   each_normal [] is fits = refl
   each_normal (x ∷ xs) is fits =

@@ -22,22 +22,22 @@ with_first a y = Ok ((a, y.0), y.1)
 
 -- Where a length passes in the first value, or behind it in the second, `Length` is met.
 module _ {A B : Type 0} {over : List ℕ → ℕ → Type 0} {S : A → List ℕ → Type 0} {read : Front A} {overs : A → List ℕ → ℕ → Type 0} {next : A → Front B} where
-  pub then_lengths : (f : Grammar S read) → AreLengths read over → ((a : A) → AreLengths (next a) (overs a)) → AreLengths (behind_at read next) (OverrunsThen over f.delimited overs)
+  pub then_lengths : (f : Grammar S read) → AreLengths read over → ((a : A) → AreLengths (next a) (overs a)) → AreLengths (behind_at read next) (OverrunsThen over f.delimited_at overs)
   unfolding behind_at
   then_lengths f first g b m (inl o) = rw (first b m o) refl
-  then_lengths f first g b m (inr o) = go (f.delimited b) refl o
+  then_lengths f first g b m (inr o) = go (f.delimited_at b) refl o
     where
-      go : (r : Result (A × List ℕ) Fault) → f.delimited b ≡ r → IsOkAnd r (λ x. overs x.0 x.1 m) → (read b >>= λ x. next x.0 x.1 >>= with_first x.0) ≡ Err Length
+      go : (r : Result (A × List ℕ) Fault) → f.delimited_at b ≡ r → IsOkAnd r (λ x. overs x.0 x.1 m) → (read b >>= λ x. next x.0 x.1 >>= with_first x.0) ≡ Err Length
       go (Ok x) e o = rw (f.same b x e, g x.0 x.1 m o) refl
       go (Err f) e o = absurd o
 
 -- a value, and behind it what that value calls for
 abbrev pub choice : {A B : Type 0} → Format A → (A → Format B) → Format (A × B)
 choice first second = record {
-  Spells = SpellsThen first.Spells first.grammar.delimited (λ a. (second a).Spells);
+  Spells = SpellsThen first.Spells first.grammar.delimited_at (λ a. (second a).Spells);
   read = behind_at first.read (λ a. (second a).read);
   needs = NeedsThen first.needs first.read (λ a. (second a).needs);
-  overruns = OverrunsThen first.overruns first.grammar.delimited (λ a. (second a).overruns);
+  overruns = OverrunsThen first.overruns first.grammar.delimited_at (λ a. (second a).overruns);
   grammar = then_grammar first.grammar (λ a. (second a).grammar);
   lengths = then_lengths first.grammar first.lengths (λ a. (second a).lengths);
 }
@@ -111,11 +111,11 @@ pub record IsChosen {A Z : Type 0} (record_at : Front Z) (read : Front A) (next 
   pub same : (b : List ℕ) → record_at b ≡ (read b >>= λ x. next x.0 x.1)
 
 module _ {A Z : Type 0} {record_at : Front Z} {S : A → List ℕ → Type 0} {read : Front A} {next : A → Front Z} {over : List ℕ → ℕ → Type 0} {overs : A → List ℕ → ℕ → Type 0} where
-  pub chosen_lengths : (f : Grammar S read) → IsChosen record_at read next → AreLengths read over → ((a : A) → AreLengths (next a) (overs a)) → AreLengths record_at (OverrunsThen over f.delimited overs)
+  pub chosen_lengths : (f : Grammar S read) → IsChosen record_at read next → AreLengths read over → ((a : A) → AreLengths (next a) (overs a)) → AreLengths record_at (OverrunsThen over f.delimited_at overs)
   chosen_lengths f same first g b m (inl o) = rw (same.same b, first b m o) refl
-  chosen_lengths f same first g b m (inr o) = rw (same.same b) (go (f.delimited b) refl o)
+  chosen_lengths f same first g b m (inr o) = rw (same.same b) (go (f.delimited_at b) refl o)
     where
-      go : (r : Result (A × List ℕ) Fault) → f.delimited b ≡ r → IsOkAnd r (λ x. overs x.0 x.1 m) → (read b >>= λ x. next x.0 x.1) ≡ Err Length
+      go : (r : Result (A × List ℕ) Fault) → f.delimited_at b ≡ r → IsOkAnd r (λ x. overs x.0 x.1 m) → (read b >>= λ x. next x.0 x.1) ≡ Err Length
       go (Ok x) e o = rw (f.same b x e) (g x.0 x.1 m o)
       go (Err f) e o = absurd o
 
@@ -125,7 +125,7 @@ chosen_of {A} {Z} {record_at} {Spells} first second same grammar = record {
   Spells = Spells;
   read = record_at;
   needs = NeedsThen first.needs first.read (λ a. (second a).needs);
-  overruns = OverrunsThen first.overruns first.grammar.delimited (λ a. (second a).overruns);
+  overruns = OverrunsThen first.overruns first.grammar.delimited_at (λ a. (second a).overruns);
   grammar = by_itself grammar;
   lengths = chosen_lengths first.grammar same first.lengths (λ a. (second a).lengths);
 }

@@ -1,6 +1,6 @@
 -- Values that stand up to the end, without their number: so they take all that is left. The grammar
 -- is proved, and need not be believed.
-use Rattle.std.proofs.Common.{◌≡◌, ◌≤◌, ◌<◌, ◌+◌, ◌⊎◌, inl, inr, ℕ, zero, suc, Option, None, Some, List, [], ◌∷◌, ◌++◌, length, IsOk, Result, Ok, Err, refl, sym, ap, subst, ◌∙◌, arith}
+use Rattle.std.proofs.Common.{◌≡◌, ◌≤◌, ◌<◌, ◌+◌, ◌⊎◌, inl, inr, ℕ, zero, suc, Option, None, Some, List, [], ◌∷◌, length, IsOk, Result, Ok, Err, refl, sym, ap, subst, ◌∙◌, arith}
 use Rattle.std.specs.Prelude.{IsOkAnd}
 use Rattle.std.proofs.lemmas.List.{length-append}
 use Rattle.sshkey_base.specs.Causes.{Cause}
@@ -33,7 +33,7 @@ NeedsEach item b m = (0 < length b + m) × (item.needs b m ⊎ IsOk (item.read b
 
 -- One of them overruns.
 abbrev pub OverrunsEach : {A : Type 0} → Format A → List ℕ → ℕ → Type 0
-OverrunsEach item = OverrunsList (λ _. item.grammar.delimited) item.overruns
+OverrunsEach item = OverrunsList (λ _. item.grammar.delimited_at) item.overruns
 
 -- ---- what is read is what is spelled
 
@@ -41,18 +41,18 @@ module _ {A : Type 0} {S : A → List ℕ → Type 0} {read : Front A} (g : Gram
   abbrev onto : A → List A → Result (List A) Fault
   onto x xs = Ok (x ∷ xs)
 
-  each_takes : (n : ℕ) (before : Option A) (b : List ℕ) (xs : List A) → list_within (λ _. read) n before b ≡ Ok xs → SpellsEach S g.delimited xs b
+  each_takes : (n : ℕ) (before : Option A) (b : List ℕ) (xs : List A) → list_within (λ _. read) n before b ≡ Ok xs → SpellsEach S g.delimited_at xs b
   unfolding list_within
-  each_takes zero before [] xs e = subst (λ (ys : List A). SpellsEach S g.delimited ys []) (ok_is [] xs e) refl
-  each_takes (suc n) before [] xs e = subst (λ (ys : List A). SpellsEach S g.delimited ys []) (ok_is [] xs e) refl
+  each_takes zero before [] xs e = subst (λ (ys : List A). SpellsEach S g.delimited_at ys []) (ok_is [] xs e) refl
+  each_takes (suc n) before [] xs e = subst (λ (ys : List A). SpellsEach S g.delimited_at ys []) (ok_is [] xs e) refl
   each_takes zero before (c ∷ b) xs e = absurd cc
   each_takes (suc n) before (c ∷ b) xs e =
       let x = bind_ok (read (c ∷ b)) _ xs e in
       let y = bind_ok (list_within (λ _. read) n (Some x.0.0) x.0.1) (onto x.0.0) xs x.2 in
       let t = g.takes (c ∷ b) x.0.0 x.0.1 x.1 in
-      subst (λ (ys : List A). SpellsEach S g.delimited ys (c ∷ b)) (ok_is (x.0.0 ∷ y.0) xs y.2) (t.0, x.0.1, t.1, each_takes n (Some x.0.0) x.0.1 y.0 y.1, t.2, t.3)
+      subst (λ (ys : List A). SpellsEach S g.delimited_at ys (c ∷ b)) (ok_is (x.0.0 ∷ y.0) xs y.2) (t.0, x.0.1, t.1, each_takes n (Some x.0.0) x.0.1 y.0 y.1, t.2, t.3)
 
-  each_again : (n : ℕ) (before : Option A) (xs : List A) (b : List ℕ) → length b ≤ n → SpellsEach S g.delimited xs b → list_within (λ _. read) n before b ≡ Ok xs
+  each_again : (n : ℕ) (before : Option A) (xs : List A) (b : List ℕ) → length b ≤ n → SpellsEach S g.delimited_at xs b → list_within (λ _. read) n before b ≡ Ok xs
   unfolding list_within
   each_again zero before [] b le s = rw s refl
   each_again (suc n) before [] b le s = rw s refl
@@ -68,31 +68,31 @@ module _ {A : Type 0} {S : A → List ℕ → Type 0} {read : Front A} (g : Gram
       let first : read (c ∷ b) ≡ Ok (x, s.1) = ap read s.4 ∙ taken_before g x s.0 s.1 s.2 s.5 in
       rw (first, each_again n (Some x) xs s.1 less s.3) refl
 
-  pub values_take : (b : List ℕ) (xs : List A) (rest : List ℕ) → to_end (list_whole (λ _. read)) b ≡ Ok (xs, rest) → SpellsEach S g.delimited xs b × (rest ≡ [])
+  pub values_take : (b : List ℕ) (xs : List A) (rest : List ℕ) → to_end (list_whole (λ _. read)) b ≡ Ok (xs, rest) → SpellsEach S g.delimited_at xs b × (rest ≡ [])
   values_take b xs rest e =
       let x = bind_ok (list_whole (λ _. read) b) _ (xs, rest) e in
       let both : (x.0, []) ≡ (xs, rest) = ok_is (x.0, []) (xs, rest) x.2 in
       let is : x.0 ≡ xs = ap (λ (p : List A × List ℕ). p.0) both in
       (each_takes (length b) None b xs (rw is at x.1), sym (ap (λ (p : List A × List ℕ). p.1) both))
 
-  pub values_again : (xs : List A) (b : List ℕ) → SpellsEach S g.delimited xs b → to_end (list_whole (λ _. read)) b ≡ Ok (xs, [])
+  pub values_again : (xs : List A) (b : List ℕ) → SpellsEach S g.delimited_at xs b → to_end (list_whole (λ _. read)) b ≡ Ok (xs, [])
   values_again xs b s = rw (each_again (length b) None xs b (omega arith) s) refl
 
-  abbrev pub values_whole : Grammar (SpellsEach S g.delimited) (to_end (list_whole (λ _. read)))
+  abbrev pub values_whole : Grammar (SpellsEach S g.delimited_at) (to_end (list_whole (λ _. read)))
   values_whole = to_the_end values_take values_again
 
   -- where a value ends by itself, it is read
-  over_read : (over : List ℕ → ℕ → Type 0) (n : ℕ) (before : Option A) (b : List ℕ) (m : ℕ) → OverrunsWithin (λ _. g.delimited) over n before b m → OverrunsWithin (λ _. read) over n before b m
+  over_read : (over : List ℕ → ℕ → Type 0) (n : ℕ) (before : Option A) (b : List ℕ) (m : ℕ) → OverrunsWithin (λ _. g.delimited_at) over n before b m → OverrunsWithin (λ _. read) over n before b m
   over_read over n before [] m o = absurd o
   over_read over zero before (c ∷ b) m o = absurd o
   over_read over (suc n) before (c ∷ b) m (inl o) = inl o
-  over_read over (suc n) before (c ∷ b) m (inr o) = inr (go (g.delimited (c ∷ b)) refl o (λ x. over_read over n (Some x.0) x.1 m))
+  over_read over (suc n) before (c ∷ b) m (inr o) = inr (go (g.delimited_at (c ∷ b)) refl o (λ x. over_read over n (Some x.0) x.1 m))
     where
-      go : (r : Result (A × List ℕ) Fault) → g.delimited (c ∷ b) ≡ r → IsOkAnd r (λ x. OverrunsWithin (λ _. g.delimited) over n (Some x.0) x.1 m) → ((x : A × List ℕ) → OverrunsWithin (λ _. g.delimited) over n (Some x.0) x.1 m → OverrunsWithin (λ _. read) over n (Some x.0) x.1 m) → IsOkAnd (read (c ∷ b)) (λ x. OverrunsWithin (λ _. read) over n (Some x.0) x.1 m)
+      go : (r : Result (A × List ℕ) Fault) → g.delimited_at (c ∷ b) ≡ r → IsOkAnd r (λ x. OverrunsWithin (λ _. g.delimited_at) over n (Some x.0) x.1 m) → ((x : A × List ℕ) → OverrunsWithin (λ _. g.delimited_at) over n (Some x.0) x.1 m → OverrunsWithin (λ _. read) over n (Some x.0) x.1 m) → IsOkAnd (read (c ∷ b)) (λ x. OverrunsWithin (λ _. read) over n (Some x.0) x.1 m)
       go (Ok x) e o behind = rw (g.same (c ∷ b) x e) (behind x o)
       go (Err f) e o behind = absurd o
 
-  pub each_lengths : (over : List ℕ → ℕ → Type 0) → AreLengths read over → AreLengths (to_end (list_whole (λ _. read))) (OverrunsList (λ _. g.delimited) over)
+  pub each_lengths : (over : List ℕ → ℕ → Type 0) → AreLengths read over → AreLengths (to_end (list_whole (λ _. read))) (OverrunsList (λ _. g.delimited_at) over)
   each_lengths over lengths b m o = to_end_lengths (λ _. lengths) b m (o.0, over_read over o.0 None b m o.1)
 
 -- ---- the format
@@ -100,7 +100,7 @@ module _ {A : Type 0} {S : A → List ℕ → Type 0} {read : Front A} (g : Gram
 -- values, one behind the other, each of which has a byte
 abbrev pub values : {A : Type 0} (item : Format A) → HasBytes item → Format (List A)
 values item shows = record {
-  Spells = SpellsEach item.Spells item.grammar.delimited;
+  Spells = SpellsEach item.Spells item.grammar.delimited_at;
   read = each_at item;
   needs = NeedsEach item;
   overruns = OverrunsEach item;

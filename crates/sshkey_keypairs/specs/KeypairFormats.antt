@@ -8,6 +8,7 @@ use Rattle.sshkey_model.specs.Names as names
 use Rattle.sshkey_model.specs.KeyPairs.{KeyPair, OpaquePair, opaque_pair_at, pair_at}
 use Rattle.sshkey_model.proofs.CombinedReaders.{bind_assoc}
 use Rattle.sshkey_base.specs.Formats.{Format, string_format}
+use Rattle.sshkey_base.specs.Grammars.{by_itself}
 use Rattle.sshkey_base.specs.Labels.{label_at}
 use Rattle.sshkey_base.specs.Needs.{NoNeed}
 use Rattle.sshkey_base.specs.Stops.{AreLengths}
@@ -71,7 +72,7 @@ pair_lengths names.SkEd25519 = sk_ed25519_pair_format.lengths
 pair_lengths (names.Other name) = (opaque_pair_format name).lengths
 
 abbrev pub pair_format : Algorithm → Format KeyPair
-pair_format a = record { Spells = SpellsPair a; read = value_at (pair_at a); needs = NeedsPair a; overruns = OverrunsPair a; grammar = pair_grammar a; lengths = pair_lengths a }
+pair_format a = record { Spells = SpellsPair a; read = value_at (pair_at a); needs = NeedsPair a; overruns = OverrunsPair a; grammar = by_itself (pair_grammar a); lengths = pair_lengths a }
 
 -- ---- the name, and the pair under it
 

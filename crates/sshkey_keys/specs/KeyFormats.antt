@@ -11,6 +11,7 @@ use Rattle.sshkey_model.proofs.Grammars.{grammar}
 use Rattle.sshkey_model.proofs.NameReaders.{algorithm_checks}
 use Rattle.sshkey_model.proofs.SignatureReaders.{signature_blob_reads}
 use Rattle.sshkey_base.specs.Formats.{Format, label_format, string_format}
+use Rattle.sshkey_base.specs.Grammars.{by_itself}
 use Rattle.sshkey_base.specs.Labels.{label_at}
 use Rattle.sshkey_base.specs.Lengths.{checked_lengths, string_lengths}
 use Rattle.sshkey_base.specs.NameNeeds.{NeedsAlgorithm}
@@ -55,7 +56,7 @@ body_lengths names.SkEd25519 = sk_ed25519_format.lengths
 body_lengths (names.Other name) = checked_lengths (with_name name) string_lengths
 
 abbrev pub body_format : Algorithm → Format Key
-body_format a = record { Spells = SpellsBody a; read = body_at a; needs = (kind_format a).needs; overruns = (kind_format a).overruns; grammar = body_grammar a; lengths = body_lengths a }
+body_format a = record { Spells = SpellsBody a; read = body_at a; needs = (kind_format a).needs; overruns = (kind_format a).overruns; grammar = by_itself (body_grammar a); lengths = body_lengths a }
 
 -- ---- a key: the name, and then the body
 
@@ -91,7 +92,7 @@ blob_lengths names.SkEd25519 = trailed_lengths (sized_from 64)
 blob_lengths (names.Other name) = checked_lengths some_from string_lengths
 
 abbrev pub blob_format : Algorithm → Format (List ℕ)
-blob_format a = record { Spells = Spells (IsSignatureBlob a) (signature_blob a); read = signature_blob_at a; needs = NeedsString; overruns = OverrunsString; grammar = grammar (signature_blob_reads a); lengths = blob_lengths a }
+blob_format a = record { Spells = Spells (IsSignatureBlob a) (signature_blob a); read = signature_blob_at a; needs = NeedsString; overruns = OverrunsString; grammar = by_itself (grammar (signature_blob_reads a)); lengths = blob_lengths a }
 
 -- the signature under that name
 abbrev pub signature_with : Algorithm → List ℕ → Result Signature Fault

@@ -12,6 +12,7 @@ use Rattle.sshkey_model.proofs.NameReaders.{curve_reads, curve_checks}
 use Rattle.sshkey_model.proofs.PointReaders.{point_reads, p256_point_checks}
 use Rattle.sshkey_model.proofs.Grammars.{grammar}
 use Rattle.sshkey_base.specs.Formats.{Format, array_format, label_format, mpint_format, text_format}
+use Rattle.sshkey_base.specs.Grammars.{by_itself}
 use Rattle.sshkey_base.specs.Labels.{label_at}
 use Rattle.sshkey_base.specs.Lengths.{checked_lengths, string_lengths}
 use Rattle.sshkey_base.specs.Needs.{NoNeed}
@@ -71,7 +72,7 @@ curve_format = label_format NoNeed curve_checks
 
 -- a point of whichever curve
 abbrev pub any_point_format : Format (Curve × List ℕ)
-any_point_format = record { Spells = Spells IsPointOf (λ x. string x.1); read = point_at; needs = NoNeed; overruns = OverrunsString; grammar = grammar point_reads; lengths = checked_lengths point_from string_lengths }
+any_point_format = record { Spells = Spells IsPointOf (λ x. string x.1); read = point_at; needs = NoNeed; overruns = OverrunsString; grammar = by_itself (grammar point_reads); lengths = checked_lengths point_from string_lengths }
 
 -- the point, where it is one of the stated curve
 abbrev pub ecdsa_of_parts : Curve × (Curve × List ℕ) → Result Key Fault
@@ -118,7 +119,7 @@ abbrev pub p256_point_at : Front (List ℕ)
 p256_point_at = checked_at p256_point_from string_at
 
 abbrev pub p256_point_format : Format (List ℕ)
-p256_point_format = record { Spells = Spells (IsPoint Nistp256) string; read = p256_point_at; needs = NoNeed; overruns = OverrunsString; grammar = grammar (checked_string_reads p256_point_checks); lengths = checked_lengths p256_point_from string_lengths }
+p256_point_format = record { Spells = Spells (IsPoint Nistp256) string; read = p256_point_at; needs = NoNeed; overruns = OverrunsString; grammar = by_itself (grammar (checked_string_reads p256_point_checks)); lengths = checked_lengths p256_point_from string_lengths }
 
 abbrev sk_ecdsa_of_parts : Curve × (List ℕ × List ℕ) → Result Key Fault
 sk_ecdsa_of_parts a = Ok (SkEcdsa (record { key = a.1.0; application = a.1.1 }))

@@ -7,27 +7,14 @@ use Rattle.sshkey_model.specs.Options.{CertificateOption}
 use Rattle.sshkey_model.specs.Reading.{Fault, Length, number_at, string_at}
 use Rattle.sshkey_model.specs.Texts.{text_at}
 use Rattle.sshkey_base.specs.Causes.{Cause, NoMemory, Faulty}
-use Rattle.sshkey_base.specs.Lengths.{text_lengths, to_end_lengths}
+use Rattle.sshkey_base.specs.Lengths.{text_lengths}
 use Rattle.sshkey_base.specs.Needs.{HasString, NeedsString}
-use Rattle.sshkey_base.specs.Reading.{Reads, to_end}
+use Rattle.sshkey_base.specs.Reading.{Reads}
 use Rattle.sshkey_base.specs.Source.{IsSound, Later, Source}
 use Rattle.sshkey_base.specs.Stops.{OverrunsList, OverrunsString, OverrunsWithin, RanOut, Stopped}
 use Rattle.sshkey_base.proofs.ReadLists.{StillOverruns}
 use Rattle.sshkey_base.proofs.Stopping.{not_taken, step_ok}
-use Rattle.sshkey_format.specs.Contents.{Contents}
-use Rattle.sshkey_options.specs.OptionReaders.{option_behind, option_list_at, item, NeedsOption, OverrunsOption}
-use Rattle.sshkey_options.specs.OptionLists.{option_lengths}
-
--- what fills the string of options
-abbrev pub options_inside : Contents (List CertificateOption)
-options_inside = record {
-  Spells = λ os b. to_end option_list_at b ≡ Ok (os, []);
-  read = to_end option_list_at;
-  needs = HasString;
-  overruns = OverrunsList item OverrunsOption;
-  grammar = record { takes = λ b os e. e; again = λ os b e. e };
-  lengths = to_end_lengths option_lengths;
-}
+use Rattle.sshkey_options.specs.OptionReaders.{option_behind, item, NeedsOption, OverrunsOption}
 
 is_ok : {B : Type 0} (r : Result B Fault) (x : B) → r ≡ Ok x → IsOk r
 is_ok r x e = rw e refl

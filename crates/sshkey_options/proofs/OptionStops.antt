@@ -43,11 +43,11 @@ module _ (before : Option (List ℕ)) where
 
   -- the name is refused
   pub name_stopped : (c : Cause) (s : Source) → Stopped c text_at NeedsString OverrunsString s → Stopped c (option_behind before) NeedsOption OverrunsOption s
-  name_stopped c s h = mapped_stopped _ NeedsOption OverrunsOption c s _ _ option_parts_read (stopped_first NeedsString OverrunsString text_at (λ _. HasString) (λ _. OverrunsValue) (λ _. option_box_at) c s h)
+  name_stopped c s h = mapped_stopped _ NeedsOption OverrunsOption c s _ _ option_parts_read (stopped_first NeedsString OverrunsString text_at text_at (λ _. HasString) (λ _. OverrunsValue) (λ _. option_box_at) c s h)
 
   -- the value is refused
   pub value_stopped : {X : Type 0} (means : X → List ℕ) (c : Cause) (s t : Source) (x : X) → Reads means text_at s x t → Stopped c option_box_at HasString OverrunsValue t → Stopped c (option_behind before) NeedsOption OverrunsOption s
-  value_stopped means c s t x name h = mapped_stopped _ NeedsOption OverrunsOption c s _ _ option_parts_read (stopped_later NeedsString OverrunsString text_at (λ _. HasString) (λ _. OverrunsValue) (λ _. option_box_at) means c s t x text_lengths name h)
+  value_stopped means c s t x name h = mapped_stopped _ NeedsOption OverrunsOption c s _ _ option_parts_read (stopped_later NeedsString OverrunsString text_at text_at (λ _. HasString) (λ _. OverrunsValue) (λ _. option_box_at) means c s t x (λ b y e. e) text_lengths name h)
 
   -- the name may not follow
   pub order_stopped : {X Y : Type 0} (means : X → List ℕ) (holds : Y → List ℕ) (c : Cause) (s t u : Source) (x : X) (y : Y) → Reads means text_at s x t → Reads holds option_box_at t y u → may_follow before (means x) ≡ false → Stopped c (option_behind before) NeedsOption OverrunsOption s

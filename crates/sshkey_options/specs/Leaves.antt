@@ -7,6 +7,7 @@ use Rattle.sshkey_model.specs.Certificates.{CertificateType, certificate_type, I
 use Rattle.sshkey_model.proofs.CertificateReaders.{type_reads, time_reads, end_reads}
 use Rattle.sshkey_model.proofs.Grammars.{grammar}
 use Rattle.sshkey_base.specs.Formats.{Format}
+use Rattle.sshkey_base.specs.Grammars.{by_itself}
 use Rattle.sshkey_base.specs.Lengths.{no_lengths}
 use Rattle.sshkey_base.specs.Needs.{NoNeed}
 use Rattle.sshkey_base.specs.Stops.{NoOverrun}
@@ -32,10 +33,10 @@ end_grammar = grammar end_reads
 -- ---- four or eight bytes, which need no memory
 
 abbrev pub type_format : Format CertificateType
-type_format = record { Spells = SpellsType; read = type_at; needs = NoNeed; overruns = NoOverrun; grammar = type_grammar; lengths = no_lengths type_at }
+type_format = record { Spells = SpellsType; read = type_at; needs = NoNeed; overruns = NoOverrun; grammar = by_itself type_grammar; lengths = no_lengths type_at }
 
 abbrev pub time_format : Format ℕ
-time_format = record { Spells = SpellsTime; read = time_at; needs = NoNeed; overruns = NoOverrun; grammar = time_grammar; lengths = no_lengths time_at }
+time_format = record { Spells = SpellsTime; read = time_at; needs = NoNeed; overruns = NoOverrun; grammar = by_itself time_grammar; lengths = no_lengths time_at }
 
 abbrev pub end_format : Format ℕ
-end_format = record { Spells = SpellsEnd; read = end_at; needs = NoNeed; overruns = NoOverrun; grammar = end_grammar; lengths = no_lengths end_at }
+end_format = record { Spells = SpellsEnd; read = end_at; needs = NoNeed; overruns = NoOverrun; grammar = by_itself end_grammar; lengths = no_lengths end_at }

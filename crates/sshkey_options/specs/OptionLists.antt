@@ -6,6 +6,7 @@ use Rattle.sshkey_model.specs.Reading.{Fault, Length, FormatEncoding, ◌>>=◌,
 use Rattle.sshkey_model.specs.Texts.{text_at}
 use Rattle.sshkey_model.specs.Options.{CertificateOption, Nesting, nesting_of, option_value_from, option_before, is_after, in_order, option_at, firsts, seconds, options_at}
 use Rattle.sshkey_base.specs.Formats.{Format}
+use Rattle.sshkey_base.specs.Grammars.{by_itself}
 use Rattle.sshkey_base.specs.Lengths.{with_rest, text_lengths, boxed_lengths, box_list_lengths}
 use Rattle.sshkey_base.specs.Needs.{NeedsBoxed, HasString}
 use Rattle.sshkey_base.specs.Stops.{OverrunsString, OverrunsBoxed, OverrunsList, AreLengths}
@@ -145,4 +146,4 @@ options_lengths b m o = sym (options_is b) ∙ box_list_lengths option_lengths b
 -- options up to the end of a string (PROTOCOL.certkeys): memory is needed where the name of the
 -- first stands in it
 abbrev pub options_format : Format (List CertificateOption)
-options_format = record { Spells = SpellsOptions; read = options_value_at; needs = NeedsBoxed HasString; overruns = OverrunsBoxed (OverrunsList item OverrunsOption); grammar = options_grammar; lengths = options_lengths }
+options_format = record { Spells = SpellsOptions; read = options_value_at; needs = NeedsBoxed HasString; overruns = OverrunsBoxed (OverrunsList item OverrunsOption); grammar = by_itself options_grammar; lengths = options_lengths }

@@ -13,6 +13,7 @@ use Rattle.sshkey_model.proofs.CombinedReaders.{bind_assoc}
 use Rattle.sshkey_model.proofs.Grammars.{grammar}
 use Rattle.sshkey_model.proofs.KeyPairReaders.{security_private_reads}
 use Rattle.sshkey_base.specs.Formats.{Format, array_format, byte_format, mpint_format, string_format}
+use Rattle.sshkey_base.specs.Grammars.{by_itself}
 use Rattle.sshkey_base.specs.Lengths.{box_lengths}
 use Rattle.sshkey_base.specs.Needs.{NoNeed}
 use Rattle.sshkey_base.specs.Stops.{OverrunsString, AreLengths}
@@ -77,7 +78,7 @@ unfolding scalar_at
 scalar_lengths size b m o = rw (box_lengths (scalar_whole size) b m o) refl
 
 abbrev pub scalar_format : ℕ → Format (List ℕ)
-scalar_format size = record { Spells = SpellsScalar size; read = value_at (scalar_at size); needs = NoNeed; overruns = OverrunsString; grammar = scalar_grammar size; lengths = scalar_lengths size }
+scalar_format size = record { Spells = SpellsScalar size; read = value_at (scalar_at size); needs = NoNeed; overruns = OverrunsString; grammar = by_itself (scalar_grammar size); lengths = scalar_lengths size }
 
 -- how wide the scalars of the key's curve are
 abbrev pub scalar_size : Key → ℕ

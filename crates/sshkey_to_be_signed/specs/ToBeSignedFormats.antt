@@ -9,6 +9,7 @@ use Rattle.sshkey_model.specs.Options.{CertificateOption}
 use Rattle.sshkey_model.specs.Reading.{Fault, ◌>>=◌}
 use Rattle.sshkey_model.proofs.CombinedReaders.{bind_assoc, bind_ok, ok_is}
 use Rattle.sshkey_base.specs.Formats.{Format, number64_format, string_format, text_format, texts_format}
+use Rattle.sshkey_base.specs.Grammars.{all_end}
 use Rattle.sshkey_base.specs.NameFormats.{certified_format}
 use Rattle.sshkey_format.specs.Behind.{behind_at}
 use Rattle.sshkey_format.specs.Terms.{◌then◌, choice, boxed, IsMapped, made_of}
@@ -41,14 +42,17 @@ pub subject_parts_read : IsMapped subject_at unnamed named_format.read
 unfolding subject_at behind_at
 subject_parts_read = record { same = λ b. simp bind_assoc }
 
+pub named_grammar : IsGrammar named_format.Spells named_format.read
+named_grammar = all_end named_format.grammar (λ b. refl)
+
 pub subject_grammar : IsGrammar SpellsSubject subject_at
 subject_grammar = record {
   takes = λ b subject rest e.
       let x = bind_ok (named_format.read b) (λ x. Ok ((x.0.0.1, x.0.1), x.1)) (subject, rest) (sym (subject_parts_read.same b) ∙ e) in
-      let t = named_format.grammar.takes b x.0.0 x.0.1 x.1 in
+      let t = named_grammar.takes b x.0.0 x.0.1 x.1 in
       subst (λ (p : (List ℕ × Key) × List ℕ). (front : List ℕ) × SpellsSubject p.0 front × (b ≡ front ++ p.1)) (ok_is ((x.0.0.0.1, x.0.0.1), x.0.1) (subject, rest) x.2)
       (t.0, record { name = x.0.0.0.0; spelled = t.1 }, t.2);
-  again = λ subject front rest s. subject_parts_read.same (front ++ rest) ∙ rw (named_format.grammar.again ((s.name, subject.0), subject.1) front rest s.spelled) refl;
+  again = λ subject front rest s. subject_parts_read.same (front ++ rest) ∙ rw (named_grammar.again ((s.name, subject.0), subject.1) front rest s.spelled) refl;
 }
 
 abbrev pub subject_format : Format (List ℕ × Key)

@@ -72,7 +72,7 @@ fn times_from<T: Decode + Drop, R: Reader>(
         (R.source reader.old) result (R.source reader.new) }
     ensures later { Later (R.source reader.old) (R.source reader.new) }
     ensures asks { Asks T.Error.cause (NeedsValues T.format count) (R.source reader.old) result }
-    ensures past { StopsBy T.Error.cause (times_at T.format.grammar.delimited count)
+    ensures past { StopsBy T.Error.cause (times_at T.format.grammar.delimited_at count)
         (NeedsValues T.format count) NoOverrun (R.source reader.old) result }
 {
     let mut values = Vec::new(alloc);

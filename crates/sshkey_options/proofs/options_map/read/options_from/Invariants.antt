@@ -3,7 +3,6 @@ use Rattle.sshkey_model.specs.Options.{CertificateOption}
 use Rattle.sshkey_base.specs.Source.{Later, announced_len}
 use Rattle.sshkey_base.proofs.ReadLists.{Collects, StillOverruns}
 use Rattle.sshkey_options.specs.OptionReaders.{item, name_before, OverrunsOption}
-use Rattle.sshkey_options.specs.OptionLists.{option_lengths}
 use Rattle.sshkey_options.specs.OptionMaps.{option_of, name_at_end, NamesRise}
 use Rattle.sshkey_options.specs.GatheredPairs.{gathered_pairs}
 use Rattle.sshkey_options.proofs.OptionNeeds.{Begun}
