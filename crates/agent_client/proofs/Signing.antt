@@ -16,7 +16,7 @@ use Rattle.ssh_key.proofs.Grammars.{one_front}
 use Rattle.ssh_key.proofs.Writing.{boxes_short}
 use Rattle.agent_codec.specs.Requests.{to_sign}
 use Rattle.agent_codec.specs.Responses as model
-use Rattle.agent_codec.specs.Responses.{given_of, response_format, response_of}
+use Rattle.agent_codec.specs.Responses.{given_of, response_format, response_grammar, response_of}
 use Rattle.agent_client.specs.Signing.{Counts, GetsNone, GetsSignature, IsAnswered, IsAskedFor, IsRefusalOf, ReadsSignature, RefusesToSign, SpellsAnswer, signing_request}
 use Rattle.agent_codec.specs.declared.response.Response as code
 use Rattle.agent_codec.specs.declared.response.Response.TheVariants as variants
@@ -40,7 +40,7 @@ not_written p e x (inr out) is other fits = other (rw (is, out.1) refl)
 -- ---- the answer
 
 one_value : {x y : model.Response} {b : List ℕ} → response_format.Spells x b → response_format.Spells y b → x ≡ y
-one_value {x} {y} {b} s t = (one_front response_format.grammar x y b b [] [] s t refl).0
+one_value {x} {y} {b} s t = (one_front response_grammar x y b b [] [] s t refl).0
 
 pub some_given : (r : code.Response) (g : code_signature.Signature) (b : List ℕ) → response_format.Spells (response_of r) b → given_of r ≡ Some g → SpellsAnswer (signature_of g) b
 some_given variants.Failure g b s is = absurd cc

@@ -1,19 +1,19 @@
 -- What an agent is told about the use of a key that is added (draft-miller-ssh-agent, section
 -- 4.2.6), and their numbers.
-use Rattle.std.proofs.Common.{ℕ, List, [], ◌∷◌, Result, Ok, Err, refl}
+use Rattle.std.proofs.Common.{ℕ, List, Result, Ok, Err, refl}
 use Rattle.std.specs.Prelude.{◌==◌, if◌then◌else◌, map}
 use Rattle.std.specs.Int.{w8, w32}
 use Rattle.std.specs.List.{AllByRecursion}
 use Rattle.ssh_key.specs.base.Formats.{Format, number32_format, string_format, text_format}
 use Rattle.ssh_key.specs.base.Leaves.{SpellsString, number32_normal, string_normal}
-use Rattle.ssh_key.specs.base.Texts.{SpellsText, text_normal}
-use Rattle.ssh_key.specs.counted.Contents.{Contents, HasBytes, values}
-use Rattle.ssh_key.specs.format.Terms.{◌then◌, IsChosen, choice, tested}
+use Rattle.ssh_key.specs.base.Texts.{text_normal}
+use Rattle.ssh_key.specs.counted.Counted.{each_normal}
+use Rattle.ssh_key.specs.counted.ToEnd.{HasBytes, values}
+use Rattle.ssh_key.specs.format.Terms.{◌then◌, IsChosen, called, called_chosen, tested}
 use Rattle.ssh_key.specs.model.Parts.{Parts, number, ◌&◌, each, flat, Fits}
 use Rattle.ssh_key.specs.model.Reading.{Fault, FormatEncoding}
 use Rattle.ssh_key.specs.model.Texts.{string, IsText}
-use Rattle.ssh_key.proofs.CombinedReaders.{fits_first, fits_second}
-use Rattle.agent_codec.specs.Parts.{after_number, both_spelled, choice_read, nothing_format, number_alone, number_shows, numbered}
+use Rattle.agent_codec.specs.Parts.{after_number, both_spelled, nothing_format, number_alone, number_shows, numbered}
 use Rattle.agent_codec.specs.declared.constraint.Constraint as code
 use Rattle.agent_codec.specs.declared.constraint.Constraint.TheVariants as variants
 use Rattle.agent_codec.specs.declared.constraint.kind.ConstraintKind.{ConstraintKind}
@@ -55,19 +55,19 @@ body_format kinds.Confirm = nothing_format Confirm
 body_format kinds.Extension = tested (λ e. Ok (Extension e.0 e.1)) (text_format then string_format)
 
 abbrev pub constraint_format : Format Constraint
-constraint_format = tested (λ c. Ok c.1) (choice kind_format body_format)
+constraint_format = called kind_format body_format
 
 pub has_bytes : HasBytes constraint_format
 has_bytes = number_shows kind_from (λ k. (body_format k).Spells)
 
 -- constraints up to the end of the frame
-abbrev pub constraints : Contents (List Constraint)
+abbrev pub constraints : Format (List Constraint)
 constraints = values constraint_format has_bytes
 
 -- ---- what is proved of it
 
 pub constraint_chosen : IsChosen constraint_format.read kind_format.read (λ k. (body_format k).read)
-constraint_chosen = choice_read kind_format.read (λ k. (body_format k).read)
+constraint_chosen = called_chosen kind_format.read (λ k. (body_format k).read)
 
 -- The name is a text.
 abbrev pub IsWellFormedConstraint : code.Constraint → Type 0
@@ -81,9 +81,7 @@ SpellsBody k = (body_format k).Spells
 pub constraint_normal : (c : code.Constraint) → IsWellFormedConstraint c → Fits (constraint c) → constraint_format.Spells (constraint_of c) (flat (constraint c))
 constraint_normal (variants.Lifetime seconds) is fits = after_number kind_from SpellsBody 1 kinds.Lifetime (Lifetime seconds) (number w32 seconds) refl (λ f. record { inner = seconds; spelled = number32_normal seconds tt f; makes = refl }) fits
 constraint_normal variants.Confirm is fits = number_alone kind_from SpellsBody 2 kinds.Confirm Confirm refl (refl, refl) fits
-constraint_normal (variants.Extension name details) is fits = after_number kind_from SpellsBody 255 kinds.Extension (Extension name details) (string name & string details) refl (λ f. record { inner = (name, details); spelled = both_spelled SpellsText SpellsString name details (string name) (string details) (text_normal name is) (string_normal details tt) f; makes = refl }) fits
+constraint_normal (variants.Extension name details) is fits = after_number kind_from SpellsBody 255 kinds.Extension (Extension name details) (string name & string details) refl (λ f. record { inner = (name, details); spelled = both_spelled text_format (λ b. refl) SpellsString name details (string name) (string details) (text_normal name is) (string_normal details tt) f; makes = refl }) fits
 
 pub constraints_normal : (cs : List code.Constraint) → AllByRecursion IsWellFormedConstraint cs → Fits (each constraint cs) → constraints.Spells (map constraint_of cs) (flat (each constraint cs))
-unfolding flat
-constraints_normal [] all fits = refl
-constraints_normal (c ∷ cs) all fits = (flat (constraint c), flat (each constraint cs), constraint_normal c all.0 (fits_first (constraint c) (each constraint cs) fits), constraints_normal cs all.1 (fits_second (constraint c) (each constraint cs) fits), refl)
+constraints_normal = each_normal constraint_of constraint IsWellFormedConstraint constraint_format (λ b. refl) constraint_normal

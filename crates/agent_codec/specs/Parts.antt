@@ -1,17 +1,17 @@
 -- Formats of messages: nothing at all, a number and what it calls for, and what is written of two
 -- values. The lemmas are proved, and need not be believed.
-use Rattle.std.proofs.Common.{◌≡◌, ◌<◌, ℕ, List, [], ◌++◌, append-nil, length, Result, Ok, Err, refl, subst, sym, ap, arith}
+use Rattle.std.proofs.Common.{◌≡◌, inl, inr, ◌<◌, ℕ, List, [], ◌++◌, append-nil, length, Result, Ok, refl, subst, sym, ap, ◌∙◌, arith}
 use Rattle.std.proofs.lemmas.List.{length-append}
 use Rattle.std.specs.Int.{w8}
 use Rattle.ssh_key.specs.base.Formats.{Format, byte_format}
+use Rattle.ssh_key.specs.base.Grammars.{by_itself}
 use Rattle.ssh_key.specs.base.Leaves.{SpellsByte, byte_normal}
 use Rattle.ssh_key.specs.base.Reading.{SpellsBoxed}
 use Rattle.ssh_key.specs.base.Needs.{NoNeed}
 use Rattle.ssh_key.specs.base.Stops.{NoOverrun}
 use Rattle.ssh_key.specs.base.Lengths.{no_lengths}
-use Rattle.ssh_key.specs.counted.Contents.{Contents, choice_to_end, held, tested_to_end}
-use Rattle.ssh_key.specs.format.Behind.{SpellsBoth, SpellsThen, behind_at}
-use Rattle.ssh_key.specs.format.Terms.{IsChosen, IsMapped, tested}
+use Rattle.ssh_key.specs.format.Behind.{SpellsBoth, SpellsThen}
+use Rattle.ssh_key.specs.format.Terms.{IsMapped, boxed, called, tested}
 use Rattle.ssh_key.specs.format.Tested.{SpellsTested}
 use Rattle.ssh_key.specs.model.Grammar.{IsGrammar}
 use Rattle.ssh_key.specs.model.Parts.{Parts, ◌&◌, box, flat, number, Fits}
@@ -34,7 +34,7 @@ nothing_grammar {A} value = record {
 }
 
 abbrev pub nothing_format : {A : Type 0} → A → Format A
-nothing_format value = record { Spells = SpellsNothing value; read = nothing_at value; needs = NoNeed; overruns = NoOverrun; grammar = nothing_grammar value; lengths = no_lengths (nothing_at value) }
+nothing_format value = record { Spells = SpellsNothing value; read = nothing_at value; needs = NoNeed; overruns = NoOverrun; grammar = by_itself (nothing_grammar value); lengths = no_lengths (nothing_at value) }
 
 -- ---- a value that another form is made of
 
@@ -43,15 +43,18 @@ checked_read test read = record { same = λ b. refl }
 
 -- ---- what is written of two values, one behind the other
 
-pub both_spelled : {A B : Type 0} (S : A → List ℕ → Type 0) (T : B → List ℕ → Type 0) (x : A) (y : B) (p q : Parts) → (Fits p → S x (flat p)) → (Fits q → T y (flat q)) → Fits (p & q) → SpellsBoth S T (x, y) (flat (p & q))
+pub both_spelled : {A B : Type 0} (f : Format A) (ends : (b : List ℕ) → f.grammar.delimited_at b ≡ f.read b) (T : B → List ℕ → Type 0) (x : A) (y : B) (p q : Parts) → (Fits p → f.Spells x (flat p)) → (Fits q → T y (flat q)) → Fits (p & q) → SpellsBoth f.Spells f.grammar.delimited_at T (x, y) (flat (p & q))
 unfolding flat
-both_spelled S T x y p q first second fits = record {
-  front = flat p;
-  behind = flat q;
-  first = first (fits_first p q fits);
-  second = second (fits_second p q fits);
-  all = refl;
-}
+both_spelled f ends T x y p q first second fits =
+    let spelled = first (fits_first p q fits) in
+    record {
+      front = flat p;
+      behind = flat q;
+      first = spelled;
+      second = second (fits_second p q fits);
+      all = refl;
+      ends = inr (ends (flat p) ∙ f.grammar.alone x (flat p) spelled);
+    }
 
 -- ---- a number of one byte, and what it calls for
 
@@ -59,32 +62,35 @@ both_spelled S T x y p q first second fits = record {
 abbrev pub numbered : {K : Type 0} → (ℕ → Result K Fault) → Format K
 numbered kind_from = tested kind_from byte_format
 
-module _ {K M : Type 0} (kind_from : ℕ → Result K Fault) (body : K → Contents M) where
-  -- the number, and what it calls for, to the end of the frame
-  abbrev pub message : Contents M
-  message = tested_to_end (λ m. Ok m.1) (choice_to_end (numbered kind_from) body)
+module _ {K M : Type 0} (kind_from : ℕ → Result K Fault) (body : K → Format M) where
+  -- the number, and what it calls for
+  abbrev pub message : Format M
+  message = called (numbered kind_from) body
 
   -- the same in its frame
   abbrev pub framed : Format M
-  framed = held message
+  framed = boxed message
 
 module _ {K M : Type 0} (kind_from : ℕ → Result K Fault) (Body : K → M → List ℕ → Type 0) where
   abbrev pub SpellsNumbered : M → List ℕ → Type 0
-  SpellsNumbered = SpellsTested (SpellsThen (SpellsTested SpellsByte kind_from) Body) (λ m. Ok m.1)
+  SpellsNumbered = SpellsTested (SpellsThen (SpellsTested SpellsByte kind_from) (numbered kind_from).grammar.delimited_at Body) (λ m. Ok m.1)
 
   pub after_number : (n : ℕ) (k : K) (m : M) (p : Parts) → kind_from n ≡ Ok k → (Fits p → Body k m (flat p)) → Fits (number w8 n & p) → SpellsNumbered m (flat (number w8 n & p))
   unfolding flat
-  after_number n k m p is second fits = record {
-    inner = (k, m);
-    spelled = record {
-      front = flat (number w8 n);
-      behind = flat p;
-      first = record { inner = n; spelled = byte_normal n tt (fits_first (number w8 n) p fits); makes = is };
-      second = second (fits_second (number w8 n) p fits);
-      all = refl;
-    };
-    makes = refl;
-  }
+  after_number n k m p is second fits =
+      let first : (numbered kind_from).Spells k (flat (number w8 n)) = record { inner = n; spelled = byte_normal n tt (fits_first (number w8 n) p fits); makes = is } in
+      record {
+        inner = (k, m);
+        spelled = record {
+          front = flat (number w8 n);
+          behind = flat p;
+          first = first;
+          second = second (fits_second (number w8 n) p fits);
+          all = refl;
+          ends = inr ((numbered kind_from).grammar.alone k (flat (number w8 n)) first);
+        };
+        makes = refl;
+      }
 
   -- nothing stands behind it
   pub number_alone : (n : ℕ) (k : K) (m : M) → kind_from n ≡ Ok k → Body k m [] → Fits (number w8 n) → SpellsNumbered m (flat (number w8 n))
@@ -96,6 +102,7 @@ module _ {K M : Type 0} (kind_from : ℕ → Result K Fault) (Body : K → M →
       first = record { inner = n; spelled = byte_normal n tt fits; makes = is };
       second = second;
       all = sym (append-nil (flat (number w8 n)));
+      ends = inl refl;
     };
     makes = refl;
   }
@@ -105,26 +112,6 @@ module _ {K M : Type 0} (kind_from : ℕ → Result K Fault) (Body : K → M →
   number_shows m b s =
       let byte = s.spelled.first in
       omega (arith, ap length s.spelled.all, length-append s.spelled.front s.spelled.behind, ap length byte.spelled.shape, length_number8 byte.inner)
-
--- ---- a value that another one calls for, without that one
-
-abbrev both_with : {A B : Type 0} → A → B × List ℕ → Result ((A × B) × List ℕ) Fault
-both_with a y = Ok ((a, y.0), y.1)
-
-abbrev second_of : {A B : Type 0} → (A × B) × List ℕ → Result (B × List ℕ) Fault
-second_of z = Ok (z.0.1, z.1)
-
-pub choice_read : {A B : Type 0} (first : Front A) (second : A → Front B) → IsChosen (checked_at (λ (m : A × B). Ok m.1) (behind_at first second)) first second
-unfolding behind_at
-choice_read {A} {B} first second = record { same = λ b. go (first b) }
-  where
-    behind : (a : A) (r : Result (B × List ℕ) Fault) → ((r >>= both_with a) >>= second_of) ≡ r
-    behind a (Ok y) = refl
-    behind a (Err e) = refl
-
-    go : (r : Result (A × List ℕ) Fault) → ((r >>= λ x. second x.0 x.1 >>= both_with x.0) >>= second_of) ≡ (r >>= λ x. second x.0 x.1)
-    go (Ok x) = behind x.0 (second x.0 x.1)
-    go (Err e) = refl
 
 -- ---- a frame
 

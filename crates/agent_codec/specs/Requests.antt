@@ -5,10 +5,11 @@ use Rattle.std.specs.Prelude.{◌==◌, if◌then◌else◌, map}
 use Rattle.std.specs.Int.{w8}
 use Rattle.std.specs.List.{AllByRecursion}
 use Rattle.ssh_key.specs.base.Formats.{Format, string_format}
+use Rattle.ssh_key.specs.base.Grammars.{all_end}
 use Rattle.ssh_key.specs.base.Leaves.{string_normal}
-use Rattle.ssh_key.specs.counted.Contents.{Contents, alone, choice_to_end, tested_to_end}
 use Rattle.ssh_key.specs.format.Behind.{both_at}
-use Rattle.ssh_key.specs.format.Terms.{IsMapped, tested}
+use Rattle.ssh_key.specs.format.Terms.{◌then◌, IsMapped, tested}
+use Rattle.ssh_key.specs.model.Grammar.{IsGrammar}
 use Rattle.ssh_key.specs.model.Parts.{Parts, box, each, flat, Fits, number, ◌&◌}
 use Rattle.ssh_key.specs.model.Reading.{Fault, FormatEncoding}
 use Rattle.ssh_key.specs.model.Texts.{string}
@@ -74,18 +75,18 @@ kind_from n =
 
 -- ---- what stands behind the number
 
--- constraints stand to the end of the frame
-abbrev pub constrained_body : Contents Request
-constrained_body = tested_to_end (λ a. Ok (AddConstrained a.0 a.1)) (choice_to_end addition_format (λ _. constraints))
+-- constraints stand up to the end of the frame
+abbrev pub constrained_body : Format Request
+constrained_body = tested (λ a. Ok (AddConstrained a.0 a.1)) (addition_format then constraints)
 
-abbrev pub body : RequestKind → Contents Request
-body kinds.RequestIdentities = alone (nothing_format Identities)
-body kinds.SignRequest = alone (tested (λ r. Ok (Sign r)) sign_request_format)
-body kinds.AddIdentity = alone (tested (λ a. Ok (Add a)) addition_format)
-body kinds.RemoveIdentity = alone (tested (λ key. Ok (Remove key)) string_format)
-body kinds.RemoveAllIdentities = alone (nothing_format RemoveAll)
-body kinds.Lock = alone (tested (λ passphrase. Ok (Lock passphrase)) string_format)
-body kinds.Unlock = alone (tested (λ passphrase. Ok (Unlock passphrase)) string_format)
+abbrev pub body : RequestKind → Format Request
+body kinds.RequestIdentities = nothing_format Identities
+body kinds.SignRequest = tested (λ r. Ok (Sign r)) sign_request_format
+body kinds.AddIdentity = tested (λ a. Ok (Add a)) addition_format
+body kinds.RemoveIdentity = tested (λ key. Ok (Remove key)) string_format
+body kinds.RemoveAllIdentities = nothing_format RemoveAll
+body kinds.Lock = tested (λ passphrase. Ok (Lock passphrase)) string_format
+body kinds.Unlock = tested (λ passphrase. Ok (Unlock passphrase)) string_format
 body kinds.AddIdentityConstrained = constrained_body
 
 -- a request in its frame
@@ -93,6 +94,9 @@ abbrev pub request_format : Format Request
 request_format = framed kind_from body
 
 -- ---- what is proved of it
+
+pub request_grammar : IsGrammar request_format.Spells request_format.read
+request_grammar = all_end request_format.grammar (λ b. refl)
 
 pub constrained_read : IsMapped constrained_body.read (λ a. Ok (AddConstrained a.0 a.1)) (both_at addition_format.read constraints.read)
 constrained_read = record { same = λ b. refl }
@@ -121,7 +125,7 @@ message_normal (variants.Lock passphrase) is fits = after_number kind_from Spell
 message_normal (variants.Unlock passphrase) is fits = after_number kind_from SpellsBody 23 kinds.Unlock (Unlock passphrase) (string passphrase) refl (λ f. record { inner = passphrase; spelled = string_normal passphrase tt f; makes = refl }) fits
 message_normal (variants.AddIdentityConstrained a cs) is fits = after_number kind_from SpellsBody 25 kinds.AddIdentityConstrained (AddConstrained (addition_of a) (map constraint_of cs.items)) (addition a & each constraint cs.items) refl (λ f. record {
   inner = (addition_of a, map constraint_of cs.items);
-  spelled = both_spelled addition_format.Spells constraints.Spells (addition_of a) (map constraint_of cs.items) (addition a) (each constraint cs.items) (addition_normal a is.0) (constraints_normal cs.items is.1) f;
+  spelled = both_spelled addition_format (λ b. refl) constraints.Spells (addition_of a) (map constraint_of cs.items) (addition a) (each constraint cs.items) (addition_normal a is.0) (constraints_normal cs.items is.1) f;
   makes = refl;
 }) fits
 

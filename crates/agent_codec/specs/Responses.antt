@@ -4,13 +4,14 @@ use Rattle.std.proofs.Common.{◌≡◌, ◌<◌, ◌+◌, ℕ, List, [], ◌∷
 use Rattle.std.specs.Prelude.{◌==◌, if◌then◌else◌}
 use Rattle.std.specs.Int.{w8}
 use Rattle.std.specs.List.{AllByRecursion}
+use Rattle.ssh_key.specs.base.Grammars.{all_end}
 use Rattle.ssh_key.specs.base.Formats.{Format}
-use Rattle.ssh_key.specs.counted.Contents.{Contents, alone}
 use Rattle.ssh_key.specs.counted.Counted.{counted, counted_format, counted_normal}
 use Rattle.ssh_key.specs.format.Terms.{boxed, tested}
 use Rattle.ssh_key.specs.keys.KeyFormats.{signature_format}
 use Rattle.ssh_key.specs.keys.SignatureReaders.{SpellsSignature, signature_normal}
 use Rattle.ssh_key.specs.keys.Signatures.{signature_of}
+use Rattle.ssh_key.specs.model.Grammar.{IsGrammar}
 use Rattle.ssh_key.specs.model.Parts.{Parts, box, bytes, flat, Fits, number, ◌&◌}
 use Rattle.ssh_key.specs.model.Reading.{Fault, FormatEncoding}
 use Rattle.ssh_key.specs.model.Signatures.{Signature, IsSignature, signature}
@@ -76,17 +77,20 @@ kind_from n =
     else Err FormatEncoding
 
 -- what stands behind the number
-abbrev pub body : ResponseKind → Contents Response
-body kinds.Failure = alone (nothing_format Failure)
-body kinds.Success = alone (nothing_format Success)
-body kinds.IdentitiesAnswer = alone (tested (λ keys. Ok (Identities keys)) (counted_format identity_format))
-body kinds.SignResponse = alone (tested (λ g. Ok (Signed g)) (boxed signature_format))
+abbrev pub body : ResponseKind → Format Response
+body kinds.Failure = nothing_format Failure
+body kinds.Success = nothing_format Success
+body kinds.IdentitiesAnswer = tested (λ keys. Ok (Identities keys)) (counted_format identity_format)
+body kinds.SignResponse = tested (λ g. Ok (Signed g)) (boxed signature_format)
 
 -- a response in its frame
 abbrev pub response_format : Format Response
 response_format = framed kind_from body
 
 -- ---- what is proved of it
+
+pub response_grammar : IsGrammar response_format.Spells response_format.read
+response_grammar = all_end response_format.grammar (λ b. refl)
 
 -- The signature is one of its algorithm.
 abbrev pub IsWellFormed : code.Response → Type 0
@@ -107,7 +111,7 @@ all_alike [] = tt
 all_alike (i ∷ keys) = (tt, all_alike keys)
 
 answer_normal : (keys : List code_identity.Identity) → Fits (answer keys) → (counted_format identity_format).Spells (map identity_of keys) (flat (answer keys))
-answer_normal keys fits = counted_normal identity_of (λ i. identity (identity_of i)) (λ _. Unit {0}) identity_format.Spells (λ i is f. identity_normal (identity_of i) f) shows keys (all_alike keys) fits
+answer_normal keys fits = counted_normal identity_of (λ i. identity (identity_of i)) (λ _. Unit {0}) identity_format (λ b. refl) (λ i is f. identity_normal (identity_of i) f) shows keys (all_alike keys) fits
 
 abbrev SpellsBody : ResponseKind → Response → List ℕ → Type 0
 SpellsBody k = (body k).Spells

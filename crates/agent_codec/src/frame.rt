@@ -2,11 +2,12 @@
 
 ghost use Rattle.std.specs.Prelude.{◌+◌, ◌<◌, ◌≤◌, ◌^◌, IfOk};
 ghost use Rattle.ssh_key.specs.base.Causes.{cause};
+ghost use Rattle.ssh_key.specs.base.Formats.{Format};
 ghost use Rattle.ssh_key.specs.base.Needs.{Asks};
 ghost use Rattle.ssh_key.specs.base.Reading.{Gives};
 ghost use Rattle.ssh_key.specs.base.Sink.{Encodes, Measures, MeasuresBoxed};
 ghost use Rattle.ssh_key.specs.base.Source.{Later};
-ghost use Rattle.ssh_key.specs.counted.Contents.{Contents, StopsIn};
+ghost use Rattle.ssh_key.specs.counted.ToEnd.{StopsIn};
 ghost use Rattle.ssh_key.specs.model.Parts.{Parts, ◌&◌, box};
 
 mod read;
@@ -29,7 +30,7 @@ pub(crate) trait Framed: Sized {
     ghost means: { Self → Meaning };
 
     /// What stands after the number, to the end of the frame.
-    ghost body: { Self.Kind → Contents Meaning };
+    ghost body: { Self.Kind → Format Meaning };
 
     /// What stands in the frame, as it is written.
     ghost message: { Self → Parts };

@@ -7,7 +7,7 @@ pub mod Walking
 pub mod Fronts
 pub mod Each
 pub mod Gathering
-pub mod Held
+pub mod ToEnd
 mod Measured
 mod Filled
 pub mod SliceFronts

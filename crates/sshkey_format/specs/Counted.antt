@@ -181,7 +181,7 @@ counted_format item = called number32_format (values_format item)
 
 -- ---- what is written is a spelling
 
-module _ {X A : Type 0} (means : X → A) (normal : X → Parts) (Is : X → Type 0) (item : Format A) (all : (b : List ℕ) → item.grammar.delimited_at b ≡ item.read b) (spelled : (x : X) → Is x → Fits (normal x) → item.Spells (means x) (flat (normal x))) (shows : (x : X) → 0 < length (flat (normal x))) where
+module _ {X A : Type 0} (means : X → A) (normal : X → Parts) (Is : X → Type 0) (item : Format A) (all : (b : List ℕ) → item.grammar.delimited_at b ≡ item.read b) (spelled : (x : X) → Is x → Fits (normal x) → item.Spells (means x) (flat (normal x))) where
   pub each_normal : (xs : List X) → AllByRecursion Is xs → Fits (each normal xs) → SpellsEach item.Spells item.grammar.delimited_at (map means xs) (flat (each normal xs))
   unfolding flat
   each_normal [] is fits = refl
@@ -189,24 +189,25 @@ module _ {X A : Type 0} (means : X → A) (normal : X → Parts) (Is : X → Typ
       let first = spelled x is.0 (fits_first (normal x) (each normal xs) fits) in
       (flat (normal x), flat (each normal xs), first, each_normal xs is.1 (fits_second (normal x) (each normal xs) fits), refl, inr (all (flat (normal x)) ∙ item.grammar.alone (means x) (flat (normal x)) first))
 
-  each_shows : (xs : List X) → length xs ≤ length (flat (each normal xs))
-  each_shows [] = omega arith
-  each_shows (x ∷ xs) = omega (arith, shows x, each_shows xs, length_both (normal x) (each normal xs))
+  module _ (shows : (x : X) → 0 < length (flat (normal x))) where
+    each_shows : (xs : List X) → length xs ≤ length (flat (each normal xs))
+    each_shows [] = omega arith
+    each_shows (x ∷ xs) = omega (arith, shows x, each_shows xs, length_both (normal x) (each normal xs))
 
-  pub counted_normal : (xs : List X) → AllByRecursion Is xs → Fits (counted normal xs) → (counted_format item).Spells (map means xs) (flat (counted normal xs))
-  unfolding flat
-  counted_normal xs is fits =
-      let len : length (map means xs) ≡ length xs = length-map xs means in
-      let first = count_normal (length xs) tt (fits_first (count (length xs)) (each normal xs) fits) in
-      record {
-        inner = (length xs, map means xs);
-        spelled = record {
-          front = flat (count (length xs));
-          behind = flat (each normal xs);
-          first = first;
-          second = record { number = len; each = each_normal xs is (fits_second (count (length xs)) (each normal xs) fits); bytes = each_shows xs };
-          all = refl;
-          ends = inr (number32_format.grammar.alone (length xs) (flat (count (length xs))) first);
-        };
-        makes = refl;
-      }
+    pub counted_normal : (xs : List X) → AllByRecursion Is xs → Fits (counted normal xs) → (counted_format item).Spells (map means xs) (flat (counted normal xs))
+    unfolding flat
+    counted_normal xs is fits =
+        let len : length (map means xs) ≡ length xs = length-map xs means in
+        let first = count_normal (length xs) tt (fits_first (count (length xs)) (each normal xs) fits) in
+        record {
+          inner = (length xs, map means xs);
+          spelled = record {
+            front = flat (count (length xs));
+            behind = flat (each normal xs);
+            first = first;
+            second = record { number = len; each = each_normal xs is (fits_second (count (length xs)) (each normal xs) fits); bytes = each_shows xs };
+            all = refl;
+            ends = inr (number32_format.grammar.alone (length xs) (flat (count (length xs))) first);
+          };
+          makes = refl;
+        }

@@ -6,7 +6,7 @@ ghost use Rattle.ssh_key.specs.base.Needs.{Asks};
 ghost use Rattle.ssh_key.specs.base.Nested.{nested_source};
 ghost use Rattle.ssh_key.specs.base.Reading.{Gives};
 ghost use Rattle.ssh_key.specs.base.Source.{Later};
-ghost use Rattle.ssh_key.specs.counted.Contents.{StopsIn};
+ghost use Rattle.ssh_key.specs.counted.ToEnd.{StopsIn};
 ghost use Rattle.agent_codec.specs.Parts.{framed, message as contents};
 
 use super::Framed;

@@ -4,7 +4,7 @@ ghost use Rattle.ssh_key.specs.base.Causes.{cause};
 ghost use Rattle.ssh_key.specs.base.Needs.{Asks};
 ghost use Rattle.ssh_key.specs.base.Reading.{Gives};
 ghost use Rattle.ssh_key.specs.base.Source.{Later};
-ghost use Rattle.ssh_key.specs.counted.Contents.{StopsIn};
+ghost use Rattle.ssh_key.specs.counted.ToEnd.{StopsIn};
 ghost use Rattle.agent_codec.specs.declared.request.kind.RequestKind.TheVariants as kinds;
 ghost use Rattle.agent_codec.specs.Requests.{body, constrained_body, request_of};
 

@@ -1,10 +1,10 @@
 use Rattle.ssh_key.proofs.Grammars.{one_front}
-use Rattle.agent_codec.specs.Requests.{request_format}
-use Rattle.agent_codec.specs.Responses.{response_format}
+use Rattle.agent_codec.specs.Requests.{request_grammar}
+use Rattle.agent_codec.specs.Responses.{response_grammar}
 use Rattle.agent_codec.proofs.laws.one_message.Goals as goal
 
 pub returns-clause-requests : goal.returns-clause-requests
-returns-clause-requests c = one_front request_format.grammar
+returns-clause-requests c = one_front request_grammar
 
 pub returns-clause-responses : goal.returns-clause-responses
-returns-clause-responses c = one_front response_format.grammar
+returns-clause-responses c = one_front response_grammar

@@ -1,9 +1,9 @@
-use Rattle.agent_codec.specs.Requests.{request_format, request_normal}
-use Rattle.agent_codec.specs.Responses.{response_format, response_normal}
+use Rattle.agent_codec.specs.Requests.{request_grammar, request_normal}
+use Rattle.agent_codec.specs.Responses.{response_grammar, response_normal}
 use Rattle.agent_codec.proofs.laws.read_back_messages.Goals as goal
 
 pub returns-clause-requests : goal.returns-clause-requests
-returns-clause-requests c = λ r rest is fits. request_format.grammar.again _ _ rest (request_normal r is fits)
+returns-clause-requests c = λ r rest is fits. request_grammar.again _ _ rest (request_normal r is fits)
 
 pub returns-clause-responses : goal.returns-clause-responses
-returns-clause-responses c = λ r rest is fits. response_format.grammar.again _ _ rest (response_normal r is fits)
+returns-clause-responses c = λ r rest is fits. response_grammar.again _ _ rest (response_normal r is fits)

@@ -1,10 +1,11 @@
 use Rattle.std.proofs.Common.{inl}
 use Rattle.std.proofs.lemmas.Result.{err_from_is_err_and}
 use Rattle.ssh_key.specs.base.Causes.{cause}
+use Rattle.ssh_key.specs.format.Terms.{called_chosen}
 use Rattle.ssh_key.proofs.Chosen.{chosen_asks, chosen_gives, chosen_refused, chosen_stopped}
-use Rattle.ssh_key.proofs.Held.{choice_stops}
+use Rattle.ssh_key.proofs.ToEnd.{choice_stops}
 use Rattle.ssh_key.proofs.Places.{later_then}
-use Rattle.agent_codec.specs.Parts.{choice_read, message, numbered}
+use Rattle.agent_codec.specs.Parts.{message, numbered}
 use Rattle.agent_codec.proofs.frame.read.message_from.Goals as goal
 
 pub returns-in_err-kind-clause-gives : goal.returns-in_err-kind-clause-gives
@@ -12,7 +13,7 @@ returns-in_err-kind-clause-gives g c =
     let p = err_from_is_err_and c.from_residual.result c.from_residual.ensures.1 in
     let kind = numbered g.M.Kind.Kind.kind_from in
     let body = g.M.Framed.body in
-    rw (p.1, p.2) (chosen_refused kind.read (λ k. (body k).read) _ _ _ _ (choice_read kind.read (λ k. (body k).read)) c.in_err-kind.ensures.gives)
+    rw (p.1, p.2) (chosen_refused kind.read (λ k. (body k).read) _ _ _ _ (called_chosen kind.read (λ k. (body k).read)) c.in_err-kind.ensures.gives)
 
 pub returns-in_err-kind-clause-later : goal.returns-in_err-kind-clause-later
 returns-in_err-kind-clause-later g c = c.in_err-kind.ensures.later
@@ -27,13 +28,13 @@ returns-in_err-kind-clause-past g c =
     let p = err_from_is_err_and c.from_residual.result c.from_residual.ensures.1 in
     let kind = numbered g.M.Kind.Kind.kind_from in
     let body = g.M.Framed.body in
-    rw (p.1, p.2) (chosen_stopped kind.read (λ k. (body k).read) kind.needs kind.overruns (λ k. (body k).needs) (λ k. (body k).overruns) _ _ _ (choice_read kind.read (λ k. (body k).read)) c.in_err-kind.ensures.past).past
+    rw (p.1, p.2) (chosen_stopped kind.read (λ k. (body k).read) kind.needs kind.overruns (λ k. (body k).needs) (λ k. (body k).overruns) _ _ _ (called_chosen kind.read (λ k. (body k).read)) c.in_err-kind.ensures.past).past
 
 pub returns-clause-gives : goal.returns-clause-gives
 returns-clause-gives g c =
     let kind = numbered g.M.Kind.Kind.kind_from in
     let body = g.M.Framed.body in
-    chosen_gives _ kind.read (λ k. (body k).read) _ _ _ _ cause _ g.M.Framed.means _ c.in_ok-kind.ensures.gives (choice_read kind.read (λ k. (body k).read)) c.body_from.ensures.gives
+    chosen_gives _ kind.read (λ k. (body k).read) _ _ _ _ cause _ g.M.Framed.means _ c.in_ok-kind.ensures.gives (called_chosen kind.read (λ k. (body k).read)) c.body_from.ensures.gives
 
 pub returns-clause-later : goal.returns-clause-later
 returns-clause-later g c = later_then _ _ _ c.in_ok-kind.ensures.later c.body_from.ensures.later

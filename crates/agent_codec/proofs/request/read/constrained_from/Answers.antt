@@ -1,7 +1,7 @@
 use Rattle.std.proofs.Common.{Err, inl, map, refl}
 use Rattle.std.proofs.lemmas.Result.{err_from_is_err_and}
 use Rattle.ssh_key.specs.base.Causes.{cause}
-use Rattle.ssh_key.proofs.Held.{both_reads, both_refused_first, both_refused_later, choice_stops}
+use Rattle.ssh_key.proofs.ToEnd.{both_reads, both_refused_first, both_refused_later, choice_stops}
 use Rattle.ssh_key.proofs.Mapped.{mapped_reads, mapped_refused}
 use Rattle.ssh_key.proofs.Places.{later_then}
 use Rattle.ssh_key.proofs.Steps.{asks_later}
@@ -27,7 +27,7 @@ returns-in_err-addition-clause-asks g c =
 pub returns-in_err-addition-clause-past : goal.returns-in_err-addition-clause-past
 returns-in_err-addition-clause-past g c =
     let p = err_from_is_err_and c.from_residual.result c.from_residual.ensures.1 in
-    rw (p.1, p.2) (stopped_first addition_format.needs addition_format.overruns addition_format.read (λ _. constraints.needs) (λ _. constraints.overruns) (λ _. constraints.read) _ _ c.in_err-addition.ensures.past).past
+    rw (p.1, p.2) (stopped_first addition_format.needs addition_format.overruns addition_format.grammar.delimited_at addition_format.read (λ _. constraints.needs) (λ _. constraints.overruns) (λ _. constraints.grammar.delimited_at) _ _ c.in_err-addition.ensures.past).past
 
 pub returns-in_err-constraints-clause-gives : goal.returns-in_err-constraints-clause-gives
 returns-in_err-constraints-clause-gives g c =
