@@ -31,7 +31,7 @@ pub(crate) fn value(alloc: Global, kind: &str, bytes: &[u8]) -> Result<String> {
         "scalar" => each::<EcdsaPrivateKey<32>>(alloc, bytes),
         "derivation" => each::<Kdf>(alloc, bytes),
         "pair" => each::<KeypairData>(alloc, bytes),
-        "private-key" => each_of_private(alloc, bytes),
+        "private-key" => each::<PrivateKey>(alloc, bytes),
         _ => Err(NO_LINE),
     }
 }
@@ -140,20 +140,6 @@ where
         Ok(_) => None,
         Err(error) => Some(Error::from(error)),
     }
-}
-
-/// As `each`, for private keys.
-fn each_of_private(alloc: Global, bytes: &[u8]) -> Result<String> {
-    for len in 0..bytes.len() {
-        let mut source = cut(bytes, len);
-        let refusal = PrivateKey::decode(alloc, &mut source).err();
-        if !is_by_source(refusal, &source, bytes)? {
-            return otherwise(alloc, len);
-        }
-    }
-    let mut source = Faulty::new(bytes, BEHIND);
-    let refusal = PrivateKey::decode(alloc, &mut source).err();
-    all(alloc, refusal, &source, bytes)
 }
 
 /// Whether the refusal is the fault of the source, which is no longer than the bytes. Refused when

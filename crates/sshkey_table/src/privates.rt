@@ -2,7 +2,7 @@
 
 use crate::bytes::{part, text};
 use crate::wire::{debugged, rest};
-use sshkey_base::{HashAlg, Result, decode_whole};
+use sshkey_base::{Decode, HashAlg, Result, decode_whole};
 use sshkey_private::PrivateKey;
 use sshkey_public::PublicKey;
 use std::alloc::Global;

@@ -1,5 +1,6 @@
 //! The laws.
 
+use ssh_key::PrivateKey;
 use sshkey_base::{Algorithm, Bytes, EcdsaCurve, HashAlg, Mpint, Text, laws};
 use sshkey_keys::{KeyData, Signature};
 
@@ -23,7 +24,9 @@ fn the_laws_hold_of_these_types(_rt: HostRuntime) {
     laws::read_back::<HashAlg>();
     laws::read_back::<KeyData>();
     laws::read_back::<Signature>();
+    laws::read_back::<PrivateKey>();
     laws::one_front::<Vec<String>>();
     laws::one_front::<KeyData>();
     laws::one_front::<Signature>();
+    laws::one_front::<PrivateKey>();
 }
