@@ -101,6 +101,9 @@ request_grammar = all_end request_format.grammar (λ b. refl)
 pub constrained_read : IsMapped constrained_body.read (λ a. Ok (AddConstrained a.0 a.1)) (both_at addition_format.read constraints.read)
 constrained_read = record { same = λ b. refl }
 
+pub constrained_ends : IsMapped constrained_body.grammar.delimited_at (λ a. Ok (AddConstrained a.0 a.1)) (both_at addition_format.grammar.delimited_at constraints.grammar.delimited_at)
+constrained_ends = record { same = λ b. refl }
+
 -- What is added is a pair of its format, and the names of constraints are UTF-8.
 abbrev pub IsWellFormed : code.Request → Type 0
 IsWellFormed variants.RequestIdentities = Unit {0}

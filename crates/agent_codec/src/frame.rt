@@ -2,12 +2,11 @@
 
 ghost use Rattle.std.specs.Prelude.{◌+◌, ◌<◌, ◌≤◌, ◌^◌, IfOk};
 ghost use Rattle.ssh_key.specs.base.Causes.{cause};
-ghost use Rattle.ssh_key.specs.base.Formats.{Format};
+ghost use Rattle.ssh_key.specs.base.Formats.{Format, Stops};
 ghost use Rattle.ssh_key.specs.base.Needs.{Asks};
 ghost use Rattle.ssh_key.specs.base.Reading.{Gives};
 ghost use Rattle.ssh_key.specs.base.Sink.{Encodes, Measures, MeasuresBoxed};
 ghost use Rattle.ssh_key.specs.base.Source.{Later};
-ghost use Rattle.ssh_key.specs.counted.ToEnd.{StopsIn};
 ghost use Rattle.ssh_key.specs.model.Parts.{Parts, ◌&◌, box};
 
 mod read;
@@ -41,7 +40,7 @@ pub(crate) trait Framed: Sized {
             (R.source reader.old) result (R.source reader.new) }
         ensures later { Later (R.source reader.old) (R.source reader.new) }
         ensures asks { Asks cause (body kind).needs (R.source reader.old) result }
-        ensures past { StopsIn cause (body kind) (R.source reader.old) result };
+        ensures past { Stops cause (body kind) (R.source reader.old) result };
 
     /// How many bytes stand in the frame. Fails with `Length` exactly if it can't hold them, or a
     /// string in them is too long.

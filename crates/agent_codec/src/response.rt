@@ -2,11 +2,11 @@
 
 ghost use Rattle.std.specs.Prelude.{◌≡◌, ◌+◌, ◌^◌};
 ghost use Rattle.ssh_key.specs.base.Causes.{cause};
+ghost use Rattle.ssh_key.specs.base.Formats.{Stops};
 ghost use Rattle.ssh_key.specs.base.Needs.{Asks};
 ghost use Rattle.ssh_key.specs.base.Reading.{Gives};
 ghost use Rattle.ssh_key.specs.base.Sink.{Encodes, MeasuresBoxed};
 ghost use Rattle.ssh_key.specs.base.Source.{Later};
-ghost use Rattle.ssh_key.specs.counted.ToEnd.{StopsIn};
 ghost use Rattle.ssh_key.specs.model.Parts.{box};
 ghost use Rattle.agent_codec.specs.declared.response.kind.ResponseKind.TheVariants as kinds;
 ghost use Rattle.agent_codec.specs.Responses as model;
@@ -184,7 +184,7 @@ fn answer_from<R: Reader>(alloc: Global, reader: &mut R) -> Result<Response>
         (R.source reader.old) result (R.source reader.new) }
     ensures later { Later (R.source reader.old) (R.source reader.new) }
     ensures asks { Asks cause (body kinds.IdentitiesAnswer).needs (R.source reader.old) result }
-    ensures past { StopsIn cause (body kinds.IdentitiesAnswer) (R.source reader.old) result }
+    ensures past { Stops cause (body kinds.IdentitiesAnswer) (R.source reader.old) result }
 {
     let Wide(Counted(identities)) = Wide::<Counted<Identity>>::decode(alloc, reader)?;
     Ok(Response::IdentitiesAnswer(identities))
@@ -197,7 +197,7 @@ fn signed_from<R: Reader>(alloc: Global, reader: &mut R) -> Result<Response>
         (R.source reader.old) result (R.source reader.new) }
     ensures later { Later (R.source reader.old) (R.source reader.new) }
     ensures asks { Asks cause (body kinds.SignResponse).needs (R.source reader.old) result }
-    ensures past { StopsIn cause (body kinds.SignResponse) (R.source reader.old) result }
+    ensures past { Stops cause (body kinds.SignResponse) (R.source reader.old) result }
 {
     let Boxed(signature) = Boxed::<Signature>::decode(alloc, reader)?;
     Ok(Response::SignResponse(signature))

@@ -4,7 +4,7 @@ pub mod Chosen
 pub mod CombinedReaders
 pub mod Entries
 pub mod Grammars
-pub mod ToEnd
+pub mod Behind
 pub mod Judging
 pub mod Mapped
 pub mod Places

@@ -34,8 +34,7 @@ pub record Format (A : Type 0) : Type 1 where
   -- and refuses with `Length` where a length passes
   pub lengths : AreLengths read overruns
 
--- How a call refuses that reads it, whatever the source: a value that ends by itself, and stands
--- whole before the fault, is refused only for memory that it needs.
+-- How a call refuses that reads it, whatever the source.
 abbrev pub Stops : {X Y E : Type 0} → (E → Cause) → Format Y → Source → Result X E → Type 0
 Stops cause f s r = StopsBy cause f.grammar.delimited_at f.needs f.overruns s r
 

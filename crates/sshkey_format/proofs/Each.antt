@@ -6,6 +6,7 @@ use Rattle.std.proofs.lemmas.List.{length-append}
 use Rattle.sshkey_model.specs.Reading.{Fault, Length}
 use Rattle.sshkey_base.specs.Causes.{Cause, NoMemory, Faulty}
 use Rattle.sshkey_base.specs.Formats.{Format}
+use Rattle.sshkey_base.specs.Grammars.{never_at}
 use Rattle.sshkey_base.specs.Reading.{IsRefused, Reads}
 use Rattle.sshkey_base.specs.Source.{Later, Source, IsSound, announced_len}
 use Rattle.sshkey_base.specs.Stops.{OverrunsWithin, RanOut, Stopped}
@@ -19,6 +20,10 @@ some_left false n is left none = let t = is none in absurd cc
 -- memory ran out, which is no fault of the bytes
 pub full_refused : {Y : Type 0} (missing : ℕ) (c : Cause) (found : Result Y Fault) → c ≡ NoMemory → IsRefused missing c found
 full_refused missing c found memory = record { fault = λ other sound. absurd (other memory) }
+
+-- no list ends by itself, so a length alone is in question
+pub end_stopped : {A : Type 0} (c : Cause) (needs overruns : List ℕ → ℕ → Type 0) (s : Source) → (overruns s.left s.missing → (c ≡ Faulty Length) ⊎ RanOut c needs s) → Stopped c (never_at {A = A}) needs overruns s
+end_stopped c needs overruns s past = record { takes = λ ok. absurd cc; past = past }
 
 module _ {A : Type 0} (f : Format A) where
   -- a value that has bytes leaves less

@@ -7,7 +7,7 @@ pub mod Walking
 pub mod Fronts
 pub mod Each
 pub mod Gathering
-pub mod ToEnd
+pub mod Behind
 mod Measured
 mod Filled
 pub mod SliceFronts

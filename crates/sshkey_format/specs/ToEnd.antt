@@ -3,21 +3,14 @@
 use Rattle.std.proofs.Common.{◌≡◌, ◌≤◌, ◌<◌, ◌+◌, ◌⊎◌, inl, inr, ℕ, zero, suc, Option, None, Some, List, [], ◌∷◌, length, IsOk, Result, Ok, Err, refl, sym, ap, subst, ◌∙◌, arith}
 use Rattle.std.specs.Prelude.{IsOkAnd}
 use Rattle.std.proofs.lemmas.List.{length-append}
-use Rattle.sshkey_base.specs.Causes.{Cause}
 use Rattle.sshkey_base.specs.Formats.{Format}
 use Rattle.sshkey_base.specs.Grammars.{Grammar, taken_before, to_the_end}
 use Rattle.sshkey_base.specs.Lengths.{to_end_lengths}
 use Rattle.sshkey_base.specs.Reading.{to_end}
-use Rattle.sshkey_base.specs.Source.{Source}
-use Rattle.sshkey_base.specs.Stops.{AreLengths, OverrunsList, OverrunsWithin, StopsPast}
+use Rattle.sshkey_base.specs.Stops.{AreLengths, OverrunsList, OverrunsWithin}
 use Rattle.sshkey_format.specs.Counted.{SpellsEach}
 use Rattle.sshkey_model.specs.Reading.{Fault, ◌>>=◌, Front, list_whole, list_within}
 use Rattle.sshkey_model.proofs.CombinedReaders.{bind_ok, ok_is}
-
--- How a call refuses that reads to the end: of a value that takes all that is left, only this is
--- said of a source with a fault.
-abbrev pub StopsIn : {X Y E : Type 0} → (E → Cause) → Format Y → Source → Result X E → Type 0
-StopsIn cause f = StopsPast cause f.needs f.overruns
 
 -- Each spelling of such a value has a byte.
 abbrev pub HasBytes : {A : Type 0} → Format A → Type 0

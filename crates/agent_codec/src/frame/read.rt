@@ -6,7 +6,6 @@ ghost use Rattle.ssh_key.specs.base.Needs.{Asks};
 ghost use Rattle.ssh_key.specs.base.Nested.{nested_source};
 ghost use Rattle.ssh_key.specs.base.Reading.{Gives};
 ghost use Rattle.ssh_key.specs.base.Source.{Later};
-ghost use Rattle.ssh_key.specs.counted.ToEnd.{StopsIn};
 ghost use Rattle.agent_codec.specs.Parts.{framed, message as contents};
 
 use super::Framed;
@@ -32,7 +31,7 @@ pub(crate) fn decode_frame<M: Framed + Drop, R: Reader>(alloc: Global, reader: &
                 (nested_source R.source part.new) }
             ensures asks { Asks cause (contents M.Kind.kind_from M.body).needs
                 (nested_source R.source part.old) result }
-            ensures past { StopsIn cause (contents M.Kind.kind_from M.body)
+            ensures past { Stops cause (contents M.Kind.kind_from M.body)
                 (nested_source R.source part.old) result }
         { message_from(alloc, part) },
     )
@@ -45,7 +44,7 @@ fn message_from<M: Framed, R: Reader>(alloc: Global, reader: &mut R) -> Result<M
     ensures later { Later (R.source reader.old) (R.source reader.new) }
     ensures asks { Asks cause (contents M.Kind.kind_from M.body).needs
         (R.source reader.old) result }
-    ensures past { StopsIn cause (contents M.Kind.kind_from M.body)
+    ensures past { Stops cause (contents M.Kind.kind_from M.body)
         (R.source reader.old) result }
 {
     let kind = decode_kind::<M::Kind, R>(alloc, reader)?;

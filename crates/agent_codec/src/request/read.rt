@@ -1,10 +1,10 @@
 //! How what stands after the number of a request is read.
 
 ghost use Rattle.ssh_key.specs.base.Causes.{cause};
+ghost use Rattle.ssh_key.specs.base.Formats.{Stops};
 ghost use Rattle.ssh_key.specs.base.Needs.{Asks};
 ghost use Rattle.ssh_key.specs.base.Reading.{Gives};
 ghost use Rattle.ssh_key.specs.base.Source.{Later};
-ghost use Rattle.ssh_key.specs.counted.ToEnd.{StopsIn};
 ghost use Rattle.agent_codec.specs.declared.request.kind.RequestKind.TheVariants as kinds;
 ghost use Rattle.agent_codec.specs.Requests.{body, constrained_body, request_of};
 
@@ -23,7 +23,7 @@ pub(super) fn sign_request_from<R: Reader>(alloc: Global, reader: &mut R) -> Res
         (R.source reader.old) result (R.source reader.new) }
     ensures later { Later (R.source reader.old) (R.source reader.new) }
     ensures asks { Asks cause (body kinds.SignRequest).needs (R.source reader.old) result }
-    ensures past { StopsIn cause (body kinds.SignRequest) (R.source reader.old) result }
+    ensures past { Stops cause (body kinds.SignRequest) (R.source reader.old) result }
 {
     let request = SignRequest::decode(alloc, reader)?;
     Ok(Request::SignRequest(request))
@@ -36,7 +36,7 @@ pub(super) fn addition_from<R: Reader>(alloc: Global, reader: &mut R) -> Result<
         (R.source reader.old) result (R.source reader.new) }
     ensures later { Later (R.source reader.old) (R.source reader.new) }
     ensures asks { Asks cause (body kinds.AddIdentity).needs (R.source reader.old) result }
-    ensures past { StopsIn cause (body kinds.AddIdentity) (R.source reader.old) result }
+    ensures past { Stops cause (body kinds.AddIdentity) (R.source reader.old) result }
 {
     let addition = Addition::decode(alloc, reader)?;
     Ok(Request::AddIdentity(addition))
@@ -49,7 +49,7 @@ pub(super) fn removal_from<R: Reader>(alloc: Global, reader: &mut R) -> Result<R
         (R.source reader.old) result (R.source reader.new) }
     ensures later { Later (R.source reader.old) (R.source reader.new) }
     ensures asks { Asks cause (body kinds.RemoveIdentity).needs (R.source reader.old) result }
-    ensures past { StopsIn cause (body kinds.RemoveIdentity) (R.source reader.old) result }
+    ensures past { Stops cause (body kinds.RemoveIdentity) (R.source reader.old) result }
 {
     let Wide(key) = Wide::<Bytes>::decode(alloc, reader)?;
     Ok(Request::RemoveIdentity(key))
@@ -62,7 +62,7 @@ pub(super) fn lock_from<R: Reader>(alloc: Global, reader: &mut R) -> Result<Requ
         (R.source reader.old) result (R.source reader.new) }
     ensures later { Later (R.source reader.old) (R.source reader.new) }
     ensures asks { Asks cause (body kinds.Lock).needs (R.source reader.old) result }
-    ensures past { StopsIn cause (body kinds.Lock) (R.source reader.old) result }
+    ensures past { Stops cause (body kinds.Lock) (R.source reader.old) result }
 {
     let Wide(passphrase) = Wide::<Bytes>::decode(alloc, reader)?;
     Ok(Request::Lock(passphrase))
@@ -75,7 +75,7 @@ pub(super) fn unlock_from<R: Reader>(alloc: Global, reader: &mut R) -> Result<Re
         (R.source reader.old) result (R.source reader.new) }
     ensures later { Later (R.source reader.old) (R.source reader.new) }
     ensures asks { Asks cause (body kinds.Unlock).needs (R.source reader.old) result }
-    ensures past { StopsIn cause (body kinds.Unlock) (R.source reader.old) result }
+    ensures past { Stops cause (body kinds.Unlock) (R.source reader.old) result }
 {
     let Wide(passphrase) = Wide::<Bytes>::decode(alloc, reader)?;
     Ok(Request::Unlock(passphrase))
@@ -88,7 +88,7 @@ pub(super) fn constrained_from<R: Reader>(alloc: Global, reader: &mut R) -> Resu
         (R.source reader.old) result (R.source reader.new) }
     ensures later { Later (R.source reader.old) (R.source reader.new) }
     ensures asks { Asks cause constrained_body.needs (R.source reader.old) result }
-    ensures past { StopsIn cause constrained_body (R.source reader.old) result }
+    ensures past { Stops cause constrained_body (R.source reader.old) result }
 {
     let addition = Addition::decode(alloc, reader)?;
     let constraints = decode_each::<Constraint, R>(alloc, reader)?;

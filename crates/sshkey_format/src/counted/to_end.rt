@@ -1,10 +1,11 @@
 //! How values are read up to the end of a reader.
 
-ghost use Rattle.std.specs.Prelude.{map};
+ghost use Rattle.std.specs.Prelude.{List, map};
+ghost use Rattle.sshkey_base.specs.Grammars.{never_at};
 ghost use Rattle.sshkey_base.specs.Needs.{Asks};
 ghost use Rattle.sshkey_base.specs.Reading.{Gives};
 ghost use Rattle.sshkey_base.specs.Source.{Later};
-ghost use Rattle.sshkey_base.specs.Stops.{StopsPast};
+ghost use Rattle.sshkey_base.specs.Stops.{StopsBy};
 ghost use Rattle.sshkey_format.specs.ToEnd.{HasBytes, NeedsEach, OverrunsEach, each_at};
 
 use crate::counted::read::add;
@@ -27,8 +28,8 @@ pub fn decode_each<T: Decode + Drop, R: Reader>(
         (R.source reader.old) result (R.source reader.new) }
     ensures later { Later (R.source reader.old) (R.source reader.new) }
     ensures asks { Asks T.Error.cause (NeedsEach T.format) (R.source reader.old) result }
-    ensures past { StopsPast T.Error.cause (NeedsEach T.format) (OverrunsEach T.format)
-        (R.source reader.old) result }
+    ensures past { StopsBy T.Error.cause (never_at {A = List T.Meaning})
+        (NeedsEach T.format) (OverrunsEach T.format) (R.source reader.old) result }
 {
     let mut values = Vec::new(alloc);
     'reads: while !reader.is_finished() {

@@ -2,8 +2,7 @@ use Rattle.std.proofs.Common.{inl}
 use Rattle.std.proofs.lemmas.Result.{err_from_is_err_and}
 use Rattle.ssh_key.specs.base.Causes.{cause}
 use Rattle.ssh_key.specs.format.Terms.{called_chosen}
-use Rattle.ssh_key.proofs.Chosen.{chosen_asks, chosen_gives, chosen_refused, chosen_stopped}
-use Rattle.ssh_key.proofs.ToEnd.{choice_stops}
+use Rattle.ssh_key.proofs.Chosen.{chosen_asks, chosen_gives, chosen_refused, chosen_stopped, chosen_stops}
 use Rattle.ssh_key.proofs.Places.{later_then}
 use Rattle.agent_codec.specs.Parts.{message, numbered}
 use Rattle.agent_codec.proofs.frame.read.message_from.Goals as goal
@@ -28,7 +27,7 @@ returns-in_err-kind-clause-past g c =
     let p = err_from_is_err_and c.from_residual.result c.from_residual.ensures.1 in
     let kind = numbered g.M.Kind.Kind.kind_from in
     let body = g.M.Framed.body in
-    rw (p.1, p.2) (chosen_stopped kind.read (λ k. (body k).read) kind.needs kind.overruns (λ k. (body k).needs) (λ k. (body k).overruns) _ _ _ (called_chosen kind.read (λ k. (body k).read)) c.in_err-kind.ensures.past).past
+    rw (p.1, p.2) (chosen_stopped kind.read (λ k. (body k).grammar.delimited_at) kind.needs kind.overruns (λ k. (body k).needs) (λ k. (body k).overruns) _ _ _ (called_chosen kind.read (λ k. (body k).grammar.delimited_at)) c.in_err-kind.ensures.past)
 
 pub returns-clause-gives : goal.returns-clause-gives
 returns-clause-gives g c =
@@ -46,4 +45,7 @@ returns-clause-asks g c =
     chosen_asks _ kind.read (λ k. (body k).read) (message g.M.Kind.Kind.kind_from body).read _ _ _ cause _ kind.needs (λ k. (body k).needs) c.in_ok-kind.ensures.gives c.body_from.ensures.asks
 
 pub returns-clause-past : goal.returns-clause-past
-returns-clause-past g c = choice_stops _ (numbered g.M.Kind.Kind.kind_from) g.M.Framed.body cause _ _ _ _ c.in_ok-kind.ensures.gives c.body_from.ensures.past
+returns-clause-past g c =
+    let kind = numbered g.M.Kind.Kind.kind_from in
+    let body = g.M.Framed.body in
+    chosen_stops _ kind.read (λ k. (body k).grammar.delimited_at) _ _ _ _ cause _ kind.needs kind.overruns (λ k. (body k).needs) (λ k. (body k).overruns) c.in_ok-kind.ensures.gives kind.lengths (called_chosen kind.read (λ k. (body k).grammar.delimited_at)) c.body_from.ensures.past

@@ -1,14 +1,13 @@
-use Rattle.std.proofs.Common.{Err, inl, map, refl}
+use Rattle.std.proofs.Common.{inl, map, refl}
 use Rattle.std.proofs.lemmas.Result.{err_from_is_err_and}
-use Rattle.ssh_key.specs.base.Causes.{cause}
-use Rattle.ssh_key.proofs.ToEnd.{both_reads, both_refused_first, both_refused_later, choice_stops}
+use Rattle.ssh_key.proofs.Behind.{both_reads, both_refused_first, both_refused_later}
 use Rattle.ssh_key.proofs.Mapped.{mapped_reads, mapped_refused}
 use Rattle.ssh_key.proofs.Places.{later_then}
 use Rattle.ssh_key.proofs.Steps.{asks_later}
-use Rattle.ssh_key.proofs.Stopping.{stopped_first}
+use Rattle.ssh_key.proofs.Stopping.{mapped_stopped, stopped_first, stopped_later}
 use Rattle.agent_codec.specs.Constraints.{constraint_of, constraints, has_bytes}
 use Rattle.agent_codec.specs.Records.{addition_format, addition_of}
-use Rattle.agent_codec.specs.Requests.{constrained_read, request_of}
+use Rattle.agent_codec.specs.Requests.{constrained_ends, constrained_read, request_of}
 use Rattle.agent_codec.proofs.request.read.constrained_from.Goals as goal
 
 pub returns-in_err-addition-clause-gives : goal.returns-in_err-addition-clause-gives
@@ -27,7 +26,7 @@ returns-in_err-addition-clause-asks g c =
 pub returns-in_err-addition-clause-past : goal.returns-in_err-addition-clause-past
 returns-in_err-addition-clause-past g c =
     let p = err_from_is_err_and c.from_residual.result c.from_residual.ensures.1 in
-    rw (p.1, p.2) (stopped_first addition_format.needs addition_format.overruns addition_format.grammar.delimited_at addition_format.read (λ _. constraints.needs) (λ _. constraints.overruns) (λ _. constraints.grammar.delimited_at) _ _ c.in_err-addition.ensures.past).past
+    rw (p.1, p.2) (mapped_stopped _ _ _ _ _ _ _ constrained_ends (stopped_first addition_format.needs addition_format.overruns addition_format.grammar.delimited_at addition_format.read (λ _. constraints.needs) (λ _. constraints.overruns) (λ _. constraints.grammar.delimited_at) _ _ c.in_err-addition.ensures.past))
 
 pub returns-in_err-constraints-clause-gives : goal.returns-in_err-constraints-clause-gives
 returns-in_err-constraints-clause-gives g c =
@@ -45,7 +44,7 @@ returns-in_err-constraints-clause-asks g c =
 pub returns-in_err-constraints-clause-past : goal.returns-in_err-constraints-clause-past
 returns-in_err-constraints-clause-past g c =
     let p = err_from_is_err_and c.from_residual-in_err-constraints.result c.from_residual-in_err-constraints.ensures.1 in
-    rw (p.1, p.2) (choice_stops {W = Unit {0}} addition_of addition_format (λ _. constraints) cause _ _ _ (Err _) c.in_ok-addition.ensures.gives c.in_err-constraints.ensures.past)
+    rw (p.1, p.2) (mapped_stopped _ _ _ _ _ _ _ constrained_ends (stopped_later addition_format.needs addition_format.overruns addition_format.grammar.delimited_at addition_format.read (λ _. constraints.needs) (λ _. constraints.overruns) (λ _. constraints.grammar.delimited_at) addition_of _ _ _ _ addition_format.grammar.same addition_format.lengths c.in_ok-addition.ensures.gives c.in_err-constraints.ensures.past))
 
 pub decode_each-requires : goal.decode_each-requires
 decode_each-requires g c = has_bytes

@@ -5,7 +5,7 @@ use Rattle.sshkey_base.specs.Causes.{encoding_cause}
 use Rattle.sshkey_base.specs.Source.{announced_len}
 use Rattle.sshkey_base.proofs.Places.{later_none, later_then}
 use Rattle.sshkey_base.proofs.ReadLists.{collects_none, collects_more, collects_refused, collects_end, overruns_more}
-use Rattle.sshkey_format.proofs.Each.{each_asks, each_stopped, full_needs, full_refused, full_stopped, leaves_less, some_left, still_begun}
+use Rattle.sshkey_format.proofs.Each.{each_asks, each_stopped, end_stopped, full_needs, full_refused, full_stopped, leaves_less, some_left, still_begun}
 use Rattle.sshkey_format.proofs.counted.to_end.decode_each.Goals as goal
 
 pub returns-in_err-decode-clause-gives : goal.returns-in_err-decode-clause-gives
@@ -24,7 +24,7 @@ pub returns-in_err-decode-clause-past : goal.returns-in_err-decode-clause-past
 returns-in_err-decode-clause-past g c =
     let p = err_from_is_err_and c.from_residual.result c.from_residual.ensures.1 in
     let some = some_left _ (announced_len (g.R.Reader.source c.reads.reader)) c.is_finished.ensures.1 c.reads-test.true in
-    rw (p.1, p.2) (each_stopped g.T.Decode.format _ _ c.reads.invariant.1 c.reads.invariant.2 some _ _ c.reads.invariant.0.2 c.in_err-decode.ensures.past)
+    rw (p.1, p.2) (end_stopped _ _ _ _ (each_stopped g.T.Decode.format _ _ c.reads.invariant.1 c.reads.invariant.2 some _ _ c.reads.invariant.0.2 c.in_err-decode.ensures.past))
 
 pub returns-in_err-decode-clause-later : goal.returns-in_err-decode-clause-later
 returns-in_err-decode-clause-later g c = later_then _ _ _ c.reads.invariant.2 c.in_err-decode.ensures.later
@@ -48,7 +48,7 @@ returns-in_err-add-clause-past g c =
     let p = err_from_is_err_and c.from_residual-in_err-add.result c.from_residual-in_err-add.ensures.1 in
     let some = some_left _ (announced_len (g.R.Reader.source c.reads.reader)) c.is_finished.ensures.1 c.reads-test.true in
     let memory = g.met.T.Error.DecodeError.keeps_causes _ p.0 p.2 ∙ ap encoding_cause c.in_err-add.ensures.memory in
-    rw p.1 (λ o. full_stopped g.T.Decode.format _ _ c.reads.invariant.1 c.reads.invariant.2 some g.T.Decode.means _ _ _ c.in_ok-decode.ensures.gives memory)
+    rw p.1 (end_stopped _ _ _ _ (λ o. full_stopped g.T.Decode.format _ _ c.reads.invariant.1 c.reads.invariant.2 some g.T.Decode.means _ _ _ c.in_ok-decode.ensures.gives memory))
 
 pub reads-init : goal.reads-init
 reads-init g c = rw c.new-values.ensures.items ((None, collects_none (λ _. g.T.Decode.format.read) _, λ o. o), inl refl, later_none _)
