@@ -1,6 +1,6 @@
 -- What an agent is told about the use of a key that is added (draft-miller-ssh-agent, section
 -- 4.2.6), and their numbers.
-use Rattle.std.proofs.Common.{ℕ, List, Result, Ok, Err, refl}
+use Rattle.std.proofs.Common.{◌≡◌, ℕ, List, Result, Ok, Err, refl}
 use Rattle.std.specs.Prelude.{◌==◌, if◌then◌else◌, map}
 use Rattle.std.specs.Int.{w8, w32}
 use Rattle.std.specs.List.{AllByRecursion}
@@ -9,9 +9,10 @@ use Rattle.ssh_key.specs.base.Leaves.{SpellsString, number32_normal, string_norm
 use Rattle.ssh_key.specs.base.Texts.{text_normal}
 use Rattle.ssh_key.specs.counted.Counted.{each_normal}
 use Rattle.ssh_key.specs.counted.ToEnd.{HasBytes, values}
-use Rattle.ssh_key.specs.format.Terms.{◌then◌, IsChosen, called, called_chosen, tested}
+use Rattle.ssh_key.specs.format.Behind.{behind_at}
+use Rattle.ssh_key.specs.format.Terms.{◌then◌, IsChosen, called, called_chosen, tested, with_first}
 use Rattle.ssh_key.specs.model.Parts.{Parts, number, ◌&◌, each, flat, Fits}
-use Rattle.ssh_key.specs.model.Reading.{Fault, FormatEncoding}
+use Rattle.ssh_key.specs.model.Reading.{Fault, FormatEncoding, ◌>>=◌}
 use Rattle.ssh_key.specs.model.Texts.{string, IsText}
 use Rattle.agent_codec.specs.Parts.{after_number, both_spelled, nothing_format, number_alone, number_shows, numbered}
 use Rattle.agent_codec.specs.declared.constraint.Constraint as code
@@ -69,6 +70,23 @@ constraints = values constraint_format has_bytes
 pub constraint_chosen : IsChosen constraint_format.read kind_format.read (λ k. (body_format k).read)
 constraint_chosen = called_chosen kind_format.read (λ k. (body_format k).read)
 
+-- each constraint ends by itself
+body_ends : (k : ConstraintKind) (b : List ℕ) → (body_format k).grammar.delimited_at b ≡ (body_format k).read b
+body_ends kinds.Lifetime b = refl
+body_ends kinds.Confirm b = refl
+body_ends kinds.Extension b = refl
+
+abbrev second_of : (ConstraintKind × Constraint) × List ℕ → Result (Constraint × List ℕ) Fault
+second_of z = Ok (z.0.1, z.1)
+
+constraint_ends : (b : List ℕ) → constraint_format.grammar.delimited_at b ≡ constraint_format.read b
+unfolding behind_at
+constraint_ends b = go (kind_format.read b)
+  where
+    go : (r : Result (ConstraintKind × List ℕ) Fault) → ((r >>= λ x. (body_format x.0).grammar.delimited_at x.1 >>= with_first x.0) >>= second_of) ≡ ((r >>= λ x. (body_format x.0).read x.1 >>= with_first x.0) >>= second_of)
+    go (Ok x) = rw (body_ends x.0 x.1) refl
+    go (Err e) = refl
+
 -- The name is a text.
 abbrev pub IsWellFormedConstraint : code.Constraint → Type 0
 IsWellFormedConstraint (variants.Lifetime seconds) = Unit {0}
@@ -84,4 +102,4 @@ constraint_normal variants.Confirm is fits = number_alone kind_from SpellsBody 2
 constraint_normal (variants.Extension name details) is fits = after_number kind_from SpellsBody 255 kinds.Extension (Extension name details) (string name & string details) refl (λ f. record { inner = (name, details); spelled = both_spelled text_format (λ b. refl) SpellsString name details (string name) (string details) (text_normal name is) (string_normal details tt) f; makes = refl }) fits
 
 pub constraints_normal : (cs : List code.Constraint) → AllByRecursion IsWellFormedConstraint cs → Fits (each constraint cs) → constraints.Spells (map constraint_of cs) (flat (each constraint cs))
-constraints_normal = each_normal constraint_of constraint IsWellFormedConstraint constraint_format (λ b. refl) constraint_normal
+constraints_normal = each_normal constraint_of constraint IsWellFormedConstraint constraint_format constraint_ends constraint_normal

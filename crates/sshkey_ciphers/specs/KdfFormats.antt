@@ -44,6 +44,10 @@ abbrev pub options_format : KdfAlgorithm → Format Kdf
 options_format NoDerivation = none_format
 options_format BcryptDerivation = bcrypt_format
 
+pub options_end : (a : KdfAlgorithm) (b : List ℕ) → (options_format a).grammar.delimited_at b ≡ (options_format a).read b
+options_end NoDerivation b = refl
+options_end BcryptDerivation b = refl
+
 -- ---- the model's reader
 
 abbrev ended : {A : Type 0} → A × List ℕ → Result A Fault
