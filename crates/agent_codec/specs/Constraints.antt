@@ -1,18 +1,18 @@
 -- What an agent is told about the use of a key that is added (draft-miller-ssh-agent, section
 -- 4.2.6), and their numbers.
-use Rattle.std.proofs.Common.{◌≡◌, ℕ, List, Result, Ok, Err, refl}
+use Rattle.std.proofs.Common.{ℕ, List, Result, Ok, Err, refl}
 use Rattle.std.specs.Prelude.{◌==◌, if◌then◌else◌, map}
 use Rattle.std.specs.Int.{w8, w32}
 use Rattle.std.specs.List.{AllByRecursion}
 use Rattle.ssh_key.specs.base.Formats.{Format, number32_format, string_format, text_format}
+use Rattle.ssh_key.specs.base.Grammars.{AllEnd}
 use Rattle.ssh_key.specs.base.Leaves.{SpellsString, number32_normal, string_normal}
 use Rattle.ssh_key.specs.base.Texts.{text_normal}
 use Rattle.ssh_key.specs.counted.Counted.{each_normal}
-use Rattle.ssh_key.specs.counted.ToEnd.{HasBytes, values}
-use Rattle.ssh_key.specs.format.Behind.{behind_at}
-use Rattle.ssh_key.specs.format.Terms.{◌then◌, IsChosen, called, called_chosen, tested, with_first}
+use Rattle.ssh_key.specs.counted.ToEnd.{HasBytes, values_to_end}
+use Rattle.ssh_key.specs.format.Terms.{◌then◌, IsChosen, called, called_chosen, called_ends, tested}
 use Rattle.ssh_key.specs.model.Parts.{Parts, number, ◌&◌, each, flat, Fits}
-use Rattle.ssh_key.specs.model.Reading.{Fault, FormatEncoding, ◌>>=◌}
+use Rattle.ssh_key.specs.model.Reading.{Fault, FormatEncoding}
 use Rattle.ssh_key.specs.model.Texts.{string, IsText}
 use Rattle.agent_codec.specs.Parts.{after_number, both_spelled, nothing_format, number_alone, number_shows, numbered}
 use Rattle.agent_codec.specs.declared.constraint.Constraint as code
@@ -63,7 +63,7 @@ has_bytes = number_shows kind_from (λ k. (body_format k).Spells)
 
 -- constraints up to the end of the frame
 abbrev pub constraints : Format (List Constraint)
-constraints = values constraint_format has_bytes
+constraints = values_to_end constraint_format has_bytes
 
 -- ---- what is proved of it
 
@@ -71,21 +71,13 @@ pub constraint_chosen : IsChosen constraint_format.read kind_format.read (λ k. 
 constraint_chosen = called_chosen kind_format.read (λ k. (body_format k).read)
 
 -- each constraint ends by itself
-body_ends : (k : ConstraintKind) (b : List ℕ) → (body_format k).grammar.delimited_at b ≡ (body_format k).read b
+body_ends : (k : ConstraintKind) → AllEnd (body_format k).grammar
 body_ends kinds.Lifetime b = refl
 body_ends kinds.Confirm b = refl
 body_ends kinds.Extension b = refl
 
-abbrev second_of : (ConstraintKind × Constraint) × List ℕ → Result (Constraint × List ℕ) Fault
-second_of z = Ok (z.0.1, z.1)
-
-constraint_ends : (b : List ℕ) → constraint_format.grammar.delimited_at b ≡ constraint_format.read b
-unfolding behind_at
-constraint_ends b = go (kind_format.read b)
-  where
-    go : (r : Result (ConstraintKind × List ℕ) Fault) → ((r >>= λ x. (body_format x.0).grammar.delimited_at x.1 >>= with_first x.0) >>= second_of) ≡ ((r >>= λ x. (body_format x.0).read x.1 >>= with_first x.0) >>= second_of)
-    go (Ok x) = rw (body_ends x.0 x.1) refl
-    go (Err e) = refl
+constraint_ends : AllEnd constraint_format.grammar
+constraint_ends = called_ends kind_format body_format (λ b. refl) body_ends
 
 -- The name is a text.
 abbrev pub IsWellFormedConstraint : code.Constraint → Type 0

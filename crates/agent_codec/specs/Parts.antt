@@ -1,10 +1,10 @@
 -- Formats of messages: nothing at all, a number and what it calls for, and what is written of two
 -- values. The lemmas are proved, and need not be believed.
-use Rattle.std.proofs.Common.{◌≡◌, inl, inr, ◌<◌, ℕ, List, [], ◌++◌, append-nil, length, Result, Ok, refl, subst, sym, ap, ◌∙◌, arith}
+use Rattle.std.proofs.Common.{◌≡◌, inl, inr, ◌<◌, ℕ, List, [], ◌++◌, append-nil, length, Result, Ok, refl, subst, sym, ap, arith}
 use Rattle.std.proofs.lemmas.List.{length-append}
 use Rattle.std.specs.Int.{w8}
 use Rattle.ssh_key.specs.base.Formats.{Format, byte_format}
-use Rattle.ssh_key.specs.base.Grammars.{by_itself}
+use Rattle.ssh_key.specs.base.Grammars.{AllEnd, by_itself, ends}
 use Rattle.ssh_key.specs.base.Leaves.{SpellsByte, byte_normal}
 use Rattle.ssh_key.specs.base.Reading.{SpellsBoxed}
 use Rattle.ssh_key.specs.base.Needs.{NoNeed}
@@ -43,9 +43,9 @@ checked_read test read = record { same = λ b. refl }
 
 -- ---- what is written of two values, one behind the other
 
-pub both_spelled : {A B : Type 0} (f : Format A) (ends : (b : List ℕ) → f.grammar.delimited_at b ≡ f.read b) (T : B → List ℕ → Type 0) (x : A) (y : B) (p q : Parts) → (Fits p → f.Spells x (flat p)) → (Fits q → T y (flat q)) → Fits (p & q) → SpellsBoth f.Spells f.grammar.delimited_at T (x, y) (flat (p & q))
+pub both_spelled : {A B : Type 0} (f : Format A) (all : AllEnd f.grammar) (T : B → List ℕ → Type 0) (x : A) (y : B) (p q : Parts) → (Fits p → f.Spells x (flat p)) → (Fits q → T y (flat q)) → Fits (p & q) → SpellsBoth f.Spells f.grammar.delimited_at T (x, y) (flat (p & q))
 unfolding flat
-both_spelled f ends T x y p q first second fits =
+both_spelled f all T x y p q first second fits =
     let spelled = first (fits_first p q fits) in
     record {
       front = flat p;
@@ -53,7 +53,7 @@ both_spelled f ends T x y p q first second fits =
       first = spelled;
       second = second (fits_second p q fits);
       all = refl;
-      ends = inr (ends (flat p) ∙ f.grammar.alone x (flat p) spelled);
+      may_follow = ends f.grammar all x (flat p) (flat q) spelled;
     }
 
 -- ---- a number of one byte, and what it calls for
@@ -87,7 +87,7 @@ module _ {K M : Type 0} (kind_from : ℕ → Result K Fault) (Body : K → M →
           first = first;
           second = second (fits_second (number w8 n) p fits);
           all = refl;
-          ends = inr ((numbered kind_from).grammar.alone k (flat (number w8 n)) first);
+          may_follow = inr ((numbered kind_from).grammar.alone k (flat (number w8 n)) first);
         };
         makes = refl;
       }
@@ -102,7 +102,7 @@ module _ {K M : Type 0} (kind_from : ℕ → Result K Fault) (Body : K → M →
       first = record { inner = n; spelled = byte_normal n tt fits; makes = is };
       second = second;
       all = sym (append-nil (flat (number w8 n)));
-      ends = inl refl;
+      may_follow = inl refl;
     };
     makes = refl;
   }

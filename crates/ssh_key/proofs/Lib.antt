@@ -1,10 +1,10 @@
 pub mod Acceptance
+pub mod Behind
 pub mod Boxes
 pub mod Chosen
 pub mod CombinedReaders
 pub mod Entries
 pub mod Grammars
-pub mod Behind
 pub mod Judging
 pub mod Mapped
 pub mod Places

@@ -14,7 +14,7 @@ use Rattle.sshkey_base.specs.Causes.{Cause, NoMemory, encoding_cause}
 use Rattle.sshkey_base.specs.Formats.{Format, Begins, AcceptsBeginning}
 use Rattle.sshkey_base.specs.Grammars.{Grammar, by_itself, taken_before}
 use Rattle.sshkey_base.specs.Source.{Source, announced_len}
-use Rattle.sshkey_base.specs.Laws.{HasOneFront}
+use Rattle.sshkey_base.specs.Laws.{OneBeginning}
 use Rattle.sshkey_base.specs.Reading.{Gives, GivesWhole, Reads, IsRefused, AcceptsFront, AcceptsWhole}
 
 -- nothing stands behind what ended
@@ -23,19 +23,19 @@ ended y [] z e = (refl, ok_is y z e)
 ended y (b ∷ rest) z e = absurd cc
 
 -- what begins with a value is read as that value
-pub begun : {Y : Type 0} (f : Format Y) (y : Y) (bytes rest : List ℕ) → Begins f y bytes rest → f.read bytes ≡ Ok (y, rest)
-begun f y bytes rest h = ap f.read h.all ∙ taken_before f.grammar y h.front rest h.spelled h.ends
+pub read_of_beginning : {Y : Type 0} (f : Format Y) (y : Y) (bytes rest : List ℕ) → Begins f y bytes rest → f.read bytes ≡ Ok (y, rest)
+read_of_beginning f y bytes rest h = ap f.read h.all ∙ taken_before f.grammar y h.front rest h.spelled h.may_follow
 
 -- so bytes begin with one value alone
-pub one_beginning : {Y : Type 0} (f : Format Y) → HasOneFront f
+pub one_beginning : {Y : Type 0} (f : Format Y) → OneBeginning f
 one_beginning {Y} f x y bytes r q h k =
-    let both : (x, r) ≡ (y, q) = ok_is (x, r) (y, q) (sym (begun f x bytes r h) ∙ begun f y bytes q k) in
+    let both : (x, r) ≡ (y, q) = ok_is (x, r) (y, q) (sym (read_of_beginning f x bytes r h) ∙ read_of_beginning f y bytes q k) in
     let rests : r ≡ q = ap (λ (p : Y × List ℕ). p.1) both in
     let fronts : h.front ++ q ≡ k.front ++ q = ap (λ (l : List ℕ). h.front ++ l) (sym rests) ∙ sym h.all ∙ k.all in
     (ap (λ (p : Y × List ℕ). p.0) both, append_cancel_right h.front k.front q fronts, rests)
 
--- What the plain reader takes whole is a spelling, and a spelling is taken whole: of any values, and
--- of those that all end by themselves.
+-- What the plain reader takes whole is a spelling, and a spelling is taken whole: of any values,
+-- and of those that all end by themselves.
 module _ {Y : Type 0} {Spells : Y → List ℕ → Type 0} {read : Front Y} where
   pub whole_spelled_by : Grammar Spells read → (b : List ℕ) (y : Y) → whole read b ≡ Ok y → Spells y b
   whole_spelled_by g b y e =
@@ -58,10 +58,10 @@ module _ {X Y E : Type 0} (means : X → Y) (cause : E → Cause) where
   pub accepts_beginning : (f : Format Y) (s t : Source) (r : Result X E) → Gives means cause f.read s r t → AcceptsBeginning means f cause s r t
   accepts_beginning f s t (Ok x) h =
       let a = f.grammar.takes s.left (means x) t.left h.value in
-      record { front = a.0; spelled = a.1; all = a.2; ends = a.3 }
+      (record { front = a.0; spelled = a.1; all = a.2; may_follow = a.3 }, h.missing, h.outer)
   accepts_beginning f s t (Err e) h = λ other sound y rest begins.
       let refused = err_from_is_err_and (f.read s.left) (h.fault other sound) in
-      let taken = begun f y s.left rest begins in
+      let taken = read_of_beginning f y s.left rest begins in
       let is = refused.1 in cc
 
   module _ {Spells : Y → List ℕ → Type 0} {read : Front Y} where

@@ -73,7 +73,7 @@ module _ {F N T E Y : Type 0} (call : Once F (MutBor N × Unit {0}) (Result T E 
         ];
       }
 
--- A closure that stops as a format says answers so where a length passes.
+-- What a format says of a refusal says what becomes of lengths.
 past_of : {X Y E : Type 0} (cause : E → Cause) (read : Front Y) (needs overruns : List ℕ → ℕ → Type 0) (s : Source) (r : Result X E) → StopsBy cause read needs overruns s r → StopsPast cause needs overruns s r
 past_of cause read needs overruns s (Ok x) h = tt
 past_of cause read needs overruns s (Err e) h = h.past

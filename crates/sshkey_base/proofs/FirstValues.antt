@@ -24,7 +24,7 @@ module _ {A : Type 0} (read : Front A) (s t : Source) (begun : Begun read s t) w
   ]
 
   module _ (needs : List ℕ → ℕ → Type 0) where
-    needed : needs t.left t.missing → NeedsFirst needs read s.left s.missing
+    pub needed : needs t.left t.missing → NeedsFirst needs read s.left s.missing
     needed want = elim begun [
       | inl same ↦ inl (rw (← same) want)
       | inr ok ↦ inr ok
@@ -34,21 +34,22 @@ module _ {A : Type 0} (read : Front A) (s t : Source) (begun : Begun read s t) w
     pub first_asks : (c : Cause) → t.missing ≡ s.missing → (c ≡ NoMemory → IsSound t → needs t.left t.missing) → c ≡ NoMemory → IsSound s → NeedsFirst needs read s.left s.missing
     first_asks c same asks memory sound = needed (asks memory (rw same sound))
 
-    pub first_stopped : (over : List ℕ → ℕ → Type 0) (c : Cause) (before : Option A) → StillOverruns (λ _. read) over s before t → Stopped c read needs over t → OverrunsList (λ _. read) over s.left s.missing → (c ≡ Faulty Length) ⊎ RanOut c (NeedsFirst needs read) s
-    first_stopped over c before still h o = go (still o).0 before t.left refl (still o).1
+    -- the readers are that of all values, and that of those that end by themselves
+    pub first_stopped : (delimited_at : Front A) (over : List ℕ → ℕ → Type 0) (c : Cause) (before : Option A) → StillOverruns (λ _. delimited_at) over s before t → Stopped c delimited_at needs over t → OverrunsList (λ _. delimited_at) over s.left s.missing → (c ≡ Faulty Length) ⊎ RanOut c (NeedsFirst needs read) s
+    first_stopped delimited_at over c before still h o = go (still o).0 before t.left refl (still o).1
       where
         more : RanOut c needs t → RanOut c (NeedsFirst needs read) s
         more m = record { memory = m.memory; needed = needed m.needed }
 
-        taken : (n : ℕ) (r : Result (A × List ℕ) Fault) → IsOkAnd r (λ x. OverrunsWithin (λ _. read) over n (Some x.0) x.1 t.missing) → IsOk r
+        taken : (n : ℕ) (r : Result (A × List ℕ) Fault) → IsOkAnd r (λ x. OverrunsWithin (λ _. delimited_at) over n (Some x.0) x.1 t.missing) → IsOk r
         taken n (Ok x) w = refl
         taken n (Err e) w = absurd w
 
-        go : (n : ℕ) (before : Option A) (b : List ℕ) → b ≡ t.left → OverrunsWithin (λ _. read) over n before b t.missing → (c ≡ Faulty Length) ⊎ RanOut c (NeedsFirst needs read) s
+        go : (n : ℕ) (before : Option A) (b : List ℕ) → b ≡ t.left → OverrunsWithin (λ _. delimited_at) over n before b t.missing → (c ≡ Faulty Length) ⊎ RanOut c (NeedsFirst needs read) s
         go n before [] is w = absurd w
         go zero before (d ∷ b) is w = absurd w
         go (suc n) before (d ∷ b) is (inl w) = elim (h.past (rw is at w)) [
           | inl passes ↦ inl passes
           | inr m ↦ inr (more m)
         ]
-        go (suc n) before (d ∷ b) is (inr w) = inr (more (h.takes (taken n (read t.left) (rw is at w))))
+        go (suc n) before (d ∷ b) is (inr w) = inr (more (h.takes (taken n (delimited_at t.left) (rw is at w))))

@@ -1,5 +1,5 @@
 -- A format: how values are spelled, and what a reading call makes of bytes.
-use Rattle.std.specs.Prelude.{◌≡◌, ◌≢◌, ℕ, List, ◌++◌, Result, Ok, Err}
+use Rattle.std.specs.Prelude.{◌≡◌, ◌≢◌, ℕ, List, ◌++◌, Result, Ok, Err, refl}
 use Rattle.std.specs.Int.{w8, w32, w64}
 use Rattle.sshkey_model.specs.Parts.{Any, bytes}
 use Rattle.sshkey_model.specs.Texts.{string, text_at, texts_at}
@@ -7,7 +7,7 @@ use Rattle.sshkey_model.specs.Mpints.{mpint_at}
 use Rattle.sshkey_model.specs.Reading.{Front, Whole, whole, bytes_at, number_at, string_at, box_at}
 use Rattle.sshkey_model.specs.Grammar.{Spells, Checks}
 use Rattle.sshkey_base.specs.Causes.{Cause, NoMemory}
-use Rattle.sshkey_base.specs.Grammars.{Ends, Grammar, by_itself}
+use Rattle.sshkey_base.specs.Grammars.{AllEnd, Grammar, MayFollow, by_itself, ends}
 use Rattle.sshkey_base.specs.Source.{Source, IsSound}
 use Rattle.sshkey_base.specs.Needs.{NoNeed, NeedsBoxed, NeedsString}
 use Rattle.sshkey_base.specs.Stops.{NoOverrun, OverrunsString, OverrunsBoxed, OverrunsList, AreLengths, StopsBy}
@@ -28,13 +28,14 @@ pub record Format (A : Type 0) : Type 1 where
   pub needs : List ℕ → ℕ → Type 0
   -- where a stated length passes all of that
   pub overruns : List ℕ → ℕ → Type 0
-  -- the plain reader takes exactly the spellings, behind which bytes may stand where the value ends
-  -- by itself
+  -- the plain reader takes exactly the spellings, and bytes may stand behind a value that ends by
+  -- itself
   pub grammar : Grammar Spells read
   -- and refuses with `Length` where a length passes
   pub lengths : AreLengths read overruns
 
--- How a call refuses that reads it, whatever the source.
+-- How a call refuses that reads it, whatever the source: a value that ends by itself, and stands
+-- whole before the fault, is refused only for memory that it needs.
 abbrev pub Stops : {X Y E : Type 0} → (E → Cause) → Format Y → Source → Result X E → Type 0
 Stops cause f s r = StopsBy cause f.grammar.delimited_at f.needs f.overruns s r
 
@@ -43,12 +44,16 @@ pub record Begins {Y : Type 0} (f : Format Y) (y : Y) (bytes rest : List ℕ) : 
   pub front : List ℕ
   pub spelled : f.Spells y front
   pub all : bytes ≡ front ++ rest
-  pub ends : Ends f.grammar.delimited_at y front rest
+  pub may_follow : MayFollow f.grammar.delimited_at y front rest
 
--- The bytes that were taken spell the value. A sound source is refused when out of memory, or
--- because it begins with no value.
+-- Where all values end by themselves, each spelling begins whatever it stands in.
+pub begins : {Y : Type 0} (f : Format Y) → AllEnd f.grammar → (y : Y) (front rest : List ℕ) → f.Spells y front → Begins f y (front ++ rest) rest
+begins f all y front rest s = record { front = front; spelled = s; all = refl; may_follow = ends f.grammar all y front rest s }
+
+-- The bytes that were taken spell the value, and nothing else changed. A sound source is refused
+-- when out of memory, or because it begins with no value.
 abbrev pub AcceptsBeginning : {X Y E : Type 0} → (X → Y) → Format Y → (E → Cause) → Source → Result X E → Source → Type 0
-AcceptsBeginning means f cause s (Ok x) t = Begins f (means x) s.left t.left
+AcceptsBeginning means f cause s (Ok x) t = Begins f (means x) s.left t.left × (t.missing ≡ s.missing) × (t.outer ≡ s.outer)
 AcceptsBeginning {Y = Y} means f cause s (Err e) t = cause e ≢ NoMemory → IsSound s → (y : Y) (rest : List ℕ) → Begins f y s.left rest → ⊥
 
 -- ---- numbers (RFC 4251, section 5)
@@ -81,7 +86,7 @@ text_format = record { Spells = SpellsText; read = text_at; needs = NeedsString;
 abbrev pub mpint_format : Format (List ℕ)
 mpint_format = record { Spells = SpellsMpint; read = mpint_at; needs = NeedsString; overruns = OverrunsString; grammar = by_itself mpint_grammar; lengths = mpint_lengths }
 
--- texts up to the end of a string
+-- a string of texts, one behind the other
 abbrev pub texts_format : Format (List (List ℕ))
 texts_format = record { Spells = SpellsTexts; read = texts_at; needs = NeedsBoxed NeedsTexts; overruns = OverrunsBoxed (OverrunsList (λ before. text_at) OverrunsString); grammar = by_itself texts_grammar; lengths = texts_lengths }
 

@@ -20,7 +20,7 @@ OverrunsString b m = IsOkAnd (number_at w32 b) (λ x. length x.1 + m < x.0)
 abbrev pub OverrunsBytes : ℕ → List ℕ → ℕ → Type 0
 OverrunsBytes n b m = length b + m < n
 
--- The first value overruns, or it stands there and the second overruns behind it, which may depend
+-- The first value overruns, or it ends by itself and the second overruns behind it, which may depend
 -- on the first.
 abbrev pub OverrunsThen : {A : Type 0} → (List ℕ → ℕ → Type 0) → Front A → (A → List ℕ → ℕ → Type 0) → List ℕ → ℕ → Type 0
 OverrunsThen first read second b m = first b m ⊎ IsOkAnd (read b) (λ x. second x.0 x.1 m)
@@ -48,10 +48,10 @@ pub record RanOut (cause : Cause) (needs : List ℕ → ℕ → Type 0) (s : Sou
   pub memory : cause ≡ NoMemory
   pub needed : needs s.left s.missing
 
--- What is said of a refusal.
+-- What is said of a refusal, by the plain reader of the values that end by themselves.
 pub record Stopped {Y : Type 0} (cause : Cause) (read : Front Y) (needs overruns : List ℕ → ℕ → Type 0) (s : Source) : Type 0 where
-  -- What the plain reader takes of the bytes before the fault is refused only for memory that it
-  -- needs.
+  -- A value that ends by itself and stands whole before the fault is refused only for memory that
+  -- it needs.
   pub takes : IsOk (read s.left) → RanOut cause needs s
   -- A length that passes all that was announced is `Length`, unless memory ran out for a value
   -- before it.

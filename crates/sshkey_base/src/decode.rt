@@ -36,8 +36,8 @@ pub trait Decode: Sized {
     /// sound source is rejected with the fault of the plain reader, and with `Memory` only if the
     /// value needs some.
     ///
-    /// A value that ends by itself may be followed by any bytes. So do all values but encrypted
-    /// private keys: such a value takes all the bytes left, and is rejected where others follow it.
+    /// Any bytes may follow a value that ends by itself, as nearly every value does. Nothing may
+    /// follow one that does not: an encrypted private key, or a value whose last part is one.
     ///
     /// On a source with a fault, a value that is complete before the fault and ends by itself fails
     /// only with `Memory`, and only if it needs some; a stated length that exceeds all that was
@@ -181,10 +181,10 @@ pub fn decode_boxed<T: Decode + Drop, R: Reader>(
 
 /// Reads a value from the front, in the words of the grammar.
 ///
-/// The bytes taken spell the value, and the rest is left: nothing, unless the value ends by itself.
-/// Unless memory runs out, a sound source is rejected only if it begins with no value, and with
-/// `Memory` only if the value needs some: a stated length that exceeds what is left fails with
-/// `Length`.
+/// The bytes taken spell the value, and the rest is left. Nothing is left behind a value that does
+/// not end by itself. Unless memory runs out, a sound source is rejected only if it begins with no
+/// value, and with `Memory` only if the value needs some: a stated length that exceeds what is left
+/// fails with `Length`.
 pub fn decode_front<T: Decode, R: Reader>(alloc: Global, reader: &mut R) -> Result<T, T::Error>
     ensures gives { Gives T.means T.Error.cause T.format.read
         (R.source reader.old) result (R.source reader.new) }

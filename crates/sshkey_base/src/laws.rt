@@ -2,7 +2,7 @@
 //! make no call: each is a fact about the definitions.
 
 ghost use Rattle.sshkey_base.specs.Comparisons.{IsEqualityOf, IsOrderOf};
-ghost use Rattle.sshkey_base.specs.Laws.{ReadBack, HasOneFront};
+ghost use Rattle.sshkey_base.specs.Laws.{OneBeginning, ReadBackBeginning};
 ghost use Rattle.sshkey_base.specs.Mpint.{mpint_of};
 
 mod errors;
@@ -21,16 +21,16 @@ pub use sshkey_model::laws::{
     prefix_texts,
 };
 
-/// What is written of a well-formed value that fits is read back as that value, where nothing
-/// follows, and whatever follows a value that ends by itself.
+/// What is written of a well-formed value that fits is read back as that value where nothing
+/// follows it, and whatever follows it where the value ends by itself.
 pub fn read_back<T: NormalForm>()
-    ensures { ReadBack T.IsWellFormed T.normal T.means T.format }
+    ensures { ReadBackBeginning T.IsWellFormed T.normal T.means T.format }
 {}
 
 /// Bytes begin with one value at most, and with one spelling of it. So no bytes spell two values,
-/// and where values end by themselves no spelling begins another.
+/// and no spelling of a value that ends by itself begins another.
 pub fn one_front<T: Decode>()
-    ensures { HasOneFront T.format }
+    ensures { OneBeginning T.format }
 {}
 
 /// Two numbers are equal exactly if their bytes are. They are ordered by the first byte that

@@ -5,6 +5,7 @@ use Rattle.sshkey_model.specs.Reading.{Fault, ◌>>=◌, whole, string_at, numbe
 use Rattle.sshkey_model.specs.KeyDerivation.{Kdf, Bcrypt, KdfAlgorithm, NoDerivation, BcryptDerivation, BcryptOptions, no_options, bcrypt_options_at, kdf_options_at, kdf_algorithm_at, kdf_at}
 use Rattle.sshkey_model.proofs.CombinedReaders.{bind_assoc}
 use Rattle.sshkey_base.specs.Formats.{Format, number32_format, string_format, label_format}
+use Rattle.sshkey_base.specs.Grammars.{AllEnd}
 use Rattle.sshkey_base.specs.Labels.{label_at}
 use Rattle.sshkey_base.specs.Needs.{NoNeed}
 use Rattle.sshkey_base.proofs.MappedBoxes.{on_value, made, box_map}
@@ -44,7 +45,8 @@ abbrev pub options_format : KdfAlgorithm → Format Kdf
 options_format NoDerivation = none_format
 options_format BcryptDerivation = bcrypt_format
 
-pub options_end : (a : KdfAlgorithm) (b : List ℕ) → (options_format a).grammar.delimited_at b ≡ (options_format a).read b
+-- what either takes ends by itself
+pub options_end : (a : KdfAlgorithm) → AllEnd (options_format a).grammar
 options_end NoDerivation b = refl
 options_end BcryptDerivation b = refl
 

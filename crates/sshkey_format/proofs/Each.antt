@@ -1,7 +1,6 @@
 -- A loop that reads values up to the end: it leaves less each time, and asks for memory where its
 -- first value does, or stands.
-use Rattle.std.proofs.Common.{◌≡◌, ◌≢◌, ◌⊎◌, inl, inr, ◌<◌, ◌+◌, Bool, true, false, ℕ, zero, suc, Option, Some, List, [], ◌∷◌, length, IsOk, Result, Ok, Err, refl, ap, arith}
-use Rattle.std.specs.Prelude.{IsOkAnd}
+use Rattle.std.proofs.Common.{◌≡◌, ◌≢◌, ◌⊎◌, inl, inr, ◌<◌, ◌+◌, Bool, true, false, ℕ, Option, List, length, Result, Ok, ap, arith}
 use Rattle.std.proofs.lemmas.List.{length-append}
 use Rattle.sshkey_model.specs.Reading.{Fault, Length}
 use Rattle.sshkey_base.specs.Causes.{Cause, NoMemory, Faulty}
@@ -9,7 +8,8 @@ use Rattle.sshkey_base.specs.Formats.{Format}
 use Rattle.sshkey_base.specs.Grammars.{never_at}
 use Rattle.sshkey_base.specs.Reading.{IsRefused, Reads}
 use Rattle.sshkey_base.specs.Source.{Later, Source, IsSound, announced_len}
-use Rattle.sshkey_base.specs.Stops.{OverrunsWithin, RanOut, Stopped}
+use Rattle.sshkey_base.specs.Stops.{RanOut, Stopped}
+use Rattle.sshkey_base.proofs.FirstValues.{Begun, first_asks, first_stopped, still_begun}
 use Rattle.sshkey_base.proofs.ReadLists.{StillOverruns}
 use Rattle.sshkey_format.specs.ToEnd.{HasBytes, NeedsEach, OverrunsEach}
 
@@ -32,59 +32,23 @@ module _ {A : Type 0} (f : Format A) where
       let t = f.grammar.takes b x rest e in
       omega (arith, shows x t.0 t.1, ap length t.2, length-append t.0 rest)
 
-  -- Nothing was read yet, or the first value stands there.
-  abbrev pub Begun : Source → Source → Type 0
-  Begun s t = (t ≡ s) ⊎ IsOk (f.read s.left)
+  module _ (s t : Source) (begun : Begun f.read s t) (later : Later s t) (some : announced_len t ≢ 0) where
+    some_first : 0 < length s.left + s.missing
+    some_first = omega (arith, some, ap length later.left, length-append later.passed t.left, later.missing)
 
-  is_ok : {B : Type 0} (r : Result B Fault) (x : B) → r ≡ Ok x → IsOk r
-  is_ok r x e = rw e refl
+    -- a value is refused
+    pub each_asks : (c : Cause) → (c ≡ NoMemory → IsSound t → f.needs t.left t.missing) → c ≡ NoMemory → IsSound s → NeedsEach f s.left s.missing
+    each_asks c asks memory sound = (some_first, first_asks f.read s t begun f.needs c later.missing asks memory sound)
 
-  module _ (s t : Source) (begun : Begun s t) where
-    pub still_begun : {X : Type 0} (means : X → A) (x : X) (u : Source) → Reads means f.read t x u → IsOk (f.read s.left)
-    still_begun means x u r = elim begun [
-      | inl same ↦ is_ok (f.read s.left) (means x, u.left) (rw (← same) r.value)
-      | inr ok ↦ ok
+    pub each_stopped : (c : Cause) (before : Option A) → StillOverruns (λ _. f.grammar.delimited_at) f.overruns s before t → Stopped c f.grammar.delimited_at f.needs f.overruns t → OverrunsEach f s.left s.missing → (c ≡ Faulty Length) ⊎ RanOut c (NeedsEach f) s
+    each_stopped c before still h o = elim (first_stopped f.read s t begun f.needs f.grammar.delimited_at f.overruns c before still h o) [
+      | inl is ↦ inl is
+      | inr m ↦ inr (record { memory = m.memory; needed = (some_first, m.needed) })
     ]
 
-    module _ (later : Later s t) (some : announced_len t ≢ 0) where
-      some_first : 0 < length s.left + s.missing
-      some_first = omega (arith, some, ap length later.left, length-append later.passed t.left, later.missing)
+    -- there is no memory for a value that was read
+    pub full_needs : {X : Type 0} (means : X → A) (x : X) (u : Source) → Reads means f.read t x u → NeedsEach f s.left s.missing
+    full_needs means x u r = (some_first, inr (still_begun f.read s t begun means x u r))
 
-      needed : f.needs t.left t.missing → NeedsEach f s.left s.missing
-      needed want = (
-        some_first,
-        elim begun [
-          | inl same ↦ inl (rw (← same) want)
-          | inr ok ↦ inr ok
-        ],
-      )
-
-      -- a value is refused
-      pub each_asks : (c : Cause) → (c ≡ NoMemory → IsSound t → f.needs t.left t.missing) → c ≡ NoMemory → IsSound s → NeedsEach f s.left s.missing
-      each_asks c asks memory sound = needed (asks memory (rw later.missing sound))
-
-      pub each_stopped : (c : Cause) (before : Option A) → StillOverruns (λ _. f.grammar.delimited_at) f.overruns s before t → Stopped c f.grammar.delimited_at f.needs f.overruns t → OverrunsEach f s.left s.missing → (c ≡ Faulty Length) ⊎ RanOut c (NeedsEach f) s
-      each_stopped c before still h o = go (still o).0 before t.left refl (still o).1
-        where
-          more : RanOut c f.needs t → RanOut c (NeedsEach f) s
-          more m = record { memory = m.memory; needed = needed m.needed }
-
-          taken : (n : ℕ) (r : Result (A × List ℕ) Fault) → IsOkAnd r (λ x. OverrunsWithin (λ _. f.grammar.delimited_at) f.overruns n (Some x.0) x.1 t.missing) → IsOk r
-          taken n (Ok x) w = refl
-          taken n (Err e) w = absurd w
-
-          go : (n : ℕ) (before : Option A) (b : List ℕ) → b ≡ t.left → OverrunsWithin (λ _. f.grammar.delimited_at) f.overruns n before b t.missing → (c ≡ Faulty Length) ⊎ RanOut c (NeedsEach f) s
-          go n before [] is w = absurd w
-          go zero before (d ∷ b) is w = absurd w
-          go (suc n) before (d ∷ b) is (inl w) = elim (h.past (rw is at w)) [
-            | inl passes ↦ inl passes
-            | inr m ↦ inr (more m)
-          ]
-          go (suc n) before (d ∷ b) is (inr w) = inr (more (h.takes (taken n (f.grammar.delimited_at t.left) (rw is at w))))
-
-      -- there is no memory for a value that was read
-      pub full_needs : {X : Type 0} (means : X → A) (x : X) (u : Source) → Reads means f.read t x u → NeedsEach f s.left s.missing
-      full_needs means x u r = (some_first, inr (still_begun means x u r))
-
-      pub full_stopped : {X : Type 0} (means : X → A) (x : X) (u : Source) (c : Cause) → Reads means f.read t x u → c ≡ NoMemory → (c ≡ Faulty Length) ⊎ RanOut c (NeedsEach f) s
-      full_stopped means x u c r memory = inr (record { memory = memory; needed = full_needs means x u r })
+    pub full_stopped : {X : Type 0} (means : X → A) (x : X) (u : Source) (c : Cause) → Reads means f.read t x u → c ≡ NoMemory → (c ≡ Faulty Length) ⊎ RanOut c (NeedsEach f) s
+    full_stopped means x u c r memory = inr (record { memory = memory; needed = full_needs means x u r })

@@ -1,5 +1,5 @@
 -- A loop that reads so many values, one behind the other.
-use Rattle.std.proofs.Common.{◌≡◌, ◌⊎◌, inl, inr, IsOk, ◌≤◌, ◌<◌, ◌-◌, ℕ, suc, List, [], ◌∷◌, ◌++◌, append-nil, append_assoc, length, Result, Ok, Err, refl, sym, ap, ◌∙◌, arith}
+use Rattle.std.proofs.Common.{◌≡◌, inr, IsOk, ◌≤◌, ◌<◌, ◌-◌, ℕ, suc, List, [], ◌∷◌, ◌++◌, append-nil, append_assoc, length, Result, Ok, Err, refl, sym, ap, ◌∙◌, arith}
 use Rattle.std.proofs.lemmas.List.{length-append}
 use Rattle.std.proofs.lemmas.Result.{err_from_is_err_and}
 use Rattle.sshkey_model.specs.Reading.{Fault, ◌>>=◌, Front}
@@ -9,6 +9,7 @@ use Rattle.sshkey_base.specs.Formats.{Format}
 use Rattle.sshkey_base.specs.Reading.{Reads, IsRefused}
 use Rattle.sshkey_base.specs.Source.{Source}
 use Rattle.sshkey_base.specs.Stops.{NoOverrun, Stopped}
+use Rattle.sshkey_base.proofs.FirstValues.{Begun, needed, still_begun}
 use Rattle.sshkey_base.proofs.Stopping.{step_ok}
 use Rattle.sshkey_format.specs.Counted.{NeedsValues, times_at}
 
@@ -58,24 +59,15 @@ module _ {A : Type 0} (f : Format A) where
           rw behind (step_ok (times_at delimited_at k y.1) _ ok)
       go (Err fault) is ok = absurd cc
 
-  is_ok : {B : Type 0} (r : Result B Fault) (x : B) → r ≡ Ok x → IsOk r
-  is_ok r x e = rw e refl
-
   -- The values so far stand before what is left, and those behind them decide.
   pub record Gathers (n : ℕ) (s : Source) (done : List A) (t : Source) : Type 0 where
     pub missing : t.missing ≡ s.missing
     pub outer : t.outer ≡ s.outer
     pub rest : times_at item n s.left ≡ (times_at item (n - length done) t.left >>= onto done)
-    pub begun : (t ≡ s) ⊎ IsOk (item s.left)
+    pub begun : Begun item s t
     pub delimits : IsOk (times_at delimited_at n s.left) → IsOk (times_at delimited_at (n - length done) t.left)
 
   module _ (n : ℕ) (s t : Source) (done : List A) (h : Gathers n s done t) where
-    stands : {X : Type 0} (means : X → A) (x : X) (u : Source) → Reads means item t x u → IsOk (item s.left)
-    stands means x u r = elim h.begun [
-      | inl same ↦ is_ok (item s.left) (means x, u.left) (rw (← same) r.value)
-      | inr ok ↦ ok
-    ]
-
     pub gathers_more : {X : Type 0} (means : X → A) (x : X) (u : Source) → length done < n → Reads means item t x u → Gathers n s (done ++ means x ∷ []) u
     gathers_more means x u lt r =
         let k = n - length (done ++ means x ∷ []) in
@@ -85,7 +77,7 @@ module _ {A : Type 0} (f : Format A) where
           missing = r.missing ∙ h.missing;
           outer = r.outer ∙ h.outer;
           rest = h.rest ∙ step;
-          begun = inr (stands means x u r);
+          begun = inr (still_begun item s t h.begun means x u r);
           delimits = λ ok. rest_ok k t.left u.left (means x) r.value (rw is at h.delimits ok);
         }
 
@@ -108,23 +100,11 @@ module _ {A : Type 0} (f : Format A) where
           rw e f.2;
     }
 
-    needed : length done < n → f.needs t.left t.missing → NeedsValues f n s.left s.missing
-    needed lt want = (
-      omega arith,
-      elim h.begun [
-        | inl same ↦ inl (rw (← same) want)
-        | inr ok ↦ inr ok
-      ],
-    )
-
     pub gathers_stopped : (c : Cause) → length done < n → Stopped c delimited_at f.needs f.overruns t → Stopped c (times_at delimited_at n) (NeedsValues f n) NoOverrun s
     gathers_stopped c lt k = record {
       takes = λ ok.
           let inner : IsOk (times_at delimited_at (suc (n - suc (length done))) t.left) = rw (more lt) at h.delimits ok in
           let m = k.takes (first_ok (n - suc (length done)) t.left inner) in
-          record { memory = m.memory; needed = needed lt m.needed };
+          record { memory = m.memory; needed = (omega arith, needed item s t h.begun f.needs m.needed) };
       past = λ o. absurd o;
     }
-
-    pub full_needs : {X : Type 0} (means : X → A) (x : X) (u : Source) → length done < n → Reads means item t x u → NeedsValues f n s.left s.missing
-    full_needs means x u lt r = (omega arith, inr (stands means x u r))

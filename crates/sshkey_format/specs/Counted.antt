@@ -1,6 +1,6 @@
 -- A counted list: a number of four bytes, and so many values, one behind the other, of at least a
 -- byte each. The grammars are proved, and need not be believed.
-use Rattle.std.proofs.Common.{◌≡◌, ◌≤◌, ◌<◌, ◌+◌, ◌⊎◌, inl, inr, ℕ, zero, suc, false, ltb, List, [], ◌∷◌, ◌++◌, length, map, IsOk, Result, Ok, Err, refl, sym, ap, subst, ◌∙◌, append_assoc, arith}
+use Rattle.std.proofs.Common.{◌≡◌, ◌≤◌, ◌<◌, ◌+◌, inl, inr, ℕ, zero, suc, false, ltb, List, [], ◌∷◌, ◌++◌, length, map, Result, Ok, Err, refl, sym, ap, subst, ◌∙◌, append_assoc, arith}
 use Rattle.std.specs.Prelude.{nat_lt, if◌then◌else◌}
 use Rattle.std.proofs.lemmas.Bool.{lt-ltb, le-ltb, ltb-false}
 use Rattle.std.specs.List.{AllByRecursion}
@@ -10,8 +10,9 @@ use Rattle.sshkey_model.specs.Reading.{Fault, Length, ◌>>=◌, Front}
 use Rattle.sshkey_model.proofs.CombinedReaders.{bind_ok, fits_first, fits_second, ok_is, passed}
 use Rattle.sshkey_base.specs.Counts.{count_normal}
 use Rattle.sshkey_base.specs.Formats.{Format, number32_format}
-use Rattle.sshkey_base.specs.Grammars.{Ends, Grammar, taken_before}
+use Rattle.sshkey_base.specs.Grammars.{AllEnd, Grammar, MayFollow, ends, taken_before}
 use Rattle.sshkey_base.specs.Leaves.{count}
+use Rattle.sshkey_base.specs.Needs.{NeedsFirst}
 use Rattle.sshkey_base.specs.Stops.{AreLengths}
 use Rattle.sshkey_base.proofs.Writing.{length_both}
 use Rattle.sshkey_format.specs.Behind.{none_in}
@@ -21,10 +22,10 @@ use Rattle.sshkey_format.specs.Terms.{called}
 abbrev pub counted : {A : Type 0} → (A → Parts) → List A → Parts
 counted spell xs = count (length xs) & each spell xs
 
--- The bytes spell the values, one behind the other. Each that is followed by others ends by itself.
+-- The bytes spell the values, one behind the other. Each that bytes stand behind ends by itself.
 abbrev pub SpellsEach : {A : Type 0} → (A → List ℕ → Type 0) → Front A → List A → List ℕ → Type 0
 SpellsEach Spells delimited_at [] b = b ≡ []
-SpellsEach Spells delimited_at (x ∷ xs) b = (front : List ℕ) × (behind : List ℕ) × Spells x front × SpellsEach Spells delimited_at xs behind × (b ≡ front ++ behind) × Ends delimited_at x front behind
+SpellsEach Spells delimited_at (x ∷ xs) b = (front : List ℕ) × (behind : List ℕ) × Spells x front × SpellsEach Spells delimited_at xs behind × (b ≡ front ++ behind) × MayFollow delimited_at x front behind
 
 -- So many values, with at least a byte each.
 pub record SpellsValues {A : Type 0} (Spells : A → List ℕ → Type 0) (delimited_at : Front A) (n : ℕ) (xs : List A) (b : List ℕ) : Type 0 where
@@ -53,7 +54,7 @@ values_at item n b = if nat_lt (length b) n then Err Length else (times_at item 
 
 -- Some are wanted, and the first one needs memory, or stands there.
 abbrev pub NeedsValues : {A : Type 0} → Format A → ℕ → List ℕ → ℕ → Type 0
-NeedsValues item n b m = (0 < n) × (item.needs b m ⊎ IsOk (item.read b))
+NeedsValues item n b m = (0 < n) × NeedsFirst item.needs item.read b m
 
 -- So do as many as have bytes.
 abbrev pub NeedsCounted : {A : Type 0} → Format A → ℕ → List ℕ → ℕ → Type 0
@@ -88,10 +89,10 @@ module _ {A : Type 0} {S : A → List ℕ → Type 0} {read : Front A} (g : Gram
       (rw (g.before b x.0.0 x.0.1 more x.1, times_before n x.0.1 y.0.0 y.0.1 more y.1) refl)
 
   abbrev Times : ℕ → List ℕ → List A → List ℕ → Type 0
-  Times n b xs rest = (front : List ℕ) × (length xs ≡ n) × SpellsEach S g.delimited_at xs front × (b ≡ front ++ rest) × Ends (times_at g.delimited_at n) xs front rest
+  Times n b xs rest = (front : List ℕ) × (length xs ≡ n) × SpellsEach S g.delimited_at xs front × (b ≡ front ++ rest) × MayFollow (times_at g.delimited_at n) xs front rest
 
   -- a value, and those behind it
-  one_more : (n : ℕ) (x : A) (xs : List A) (front behind rest : List ℕ) → Ends g.delimited_at x front (behind ++ rest) → Ends (times_at g.delimited_at n) xs behind rest → Ends g.delimited_at x front behind × Ends (times_at g.delimited_at (suc n)) (x ∷ xs) (front ++ behind) rest
+  one_more : (n : ℕ) (x : A) (xs : List A) (front behind rest : List ℕ) → MayFollow g.delimited_at x front (behind ++ rest) → MayFollow (times_at g.delimited_at n) xs behind rest → MayFollow g.delimited_at x front behind × MayFollow (times_at g.delimited_at (suc n)) (x ∷ xs) (front ++ behind) rest
   unfolding times_at
   one_more n x xs front behind rest (inl none) k = let both = none_in behind rest none in (inl both.0, inl both.1)
   one_more n x xs front behind rest (inr h) (inl none) = (inr h, inl none)
@@ -105,7 +106,7 @@ module _ {A : Type 0} {S : A → List ℕ → Type 0} {read : Front A} (g : Gram
       let y = bind_ok (times_at read n x.0.1) _ (xs, rest) x.2 in
       let t = g.takes b x.0.0 x.0.1 x.1 in
       let u = times_takes n x.0.1 y.0.0 y.0.1 y.1 in
-      let ends : Ends g.delimited_at x.0.0 t.0 (u.0 ++ y.0.1) = rw (← u.3) t.3 in
+      let ends : MayFollow g.delimited_at x.0.0 t.0 (u.0 ++ y.0.1) = rw (← u.3) t.3 in
       let both = one_more n x.0.0 y.0.0 t.0 u.0 y.0.1 ends u.4 in
       subst (λ (p : List A × List ℕ). Times (suc n) b p.0 p.1) (ok_is (x.0.0 ∷ y.0.0, y.0.1) (xs, rest) y.2)
       (t.0 ++ u.0, ap (λ (k : ℕ). suc k) u.1, (t.0, u.0, t.1, u.2, refl, both.0), t.2 ∙ ap (λ (l : List ℕ). t.0 ++ l) u.3 ∙ sym (append_assoc t.0 u.0 y.0.1), both.1)
@@ -144,11 +145,11 @@ module _ {A : Type 0} {S : A → List ℕ → Type 0} {read : Front A} (g : Gram
       let took : ltb (length (b ++ more)) (length (rest ++ more) + n) ≡ false = le-ltb _ _ (omega (arith, ltb-false _ _ f.2, length-append b more, length-append rest more)) in
       are_filled n g.delimited_at (b ++ more) xs (rest ++ more) (first, times_before n b xs rest more f.1, took)
 
-  values_end : (n : ℕ) (xs : List A) (front rest : List ℕ) → n ≤ length front → Ends (times_at g.delimited_at n) xs front rest → Ends (values_at g.delimited_at n) xs front rest
+  values_end : (n : ℕ) (xs : List A) (front rest : List ℕ) → n ≤ length front → MayFollow (times_at g.delimited_at n) xs front rest → MayFollow (values_at g.delimited_at n) xs front rest
   values_end n xs front rest enough (inl none) = inl none
   values_end n xs front rest enough (inr h) = inr (are_filled n g.delimited_at front xs [] (le-ltb _ _ enough, h, le-ltb _ _ (omega (arith, enough))))
 
-  pub values_takes : (n : ℕ) (b : List ℕ) (xs : List A) (rest : List ℕ) → values_at read n b ≡ Ok (xs, rest) → (front : List ℕ) × SpellsValues S g.delimited_at n xs front × (b ≡ front ++ rest) × Ends (values_at g.delimited_at n) xs front rest
+  pub values_takes : (n : ℕ) (b : List ℕ) (xs : List A) (rest : List ℕ) → values_at read n b ≡ Ok (xs, rest) → (front : List ℕ) × SpellsValues S g.delimited_at n xs front × (b ≡ front ++ rest) × MayFollow (values_at g.delimited_at n) xs front rest
   values_takes n b xs rest e =
       let f = were_filled n read b xs rest e in
       let t = times_takes n b xs rest f.1 in
@@ -181,13 +182,13 @@ counted_format item = called number32_format (values_format item)
 
 -- ---- what is written is a spelling
 
-module _ {X A : Type 0} (means : X → A) (normal : X → Parts) (Is : X → Type 0) (item : Format A) (all : (b : List ℕ) → item.grammar.delimited_at b ≡ item.read b) (spelled : (x : X) → Is x → Fits (normal x) → item.Spells (means x) (flat (normal x))) where
+module _ {X A : Type 0} (means : X → A) (normal : X → Parts) (Is : X → Type 0) (item : Format A) (all : AllEnd item.grammar) (spelled : (x : X) → Is x → Fits (normal x) → item.Spells (means x) (flat (normal x))) where
   pub each_normal : (xs : List X) → AllByRecursion Is xs → Fits (each normal xs) → SpellsEach item.Spells item.grammar.delimited_at (map means xs) (flat (each normal xs))
   unfolding flat
   each_normal [] is fits = refl
   each_normal (x ∷ xs) is fits =
       let first = spelled x is.0 (fits_first (normal x) (each normal xs) fits) in
-      (flat (normal x), flat (each normal xs), first, each_normal xs is.1 (fits_second (normal x) (each normal xs) fits), refl, inr (all (flat (normal x)) ∙ item.grammar.alone (means x) (flat (normal x)) first))
+      (flat (normal x), flat (each normal xs), first, each_normal xs is.1 (fits_second (normal x) (each normal xs) fits), refl, ends item.grammar all (means x) (flat (normal x)) (flat (each normal xs)) first)
 
   module _ (shows : (x : X) → 0 < length (flat (normal x))) where
     each_shows : (xs : List X) → length xs ≤ length (flat (each normal xs))
@@ -207,7 +208,7 @@ module _ {X A : Type 0} (means : X → A) (normal : X → Parts) (Is : X → Typ
             first = first;
             second = record { number = len; each = each_normal xs is (fits_second (count (length xs)) (each normal xs) fits); bytes = each_shows xs };
             all = refl;
-            ends = inr (number32_format.grammar.alone (length xs) (flat (count (length xs))) first);
+            may_follow = inr (number32_format.grammar.alone (length xs) (flat (count (length xs))) first);
           };
           makes = refl;
         }

@@ -8,7 +8,7 @@ use Rattle.sshkey_model.specs.Parts.{bytes}
 use Rattle.sshkey_model.proofs.CombinedReaders.{literal_reads}
 use Rattle.sshkey_model.proofs.Grammars.{grammar}
 use Rattle.sshkey_base.specs.Formats.{Format}
-use Rattle.sshkey_base.specs.Grammars.{Grammar, by_itself}
+use Rattle.sshkey_base.specs.Grammars.{AllEnd, Grammar, by_itself}
 use Rattle.sshkey_base.specs.Lengths.{boxed_lengths, checked_lengths, no_lengths}
 use Rattle.sshkey_base.specs.Needs.{NoNeed, NeedsThen, NeedsBoxed}
 use Rattle.sshkey_base.specs.Reading.{SpellsBoxed}
@@ -31,7 +31,8 @@ module _ {A B : Type 0} {over : List ℕ → ℕ → Type 0} {S : A → List ℕ
       go (Ok x) e o = rw (f.same b x e, g x.0 x.1 m o) refl
       go (Err f) e o = absurd o
 
--- a value, and behind it what that value calls for
+-- A value, and behind it what that value calls for. A length behind the first is met only where the
+-- first ends by itself; memory is asked for behind whatever was read.
 abbrev pub choice : {A B : Type 0} → Format A → (A → Format B) → Format (A × B)
 choice first second = record {
   Spells = SpellsThen first.Spells first.grammar.delimited_at (λ a. (second a).Spells);
@@ -148,4 +149,14 @@ module _ {A B : Type 0} where
 
       go : (r : Result (A × List ℕ) Fault) → ((r >>= λ x. second x.0 x.1 >>= with_first x.0) >>= second_of) ≡ (r >>= λ x. second x.0 x.1)
       go (Ok x) = behind x.0 (second x.0 x.1)
+      go (Err e) = refl
+
+module _ {A B : Type 0} (first : Format A) (second : A → Format B) where
+  -- where both always do, it ends by itself
+  pub called_ends : AllEnd first.grammar → ((a : A) → AllEnd (second a).grammar) → AllEnd (called first second).grammar
+  unfolding behind_at
+  called_ends f g b = rw (f b) (go (first.read b))
+    where
+      go : (r : Result (A × List ℕ) Fault) → ((r >>= λ x. (second x.0).grammar.delimited_at x.1 >>= with_first x.0) >>= second_of) ≡ ((r >>= λ x. (second x.0).read x.1 >>= with_first x.0) >>= second_of)
+      go (Ok x) = rw (g x.0 x.1) refl
       go (Err e) = refl

@@ -1,11 +1,12 @@
--- Values that stand up to the end, without their number: so they take all that is left. The grammar
--- is proved, and need not be believed.
-use Rattle.std.proofs.Common.{◌≡◌, ◌≤◌, ◌<◌, ◌+◌, ◌⊎◌, inl, inr, ℕ, zero, suc, Option, None, Some, List, [], ◌∷◌, length, IsOk, Result, Ok, Err, refl, sym, ap, subst, ◌∙◌, arith}
+-- Values that fill a string, without their number: so nothing may follow them. The grammar is
+-- proved, and need not be believed.
+use Rattle.std.proofs.Common.{◌≡◌, ◌≤◌, ◌<◌, ◌+◌, inl, inr, ℕ, zero, suc, Option, None, Some, List, [], ◌∷◌, length, Result, Ok, Err, refl, sym, ap, subst, ◌∙◌, arith}
 use Rattle.std.specs.Prelude.{IsOkAnd}
 use Rattle.std.proofs.lemmas.List.{length-append}
 use Rattle.sshkey_base.specs.Formats.{Format}
 use Rattle.sshkey_base.specs.Grammars.{Grammar, taken_before, to_the_end}
 use Rattle.sshkey_base.specs.Lengths.{to_end_lengths}
+use Rattle.sshkey_base.specs.Needs.{NeedsFirst}
 use Rattle.sshkey_base.specs.Reading.{to_end}
 use Rattle.sshkey_base.specs.Stops.{AreLengths, OverrunsList, OverrunsWithin}
 use Rattle.sshkey_format.specs.Counted.{SpellsEach}
@@ -22,7 +23,7 @@ each_at item = to_end (list_whole (λ _. item.read))
 
 -- The first one needs memory, or stands there.
 abbrev pub NeedsEach : {A : Type 0} → Format A → List ℕ → ℕ → Type 0
-NeedsEach item b m = (0 < length b + m) × (item.needs b m ⊎ IsOk (item.read b))
+NeedsEach item b m = (0 < length b + m) × NeedsFirst item.needs item.read b m
 
 -- One of them overruns.
 abbrev pub OverrunsEach : {A : Type 0} → Format A → List ℕ → ℕ → Type 0
@@ -61,18 +62,18 @@ module _ {A : Type 0} {S : A → List ℕ → Type 0} {read : Front A} (g : Gram
       let first : read (c ∷ b) ≡ Ok (x, s.1) = ap read s.4 ∙ taken_before g x s.0 s.1 s.2 s.5 in
       rw (first, each_again n (Some x) xs s.1 less s.3) refl
 
-  pub values_take : (b : List ℕ) (xs : List A) (rest : List ℕ) → to_end (list_whole (λ _. read)) b ≡ Ok (xs, rest) → SpellsEach S g.delimited_at xs b × (rest ≡ [])
-  values_take b xs rest e =
+  pub to_end_takes : (b : List ℕ) (xs : List A) (rest : List ℕ) → to_end (list_whole (λ _. read)) b ≡ Ok (xs, rest) → SpellsEach S g.delimited_at xs b × (rest ≡ [])
+  to_end_takes b xs rest e =
       let x = bind_ok (list_whole (λ _. read) b) _ (xs, rest) e in
       let both : (x.0, []) ≡ (xs, rest) = ok_is (x.0, []) (xs, rest) x.2 in
       let is : x.0 ≡ xs = ap (λ (p : List A × List ℕ). p.0) both in
       (each_takes (length b) None b xs (rw is at x.1), sym (ap (λ (p : List A × List ℕ). p.1) both))
 
-  pub values_again : (xs : List A) (b : List ℕ) → SpellsEach S g.delimited_at xs b → to_end (list_whole (λ _. read)) b ≡ Ok (xs, [])
-  values_again xs b s = rw (each_again (length b) None xs b (omega arith) s) refl
+  pub to_end_alone : (xs : List A) (b : List ℕ) → SpellsEach S g.delimited_at xs b → to_end (list_whole (λ _. read)) b ≡ Ok (xs, [])
+  to_end_alone xs b s = rw (each_again (length b) None xs b (omega arith) s) refl
 
-  abbrev pub values_whole : Grammar (SpellsEach S g.delimited_at) (to_end (list_whole (λ _. read)))
-  values_whole = to_the_end values_take values_again
+  abbrev pub to_end_grammar : Grammar (SpellsEach S g.delimited_at) (to_end (list_whole (λ _. read)))
+  to_end_grammar = to_the_end to_end_takes to_end_alone
 
   -- where a value ends by itself, it is read
   over_read : (over : List ℕ → ℕ → Type 0) (n : ℕ) (before : Option A) (b : List ℕ) (m : ℕ) → OverrunsWithin (λ _. g.delimited_at) over n before b m → OverrunsWithin (λ _. read) over n before b m
@@ -91,12 +92,12 @@ module _ {A : Type 0} {S : A → List ℕ → Type 0} {read : Front A} (g : Gram
 -- ---- the format
 
 -- values, one behind the other, each of which has a byte
-abbrev pub values : {A : Type 0} (item : Format A) → HasBytes item → Format (List A)
-values item shows = record {
+abbrev pub values_to_end : {A : Type 0} (item : Format A) → HasBytes item → Format (List A)
+values_to_end item shows = record {
   Spells = SpellsEach item.Spells item.grammar.delimited_at;
   read = each_at item;
   needs = NeedsEach item;
   overruns = OverrunsEach item;
-  grammar = values_whole item.grammar shows;
+  grammar = to_end_grammar item.grammar shows;
   lengths = each_lengths item.grammar shows item.overruns item.lengths;
 }

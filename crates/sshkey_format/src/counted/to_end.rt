@@ -17,6 +17,9 @@ use std::alloc::Global;
 ///
 /// Fails with the first error of a value. The list is allocated only once its first value was read.
 ///
+/// No list ends by itself, so of a source with a fault one thing is promised: a stated length that
+/// exceeds all that was announced fails with `Length`, unless memory ran out for a value before it.
+///
 /// [`encode_each`]: sshkey_base::encode_each
 #[tactic(auto, using(sshkey_base::proofs::Places::places))]
 pub fn decode_each<T: Decode + Drop, R: Reader>(

@@ -46,4 +46,4 @@ returns-in_err-decode-clause-asks g c =
 pub returns-in_err-decode-clause-past : goal.returns-in_err-decode-clause-past
 returns-in_err-decode-clause-past g c =
     let p = err_from_is_err_and c.from_residual.result c.from_residual.ensures.1 in
-    rw (p.1, p.2) (first_stopped text_at _ _ c.reads.invariant.1 NeedsString OverrunsString _ _ c.reads.invariant.0.2 c.in_err-decode.ensures.past)
+    rw (p.1, p.2) (first_stopped text_at _ _ c.reads.invariant.1 NeedsString text_at OverrunsString _ _ c.reads.invariant.0.2 c.in_err-decode.ensures.past)

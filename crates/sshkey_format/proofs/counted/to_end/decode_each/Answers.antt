@@ -3,9 +3,10 @@ use Rattle.std.proofs.lemmas.List.{map-append}
 use Rattle.std.proofs.lemmas.Result.{err_from_is_err_and}
 use Rattle.sshkey_base.specs.Causes.{encoding_cause}
 use Rattle.sshkey_base.specs.Source.{announced_len}
+use Rattle.sshkey_base.proofs.FirstValues.{still_begun}
 use Rattle.sshkey_base.proofs.Places.{later_none, later_then}
 use Rattle.sshkey_base.proofs.ReadLists.{collects_none, collects_more, collects_refused, collects_end, overruns_more}
-use Rattle.sshkey_format.proofs.Each.{each_asks, each_stopped, end_stopped, full_needs, full_refused, full_stopped, leaves_less, some_left, still_begun}
+use Rattle.sshkey_format.proofs.Each.{each_asks, each_stopped, end_stopped, full_needs, full_refused, full_stopped, leaves_less, some_left}
 use Rattle.sshkey_format.proofs.counted.to_end.decode_each.Goals as goal
 
 pub returns-in_err-decode-clause-gives : goal.returns-in_err-decode-clause-gives
@@ -67,7 +68,7 @@ reads-preserved g c =
     let r = c.in_ok-decode.ensures.gives in
     let less = leaves_less f c.requires _ _ _ r.value in
     let all : map means c.add.new.values.items ≡ map means c.reads.values.items ++ means c.in_ok-decode.field-0 ∷ [] = ap (λ (xs : _). map means xs) c.in_ok-add.ensures.added ∙ map-append means _ _ in
-    ((Some (means c.in_ok-decode.field-0), rw all (collects_more (λ _. f.read) means _ _ _ _ _ _ c.reads.invariant.0.1 r less), overruns_more (λ _. f.grammar.delimited_at) f.overruns means f.read f.lengths (g.R.Reader.source c.args.reader.now) _ _ _ f.grammar.same _ c.reads.invariant.0.2 r), inr (still_begun f _ _ c.reads.invariant.1 means _ _ r), later_then _ _ _ c.reads.invariant.2 c.in_ok-decode.ensures.later)
+    ((Some (means c.in_ok-decode.field-0), rw all (collects_more (λ _. f.read) means _ _ _ _ _ _ c.reads.invariant.0.1 r less), overruns_more (λ _. f.grammar.delimited_at) f.overruns means f.read f.lengths (g.R.Reader.source c.args.reader.now) _ _ _ f.grammar.same _ c.reads.invariant.0.2 r), inr (still_begun f.read _ _ c.reads.invariant.1 means _ _ r), later_then _ _ _ c.reads.invariant.2 c.in_ok-decode.ensures.later)
 
 pub returns-clause-later : goal.returns-clause-later
 returns-clause-later g c = c.reads.invariant.2
