@@ -1,6 +1,6 @@
 -- Which values end by themselves, and that a plain reader takes exactly the spellings. Where all
--- values end by themselves, that is the model's `IsGrammar` (`by_itself`, `all_end`). The lemmas are
--- proved, and need not be believed.
+-- values do, that is the model's `IsGrammar` (`by_itself`, `all_end`). The lemmas are proved, and
+-- need not be believed.
 use Rattle.std.proofs.Common.{◌≡◌, ◌⊎◌, inl, inr, ℕ, List, [], ◌++◌, append-nil, append_assoc, Ok, Err, refl, sym, ap, ◌∙◌}
 use Rattle.sshkey_model.specs.Reading.{Length, Front}
 use Rattle.sshkey_model.specs.Grammar.{IsGrammar}

@@ -20,8 +20,8 @@ OverrunsString b m = IsOkAnd (number_at w32 b) (λ x. length x.1 + m < x.0)
 abbrev pub OverrunsBytes : ℕ → List ℕ → ℕ → Type 0
 OverrunsBytes n b m = length b + m < n
 
--- The first value overruns, or it ends by itself and the second overruns behind it, which may depend
--- on the first.
+-- The first value overruns, or it ends by itself and the second overruns behind it, which may
+-- depend on the first.
 abbrev pub OverrunsThen : {A : Type 0} → (List ℕ → ℕ → Type 0) → Front A → (A → List ℕ → ℕ → Type 0) → List ℕ → ℕ → Type 0
 OverrunsThen first read second b m = first b m ⊎ IsOkAnd (read b) (λ x. second x.0 x.1 m)
 

@@ -143,6 +143,7 @@ option_lengths before b m (inr o) = go (text_at b) o
 pub options_lengths : AreLengths options_value_at (OverrunsBoxed (OverrunsList item OverrunsOption))
 options_lengths b m o = sym (options_is b) ∙ box_list_lengths option_lengths b m o
 
--- a string of options (PROTOCOL.certkeys): memory is needed where the name of the first stands in it
+-- a string of options (PROTOCOL.certkeys): memory is needed where the name of the first stands in
+-- it
 abbrev pub options_format : Format (List CertificateOption)
 options_format = record { Spells = SpellsOptions; read = options_value_at; needs = NeedsBoxed HasString; overruns = OverrunsBoxed (OverrunsList item OverrunsOption); grammar = by_itself options_grammar; lengths = options_lengths }
