@@ -1,5 +1,5 @@
 -- A private key of the parts that were read.
-use Rattle.std.proofs.Common.{◌≡◌, ℕ, ◌<◌, List, [], ◌∷◌, length, Option, Some, option_map, Result, Ok, Err, IsErrAnd, sym, ap, ◌∙◌, arith}
+use Rattle.std.proofs.Common.{◌≡◌, ℕ, ◌<◌, List, [], ◌∷◌, length, Option, Some, option_map, Result, Ok, Err, IsOk, IsErrAnd, refl, sym, ap, ◌∙◌, arith}
 use Rattle.sshkey_model.specs.Reading.{Fault, TrailingKeyData, ◌>>=◌, box_at}
 use Rattle.sshkey_model.specs.Keys.{Key}
 use Rattle.sshkey_model.specs.KeyDerivation.{Cipher, Kdf}
@@ -8,11 +8,12 @@ use Rattle.sshkey_model.proofs.CombinedReaders.{bind_ok, ok_is}
 use Rattle.sshkey_base.specs.Causes.{Cause, Faulty}
 use Rattle.sshkey_base.specs.Source.{Source, announced_len}
 use Rattle.sshkey_base.specs.Reading.{Reads, IsRefused}
+use Rattle.sshkey_base.specs.Stops.{Stopped}
 use Rattle.sshkey_base.proofs.MappedBoxes.{on_value}
 use Rattle.sshkey_private.specs.Inner.{inner_at, padded_below}
 use Rattle.sshkey_private.specs.PrivateKeyReaders.{last_of, sealed_at, sealed_with, unencrypted_below, last_encrypted_at}
 use Rattle.sshkey_private.proofs.InnerReaders.{Part, some_part, boxed_is}
-use Rattle.sshkey_private.proofs.KeyReaders.{unencrypted_key}
+use Rattle.sshkey_private.specs.PrivateKeySteps.{unencrypted_key}
 
 -- ---- not encrypted
 
@@ -35,6 +36,17 @@ module _ {X I : Type 0} (means : X → PrivateKey) (part : I → Option Unencryp
       go : (r : Result (Part × List ℕ) Fault) → IsErrAnd (r >>= on_value some_part) (λ f. c ≡ Faulty f) → IsErrAnd (r >>= unencrypted_key) (λ f. c ≡ Faulty f)
       go (Ok x) e = absurd e
       go (Err f) e = e
+
+  pub unencrypted_stopped : (c : Cause) (needs overruns : List ℕ → ℕ → Type 0) (s : Source) → Stopped c (box_at (padded_below limit (inner_at public))) needs overruns s → Stopped c (unencrypted_below limit public) needs overruns s
+  unfolding unencrypted_below
+  unencrypted_stopped c needs overruns s h = record {
+    takes = λ ok. h.takes (rw (boxed_is limit public s.left) (go (box_at (padded_below limit (private_part_at public)) s.left) ok));
+    past = h.past;
+  }
+    where
+      go : (r : Result (Part × List ℕ) Fault) → IsOk (r >>= unencrypted_key) → IsOk (r >>= on_value some_part)
+      go (Ok x) ok = refl
+      go (Err f) ok = absurd cc
 
 -- ---- encrypted
 

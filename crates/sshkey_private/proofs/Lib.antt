@@ -8,4 +8,4 @@ pub mod KeyValues
 pub mod KeyForms
 pub mod NewKeys
 pub mod WrittenKeys
-pub mod Passing
+pub mod Stopping

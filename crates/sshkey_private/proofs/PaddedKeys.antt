@@ -14,8 +14,10 @@ use Rattle.sshkey_private.specs.Inner.{padded_below}
 use Rattle.sshkey_private.specs.PaddedKeys.{padded_private_key, SpellsPaddedKey}
 use Rattle.sshkey_private.specs.PrivateKeyReaders.{SpellsPrivateKey, private_value_at, one_at, unencrypted_below, last_encrypted_at, last_content_at, steps_at, padded_value_at}
 use Rattle.sshkey_private.proofs.PaddedKeyReaders.{Part, part_reads, counted, Content, counted_part_at, counted_content, uncounted, counted_content_at, Chosen, chosen, counted_key_at, counted_key_reads}
-use Rattle.sshkey_private.proofs.KeyReaders as keys
-use Rattle.sshkey_private.proofs.KeyReaders.{Opened, opening, opened_at, opening_is, unencrypted_key, encrypted_is, taken}
+use Rattle.sshkey_private.specs.PrivateKeySteps as keys
+use Rattle.sshkey_private.specs.PrivateKeySteps.{Opened, opening, opened_at, opening_is, unencrypted_key, encrypted_is}
+use Rattle.sshkey_private.specs.PrivateKeyGrammars.{nothing_behind}
+use Rattle.sshkey_private.proofs.KeyReaders.{taken}
 
 -- ---- the private part
 
@@ -94,10 +96,6 @@ steps_are b = rw (opening_is b, counted_is b) (sym (go (opened_at b)))
     go : (r : Result (Opened × List ℕ) Fault) → (((r >>= content_behind) >>= last) >>= bare) ≡ ((r >>= on_value opening) >>= λ h. last_content_at 256 h.0.cipher h.0.kdf h.0.public h.1)
     go (Ok h) = content_is h.0.0.cipher h.0.0.kdf h.0.0.public h.0.1 h.1
     go (Err e) = refl
-
-nothing_behind : (k : PrivateKey) → may_precede k [] ≡ true
-nothing_behind (Unencrypted k) = refl
-nothing_behind (Encrypted k) = refl
 
 ended : (x : PrivateKey) (rest : List ℕ) (y : PrivateKey) → end_of x rest ≡ Ok y → (rest ≡ []) × (x ≡ y)
 ended x [] y e = (refl, ok_is x y e)

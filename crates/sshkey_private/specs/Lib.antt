@@ -3,6 +3,8 @@ pub mod Inner
 pub mod PrivateKeyReaders
 pub mod PaddedKeys
 pub mod PrivateKeyFormats
+pub mod PrivateKeySteps
+pub mod PrivateKeyGrammars
 pub mod Openings
 pub mod Forms
 pub mod PrivateKeys

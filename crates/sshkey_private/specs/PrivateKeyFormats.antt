@@ -12,7 +12,7 @@ use Rattle.sshkey_model.proofs.CombinedReaders.{wide32, bind_assoc, number_reads
 use Rattle.sshkey_model.proofs.Grammars.{grammar}
 use Rattle.sshkey_base.specs.Formats.{Format, number32_format, label_format}
 use Rattle.sshkey_base.specs.Labels.{label_at}
-use Rattle.sshkey_base.specs.Needs.{NoNeed, HasString, NeedsString, NeedsBoxed, NeedsThen}
+use Rattle.sshkey_base.specs.Needs.{NoNeed, NeedsString, NeedsBoxed, NeedsThen}
 use Rattle.sshkey_base.specs.Stops.{OverrunsString, OverrunsThen}
 use Rattle.sshkey_format.specs.Behind.{behind_at}
 use Rattle.sshkey_format.specs.Terms.{◌then◌, boxed, literal_format, IsMapped, made_of}
@@ -89,7 +89,3 @@ OverrunsContent c k b m = (is_held c k ≡ true) × OverrunsString b m
 -- a length of the opening, or behind it that of the private part
 abbrev pub OverrunsPrivateKey : List ℕ → ℕ → Type 0
 OverrunsPrivateKey = OverrunsThen opening_parts.overruns opening_at (λ h. OverrunsContent h.cipher h.kdf)
-
--- memory may have run out for the opening, or for the private part, however much of it stands there
-abbrev pub MayRunOut : List ℕ → ℕ → Type 0
-MayRunOut = NeedsThen opening_parts.needs opening_at (λ h. HasString)

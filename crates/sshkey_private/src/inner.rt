@@ -3,10 +3,10 @@
 ghost use Rattle.std.specs.Prelude.{◌≡◌, true, IfOk, suc};
 ghost use Rattle.sshkey_base.specs.Answers.{AnswersAlways};
 ghost use Rattle.sshkey_base.specs.Causes.{cause};
-ghost use Rattle.sshkey_base.specs.Needs.{Asks, NoNeed, NeedsBoxed, HasString};
+ghost use Rattle.sshkey_base.specs.Needs.{Asks, NoNeed, NeedsBoxed};
 ghost use Rattle.sshkey_base.specs.Reading.{Gives, to_end};
 ghost use Rattle.sshkey_base.specs.Source.{Later};
-ghost use Rattle.sshkey_base.specs.Stops.{OverrunsString, StopsPast};
+ghost use Rattle.sshkey_base.specs.Stops.{OverrunsString, StopsBy};
 ghost use Rattle.sshkey_keypairs.specs.KeypairFormats.{keypair_format};
 ghost use Rattle.sshkey_keypairs.specs.Keypairs.{pair_of};
 ghost use Rattle.sshkey_keys.specs.Keys.{key_of};
@@ -49,7 +49,9 @@ pub(crate) fn decode_inner<R: Reader>(
     ensures later { Later (R.source reader.old) (R.source reader.new) }
     ensures asks { Asks cause (NeedsBoxed (NeedsPadded (NeedsInner (key_of public.now))))
         (R.source reader.old) result }
-    ensures past { StopsPast cause HasString OverrunsString (R.source reader.old) result }
+    ensures past { StopsBy cause (box_at (padded_below (suc most) (inner_at (key_of public.now))))
+        (NeedsBoxed (NeedsPadded (NeedsInner (key_of public.now)))) OverrunsString
+        (R.source reader.old) result }
 {
     reader.read_prefixed(|part| padded_inner_from(alloc, part, public, most))
 }

@@ -58,7 +58,7 @@ impl PrivateKey {
     ghost use Rattle.sshkey_base.specs.Needs.{Asks};
     ghost use Rattle.sshkey_base.specs.Reading.{AcceptsWhole, Gives, GivesWhole};
     ghost use Rattle.sshkey_base.specs.Source.{Later, all_of};
-    ghost use Rattle.sshkey_base.specs.Stops.{StopsPast};
+    ghost use Rattle.sshkey_base.specs.Stops.{StopsBy};
     ghost use Rattle.sshkey_base.specs.declared.error.Error.TheVariants as wide;
     ghost use Rattle.sshkey_keys.specs.Blobs.{MakesBlob};
     ghost use Rattle.sshkey_keys.specs.Fingerprints.{GivesFingerprint, IsShort};
@@ -69,9 +69,9 @@ impl PrivateKey {
     ghost use Rattle.sshkey_model.specs.Reading.{whole};
     ghost use Rattle.sshkey_ciphers.specs.Ciphers.{cipher_of, kdf_of};
     ghost use Rattle.sshkey_private.specs.Comparisons.{seen};
-    ghost use Rattle.sshkey_private.specs.PrivateKeyReaders.{SpellsPrivateKey, private_value_at, padded_value_at};
+    ghost use Rattle.sshkey_private.specs.PrivateKeyReaders.{SpellsPrivateKey, private_value_at, delimited_value_at, padded_value_at};
     ghost use Rattle.sshkey_private.specs.PaddedKeys.{SpellsPaddedKey};
-    ghost use Rattle.sshkey_private.specs.PrivateKeyFormats.{NeedsPrivateKey, OverrunsPrivateKey, MayRunOut};
+    ghost use Rattle.sshkey_private.specs.PrivateKeyFormats.{NeedsPrivateKey, OverrunsPrivateKey};
     ghost use Rattle.sshkey_private.specs.PrivateKeys.{private_of, is_encrypted, data_of, outer_of, with_comment, HasWrittenComment, GivesNew};
     ghost use Rattle.sshkey_public.specs.PublicKeys.{public_of, comment_of, data_of as key_data_of};
 
@@ -138,15 +138,17 @@ impl PrivateKey {
     /// - `Crypto`: a ciphertext that is not whole blocks
     /// - `Error::TrailingData`, with their number: bytes after an encrypted key
     ///
-    /// Of a source with a fault, a stated length of the opening, or of the private part, that
-    /// passes all that was announced is `Length`, unless memory ran out for a value before it; how
-    /// else it is rejected is open.
+    /// On a source with a fault, a key that is not encrypted and complete before the fault fails
+    /// only with `Memory`, and only if it needs some; a stated length of the opening, or of the
+    /// private part, that passes all that was announced is `Length`, unless memory ran out for a
+    /// value before it. How else such a source is rejected is open.
     pub fn decode<R: Reader>(alloc: Global, reader: &mut R) -> Result<PrivateKey>
         ensures gives { Gives private_of cause private_value_at
             (R.source reader.old) result (R.source reader.new) }
         ensures later { Later (R.source reader.old) (R.source reader.new) }
         ensures asks { Asks cause NeedsPrivateKey (R.source reader.old) result }
-        ensures past { StopsPast cause MayRunOut OverrunsPrivateKey (R.source reader.old) result }
+        ensures past { StopsBy cause delimited_value_at NeedsPrivateKey OverrunsPrivateKey
+            (R.source reader.old) result }
         ensures comment { IfOk result HasWrittenComment }
         ensures form { IfOk result (λ k. IsPrivateKey (private_of k)) }
     {

@@ -2,10 +2,10 @@
 
 ghost use Rattle.std.specs.Prelude.{◌≡◌, ◌%◌, [], false, true, length, suc, Some, option_map, IfOk};
 ghost use Rattle.sshkey_base.specs.Causes.{cause};
-ghost use Rattle.sshkey_base.specs.Needs.{Asks, HasString, NeedsBoxed, NeedsString};
+ghost use Rattle.sshkey_base.specs.Needs.{Asks, NeedsBoxed, NeedsString};
 ghost use Rattle.sshkey_base.specs.Reading.{Gives, GivesWhole};
 ghost use Rattle.sshkey_base.specs.Source.{Later, all_of};
-ghost use Rattle.sshkey_base.specs.Stops.{OverrunsString, StopsPast};
+ghost use Rattle.sshkey_base.specs.Stops.{OverrunsString, StopsBy, StopsPast};
 ghost use Rattle.sshkey_keypairs.specs.Keypairs.{pair_of};
 ghost use Rattle.sshkey_keys.specs.Keys.{key_of};
 ghost use Rattle.sshkey_model.specs.KeyDerivation.{Kdf as TheKdf, NoCipher, block_size, tag_size};
@@ -16,8 +16,8 @@ ghost use Rattle.sshkey_ciphers.specs.Ciphers.{cipher_of, kdf_of};
 ghost use Rattle.sshkey_ciphers.specs.Ciphertexts.{tag_bytes};
 ghost use Rattle.sshkey_private.specs.Halves.{is_half};
 ghost use Rattle.sshkey_private.specs.Inner.{NeedsInner, NeedsPadded, inner_of};
-ghost use Rattle.sshkey_private.specs.PrivateKeyReaders.{steps_at, sealed_at, sealed_with, unencrypted_below, last_content_at, last_encrypted_at};
-ghost use Rattle.sshkey_private.specs.PrivateKeyFormats.{NeedsContent, NeedsPrivateKey, OverrunsContent, OverrunsPrivateKey, MayRunOut};
+ghost use Rattle.sshkey_private.specs.PrivateKeyReaders.{delimited, steps_at, sealed_at, sealed_with, unencrypted_below, last_content_at, last_encrypted_at};
+ghost use Rattle.sshkey_private.specs.PrivateKeyFormats.{NeedsContent, NeedsPrivateKey, OverrunsContent, OverrunsPrivateKey};
 ghost use Rattle.sshkey_private.specs.PrivateKeys.{private_of, is_encrypted, outer_of, HasWrittenComment};
 ghost use Rattle.sshkey_public.specs.PublicKeys.{comment_of};
 
@@ -56,7 +56,8 @@ pub(super) fn private_key_from<R: Reader>(
         (R.source reader.old) result (R.source reader.new) }
     ensures later { Later (R.source reader.old) (R.source reader.new) }
     ensures asks { Asks cause NeedsPrivateKey (R.source reader.old) result }
-    ensures past { StopsPast cause MayRunOut OverrunsPrivateKey (R.source reader.old) result }
+    ensures past { StopsBy cause (delimited (steps_at (suc most)))
+        NeedsPrivateKey OverrunsPrivateKey (R.source reader.old) result }
     ensures comment { IfOk result HasWrittenComment }
 {
     let opening = opening_from(alloc, reader)?;
@@ -77,7 +78,9 @@ fn content_from<R: Reader>(
     ensures asks { Asks cause
         (NeedsContent (cipher_of opening.cipher) (kdf_of opening.kdf) (key_of opening.public))
         (R.source reader.old) result }
-    ensures past { StopsPast cause HasString
+    ensures past { StopsBy cause (delimited (last_content_at (suc most)
+        (cipher_of opening.cipher) (kdf_of opening.kdf) (key_of opening.public)))
+        (NeedsContent (cipher_of opening.cipher) (kdf_of opening.kdf) (key_of opening.public))
         (OverrunsContent (cipher_of opening.cipher) (kdf_of opening.kdf))
         (R.source reader.old) result }
     ensures comment { IfOk result HasWrittenComment }
@@ -103,7 +106,9 @@ fn unencrypted_from<R: Reader>(
     ensures later { Later (R.source reader.old) (R.source reader.new) }
     ensures asks { Asks cause (NeedsBoxed (NeedsPadded (NeedsInner (key_of public))))
         (R.source reader.old) result }
-    ensures past { StopsPast cause HasString OverrunsString (R.source reader.old) result }
+    ensures past { StopsBy cause (unencrypted_below (suc most) (key_of public))
+        (NeedsBoxed (NeedsPadded (NeedsInner (key_of public)))) OverrunsString
+        (R.source reader.old) result }
     ensures plain { IfOk result (λ k. is_encrypted (private_of k) ≡ false) }
 {
     let inner = decode_inner(alloc, reader, &public, most)?;
@@ -138,7 +143,9 @@ fn encrypted_from<R: Reader>(alloc: Global, reader: &mut R, opening: Opening) ->
         (R.source reader.old) result (R.source reader.new) }
     ensures later { Later (R.source reader.old) (R.source reader.new) }
     ensures asks { Asks cause NeedsString (R.source reader.old) result }
-    ensures past { StopsPast cause HasString OverrunsString (R.source reader.old) result }
+    ensures past { StopsBy cause (delimited (last_encrypted_at
+        (cipher_of opening.cipher) (kdf_of opening.kdf) (key_of opening.public)))
+        NeedsString OverrunsString (R.source reader.old) result }
     ensures comment { IfOk result (λ k. comment_of (outer_of k) ≡ []) }
 {
     let (ciphertext, tag) = last_sealed_from(alloc, reader, opening.cipher)?;
@@ -170,7 +177,7 @@ fn last_sealed_from<R: Reader>(
         (R.source reader.old) result (R.source reader.new) }
     ensures later { Later (R.source reader.old) (R.source reader.new) }
     ensures asks { Asks cause NeedsString (R.source reader.old) result }
-    ensures past { StopsPast cause HasString OverrunsString (R.source reader.old) result }
+    ensures past { StopsPast cause NeedsString OverrunsString (R.source reader.old) result }
     ensures whole { IfOk result (λ p. length p.0.items % block_size (cipher_of cipher) ≡ 0) }
     ensures size { IfOk result (λ p. length (tag_bytes p.1) ≡ tag_size (cipher_of cipher)) }
 {
@@ -183,7 +190,7 @@ fn last_sealed_from<R: Reader>(
 }
 
 /// A ciphertext in its string, and its tag after it.
-#[tactic(auto, using(sshkey_base::proofs::Steps::steps, crate::proofs::Passing::blocks_lengths, sshkey_base::proofs::Stopping::read_past), unfolding(sshkey_format::specs::Behind::behind_at))]
+#[tactic(auto, using(sshkey_base::proofs::Steps::steps, crate::specs::PrivateKeyGrammars::blocks_lengths, sshkey_base::proofs::Stopping::read_past), unfolding(sshkey_format::specs::Behind::behind_at))]
 fn sealed_from<R: Reader>(
     alloc: Global,
     reader: &mut R,
@@ -193,7 +200,7 @@ fn sealed_from<R: Reader>(
         (sealed_at (cipher_of cipher)) (R.source reader.old) result (R.source reader.new) }
     ensures later { Later (R.source reader.old) (R.source reader.new) }
     ensures asks { Asks cause NeedsString (R.source reader.old) result }
-    ensures past { StopsPast cause HasString OverrunsString (R.source reader.old) result }
+    ensures past { StopsPast cause NeedsString OverrunsString (R.source reader.old) result }
     ensures whole { IfOk result (λ p. length p.0.items % block_size (cipher_of cipher) ≡ 0) }
     ensures size { IfOk result (λ p. length (tag_bytes p.1) ≡ tag_size (cipher_of cipher)) }
 {

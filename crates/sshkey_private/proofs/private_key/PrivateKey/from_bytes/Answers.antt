@@ -3,7 +3,8 @@ use Rattle.sshkey_base.specs.Source.{all_of}
 use Rattle.sshkey_model.specs.Reading.{whole}
 use Rattle.sshkey_private.specs.PrivateKeys.{private_of}
 use Rattle.sshkey_private.specs.PrivateKeyReaders.{steps_at, private_value_at}
-use Rattle.sshkey_private.proofs.KeyReaders.{steps_are, same_whole, taken, spelled_is, accepts_key}
+use Rattle.sshkey_private.specs.PrivateKeySteps.{steps_are}
+use Rattle.sshkey_private.proofs.KeyReaders.{same_whole, taken, spelled_is, accepts_key}
 use Rattle.sshkey_private.proofs.private_key.PrivateKey.from_bytes.Goals as goal
 
 pub returns-clause-gives : goal.returns-clause-gives

@@ -7,7 +7,7 @@ use Rattle.sshkey_private.proofs.KeyValues.{behind_refused, none_behind}
 use Rattle.sshkey_base.specs.Stops.{OverrunsString}
 use Rattle.sshkey_base.proofs.Stopping.{read_past}
 use Rattle.sshkey_private.specs.PrivateKeyReaders.{sealed_at}
-use Rattle.sshkey_private.proofs.Passing.{sealed_lengths}
+use Rattle.sshkey_private.specs.PrivateKeyGrammars.{sealed_lengths}
 use Rattle.sshkey_private.proofs.private_key.read.last_sealed_from.Goals as goal
 
 pub returns-in_err-sealed-clause-gives : goal.returns-in_err-sealed-clause-gives

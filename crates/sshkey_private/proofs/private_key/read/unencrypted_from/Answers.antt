@@ -3,7 +3,7 @@ use Rattle.std.proofs.lemmas.Result.{err_from_is_err_and}
 use Rattle.sshkey_keys.specs.Keys.{key_of}
 use Rattle.sshkey_private.specs.Inner.{inner_of}
 use Rattle.sshkey_private.specs.PrivateKeys.{private_of}
-use Rattle.sshkey_private.proofs.KeyValues.{unencrypted_read, unencrypted_refused}
+use Rattle.sshkey_private.proofs.KeyValues.{unencrypted_read, unencrypted_refused, unencrypted_stopped}
 use Rattle.sshkey_private.proofs.ReadHalves.{read_half}
 use Rattle.sshkey_private.proofs.private_key.read.unencrypted_from.Goals as goal
 
@@ -21,4 +21,4 @@ returns-clause-gives g c = unencrypted_read private_of inner_of (suc c.args.most
 pub returns-in_err-inner-clause-past : goal.returns-in_err-inner-clause-past
 returns-in_err-inner-clause-past g c =
     let p = err_from_is_err_and c.from_residual.result c.from_residual.ensures.1 in
-    rw (p.1, p.2) c.in_err-inner.ensures.past
+    rw (p.1, p.2) (unencrypted_stopped private_of inner_of (suc c.args.most) (key_of c.args.public) _ _ _ _ c.in_err-inner.ensures.past)

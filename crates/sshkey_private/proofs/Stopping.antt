@@ -1,0 +1,79 @@
+-- How a private key is refused on any source.
+use Rattle.std.proofs.Common.{◌≡◌, inl, ℕ, List, [], ◌∷◌, IsOk, Result, Ok, Err, refl}
+use Rattle.sshkey_model.specs.Reading.{Fault, ◌>>=◌, Front}
+use Rattle.sshkey_model.specs.Keys.{Key}
+use Rattle.sshkey_model.specs.KeyDerivation.{Cipher, NoCipher, Kdf, NoKdf, Bcrypt}
+use Rattle.sshkey_model.specs.PrivateKeys.{PrivateKey}
+use Rattle.sshkey_model.proofs.CombinedReaders.{bind_assoc}
+use Rattle.sshkey_base.specs.Causes.{Cause}
+use Rattle.sshkey_base.specs.Needs.{NeedsString, NeedsBoxed}
+use Rattle.sshkey_base.specs.Source.{Source}
+use Rattle.sshkey_base.specs.Stops.{NoOverrun, OverrunsString, OverrunsBoxed, Stopped, StopsBy, StopsPast}
+use Rattle.sshkey_base.proofs.Stopping.{checked_stopped}
+use Rattle.sshkey_format.specs.Terms.{IsChosen}
+use Rattle.sshkey_private.specs.Inner.{NeedsInner, NeedsPadded}
+use Rattle.sshkey_private.specs.PrivateKeyReaders.{not_encrypted, delimited, opening_at, last_of, sealed_with, sealed_at, unencrypted_below, last_encrypted_at, last_content_at, steps_at}
+use Rattle.sshkey_private.specs.PrivateKeyFormats.{NeedsContent, OverrunsContent}
+
+-- ---- a box of whose inside no length is told
+
+pub none_past : {X E : Type 0} (cause : E → Cause) (needs : List ℕ → ℕ → Type 0) (s : Source) (r : Result X E) → StopsPast cause needs NoOverrun s r
+none_past cause needs s (Ok x) = tt
+none_past cause needs s (Err e) = λ o. absurd o
+
+pub box_stops : {X Y E : Type 0} (cause : E → Cause) (read : Front Y) (needs inner : List ℕ → ℕ → Type 0) (s : Source) (r : Result X E) → StopsBy cause read needs (OverrunsBoxed inner) s r → StopsBy cause read needs OverrunsString s r
+box_stops cause read needs inner s (Ok x) h = tt
+box_stops cause read needs inner s (Err e) h = record { takes = h.takes; past = λ o. h.past (inl o) }
+
+-- ---- an encrypted key, which never ends by itself
+
+module _ (c : Cipher) (k : Kdf) (public : Key) where
+  none_delimited : {Z : Type 0} (b : List ℕ) → IsOk (delimited (last_encrypted_at c k public) b) → Z
+  unfolding last_encrypted_at
+  none_delimited {Z} b = go (sealed_at c b)
+    where
+      tested : PrivateKey × List ℕ → Result (PrivateKey × List ℕ) Fault
+      tested x = not_encrypted x.0 >>= λ l. Ok (l, x.1)
+
+      last : (ciphertext tag rest : List ℕ) → IsOk (last_of (sealed_with c k public ciphertext tag, rest) >>= tested) → Z
+      last ciphertext tag [] ok = absurd cc
+      last ciphertext tag (d ∷ rest) ok = absurd cc
+
+      go : (r : Result ((List ℕ × List ℕ) × List ℕ) Fault) → IsOk ((r >>= λ x. last_of (sealed_with c k public x.0.0 x.0.1, x.1)) >>= tested) → Z
+      go (Ok x) ok = last x.0.0 x.0.1 x.1 ok
+      go (Err e) ok = absurd cc
+
+  module _ {X E : Type 0} (cause : E → Cause) (s : Source) where
+    pub encrypted_stops : (r : Result X E) → StopsPast cause NeedsString OverrunsString s r → StopsBy cause (delimited (last_encrypted_at c k public)) NeedsString OverrunsString s r
+    encrypted_stops (Ok x) h = tt
+    encrypted_stops (Err e) h = record { takes = λ ok. none_delimited s.left ok; past = h }
+
+-- ---- the private part
+
+-- under a key derivation without a cipher
+pub derived_stopped : (limit : ℕ) (c : Cipher) (k : Kdf) (public : Key) (why : Cause) (s : Source) → c ≡ NoCipher → (k ≡ NoKdf → ⊥) → Stopped why (delimited (last_content_at limit c k public)) (NeedsContent c k public) (OverrunsContent c k) s
+derived_stopped limit c NoKdf public why s none some = absurd (some refl)
+derived_stopped limit c (Bcrypt o) public why s none some = rw none (record { takes = λ ok. absurd cc; past = λ o. absurd (cc o.0) })
+
+module _ {X E : Type 0} (limit : ℕ) (public : Key) (cause : E → Cause) (s : Source) where
+  abbrev StopsAs : Cipher → Kdf → Result X E → Type 0
+  StopsAs c k r = StopsBy cause (delimited (last_content_at limit c k public)) (NeedsContent c k public) (OverrunsContent c k) s r
+
+  -- under a cipher
+  pub sealed_stops : (c : Cipher) (k : Kdf) (r : Result X E) → (c ≡ NoCipher → ⊥) → StopsBy cause (delimited (last_encrypted_at c k public)) NeedsString OverrunsString s r → StopsAs c k r
+  sealed_stops NoCipher k r some h = absurd (some refl)
+  sealed_stops c k (Ok x) some h = tt
+  sealed_stops c k (Err e) some h = record { takes = h.takes; past = λ o. h.past o.1 }
+
+  -- under neither
+  pub plain_stops : (c : Cipher) (k : Kdf) (r : Result X E) → c ≡ NoCipher → k ≡ NoKdf → StopsBy cause (unencrypted_below limit public) (NeedsBoxed (NeedsPadded (NeedsInner public))) OverrunsString s r → StopsAs c k r
+  plain_stops c k (Ok x) none underived h = tt
+  plain_stops c k (Err e) none underived h =
+      let t = checked_stopped (cause e) (unencrypted_below limit public) not_encrypted (NeedsBoxed (NeedsPadded (NeedsInner public))) OverrunsString s h in
+      rw (none, underived) (record { takes = t.takes; past = λ o. t.past o.1 })
+
+-- ---- behind the opening
+
+pub delimited_chosen : (limit : ℕ) → IsChosen (delimited (steps_at limit)) opening_at (λ h. delimited (last_content_at limit h.cipher h.kdf h.public))
+unfolding steps_at
+delimited_chosen limit = record { same = λ b. bind_assoc (opening_at b) (λ h. last_content_at limit h.0.cipher h.0.kdf h.0.public h.1) (λ x. not_encrypted x.0 >>= λ l. Ok (l, x.1)) }
