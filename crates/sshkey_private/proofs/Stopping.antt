@@ -1,14 +1,14 @@
 -- How a private key is refused on any source.
-use Rattle.std.proofs.Common.{◌≡◌, inl, ℕ, List, [], ◌∷◌, IsOk, Result, Ok, Err, refl}
-use Rattle.sshkey_model.specs.Reading.{Fault, ◌>>=◌, Front}
+use Rattle.std.proofs.Common.{◌≡◌, ◌⊎◌, inl, ℕ, List, [], ◌∷◌, IsOk, Result, Ok, Err}
+use Rattle.sshkey_model.specs.Reading.{Fault, Length, ◌>>=◌, Front}
 use Rattle.sshkey_model.specs.Keys.{Key}
-use Rattle.sshkey_model.specs.KeyDerivation.{Cipher, NoCipher, Kdf, NoKdf, Bcrypt}
+use Rattle.sshkey_model.specs.KeyDerivation.{Cipher, NoCipher, Kdf, NoKdf}
 use Rattle.sshkey_model.specs.PrivateKeys.{PrivateKey}
 use Rattle.sshkey_model.proofs.CombinedReaders.{bind_assoc}
-use Rattle.sshkey_base.specs.Causes.{Cause}
+use Rattle.sshkey_base.specs.Causes.{Cause, Faulty}
 use Rattle.sshkey_base.specs.Needs.{NeedsString, NeedsBoxed}
 use Rattle.sshkey_base.specs.Source.{Source}
-use Rattle.sshkey_base.specs.Stops.{NoOverrun, OverrunsString, OverrunsBoxed, Stopped, StopsBy, StopsPast}
+use Rattle.sshkey_base.specs.Stops.{NoOverrun, OverrunsString, OverrunsBoxed, RanOut, Stopped, StopsBy, StopsPast}
 use Rattle.sshkey_base.proofs.Stopping.{checked_stopped}
 use Rattle.sshkey_format.specs.Terms.{IsChosen}
 use Rattle.sshkey_private.specs.Inner.{NeedsInner, NeedsPadded}
@@ -43,34 +43,16 @@ module _ (c : Cipher) (k : Kdf) (public : Key) where
       go (Ok x) ok = last x.0.0 x.0.1 x.1 ok
       go (Err e) ok = absurd cc
 
-  module _ {X E : Type 0} (cause : E → Cause) (s : Source) where
-    pub encrypted_stops : (r : Result X E) → StopsPast cause NeedsString OverrunsString s r → StopsBy cause (delimited (last_encrypted_at c k public)) NeedsString OverrunsString s r
-    encrypted_stops (Ok x) h = tt
-    encrypted_stops (Err e) h = record { takes = λ ok. none_delimited s.left ok; past = h }
+  pub encrypted_stopped : (why : Cause) (s : Source) → (OverrunsString s.left s.missing → (why ≡ Faulty Length) ⊎ RanOut why NeedsString s) → Stopped why (delimited (last_encrypted_at c k public)) NeedsString OverrunsString s
+  encrypted_stopped why s past = record { takes = λ ok. none_delimited s.left ok; past = past }
 
--- ---- the private part
+-- ---- a key that is not encrypted
 
--- under a key derivation without a cipher
-pub derived_stopped : (limit : ℕ) (c : Cipher) (k : Kdf) (public : Key) (why : Cause) (s : Source) → c ≡ NoCipher → (k ≡ NoKdf → ⊥) → Stopped why (delimited (last_content_at limit c k public)) (NeedsContent c k public) (OverrunsContent c k) s
-derived_stopped limit c NoKdf public why s none some = absurd (some refl)
-derived_stopped limit c (Bcrypt o) public why s none some = rw none (record { takes = λ ok. absurd cc; past = λ o. absurd (cc o.0) })
-
-module _ {X E : Type 0} (limit : ℕ) (public : Key) (cause : E → Cause) (s : Source) where
-  abbrev StopsAs : Cipher → Kdf → Result X E → Type 0
-  StopsAs c k r = StopsBy cause (delimited (last_content_at limit c k public)) (NeedsContent c k public) (OverrunsContent c k) s r
-
-  -- under a cipher
-  pub sealed_stops : (c : Cipher) (k : Kdf) (r : Result X E) → (c ≡ NoCipher → ⊥) → StopsBy cause (delimited (last_encrypted_at c k public)) NeedsString OverrunsString s r → StopsAs c k r
-  sealed_stops NoCipher k r some h = absurd (some refl)
-  sealed_stops c k (Ok x) some h = tt
-  sealed_stops c k (Err e) some h = record { takes = h.takes; past = λ o. h.past o.1 }
-
-  -- under neither
-  pub plain_stops : (c : Cipher) (k : Kdf) (r : Result X E) → c ≡ NoCipher → k ≡ NoKdf → StopsBy cause (unencrypted_below limit public) (NeedsBoxed (NeedsPadded (NeedsInner public))) OverrunsString s r → StopsAs c k r
-  plain_stops c k (Ok x) none underived h = tt
-  plain_stops c k (Err e) none underived h =
-      let t = checked_stopped (cause e) (unencrypted_below limit public) not_encrypted (NeedsBoxed (NeedsPadded (NeedsInner public))) OverrunsString s h in
-      rw (none, underived) (record { takes = t.takes; past = λ o. t.past o.1 })
+pub plain_stops : {X E : Type 0} (limit : ℕ) (public : Key) (cause : E → Cause) (s : Source) (c : Cipher) (k : Kdf) (r : Result X E) → c ≡ NoCipher → k ≡ NoKdf → StopsBy cause (unencrypted_below limit public) (NeedsBoxed (NeedsPadded (NeedsInner public))) OverrunsString s r → StopsBy cause (delimited (last_content_at limit c k public)) (NeedsContent c k public) (OverrunsContent c k) s r
+plain_stops limit public cause s c k (Ok x) none underived h = tt
+plain_stops limit public cause s c k (Err e) none underived h =
+    let t = checked_stopped (cause e) (unencrypted_below limit public) not_encrypted (NeedsBoxed (NeedsPadded (NeedsInner public))) OverrunsString s h in
+    rw (none, underived) (record { takes = t.takes; past = λ o. t.past o.1 })
 
 -- ---- behind the opening
 

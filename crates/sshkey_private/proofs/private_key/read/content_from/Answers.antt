@@ -1,0 +1,13 @@
+use Rattle.std.proofs.Common.{IsTrue, suc}
+use Rattle.sshkey_base.specs.Causes.{cause}
+use Rattle.sshkey_keys.specs.Keys.{key_of}
+use Rattle.sshkey_ciphers.specs.Ciphers.{cipher_of, kdf_of}
+use Rattle.sshkey_private.proofs.Stopping.{plain_stops}
+use Rattle.sshkey_private.proofs.private_key.read.content_from.Goals as goal
+
+pub returns-clause-past : goal.returns-clause-past
+returns-clause-past g c =
+    let opening = c.args.opening in
+    let none : IsTrue c.is_none.result = (let h = c.if-not-is_none.false in cc) in
+    let underived : IsTrue c.is_none-2.result = (let h = c.if-not-is_none-2.false in cc) in
+    plain_stops (suc c.args.most) (key_of opening.public) cause (g.R.Reader.source c.args.reader.now) (cipher_of opening.cipher) (kdf_of opening.kdf) _ (c.is_none.ensures.0 none) (c.is_none-2.ensures.0 underived) c.unencrypted_from.ensures.past
