@@ -1,12 +1,11 @@
 -- How private keys are read by their grammar, which of them end by themselves, and where they have
 -- lengths. All of it is proved, and need not be believed.
-use Rattle.std.proofs.Common.{◌≡◌, ◌⊎◌, inl, inr, ℕ, List, [], ◌∷◌, ◌++◌, append-nil, append_assoc, true, Result, Ok, Err, refl, sym, ap, ◌∙◌}
-use Rattle.sshkey_model.specs.Grammar.{spelled}
+use Rattle.std.proofs.Common.{◌≡◌, ◌⊎◌, inl, inr, ℕ, List, [], ◌∷◌, ◌++◌, append-nil, append_assoc, true, Ok, refl, sym, ap, ◌∙◌}
 use Rattle.sshkey_model.specs.KeyDerivation.{Cipher, NoCipher, Kdf, NoKdf, Bcrypt}
 use Rattle.sshkey_model.specs.Keys.{Key}
 use Rattle.sshkey_model.specs.Parts.{flat, Fits}
 use Rattle.sshkey_model.specs.PrivateKeys.{PrivateKey, Unencrypted, Encrypted, PrivateKeyChoices, plain_private_key, private_key, normal_private_key, IsPrivateKey, private_part_at, blocks_from, may_precede, decoded_private_key_at}
-use Rattle.sshkey_model.specs.Reading.{Fault, ◌>>=◌}
+use Rattle.sshkey_model.specs.Reading.{◌>>=◌}
 use Rattle.sshkey_model.proofs.CombinedReaders.{bind_ok, ok_is}
 use Rattle.sshkey_model.proofs.PrivateKeyReaders.{decoder, plain_private_key_has}
 use Rattle.sshkey_base.specs.Lengths.{box_lengths, checked_lengths, string_lengths}
