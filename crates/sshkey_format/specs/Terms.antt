@@ -8,7 +8,7 @@ use Rattle.sshkey_model.specs.Parts.{bytes}
 use Rattle.sshkey_model.proofs.CombinedReaders.{literal_reads}
 use Rattle.sshkey_model.proofs.Grammars.{grammar}
 use Rattle.sshkey_base.specs.Formats.{Format}
-use Rattle.sshkey_base.specs.Grammars.{AllEnd, Grammar, by_itself}
+use Rattle.sshkey_base.specs.Grammars.{AllEnd, by_itself}
 use Rattle.sshkey_base.specs.Lengths.{boxed_lengths, checked_lengths, no_lengths}
 use Rattle.sshkey_base.specs.Needs.{NoNeed, NeedsThen, NeedsBoxed}
 use Rattle.sshkey_base.specs.Reading.{SpellsBoxed}
@@ -21,15 +21,15 @@ abbrev pub with_first : {A B : Type 0} → A → B × List ℕ → Result ((A ×
 with_first a y = Ok ((a, y.0), y.1)
 
 -- Where a length passes in the first value, or behind it in the second, `Length` is met.
-module _ {A B : Type 0} {over : List ℕ → ℕ → Type 0} {S : A → List ℕ → Type 0} {read : Front A} {overs : A → List ℕ → ℕ → Type 0} {next : A → Front B} where
-  pub then_lengths : (f : Grammar S read) → AreLengths read over → ((a : A) → AreLengths (next a) (overs a)) → AreLengths (behind_at read next) (OverrunsThen over f.delimited_at overs)
+module _ {A B : Type 0} {over : List ℕ → ℕ → Type 0} {read delimited_at : Front A} {overs : A → List ℕ → ℕ → Type 0} {next : A → Front B} (same : (b : List ℕ) (x : A × List ℕ) → delimited_at b ≡ Ok x → read b ≡ Ok x) where
+  pub then_lengths : AreLengths read over → ((a : A) → AreLengths (next a) (overs a)) → AreLengths (behind_at read next) (OverrunsThen over delimited_at overs)
   unfolding behind_at
-  then_lengths f first g b m (inl o) = rw (first b m o) refl
-  then_lengths f first g b m (inr o) = go (f.delimited_at b) refl o
+  then_lengths f g b m (inl o) = rw (f b m o) refl
+  then_lengths f g b m (inr o) = go (delimited_at b) refl o
     where
-      go : (r : Result (A × List ℕ) Fault) → f.delimited_at b ≡ r → IsOkAnd r (λ x. overs x.0 x.1 m) → (read b >>= λ x. next x.0 x.1 >>= with_first x.0) ≡ Err Length
-      go (Ok x) e o = rw (f.same b x e, g x.0 x.1 m o) refl
-      go (Err f) e o = absurd o
+      go : (r : Result (A × List ℕ) Fault) → delimited_at b ≡ r → IsOkAnd r (λ x. overs x.0 x.1 m) → (read b >>= λ x. next x.0 x.1 >>= with_first x.0) ≡ Err Length
+      go (Ok x) e o = rw (same b x e, g x.0 x.1 m o) refl
+      go (Err fault) e o = absurd o
 
 -- A value, and behind it what that value calls for. A length behind the first is met only where the
 -- first ends by itself; memory is asked for behind whatever was read.
@@ -40,7 +40,7 @@ choice first second = record {
   needs = NeedsThen first.needs first.read (λ a. (second a).needs);
   overruns = OverrunsThen first.overruns first.grammar.delimited_at (λ a. (second a).overruns);
   grammar = then_grammar first.grammar (λ a. (second a).grammar);
-  lengths = then_lengths first.grammar first.lengths (λ a. (second a).lengths);
+  lengths = then_lengths first.grammar.same first.lengths (λ a. (second a).lengths);
 }
 
 -- a value, and another one behind it
@@ -111,14 +111,14 @@ made_of {Y} {Z} {record_at} {form} {Spells} parts mapped grammar = record {
 pub record IsChosen {A Z : Type 0} (record_at : Front Z) (read : Front A) (next : A → Front Z) : Type 0 where
   pub same : (b : List ℕ) → record_at b ≡ (read b >>= λ x. next x.0 x.1)
 
-module _ {A Z : Type 0} {record_at : Front Z} {S : A → List ℕ → Type 0} {read : Front A} {next : A → Front Z} {over : List ℕ → ℕ → Type 0} {overs : A → List ℕ → ℕ → Type 0} where
-  pub chosen_lengths : (f : Grammar S read) → IsChosen record_at read next → AreLengths read over → ((a : A) → AreLengths (next a) (overs a)) → AreLengths record_at (OverrunsThen over f.delimited_at overs)
-  chosen_lengths f same first g b m (inl o) = rw (same.same b, first b m o) refl
-  chosen_lengths f same first g b m (inr o) = rw (same.same b) (go (f.delimited_at b) refl o)
+module _ {A Z : Type 0} {record_at : Front Z} {read delimited_at : Front A} {next : A → Front Z} {over : List ℕ → ℕ → Type 0} {overs : A → List ℕ → ℕ → Type 0} (same : (b : List ℕ) (x : A × List ℕ) → delimited_at b ≡ Ok x → read b ≡ Ok x) where
+  pub chosen_lengths : IsChosen record_at read next → AreLengths read over → ((a : A) → AreLengths (next a) (overs a)) → AreLengths record_at (OverrunsThen over delimited_at overs)
+  chosen_lengths chosen f g b m (inl o) = rw (chosen.same b, f b m o) refl
+  chosen_lengths chosen f g b m (inr o) = rw (chosen.same b) (go (delimited_at b) refl o)
     where
-      go : (r : Result (A × List ℕ) Fault) → f.delimited_at b ≡ r → IsOkAnd r (λ x. overs x.0 x.1 m) → (read b >>= λ x. next x.0 x.1) ≡ Err Length
-      go (Ok x) e o = rw (f.same b x e) (g x.0 x.1 m o)
-      go (Err f) e o = absurd o
+      go : (r : Result (A × List ℕ) Fault) → delimited_at b ≡ r → IsOkAnd r (λ x. overs x.0 x.1 m) → (read b >>= λ x. next x.0 x.1) ≡ Err Length
+      go (Ok x) e o = rw (same b x e) (g x.0 x.1 m o)
+      go (Err fault) e o = absurd o
 
 -- The first value is no part of the record, or stands in it.
 abbrev pub chosen_of : {A Z : Type 0} {record_at : Front Z} {Spells : Z → List ℕ → Type 0} (first : Format A) (second : A → Format Z) → IsChosen record_at first.read (λ a. (second a).read) → IsGrammar Spells record_at → Format Z
@@ -128,7 +128,7 @@ chosen_of {A} {Z} {record_at} {Spells} first second same grammar = record {
   needs = NeedsThen first.needs first.read (λ a. (second a).needs);
   overruns = OverrunsThen first.overruns first.grammar.delimited_at (λ a. (second a).overruns);
   grammar = by_itself grammar;
-  lengths = chosen_lengths first.grammar same first.lengths (λ a. (second a).lengths);
+  lengths = chosen_lengths first.grammar.same same first.lengths (λ a. (second a).lengths);
 }
 
 -- what the first value calls for, without that value

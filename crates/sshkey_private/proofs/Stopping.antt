@@ -12,7 +12,7 @@ use Rattle.sshkey_base.specs.Stops.{NoOverrun, OverrunsString, OverrunsBoxed, Ra
 use Rattle.sshkey_base.proofs.Stopping.{checked_stopped}
 use Rattle.sshkey_format.specs.Terms.{IsChosen}
 use Rattle.sshkey_private.specs.Inner.{NeedsInner, NeedsPadded}
-use Rattle.sshkey_private.specs.PrivateKeyReaders.{not_encrypted, delimited, opening_at, last_of, sealed_with, sealed_at, unencrypted_below, last_encrypted_at, last_content_at, steps_at}
+use Rattle.sshkey_private.specs.PrivateKeyReaders.{not_encrypted, delimited_by, opening_at, last_of, sealed_with, sealed_at, unencrypted_below, last_encrypted_at, last_content_at, steps_at}
 use Rattle.sshkey_private.specs.PrivateKeyFormats.{NeedsContent, OverrunsContent}
 
 -- ---- a box of whose inside no length is told
@@ -28,7 +28,7 @@ box_stops cause read needs inner s (Err e) h = record { takes = h.takes; past = 
 -- ---- an encrypted key, which never ends by itself
 
 module _ (c : Cipher) (k : Kdf) (public : Key) where
-  none_delimited : {Z : Type 0} (b : List ℕ) → IsOk (delimited (last_encrypted_at c k public) b) → Z
+  none_delimited : {Z : Type 0} (b : List ℕ) → IsOk (delimited_by (last_encrypted_at c k public) b) → Z
   unfolding last_encrypted_at
   none_delimited {Z} b = go (sealed_at c b)
     where
@@ -43,12 +43,12 @@ module _ (c : Cipher) (k : Kdf) (public : Key) where
       go (Ok x) ok = last x.0.0 x.0.1 x.1 ok
       go (Err e) ok = absurd cc
 
-  pub encrypted_stopped : (why : Cause) (s : Source) → (OverrunsString s.left s.missing → (why ≡ Faulty Length) ⊎ RanOut why NeedsString s) → Stopped why (delimited (last_encrypted_at c k public)) NeedsString OverrunsString s
+  pub encrypted_stopped : (why : Cause) (s : Source) → (OverrunsString s.left s.missing → (why ≡ Faulty Length) ⊎ RanOut why NeedsString s) → Stopped why (delimited_by (last_encrypted_at c k public)) NeedsString OverrunsString s
   encrypted_stopped why s past = record { takes = λ ok. none_delimited s.left ok; past = past }
 
 -- ---- a key that is not encrypted
 
-pub plain_stops : {X E : Type 0} (limit : ℕ) (public : Key) (cause : E → Cause) (s : Source) (c : Cipher) (k : Kdf) (r : Result X E) → c ≡ NoCipher → k ≡ NoKdf → StopsBy cause (unencrypted_below limit public) (NeedsBoxed (NeedsPadded (NeedsInner public))) OverrunsString s r → StopsBy cause (delimited (last_content_at limit c k public)) (NeedsContent c k public) (OverrunsContent c k) s r
+pub plain_stops : {X E : Type 0} (limit : ℕ) (public : Key) (cause : E → Cause) (s : Source) (c : Cipher) (k : Kdf) (r : Result X E) → c ≡ NoCipher → k ≡ NoKdf → StopsBy cause (unencrypted_below limit public) (NeedsBoxed (NeedsPadded (NeedsInner public))) OverrunsString s r → StopsBy cause (delimited_by (last_content_at limit c k public)) (NeedsContent c k public) (OverrunsContent c k) s r
 plain_stops limit public cause s c k (Ok x) none underived h = tt
 plain_stops limit public cause s c k (Err e) none underived h =
     let t = checked_stopped (cause e) (unencrypted_below limit public) not_encrypted (NeedsBoxed (NeedsPadded (NeedsInner public))) OverrunsString s h in
@@ -56,6 +56,6 @@ plain_stops limit public cause s c k (Err e) none underived h =
 
 -- ---- behind the opening
 
-pub delimited_chosen : (limit : ℕ) → IsChosen (delimited (steps_at limit)) opening_at (λ h. delimited (last_content_at limit h.cipher h.kdf h.public))
+pub delimited_chosen : (limit : ℕ) → IsChosen (delimited_by (steps_at limit)) opening_at (λ h. delimited_by (last_content_at limit h.cipher h.kdf h.public))
 unfolding steps_at
 delimited_chosen limit = record { same = λ b. bind_assoc (opening_at b) (λ h. last_content_at limit h.0.cipher h.0.kdf h.0.public h.1) (λ x. not_encrypted x.0 >>= λ l. Ok (l, x.1)) }

@@ -1,6 +1,6 @@
--- How private keys are read by their grammar, which of them end by themselves, and where they have
--- lengths. All of it is proved, and need not be believed.
-use Rattle.std.proofs.Common.{◌≡◌, ◌⊎◌, inl, inr, ℕ, List, [], ◌∷◌, ◌++◌, append-nil, append_assoc, true, Ok, refl, sym, ap, ◌∙◌}
+-- The format of a private key. The lemmas are proved, and need not be believed: which spellings are
+-- read, which keys end by themselves, and where a stated length passes.
+use Rattle.std.proofs.Common.{◌≡◌, inl, inr, ℕ, List, [], ◌∷◌, ◌++◌, append-nil, append_assoc, true, Ok, refl, sym, ap, ◌∙◌}
 use Rattle.sshkey_model.specs.KeyDerivation.{Cipher, NoCipher, Kdf, NoKdf, Bcrypt}
 use Rattle.sshkey_model.specs.Keys.{Key}
 use Rattle.sshkey_model.specs.Parts.{flat, Fits}
@@ -8,6 +8,8 @@ use Rattle.sshkey_model.specs.PrivateKeys.{PrivateKey, Unencrypted, Encrypted, P
 use Rattle.sshkey_model.specs.Reading.{◌>>=◌}
 use Rattle.sshkey_model.proofs.CombinedReaders.{bind_ok, ok_is}
 use Rattle.sshkey_model.proofs.PrivateKeyReaders.{decoder, plain_private_key_has}
+use Rattle.sshkey_base.specs.Formats.{Format}
+use Rattle.sshkey_base.specs.Grammars.{MayFollow}
 use Rattle.sshkey_base.specs.Lengths.{box_lengths, checked_lengths, string_lengths}
 use Rattle.sshkey_base.specs.Stops.{OverrunsString, AreLengths}
 use Rattle.sshkey_format.specs.Behind.{behind_at}
@@ -15,7 +17,7 @@ use Rattle.sshkey_format.specs.Terms.{IsChosen, mapped_lengths, chosen_lengths}
 use Rattle.sshkey_ciphers.specs.Ciphertexts.{blocks_at}
 use Rattle.sshkey_private.specs.Inner.{padded_below}
 use Rattle.sshkey_private.specs.PrivateKeyReaders.{SpellsPrivateKey, private_value_at, not_encrypted, delimited_value_at, opening_at, sealed_at, unencrypted_below, last_encrypted_at, last_content_at, steps_at}
-use Rattle.sshkey_private.specs.PrivateKeyFormats.{opening_parts, opening_parts_read, OverrunsContent, OverrunsPrivateKey}
+use Rattle.sshkey_private.specs.PrivateKeyFormats.{opening_parts, opening_parts_read, NeedsPrivateKey, OverrunsContent, OverrunsPrivateKey}
 use Rattle.sshkey_private.specs.PrivateKeySteps.{bare, steps_are}
 
 -- ---- with the choices of the spelling
@@ -49,19 +51,18 @@ private_normal k is fits = record { is = is; choices = plain_private_key; place 
 
 -- ---- from the front
 
--- nothing stands behind it, or it ends by itself
-ends : (k : PrivateKey) (front rest : List ℕ) → SpellsPrivateKey k front → may_precede k rest ≡ true → (rest ≡ []) ⊎ (delimited_value_at front ≡ Ok (k, []))
+may_follow : (k : PrivateKey) (front rest : List ℕ) → SpellsPrivateKey k front → may_precede k rest ≡ true → MayFollow delimited_value_at k front rest
 ends (Unencrypted k) front rest s may = inr (rw (private_alone (Unencrypted k) front s) refl)
-ends (Encrypted k) front [] s may = inl refl
-ends (Encrypted k) front (d ∷ rest) s may = absurd cc
+may_follow (Encrypted k) front [] s may = inl refl
+may_follow (Encrypted k) front (d ∷ rest) s may = absurd cc
 
-pub private_takes : (b : List ℕ) (k : PrivateKey) (rest : List ℕ) → private_value_at b ≡ Ok (k, rest) → (front : List ℕ) × SpellsPrivateKey k front × (b ≡ front ++ rest) × ((rest ≡ []) ⊎ (delimited_value_at front ≡ Ok (k, [])))
+pub private_takes : (b : List ℕ) (k : PrivateKey) (rest : List ℕ) → private_value_at b ≡ Ok (k, rest) → (front : List ℕ) × SpellsPrivateKey k front × (b ≡ front ++ rest) × MayFollow delimited_value_at k front rest
 private_takes b k rest e =
     let c = chosen b k rest e in
     let t = decoder.takes b (k, c.0) rest c.1 in
     let front = flat (private_key k c.0) in
     let spells : SpellsPrivateKey k front = record { is = t.0.is; choices = c.0; place = t.0.place; fits = t.1; shape = refl } in
-    (front, spells, t.3, ends k front rest spells t.2)
+    (front, spells, t.3, may_follow k front rest spells t.2)
 
 -- ---- those that end by themselves
 
@@ -118,4 +119,16 @@ unfolding steps_at
 content_chosen limit = record { same = λ b. refl }
 
 pub private_lengths : AreLengths private_value_at OverrunsPrivateKey
-private_lengths b m o = sym (steps_are b) ∙ chosen_lengths (content_chosen 8) opening_lengths (λ h. content_lengths 8 h.cipher h.kdf h.public) b m o
+private_lengths b m o = sym (steps_are b) ∙ chosen_lengths (λ _ _ e. e) (content_chosen 8) opening_lengths (λ h. content_lengths 8 h.cipher h.kdf h.public) b m o
+
+-- ---- the format
+
+abbrev pub private_key_format : Format PrivateKey
+private_key_format = record {
+  Spells = SpellsPrivateKey;
+  read = private_value_at;
+  needs = NeedsPrivateKey;
+  overruns = OverrunsPrivateKey;
+  grammar = record { delimited_at = delimited_value_at; same = private_same; before = private_behind; takes = private_takes; alone = private_alone };
+  lengths = private_lengths;
+}

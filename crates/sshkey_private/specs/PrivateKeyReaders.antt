@@ -22,18 +22,18 @@ SpellsPrivateKey = SpellsWith IsPrivateKey HasPrivateKeyPlaces private_key
 unfoldable pub private_value_at : Front PrivateKey
 private_value_at = value_at decoded_private_key_at
 
--- Bytes behind an encrypted key might be taken for more of it.
+-- the key, where it is not encrypted
 abbrev pub not_encrypted : PrivateKey → Result PrivateKey Fault
 not_encrypted (Unencrypted k) = Ok (Unencrypted k)
 not_encrypted (Encrypted k) = Err (TrailingKeyData 0)
 
 -- of the keys that a reader takes, those that end by themselves: they are not encrypted
-abbrev pub delimited : Front PrivateKey → Front PrivateKey
-delimited = checked_at not_encrypted
+abbrev pub delimited_by : Front PrivateKey → Front PrivateKey
+delimited_by = checked_at not_encrypted
 
 -- a private key that ends by itself
 abbrev pub delimited_value_at : Front PrivateKey
-delimited_value_at = delimited private_value_at
+delimited_value_at = delimited_by private_value_at
 
 -- ---- what stands before the private part
 

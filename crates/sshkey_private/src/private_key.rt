@@ -7,7 +7,7 @@ mod read;
 mod write;
 
 use read::{private_key_from, whole_key_from};
-use sshkey_base::{Algorithm, HashAlg, Reader, Result, encode_vec};
+use sshkey_base::{Algorithm, Decode, Error, HashAlg, NormalForm, Reader, Result, encode_vec};
 use sshkey_ciphers::{Cipher, Kdf};
 use sshkey_keypairs::KeypairData;
 use sshkey_keys::{Fingerprint, KeyData};
@@ -49,6 +49,77 @@ impl Drop for PrivateKey {
     }
 }
 
+impl Decode for PrivateKey {
+    ghost use Rattle.std.specs.Prelude.{IfOk};
+    ghost use Rattle.sshkey_base.specs.Causes.{cause};
+    ghost use Rattle.sshkey_base.specs.Formats.{Stops};
+    ghost use Rattle.sshkey_base.specs.Needs.{Asks};
+    ghost use Rattle.sshkey_base.specs.Reading.{Gives};
+    ghost use Rattle.sshkey_base.specs.Source.{Later};
+    ghost use Rattle.sshkey_model.specs.PrivateKeys as model;
+    ghost use Rattle.sshkey_model.specs.PrivateKeys.{IsPrivateKey};
+    ghost use Rattle.sshkey_private.specs.PrivateKeyFormats.{NeedsPrivateKey};
+    ghost use Rattle.sshkey_private.specs.PrivateKeyGrammars.{private_key_format};
+    ghost use Rattle.sshkey_private.specs.PrivateKeyReaders.{private_value_at};
+    ghost use Rattle.sshkey_private.specs.PrivateKeys.{private_of, HasWrittenComment};
+
+    type Error = Error;
+
+    ghost Meaning = { model.PrivateKey };
+
+    ghost means = { private_of };
+
+    ghost format = { private_key_format };
+
+    /// Reads a private key from the front, and leaves what follows it; nothing may follow an
+    /// encrypted one, whose comment is empty.
+    ///
+    /// It is what the plain reader gives of the bytes that are left. A sound source is rejected for
+    /// memory that ran out, where a part that stands whole needs some, or with the first of these
+    /// faults from the left:
+    ///
+    /// - `FormatEncoding`: other magic bytes
+    /// - `Label`: names of no cipher or derivation
+    /// - the errors of `Kdf`
+    /// - `Length`: another number of keys than one
+    /// - the errors of `KeyData`
+    /// - `Crypto`: a key derivation without a cipher
+    /// - `Length`: a part that is no multiple of eight bytes
+    /// - `Crypto`: the checkint is not the same again
+    /// - the errors of `KeypairData`
+    /// - `PublicKey`: the pair has another public half
+    /// - `Length`: eight bytes or more after the comment
+    /// - `FormatEncoding`: other padding
+    /// - `Crypto`: a ciphertext that is not whole blocks
+    /// - `Error::TrailingData`, with their number: bytes after an encrypted key
+    ///
+    /// On a source with a fault, a key that is not encrypted and complete before the fault fails
+    /// only with `Memory`, and only if it needs some; a stated length of the opening, or of the
+    /// private part, that passes all that was announced is `Length`, unless memory ran out for a
+    /// value before it. How else such a source is rejected is open.
+    fn decode<R: Reader>(alloc: Global, reader: &mut R) -> Result<PrivateKey>
+        ensures gives { Gives private_of cause private_value_at
+            (R.source reader.old) result (R.source reader.new) }
+        ensures later { Later (R.source reader.old) (R.source reader.new) }
+        ensures asks { Asks cause NeedsPrivateKey (R.source reader.old) result }
+        ensures past { Stops cause private_key_format (R.source reader.old) result }
+        ensures comment { IfOk result HasWrittenComment }
+        ensures form { IfOk result (λ k. IsPrivateKey (private_of k)) }
+    {
+        private_key_from(alloc, reader, 7)
+    }
+}
+
+impl NormalForm for PrivateKey {
+    ghost use Rattle.sshkey_model.specs.PrivateKeys.{IsPrivateKey};
+    ghost use Rattle.sshkey_private.specs.PrivateKeyGrammars.{private_normal};
+    ghost use Rattle.sshkey_private.specs.PrivateKeys.{private_of};
+
+    ghost IsWellFormed = { λ k. IsPrivateKey (private_of k) };
+
+    ghost normal_spells = { λ k. private_normal (private_of k) };
+}
+
 impl PrivateKey {
     ghost use Rattle.sshkey_keypairs.specs.Keypairs.{pair_of, public_of as public_half_of, stored_algorithm as pair_algorithm_beside};
     ghost use Rattle.sshkey_keys.specs.KeyKinds.{is_ecdsa, is_ed25519};
@@ -56,9 +127,8 @@ impl PrivateKey {
     ghost use Rattle.sshkey_base.specs.Causes.{cause};
     ghost use Rattle.sshkey_base.specs.Names.{IsFixed, algorithm_of, hash_of};
     ghost use Rattle.sshkey_base.specs.Needs.{Asks};
-    ghost use Rattle.sshkey_base.specs.Reading.{AcceptsWhole, Gives, GivesWhole};
-    ghost use Rattle.sshkey_base.specs.Source.{Later, all_of};
-    ghost use Rattle.sshkey_base.specs.Stops.{StopsBy};
+    ghost use Rattle.sshkey_base.specs.Reading.{AcceptsWhole, GivesWhole};
+    ghost use Rattle.sshkey_base.specs.Source.{all_of};
     ghost use Rattle.sshkey_base.specs.declared.error.Error.TheVariants as wide;
     ghost use Rattle.sshkey_keys.specs.Blobs.{MakesBlob};
     ghost use Rattle.sshkey_keys.specs.Fingerprints.{GivesFingerprint, IsShort};
@@ -69,9 +139,9 @@ impl PrivateKey {
     ghost use Rattle.sshkey_model.specs.Reading.{whole};
     ghost use Rattle.sshkey_ciphers.specs.Ciphers.{cipher_of, kdf_of};
     ghost use Rattle.sshkey_private.specs.Comparisons.{seen};
-    ghost use Rattle.sshkey_private.specs.PrivateKeyReaders.{SpellsPrivateKey, private_value_at, delimited_value_at, padded_value_at};
+    ghost use Rattle.sshkey_private.specs.PrivateKeyReaders.{SpellsPrivateKey, private_value_at, padded_value_at};
     ghost use Rattle.sshkey_private.specs.PaddedKeys.{SpellsPaddedKey};
-    ghost use Rattle.sshkey_private.specs.PrivateKeyFormats.{NeedsPrivateKey, OverrunsPrivateKey};
+    ghost use Rattle.sshkey_private.specs.PrivateKeyFormats.{NeedsPrivateKey};
     ghost use Rattle.sshkey_private.specs.PrivateKeys.{private_of, is_encrypted, data_of, outer_of, with_comment, HasWrittenComment, GivesNew};
     ghost use Rattle.sshkey_public.specs.PublicKeys.{public_of, comment_of, data_of as key_data_of};
 
@@ -114,45 +184,6 @@ impl PrivateKey {
             (λ k. IsTrue (is_ecdsa k || is_ed25519 k) → IsOk result) }
     {
         PrivateKey::new(alloc, key_data, String::new(alloc))
-    }
-
-    /// Reads a private key from the front, and leaves what follows it; nothing may follow an
-    /// encrypted one, whose comment is empty.
-    ///
-    /// It is what the plain reader gives of the bytes that are left. A sound source is rejected for
-    /// memory that ran out, where a part that stands whole needs some, or with the first of these
-    /// faults from the left:
-    ///
-    /// - `FormatEncoding`: other magic bytes
-    /// - `Label`: names of no cipher or derivation
-    /// - the errors of `Kdf`
-    /// - `Length`: another number of keys than one
-    /// - the errors of `KeyData`
-    /// - `Crypto`: a key derivation without a cipher
-    /// - `Length`: a part that is no multiple of eight bytes
-    /// - `Crypto`: the checkint is not the same again
-    /// - the errors of `KeypairData`
-    /// - `PublicKey`: the pair has another public half
-    /// - `Length`: eight bytes or more after the comment
-    /// - `FormatEncoding`: other padding
-    /// - `Crypto`: a ciphertext that is not whole blocks
-    /// - `Error::TrailingData`, with their number: bytes after an encrypted key
-    ///
-    /// On a source with a fault, a key that is not encrypted and complete before the fault fails
-    /// only with `Memory`, and only if it needs some; a stated length of the opening, or of the
-    /// private part, that passes all that was announced is `Length`, unless memory ran out for a
-    /// value before it. How else such a source is rejected is open.
-    pub fn decode<R: Reader>(alloc: Global, reader: &mut R) -> Result<PrivateKey>
-        ensures gives { Gives private_of cause private_value_at
-            (R.source reader.old) result (R.source reader.new) }
-        ensures later { Later (R.source reader.old) (R.source reader.new) }
-        ensures asks { Asks cause NeedsPrivateKey (R.source reader.old) result }
-        ensures past { StopsBy cause delimited_value_at NeedsPrivateKey OverrunsPrivateKey
-            (R.source reader.old) result }
-        ensures comment { IfOk result HasWrittenComment }
-        ensures form { IfOk result (λ k. IsPrivateKey (private_of k)) }
-    {
-        private_key_from(alloc, reader, 7)
     }
 
     /// Reads a private key that all the bytes spell. The comment of an encrypted one is empty.

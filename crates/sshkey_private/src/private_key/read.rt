@@ -16,7 +16,7 @@ ghost use Rattle.sshkey_ciphers.specs.Ciphers.{cipher_of, kdf_of};
 ghost use Rattle.sshkey_ciphers.specs.Ciphertexts.{tag_bytes};
 ghost use Rattle.sshkey_private.specs.Halves.{is_half};
 ghost use Rattle.sshkey_private.specs.Inner.{NeedsInner, NeedsPadded, inner_of};
-ghost use Rattle.sshkey_private.specs.PrivateKeyReaders.{delimited, steps_at, sealed_at, sealed_with, unencrypted_below, last_content_at, last_encrypted_at};
+ghost use Rattle.sshkey_private.specs.PrivateKeyReaders.{delimited_by, steps_at, sealed_at, sealed_with, unencrypted_below, last_content_at, last_encrypted_at};
 ghost use Rattle.sshkey_private.specs.PrivateKeyFormats.{NeedsContent, NeedsPrivateKey, OverrunsContent, OverrunsPrivateKey};
 ghost use Rattle.sshkey_private.specs.PrivateKeys.{private_of, is_encrypted, outer_of, HasWrittenComment};
 ghost use Rattle.sshkey_public.specs.PublicKeys.{comment_of};
@@ -56,7 +56,7 @@ pub(super) fn private_key_from<R: Reader>(
         (R.source reader.old) result (R.source reader.new) }
     ensures later { Later (R.source reader.old) (R.source reader.new) }
     ensures asks { Asks cause NeedsPrivateKey (R.source reader.old) result }
-    ensures past { StopsBy cause (delimited (steps_at (suc most)))
+    ensures past { StopsBy cause (delimited_by (steps_at (suc most)))
         NeedsPrivateKey OverrunsPrivateKey (R.source reader.old) result }
     ensures comment { IfOk result HasWrittenComment }
 {
@@ -78,7 +78,7 @@ fn content_from<R: Reader>(
     ensures asks { Asks cause
         (NeedsContent (cipher_of opening.cipher) (kdf_of opening.kdf) (key_of opening.public))
         (R.source reader.old) result }
-    ensures past { StopsBy cause (delimited (last_content_at (suc most)
+    ensures past { StopsBy cause (delimited_by (last_content_at (suc most)
         (cipher_of opening.cipher) (kdf_of opening.kdf) (key_of opening.public)))
         (NeedsContent (cipher_of opening.cipher) (kdf_of opening.kdf) (key_of opening.public))
         (OverrunsContent (cipher_of opening.cipher) (kdf_of opening.kdf))
@@ -143,7 +143,7 @@ fn encrypted_from<R: Reader>(alloc: Global, reader: &mut R, opening: Opening) ->
         (R.source reader.old) result (R.source reader.new) }
     ensures later { Later (R.source reader.old) (R.source reader.new) }
     ensures asks { Asks cause NeedsString (R.source reader.old) result }
-    ensures past { StopsBy cause (delimited (last_encrypted_at
+    ensures past { StopsBy cause (delimited_by (last_encrypted_at
         (cipher_of opening.cipher) (kdf_of opening.kdf) (key_of opening.public)))
         NeedsString OverrunsString (R.source reader.old) result }
     ensures comment { IfOk result (λ k. comment_of (outer_of k) ≡ []) }

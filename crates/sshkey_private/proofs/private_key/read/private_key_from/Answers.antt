@@ -4,7 +4,7 @@ use Rattle.sshkey_base.specs.Causes.{cause}
 use Rattle.sshkey_format.proofs.Chosen.{chosen_stopped, chosen_stops}
 use Rattle.sshkey_private.specs.declared.private_key.PrivateKey.{PrivateKey}
 use Rattle.sshkey_private.specs.Openings.{opening_of}
-use Rattle.sshkey_private.specs.PrivateKeyReaders.{delimited, opening_at, last_content_at, steps_at}
+use Rattle.sshkey_private.specs.PrivateKeyReaders.{delimited_by, opening_at, last_content_at, steps_at}
 use Rattle.sshkey_private.specs.PrivateKeyFormats.{opening_parts, NeedsContent, OverrunsContent}
 use Rattle.sshkey_private.specs.PrivateKeyGrammars.{opening_lengths}
 use Rattle.sshkey_private.proofs.Stopping.{delimited_chosen}
@@ -14,10 +14,10 @@ pub returns-in_err-opening-clause-past : goal.returns-in_err-opening-clause-past
 returns-in_err-opening-clause-past g c =
     let p = err_from_is_err_and c.from_residual.result c.from_residual.ensures.1 in
     let limit = suc c.args.most in
-    rw (p.1, p.2) (chosen_stopped opening_at (λ h. delimited (last_content_at limit h.cipher h.kdf h.public)) opening_parts.needs opening_parts.overruns (λ h. NeedsContent h.cipher h.kdf h.public) (λ h. OverrunsContent h.cipher h.kdf) _ _ _ (delimited_chosen limit) c.in_err-opening.ensures.past)
+    rw (p.1, p.2) (chosen_stopped opening_at (λ h. delimited_by (last_content_at limit h.cipher h.kdf h.public)) opening_parts.needs opening_parts.overruns (λ h. NeedsContent h.cipher h.kdf h.public) (λ h. OverrunsContent h.cipher h.kdf) _ _ _ (delimited_chosen limit) c.in_err-opening.ensures.past)
 
 pub returns-in_err-content_from-clause-past : goal.returns-in_err-content_from-clause-past
 returns-in_err-content_from-clause-past g c =
     let p = err_from_is_err_and c.from_residual-in_err-content_from.result c.from_residual-in_err-content_from.ensures.1 in
     let limit = suc c.args.most in
-    rw (p.1, p.2) (chosen_stops {W = PrivateKey} opening_of opening_at (λ h. delimited (last_content_at limit h.cipher h.kdf h.public)) (delimited (steps_at limit)) _ _ _ cause (Err c.in_err-content_from.field-0.0) opening_parts.needs opening_parts.overruns (λ h. NeedsContent h.cipher h.kdf h.public) (λ h. OverrunsContent h.cipher h.kdf) c.in_ok-opening.ensures.gives opening_lengths (delimited_chosen limit) c.in_err-content_from.ensures.past)
+    rw (p.1, p.2) (chosen_stops {W = PrivateKey} opening_of opening_at (λ h. delimited_by (last_content_at limit h.cipher h.kdf h.public)) (delimited_by (steps_at limit)) _ _ _ cause (Err c.in_err-content_from.field-0.0) opening_parts.needs opening_parts.overruns (λ h. NeedsContent h.cipher h.kdf h.public) (λ h. OverrunsContent h.cipher h.kdf) c.in_ok-opening.ensures.gives opening_lengths (delimited_chosen limit) c.in_err-content_from.ensures.past)
