@@ -8,3 +8,4 @@ pub use Rattle.sshkey_private.specs.PrivateKeys
 pub use Rattle.sshkey_private.specs.Written
 pub use Rattle.sshkey_private.specs.Comparisons
 pub use Rattle.sshkey_private.specs.PrivateKeyFormats
+pub use Rattle.sshkey_private.specs.PrivateKeyGrammars
