@@ -52,7 +52,7 @@ private_normal k is fits = record { is = is; choices = plain_private_key; place 
 -- ---- from the front
 
 may_follow : (k : PrivateKey) (front rest : List ℕ) → SpellsPrivateKey k front → may_precede k rest ≡ true → MayFollow delimited_value_at k front rest
-ends (Unencrypted k) front rest s may = inr (rw (private_alone (Unencrypted k) front s) refl)
+may_follow (Unencrypted k) front rest s may = inr (rw (private_alone (Unencrypted k) front s) refl)
 may_follow (Encrypted k) front [] s may = inl refl
 may_follow (Encrypted k) front (d ∷ rest) s may = absurd cc
 
