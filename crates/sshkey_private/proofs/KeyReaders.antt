@@ -1,21 +1,17 @@
 -- What a private key is that was read, from the front or from all the bytes.
-use Rattle.std.proofs.Common.{◌≡◌, List, [], ◌∷◌, ℕ, Bool, true, false, cond, eqb, Result, Ok, Err, IfOk, refl, sym, subst, ◌∙◌, arith}
+use Rattle.std.proofs.Common.{◌≡◌, List, [], ℕ, Bool, true, false, cond, eqb, Result, Ok, Err, IfOk, refl, sym, ◌∙◌, arith}
 use Rattle.std.proofs.lemmas.Bool.{eqb-true}
 use Rattle.std.proofs.lemmas.List.{nil_from_length}
 use Rattle.std.proofs.lemmas.Result.{err_from_is_err_and}
-use Rattle.sshkey_model.specs.Reading.{Fault, ◌>>=◌, Front, Whole, end_of, whole}
-use Rattle.sshkey_model.specs.PrivateKeys.{PrivateKey, IsPrivateKey, PrivateKeyChoices, decoded_private_key_at}
-use Rattle.sshkey_model.proofs.CombinedReaders.{bind_ok, ok_is}
-use Rattle.sshkey_model.proofs.PrivateKeyReaders.{whole_private_key_reads}
+use Rattle.sshkey_model.specs.Reading.{Front, Whole, whole}
+use Rattle.sshkey_model.specs.PrivateKeys.{PrivateKey, IsPrivateKey}
 use Rattle.sshkey_base.specs.Causes.{Cause}
 use Rattle.sshkey_base.specs.Source.{Source, announced_len}
 use Rattle.sshkey_base.specs.declared.encoding.Error as encoding
 use Rattle.sshkey_base.specs.declared.encoding.Error.TheVariants as encodings
 use Rattle.sshkey_base.specs.Reading.{Gives, Reads, ReadsAll, GivesWhole, AcceptsWhole}
-use Rattle.sshkey_base.proofs.MappedBoxes.{made}
-use Rattle.sshkey_private.specs.PrivateKeyReaders.{SpellsPrivateKey, private_value_at}
-use Rattle.sshkey_private.specs.PrivateKeySteps.{bare}
-use Rattle.sshkey_private.specs.PrivateKeyGrammars.{private_takes, private_alone}
+use Rattle.sshkey_private.specs.PrivateKeyReaders.{private_value_at}
+use Rattle.sshkey_private.specs.PrivateKeyGrammars.{private_takes}
 
 -- ---- from the front
 
@@ -25,24 +21,6 @@ formed means cause_of s t (Ok k) h = (private_takes s.left (means k) t.left h.va
 formed means cause_of s t (Err e) h = tt
 
 -- ---- from all the bytes
-
-whole_is : (b : List ℕ) → whole private_value_at b ≡ (whole decoded_private_key_at b >>= made {A = PrivateKey × PrivateKeyChoices} (λ x. x.0))
-unfolding private_value_at
-whole_is b = go (decoded_private_key_at b)
-  where
-    go : (r : Result ((PrivateKey × PrivateKeyChoices) × List ℕ) Fault) → ((r >>= bare) >>= λ x. end_of x.0 x.1) ≡ ((r >>= λ x. end_of x.0 x.1) >>= made (λ x. x.0))
-    go (Ok (x, [])) = refl
-    go (Ok (x, (b ∷ rest))) = refl
-    go (Err e) = refl
-
-pub taken : (b : List ℕ) (k : PrivateKey) → whole private_value_at b ≡ Ok k → SpellsPrivateKey k b
-taken b k e =
-    let x = bind_ok (whole decoded_private_key_at b) (made (λ x. x.0)) k (sym (whole_is b) ∙ e) in
-    let t = whole_private_key_reads.takes b x.0 x.1 in
-    subst (λ (z : PrivateKey). SpellsPrivateKey z b) (ok_is x.0.0 k x.2) (record { is = t.0.is; choices = x.0.1; place = t.0.place; fits = t.1; shape = t.2 })
-
-pub spelled_is : (b : List ℕ) (k : PrivateKey) → SpellsPrivateKey k b → whole private_value_at b ≡ Ok k
-spelled_is b k s = rw (private_alone k b s) refl
 
 -- the same of a reader that gives the same
 pub same_whole : {X E : Type 0} (means : X → PrivateKey) (cause_of : E → Cause) (read other : Front PrivateKey) (s : Source) (r : Result X E) → ((b : List ℕ) → read b ≡ other b) → GivesWhole means cause_of (whole read) s r → GivesWhole means cause_of (whole other) s r

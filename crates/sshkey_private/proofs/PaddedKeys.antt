@@ -8,6 +8,7 @@ use Rattle.sshkey_model.specs.KeyDerivation.{Cipher, NoCipher, Kdf, NoKdf, Bcryp
 use Rattle.sshkey_model.specs.KeyPairs.{KeyPairChoices}
 use Rattle.sshkey_model.specs.PrivateKeys.{PrivateKey, Unencrypted, Encrypted, rising, private_part, private_part_at, encrypted_at, may_precede}
 use Rattle.sshkey_model.proofs.CombinedReaders.{bind_assoc, bind_ok, ok_is, met}
+use Rattle.sshkey_base.proofs.Accepted.{whole_spelled_by}
 use Rattle.sshkey_base.proofs.MappedBoxes.{on_value, made, box_map}
 use Rattle.sshkey_ciphers.specs.Paddings.{end_padding_below}
 use Rattle.sshkey_private.specs.Inner.{padded_below}
@@ -16,8 +17,7 @@ use Rattle.sshkey_private.specs.PrivateKeyReaders.{SpellsPrivateKey, private_val
 use Rattle.sshkey_private.proofs.PaddedKeyReaders.{Part, part_reads, counted, Content, counted_part_at, counted_content, uncounted, counted_content_at, Chosen, chosen, counted_key_at, counted_key_reads}
 use Rattle.sshkey_private.specs.PrivateKeySteps as keys
 use Rattle.sshkey_private.specs.PrivateKeySteps.{Opened, opening, opened_at, opening_is, unencrypted_key, encrypted_is}
-use Rattle.sshkey_private.specs.PrivateKeyGrammars.{nothing_behind}
-use Rattle.sshkey_private.proofs.KeyReaders.{taken}
+use Rattle.sshkey_private.specs.PrivateKeyGrammars.{nothing_behind, private_key_format}
 
 -- ---- the private part
 
@@ -135,4 +135,4 @@ plain_padding (Unencrypted k) b s =
 plain_padding (Encrypted k) b s = record { is = s.is; choices = record { key = s.choices; padding = 0 }; place = (s.place, refl); fits = s.fits; shape = s.shape }
 
 pub plain_read : (b : List ℕ) (k : PrivateKey) → whole private_value_at b ≡ Ok k → whole padded_value_at b ≡ Ok k
-plain_read b k e = padded_spelled b k (plain_padding k b (taken b k e))
+plain_read b k e = padded_spelled b k (plain_padding k b (whole_spelled_by private_key_format.grammar b k e))

@@ -77,8 +77,8 @@ private_same b x e =
     let is : y.0.0 ≡ k.0 = kept y.0.0 k.0 k.1 in
     y.1 ∙ (λ i. Ok (is i, y.0.1)) ∙ k.2
 
-pub private_behind : (b : List ℕ) (k : PrivateKey) (r rest : List ℕ) → delimited_value_at b ≡ Ok (k, r) → delimited_value_at (b ++ rest) ≡ Ok (k, r ++ rest)
-private_behind b (Unencrypted k) r rest e =
+pub private_before : (b : List ℕ) (k : PrivateKey) (r rest : List ℕ) → delimited_value_at b ≡ Ok (k, r) → delimited_value_at (b ++ rest) ≡ Ok (k, r ++ rest)
+private_before b (Unencrypted k) r rest e =
     let key = Unencrypted k in
     let c = chosen b key r (private_same b (key, r) e) in
     let t = decoder.takes b (key, c.0) r c.1 in
@@ -86,7 +86,7 @@ private_behind b (Unencrypted k) r rest e =
     let more : b ++ rest ≡ front ++ (r ++ rest) = ap (λ (l : List ℕ). l ++ rest) t.3 ∙ append_assoc front r rest in
     let read = decoder.again (key, c.0) (r ++ rest) t.0 t.1 refl in
     rw (without_choices (b ++ rest) key c.0 (r ++ rest) (ap decoded_private_key_at more ∙ read)) refl
-private_behind b (Encrypted k) r rest e = let same = private_same b (Encrypted k, r) e in absurd (cc (rw same at e))
+private_before b (Encrypted k) r rest e = let same = private_same b (Encrypted k, r) e in absurd (cc (rw same at e))
 
 -- ---- where a stated length passes
 
@@ -129,6 +129,6 @@ private_key_format = record {
   read = private_value_at;
   needs = NeedsPrivateKey;
   overruns = OverrunsPrivateKey;
-  grammar = record { delimited_at = delimited_value_at; same = private_same; before = private_behind; takes = private_takes; alone = private_alone };
+  grammar = record { delimited_at = delimited_value_at; same = private_same; before = private_before; takes = private_takes; alone = private_alone };
   lengths = private_lengths;
 }

@@ -94,9 +94,10 @@ impl Decode for PrivateKey {
     /// - `Error::TrailingData`, with their number: bytes after an encrypted key
     ///
     /// On a source with a fault, a key that is not encrypted and complete before the fault fails
-    /// only with `Memory`, and only if it needs some; a stated length of the opening, or of the
-    /// private part, that passes all that was announced is `Length`, unless memory ran out for a
-    /// value before it. How else such a source is rejected is open.
+    /// only with `Memory`, and only if it needs some. A length that stands in the opening, or the
+    /// one before the private part or the ciphertext, fails with `Length` where it passes all that
+    /// was announced, unless memory ran out for a value before it, or a key derivation stands
+    /// without a cipher. How else such a source is rejected is open.
     fn decode<R: Reader>(alloc: Global, reader: &mut R) -> Result<PrivateKey>
         ensures gives { Gives private_of cause private_value_at
             (R.source reader.old) result (R.source reader.new) }
