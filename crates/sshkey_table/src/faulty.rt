@@ -53,6 +53,7 @@ pub(crate) fn overlong(alloc: Global, kind: &str, parts: &[Vec<u8>]) -> Result<S
         "scalar" => each_place::<EcdsaPrivateKey<32>>(alloc, bytes, places),
         "derivation" => each_place::<Kdf>(alloc, bytes, places),
         "pair" => each_place::<KeypairData>(alloc, bytes, places),
+        "private-key" => each_place::<PrivateKey>(alloc, bytes, places),
         _ => Err(NO_LINE),
     }
 }

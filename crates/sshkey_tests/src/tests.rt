@@ -26,6 +26,7 @@ mod openssh;
 mod pair_parts;
 mod pairs;
 mod paths;
+mod private_keys;
 mod program;
 mod readers;
 mod setters;
