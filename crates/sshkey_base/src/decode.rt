@@ -40,10 +40,10 @@ pub trait Decode: Sized {
     /// follow one that does not: an encrypted private key, or a value whose last part is one.
     ///
     /// On a source with a fault, a value that is complete before the fault and ends by itself fails
-    /// only with `Memory`, and only if it needs some; a stated length that exceeds all that was
-    /// announced fails with `Length`, unless memory ran out for a value before it. Nothing else is
-    /// promised of such a source. After an error some of the remaining bytes may have been
-    /// consumed; nothing else has changed.
+    /// only with `Memory`, and only if it needs some; a stated length that the format names and
+    /// that exceeds all that was announced fails with `Length`, unless memory ran out for a value
+    /// before it. Nothing else is promised of such a source. After an error some of the remaining
+    /// bytes may have been consumed; nothing else has changed.
     fn decode<R: Reader>(alloc: Global, reader: &mut R) -> Result<Self, Self::Error>
         ensures gives { Gives means Self.Error.cause format.read
             (R.source reader.old) result (R.source reader.new) }

@@ -8,6 +8,9 @@ use std::alloc::Global;
 
 /// Two values, the second directly after the first.
 ///
+/// Where the second has bytes, the first has to end by itself, as an encrypted private key does
+/// not.
+///
 /// Decoding reads the first and then the second, and fails with the first error. It allocates only
 /// where one of the two does. Three values are a `Then` whose second is a `Then`.
 #[derive(Drop)]
