@@ -1,7 +1,10 @@
-use Rattle.std.proofs.lemmas.Result.{err_from_is_err_and}
+use Rattle.std.proofs.Common.{Ok}
+use Rattle.ssh_key.specs.base.Causes.{cause}
+use Rattle.ssh_key.proofs.Stopping.{mapped_stops}
+use Rattle.agent_codec.specs.Parts.{checked_read}
+use Rattle.agent_codec.specs.Records.{addition_format}
+use Rattle.agent_codec.specs.Requests.{Add}
 use Rattle.agent_codec.proofs.request.read.addition_from.Goals as goal
 
 pub returns-in_err-addition-clause-past : goal.returns-in_err-addition-clause-past
-returns-in_err-addition-clause-past g c =
-    let p = err_from_is_err_and c.from_residual.result c.from_residual.ensures.1 in
-    rw (p.1, p.2) c.in_err-addition.ensures.past.past
+returns-in_err-addition-clause-past g c = mapped_stops _ _ _ _ _ _ cause _ _ c.from_residual.ensures.1 (checked_read (λ a. Ok (Add a)) addition_format.grammar.delimited_at) c.in_err-addition.ensures.past
