@@ -15,7 +15,7 @@ use Rattle.ssh_key.specs.format.Terms.{IsMapped, boxed, called, tested}
 use Rattle.ssh_key.specs.format.Tested.{SpellsTested}
 use Rattle.ssh_key.specs.model.Grammar.{IsGrammar}
 use Rattle.ssh_key.specs.model.Parts.{Parts, ◌&◌, box, flat, number, Fits}
-use Rattle.ssh_key.specs.model.Reading.{Fault, Front, checked_at, ◌>>=◌}
+use Rattle.ssh_key.specs.model.Reading.{Fault, Front, checked_at}
 use Rattle.ssh_key.proofs.CombinedReaders.{fits_first, fits_inside, fits_length, fits_second, ok_is}
 use Rattle.ssh_key.proofs.Writing.{length_number8}
 
