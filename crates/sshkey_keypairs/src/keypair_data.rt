@@ -210,6 +210,7 @@ impl Decode for KeypairData {
 }
 
 /// The pair under that algorithm.
+#[tactic(auto, using(sshkey_base::proofs::Steps::steps, sshkey_base::proofs::Stopping::stopping))]
 fn pair_from<R: Reader>(alloc: Global, reader: &mut R, algorithm: Algorithm) -> Result<KeypairData>
     ensures gives { GivesPair (algorithm_of algorithm) R.source reader.old result reader.new }
     ensures algorithm { IfOk result
@@ -219,27 +220,14 @@ fn pair_from<R: Reader>(alloc: Global, reader: &mut R, algorithm: Algorithm) -> 
     ensures past { StopsPair (algorithm_of algorithm) R.source reader.old result }
 {
     match algorithm {
-        Algorithm::Dsa => dsa_from(alloc, reader),
+        Algorithm::Dsa => DsaKeypair::decode(alloc, reader).map(KeypairData::Dsa),
         Algorithm::Ecdsa { curve } => ecdsa_from(alloc, reader, curve),
-        Algorithm::Ed25519 => ed25519_from(alloc, reader),
-        Algorithm::Rsa { hash: _ } => rsa_from(alloc, reader),
-        Algorithm::SkEcdsaSha2NistP256 => sk_ecdsa_from(alloc, reader),
-        Algorithm::SkEd25519 => sk_ed25519_from(alloc, reader),
+        Algorithm::Ed25519 => Ed25519Keypair::decode(alloc, reader).map(KeypairData::Ed25519),
+        Algorithm::Rsa { hash: _ } => RsaKeypair::decode(alloc, reader).map(KeypairData::Rsa),
+        Algorithm::SkEcdsaSha2NistP256 => SkEcdsaSha2NistP256::decode(alloc, reader).map(KeypairData::SkEcdsaSha2NistP256),
+        Algorithm::SkEd25519 => SkEd25519::decode(alloc, reader).map(KeypairData::SkEd25519),
         Algorithm::Other(name) => opaque_from(alloc, reader, Algorithm::Other(name)),
     }
-}
-
-/// A DSA pair.
-#[tactic(auto, using(sshkey_base::proofs::Steps::steps, sshkey_base::proofs::Stopping::stopping))]
-fn dsa_from<R: Reader>(alloc: Global, reader: &mut R) -> Result<KeypairData>
-    ensures gives { GivesPair Dsa R.source reader.old result reader.new }
-    ensures algorithm { IfOk result (λ k. stored_algorithm k ≡ Some Dsa) }
-    ensures later { Later (R.source reader.old) (R.source reader.new) }
-    ensures asks { Asks cause (NeedsPair Dsa) (R.source reader.old) result }
-    ensures past { StopsPair Dsa R.source reader.old result }
-{
-    let pair = DsaKeypair::decode(alloc, reader)?;
-    Ok(KeypairData::Dsa(pair))
 }
 
 /// An ECDSA pair on that curve. Fails with `AlgorithmUnknown` for another curve, after the scalar
@@ -257,58 +245,6 @@ fn ecdsa_from<R: Reader>(alloc: Global, reader: &mut R, curve: EcdsaCurve) -> Re
         return Err(Error::AlgorithmUnknown);
     }
     Ok(KeypairData::Ecdsa(pair))
-}
-
-/// An Ed25519 pair.
-#[tactic(auto, using(sshkey_base::proofs::Steps::steps, sshkey_base::proofs::Stopping::stopping))]
-fn ed25519_from<R: Reader>(alloc: Global, reader: &mut R) -> Result<KeypairData>
-    ensures gives { GivesPair Ed25519 R.source reader.old result reader.new }
-    ensures algorithm { IfOk result (λ k. stored_algorithm k ≡ Some Ed25519) }
-    ensures later { Later (R.source reader.old) (R.source reader.new) }
-    ensures asks { Asks cause (NeedsPair Ed25519) (R.source reader.old) result }
-    ensures past { StopsPair Ed25519 R.source reader.old result }
-{
-    let pair = Ed25519Keypair::decode(alloc, reader)?;
-    Ok(KeypairData::Ed25519(pair))
-}
-
-/// An RSA pair.
-#[tactic(auto, using(sshkey_base::proofs::Steps::steps, sshkey_base::proofs::Stopping::stopping))]
-fn rsa_from<R: Reader>(alloc: Global, reader: &mut R) -> Result<KeypairData>
-    ensures gives { GivesPair (Rsa None) R.source reader.old result reader.new }
-    ensures algorithm { IfOk result (λ k. stored_algorithm k ≡ Some (Rsa None)) }
-    ensures later { Later (R.source reader.old) (R.source reader.new) }
-    ensures asks { Asks cause (NeedsPair (Rsa None)) (R.source reader.old) result }
-    ensures past { StopsPair (Rsa None) R.source reader.old result }
-{
-    let pair = RsaKeypair::decode(alloc, reader)?;
-    Ok(KeypairData::Rsa(pair))
-}
-
-/// A P-256 pair of a security key.
-#[tactic(auto, using(sshkey_base::proofs::Steps::steps, sshkey_base::proofs::Stopping::stopping))]
-fn sk_ecdsa_from<R: Reader>(alloc: Global, reader: &mut R) -> Result<KeypairData>
-    ensures gives { GivesPair SkEcdsa R.source reader.old result reader.new }
-    ensures algorithm { IfOk result (λ k. stored_algorithm k ≡ Some SkEcdsa) }
-    ensures later { Later (R.source reader.old) (R.source reader.new) }
-    ensures asks { Asks cause (NeedsPair SkEcdsa) (R.source reader.old) result }
-    ensures past { StopsPair SkEcdsa R.source reader.old result }
-{
-    let pair = SkEcdsaSha2NistP256::decode(alloc, reader)?;
-    Ok(KeypairData::SkEcdsaSha2NistP256(pair))
-}
-
-/// An Ed25519 pair of a security key.
-#[tactic(auto, using(sshkey_base::proofs::Steps::steps, sshkey_base::proofs::Stopping::stopping))]
-fn sk_ed25519_from<R: Reader>(alloc: Global, reader: &mut R) -> Result<KeypairData>
-    ensures gives { GivesPair AlgorithmSkEd25519 R.source reader.old result reader.new }
-    ensures algorithm { IfOk result (λ k. stored_algorithm k ≡ Some AlgorithmSkEd25519) }
-    ensures later { Later (R.source reader.old) (R.source reader.new) }
-    ensures asks { Asks cause (NeedsPair AlgorithmSkEd25519) (R.source reader.old) result }
-    ensures past { StopsPair AlgorithmSkEd25519 R.source reader.old result }
-{
-    let pair = SkEd25519::decode(alloc, reader)?;
-    Ok(KeypairData::SkEd25519(pair))
 }
 
 /// A pair under a private-use name.

@@ -24,7 +24,6 @@ use Rattle.sshkey_keys.specs.declared.key_data.KeyData.TheVariants as kinds
 use Rattle.sshkey_keys.specs.Keys.{stored_algorithm, key_of}
 use Rattle.sshkey_keys.specs.KeyFormats.{body_format}
 use Rattle.sshkey_keys.specs.KeyReaders.{body_grammar}
-use Rattle.sshkey_keys.specs.ReadBodies.{ReadsBody}
 
 pub body_accepted : (a : Algorithm) (s t : Source) (r : Result KeyData Error) → Gives key_of cause (body_at a) s r t → AcceptsFront key_of (SpellsBody a) cause s r t
 body_accepted a s t r gives = accepts_front (body_grammar a) key_of cause s t r gives
@@ -51,10 +50,6 @@ not_opaque (kinds.SkEd25519 k) a named is = is
 pub body_beside : (a : Algorithm) (s t : Source) (r : Result KeyData Error) → is_named (unhashed a) ≡ true → Gives key_of cause (body_at a) s r t → IfOk r (λ k. stored_algorithm k ≡ unhashed a)
 body_beside a s t (Ok k) named gives = not_opaque k (unhashed a) named (((body_reads a).takes s.left (key_of k) t.left gives.value).0.0)
 body_beside a s t (Err e) named gives = tt
-
--- what a call does that reads the body under a fixed name
-pub fixed_read : (a : rust.Algorithm) (s t : Source) (r : Result KeyData Error) → is_named (unhashed (algorithm_of a)) ≡ true → Gives key_of cause (body_at (algorithm_of a)) s r t → Later s t → Asks cause (body_format (algorithm_of a)).needs s r → Stops cause (body_format (algorithm_of a)) s r → ReadsBody a s r t
-fixed_read a s t r named gives later asks past = record { gives = gives; later = later; asks = asks; past = past; beside = body_beside (algorithm_of a) s t r named gives }
 
 -- ---- an ECDSA key of another curve than the algorithm's
 

@@ -12,4 +12,3 @@ pub mod Asked
 pub mod Blobs
 pub mod SignatureReaders
 pub mod KeyFormats
-pub mod ReadBodies

@@ -17,7 +17,6 @@ ghost use Rattle.sshkey_keys.specs.Keys.{DecodesBody, key_of, stored_algorithm};
 ghost use Rattle.sshkey_keys.specs.KeyKinds.{is_ecdsa, is_ed25519};
 ghost use Rattle.sshkey_keys.specs.KeyFormats.{body_format, key_format};
 ghost use Rattle.sshkey_keys.specs.KeyReaders.{key_normal};
-ghost use Rattle.sshkey_keys.specs.ReadBodies.{ReadsBody};
 
 mod certificate_name;
 mod from;
@@ -212,30 +211,26 @@ impl KeyData {
 }
 
 /// What stands after the name of that algorithm.
+#[tactic(auto, using(sshkey_base::proofs::Steps::steps), unfolding(sshkey_kinds::specs::Bodies::ed25519_body_at))]
 fn body_from<R: Reader>(alloc: Global, reader: &mut R, algorithm: Algorithm) -> Result<KeyData>
-    ensures { ReadsBody algorithm (R.source reader.old) result (R.source reader.new) }
+    ensures gives { DecodesBody (algorithm_of algorithm) R.source reader.old result reader.new }
+    ensures later { Later (R.source reader.old) (R.source reader.new) }
+    ensures asks { Asks cause (body_format (algorithm_of algorithm)).needs
+        (R.source reader.old) result }
+    ensures past { Stops cause (body_format (algorithm_of algorithm)) (R.source reader.old) result }
+    ensures beside { IfOk result (λ k. stored_algorithm k ≡ unhashed (algorithm_of algorithm)) }
 {
     match algorithm {
-        Algorithm::Dsa => dsa_from(alloc, reader),
+        Algorithm::Dsa => DsaPublicKey::decode(alloc, reader).map(KeyData::Dsa),
         Algorithm::Ecdsa { curve } => ecdsa_from(alloc, reader, curve),
-        Algorithm::Ed25519 => ed25519_from(alloc, reader),
-        Algorithm::Rsa { hash: _ } => rsa_from(alloc, reader),
-        Algorithm::SkEcdsaSha2NistP256 => sk_ecdsa_from(alloc, reader),
-        Algorithm::SkEd25519 => sk_ed25519_from(alloc, reader),
+        Algorithm::Ed25519 => Ok(KeyData::Ed25519(Ed25519PublicKey::decode(alloc, reader)?)),
+        Algorithm::Rsa { hash: _ } => RsaPublicKey::decode(alloc, reader).map(KeyData::Rsa),
+        Algorithm::SkEcdsaSha2NistP256 => {
+            SkEcdsaSha2NistP256::decode(alloc, reader).map(KeyData::SkEcdsaSha2NistP256)
+        }
+        Algorithm::SkEd25519 => SkEd25519::decode(alloc, reader).map(KeyData::SkEd25519),
         Algorithm::Other(name) => opaque_from(alloc, reader, Algorithm::Other(name)),
     }
-}
-
-/// The body of a DSA key.
-#[tactic(auto, using(sshkey_base::proofs::Steps::steps))]
-fn dsa_from<R: Reader>(alloc: Global, reader: &mut R) -> Result<KeyData>
-    ensures gives { DecodesBody Dsa R.source reader.old result reader.new }
-    ensures later { Later (R.source reader.old) (R.source reader.new) }
-    ensures asks { Asks cause (body_format Dsa).needs (R.source reader.old) result }
-    ensures past { Stops cause (body_format Dsa) (R.source reader.old) result }
-{
-    let key = DsaPublicKey::decode(alloc, reader)?;
-    Ok(KeyData::Dsa(key))
 }
 
 /// The body of an ECDSA key of that curve. Fails with `AlgorithmUnknown` for another curve.
@@ -252,54 +247,6 @@ fn ecdsa_from<R: Reader>(alloc: Global, reader: &mut R, curve: EcdsaCurve) -> Re
         return Err(Error::AlgorithmUnknown);
     }
     Ok(KeyData::Ecdsa(key))
-}
-
-/// The body of an Ed25519 key.
-#[tactic(auto, using(sshkey_base::proofs::Steps::steps), unfolding(sshkey_kinds::specs::Bodies::ed25519_body_at))]
-fn ed25519_from<R: Reader>(alloc: Global, reader: &mut R) -> Result<KeyData>
-    ensures gives { DecodesBody Ed25519 R.source reader.old result reader.new }
-    ensures later { Later (R.source reader.old) (R.source reader.new) }
-    ensures asks { Asks cause (body_format Ed25519).needs (R.source reader.old) result }
-    ensures past { Stops cause (body_format Ed25519) (R.source reader.old) result }
-{
-    let key = Ed25519PublicKey::decode(alloc, reader)?;
-    Ok(KeyData::Ed25519(key))
-}
-
-/// The body of an RSA key.
-#[tactic(auto, using(sshkey_base::proofs::Steps::steps))]
-fn rsa_from<R: Reader>(alloc: Global, reader: &mut R) -> Result<KeyData>
-    ensures gives { DecodesBody (Rsa None) R.source reader.old result reader.new }
-    ensures later { Later (R.source reader.old) (R.source reader.new) }
-    ensures asks { Asks cause (body_format (Rsa None)).needs (R.source reader.old) result }
-    ensures past { Stops cause (body_format (Rsa None)) (R.source reader.old) result }
-{
-    let key = RsaPublicKey::decode(alloc, reader)?;
-    Ok(KeyData::Rsa(key))
-}
-
-/// The body of a P-256 key that a security key holds.
-#[tactic(auto, using(sshkey_base::proofs::Steps::steps))]
-fn sk_ecdsa_from<R: Reader>(alloc: Global, reader: &mut R) -> Result<KeyData>
-    ensures gives { DecodesBody SkEcdsa R.source reader.old result reader.new }
-    ensures later { Later (R.source reader.old) (R.source reader.new) }
-    ensures asks { Asks cause (body_format SkEcdsa).needs (R.source reader.old) result }
-    ensures past { Stops cause (body_format SkEcdsa) (R.source reader.old) result }
-{
-    let key = SkEcdsaSha2NistP256::decode(alloc, reader)?;
-    Ok(KeyData::SkEcdsaSha2NistP256(key))
-}
-
-/// The body of an Ed25519 key that a security key holds.
-#[tactic(auto, using(sshkey_base::proofs::Steps::steps))]
-fn sk_ed25519_from<R: Reader>(alloc: Global, reader: &mut R) -> Result<KeyData>
-    ensures gives { DecodesBody AlgorithmSkEd25519 R.source reader.old result reader.new }
-    ensures later { Later (R.source reader.old) (R.source reader.new) }
-    ensures asks { Asks cause (body_format AlgorithmSkEd25519).needs (R.source reader.old) result }
-    ensures past { Stops cause (body_format AlgorithmSkEd25519) (R.source reader.old) result }
-{
-    let key = SkEd25519::decode(alloc, reader)?;
-    Ok(KeyData::SkEd25519(key))
 }
 
 /// The body of a key under a private-use name.

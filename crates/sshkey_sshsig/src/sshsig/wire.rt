@@ -92,7 +92,7 @@ fn check_version(number: u32) -> Result<Version>
 }
 
 /// A version in four bytes.
-#[tactic(auto, using(sshkey_base::proofs::Steps::steps, sshkey_base::proofs::Stopping::stopping), unfolding(sshkey_model::specs::SshSignatures::version_at))]
+#[tactic(auto, using(sshkey_base::proofs::Steps::steps, sshkey_base::proofs::Stopping::stopping, crate::specs::SshSignatureFormats::checked_read))]
 impl Decode for Version {
     type Error = Error;
 
@@ -119,7 +119,7 @@ fn check_namespace(text: Text) -> Result<Namespace>
 }
 
 /// A text that is not empty.
-#[tactic(auto, using(sshkey_base::proofs::Steps::steps, sshkey_base::proofs::Stopping::stopping, sshkey_base::specs::Lengths::text_lengths), unfolding(sshkey_model::specs::SshSignatures::namespace_at))]
+#[tactic(auto, using(sshkey_base::proofs::Steps::steps, sshkey_base::proofs::Stopping::stopping, sshkey_base::specs::Lengths::text_lengths, crate::specs::SshSignatureFormats::checked_read))]
 impl Decode for Namespace {
     type Error = Error;
 
@@ -147,7 +147,7 @@ type Statement = Then<Namespace, Then<Wide<Bytes>, Then<Wide<HashAlg>, Boxed<Sig
 /// Fails with `FormatEncoding` for other bytes than `SSHSIG`, with `Version` and its number for a
 /// version above 1, with `Namespace` for an empty namespace, with `Label` for the name of no hash,
 /// and as `KeyData` and `Signature` do.
-#[tactic(auto, using(sshkey_format::proofs::Mapped::mapped, crate::specs::SshSignatureFormats::ssh_signature_parts_read), unfolding(sshkey_model::specs::Names::hash_at, sshkey_base::specs::Labels::label_at))]
+#[tactic(auto, using(sshkey_format::proofs::Mapped::mapped, crate::specs::SshSignatureFormats::checked_read))]
 impl Decode for SshSig {
     type Error = Error;
 
