@@ -7,7 +7,7 @@ import sys
 
 ROOT = os.path.dirname(os.path.dirname(os.path.dirname(os.path.abspath(__file__))))
 # the built program that answers lines of questions
-TABLE = os.path.join(ROOT, "crates", "sshkey_table", "out", "sshkey_table")
+TABLE = os.path.join(ROOT, "crates", "sshkey_cases", "out", "sshkey_cases")
 
 
 class Count:

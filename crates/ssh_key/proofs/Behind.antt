@@ -1,2 +1,2 @@
 -- A call that reads a value, and what stands behind it.
-pub use Rattle.sshkey_format.proofs.Behind.{both_refused_first, both_refused_later, both_reads}
+pub use Rattle.sshkey_terms.proofs.Behind.{both_refused_first, both_refused_later, both_reads}

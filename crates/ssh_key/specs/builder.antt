@@ -1,1 +1,1 @@
-pub use Rattle.sshkey_builder.specs.Builders
+pub use Rattle.sshkey_cert_builder.specs.Builders

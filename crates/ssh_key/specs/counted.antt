@@ -1,2 +1,2 @@
-pub use Rattle.sshkey_format.specs.ToEnd
-pub use Rattle.sshkey_format.specs.Counted
+pub use Rattle.sshkey_terms.specs.ToEnd
+pub use Rattle.sshkey_terms.specs.Counted

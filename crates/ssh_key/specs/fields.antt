@@ -1,1 +1,1 @@
-pub use Rattle.sshkey_files.specs.KeyFields
+pub use Rattle.sshkey_entries.specs.KeyFields

@@ -1,3 +1,3 @@
-pub use Rattle.sshkey_format.specs.Behind
-pub use Rattle.sshkey_format.specs.Terms
-pub use Rattle.sshkey_format.specs.Tested
+pub use Rattle.sshkey_terms.specs.Behind
+pub use Rattle.sshkey_terms.specs.Terms
+pub use Rattle.sshkey_terms.specs.Tested

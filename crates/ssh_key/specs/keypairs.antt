@@ -1,6 +1,6 @@
-pub use Rattle.sshkey_keypairs.specs.OpaquePairs
-pub use Rattle.sshkey_keypairs.specs.KeypairFormats
-pub use Rattle.sshkey_keypairs.specs.KeypairReaders
-pub use Rattle.sshkey_keypairs.specs.Keypairs
-pub use Rattle.sshkey_keypairs.specs.PairKinds
-pub use Rattle.sshkey_keypairs.specs.NormalPairs
+pub use Rattle.sshkey_pairs.specs.OpaquePairs
+pub use Rattle.sshkey_pairs.specs.KeypairFormats
+pub use Rattle.sshkey_pairs.specs.KeypairReaders
+pub use Rattle.sshkey_pairs.specs.Keypairs
+pub use Rattle.sshkey_pairs.specs.PairKinds
+pub use Rattle.sshkey_pairs.specs.NormalPairs

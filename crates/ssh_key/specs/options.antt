@@ -1,7 +1,7 @@
-pub use Rattle.sshkey_options.specs.Leaves
-pub use Rattle.sshkey_options.specs.Times
-pub use Rattle.sshkey_options.specs.CertTypes
-pub use Rattle.sshkey_options.specs.OptionReaders
-pub use Rattle.sshkey_options.specs.OptionMaps
-pub use Rattle.sshkey_options.specs.Comparisons
-pub use Rattle.sshkey_options.specs.OptionLists
+pub use Rattle.sshkey_cert_values.specs.Leaves
+pub use Rattle.sshkey_cert_values.specs.Times
+pub use Rattle.sshkey_cert_values.specs.CertTypes
+pub use Rattle.sshkey_cert_values.specs.OptionReaders
+pub use Rattle.sshkey_cert_values.specs.OptionMaps
+pub use Rattle.sshkey_cert_values.specs.Comparisons
+pub use Rattle.sshkey_cert_values.specs.OptionLists

@@ -1,7 +1,7 @@
-pub use Rattle.sshkey_pairs.specs.PairReaders
-pub use Rattle.sshkey_pairs.specs.PairFormats
-pub use Rattle.sshkey_pairs.specs.PrivateHalves
-pub use Rattle.sshkey_pairs.specs.Pairs
-pub use Rattle.sshkey_pairs.specs.SkEcdsaSha2NistP256
-pub use Rattle.sshkey_pairs.specs.SkEd25519
-pub use Rattle.sshkey_pairs.specs.SecurityPairs
+pub use Rattle.sshkey_pair_kinds.specs.PairReaders
+pub use Rattle.sshkey_pair_kinds.specs.PairFormats
+pub use Rattle.sshkey_pair_kinds.specs.PrivateHalves
+pub use Rattle.sshkey_pair_kinds.specs.Pairs
+pub use Rattle.sshkey_pair_kinds.specs.SkEcdsaSha2NistP256
+pub use Rattle.sshkey_pair_kinds.specs.SkEd25519
+pub use Rattle.sshkey_pair_kinds.specs.SecurityPairs

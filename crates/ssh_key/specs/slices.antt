@@ -1,1 +1,1 @@
-pub use Rattle.sshkey_format.specs.Slices
+pub use Rattle.sshkey_terms.specs.Slices

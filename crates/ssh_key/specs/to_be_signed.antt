@@ -1,5 +1,5 @@
-pub use Rattle.sshkey_to_be_signed.specs.ToBeSignedReaders
-pub use Rattle.sshkey_to_be_signed.specs.ToBeSignedFormats
-pub use Rattle.sshkey_to_be_signed.specs.ToBeSignedValues
-pub use Rattle.sshkey_to_be_signed.specs.ToBeSignedParts
-pub use Rattle.sshkey_to_be_signed.specs.Comparisons
+pub use Rattle.sshkey_cert_fields.specs.ToBeSignedReaders
+pub use Rattle.sshkey_cert_fields.specs.ToBeSignedFormats
+pub use Rattle.sshkey_cert_fields.specs.ToBeSignedValues
+pub use Rattle.sshkey_cert_fields.specs.ToBeSignedParts
+pub use Rattle.sshkey_cert_fields.specs.Comparisons

@@ -1,7 +1,7 @@
 //! Private keys, and the pairs that they hold.
 
-pub use sshkey_keypairs::{KeypairData, OpaqueKeypair, OpaqueKeypairBytes, OpaquePrivateKeyBytes};
-pub use sshkey_pairs::{
+pub use sshkey_pairs::{KeypairData, OpaqueKeypair, OpaqueKeypairBytes, OpaquePrivateKeyBytes};
+pub use sshkey_pair_kinds::{
     DsaKeypair, DsaPrivateKey, EcdsaKeypair, EcdsaPrivateKey, Ed25519Keypair, Ed25519PrivateKey,
     RsaKeypair, RsaPrivateKey, SkEcdsaSha2NistP256, SkEd25519,
 };

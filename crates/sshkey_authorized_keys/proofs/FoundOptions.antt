@@ -2,7 +2,7 @@
 use Rattle.std.proofs.Common.{◌≡◌, ℕ, List, [], ◌∷◌, ◌++◌, Some, sym, ap, subst, ◌∙◌, append_assoc, append-nil}
 use Rattle.std.specs.List.{All}
 use Rattle.std.proofs.lemmas.List.Elements.{All-push}
-use Rattle.sshkey_files.specs.OptionItems.{KeyOption, AreKeyOptions, IsOptionAt, without_commas}
+use Rattle.sshkey_entries.specs.OptionItems.{KeyOption, AreKeyOptions, IsOptionAt, without_commas}
 use Rattle.sshkey_authorized_keys.specs.OpenSshItems.{key_option_of}
 use Rattle.sshkey_authorized_keys.specs.OpenSshItems.{HasOtherName, FindsAlso}
 use Rattle.sshkey_authorized_keys.specs.declared.openssh_option.OpenSshOption.{OpenSshOption}

@@ -5,9 +5,9 @@ use Rattle.std.proofs.lemmas.Str.Pattern.{IsSplitOnceResult, split_after, split_
 use Rattle.std.proofs.Math.Seq.{get_or-append_seam}
 use Rattle.std.specs.Str.{trim_end}
 use Rattle.sshkey_model.specs.Lines.{IsWithout}
-use Rattle.sshkey_files.specs.Entries.{hash}
-use Rattle.sshkey_files.specs.StrictReading.{is_ascii_space, is_blank, AreAsciiSpaces, EndsInAscii, IsLeftOut}
-use Rattle.sshkey_files.proofs.SshdReading.{spaces_both}
+use Rattle.sshkey_entries.specs.Entries.{hash}
+use Rattle.sshkey_entries.specs.StrictReading.{is_ascii_space, is_blank, AreAsciiSpaces, EndsInAscii, IsLeftOut}
+use Rattle.sshkey_entries.proofs.SshdReading.{spaces_both}
 use Rattle.sshkey_authorized_keys.specs.LeftOut.{AreSpacesAndBlank}
 
 -- a range to the end

@@ -2,7 +2,7 @@
 use Rattle.std.proofs.Common.{ℕ, List, [], ◌∷◌, refl, arith}
 use Rattle.sshkey_model.specs.Lines.{space}
 use Rattle.sshkey_model.proofs.LineTests.{lacks}
-use Rattle.sshkey_files.specs.AuthorizedKeys.{before_line}
+use Rattle.sshkey_entries.specs.AuthorizedKeys.{before_line}
 use Rattle.sshkey_public.specs.OneLine.{IsOneLine, line_feed, carriage_return}
 use Rattle.sshkey_public.proofs.OneLines.{one_line_front, one_line_rest, one_line_both}
 

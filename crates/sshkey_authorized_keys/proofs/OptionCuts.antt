@@ -4,13 +4,13 @@ use Rattle.std.proofs.lemmas.Bool.{cases_lt, not-false, not-true, and_parts}
 use Rattle.std.proofs.lemmas.List.{length-take-le, length-append, at_drop_more, nil_from_length}
 use Rattle.std.proofs.lemmas.Str.{IsCharBoundary-after_ascii}
 use Rattle.std.specs.Str.{IsUtf8, IsCharBoundary}
-use Rattle.sshkey_files.specs.Items.{is_comma, is_quote}
-use Rattle.sshkey_files.specs.OptionItems.{KeyOption, quote, equals_sign, backslash, is_name_character, IsQuoted, unescaped, IsValueAt, EndsOption, IsOptionAt, without_commas, AreKeyOptions}
-use Rattle.sshkey_files.specs.StrictReading.{is_mark}
-use Rattle.sshkey_files.specs.OptionItems.{HasKeyOptions}
+use Rattle.sshkey_entries.specs.Items.{is_comma, is_quote}
+use Rattle.sshkey_entries.specs.OptionItems.{KeyOption, quote, equals_sign, backslash, is_name_character, IsQuoted, unescaped, IsValueAt, EndsOption, IsOptionAt, without_commas, AreKeyOptions}
+use Rattle.sshkey_entries.specs.StrictReading.{is_mark}
+use Rattle.sshkey_entries.specs.OptionItems.{HasKeyOptions}
 use Rattle.sshkey_authorized_keys.specs.OptionCuts.{CutsName, FindsFirst, is_escape}
-use Rattle.sshkey_files.proofs.Fronts.{IsCut, nothing_stays, skipped, stays}
-use Rattle.sshkey_files.proofs.OneOption.{mark_front, same_quoted, same_name, value_ends, no_value, one_option, some_option}
+use Rattle.sshkey_entries.proofs.Fronts.{IsCut, nothing_stays, skipped, stays}
+use Rattle.sshkey_entries.proofs.OneOption.{mark_front, same_quoted, same_name, value_ends, no_value, one_option, some_option}
 
 -- ---- commas
 

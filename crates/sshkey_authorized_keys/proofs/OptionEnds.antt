@@ -7,17 +7,17 @@ use Rattle.std.specs.Str.{IsCharBoundary}
 use Rattle.sshkey_base.specs.Causes.{cause, NoMemory}
 use Rattle.sshkey_base.specs.declared.error.Error.{Error}
 use Rattle.sshkey_base.specs.declared.error.Error.TheVariants.{FormatEncoding}
-use Rattle.sshkey_files.specs.AuthorizedKeys.{AuthorizedKey}
-use Rattle.sshkey_files.specs.Entries.{hash}
-use Rattle.sshkey_files.specs.Fields.{without_blanks, AreKeyFields, AreNoKeyFields}
-use Rattle.sshkey_files.specs.OpenSshLines.{IsBehindOptions, IsAuthorizedLine}
-use Rattle.sshkey_files.specs.StrictReading.{EndsOptions, is_blank, is_inside}
-use Rattle.sshkey_files.proofs.Fields.{blanks_are}
-use Rattle.sshkey_files.proofs.OneEntry.{one_end}
-use Rattle.sshkey_files.proofs.OneOpenSshLine.{same_front}
-use Rattle.sshkey_files.specs.Answers.{ReadsEntry, RefusesFor}
+use Rattle.sshkey_entries.specs.AuthorizedKeys.{AuthorizedKey}
+use Rattle.sshkey_entries.specs.Entries.{hash}
+use Rattle.sshkey_entries.specs.Fields.{without_blanks, AreKeyFields, AreNoKeyFields}
+use Rattle.sshkey_entries.specs.OpenSshLines.{IsBehindOptions, IsAuthorizedLine}
+use Rattle.sshkey_entries.specs.StrictReading.{EndsOptions, is_blank, is_inside}
+use Rattle.sshkey_entries.proofs.Fields.{blanks_are}
+use Rattle.sshkey_entries.proofs.OneEntry.{one_end}
+use Rattle.sshkey_entries.proofs.OneOpenSshLine.{same_front}
+use Rattle.sshkey_entries.specs.Answers.{ReadsEntry, RefusesFor}
 use Rattle.sshkey_model.specs.Keys.{Key}
-use Rattle.sshkey_files.specs.KeyFields.{HasKeyFault, NeedsKeyFields}
+use Rattle.sshkey_entries.specs.KeyFields.{HasKeyFault, NeedsKeyFields}
 use Rattle.sshkey_authorized_keys.specs.OpenSshNeeds.{AsksFor, NeedsBehind, NeedsEntry}
 use Rattle.sshkey_authorized_keys.specs.OpenSshEntries.{openssh_entry_of}
 use Rattle.sshkey_authorized_keys.specs.OpenSshFaults.{EndsHere, HasNoEnd, HasTextFault, HasLineFault}

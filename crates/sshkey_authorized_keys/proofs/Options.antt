@@ -4,16 +4,16 @@ use Rattle.std.proofs.lemmas.Str.Pattern.{IsSplitOnceResult, split_after, split_
 use Rattle.sshkey_base.specs.Causes.{cause, NoMemory}
 use Rattle.sshkey_base.specs.declared.error.Error.{Error}
 use Rattle.sshkey_model.specs.Lines.{space, IsKeyLine}
-use Rattle.sshkey_files.specs.Answers.{AsksEntry, ReadsEntry}
+use Rattle.sshkey_entries.specs.Answers.{AsksEntry, ReadsEntry}
 use Rattle.sshkey_authorized_keys.specs.AuthorizedEntries.{authorized_key_of}
-use Rattle.sshkey_files.specs.AuthorizedKeys.{AuthorizedKey, IsAuthorizedKey, HasOptions, is_space}
-use Rattle.sshkey_files.specs.ConfigOptions.{AreOptions}
-use Rattle.sshkey_files.proofs.OneEntry.{no_space}
+use Rattle.sshkey_entries.specs.AuthorizedKeys.{AuthorizedKey, IsAuthorizedKey, HasOptions, is_space}
+use Rattle.sshkey_entries.specs.ConfigOptions.{AreOptions}
+use Rattle.sshkey_entries.proofs.OneEntry.{no_space}
 use Rattle.sshkey_authorized_keys.specs.OptionAnswers.{IsNotAllowed}
 use Rattle.sshkey_authorized_keys.specs.EntryFaults.{HasFault, HasFaultOfKey}
 use Rattle.sshkey_authorized_keys.specs.EntryNeeds.{NeedsLine, NeedsOptions}
 use Rattle.sshkey_base.specs.declared.error.Error.TheVariants.{FormatEncoding, Memory}
-use Rattle.sshkey_files.specs.AuthorizedKeys.{IsNoKeyLine}
+use Rattle.sshkey_entries.specs.AuthorizedKeys.{IsNoKeyLine}
 use Rattle.sshkey_authorized_keys.specs.declared.entry.Entry.{Entry}
 
 pub uncut : (line : List ℕ) → IsSplitOnceResult space line None → (a : AuthorizedKey) → HasOptions line a → ⊥

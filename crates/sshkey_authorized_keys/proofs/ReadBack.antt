@@ -4,13 +4,13 @@ use Rattle.std.specs.Prelude.{IsTrue}
 use Rattle.sshkey_base.specs.Causes.{cause, NoMemory}
 use Rattle.sshkey_base.specs.declared.error.Error.{Error}
 use Rattle.sshkey_model.specs.Keys.{IsKey}
-use Rattle.sshkey_files.specs.AuthorizedKeys.{AuthorizedKey}
-use Rattle.sshkey_files.specs.Entries.{IsNoEntry}
-use Rattle.sshkey_files.specs.OpenSshLines.{IsAuthorizedLine}
-use Rattle.sshkey_files.specs.StrictReading.{IsReadStrictly}
-use Rattle.sshkey_files.proofs.OneEntry.{one_entry}
-use Rattle.sshkey_files.proofs.OneOpenSshLine.{one_authorized_line}
-use Rattle.sshkey_files.proofs.StrictReading.{read}
+use Rattle.sshkey_entries.specs.AuthorizedKeys.{AuthorizedKey}
+use Rattle.sshkey_entries.specs.Entries.{IsNoEntry}
+use Rattle.sshkey_entries.specs.OpenSshLines.{IsAuthorizedLine}
+use Rattle.sshkey_entries.specs.StrictReading.{IsReadStrictly}
+use Rattle.sshkey_entries.proofs.OneEntry.{one_entry}
+use Rattle.sshkey_entries.proofs.OneOpenSshLine.{one_authorized_line}
+use Rattle.sshkey_entries.proofs.StrictReading.{read}
 use Rattle.sshkey_authorized_keys.specs.ReadBack.{Tells, TellsNone}
 
 -- ---- the key of an entry that was read is well-formed

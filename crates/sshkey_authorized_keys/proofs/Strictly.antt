@@ -4,11 +4,11 @@ use Rattle.std.proofs.lemmas.List.{append_cancel_left}
 use Rattle.sshkey_base.specs.Causes.{cause, NoMemory}
 use Rattle.sshkey_base.specs.declared.error.Error.{Error}
 use Rattle.sshkey_base.specs.declared.error.Error.TheVariants.{FormatEncoding}
-use Rattle.sshkey_files.specs.AuthorizedKeys.{AuthorizedKey, IsAuthorizedKey}
-use Rattle.sshkey_files.specs.Entries.{IsNoEntry, uncommented}
-use Rattle.sshkey_files.specs.StrictReading.{IsLeftOut, IsReadStrictly, IsLineReadStrictly}
-use Rattle.sshkey_files.proofs.OneEntry.{one_entry}
-use Rattle.sshkey_files.proofs.StrictReading.{read}
+use Rattle.sshkey_entries.specs.AuthorizedKeys.{AuthorizedKey, IsAuthorizedKey}
+use Rattle.sshkey_entries.specs.Entries.{IsNoEntry, uncommented}
+use Rattle.sshkey_entries.specs.StrictReading.{IsLeftOut, IsReadStrictly, IsLineReadStrictly}
+use Rattle.sshkey_entries.proofs.OneEntry.{one_entry}
+use Rattle.sshkey_entries.proofs.StrictReading.{read}
 use Rattle.sshkey_authorized_keys.specs.EntryFaults.{HasFault, HasStrictFault, HasStrictLineFault}
 use Rattle.sshkey_authorized_keys.specs.EntryNeeds.{NeedsLine, NeedsStrictLine}
 

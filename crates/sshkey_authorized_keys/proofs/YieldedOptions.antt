@@ -5,7 +5,7 @@ use Rattle.std.specs.Prelude.{⊤}
 use Rattle.std.specs.Iterator.{MakesProgress, item_count}
 use Rattle.sshkey_base.specs.declared.error.Error.{Error}
 use Rattle.sshkey_base.specs.declared.error.Error.TheVariants.{FormatEncoding}
-use Rattle.sshkey_files.specs.OptionItems.{KeyOption, IsOptionAt, IsNoOption, HasKeyOptions, without_commas}
+use Rattle.sshkey_entries.specs.OptionItems.{KeyOption, IsOptionAt, IsNoOption, HasKeyOptions, without_commas}
 use Rattle.sshkey_authorized_keys.proofs.OptionCuts.{shorter, at_most, none_left}
 
 pub one_less : {X : Type 0} (answer : X) (old new commas : List ℕ) (o : KeyOption) → commas ≡ without_commas old → IsOptionAt commas o new → MakesProgress (λ _. ⊤) (item_count (λ left. left)) old (Some answer) new

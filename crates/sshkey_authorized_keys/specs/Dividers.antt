@@ -1,6 +1,6 @@
 -- Where the first item of options ends.
 use Rattle.std.specs.Prelude.{◌≡◌, ◌<◌, ℕ, List, length, true, false, Option, Some, None, EachIndex, slice_index}
-use Rattle.sshkey_files.specs.Items.{is_divider}
+use Rattle.sshkey_entries.specs.Items.{is_divider}
 
 -- the first place of a divider, if there is one
 abbrev pub FindsDivider : List ℕ → Option ℕ → Type 0

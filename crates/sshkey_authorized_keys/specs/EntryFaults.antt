@@ -8,9 +8,9 @@ use Rattle.sshkey_keys.specs.Keys.{SpellsKey}
 use Rattle.sshkey_model.specs.Lines.{space, key_name, IsWithout}
 use Rattle.sshkey_model.specs.Reading.{whole}
 use Rattle.sshkey_public.specs.LineFaults.{HasFaultOfLine}
-use Rattle.sshkey_files.specs.AuthorizedKeys.{AuthorizedKey, IsAuthorizedKey, is_space}
-use Rattle.sshkey_files.specs.ConfigOptions.{AreOptions}
-use Rattle.sshkey_files.specs.Entries.{IsNoEntry, uncommented}
+use Rattle.sshkey_entries.specs.AuthorizedKeys.{AuthorizedKey, IsAuthorizedKey, is_space}
+use Rattle.sshkey_entries.specs.ConfigOptions.{AreOptions}
+use Rattle.sshkey_entries.specs.Entries.{IsNoEntry, uncommented}
 
 -- The text has that fault as the line of a key.
 abbrev pub HasFaultOfKey : List ℕ → Error → Type 0

@@ -1,8 +1,8 @@
 -- Where reading an entry of authorized_keys needs memory.
 use Rattle.std.specs.Prelude.{◌≡◌, ◌⊎◌, ℕ, ◌≤◌, List, ◌∷◌, ◌++◌, count_by}
-use Rattle.sshkey_files.specs.AuthorizedKeys.{is_space}
-use Rattle.sshkey_files.specs.ConfigOptions.{AreOptions}
-use Rattle.sshkey_files.specs.Entries.{uncommented}
+use Rattle.sshkey_entries.specs.AuthorizedKeys.{is_space}
+use Rattle.sshkey_entries.specs.ConfigOptions.{AreOptions}
+use Rattle.sshkey_entries.specs.Entries.{uncommented}
 use Rattle.sshkey_keys.specs.KeyFormats.{key_format}
 use Rattle.sshkey_keys.specs.Keys.{SpellsKey}
 use Rattle.sshkey_model.specs.Lines.{space, key_name, IsWithout}

@@ -1,6 +1,6 @@
 -- What stands before the `#` of a comment that is left out.
 use Rattle.std.specs.Prelude.{◌≡◌, ℕ, List, [], ◌∷◌, ◌++◌, true}
-use Rattle.sshkey_files.specs.StrictReading.{AreAsciiSpaces, is_blank}
+use Rattle.sshkey_entries.specs.StrictReading.{AreAsciiSpaces, is_blank}
 
 -- ASCII white space, and a space or tab
 abbrev pub AreSpacesAndBlank : List ℕ → Type 0

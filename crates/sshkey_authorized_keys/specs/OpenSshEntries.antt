@@ -3,7 +3,7 @@ use Rattle.std.specs.Prelude.{ℕ, List}
 use Rattle.sshkey_public.specs.PublicKeys.{data_of, public_of, comment_of}
 use Rattle.sshkey_keys.specs.Comparisons.{HasForm}
 use Rattle.sshkey_public.specs.declared.public_key.PublicKey.{PublicKey}
-use Rattle.sshkey_files.specs.AuthorizedKeys.{AuthorizedKey}
+use Rattle.sshkey_entries.specs.AuthorizedKeys.{AuthorizedKey}
 use Rattle.sshkey_authorized_keys.specs.declared.openssh.OpenSshEntry.{OpenSshEntry}
 
 abbrev pub openssh_options_of : OpenSshEntry → List ℕ

@@ -2,10 +2,10 @@
 use Rattle.std.specs.Prelude.{◌≡◌, ◌≢◌, ℕ, List, ◌++◌, length, slice_index, Bool, true, false, Option, Some, None}
 use Rattle.sshkey_base.specs.declared.error.Error.{Error}
 use Rattle.sshkey_base.specs.declared.error.Error.TheVariants.{FormatEncoding}
-use Rattle.sshkey_files.specs.Entries.{hash}
-use Rattle.sshkey_files.specs.Fields.{without_blanks}
-use Rattle.sshkey_files.specs.StrictReading.{EndsOptions, is_blank}
-use Rattle.sshkey_files.specs.KeyFields.{HasKeyFault}
+use Rattle.sshkey_entries.specs.Entries.{hash}
+use Rattle.sshkey_entries.specs.Fields.{without_blanks}
+use Rattle.sshkey_entries.specs.StrictReading.{EndsOptions, is_blank}
+use Rattle.sshkey_entries.specs.KeyFields.{HasKeyFault}
 use denote.Ref.{Bor}
 
 -- a blank outside quotes

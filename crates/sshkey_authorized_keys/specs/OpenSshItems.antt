@@ -3,7 +3,7 @@ use Rattle.std.specs.Prelude.{◌≡◌, ◌<◌, ℕ, List, [], ◌∷◌, ◌+
 use Rattle.std.specs.List.{All}
 use Rattle.sshkey_base.specs.declared.error.Error.{Error}
 use Rattle.sshkey_base.specs.declared.error.Error.TheVariants.{FormatEncoding}
-use Rattle.sshkey_files.specs.OptionItems.{KeyOption, AreKeyOptions, HasKeyOptions, IsSameName, IsOptionAt, IsNoOption, without_commas}
+use Rattle.sshkey_entries.specs.OptionItems.{KeyOption, AreKeyOptions, HasKeyOptions, IsSameName, IsOptionAt, IsNoOption, without_commas}
 use Rattle.sshkey_authorized_keys.specs.OptionCuts.{value_in}
 use Rattle.sshkey_authorized_keys.specs.declared.openssh_option.OpenSshOption.{OpenSshOption}
 use denote.Ref.{Bor}

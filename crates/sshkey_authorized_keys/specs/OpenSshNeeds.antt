@@ -3,12 +3,12 @@ use Rattle.std.specs.Prelude.{◌≡◌, ◌≢◌, ◌⊎◌, ℕ, List, ◌++�
 use Rattle.sshkey_base.specs.Causes.{cause, NoMemory}
 use Rattle.sshkey_base.specs.declared.error.Error.{Error}
 use Rattle.sshkey_model.specs.Keys.{Key}
-use Rattle.sshkey_files.specs.Answers.{ReadsEntry, RefusesFor}
-use Rattle.sshkey_files.specs.Entries.{hash}
-use Rattle.sshkey_files.specs.Fields.{without_blanks, AreKeyFields}
-use Rattle.sshkey_files.specs.OpenSshLines.{IsAuthorizedLine}
-use Rattle.sshkey_files.specs.StrictReading.{EndsOptions}
-use Rattle.sshkey_files.specs.KeyFields.{NeedsKeyFields}
+use Rattle.sshkey_entries.specs.Answers.{ReadsEntry, RefusesFor}
+use Rattle.sshkey_entries.specs.Entries.{hash}
+use Rattle.sshkey_entries.specs.Fields.{without_blanks, AreKeyFields}
+use Rattle.sshkey_entries.specs.OpenSshLines.{IsAuthorizedLine}
+use Rattle.sshkey_entries.specs.StrictReading.{EndsOptions}
+use Rattle.sshkey_entries.specs.KeyFields.{NeedsKeyFields}
 use Rattle.sshkey_authorized_keys.specs.OpenSshEntries.{openssh_entry_of}
 use Rattle.sshkey_authorized_keys.specs.OpenSshFaults.{HasLineFault}
 use Rattle.sshkey_authorized_keys.specs.declared.openssh.OpenSshEntry.{OpenSshEntry}

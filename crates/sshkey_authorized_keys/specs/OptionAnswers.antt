@@ -3,7 +3,7 @@ use Rattle.std.specs.Prelude.{◌≡◌, ◌⊎◌, ℕ, List, Result, Ok, Err}
 use Rattle.sshkey_base.specs.declared.encoding.Error.TheVariants.{CharacterEncoding}
 use Rattle.sshkey_base.specs.declared.error.Error.{Error}
 use Rattle.sshkey_base.specs.declared.error.Error.TheVariants.{Encoding, Memory}
-use Rattle.sshkey_files.specs.ConfigOptions.{AreOptions}
+use Rattle.sshkey_entries.specs.ConfigOptions.{AreOptions}
 
 -- a character is not allowed
 abbrev pub IsNotAllowed : List ℕ → Error → Type 0

@@ -1,7 +1,7 @@
 -- Where the parts of options are cut.
 use Rattle.std.specs.Prelude.{◌≡◌, ◌⊎◌, ℕ, ◌<◌, ◌+◌, List, [], ◌∷◌, ◌++◌, length, slice_index, Bool, true, false, ◌&&◌, ◌==◌, Option, Some, None, option_map}
-use Rattle.sshkey_files.specs.Items.{is_quote}
-use Rattle.sshkey_files.specs.OptionItems.{quote, backslash, AreNameCharacters, is_name_character, IsQuoted, IsValueAt, EndsOption, unescaped}
+use Rattle.sshkey_entries.specs.Items.{is_quote}
+use Rattle.sshkey_entries.specs.OptionItems.{quote, backslash, AreNameCharacters, is_name_character, IsQuoted, IsValueAt, EndsOption, unescaped}
 use denote.Ref.{Bor}
 
 -- The text is a name, which may be empty, and what follows it.

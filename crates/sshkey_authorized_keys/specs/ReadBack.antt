@@ -5,9 +5,9 @@ use Rattle.sshkey_model.specs.Parts.{BoxesFit}
 use Rattle.sshkey_base.specs.declared.encoding.Error.TheVariants.{Length}
 use Rattle.sshkey_base.specs.declared.error.Error.{Error}
 use Rattle.sshkey_base.specs.declared.error.Error.TheVariants.{Encoding, FormatEncoding, Memory}
-use Rattle.sshkey_files.specs.AuthorizedKeys.{AuthorizedKey, authorized_text}
-use Rattle.sshkey_files.specs.OpenSshLines.{IsAuthorizedLine}
-use Rattle.sshkey_files.specs.StrictReading.{IsReadStrictly}
+use Rattle.sshkey_entries.specs.AuthorizedKeys.{AuthorizedKey, authorized_text}
+use Rattle.sshkey_entries.specs.OpenSshLines.{IsAuthorizedLine}
+use Rattle.sshkey_entries.specs.StrictReading.{IsReadStrictly}
 use Rattle.sshkey_public.specs.OneLine.{IsOneLine}
 
 -- The text is one line, and is read as the entry, both strictly and as sshd(8) reads it.

@@ -1,9 +1,9 @@
 -- What the strict reading of a line answers.
 use Rattle.std.specs.Prelude.{◌≡◌, ℕ, List, ◌++◌, Result}
 use Rattle.sshkey_base.specs.declared.error.Error.{Error}
-use Rattle.sshkey_files.specs.Entries.{uncommented}
-use Rattle.sshkey_files.specs.StrictReading.{IsLineReadStrictly}
-use Rattle.sshkey_files.specs.Answers.{AnswersEntry}
+use Rattle.sshkey_entries.specs.Entries.{uncommented}
+use Rattle.sshkey_entries.specs.StrictReading.{IsLineReadStrictly}
+use Rattle.sshkey_entries.specs.Answers.{AnswersEntry}
 use Rattle.sshkey_authorized_keys.specs.AuthorizedEntries.{authorized_key_of}
 use Rattle.sshkey_authorized_keys.specs.EntryFaults.{HasStrictLineFault}
 use Rattle.sshkey_authorized_keys.specs.EntryNeeds.{NeedsStrictLine}

@@ -5,8 +5,8 @@ ghost use Rattle.std.specs.Cmp.{partial_equiv_from_equiv};
 ghost use Rattle.std.specs.Cmp.Lexicographic.{nat_list_eq_equiv, pointwise};
 ghost use Rattle.std.specs.Iterator.{YieldsFirstRef, item_count};
 ghost use Rattle.sshkey_base.specs.declared.error.Error.TheVariants as wide;
-ghost use Rattle.sshkey_files.specs.ConfigOptions.{is_option_character, AreOptions};
-ghost use Rattle.sshkey_files.specs.Items.{items};
+ghost use Rattle.sshkey_entries.specs.ConfigOptions.{is_option_character, AreOptions};
+ghost use Rattle.sshkey_entries.specs.Items.{items};
 ghost use Rattle.sshkey_authorized_keys.specs.Dividers.{FindsDivider};
 ghost use Rattle.sshkey_authorized_keys.specs.OptionAnswers.{Judges, JudgesInMemory};
 

@@ -2,9 +2,9 @@
 
 ghost use Rattle.std.specs.Prelude.{◌≡◌, ◌<◌, ◌↔◌, ℕ, List, [], length, slice_index, IsTrue};
 ghost use Rattle.std.specs.Iterator.{item_count};
-ghost use Rattle.sshkey_files.specs.Fields.{AreNoKeyFields, filled_lines};
-ghost use Rattle.sshkey_files.specs.OpenSshLines.{IsAuthorizedLine, IsBehindOptions};
-ghost use Rattle.sshkey_files.specs.Answers.{ReadsEntry, RefusesFor, YieldsAnswers};
+ghost use Rattle.sshkey_entries.specs.Fields.{AreNoKeyFields, filled_lines};
+ghost use Rattle.sshkey_entries.specs.OpenSshLines.{IsAuthorizedLine, IsBehindOptions};
+ghost use Rattle.sshkey_entries.specs.Answers.{ReadsEntry, RefusesFor, YieldsAnswers};
 ghost use Rattle.sshkey_authorized_keys.specs.OpenSshEntries.{openssh_entry_of, openssh_key_in, openssh_options_of};
 ghost use Rattle.sshkey_authorized_keys.specs.OpenSshFaults.{CutsOptions, FindsEnd, HasLineFault, HasTextFault, EndsHere};
 ghost use Rattle.sshkey_authorized_keys.specs.OpenSshNeeds.{AnswersLine, AsksFor, NeedsBehind, NeedsEntry};
@@ -13,7 +13,7 @@ use crate::entry::Entry;
 use crate::openssh_options::OpenSshOptions;
 use crate::strict::{is_blank, is_comment, is_mark};
 use sshkey_base::{Error, Result};
-use sshkey_files::{FilledLines, read_key_fields, skip_blanks};
+use sshkey_entries::{FilledLines, read_key_fields, skip_blanks};
 use sshkey_public::PublicKey;
 use std::alloc::Global;
 use std::marker::Model;
@@ -73,9 +73,9 @@ impl Entry {
     /// Unless memory runs out, it fails exactly if the line is no such entry: `FormatEncoding`
     /// where a `#` begins it, and where neither a key begins it nor options have an end, as in an
     /// empty line and where quotes stay open; `Length` where after options, or alone, no Base64
-    /// stands; and else the errors of `sshkey_files::read_key_fields`.
+    /// stands; and else the errors of `sshkey_entries::read_key_fields`.
     ///
-    /// Fails with `Memory` only if `sshkey_files::read_key_fields` may answer it, of the line or
+    /// Fails with `Memory` only if `sshkey_entries::read_key_fields` may answer it, of the line or
     /// of what stands after its options, and for the options of an entry: never of a comment.
     ///
     /// The options are kept as they stand, also those that sshd does not know; sshd rejects a line

@@ -3,7 +3,7 @@
 ghost use Rattle.std.specs.Prelude.{◌≡◌, ◌↔◌, ℕ, List, true, IfErr, IfOk, IsTrue, is_some, option_map, string_bytes};
 ghost use Rattle.std.specs.Iterator.{item_count};
 ghost use Rattle.sshkey_base.specs.declared.error.Error.TheVariants as wide;
-ghost use Rattle.sshkey_files.specs.OptionItems.{IsSameName};
+ghost use Rattle.sshkey_entries.specs.OptionItems.{IsSameName};
 
 use crate::option_syntax::{ends_option, skip_commas, split_name, split_value, unescaped};
 use sshkey_base::{Error, Result};

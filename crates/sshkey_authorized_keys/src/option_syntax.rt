@@ -2,9 +2,9 @@
 
 ghost use Rattle.std.specs.Prelude.{◌≡◌, ◌<◌, ◌↔◌, IfErr, IfOk, IsTrue, length, not, position, string_bytes};
 ghost use Rattle.sshkey_base.specs.declared.error.Error.TheVariants as wide;
-ghost use Rattle.sshkey_files.specs.Items.{is_comma};
-ghost use Rattle.sshkey_files.specs.OptionItems.{EndsOption, is_name_character, unescaped, without_commas};
-ghost use Rattle.sshkey_files.specs.StrictReading.{is_mark};
+ghost use Rattle.sshkey_entries.specs.Items.{is_comma};
+ghost use Rattle.sshkey_entries.specs.OptionItems.{EndsOption, is_name_character, unescaped, without_commas};
+ghost use Rattle.sshkey_entries.specs.StrictReading.{is_mark};
 ghost use Rattle.sshkey_authorized_keys.specs.OptionCuts.{CutsName, CutsQuoted, CutsValue, FindsFirst, is_escape};
 
 use crate::strict::is_mark;

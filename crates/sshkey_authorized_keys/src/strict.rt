@@ -2,8 +2,8 @@
 
 ghost use Rattle.std.specs.Prelude.{◌≡◌, ◌<◌, ◌≤◌, ◌↔◌, length, slice_index, IsTrue};
 ghost use Rattle.sshkey_authorized_keys.specs.LeftOut.{AreSpacesAndBlank};
-ghost use Rattle.sshkey_files.specs.Entries.{hash};
-ghost use Rattle.sshkey_files.specs.StrictReading.{is_mark, is_inside, is_blank, is_ascii_space, AreAsciiSpaces, EndsInAscii, IsLeftOut};
+ghost use Rattle.sshkey_entries.specs.Entries.{hash};
+ghost use Rattle.sshkey_entries.specs.StrictReading.{is_mark, is_inside, is_blank, is_ascii_space, AreAsciiSpaces, EndsInAscii, IsLeftOut};
 
 pub(crate) fn is_mark(line: &[u8], place: usize) -> bool
     requires { place < length line.now }

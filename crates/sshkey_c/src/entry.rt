@@ -3,19 +3,19 @@
 ghost use Rattle.std.specs.Prelude.{◌≡◌, ◌≢◌};
 ghost use Rattle.std.specs.Str.{IsUtf8};
 ghost use Rattle.sshkey_authorized_keys.specs.OpenSshFaults as keys;
-ghost use Rattle.sshkey_files.specs.OpenSshLines.{IsAuthorizedLine, IsHostLine};
+ghost use Rattle.sshkey_entries.specs.OpenSshLines.{IsAuthorizedLine, IsHostLine};
 ghost use Rattle.sshkey_known_hosts.specs.OpenSshHosts as hosts;
-ghost use Rattle.sshkey_file_calls.specs.Entries.{FindsEntry, NeedsAuthorizedEntry, TellsFault, of_authorized_key, of_known_host};
-ghost use Rattle.sshkey_file_calls.specs.Lines.{FindsLine};
-ghost use Rattle.sshkey_file_calls.specs.Options.{FindsOption};
+ghost use Rattle.sshkey_entry_calls.specs.Entries.{FindsEntry, NeedsAuthorizedEntry, TellsFault, of_authorized_key, of_known_host};
+ghost use Rattle.sshkey_entry_calls.specs.Lines.{FindsLine};
+ghost use Rattle.sshkey_entry_calls.specs.Options.{FindsOption};
 
 use sshkey_calls::part::Part;
-use sshkey_file_calls::{
+use sshkey_entry_calls::{
     EntryParts, OptionParts, authorized_entry, known_host, next_line, nth_option,
 };
 use std::alloc::Global;
 
-/// The next line that may be an entry: `sshkey_file_calls::next_line`.
+/// The next line that may be an entry: `sshkey_entry_calls::next_line`.
 #[unsafe(no_mangle)]
 pub extern "C" fn sshkey_next_line(text: &[u8], place: usize, answer: &mut Part) -> u32
     ensures { FindsLine text.now place result answer.old answer.new }
@@ -23,7 +23,7 @@ pub extern "C" fn sshkey_next_line(text: &[u8], place: usize, answer: &mut Part)
     next_line(text, place, answer)
 }
 
-/// The entry of a line of authorized_keys: `sshkey_file_calls::authorized_entry`.
+/// The entry of a line of authorized_keys: `sshkey_entry_calls::authorized_entry`.
 #[unsafe(no_mangle)]
 pub extern "C" fn sshkey_authorized_entry(
     alloc: Global,
@@ -42,7 +42,7 @@ pub extern "C" fn sshkey_authorized_entry(
     authorized_entry(alloc, line, room, answer)
 }
 
-/// The option of that number: `sshkey_file_calls::nth_option`.
+/// The option of that number: `sshkey_entry_calls::nth_option`.
 #[unsafe(no_mangle)]
 pub extern "C" fn sshkey_nth_option(
     alloc: Global,
@@ -60,7 +60,7 @@ pub extern "C" fn sshkey_nth_option(
     nth_option(alloc, options, number, room, answer)
 }
 
-/// The entry of a line of known_hosts: `sshkey_file_calls::known_host`.
+/// The entry of a line of known_hosts: `sshkey_entry_calls::known_host`.
 #[unsafe(no_mangle)]
 pub extern "C" fn sshkey_known_host(
     alloc: Global,

@@ -6,12 +6,12 @@ ghost use Rattle.sshkey_base.specs.Acceptance.{SpellsSome};
 ghost use Rattle.sshkey_keys.specs.Keys.{SpellsKey, key_data_at};
 ghost use Rattle.sshkey_model.specs.Reading.{Fault, whole};
 ghost use Rattle.sshkey_calls.specs.Numbers.{fault_number};
-ghost use Rattle.sshkey_file_calls.specs.Verdicts.{TellsAuthority, TellsVerdict};
+ghost use Rattle.sshkey_entry_calls.specs.Verdicts.{TellsAuthority, TellsVerdict};
 
-use sshkey_file_calls::{authority_verdict, host_verdict};
+use sshkey_entry_calls::{authority_verdict, host_verdict};
 use std::alloc::Global;
 
-/// What a text of known_hosts says of the key that a host shows: `sshkey_file_calls::host_verdict`.
+/// What a text of known_hosts says of the key that a host shows: `sshkey_entry_calls::host_verdict`.
 #[unsafe(no_mangle)]
 pub extern "C" fn sshkey_host_verdict(
     alloc: Global,
@@ -31,7 +31,7 @@ pub extern "C" fn sshkey_host_verdict(
 }
 
 /// What a text of known_hosts says of the key of an authority that signed a host's certificate:
-/// `sshkey_file_calls::authority_verdict`.
+/// `sshkey_entry_calls::authority_verdict`.
 #[unsafe(no_mangle)]
 pub extern "C" fn sshkey_authority_verdict(
     alloc: Global,

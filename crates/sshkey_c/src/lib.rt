@@ -1,7 +1,7 @@
 //! The library for programs in C, and for whoever calls C. `include/sshkey.h` declares what it
 //! exports.
 //!
-//! Each export makes one call of `sshkey_calls` or of `sshkey_file_calls`, whose clauses it states
+//! Each export makes one call of `sshkey_calls` or of `sshkey_entry_calls`, whose clauses it states
 //! again. In C a slice is a pointer and a length, and an allocator is nothing.
 #![tactic(auto)]
 

@@ -14,10 +14,10 @@ use Rattle.sshkey_base.proofs.Accepted.{spelled_whole}
 use Rattle.sshkey_base.specs.Causes.{Cause, Faulty, NoMemory}
 use Rattle.sshkey_base.specs.Reading.{IsRefused}
 use Rattle.sshkey_base.specs.TextLists.{texts_grammar}
-use Rattle.sshkey_format.specs.Slices.{Keeps}
+use Rattle.sshkey_terms.specs.Slices.{Keeps}
 use Rattle.sshkey_keys.specs.KeyReaders.{key_grammar}
 use Rattle.sshkey_keys.specs.Keys.{SpellsKey, key_data_at}
-use Rattle.sshkey_options.specs.OptionReaders.{options_grammar, options_value_at}
+use Rattle.sshkey_cert_values.specs.OptionReaders.{options_grammar, options_value_at}
 use Rattle.sshkey_calls.specs.Drafts.{IsCertifiable, IsWrong, Tells, certifiable_number, draft_fault, first_of, key_number, list_number, number_of, parts_fault, string_number, text_number}
 use Rattle.sshkey_calls.specs.Numbers.{fault_number}
 use Rattle.sshkey_calls.proofs.Drafts.{fits_number, short_string}

@@ -2,7 +2,7 @@
 use Rattle.std.proofs.Common.{◌≡◌, ◌≢◌, ◌<◌, List, ℕ, Result, Ok, Err, refl, arith}
 use Rattle.sshkey_model.specs.Reading.{Fault}
 use Rattle.sshkey_base.specs.Causes.{Cause, Faulty, NoMemory, Other}
-use Rattle.sshkey_format.specs.Slices.{Keeps}
+use Rattle.sshkey_terms.specs.Slices.{Keeps}
 
 module _ {X Y E : Type 0} (bytes_of : X → List ℕ) (cause : E → Cause) (b : List ℕ) (x : X) where
   -- it keeps them

@@ -5,7 +5,7 @@ use Rattle.sshkey_model.specs.Parts.{Fits, flat}
 use Rattle.sshkey_model.proofs.Grammars.{one_front}
 use Rattle.sshkey_base.specs.Leaves.{SpellsString, string_grammar}
 use Rattle.sshkey_base.specs.Reading.{NoFront}
-use Rattle.sshkey_format.specs.Slices.{IsSplit}
+use Rattle.sshkey_terms.specs.Slices.{IsSplit}
 
 abbrev pub HoldsValue : List ℕ → List ℕ → Type 0
 HoldsValue s value = (nesting : Nesting) × HasNesting value nesting × Fits (option_value value nesting) × (s ≡ flat (option_value value nesting))

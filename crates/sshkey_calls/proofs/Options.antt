@@ -8,7 +8,7 @@ use Rattle.sshkey_model.proofs.CombinedReaders.{are_bytes-append, fits_box, fits
 use Rattle.sshkey_model.proofs.Grammars.{one_front}
 use Rattle.sshkey_base.specs.Leaves.{SpellsString, string_grammar}
 use Rattle.sshkey_base.specs.Reading.{NoFront}
-use Rattle.sshkey_format.specs.Slices.{IsSplit}
+use Rattle.sshkey_terms.specs.Slices.{IsSplit}
 use Rattle.sshkey_calls.specs.Options.{BeginsWithOption}
 
 -- ---- a value in its string

@@ -5,14 +5,14 @@ ghost use Rattle.sshkey_base.specs.Acceptance.{SpellsSome};
 ghost use Rattle.sshkey_keys.specs.Keys.{SpellsKey};
 ghost use Rattle.sshkey_model.specs.Certificates.{normal_to_be_signed};
 ghost use Rattle.sshkey_model.specs.Parts.{Fits, flat};
-ghost use Rattle.sshkey_to_be_signed.specs.ToBeSignedValues.{to_be_signed_of};
+ghost use Rattle.sshkey_cert_fields.specs.ToBeSignedValues.{to_be_signed_of};
 ghost use Rattle.sshkey_calls.specs.Drafts.{IsToBeSigned, TellsWrong, draft_fault};
 ghost use Rattle.sshkey_calls.specs.Writing.{Writes};
 
 use crate::draft_fields::fields_of;
 use crate::number::error_number;
 use crate::write::write_bytes;
-use sshkey_to_be_signed::ToBeSigned;
+use sshkey_cert_fields::ToBeSigned;
 use std::alloc::Global;
 
 /// What a certificate is to say.

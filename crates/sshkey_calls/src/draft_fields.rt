@@ -7,9 +7,9 @@ ghost use Rattle.sshkey_keys.specs.Keys.{SpellsKey, key_data_at, key_of};
 ghost use Rattle.sshkey_model.specs.Parts.{flat};
 ghost use Rattle.sshkey_model.specs.Reading.{whole};
 ghost use Rattle.sshkey_model.specs.Texts.{IsText, string, texts_at};
-ghost use Rattle.sshkey_options.specs.OptionMaps.{options_of};
-ghost use Rattle.sshkey_options.specs.OptionReaders.{SpellsOptions, options_value_at};
-ghost use Rattle.sshkey_to_be_signed.specs.ToBeSignedValues.{to_be_signed_of};
+ghost use Rattle.sshkey_cert_values.specs.OptionMaps.{options_of};
+ghost use Rattle.sshkey_cert_values.specs.OptionReaders.{SpellsOptions, options_value_at};
+ghost use Rattle.sshkey_cert_fields.specs.ToBeSignedValues.{to_be_signed_of};
 ghost use Rattle.sshkey_calls.specs.Drafts.{FindsOr, FindsPart, FitsString, IsCertifiable, Tells, TellsNumbers, certifiable_number, draft_fault, first_of, list_number, number_of, parts_fault, string_number, text_number};
 
 use crate::draft::CertificateDraft;
@@ -19,8 +19,8 @@ use crate::number::{
 use sshkey_base::{Bytes, Error, Text, decode_whole, encode_vec};
 use sshkey_keys::KeyData;
 use sshkey_keys_ref::KeyDataRef;
-use sshkey_options::{CertType, EndTime, OptionsMap, UnixTime};
-use sshkey_to_be_signed::ToBeSigned;
+use sshkey_cert_values::{CertType, EndTime, OptionsMap, UnixTime};
+use sshkey_cert_fields::ToBeSigned;
 use std::alloc::Global;
 use std::convert::TryFrom;
 use std::str;

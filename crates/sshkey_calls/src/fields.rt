@@ -4,13 +4,13 @@ ghost use Rattle.std.specs.Prelude.{◌≡◌, ◌≢◌, Err, IsTrue};
 ghost use Rattle.sshkey_cert_ref.specs.CertificateRef.{certificate_of};
 ghost use Rattle.sshkey_model.specs.Certificates.{certificate_at, type_number};
 ghost use Rattle.sshkey_model.specs.Reading.{Fault, whole};
-ghost use Rattle.sshkey_options.specs.CertTypes.{type_of};
+ghost use Rattle.sshkey_cert_values.specs.CertTypes.{type_of};
 ghost use Rattle.sshkey_calls.specs.Fields.{AreFieldsOf, GivesFields, IsNumberOf};
 ghost use Rattle.sshkey_calls.specs.Numbers.{fault_number};
 
 use crate::number::{DONE, error_number};
 use sshkey_cert_ref::CertificateRef;
-use sshkey_options::CertType;
+use sshkey_cert_values::CertType;
 
 /// The fields of a certificate that a policy asks for.
 #[repr(C)]

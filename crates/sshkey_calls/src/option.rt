@@ -7,7 +7,7 @@ ghost use Rattle.sshkey_calls.specs.Options.{BeginsWithOption, FindsOption};
 
 use crate::number::{DONE, END, LENGTH};
 use crate::part::Part;
-use sshkey_format::split_string;
+use sshkey_terms::split_string;
 
 /// Where the name and the value of an option stand, and where the next one begins.
 #[repr(C)]

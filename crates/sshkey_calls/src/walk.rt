@@ -4,7 +4,7 @@ ghost use Rattle.sshkey_calls.specs.Strings.{FindsString};
 
 use crate::number::{DONE, END, LENGTH};
 use crate::part::Part;
-use sshkey_format::split_string;
+use sshkey_terms::split_string;
 
 /// The content of the string that begins at that place: what stands after a length of four bytes,
 /// as many bytes as it says (RFC 4251, section 5). The next one begins after it.

@@ -4,8 +4,8 @@ use Rattle.sshkey_model.specs.Certificates.{SignedFields}
 use Rattle.sshkey_model.specs.Reading.{whole, box_at}
 use Rattle.sshkey_model.specs.Signatures.{Signature, signature_at}
 use Rattle.sshkey_model.proofs.CombinedReaders.{bind_ok, ok_is}
-use Rattle.sshkey_format.specs.Behind.{behind_at}
-use Rattle.sshkey_to_be_signed.specs.ToBeSignedReaders.{to_be_signed_value_at}
+use Rattle.sshkey_terms.specs.Behind.{behind_at}
+use Rattle.sshkey_cert_fields.specs.ToBeSignedReaders.{to_be_signed_value_at}
 use Rattle.sshkey_cert.specs.CertificateFormats.{signed_format}
 use Rattle.sshkey_cert.specs.Fitting.{signed_fits}
 use Rattle.sshkey_cert.proofs.NormalFits.{read_fits}

@@ -5,11 +5,11 @@ use Rattle.sshkey_model.specs.Reading.{Fault}
 use Rattle.sshkey_model.specs.Signatures.{Signature}
 use Rattle.sshkey_model.proofs.CombinedReaders.{bind_assoc}
 use Rattle.sshkey_base.specs.Formats.{Format}
-use Rattle.sshkey_format.specs.Behind.{behind_at}
-use Rattle.sshkey_format.specs.Terms.{◌then◌, boxed, IsMapped, made_of}
+use Rattle.sshkey_terms.specs.Behind.{behind_at}
+use Rattle.sshkey_terms.specs.Terms.{◌then◌, boxed, IsMapped, made_of}
 use Rattle.sshkey_keys.specs.KeyFormats.{signature_format}
-use Rattle.sshkey_to_be_signed.specs.ToBeSignedReaders.{to_be_signed_value_at}
-use Rattle.sshkey_to_be_signed.specs.ToBeSignedFormats.{to_be_signed_format}
+use Rattle.sshkey_cert_fields.specs.ToBeSignedReaders.{to_be_signed_value_at}
+use Rattle.sshkey_cert_fields.specs.ToBeSignedFormats.{to_be_signed_format}
 use Rattle.sshkey_cert.specs.CertificateReaders.{certificate_value_at, certificate_grammar}
 
 -- the fields, and the signature over them

@@ -15,7 +15,7 @@ use Rattle.sshkey_keys_ref.specs.KeyDataRef.{key_bytes}
 use Rattle.sshkey_keys_ref.specs.SignatureRef.{signature_bytes}
 use Rattle.sshkey_keys_ref.specs.declared.key_data_ref.KeyDataRef.{KeyDataRef}
 use Rattle.sshkey_keys_ref.specs.declared.signature_ref.SignatureRef.{SignatureRef}
-use Rattle.sshkey_format.specs.Slices.{Keeps}
+use Rattle.sshkey_terms.specs.Slices.{Keeps}
 use Rattle.sshkey_cert_ref.specs.Fields.{spelled_key_of, spelled_signature_of}
 use Rattle.sshkey_cert_ref.specs.Parts.{IsKeyIn, IsSignatureIn}
 

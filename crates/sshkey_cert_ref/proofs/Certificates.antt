@@ -10,7 +10,7 @@ use Rattle.sshkey_model.proofs.CertificateReaders.{signed_fields_reads, certific
 use Rattle.sshkey_model.proofs.CombinedReaders.{whole_reads}
 use Rattle.sshkey_base.specs.Causes.{Cause}
 use Rattle.sshkey_base.specs.Reading.{Refuses, NoSpelling}
-use Rattle.sshkey_format.specs.Slices.{Keeps, is_taken}
+use Rattle.sshkey_terms.specs.Slices.{Keeps, is_taken}
 use Rattle.sshkey_cert.specs.CertificateReaders.{SpellsCertificate}
 use Rattle.sshkey_cert_ref.specs.Spelled.{no_certificate, no_choices, spelled_in}
 use Rattle.sshkey_cert_ref.proofs.Subjects.{known}

@@ -8,8 +8,8 @@ use Rattle.sshkey_base.specs.Causes.{NoMemory, Faulty}
 use Rattle.sshkey_base.specs.Reading.{to_end}
 use Rattle.std.specs.Prelude.{◌≢◌, IsErrAnd}
 use Rattle.sshkey_base.proofs.ReadLists.{Collects, collects_refused, collects_end}
-use Rattle.sshkey_format.specs.Slices.{is_taken, found_or}
-use Rattle.sshkey_format.proofs.SliceFronts.{taken_value}
+use Rattle.sshkey_terms.specs.Slices.{is_taken, found_or}
+use Rattle.sshkey_terms.proofs.SliceFronts.{taken_value}
 
 taken_is : {Y : Type 0} (r : Result (List Y) Fault) (xs : List Y) → r ≡ Ok xs → (found_or [] r ≡ xs) × (is_taken r ≡ true)
 taken_is r xs e = rw e (refl, refl)

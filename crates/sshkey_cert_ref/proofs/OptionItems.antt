@@ -13,7 +13,7 @@ use Rattle.sshkey_base.specs.Causes.{encoding_cause}
 use Rattle.sshkey_base.proofs.Boxes.{some_behind}
 use Rattle.sshkey_keys_ref.specs.Taking.{Takes}
 use Rattle.sshkey_cert_ref.specs.SpelledOptions.{nesting, value_pair_of}
-use Rattle.sshkey_format.proofs.SliceFronts.{answers_ok, answers_err}
+use Rattle.sshkey_terms.proofs.SliceFronts.{answers_ok, answers_err}
 
 value_of_some : (b : List ℕ) → 0 < length b → option_value_from b ≡ (whole text_at b >>= λ v. Ok (v, nesting_of v))
 unfolding option_value_from

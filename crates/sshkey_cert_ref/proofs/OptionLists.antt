@@ -9,12 +9,12 @@ use Rattle.sshkey_base.specs.Causes.{Cause}
 use Rattle.sshkey_base.specs.Reading.{NoSpelling}
 use Rattle.sshkey_base.specs.Lengths.{with_rest}
 use Rattle.sshkey_base.proofs.MappedBoxes.{on_value, made}
-use Rattle.sshkey_options.specs.OptionLists.{two_lists}
+use Rattle.sshkey_cert_values.specs.OptionLists.{two_lists}
 use Rattle.sshkey_cert_ref.specs.declared.options_ref.OptionsRef.{OptionsRef}
 use Rattle.sshkey_cert_ref.specs.OptionLists.{SpellsEachOption, options_in, nestings_in, are_plain, plainness_from}
 use Rattle.sshkey_cert_ref.specs.Views.{bytes_of_options, spelled_options_of}
-use Rattle.sshkey_format.specs.Slices.{Keeps, is_taken, found_or}
-use Rattle.sshkey_format.proofs.SliceFronts.{answers_err, taken_value}
+use Rattle.sshkey_terms.specs.Slices.{Keeps, is_taken, found_or}
+use Rattle.sshkey_terms.proofs.SliceFronts.{answers_err, taken_value}
 use Rattle.sshkey_cert_ref.proofs.BoxedBytes.{bytes_box, box_bytes}
 
 abbrev Pair : Type 0

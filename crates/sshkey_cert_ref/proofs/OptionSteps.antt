@@ -16,7 +16,7 @@ use Rattle.sshkey_cert_ref.specs.declared.options_ref.item.SpelledOption.{Spelle
 use Rattle.sshkey_cert_ref.specs.OptionLists.{options_in, are_plain, plainness_from}
 use Rattle.sshkey_cert_ref.specs.SpelledOptions.{pair_of, nesting}
 use Rattle.sshkey_keys_ref.specs.Taking.{Takes}
-use Rattle.sshkey_format.specs.Slices.{is_taken}
+use Rattle.sshkey_terms.specs.Slices.{is_taken}
 use Rattle.sshkey_cert_ref.proofs.ListSteps.{first_of, empty_list, all_refused, all_taken}
 
 abbrev Pair : Type 0

@@ -14,7 +14,7 @@ use Rattle.sshkey_base.specs.Causes.{Cause}
 use Rattle.sshkey_base.specs.Reading.{Refuses}
 use Rattle.sshkey_base.proofs.Labels.{same_bytes}
 use Rattle.sshkey_keys_ref.specs.CertifiedBodies.{certified_body_at}
-use Rattle.sshkey_format.specs.Slices.{found_or, is_taken}
+use Rattle.sshkey_terms.specs.Slices.{found_or, is_taken}
 
 -- ---- what was judged
 

@@ -16,11 +16,11 @@ use Rattle.sshkey_base.specs.TextLists.{text_list_at}
 use Rattle.sshkey_base.proofs.ReadLists.{Collects, collects_more, leaves_less}
 use Rattle.sshkey_cert_ref.specs.TextLists.{SpellsEachText, texts_in}
 use Rattle.sshkey_keys_ref.specs.Taking.{Takes}
-use Rattle.sshkey_format.specs.Slices.{Keeps, is_taken}
+use Rattle.sshkey_terms.specs.Slices.{Keeps, is_taken}
 use Rattle.sshkey_cert_ref.specs.Views.{bytes_of_texts, texts_of}
 use Rattle.sshkey_cert_ref.specs.declared.texts_ref.TextsRef.{TextsRef}
 use Rattle.sshkey_base.specs.Lengths.{with_rest}
-use Rattle.sshkey_format.proofs.SliceFronts.{taken_value}
+use Rattle.sshkey_terms.proofs.SliceFronts.{taken_value}
 use Rattle.sshkey_cert_ref.proofs.ListSteps.{first_of, empty_list, all_refused, all_taken}
 
 pub text_less : (before : Option (List ℕ)) (b x rest : List ℕ) → text_at b ≡ Ok (x, rest) → length rest < length b

@@ -15,14 +15,14 @@ use Rattle.sshkey_base.specs.Grammars.{by_itself}
 use Rattle.sshkey_base.specs.Lengths.{no_lengths}
 use Rattle.sshkey_base.specs.Needs.{NoNeed}
 use Rattle.sshkey_base.specs.Stops.{NoOverrun}
-use Rattle.sshkey_format.specs.Terms.{◌then◌, boxed}
+use Rattle.sshkey_terms.specs.Terms.{◌then◌, boxed}
 use Rattle.sshkey_keys_ref.specs.KeyDataRef.{key_bytes}
 use Rattle.sshkey_keys_ref.specs.SignatureRef.{signature_bytes}
 use Rattle.sshkey_keys_ref.specs.declared.key_data_ref.KeyDataRef.{KeyDataRef}
 use Rattle.sshkey_keys_ref.specs.declared.signature_ref.SignatureRef.{SignatureRef}
 use Rattle.sshkey_cert_ref.specs.OptionLists.{SpellsOptionString}
-use Rattle.sshkey_format.specs.Slices.{found_or}
-use Rattle.sshkey_to_be_signed.specs.ToBeSignedFormats.{Grant, Window, grant_format, window_format}
+use Rattle.sshkey_terms.specs.Slices.{found_or}
+use Rattle.sshkey_cert_fields.specs.ToBeSignedFormats.{Grant, Window, grant_format, window_format}
 
 abbrev OptionsAsSpelled : Type 0
 OptionsAsSpelled = List CertificateOption × List Nesting

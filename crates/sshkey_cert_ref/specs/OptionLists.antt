@@ -5,7 +5,7 @@ use Rattle.sshkey_model.specs.Parts.{flat}
 use Rattle.sshkey_model.specs.Grammar.{SpellsAs}
 use Rattle.sshkey_model.specs.Options.{CertificateOption, Nesting, Plain, Nested, AreOptions, HasOptionPlaces, each_option, options, plain_nestings, option_at, firsts, seconds}
 use Rattle.sshkey_model.specs.Reading.{◌>>=◌, Whole, list_whole}
-use Rattle.sshkey_format.specs.Slices.{found_or}
+use Rattle.sshkey_terms.specs.Slices.{found_or}
 
 -- the bytes are those of the options, each empty value as its choice says
 abbrev pub SpellsEachOption : List CertificateOption × List Nesting → List ℕ → Type 0

@@ -11,8 +11,8 @@ use Rattle.sshkey_keys_ref.specs.KeyDataRef.{key_bytes}
 use Rattle.sshkey_keys_ref.specs.SignatureRef.{signature_bytes}
 use Rattle.sshkey_keys_ref.specs.declared.key_data_ref.KeyDataRef.{KeyDataRef}
 use Rattle.sshkey_keys_ref.specs.declared.signature_ref.SignatureRef.{SignatureRef}
-use Rattle.sshkey_options.specs.CertTypes.{type_of}
-use Rattle.sshkey_options.specs.Times.{time_of, end_of}
+use Rattle.sshkey_cert_values.specs.CertTypes.{type_of}
+use Rattle.sshkey_cert_values.specs.Times.{time_of, end_of}
 use Rattle.sshkey_cert_ref.specs.Views.{texts_of, spelled_options_of}
 use Rattle.sshkey_cert_ref.specs.declared.parts.Parts.{Parts}
 

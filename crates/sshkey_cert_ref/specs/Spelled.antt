@@ -5,7 +5,7 @@ use Rattle.sshkey_model.specs.Certificates.{Certificate, CertificateChoices, Sig
 use Rattle.sshkey_model.specs.Keys.{Opaque, Plain}
 use Rattle.sshkey_model.specs.Names.{Algorithm, Dsa}
 use Rattle.sshkey_model.specs.Reading.{whole}
-use Rattle.sshkey_format.specs.Slices.{found_or}
+use Rattle.sshkey_terms.specs.Slices.{found_or}
 
 -- what stands for the certificate of bytes that spell none
 abbrev pub no_certificate : Certificate

@@ -5,7 +5,7 @@ use Rattle.sshkey_model.specs.Parts.{each}
 use Rattle.sshkey_model.specs.Grammar.{Spells}
 use Rattle.sshkey_model.specs.Texts.{string, IsText}
 use Rattle.sshkey_base.specs.TextLists.{text_list_at}
-use Rattle.sshkey_format.specs.Slices.{found_or}
+use Rattle.sshkey_terms.specs.Slices.{found_or}
 
 -- the bytes are those of the texts
 abbrev pub SpellsEachText : List (List ℕ) → List ℕ → Type 0

@@ -6,11 +6,11 @@ ghost use Rattle.sshkey_base.specs.Causes.{cause};
 ghost use Rattle.sshkey_base.specs.NameFormats.{certified_format};
 ghost use Rattle.sshkey_model.specs.CertificateNames.{certified_from};
 ghost use Rattle.sshkey_model.specs.Names as names;
-ghost use Rattle.sshkey_format.specs.Slices.{is_taken};
+ghost use Rattle.sshkey_terms.specs.Slices.{is_taken};
 ghost use Rattle.sshkey_cert_ref.specs.Spelled.{certified_in};
 
 use sshkey_base::{Algorithm, Error, Result, encoding};
-use sshkey_format::ReadFrom;
+use sshkey_terms::ReadFrom;
 use std::str;
 
 /// The name of an algorithm in certificates, where it lies.
@@ -22,7 +22,7 @@ pub(crate) struct CertificateName<'a> {
 
 /// The string of the name. Fails with `Length` if it is not there whole, with `Label` if it is no
 /// such name.
-#[tactic(auto, using(sshkey_format::proofs::Walking::walking), unfolding(sshkey_model::specs::CertificateNames::certificate_algorithm_at))]
+#[tactic(auto, using(sshkey_terms::proofs::Walking::walking), unfolding(sshkey_model::specs::CertificateNames::certificate_algorithm_at))]
 impl<'a> ReadFrom<&'a [u8]> for CertificateName<'a> {
     type Error = Error;
 

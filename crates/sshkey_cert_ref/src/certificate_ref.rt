@@ -7,7 +7,7 @@ ghost use Rattle.sshkey_model.specs.Certificates.{certificate_at, to_be_signed};
 ghost use Rattle.sshkey_model.specs.Parts.{flat};
 ghost use Rattle.sshkey_model.specs.Reading.{box_at, whole};
 ghost use Rattle.sshkey_model.specs.Signatures.{signature_at};
-ghost use Rattle.sshkey_format.specs.Slices.{is_taken};
+ghost use Rattle.sshkey_terms.specs.Slices.{is_taken};
 ghost use Rattle.sshkey_cert_ref.specs.Parts.{AreParts, IsSignatureIn};
 ghost use Rattle.sshkey_cert_ref.specs.Spelled.{fields_in, spelled_in};
 ghost use Rattle.sshkey_cert_ref.specs.Taking.{TakesWhole};
@@ -45,7 +45,7 @@ pub struct CertificateRef<'a> {
 }
 
 impl<'a> CertificateRef<'a> {
-    ghost use Rattle.sshkey_format.specs.Slices.{AcceptsAll, Keeps};
+    ghost use Rattle.sshkey_terms.specs.Slices.{AcceptsAll, Keeps};
     ghost use Rattle.sshkey_cert.specs.CertificateReaders.{SpellsCertificate};
     ghost use Rattle.sshkey_cert_ref.specs.CertificateRef.{certificate_bytes, certificate_of};
 

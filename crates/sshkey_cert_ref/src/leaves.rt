@@ -6,18 +6,18 @@ ghost use Rattle.sshkey_model.specs.Certificates.{CertificateType};
 ghost use Rattle.sshkey_model.specs.Keys.{Head, Key};
 ghost use Rattle.sshkey_model.specs.Reading.{box_at, whole};
 ghost use Rattle.sshkey_model.specs.Signatures.{signature_at};
-ghost use Rattle.sshkey_options.specs.CertTypes.{type_of};
-ghost use Rattle.sshkey_options.specs.Leaves.{end_format, time_format, type_format};
-ghost use Rattle.sshkey_options.specs.Times.{time_of, end_of};
+ghost use Rattle.sshkey_cert_values.specs.CertTypes.{type_of};
+ghost use Rattle.sshkey_cert_values.specs.Leaves.{end_format, time_format, type_format};
+ghost use Rattle.sshkey_cert_values.specs.Times.{time_of, end_of};
 ghost use Rattle.sshkey_cert_ref.specs.Fields.{boxed_key_format, spelled_key_of};
 ghost use Rattle.sshkey_cert_ref.specs.Parts.{IsSignatureIn};
 ghost use Rattle.sshkey_cert_ref.specs.Taking.{Cuts};
 
 use crate::strings::take_string;
 use sshkey_base::{Error, Result};
-use sshkey_format::ReadFrom;
+use sshkey_terms::ReadFrom;
 use sshkey_keys_ref::{KeyDataRef, SignatureRef};
-use sshkey_options::{CertType, EndTime, UnixTime};
+use sshkey_cert_values::{CertType, EndTime, UnixTime};
 use std::convert::TryFrom;
 
 /// A field of a certificate, where it lies.
@@ -25,7 +25,7 @@ use std::convert::TryFrom;
 pub(crate) struct Field<T>(pub T);
 
 /// The type, a number of four bytes. Fails with `FormatEncoding` if it is neither 1 nor 2.
-#[tactic(auto, using(sshkey_format::proofs::Walking::walking), unfolding(sshkey_model::specs::Certificates::type_at))]
+#[tactic(auto, using(sshkey_terms::proofs::Walking::walking), unfolding(sshkey_model::specs::Certificates::type_at))]
 impl<'a> ReadFrom<&'a [u8]> for Field<CertType> {
     type Error = Error;
 
@@ -42,7 +42,7 @@ impl<'a> ReadFrom<&'a [u8]> for Field<CertType> {
 }
 
 /// A time, a number of eight bytes. `Time` above 2^63 - 1.
-#[tactic(auto, using(sshkey_format::proofs::Walking::walking), unfolding(sshkey_model::specs::Certificates::time_at))]
+#[tactic(auto, using(sshkey_terms::proofs::Walking::walking), unfolding(sshkey_model::specs::Certificates::time_at))]
 impl<'a> ReadFrom<&'a [u8]> for Field<UnixTime> {
     type Error = Error;
 
@@ -59,7 +59,7 @@ impl<'a> ReadFrom<&'a [u8]> for Field<UnixTime> {
 }
 
 /// An end of validity, a number of eight bytes. `Time` above 2^63 - 1, but for 2^64 - 1.
-#[tactic(auto, using(sshkey_format::proofs::Walking::walking), unfolding(sshkey_model::specs::Certificates::end_at))]
+#[tactic(auto, using(sshkey_terms::proofs::Walking::walking), unfolding(sshkey_model::specs::Certificates::end_at))]
 impl<'a> ReadFrom<&'a [u8]> for Field<EndTime> {
     type Error = Error;
 

@@ -6,7 +6,7 @@ ghost use Rattle.sshkey_model.specs.Options.{option_at};
 ghost use Rattle.sshkey_model.specs.Reading.{list_whole};
 ghost use Rattle.sshkey_base.specs.Answers.{AnswersAlways};
 ghost use Rattle.sshkey_base.specs.Causes.{cause};
-ghost use Rattle.sshkey_format.specs.Slices.{is_taken};
+ghost use Rattle.sshkey_terms.specs.Slices.{is_taken};
 ghost use Rattle.sshkey_cert_ref.specs.OptionLists.{are_plain, nestings_in, options_in, plainness_from};
 ghost use Rattle.sshkey_cert_ref.specs.SpelledOptions.{pair_of};
 
@@ -17,7 +17,7 @@ use crate::strings::take_string;
 use item::{SpelledOption, take_option};
 pub use iter::Options;
 use sshkey_base::{Error, Result};
-use sshkey_format::ReadFrom;
+use sshkey_terms::ReadFrom;
 
 /// Options of a certificate (PROTOCOL.certkeys): bytes that spell them, one after the other. Each
 /// is the string of a name, and a string that is empty or holds one text; the names rise, by bytes.
@@ -32,7 +32,7 @@ pub struct OptionsRef<'a> {
 
 impl<'a> OptionsRef<'a> {
     ghost use Rattle.sshkey_model.specs.Options.{AreOptions, options_at, plain_nestings};
-    ghost use Rattle.sshkey_format.specs.Slices.{AcceptsAll, AcceptsSplit, Keeps, Splits};
+    ghost use Rattle.sshkey_terms.specs.Slices.{AcceptsAll, AcceptsSplit, Keeps, Splits};
     ghost use Rattle.sshkey_cert_ref.specs.OptionLists.{SpellsEachOption, SpellsOptionString, plain_bytes};
     ghost use Rattle.sshkey_cert_ref.specs.Views.{bytes_of_options, options_of, nestings_of, spelled_options_of};
 

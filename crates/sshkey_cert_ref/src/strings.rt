@@ -5,10 +5,10 @@ ghost use Rattle.sshkey_base.specs.Causes.{encoding_cause};
 ghost use Rattle.sshkey_base.specs.Source.{Later, all_of};
 ghost use Rattle.sshkey_keys_ref.specs.Taking.{Takes};
 ghost use Rattle.sshkey_model.specs.Reading.{box_at};
-ghost use Rattle.sshkey_format.specs.Slices.{Splits};
+ghost use Rattle.sshkey_terms.specs.Slices.{Splits};
 
 use sshkey_base::encoding::Result;
-use sshkey_format::ReadFrom;
+use sshkey_terms::ReadFrom;
 
 /// Takes the bytes of a string.
 #[tactic(auto, using(sshkey_base::proofs::Places::places))]

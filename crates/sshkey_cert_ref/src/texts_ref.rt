@@ -6,7 +6,7 @@ ghost use Rattle.sshkey_model.specs.Texts.{IsText};
 ghost use Rattle.sshkey_base.specs.Answers.{Judges};
 ghost use Rattle.sshkey_base.specs.Causes.{encoding_cause};
 ghost use Rattle.sshkey_base.specs.TextLists.{text_list_at};
-ghost use Rattle.sshkey_format.specs.Slices.{is_taken};
+ghost use Rattle.sshkey_terms.specs.Slices.{is_taken};
 ghost use Rattle.sshkey_cert_ref.specs.TextLists.{texts_in};
 
 mod iter;
@@ -14,7 +14,7 @@ mod iter;
 use crate::strings::take_string;
 pub use iter::Texts;
 use sshkey_base::encoding::{Error, Result};
-use sshkey_format::ReadFrom;
+use sshkey_terms::ReadFrom;
 
 /// A list of texts: bytes that spell them, each as a string, one after the other (RFC 4251, section
 /// 5). So the valid principals of a certificate stand in their string (PROTOCOL.certkeys).
@@ -27,7 +27,7 @@ pub struct TextsRef<'a> {
 impl<'a> TextsRef<'a> {
     ghost use Rattle.sshkey_model.specs.Texts.{texts_at};
     ghost use Rattle.sshkey_base.specs.TextLists.{SpellsTexts};
-    ghost use Rattle.sshkey_format.specs.Slices.{AcceptsAll, AcceptsSplit, Keeps, Splits};
+    ghost use Rattle.sshkey_terms.specs.Slices.{AcceptsAll, AcceptsSplit, Keeps, Splits};
     ghost use Rattle.sshkey_cert_ref.specs.TextLists.{SpellsEachText};
     ghost use Rattle.sshkey_cert_ref.specs.Views.{bytes_of_texts, texts_of};
 

@@ -4,7 +4,7 @@ ghost use Rattle.sshkey_base.specs.Causes.{cause};
 ghost use Rattle.sshkey_model.specs.Certificates.{signed_fields_at};
 ghost use Rattle.sshkey_cert_ref.specs.Parts.{AreParts, AreSubject};
 ghost use Rattle.sshkey_cert_ref.specs.Taking.{Cuts};
-ghost use Rattle.sshkey_to_be_signed.specs.ToBeSignedReaders.{subject_at};
+ghost use Rattle.sshkey_cert_fields.specs.ToBeSignedReaders.{subject_at};
 
 use crate::certificate_name::CertificateName;
 use crate::leaves::{Field, KeyInString};
@@ -12,9 +12,9 @@ use crate::options_ref::OptionsRef;
 use crate::parts::Parts;
 use crate::texts_ref::TextsRef;
 use sshkey_base::Result;
-use sshkey_format::{ReadFrom, Then, Wide};
+use sshkey_terms::{ReadFrom, Then, Wide};
 use sshkey_keys_ref::take_body;
-use sshkey_options::{CertType, EndTime, UnixTime};
+use sshkey_cert_values::{CertType, EndTime, UnixTime};
 
 /// The name and the nonce.
 type Opening<'a> = Then<CertificateName<'a>, Wide<&'a [u8]>>;

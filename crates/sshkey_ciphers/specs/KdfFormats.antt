@@ -9,8 +9,8 @@ use Rattle.sshkey_base.specs.Grammars.{AllEnd}
 use Rattle.sshkey_base.specs.Labels.{label_at}
 use Rattle.sshkey_base.specs.Needs.{NoNeed}
 use Rattle.sshkey_base.proofs.MappedBoxes.{on_value, made, box_map}
-use Rattle.sshkey_format.specs.Behind.{both_at, behind_at}
-use Rattle.sshkey_format.specs.Terms.{◌then◌, boxed, chosen_of, tested, IsChosen, IsMapped}
+use Rattle.sshkey_terms.specs.Behind.{both_at, behind_at}
+use Rattle.sshkey_terms.specs.Terms.{◌then◌, boxed, chosen_of, tested, IsChosen, IsMapped}
 use Rattle.sshkey_ciphers.specs.Ciphers.{kdf_algorithm_checks, kdf_grammar}
 
 -- ---- what a key derivation takes

@@ -20,7 +20,7 @@ use sshkey_base::{
     Bytes, Decode, Encode, Error, NormalForm, Reader, Result, Writer, both_len, encode_both,
     encoding,
 };
-use sshkey_format::{Boxed, Then, Wide};
+use sshkey_terms::{Boxed, Then, Wide};
 use std::alloc::Global;
 
 /// How the key of a cipher is derived from a password, with what that takes (OpenSSH,
@@ -123,7 +123,7 @@ impl Default for Kdf {
 /// Fails with `Length` if a stated length exceeds what is left, with `Label` for another name, with
 /// `AlgorithmUnknown` if the options of `none` are not empty, and with `TrailingData` for bytes
 /// after the rounds in their string.
-#[tactic(auto, using(sshkey_format::proofs::Chosen::chosen, crate::specs::KdfFormats::kdf_chosen, sshkey_base::specs::Lengths::label_lengths))]
+#[tactic(auto, using(sshkey_terms::proofs::Chosen::chosen, crate::specs::KdfFormats::kdf_chosen, sshkey_base::specs::Lengths::label_lengths))]
 impl Decode for Kdf {
     type Error = Error;
 
@@ -180,7 +180,7 @@ fn check_none(len: u32) -> Result<Kdf>
 }
 
 /// A string of salt and rounds.
-#[tactic(auto, using(sshkey_format::proofs::Mapped::mapped, crate::specs::KdfFormats::bcrypt_parts_read))]
+#[tactic(auto, using(sshkey_terms::proofs::Mapped::mapped, crate::specs::KdfFormats::bcrypt_parts_read))]
 fn bcrypt_from<R: Reader>(alloc: Global, reader: &mut R) -> Result<Kdf>
     ensures gives { Gives kdf_of cause bcrypt_format.read
         (R.source reader.old) result (R.source reader.new) }

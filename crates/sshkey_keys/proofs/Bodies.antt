@@ -15,10 +15,10 @@ use Rattle.sshkey_base.specs.Needs.{Asks, NoNeed}
 use Rattle.sshkey_base.specs.Source.{Source, Later}
 use Rattle.sshkey_base.specs.Stops.{Stopped}
 use Rattle.sshkey_base.proofs.Accepted.{accepts_front}
-use Rattle.sshkey_format.specs.Terms.{IsMapped}
+use Rattle.sshkey_terms.specs.Terms.{IsMapped}
 use Rattle.sshkey_kinds.specs.Bodies.{SpellsBody}
 use Rattle.sshkey_kinds.specs.KeyFormats.{ecdsa_format}
-use Rattle.sshkey_format.proofs.Tested.{tested_stopped}
+use Rattle.sshkey_terms.proofs.Tested.{tested_stopped}
 use Rattle.sshkey_keys.specs.declared.key_data.KeyData.{KeyData}
 use Rattle.sshkey_keys.specs.declared.key_data.KeyData.TheVariants as kinds
 use Rattle.sshkey_keys.specs.Keys.{stored_algorithm, key_of}

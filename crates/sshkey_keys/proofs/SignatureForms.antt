@@ -10,7 +10,7 @@ use Rattle.sshkey_model.specs.Points.{field_size}
 use Rattle.sshkey_model.specs.Signatures.{IsSignatureBlob, IsEcdsaBlob, without_trailer, sized_from, ecdsa_blob_from, component_at, component_from, small_part}
 use Rattle.sshkey_model.proofs.CombinedReaders.{bind_ok, passed, met, ok_is, done}
 use Rattle.sshkey_model.proofs.SignatureReaders.{ecdsa_blob_checks}
-use Rattle.sshkey_format.specs.Slices.{is_taken}
+use Rattle.sshkey_terms.specs.Slices.{is_taken}
 use Rattle.sshkey_keys.specs.SignatureForms.{trailed_from, blob_from, is_blob, or_none, positive_from, after_component, ecdsa_from}
 
 -- ---- well-formed exactly where taken

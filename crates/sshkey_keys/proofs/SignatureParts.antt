@@ -11,7 +11,7 @@ use Rattle.sshkey_base.specs.Causes.{cause}
 use Rattle.sshkey_base.specs.Needs.{Asks, NeedsString}
 use Rattle.sshkey_base.specs.Source.{Source}
 use Rattle.sshkey_base.specs.Stops.{OverrunsString, RanOut, StopsBy}
-use Rattle.sshkey_format.specs.Terms.{IsMapped}
+use Rattle.sshkey_terms.specs.Terms.{IsMapped}
 use Rattle.sshkey_keys.specs.KeyFormats.{signature_under, signature_with}
 use Rattle.sshkey_keys.specs.SignatureForms.{NeedsTrailed, has_trailer, string_from}
 

@@ -17,7 +17,7 @@ use Rattle.sshkey_base.specs.Lengths.{checked_lengths, string_lengths}
 use Rattle.sshkey_base.specs.NameNeeds.{NeedsAlgorithm}
 use Rattle.sshkey_base.specs.Needs.{NeedsString}
 use Rattle.sshkey_base.specs.Stops.{OverrunsString, AreLengths}
-use Rattle.sshkey_format.specs.Terms.{IsChosen, chosen_of, tested}
+use Rattle.sshkey_terms.specs.Terms.{IsChosen, chosen_of, tested}
 use Rattle.sshkey_kinds.specs.Bodies.{SpellsBody, ed25519_body_at}
 use Rattle.sshkey_kinds.specs.KeyFormats.{dsa_format, ecdsa_format, ed25519_format, rsa_format, sk_ecdsa_format, sk_ed25519_format}
 use Rattle.sshkey_keys.specs.Keys.{key_data_at}

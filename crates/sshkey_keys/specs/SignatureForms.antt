@@ -6,7 +6,7 @@ use Rattle.sshkey_model.specs.Mpints.{mpint_from, positive_part}
 use Rattle.sshkey_model.specs.Points.{field_size}
 use Rattle.sshkey_model.specs.Signatures.{Signature, without_trailer, ecdsa_blob_from, sized_from, some_from, none_from}
 use Rattle.sshkey_base.specs.Needs.{HasString, NeedsString}
-use Rattle.sshkey_format.specs.Slices.{is_taken}
+use Rattle.sshkey_terms.specs.Slices.{is_taken}
 
 -- Flags and a counter stand behind the string.
 abbrev pub has_trailer : Algorithm → Bool

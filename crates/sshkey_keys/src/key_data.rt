@@ -28,7 +28,7 @@ use sshkey_base::{
     encoding, names, string_len,
 };
 use sshkey_fingerprints::Fingerprint;
-use sshkey_format::Wide;
+use sshkey_terms::Wide;
 use sshkey_kinds::{
     DsaPublicKey, EcdsaPublicKey, Ed25519PublicKey, OpaquePublicKey, OpaquePublicKeyBytes,
     RsaPublicKey, SkEcdsaSha2NistP256, SkEd25519,
@@ -269,7 +269,7 @@ fn opaque_from<R: Reader>(alloc: Global, reader: &mut R, algorithm: Algorithm) -
 ///
 /// An RSA key may stand under a name with a hash, which is not kept. Fails with `Label` for a name
 /// of no algorithm, and with the faults of the kind.
-#[tactic(auto, using(sshkey_format::proofs::Chosen::chosen, crate::specs::KeyFormats::key_chosen, sshkey_base::specs::Lengths::label_lengths))]
+#[tactic(auto, using(sshkey_terms::proofs::Chosen::chosen, crate::specs::KeyFormats::key_chosen, sshkey_base::specs::Lengths::label_lengths))]
 impl Decode for KeyData {
     type Error = Error;
 

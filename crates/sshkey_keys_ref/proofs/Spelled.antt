@@ -10,7 +10,7 @@ use Rattle.sshkey_base.specs.Source.{all_of}
 use Rattle.sshkey_base.proofs.Accepted.{whole_spelled}
 use Rattle.sshkey_keys.specs.Keys.{SpellsKey}
 use Rattle.sshkey_keys.specs.SignatureReaders.{SpellsSignature}
-use Rattle.sshkey_format.specs.Slices.{is_taken}
+use Rattle.sshkey_terms.specs.Slices.{is_taken}
 use Rattle.sshkey_keys_ref.specs.Dispatch.{AreAccepted, DispatchesBytes}
 
 pub some_spelled : {Y : Type 0} {Spells : Y → List ℕ → Type 0} {read : Front Y} → IsGrammar Spells read → (b : List ℕ) → is_taken (whole read b) ≡ true → SpellsSome Spells b

@@ -16,7 +16,7 @@ use Rattle.sshkey_model.specs.Names.{algorithm_from}
 use Rattle.sshkey_model.specs.Signatures.{signature_at, signature_blob_at, trailed_at}
 use Rattle.sshkey_model.specs.Names.{algorithm_at}
 use Rattle.sshkey_base.specs.Labels.{label_at}
-use Rattle.sshkey_format.specs.Slices.{is_taken}
+use Rattle.sshkey_terms.specs.Slices.{is_taken}
 use Rattle.sshkey_keys_ref.specs.Taking.{Skips}
 use Rattle.sshkey_keys_ref.specs.CertifiedBodies.{certified_body_at}
 

@@ -14,7 +14,7 @@ use crate::kinds::{DsaRef, EcdsaRef, Ed25519Ref, RsaRef, SkEcdsaRef, SkEd25519Re
 use crate::name_ref::NameRef;
 use crate::walk::behind;
 use sshkey_base::{Algorithm, EcdsaCurve, Error, Result};
-use sshkey_format::ReadFrom;
+use sshkey_terms::ReadFrom;
 
 /// Takes the front that is the body of a public key under that name in a certificate
 /// (PROTOCOL.certkeys), and leaves what follows it. Does not allocate.
@@ -88,7 +88,7 @@ fn behind_kind<'a>(algorithm: &Algorithm, bytes: &'a [u8]) -> Result<&'a [u8]>
 }
 
 /// What stands after an ECDSA key of that curve. Fails with `AlgorithmUnknown` for another curve.
-#[tactic(auto, using(sshkey_format::proofs::Walking::walking), unfolding(sshkey_model::specs::Keys::ecdsa_at))]
+#[tactic(auto, using(sshkey_terms::proofs::Walking::walking), unfolding(sshkey_model::specs::Keys::ecdsa_at))]
 fn behind_ecdsa<'a>(curve: EcdsaCurve, bytes: &'a [u8]) -> Result<&'a [u8]>
     ensures { Skips cause (body_at (model.Ecdsa (curve_of curve))) bytes.now result }
 {

@@ -11,7 +11,7 @@ ghost use Rattle.sshkey_keys_ref.specs.KeyFingerprints.{GivesFingerprintOf};
 ghost use Rattle.sshkey_keys_ref.specs.NormalBytes.{GivesNormal, HasPlainHead, is_hashed};
 ghost use Rattle.sshkey_keys_ref.specs.NameRef.{named_of};
 ghost use Rattle.sshkey_keys_ref.specs.Taking.{Skips};
-ghost use Rattle.sshkey_format.specs.Slices.{AcceptsSome, is_taken};
+ghost use Rattle.sshkey_terms.specs.Slices.{AcceptsSome, is_taken};
 
 use crate::body::behind_named;
 use crate::name_ref::{NameRef, take_name};
@@ -37,7 +37,7 @@ impl<'a> KeyDataRef<'a> {
     ghost use Rattle.sshkey_keys.specs.KeyKinds.{is_ecdsa, is_ed25519};
     ghost use Rattle.sshkey_keys.specs.Keys.{key_of};
     ghost use Rattle.sshkey_keys_ref.specs.KeyDataRef.{key_bytes};
-    ghost use Rattle.sshkey_format.specs.Slices.{Keeps};
+    ghost use Rattle.sshkey_terms.specs.Slices.{Keeps};
 
     /// The key that all the bytes together spell, read once from left to right. Does not allocate.
     ///
@@ -117,7 +117,7 @@ fn check_key(bytes: &[u8]) -> Result<()>
 }
 
 /// What stands after a key.
-#[tactic(auto, using(sshkey_format::proofs::Walking::walking), unfolding(sshkey_keys::specs::Keys::key_data_at))]
+#[tactic(auto, using(sshkey_terms::proofs::Walking::walking), unfolding(sshkey_keys::specs::Keys::key_data_at))]
 fn behind_key(bytes: &[u8]) -> Result<&[u8]>
     ensures { Skips cause key_data_at bytes.now result }
 {

@@ -18,7 +18,7 @@ ghost use Rattle.sshkey_keys_ref.specs.Taking.{Takes};
 
 use crate::leaves::MpintRef;
 use sshkey_base::{EcdsaCurve, Error, Result, encoding};
-use sshkey_format::ReadFrom;
+use sshkey_terms::ReadFrom;
 use sshkey_kinds::{
     EcPoint, EcdsaNistP256PublicKey, EcdsaPublicKey, Ed25519PublicKey, P256_POINT_LEN,
     P521_POINT_LEN,
@@ -32,7 +32,7 @@ pub(crate) struct RsaRef<'a> {
     pub n: MpintRef<'a>,
 }
 
-#[tactic(auto, using(sshkey_format::proofs::Walking::walking), unfolding(sshkey_model::specs::Keys::rsa_at))]
+#[tactic(auto, using(sshkey_terms::proofs::Walking::walking), unfolding(sshkey_model::specs::Keys::rsa_at))]
 impl<'a> ReadFrom<&'a [u8]> for RsaRef<'a> {
     ghost use Rattle.sshkey_keys_ref.specs.Kinds.{rsa_of};
 
@@ -60,7 +60,7 @@ pub(crate) struct DsaRef<'a> {
     pub y: MpintRef<'a>,
 }
 
-#[tactic(auto, using(sshkey_format::proofs::Walking::walking), unfolding(sshkey_model::specs::Keys::dsa_at))]
+#[tactic(auto, using(sshkey_terms::proofs::Walking::walking), unfolding(sshkey_model::specs::Keys::dsa_at))]
 impl<'a> ReadFrom<&'a [u8]> for DsaRef<'a> {
     ghost use Rattle.sshkey_keys_ref.specs.Kinds.{dsa_of};
 
@@ -86,7 +86,7 @@ impl<'a> ReadFrom<&'a [u8]> for DsaRef<'a> {
 pub(crate) struct Ed25519Ref(pub Ed25519PublicKey);
 
 /// The bytes of an Ed25519 key.
-#[tactic(auto, using(sshkey_format::proofs::Walking::walking), unfolding(sshkey_kinds::specs::Bodies::ed25519_body_at, sshkey_model::specs::Keys::ed25519_at))]
+#[tactic(auto, using(sshkey_terms::proofs::Walking::walking), unfolding(sshkey_kinds::specs::Bodies::ed25519_body_at, sshkey_model::specs::Keys::ed25519_at))]
 impl<'a> ReadFrom<&'a [u8]> for Ed25519Ref {
     type Error = Error;
 
@@ -103,7 +103,7 @@ impl<'a> ReadFrom<&'a [u8]> for Ed25519Ref {
 }
 
 /// The name of a curve.
-#[tactic(auto, using(sshkey_format::proofs::Walking::walking), unfolding(sshkey_base::specs::Labels::label_at))]
+#[tactic(auto, using(sshkey_terms::proofs::Walking::walking), unfolding(sshkey_base::specs::Labels::label_at))]
 fn take_curve<'a>(bytes: &mut &'a [u8]) -> Result<EcdsaCurve>
     ensures gives { Takes curve_of cause (label_at curve_from) bytes.old.now result bytes.new.now }
     ensures later { Later (all_of bytes.old.now) (all_of bytes.new.now) }
@@ -127,7 +127,7 @@ fn curve_in(string: &[u8]) -> Result<EcdsaCurve>
 pub(crate) struct EcdsaRef(pub EcdsaPublicKey);
 
 /// The name of a curve and a point of it.
-#[tactic(auto, using(sshkey_format::proofs::Walking::walking), unfolding(sshkey_model::specs::Keys::any_ecdsa_at, sshkey_model::specs::Names::curve_at, sshkey_base::specs::Labels::label_at))]
+#[tactic(auto, using(sshkey_terms::proofs::Walking::walking), unfolding(sshkey_model::specs::Keys::any_ecdsa_at, sshkey_model::specs::Names::curve_at, sshkey_base::specs::Labels::label_at))]
 impl<'a> ReadFrom<&'a [u8]> for EcdsaRef {
     type Error = Error;
 
@@ -148,7 +148,7 @@ impl<'a> ReadFrom<&'a [u8]> for EcdsaRef {
 }
 
 /// A point string of any of the curves.
-#[tactic(auto, using(sshkey_format::proofs::Walking::walking))]
+#[tactic(auto, using(sshkey_terms::proofs::Walking::walking))]
 fn take_point<'a>(bytes: &mut &'a [u8]) -> Result<EcdsaPublicKey>
     ensures gives { Takes ecdsa_of cause (checked_at point_from string_at)
         bytes.old.now result bytes.new.now }
@@ -175,7 +175,7 @@ pub(crate) struct SkEcdsaRef<'a> {
     pub application: &'a str,
 }
 
-#[tactic(auto, using(sshkey_format::proofs::Walking::walking), unfolding(sshkey_model::specs::Keys::sk_ecdsa_at, sshkey_model::specs::Names::curve_at, sshkey_base::specs::Labels::label_at))]
+#[tactic(auto, using(sshkey_terms::proofs::Walking::walking), unfolding(sshkey_model::specs::Keys::sk_ecdsa_at, sshkey_model::specs::Names::curve_at, sshkey_base::specs::Labels::label_at))]
 impl<'a> ReadFrom<&'a [u8]> for SkEcdsaRef<'a> {
     ghost use Rattle.sshkey_keys_ref.specs.Kinds.{sk_ecdsa_of};
 
@@ -199,7 +199,7 @@ impl<'a> ReadFrom<&'a [u8]> for SkEcdsaRef<'a> {
 }
 
 /// A point string of P-256.
-#[tactic(auto, using(sshkey_format::proofs::Walking::walking))]
+#[tactic(auto, using(sshkey_terms::proofs::Walking::walking))]
 fn take_p256_point<'a>(bytes: &mut &'a [u8]) -> Result<EcdsaNistP256PublicKey>
     ensures gives { Takes point_of cause (checked_at p256_point_from string_at)
         bytes.old.now result bytes.new.now }
@@ -226,7 +226,7 @@ pub(crate) struct SkEd25519Ref<'a> {
     pub application: &'a str,
 }
 
-#[tactic(auto, using(sshkey_format::proofs::Walking::walking), unfolding(sshkey_model::specs::Keys::sk_ed25519_at, sshkey_model::specs::Keys::ed25519_at))]
+#[tactic(auto, using(sshkey_terms::proofs::Walking::walking), unfolding(sshkey_model::specs::Keys::sk_ed25519_at, sshkey_model::specs::Keys::ed25519_at))]
 impl<'a> ReadFrom<&'a [u8]> for SkEd25519Ref<'a> {
     ghost use Rattle.sshkey_keys_ref.specs.Kinds.{sk_ed25519_of};
 

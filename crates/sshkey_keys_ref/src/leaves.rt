@@ -4,14 +4,14 @@ ghost use Rattle.std.specs.Prelude.{ℕ, List};
 ghost use Rattle.sshkey_base.specs.Formats.{mpint_format};
 
 use sshkey_base::{Error, Mpint, Result};
-use sshkey_format::ReadFrom;
+use sshkey_terms::ReadFrom;
 
 /// The bytes of a number of any size, in two's complement (RFC 4251, section 5).
 #[derive(Clone, Copy)]
 pub(crate) struct MpintRef<'a>(pub &'a [u8]);
 
 /// A string of the bytes of a number.
-#[tactic(auto, using(sshkey_format::proofs::Walking::walking), unfolding(sshkey_model::specs::Mpints::mpint_at))]
+#[tactic(auto, using(sshkey_terms::proofs::Walking::walking), unfolding(sshkey_model::specs::Mpints::mpint_at))]
 impl<'a> ReadFrom<&'a [u8]> for MpintRef<'a> {
     type Error = Error;
 

@@ -8,7 +8,7 @@ ghost use Rattle.sshkey_keys_ref.specs.NameRef.{named_of};
 ghost use Rattle.sshkey_keys_ref.specs.Taking.{Takes};
 
 use sshkey_base::{Algorithm, Error, Result, encoding};
-use sshkey_format::ReadFrom;
+use sshkey_terms::ReadFrom;
 use std::str;
 
 /// The algorithm that a name tells.
@@ -21,7 +21,7 @@ pub(crate) enum NameRef<'a> {
 }
 
 /// The string of the name of an algorithm.
-#[tactic(auto, using(sshkey_format::proofs::Walking::walking), unfolding(sshkey_base::specs::Labels::label_at))]
+#[tactic(auto, using(sshkey_terms::proofs::Walking::walking), unfolding(sshkey_base::specs::Labels::label_at))]
 pub(crate) fn take_name<'a>(bytes: &mut &'a [u8]) -> Result<NameRef<'a>>
     ensures { Takes named_of cause (label_at algorithm_from) bytes.old.now result bytes.new.now }
 {

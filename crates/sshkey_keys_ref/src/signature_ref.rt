@@ -10,11 +10,11 @@ ghost use Rattle.sshkey_keys.specs.SignatureForms.{string_from, has_trailer};
 ghost use Rattle.sshkey_keys.specs.SignatureReaders.{SpellsSignature};
 ghost use Rattle.sshkey_keys_ref.specs.NameRef.{named_of};
 ghost use Rattle.sshkey_keys_ref.specs.Taking.{Skips};
-ghost use Rattle.sshkey_format.specs.Slices.{AcceptsSome, is_taken};
+ghost use Rattle.sshkey_terms.specs.Slices.{AcceptsSome, is_taken};
 
 use crate::name_ref::{NameRef, take_name};
 use sshkey_base::{Error, Result, decode_whole, encoding};
-use sshkey_format::{ReadFrom, bytes_from};
+use sshkey_terms::{ReadFrom, bytes_from};
 use sshkey_keys::{Signature, check_string, has_trailer};
 use std::alloc::Global;
 
@@ -33,7 +33,7 @@ impl<'a> SignatureRef<'a> {
     ghost use Rattle.sshkey_base.specs.Answers.{Answers};
     ghost use Rattle.sshkey_keys.specs.Signatures.{signature_of};
     ghost use Rattle.sshkey_keys_ref.specs.SignatureRef.{signature_bytes};
-    ghost use Rattle.sshkey_format.specs.Slices.{Keeps};
+    ghost use Rattle.sshkey_terms.specs.Slices.{Keeps};
 
     /// The signature that all the bytes together spell, read once from left to right. Does not
     /// allocate.
@@ -87,7 +87,7 @@ fn check_signature(bytes: &[u8]) -> Result<()>
 }
 
 /// What stands after a signature.
-#[tactic(auto, using(sshkey_format::proofs::Walking::walking), unfolding(sshkey_model::specs::Signatures::signature_at, sshkey_model::specs::Names::algorithm_at, sshkey_base::specs::Labels::label_at))]
+#[tactic(auto, using(sshkey_terms::proofs::Walking::walking), unfolding(sshkey_model::specs::Signatures::signature_at, sshkey_model::specs::Names::algorithm_at, sshkey_base::specs::Labels::label_at))]
 fn behind_signature(bytes: &[u8]) -> Result<&[u8]>
     ensures { Skips cause signature_at bytes.now result }
 {
@@ -134,7 +134,7 @@ fn check(name: &NameRef<'_>, bytes: &[u8]) -> Result<()>
 }
 
 /// What stands after the string.
-#[tactic(auto, using(sshkey_format::proofs::Walking::walking))]
+#[tactic(auto, using(sshkey_terms::proofs::Walking::walking))]
 fn behind_checked<'a>(name: &NameRef<'_>, bytes: &'a [u8]) -> Result<&'a [u8]>
     ensures { Skips cause (checked_at (string_from (named_of name.now)) string_at)
         bytes.now result }
@@ -146,7 +146,7 @@ fn behind_checked<'a>(name: &NameRef<'_>, bytes: &'a [u8]) -> Result<&'a [u8]>
 }
 
 /// What stands after the string and the five bytes of flags and counter.
-#[tactic(auto, using(sshkey_format::proofs::Walking::walking))]
+#[tactic(auto, using(sshkey_terms::proofs::Walking::walking))]
 fn behind_trailed<'a>(name: &NameRef<'_>, bytes: &'a [u8]) -> Result<&'a [u8]>
     ensures { Skips cause (trailed_at (string_from (named_of name.now))) bytes.now result }
 {

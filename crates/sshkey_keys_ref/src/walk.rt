@@ -2,7 +2,7 @@
 
 ghost use Rattle.sshkey_keys_ref.specs.Taking.{Skips};
 
-use sshkey_format::ReadFrom;
+use sshkey_terms::ReadFrom;
 
 /// What stands after a value.
 pub(crate) fn behind<'a, T: ReadFrom<&'a [u8]> + Drop>(

@@ -9,8 +9,8 @@ use Rattle.sshkey_base.specs.Needs.{NoNeed}
 use Rattle.sshkey_base.specs.Reading.{Reads}
 use Rattle.sshkey_base.specs.Source.{Source}
 use Rattle.sshkey_base.specs.Stops.{Stopped}
-use Rattle.sshkey_format.proofs.Needless.{needless_asks, needless_handed}
-use Rattle.sshkey_format.proofs.Tested.{tested_refused, tested_stopped}
+use Rattle.sshkey_terms.proofs.Needless.{needless_asks, needless_handed}
+use Rattle.sshkey_terms.proofs.Tested.{tested_refused, tested_stopped}
 use Rattle.sshkey_kinds.specs.KeyFormats.{ecdsa_of_parts, ecdsa_parts_format, ecdsa_parts_read}
 
 pub on_curve : (stated : Curve) (point : Curve × List ℕ) → curve_eq point.0 stated ≡ true → ecdsa_of_parts (stated, point) ≡ Ok (Ecdsa point.0 point.1)

@@ -17,8 +17,8 @@ use Rattle.sshkey_base.specs.Labels.{label_at}
 use Rattle.sshkey_base.specs.Lengths.{checked_lengths, string_lengths}
 use Rattle.sshkey_base.specs.Needs.{NoNeed}
 use Rattle.sshkey_base.specs.Stops.{OverrunsString}
-use Rattle.sshkey_format.specs.Behind.{both_at, behind_at}
-use Rattle.sshkey_format.specs.Terms.{◌then◌, IsMapped, made_of, without_memory}
+use Rattle.sshkey_terms.specs.Behind.{both_at, behind_at}
+use Rattle.sshkey_terms.specs.Terms.{◌then◌, IsMapped, made_of, without_memory}
 use Rattle.sshkey_kinds.specs.Bodies.{dsa_grammar, rsa_grammar, ed25519_body_at, ed25519_body_grammar, any_ecdsa_grammar, sk_ecdsa_grammar, sk_ed25519_grammar}
 
 -- ---- numbers

@@ -5,7 +5,7 @@ ghost use Rattle.sshkey_model.specs.Keys.{Key, body};
 ghost use Rattle.sshkey_kinds.specs.KeyFormats.{dsa_format};
 
 use sshkey_base::{Decode, Encode, Error, Mpint, Reader, Result, Writer, encoding};
-use sshkey_format::Then;
+use sshkey_terms::Then;
 use std::alloc::Global;
 
 /// A DSA public key (RFC 4253, section 6.6).
@@ -41,7 +41,7 @@ impl DsaPublicKey {
 }
 
 /// The four numbers p, q, g and y, each as a string.
-#[tactic(auto, using(sshkey_format::proofs::Mapped::mapped, crate::specs::KeyFormats::dsa_parts_read))]
+#[tactic(auto, using(sshkey_terms::proofs::Mapped::mapped, crate::specs::KeyFormats::dsa_parts_read))]
 impl Decode for DsaPublicKey {
     ghost use Rattle.sshkey_kinds.specs.Kinds.{dsa_of};
 

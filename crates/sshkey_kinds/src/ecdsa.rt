@@ -17,7 +17,7 @@ use sshkey_base::{
     Algorithm, Decode, EcdsaCurve, Encode, Error, Reader, Result, Writer, encode_string, encoding,
     length_from, string_len, write_lower_hex, write_upper_hex,
 };
-use sshkey_format::{Then, Wide};
+use sshkey_terms::{Then, Wide};
 use std::alloc::Global;
 use std::convert::AsSlice;
 use std::fmt;
@@ -112,7 +112,7 @@ impl EcdsaPublicKey {
 ///
 /// Fails with `Length` for a point string of more than 133 bytes, with the faults of
 /// `from_sec1_bytes`, and with `AlgorithmUnknown` for a point of another curve than the stated one.
-#[tactic(auto, using(sshkey_format::proofs::Mapped::mapped, crate::proofs::Parts::ecdsa))]
+#[tactic(auto, using(sshkey_terms::proofs::Mapped::mapped, crate::proofs::Parts::ecdsa))]
 impl Decode for EcdsaPublicKey {
     ghost use Rattle.sshkey_model.specs.Keys.{Key};
     ghost use Rattle.sshkey_kinds.specs.EcdsaPublicKey.{ecdsa_key_of};
@@ -139,7 +139,7 @@ impl Decode for EcdsaPublicKey {
 /// A point string of any of the curves, none of which is longer than 133 bytes.
 struct AnyPoint(EcdsaPublicKey);
 
-#[tactic(auto, using(sshkey_base::proofs::Steps::steps, sshkey_format::proofs::Stopping::handed, sshkey_base::proofs::Stopping::judged_length_stopped, crate::proofs::PointStrings::behind_refused_stopped), unfolding(sshkey_model::specs::Reading::string_at))]
+#[tactic(auto, using(sshkey_base::proofs::Steps::steps, sshkey_terms::proofs::Stopping::handed, sshkey_base::proofs::Stopping::judged_length_stopped, crate::proofs::PointStrings::behind_refused_stopped), unfolding(sshkey_model::specs::Reading::string_at))]
 impl Decode for AnyPoint {
     ghost use Rattle.std.specs.Prelude.{List, ℕ};
     ghost use Rattle.sshkey_model.specs.Names.{Curve};

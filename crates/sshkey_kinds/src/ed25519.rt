@@ -31,7 +31,7 @@ impl Ed25519PublicKey {
 
 /// A string of 32 bytes: `Length` for a shorter one, `TrailingData` for a longer one. Does not
 /// allocate.
-#[tactic(auto, using(sshkey_base::proofs::Steps::steps, sshkey_format::proofs::Mapped::mapped, crate::specs::KeyFormats::ed25519_read), unfolding(crate::specs::Bodies::ed25519_body_at, sshkey_model::specs::Keys::ed25519_at))]
+#[tactic(auto, using(sshkey_base::proofs::Steps::steps, sshkey_terms::proofs::Mapped::mapped, crate::specs::KeyFormats::ed25519_read), unfolding(crate::specs::Bodies::ed25519_body_at, sshkey_model::specs::Keys::ed25519_at))]
 impl Decode for Ed25519PublicKey {
     ghost use Rattle.sshkey_base.specs.Needs.{Asks, NoNeed};
     ghost use Rattle.sshkey_kinds.specs.Kinds.{ed25519_of};

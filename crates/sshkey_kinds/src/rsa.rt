@@ -7,7 +7,7 @@ ghost use Rattle.sshkey_kinds.specs.KeyFormats.{rsa_format};
 use sshkey_base::{
     Decode, Encode, Error, Mpint, Reader, Result, Writer, both_len, encode_both, encoding,
 };
-use sshkey_format::Then;
+use sshkey_terms::Then;
 use std::alloc::Global;
 
 /// An RSA public key (RFC 4253, section 6.6).
@@ -37,7 +37,7 @@ impl RsaPublicKey {
 }
 
 /// The two numbers, e and then n, each as a string.
-#[tactic(auto, using(sshkey_format::proofs::Mapped::mapped, crate::specs::KeyFormats::rsa_parts_read))]
+#[tactic(auto, using(sshkey_terms::proofs::Mapped::mapped, crate::specs::KeyFormats::rsa_parts_read))]
 impl Decode for RsaPublicKey {
     ghost use Rattle.sshkey_kinds.specs.Kinds.{rsa_of};
 

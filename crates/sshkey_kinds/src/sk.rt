@@ -12,7 +12,7 @@ use sshkey_base::{
     Decode, EcdsaCurve, Encode, Error, Reader, Result, Text, Writer, both_len, encode_both,
     encoding, length_from,
 };
-use sshkey_format::{Then, Wide};
+use sshkey_terms::{Then, Wide};
 use std::alloc::Global;
 
 /// The application of keys for SSH.
@@ -94,7 +94,7 @@ impl From<SkEcdsaSha2NistP256> for EcdsaNistP256PublicKey {
 ///
 /// Fails with `Crypto` for another curve, with `Length` for a point string of more than 65 bytes,
 /// and with `Ecdsa` for one that is no point of P-256.
-#[tactic(auto, using(sshkey_format::proofs::Mapped::mapped, crate::specs::KeyFormats::sk_ecdsa_parts_read))]
+#[tactic(auto, using(sshkey_terms::proofs::Mapped::mapped, crate::specs::KeyFormats::sk_ecdsa_parts_read))]
 impl Decode for SkEcdsaSha2NistP256 {
     ghost use Rattle.sshkey_kinds.specs.Kinds.{sk_ecdsa_of};
 
@@ -120,7 +120,7 @@ impl Decode for SkEcdsaSha2NistP256 {
 #[derive(Drop)]
 struct P256Name;
 
-#[tactic(auto, using(sshkey_base::proofs::Steps::steps, sshkey_format::proofs::Mapped::mapped, sshkey_format::proofs::Tested::tested, crate::specs::KeyFormats::p256_name_read, sshkey_base::specs::Lengths::label_lengths))]
+#[tactic(auto, using(sshkey_base::proofs::Steps::steps, sshkey_terms::proofs::Mapped::mapped, sshkey_terms::proofs::Tested::tested, crate::specs::KeyFormats::p256_name_read, sshkey_base::specs::Lengths::label_lengths))]
 impl Decode for P256Name {
     ghost use Rattle.sshkey_model.specs.Names.{Curve, Nistp256};
     ghost use Rattle.sshkey_kinds.specs.KeyFormats.{p256_name_format};
@@ -146,7 +146,7 @@ impl Decode for P256Name {
 #[derive(Drop)]
 struct P256Point(EcdsaNistP256PublicKey);
 
-#[tactic(auto, using(sshkey_base::proofs::Steps::steps, sshkey_format::proofs::Stopping::handed, sshkey_base::proofs::Stopping::judged_length_stopped, crate::proofs::PointStrings::behind_refused_stopped), unfolding(sshkey_model::specs::Reading::string_at))]
+#[tactic(auto, using(sshkey_base::proofs::Steps::steps, sshkey_terms::proofs::Stopping::handed, sshkey_base::proofs::Stopping::judged_length_stopped, crate::proofs::PointStrings::behind_refused_stopped), unfolding(sshkey_model::specs::Reading::string_at))]
 impl Decode for P256Point {
     ghost use Rattle.sshkey_kinds.specs.KeyFormats.{p256_point_format};
 
@@ -262,7 +262,7 @@ impl From<SkEd25519> for Ed25519PublicKey {
 }
 
 /// A string of 32 bytes, and the application as a text.
-#[tactic(auto, using(sshkey_format::proofs::Mapped::mapped, crate::specs::KeyFormats::sk_ed25519_parts_read))]
+#[tactic(auto, using(sshkey_terms::proofs::Mapped::mapped, crate::specs::KeyFormats::sk_ed25519_parts_read))]
 impl Decode for SkEd25519 {
     ghost use Rattle.sshkey_kinds.specs.Kinds.{sk_ed25519_of};
 

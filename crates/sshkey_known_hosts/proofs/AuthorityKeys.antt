@@ -1,10 +1,10 @@
 -- Which keys are those of authorities, line by line.
 use Rattle.std.proofs.Common.{◌≡◌, ◌⊎◌, ℕ, List, [], ◌∷◌, ◌++◌, Option, None, Some, option_map, true, false, inl, inr, refl, sym, ap, subst, ◌↔◌, ◌∙◌, append-nil, arith}
 use Rattle.std.specs.List.{Any}
-use Rattle.sshkey_files.specs.HostNames.{AreFor}
-use Rattle.sshkey_files.specs.HostVerdicts.{IsAuthority, Lists}
-use Rattle.sshkey_files.specs.KnownHosts.{KnownHost, CertAuthority}
-use Rattle.sshkey_files.specs.OpenSshLines.{IsHostLine}
+use Rattle.sshkey_entries.specs.HostNames.{AreFor}
+use Rattle.sshkey_entries.specs.HostVerdicts.{IsAuthority, Lists}
+use Rattle.sshkey_entries.specs.KnownHosts.{KnownHost, CertAuthority}
+use Rattle.sshkey_entries.specs.OpenSshLines.{IsHostLine}
 use Rattle.sshkey_model.specs.Keys.{Key}
 use Rattle.sshkey_public.specs.PublicKeys.{comment_of, public_of}
 use Rattle.sshkey_public.specs.declared.public_key.PublicKey.{PublicKey}

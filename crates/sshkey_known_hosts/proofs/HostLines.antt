@@ -6,15 +6,15 @@ use Rattle.sshkey_base.specs.declared.error.Error.{Error}
 use Rattle.sshkey_base.specs.declared.error.Error.TheVariants.{FormatEncoding}
 use Rattle.sshkey_model.specs.Lines.{IsWithout}
 use Rattle.sshkey_model.proofs.LineTests.{each}
-use Rattle.sshkey_files.specs.Entries.{hash, IsNoEntry}
-use Rattle.sshkey_files.specs.Fields.{without_blanks, IsField, EndsField, AreKeyFields, AreNoKeyFields}
-use Rattle.sshkey_files.specs.KnownHosts.{Marker, CertAuthority, Revoked, marker_text, at_sign, Hosts, IsHosts, KnownHost}
-use Rattle.sshkey_files.specs.OpenSshLines.{IsMarkedLine, IsHostLine}
-use Rattle.sshkey_files.specs.StrictReading.{is_blank}
-use Rattle.sshkey_files.proofs.Fields.{same_field}
-use Rattle.sshkey_files.proofs.OneOpenSshLine.{one_marked}
-use Rattle.sshkey_files.specs.Cuts.{CutsField}
-use Rattle.sshkey_files.specs.KeyFields.{HasKeyFault}
+use Rattle.sshkey_entries.specs.Entries.{hash, IsNoEntry}
+use Rattle.sshkey_entries.specs.Fields.{without_blanks, IsField, EndsField, AreKeyFields, AreNoKeyFields}
+use Rattle.sshkey_entries.specs.KnownHosts.{Marker, CertAuthority, Revoked, marker_text, at_sign, Hosts, IsHosts, KnownHost}
+use Rattle.sshkey_entries.specs.OpenSshLines.{IsMarkedLine, IsHostLine}
+use Rattle.sshkey_entries.specs.StrictReading.{is_blank}
+use Rattle.sshkey_entries.proofs.Fields.{same_field}
+use Rattle.sshkey_entries.proofs.OneOpenSshLine.{one_marked}
+use Rattle.sshkey_entries.specs.Cuts.{CutsField}
+use Rattle.sshkey_entries.specs.KeyFields.{HasKeyFault}
 use Rattle.sshkey_known_hosts.specs.HostFaults.{HasNoParts, RefusesHosts}
 use Rattle.sshkey_known_hosts.proofs.Hosts.{have_parts}
 use Rattle.sshkey_known_hosts.specs.OpenSshHosts.{HasHostsField, HasTextFault, HasLineFault, NeedsHostLine}

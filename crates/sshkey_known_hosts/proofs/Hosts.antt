@@ -12,10 +12,10 @@ use Rattle.sshkey_base.specs.declared.error.Error.TheVariants.{Encoding, FormatE
 use Rattle.sshkey_model.specs.Lines.{IsWithout}
 use Rattle.sshkey_model.proofs.Base64Words.{one_blob}
 use Rattle.sshkey_model.proofs.LineCuts.{one_front}
-use Rattle.sshkey_files.specs.Entries.{IsNoEntry}
-use Rattle.sshkey_files.specs.KnownHosts.{Hosts, HashedName, Patterns, IsHosts, IsHashedName, hashed_mark, hashed_text, bar}
-use Rattle.sshkey_files.proofs.OneHost.{bar_not}
-use Rattle.sshkey_files.specs.Answers.{ReadsEntry}
+use Rattle.sshkey_entries.specs.Entries.{IsNoEntry}
+use Rattle.sshkey_entries.specs.KnownHosts.{Hosts, HashedName, Patterns, IsHosts, IsHashedName, hashed_mark, hashed_text, bar}
+use Rattle.sshkey_entries.proofs.OneHost.{bar_not}
+use Rattle.sshkey_entries.specs.Answers.{ReadsEntry}
 use Rattle.sshkey_known_hosts.specs.HostEntries.{hosts_of, ReadsHashed}
 use Rattle.sshkey_known_hosts.specs.declared.host_patterns.HostPatterns.{HostPatterns}
 use Rattle.sshkey_known_hosts.specs.HostFaults.{HasNoBar, HasNoBase64, HasNoParts, HasOtherSize, IsNoBase64, RefusesHosts}

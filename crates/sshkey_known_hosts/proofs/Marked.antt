@@ -12,10 +12,10 @@ use Rattle.sshkey_model.specs.Keys.{Key}
 use Rattle.sshkey_model.specs.Lines.{space, key_name, IsKeyLine, IsWithout}
 use Rattle.sshkey_model.specs.Reading.{whole}
 use Rattle.sshkey_public.specs.LineFaults.{HasFaultOfLine}
-use Rattle.sshkey_files.proofs.OneHost.{one_marker}
-use Rattle.sshkey_files.specs.AuthorizedKeys.{IsNoKeyLine}
-use Rattle.sshkey_files.specs.Entries.{IsNoEntry}
-use Rattle.sshkey_files.specs.KnownHosts.{Marker, Hosts, IsHosts, KnownHost, IsMarked, IsKnownHost}
+use Rattle.sshkey_entries.proofs.OneHost.{one_marker}
+use Rattle.sshkey_entries.specs.AuthorizedKeys.{IsNoKeyLine}
+use Rattle.sshkey_entries.specs.Entries.{IsNoEntry}
+use Rattle.sshkey_entries.specs.KnownHosts.{Marker, Hosts, IsHosts, KnownHost, IsMarked, IsKnownHost}
 use Rattle.sshkey_known_hosts.specs.HostFaults.{HasFault, HasNoParts, NeedsLine, RefusesHosts}
 
 module _ (entry : List ℕ) (m : Option Marker) (unmarked : List ℕ) (marked : IsMarked m entry unmarked) where

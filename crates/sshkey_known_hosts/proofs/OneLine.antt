@@ -6,7 +6,7 @@ use Rattle.base64.specs.GeneralPurpose.{encode_of}
 use Rattle.sshkey_model.specs.Lines.{space}
 use Rattle.sshkey_model.proofs.Base64Words.{word_lacks}
 use Rattle.sshkey_model.proofs.LineTests.{lacks}
-use Rattle.sshkey_files.specs.KnownHosts.{Marker, CertAuthority, Revoked, marker_text, behind_marker, hashed_mark, hashed_text, bar, comma}
+use Rattle.sshkey_entries.specs.KnownHosts.{Marker, CertAuthority, Revoked, marker_text, behind_marker, hashed_mark, hashed_text, bar, comma}
 use Rattle.sshkey_public.specs.OneLine.{IsOneLine, line_feed, carriage_return}
 use Rattle.sshkey_public.proofs.OneLines.{one_line_front, one_line_rest, one_line_both}
 

@@ -2,16 +2,16 @@
 use Rattle.std.proofs.Common.{◌≡◌, ℕ, List, ◌++◌, Option, refl, sym, subst}
 use Rattle.sshkey_model.specs.Keys.{Key}
 use Rattle.sshkey_model.specs.Lines.{IsWithout}
-use Rattle.sshkey_files.specs.Entries.{IsNoEntry}
-use Rattle.sshkey_files.specs.Fields.{without_blanks}
-use Rattle.sshkey_files.specs.HostNames.{AreFor}
-use Rattle.sshkey_files.specs.HostVerdicts.{IsForOthers, Lists}
-use Rattle.sshkey_files.specs.KnownHosts.{Marker, Hosts, IsHosts}
-use Rattle.sshkey_files.specs.OpenSshLines.{IsMarkedLine}
-use Rattle.sshkey_files.proofs.Fields.{same_field}
-use Rattle.sshkey_files.proofs.OneHost.{one_hosts}
-use Rattle.sshkey_files.proofs.OneOpenSshLine.{one_marked}
-use Rattle.sshkey_files.specs.Cuts.{CutsField}
+use Rattle.sshkey_entries.specs.Entries.{IsNoEntry}
+use Rattle.sshkey_entries.specs.Fields.{without_blanks}
+use Rattle.sshkey_entries.specs.HostNames.{AreFor}
+use Rattle.sshkey_entries.specs.HostVerdicts.{IsForOthers, Lists}
+use Rattle.sshkey_entries.specs.KnownHosts.{Marker, Hosts, IsHosts}
+use Rattle.sshkey_entries.specs.OpenSshLines.{IsMarkedLine}
+use Rattle.sshkey_entries.proofs.Fields.{same_field}
+use Rattle.sshkey_entries.proofs.OneHost.{one_hosts}
+use Rattle.sshkey_entries.proofs.OneOpenSshLine.{one_marked}
+use Rattle.sshkey_entries.specs.Cuts.{CutsField}
 use Rattle.sshkey_known_hosts.proofs.HostLines.{same_hosts}
 
 -- such a line lists no key for the name

@@ -4,13 +4,13 @@ use Rattle.std.proofs.lemmas.Bool.{cases_lt}
 use Rattle.std.proofs.lemmas.List.{length-append, get_or_append_left, get_or-append-add, get_or-append_right}
 use Rattle.std.specs.List.{Any}
 use Rattle.sshkey_model.specs.Keys.{Key}
-use Rattle.sshkey_files.specs.Entries.{IsNoEntry}
-use Rattle.sshkey_files.specs.HostNames.{AreFor}
-use Rattle.sshkey_files.specs.HostVerdicts.{Lists, HidesEntry, IsForOthers, IsRevoked, HidesSome, IsListed, IsKnown}
-use Rattle.sshkey_files.specs.KnownHosts as known
-use Rattle.sshkey_files.specs.KnownHosts.{KnownHost}
-use Rattle.sshkey_files.specs.OpenSshLines.{IsHostLine}
-use Rattle.sshkey_files.proofs.OneOpenSshLine.{one_host_line}
+use Rattle.sshkey_entries.specs.Entries.{IsNoEntry}
+use Rattle.sshkey_entries.specs.HostNames.{AreFor}
+use Rattle.sshkey_entries.specs.HostVerdicts.{Lists, HidesEntry, IsForOthers, IsRevoked, HidesSome, IsListed, IsKnown}
+use Rattle.sshkey_entries.specs.KnownHosts as known
+use Rattle.sshkey_entries.specs.KnownHosts.{KnownHost}
+use Rattle.sshkey_entries.specs.OpenSshLines.{IsHostLine}
+use Rattle.sshkey_entries.proofs.OneOpenSshLine.{one_host_line}
 use Rattle.sshkey_known_hosts.specs.HostEntries.{marker_of}
 use Rattle.sshkey_known_hosts.specs.Verdicts.{IsVerdict, graver_of, marked_verdict_of}
 use Rattle.sshkey_known_hosts.specs.declared.marker.Marker.{Marker}

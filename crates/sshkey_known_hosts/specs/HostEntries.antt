@@ -9,9 +9,9 @@ use Rattle.sshkey_base.specs.declared.error.Error.TheVariants.{Encoding, FormatE
 use Rattle.sshkey_keys.specs.Comparisons.{HasForm}
 use Rattle.sshkey_public.specs.PublicKeys.{data_of, public_of, comment_of}
 use Rattle.sshkey_public.specs.declared.public_key.PublicKey.{PublicKey}
-use Rattle.sshkey_files.specs.Items.{patterns}
-use Rattle.sshkey_files.specs.KnownHosts as known
-use Rattle.sshkey_files.specs.KnownHosts.{Hosts, HashedName, Patterns, IsHosts, KnownHost, IsMarked, marker_text, hashed_mark}
+use Rattle.sshkey_entries.specs.Items.{patterns}
+use Rattle.sshkey_entries.specs.KnownHosts as known
+use Rattle.sshkey_entries.specs.KnownHosts.{Hosts, HashedName, Patterns, IsHosts, KnownHost, IsMarked, marker_text, hashed_mark}
 use Rattle.sshkey_known_hosts.specs.HostFaults.{IsNoBase64, RefusesHosts}
 use Rattle.sshkey_known_hosts.specs.declared.entry.Entry.{Entry}
 use Rattle.sshkey_known_hosts.specs.declared.host_patterns.HostPatterns.{HostPatterns}

@@ -10,8 +10,8 @@ use Rattle.sshkey_keys.specs.Keys.{SpellsKey}
 use Rattle.sshkey_model.specs.Lines.{space, key_name, IsWithout}
 use Rattle.sshkey_model.specs.Reading.{whole}
 use Rattle.sshkey_public.specs.LineFaults.{HasFaultOfLine}
-use Rattle.sshkey_files.specs.Entries.{IsNoEntry}
-use Rattle.sshkey_files.specs.KnownHosts.{Hosts, Marker, IsHosts, IsMarked, bar, hashed_mark, hashed_text}
+use Rattle.sshkey_entries.specs.Entries.{IsNoEntry}
+use Rattle.sshkey_entries.specs.KnownHosts.{Hosts, Marker, IsHosts, IsMarked, bar, hashed_mark, hashed_text}
 
 -- The word is that of no bytes.
 abbrev pub IsNoBase64 : List ℕ → Type 0

@@ -5,8 +5,8 @@ use Rattle.sshkey_base.specs.declared.error.Error.{Error}
 use Rattle.sshkey_base.specs.declared.error.Error.TheVariants.{Encoding, FormatEncoding, Memory}
 use Rattle.sshkey_model.specs.Keys.{normal_key}
 use Rattle.sshkey_model.specs.Parts.{BoxesFit}
-use Rattle.sshkey_files.specs.KnownHosts.{KnownHost, IsKnownHost, known_text}
-use Rattle.sshkey_files.specs.OpenSshLines.{IsHostLine}
+use Rattle.sshkey_entries.specs.KnownHosts.{KnownHost, IsKnownHost, known_text}
+use Rattle.sshkey_entries.specs.OpenSshLines.{IsHostLine}
 use Rattle.sshkey_public.specs.OneLine.{IsOneLine}
 use Rattle.sshkey_public.specs.PublicKeys.{public_of, comment_of}
 use Rattle.sshkey_public.specs.declared.public_key.PublicKey.{PublicKey}

@@ -4,13 +4,13 @@ use Rattle.sshkey_base.specs.Causes.{cause, NoMemory}
 use Rattle.sshkey_base.specs.declared.error.Error.{Error}
 use Rattle.sshkey_base.specs.declared.error.Error.TheVariants.{FormatEncoding}
 use Rattle.sshkey_model.specs.Lines.{IsWithout}
-use Rattle.sshkey_files.specs.Answers.{ReadsEntry, RefusesFor}
-use Rattle.sshkey_files.specs.Entries.{hash, IsNoEntry}
-use Rattle.sshkey_files.specs.Fields.{without_blanks, IsField, EndsField}
-use Rattle.sshkey_files.specs.KnownHosts as known
-use Rattle.sshkey_files.specs.KnownHosts.{Hosts, IsHosts}
-use Rattle.sshkey_files.specs.OpenSshLines.{IsHostLine, IsMarkedLine}
-use Rattle.sshkey_files.specs.KeyFields.{HasKeyFault}
+use Rattle.sshkey_entries.specs.Answers.{ReadsEntry, RefusesFor}
+use Rattle.sshkey_entries.specs.Entries.{hash, IsNoEntry}
+use Rattle.sshkey_entries.specs.Fields.{without_blanks, IsField, EndsField}
+use Rattle.sshkey_entries.specs.KnownHosts as known
+use Rattle.sshkey_entries.specs.KnownHosts.{Hosts, IsHosts}
+use Rattle.sshkey_entries.specs.OpenSshLines.{IsHostLine, IsMarkedLine}
+use Rattle.sshkey_entries.specs.KeyFields.{HasKeyFault}
 use Rattle.sshkey_known_hosts.specs.HostEntries.{known_host_of, marker_of}
 use Rattle.sshkey_known_hosts.specs.HostFaults.{HasNoParts, RefusesHosts}
 use Rattle.sshkey_known_hosts.specs.declared.entry.Entry.{Entry}

@@ -2,9 +2,9 @@
 
 ghost use Rattle.std.specs.Prelude.{◌≡◌, ◌<◌, ℕ, List, IfOk, IfErr, length};
 ghost use Rattle.sshkey_base.specs.declared.error.Error.TheVariants as wide;
-ghost use Rattle.sshkey_files.specs.Fields.{filled_lines};
-ghost use Rattle.sshkey_files.specs.HostNames.{known_name};
-ghost use Rattle.sshkey_files.specs.OpenSshLines.{IsHostLine};
+ghost use Rattle.sshkey_entries.specs.Fields.{filled_lines};
+ghost use Rattle.sshkey_entries.specs.HostNames.{known_name};
+ghost use Rattle.sshkey_entries.specs.OpenSshLines.{IsHostLine};
 ghost use Rattle.sshkey_known_hosts.specs.HostEntries.{known_host_of};
 ghost use Rattle.sshkey_known_hosts.specs.Verdicts.{AreAuthorities, AreInOrder, IsAuthorityLine, is_authority_of};
 
@@ -14,7 +14,7 @@ use crate::host_name::known_name;
 use crate::marker::Marker;
 use crate::verdict::{has_lines, is_for_others, read_entry};
 use sshkey_base::Result;
-use sshkey_files::FilledLines;
+use sshkey_entries::FilledLines;
 use sshkey_public::PublicKey;
 use std::alloc::Global;
 

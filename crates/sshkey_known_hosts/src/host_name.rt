@@ -4,11 +4,11 @@ ghost use Rattle.std.specs.Prelude.{◌≡◌, ◌↔◌, IsTrue, IfOk, IfErr, s
 ghost use Rattle.std.specs.Char.{to_ascii_lowercase};
 ghost use Rattle.std.specs.List.{All, Any};
 ghost use Rattle.sshkey_base.specs.declared.error.Error.TheVariants as wide;
-ghost use Rattle.sshkey_files.specs.HostNames.{AreForName, BeginWithBar, known_name};
-ghost use Rattle.sshkey_files.specs.Patterns.{IsShort, Names, Refuses};
+ghost use Rattle.sshkey_entries.specs.HostNames.{AreForName, BeginWithBar, known_name};
+ghost use Rattle.sshkey_entries.specs.Patterns.{IsShort, Names, Refuses};
 
 use sshkey_base::{Result, Text};
-use sshkey_files::{LetterCase, is_named_by, is_refused_by, is_short_pattern};
+use sshkey_entries::{LetterCase, is_named_by, is_refused_by, is_short_pattern};
 use std::alloc::Global;
 
 /// The port at which a host is known by its bare name.

@@ -3,9 +3,9 @@
 ghost use Rattle.std.specs.Prelude.{◌≡◌, ◌++◌, ◌↔◌, IsTrue, IfOk, IfErr, OnOk, string_bytes};
 ghost use Rattle.std.specs.List.{All, join_with_byte};
 ghost use Rattle.sshkey_base.specs.declared.error.Error.TheVariants as wide;
-ghost use Rattle.sshkey_files.specs.HostNames.{AreFor, known_name};
-ghost use Rattle.sshkey_files.specs.KnownHosts.{IsHosts, comma, hosts_text};
-ghost use Rattle.sshkey_files.specs.Answers.{ReadsEntry};
+ghost use Rattle.sshkey_entries.specs.HostNames.{AreFor, known_name};
+ghost use Rattle.sshkey_entries.specs.KnownHosts.{IsHosts, comma, hosts_text};
+ghost use Rattle.sshkey_entries.specs.Answers.{ReadsEntry};
 ghost use Rattle.sshkey_public.specs.OneLine.{IsOneLine};
 ghost use Rattle.sshkey_known_hosts.specs.HostEntries.{hosts_of, ReadsHashed, ReadsPatterns, ReadsWord};
 ghost use Rattle.sshkey_known_hosts.specs.HostFaults.{RefusesHosts};
@@ -15,7 +15,7 @@ use crate::host_name::{are_named, known_name};
 use base64::DecodeAllocError;
 use base64::engine::general_purpose::STANDARD;
 use sshkey_base::{Bytes, Error, Result, Text, encoding};
-use sshkey_files::split_pattern;
+use sshkey_entries::split_pattern;
 use sshkey_public::is_one_line;
 use std::alloc::Global;
 

@@ -2,17 +2,17 @@
 
 ghost use Rattle.std.specs.Prelude.{◌≡◌, ℕ, List};
 ghost use Rattle.std.specs.Iterator.{item_count};
-ghost use Rattle.sshkey_files.specs.Entries.{entries};
-ghost use Rattle.sshkey_files.specs.Fields.{filled_lines};
-ghost use Rattle.sshkey_files.specs.KnownHosts.{IsKnownHost};
-ghost use Rattle.sshkey_files.specs.Answers.{AnswersEntry, ReadsFile, YieldsAnswers};
+ghost use Rattle.sshkey_entries.specs.Entries.{entries};
+ghost use Rattle.sshkey_entries.specs.Fields.{filled_lines};
+ghost use Rattle.sshkey_entries.specs.KnownHosts.{IsKnownHost};
+ghost use Rattle.sshkey_entries.specs.Answers.{AnswersEntry, ReadsFile, YieldsAnswers};
 ghost use Rattle.sshkey_known_hosts.specs.HostEntries.{known_host_of};
 ghost use Rattle.sshkey_known_hosts.specs.HostFaults.{HasFault, NeedsLine};
 
 use crate::entry::Entry;
 use crate::openssh::OpenSshKnownHosts;
 use sshkey_base::Result;
-use sshkey_files::{EntryTexts, entries_of_file};
+use sshkey_entries::{EntryTexts, entries_of_file};
 use std::alloc::Global;
 use std::fs::Files;
 use std::marker::Model;

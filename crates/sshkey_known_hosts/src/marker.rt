@@ -1,7 +1,7 @@
 //! Markers of lines of known_hosts.
 
 ghost use Rattle.std.specs.Prelude.{◌≡◌, Some};
-ghost use Rattle.sshkey_files.specs.KnownHosts.{marker_text};
+ghost use Rattle.sshkey_entries.specs.KnownHosts.{marker_text};
 ghost use Rattle.sshkey_known_hosts.specs.HostEntries.{marker_of, ReadsMarker};
 
 use sshkey_base::{Error, Result};

@@ -3,11 +3,11 @@
 ghost use Rattle.std.specs.Prelude.{◌≡◌, ◌↔◌, ℕ, List, IfErr, IsTrue, slice_index};
 ghost use Rattle.std.specs.Iterator.{item_count};
 ghost use Rattle.sshkey_base.specs.Causes.{cause, NoMemory};
-ghost use Rattle.sshkey_files.specs.Entries.{hash};
-ghost use Rattle.sshkey_files.specs.Fields.{filled_lines};
-ghost use Rattle.sshkey_files.specs.KnownHosts.{at_sign};
-ghost use Rattle.sshkey_files.specs.OpenSshLines.{IsHostLine};
-ghost use Rattle.sshkey_files.specs.Answers.{ReadsEntry, RefusesFor, YieldsAnswers};
+ghost use Rattle.sshkey_entries.specs.Entries.{hash};
+ghost use Rattle.sshkey_entries.specs.Fields.{filled_lines};
+ghost use Rattle.sshkey_entries.specs.KnownHosts.{at_sign};
+ghost use Rattle.sshkey_entries.specs.OpenSshLines.{IsHostLine};
+ghost use Rattle.sshkey_entries.specs.Answers.{ReadsEntry, RefusesFor, YieldsAnswers};
 ghost use Rattle.sshkey_known_hosts.specs.HostEntries.{known_host_of};
 ghost use Rattle.sshkey_known_hosts.specs.OpenSshHosts.{AnswersHostLine, HasLineFault, NeedsHostLine, SplitsMarkerField};
 
@@ -15,7 +15,7 @@ use crate::entry::Entry;
 use crate::host_patterns::HostPatterns;
 use crate::marker::Marker;
 use sshkey_base::{Error, Result};
-use sshkey_files::{FilledLines, read_key_fields, skip_blanks, split_field};
+use sshkey_entries::{FilledLines, read_key_fields, skip_blanks, split_field};
 use std::alloc::Global;
 use std::marker::Model;
 use std::str::FromStr;
@@ -59,7 +59,7 @@ impl Entry {
     /// where a zero byte stands in it, at which OpenSSH takes the hosts to end, where a `#` begins
     /// it, for another marker and for a second one; then the errors of
     /// `HostPatterns::from_text`, and then `Length` where no Base64 stands after the hosts, or else
-    /// the errors of `sshkey_files::read_key_fields`.
+    /// the errors of `sshkey_entries::read_key_fields`.
     ///
     /// Memory is taken for the hosts and what follows them: a line with a zero byte, a comment,
     /// another marker and hosts that are empty or have no `|` after their salt never fail with

@@ -2,10 +2,10 @@
 
 ghost use Rattle.std.specs.Prelude.{◌≡◌, ◌<◌, ◌↔◌, ◌∷◌, [], ℕ, List, IsTrue, IfOk, IfErr, length};
 ghost use Rattle.sshkey_base.specs.declared.error.Error.TheVariants as wide;
-ghost use Rattle.sshkey_files.specs.Fields.{filled_lines};
-ghost use Rattle.sshkey_files.specs.HostNames.{known_name};
-ghost use Rattle.sshkey_files.specs.HostVerdicts.{IsForOthers};
-ghost use Rattle.sshkey_files.specs.OpenSshLines.{IsHostLine};
+ghost use Rattle.sshkey_entries.specs.Fields.{filled_lines};
+ghost use Rattle.sshkey_entries.specs.HostNames.{known_name};
+ghost use Rattle.sshkey_entries.specs.HostVerdicts.{IsForOthers};
+ghost use Rattle.sshkey_entries.specs.OpenSshLines.{IsHostLine};
 ghost use Rattle.sshkey_keys.specs.Keys.{key_of};
 ghost use Rattle.sshkey_model.specs.Keys.{IsKey};
 ghost use Rattle.sshkey_known_hosts.specs.HostEntries.{known_host_of};
@@ -18,7 +18,7 @@ use crate::host_patterns::HostPatterns;
 use crate::marker::Marker;
 use crate::openssh::split_marker_field;
 use sshkey_base::{Error, Result};
-use sshkey_files::{FilledLines, skip_blanks, split_field};
+use sshkey_entries::{FilledLines, skip_blanks, split_field};
 use sshkey_keys::KeyData;
 use sshkey_keys::laws::compared_keys;
 use std::alloc::Global;

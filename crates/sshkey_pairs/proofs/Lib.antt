@@ -1,3 +1,1 @@
-pub mod Halves
-mod HeldOrders
-pub mod SignedScalars
+pub mod SameReaders

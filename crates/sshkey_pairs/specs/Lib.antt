@@ -1,7 +1,6 @@
-pub mod PairReaders
-pub mod PairFormats
-pub mod PrivateHalves
-pub mod Pairs
-pub mod SkEcdsaSha2NistP256
-pub mod SkEd25519
-pub mod SecurityPairs
+pub mod OpaquePairs
+pub mod KeypairReaders
+pub mod KeypairFormats
+pub mod Keypairs
+pub mod PairKinds
+pub mod NormalPairs

@@ -1,16 +1,9 @@
-//! Key pairs of each kind, those of security keys among them.
+//! Key pairs under private-use names, and pairs of any kind with their names.
 #![tactic(auto)]
 
-mod dsa;
-mod ecdsa;
-mod ed25519;
-mod held;
+mod keypair_data;
 pub mod laws;
-mod rsa;
-mod security_pair;
+mod opaque;
 
-pub use dsa::{DsaKeypair, DsaPrivateKey};
-pub use ecdsa::{EcdsaKeypair, EcdsaPrivateKey};
-pub use ed25519::{Ed25519Keypair, Ed25519PrivateKey};
-pub use rsa::{RsaKeypair, RsaPrivateKey};
-pub use security_pair::{SkEcdsaSha2NistP256, SkEd25519};
+pub use keypair_data::KeypairData;
+pub use opaque::{OpaqueKeypair, OpaqueKeypairBytes, OpaquePrivateKeyBytes};

@@ -10,8 +10,8 @@ use Rattle.sshkey_model.proofs.CombinedReaders.{bind_assoc}
 use Rattle.sshkey_base.specs.Labels.{label_at}
 use Rattle.sshkey_base.specs.Lengths.{with_rest}
 use Rattle.sshkey_base.proofs.MappedBoxes.{on_value, made, box_map}
-use Rattle.sshkey_format.specs.Behind.{behind_at}
-use Rattle.sshkey_keypairs.specs.KeypairReaders.{some_at, keypair_data_at}
+use Rattle.sshkey_terms.specs.Behind.{behind_at}
+use Rattle.sshkey_pairs.specs.KeypairReaders.{some_at, keypair_data_at}
 use Rattle.sshkey_ciphers.specs.Paddings.{end_padding_below}
 use Rattle.sshkey_private.specs.Inner.{half_of, checkint_at, pair_with_at, inner_at, padded_below}
 

@@ -6,10 +6,10 @@ use Rattle.sshkey_model.specs.KeyPairs.{KeyPair, public_half}
 use Rattle.sshkey_model.specs.PrivateKeys.{EncryptedKey}
 use Rattle.sshkey_base.specs.declared.error.Error.{Error}
 use Rattle.sshkey_base.specs.declared.error.Error.TheVariants as wide
-use Rattle.sshkey_keypairs.specs.declared.keypair_data.KeypairData.{KeypairData}
-use Rattle.sshkey_keypairs.specs.declared.keypair_data.KeypairData.TheVariants as kinds
-use Rattle.sshkey_keypairs.specs.Keypairs.{pair_of, checkint_of}
-use Rattle.sshkey_keypairs.specs.PairKinds.{is_encrypted}
+use Rattle.sshkey_pairs.specs.declared.keypair_data.KeypairData.{KeypairData}
+use Rattle.sshkey_pairs.specs.declared.keypair_data.KeypairData.TheVariants as kinds
+use Rattle.sshkey_pairs.specs.Keypairs.{pair_of, checkint_of}
+use Rattle.sshkey_pairs.specs.PairKinds.{is_encrypted}
 use Rattle.sshkey_public.specs.PublicKeys.{comment_of}
 use Rattle.sshkey_private.specs.declared.private_key.PrivateKey.{PrivateKey}
 use Rattle.sshkey_private.specs.Forms.{has_form}

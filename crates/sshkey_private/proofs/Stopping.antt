@@ -10,7 +10,7 @@ use Rattle.sshkey_base.specs.Needs.{NeedsString, NeedsBoxed}
 use Rattle.sshkey_base.specs.Source.{Source}
 use Rattle.sshkey_base.specs.Stops.{NoOverrun, OverrunsString, OverrunsBoxed, RanOut, Stopped, StopsBy, StopsPast}
 use Rattle.sshkey_base.proofs.Stopping.{checked_stopped}
-use Rattle.sshkey_format.specs.Terms.{IsChosen}
+use Rattle.sshkey_terms.specs.Terms.{IsChosen}
 use Rattle.sshkey_private.specs.Inner.{NeedsInner, NeedsPadded}
 use Rattle.sshkey_private.specs.PrivateKeyReaders.{not_encrypted, delimited_by, opening_at, last_of, sealed_with, sealed_at, unencrypted_below, last_encrypted_at, last_content_at, steps_at}
 use Rattle.sshkey_private.specs.PrivateKeyFormats.{NeedsContent, OverrunsContent}

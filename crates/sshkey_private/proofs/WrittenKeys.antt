@@ -4,13 +4,13 @@ use Rattle.sshkey_model.specs.Parts.{bytes, box, ◌&◌, flat, BoxesFit}
 use Rattle.sshkey_model.specs.Texts.{string}
 use Rattle.sshkey_model.specs.PrivateKeys.{EncryptedKey, private_key_magic, normal_private_key, rising, padding, padded}
 use Rattle.sshkey_model.specs.KeyDerivation.{padding_length}
-use Rattle.sshkey_keypairs.specs.declared.keypair_data.KeypairData.{KeypairData}
-use Rattle.sshkey_keypairs.specs.declared.keypair_data.KeypairData.TheVariants as kinds
-use Rattle.sshkey_keypairs.specs.Keypairs.{ciphertext_of, pair_of}
-use Rattle.sshkey_keypairs.specs.PairKinds.{is_encrypted}
-use Rattle.sshkey_pairs.specs.Pairs.{dsa_pair_of, rsa_pair_of, ecdsa_pair_of, ed25519_pair_of}
-use Rattle.sshkey_pairs.specs.SecurityPairs.{sk_ecdsa_pair_of, sk_ed25519_pair_of}
-use Rattle.sshkey_keypairs.specs.OpaquePairs.{opaque_pair_of}
+use Rattle.sshkey_pairs.specs.declared.keypair_data.KeypairData.{KeypairData}
+use Rattle.sshkey_pairs.specs.declared.keypair_data.KeypairData.TheVariants as kinds
+use Rattle.sshkey_pairs.specs.Keypairs.{ciphertext_of, pair_of}
+use Rattle.sshkey_pairs.specs.PairKinds.{is_encrypted}
+use Rattle.sshkey_pair_kinds.specs.Pairs.{dsa_pair_of, rsa_pair_of, ecdsa_pair_of, ed25519_pair_of}
+use Rattle.sshkey_pair_kinds.specs.SecurityPairs.{sk_ecdsa_pair_of, sk_ed25519_pair_of}
+use Rattle.sshkey_pairs.specs.OpaquePairs.{opaque_pair_of}
 use Rattle.sshkey_private.specs.Forms.{has_form}
 use Rattle.sshkey_private.specs.declared.private_key.write.Part.{Part}
 use Rattle.sshkey_private.specs.PrivateKeys.{of_pair}

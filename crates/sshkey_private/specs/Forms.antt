@@ -3,8 +3,8 @@ use Rattle.std.specs.Prelude.{ℕ, ◌%◌, List, length, Bool, true, false, ◌
 use Rattle.sshkey_model.specs.KeyDerivation.{Cipher, NoCipher, Kdf, NoKdf, Bcrypt, block_size, tag_size}
 use Rattle.sshkey_model.specs.KeyPairs.{KeyPair, public_half}
 use Rattle.sshkey_model.specs.PrivateKeys.{EncryptedKey, key_eq}
-use Rattle.sshkey_keypairs.specs.declared.keypair_data.KeypairData.{KeypairData}
-use Rattle.sshkey_keypairs.specs.Keypairs.{ciphertext_of, pair_of}
+use Rattle.sshkey_pairs.specs.declared.keypair_data.KeypairData.{KeypairData}
+use Rattle.sshkey_pairs.specs.Keypairs.{ciphertext_of, pair_of}
 use Rattle.sshkey_public.specs.declared.public_key.PublicKey.{PublicKey}
 use Rattle.sshkey_public.specs.PublicKeys.{public_of}
 use Rattle.sshkey_ciphers.specs.declared.cipher.Cipher as cipher

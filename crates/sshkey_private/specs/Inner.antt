@@ -8,11 +8,11 @@ use Rattle.sshkey_model.specs.KeyDerivation.{NoCipher, block_size}
 use Rattle.sshkey_model.specs.KeyPairs.{KeyPair}
 use Rattle.sshkey_model.specs.PrivateKeys.{UnencryptedKey, same_checkint}
 use Rattle.sshkey_base.specs.Needs.{NoNeed, NeedsString, NeedsBoth}
-use Rattle.sshkey_format.specs.Behind.{both_at}
+use Rattle.sshkey_terms.specs.Behind.{both_at}
 use Rattle.sshkey_ciphers.specs.Paddings.{end_padding_below}
-use Rattle.sshkey_keypairs.specs.Keypairs.{pair_of}
-use Rattle.sshkey_keypairs.specs.KeypairReaders.{keypair_data_at}
-use Rattle.sshkey_keypairs.specs.KeypairFormats.{keypair_format}
+use Rattle.sshkey_pairs.specs.Keypairs.{pair_of}
+use Rattle.sshkey_pairs.specs.KeypairReaders.{keypair_data_at}
+use Rattle.sshkey_pairs.specs.KeypairFormats.{keypair_format}
 use Rattle.sshkey_private.specs.declared.part.Inner.{Inner}
 use Rattle.sshkey_private.specs.Halves.{is_half}
 

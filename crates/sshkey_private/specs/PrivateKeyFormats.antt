@@ -14,8 +14,8 @@ use Rattle.sshkey_base.specs.Formats.{Format, number32_format, label_format}
 use Rattle.sshkey_base.specs.Labels.{label_at}
 use Rattle.sshkey_base.specs.Needs.{NoNeed, NeedsString, NeedsBoxed, NeedsThen}
 use Rattle.sshkey_base.specs.Stops.{OverrunsString, OverrunsThen}
-use Rattle.sshkey_format.specs.Behind.{behind_at}
-use Rattle.sshkey_format.specs.Terms.{◌then◌, boxed, literal_format, IsMapped, made_of}
+use Rattle.sshkey_terms.specs.Behind.{behind_at}
+use Rattle.sshkey_terms.specs.Terms.{◌then◌, boxed, literal_format, IsMapped, made_of}
 use Rattle.sshkey_keys.specs.KeyFormats.{key_format}
 use Rattle.sshkey_ciphers.specs.Ciphers.{cipher_checks}
 use Rattle.sshkey_ciphers.specs.KdfFormats.{kdf_format}

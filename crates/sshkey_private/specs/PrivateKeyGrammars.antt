@@ -12,8 +12,8 @@ use Rattle.sshkey_base.specs.Formats.{Format}
 use Rattle.sshkey_base.specs.Grammars.{MayFollow}
 use Rattle.sshkey_base.specs.Lengths.{box_lengths, checked_lengths, string_lengths}
 use Rattle.sshkey_base.specs.Stops.{OverrunsString, AreLengths}
-use Rattle.sshkey_format.specs.Behind.{behind_at}
-use Rattle.sshkey_format.specs.Terms.{IsChosen, mapped_lengths, chosen_lengths}
+use Rattle.sshkey_terms.specs.Behind.{behind_at}
+use Rattle.sshkey_terms.specs.Terms.{IsChosen, mapped_lengths, chosen_lengths}
 use Rattle.sshkey_ciphers.specs.Ciphertexts.{blocks_at}
 use Rattle.sshkey_private.specs.Inner.{padded_below}
 use Rattle.sshkey_private.specs.PrivateKeyReaders.{SpellsPrivateKey, private_value_at, not_encrypted, delimited_value_at, opening_at, sealed_at, unencrypted_below, last_encrypted_at, last_content_at, steps_at}

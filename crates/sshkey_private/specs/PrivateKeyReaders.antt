@@ -6,7 +6,7 @@ use Rattle.sshkey_model.specs.Grammar.{SpellsWith, value_at}
 use Rattle.sshkey_model.specs.Keys.{Key}
 use Rattle.sshkey_model.specs.KeyDerivation.{Cipher, NoCipher, tag_size, cipher_at, Kdf, NoKdf, Bcrypt, kdf_at}
 use Rattle.sshkey_model.specs.PrivateKeys.{PrivateKey, Unencrypted, Encrypted, IsPrivateKey, HasPrivateKeyPlaces, private_key, private_key_magic, private_part_at, one_key, may_precede, decoded_private_key_at}
-use Rattle.sshkey_format.specs.Behind.{both_at}
+use Rattle.sshkey_terms.specs.Behind.{both_at}
 use Rattle.sshkey_keys.specs.Keys.{key_data_at}
 use Rattle.sshkey_ciphers.specs.Ciphertexts.{blocks_at}
 use Rattle.sshkey_private.specs.Inner.{padded_below}

@@ -7,7 +7,7 @@ use Rattle.sshkey_model.specs.KeyPairs.{KeyPairChoices, plain_pair}
 use Rattle.sshkey_model.specs.PrivateKeys.{UnencryptedKey, PrivateKey, Unencrypted, Encrypted, PrivateKeyChoices, private_key_magic, private_part_at, padded_from, unencrypted_at, encrypted_at, content_at, private_key_at, may_precede, decoded_private_key_at}
 use Rattle.sshkey_model.proofs.CombinedReaders.{bind_assoc}
 use Rattle.sshkey_base.proofs.MappedBoxes.{on_value}
-use Rattle.sshkey_format.specs.Behind.{behind_at}
+use Rattle.sshkey_terms.specs.Behind.{behind_at}
 use Rattle.sshkey_keys.proofs.BoxedKeys.{key_box}
 use Rattle.sshkey_ciphers.specs.Ciphertexts.{blocks_at}
 use Rattle.sshkey_private.specs.Inner.{padded_below}

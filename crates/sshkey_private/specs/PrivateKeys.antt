@@ -5,8 +5,8 @@ use Rattle.sshkey_model.specs.PrivateKeys as model
 use Rattle.sshkey_model.specs.PrivateKeys.{Unencrypted, Encrypted, EncryptedKey, new_private_key}
 use Rattle.sshkey_base.specs.declared.error.Error.{Error}
 use Rattle.sshkey_base.specs.declared.error.Error.TheVariants as wide
-use Rattle.sshkey_keypairs.specs.declared.keypair_data.KeypairData.{KeypairData}
-use Rattle.sshkey_keypairs.specs.Keypairs.{pair_of}
+use Rattle.sshkey_pairs.specs.declared.keypair_data.KeypairData.{KeypairData}
+use Rattle.sshkey_pairs.specs.Keypairs.{pair_of}
 use Rattle.sshkey_public.specs.declared.public_key.PublicKey.{PublicKey}
 use Rattle.sshkey_public.specs.PublicKeys.{comment_of}
 use Rattle.sshkey_private.specs.declared.private_key.PrivateKey.{PrivateKey}

@@ -6,9 +6,9 @@ use Rattle.sshkey_model.specs.Texts.{string}
 use Rattle.sshkey_model.specs.Keys.{normal_key}
 use Rattle.sshkey_model.specs.KeyDerivation.{cipher, kdf}
 use Rattle.sshkey_model.specs.PrivateKeys.{EncryptedKey, private_key_magic, padded}
-use Rattle.sshkey_keypairs.specs.declared.keypair_data.KeypairData.{KeypairData}
-use Rattle.sshkey_keypairs.specs.declared.keypair_data.KeypairData.TheVariants as kinds
-use Rattle.sshkey_keypairs.specs.Keypairs.{keypair_parts}
+use Rattle.sshkey_pairs.specs.declared.keypair_data.KeypairData.{KeypairData}
+use Rattle.sshkey_pairs.specs.declared.keypair_data.KeypairData.TheVariants as kinds
+use Rattle.sshkey_pairs.specs.Keypairs.{keypair_parts}
 use Rattle.sshkey_public.specs.PublicKeys.{comment_of}
 use Rattle.sshkey_private.specs.declared.private_key.PrivateKey.{PrivateKey}
 use Rattle.sshkey_private.specs.declared.private_key.write.Part.{Part}

@@ -7,27 +7,27 @@ ghost use Rattle.sshkey_base.specs.Needs.{Asks, NoNeed, NeedsBoxed};
 ghost use Rattle.sshkey_base.specs.Reading.{Gives, to_end};
 ghost use Rattle.sshkey_base.specs.Source.{Later};
 ghost use Rattle.sshkey_base.specs.Stops.{OverrunsString, StopsBy};
-ghost use Rattle.sshkey_keypairs.specs.KeypairFormats.{keypair_format};
-ghost use Rattle.sshkey_keypairs.specs.Keypairs.{pair_of};
+ghost use Rattle.sshkey_pairs.specs.KeypairFormats.{keypair_format};
+ghost use Rattle.sshkey_pairs.specs.Keypairs.{pair_of};
 ghost use Rattle.sshkey_keys.specs.Keys.{key_of};
 ghost use Rattle.sshkey_kinds.specs.EcdsaPublicKey.{ecdsa_key_of};
 ghost use Rattle.sshkey_kinds.specs.Kinds.{opaque_of};
-ghost use Rattle.sshkey_keypairs.specs.OpaquePairs.{opaque_pair_of};
+ghost use Rattle.sshkey_pairs.specs.OpaquePairs.{opaque_pair_of};
 ghost use Rattle.sshkey_model.specs.KeyPairs.{public_half};
 ghost use Rattle.sshkey_model.specs.PrivateKeys.{key_eq};
 ghost use Rattle.sshkey_model.specs.Reading.{box_at};
-ghost use Rattle.sshkey_pairs.specs.Pairs.{ecdsa_pair_of};
+ghost use Rattle.sshkey_pair_kinds.specs.Pairs.{ecdsa_pair_of};
 ghost use Rattle.sshkey_private.specs.Halves.{is_half};
 ghost use Rattle.sshkey_private.specs.Inner.{inner_of, inner_at, padded_below, checkint_at, one_checkint, half_of, pair_with_at, NeedsInner, NeedsPadded};
 
 use crate::part::Inner;
 use sshkey_base::{Decode, Error, Reader, Result, Text, encoding};
 use sshkey_ciphers::padding_from;
-use sshkey_format::Then;
-use sshkey_keypairs::{KeypairData, OpaqueKeypair};
+use sshkey_terms::Then;
+use sshkey_pairs::{KeypairData, OpaqueKeypair};
 use sshkey_keys::KeyData;
 use sshkey_kinds::{EcdsaPublicKey, OpaquePublicKey};
-use sshkey_pairs::EcdsaKeypair;
+use sshkey_pair_kinds::EcdsaKeypair;
 use std::alloc::Global;
 
 /// A string of the checkint, the pair and the comment, padded to a multiple of eight bytes, by at

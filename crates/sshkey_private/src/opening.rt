@@ -15,7 +15,7 @@ ghost use Rattle.sshkey_private.specs.PrivateKeyFormats.{magic_format, one_forma
 
 use sshkey_base::{Decode, Error, Reader, Result, array_from, encoding};
 use sshkey_ciphers::{Cipher, Kdf};
-use sshkey_format::{Boxed, Then, Wide};
+use sshkey_terms::{Boxed, Then, Wide};
 use sshkey_keys::KeyData;
 use std::alloc::Global;
 
@@ -48,7 +48,7 @@ type Keys = Then<One, Boxed<KeyData>>;
 ///
 /// Fails with `FormatEncoding` for other bytes than the magic ones, with `Label` for names of none,
 /// the errors of `Kdf`, with `Length` for another number of keys, and the errors of `KeyData`.
-#[tactic(auto, using(sshkey_format::proofs::Mapped::mapped, crate::specs::PrivateKeyFormats::opening_parts_read), unfolding(crate::specs::PrivateKeyReaders::cipher_at, sshkey_ciphers::specs::Ciphers::label_at))]
+#[tactic(auto, using(sshkey_terms::proofs::Mapped::mapped, crate::specs::PrivateKeyFormats::opening_parts_read), unfolding(crate::specs::PrivateKeyReaders::cipher_at, sshkey_ciphers::specs::Ciphers::label_at))]
 pub(crate) fn opening_from<R: Reader>(alloc: Global, reader: &mut R) -> Result<Opening>
     ensures gives { Gives opening_of cause opening_at
         (R.source reader.old) result (R.source reader.new) }

@@ -1,7 +1,7 @@
 //! What a private part holds.
 
 use sshkey_base::Text;
-use sshkey_keypairs::KeypairData;
+use sshkey_pairs::KeypairData;
 
 /// A checkint, a pair, and a comment.
 #[derive(Drop)]

@@ -9,7 +9,7 @@ mod write;
 use read::{private_key_from, whole_key_from};
 use sshkey_base::{Algorithm, Decode, Error, HashAlg, NormalForm, Reader, Result, encode_vec};
 use sshkey_ciphers::{Cipher, Kdf};
-use sshkey_keypairs::KeypairData;
+use sshkey_pairs::KeypairData;
 use sshkey_keys::{Fingerprint, KeyData};
 use sshkey_public::PublicKey;
 use std::alloc::Global;
@@ -122,7 +122,7 @@ impl NormalForm for PrivateKey {
 }
 
 impl PrivateKey {
-    ghost use Rattle.sshkey_keypairs.specs.Keypairs.{pair_of, public_of as public_half_of, stored_algorithm as pair_algorithm_beside};
+    ghost use Rattle.sshkey_pairs.specs.Keypairs.{pair_of, public_of as public_half_of, stored_algorithm as pair_algorithm_beside};
     ghost use Rattle.sshkey_keys.specs.KeyKinds.{is_ecdsa, is_ed25519};
     ghost use Rattle.std.specs.Prelude.{IfOk, IfErr, IfSome, IsOk, IsTrue, ◌||◌, Some, [], string_bytes};
     ghost use Rattle.sshkey_base.specs.Causes.{cause};

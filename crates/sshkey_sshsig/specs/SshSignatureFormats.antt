@@ -9,7 +9,7 @@ use Rattle.sshkey_model.proofs.NameReaders.{hash_checks}
 use Rattle.sshkey_base.specs.Formats.{Format, number32_format, string_format, text_format, label_format}
 use Rattle.sshkey_base.specs.Needs.{NoNeed}
 use Rattle.sshkey_keys.specs.KeyFormats.{key_format, signature_format}
-use Rattle.sshkey_format.specs.Terms.{◌then◌, boxed, tested, literal_format, IsMapped}
+use Rattle.sshkey_terms.specs.Terms.{◌then◌, boxed, tested, literal_format, IsMapped}
 
 abbrev pub magic_format : Format (List ℕ)
 magic_format = literal_format signature_magic

@@ -11,7 +11,7 @@ use Rattle.sshkey_model.proofs.Grammars.{grammar_with}
 use Rattle.sshkey_model.proofs.SshSignatureReaders.{ssh_signature_reads}
 use Rattle.sshkey_base.specs.Grammars.{all_end}
 use Rattle.sshkey_base.specs.Labels.{label_at}
-use Rattle.sshkey_format.specs.Behind.{behind_at}
+use Rattle.sshkey_terms.specs.Behind.{behind_at}
 use Rattle.sshkey_keys.proofs.BoxedKeys.{key_box}
 use Rattle.sshkey_sshsig.specs.SshSignatureFormats.{ssh_signature_format}
 

@@ -1,4 +1,4 @@
-//! The tests of the crates below that are no lines of the table in `sshkey_table`.
+//! The tests of the crates below that are no lines of the table in `sshkey_cases`.
 #![tactic(auto)]
 
 #[cfg(test)]

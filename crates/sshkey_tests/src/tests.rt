@@ -1,4 +1,4 @@
-//! What the table of `sshkey_table` does not ask: calls that have no line there, with ample memory;
+//! What the table of `sshkey_cases` does not ask: calls that have no line there, with ample memory;
 //! readers, writers, inputs and outputs that fail; and verifiers. A test asserts answers of yes or
 //! no, since one with a `?` at every call takes longer to prove.
 

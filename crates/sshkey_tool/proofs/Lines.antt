@@ -5,7 +5,7 @@ use Rattle.std.specs.Prelude.{String, string_bytes, codes, decimal}
 use Rattle.sshkey_model.specs.Certificates.{Certificate}
 use Rattle.sshkey_model.specs.Lines.{key_line, key_name}
 use Rattle.sshkey_model.specs.Options.{CertificateOption}
-use Rattle.sshkey_options.specs.OptionMaps.{option_of}
+use Rattle.sshkey_cert_values.specs.OptionMaps.{option_of}
 use Rattle.sshkey_tool.specs.Lines.{in_lines, line_end, principal_line, principal_lines, option_line, type_word, end_text, subject_lines, window_lines, field_lines, certificate_lines}
 
 pub lines_append : (xs ys : List (List ℕ)) → in_lines (xs ++ ys) ≡ in_lines xs ++ in_lines ys

@@ -13,11 +13,11 @@ use Rattle.sshkey_model.proofs.NormalKeysFit.{normal_boxes}
 use Rattle.sshkey_base.specs.Causes.{cause, NoMemory}
 use Rattle.sshkey_base.specs.Faults.{IsMachineFault}
 use Rattle.sshkey_base.specs.declared.error.Error.{Error}
-use Rattle.sshkey_files.specs.AuthorizedKeys.{AuthorizedKey, IsAuthorizedKey, authorized_text}
-use Rattle.sshkey_files.specs.Entries.{entries}
-use Rattle.sshkey_files.specs.KnownHosts.{KnownHost, IsKnownHost, known_text}
-use Rattle.sshkey_files.specs.MadeTexts.{MakesEntry}
-use Rattle.sshkey_files.proofs.AnswerLists.{answered_more}
+use Rattle.sshkey_entries.specs.AuthorizedKeys.{AuthorizedKey, IsAuthorizedKey, authorized_text}
+use Rattle.sshkey_entries.specs.Entries.{entries}
+use Rattle.sshkey_entries.specs.KnownHosts.{KnownHost, IsKnownHost, known_text}
+use Rattle.sshkey_entries.specs.MadeTexts.{MakesEntry}
+use Rattle.sshkey_entries.proofs.AnswerLists.{answered_more}
 use Rattle.sshkey_tool.specs.EntryLines.{ShowsEntries, ShowsEntry, ShowsFirst}
 use Rattle.sshkey_tool.specs.Faults.{IsBegun, Writes, WritesLine}
 use Rattle.sshkey_tool.specs.Lines.{in_lines, line_end, refusal_line}

@@ -1,7 +1,7 @@
 -- What is shown of the entries of a file, line by line.
 use Rattle.std.specs.Prelude.{◌≡◌, ℕ, List, ◌++◌, map, Bool, true, false}
 use Rattle.std.specs.List.{AllZip, list_any}
-use Rattle.sshkey_files.specs.Entries.{entries, IsNoEntry}
+use Rattle.sshkey_entries.specs.Entries.{entries, IsNoEntry}
 use Rattle.sshkey_tool.specs.Lines.{IsOneLine, in_lines, refusal_line}
 
 -- The text of the entry; or that it is refused, and a reason of one line. The second half says

@@ -11,9 +11,9 @@ use Rattle.sshkey_model.specs.Certificates.{Certificate}
 use Rattle.sshkey_model.specs.Keys.{Key, normal_key}
 use Rattle.sshkey_model.specs.Lines.{key_line}
 use Rattle.sshkey_model.specs.Parts.{BoxesFit}
-use Rattle.sshkey_files.specs.AuthorizedKeys.{IsAuthorizedKey, authorized_text}
-use Rattle.sshkey_files.specs.KnownHosts.{IsKnownHost, known_text}
-use Rattle.sshkey_files.specs.Entries.{IsNoEntry}
+use Rattle.sshkey_entries.specs.AuthorizedKeys.{IsAuthorizedKey, authorized_text}
+use Rattle.sshkey_entries.specs.KnownHosts.{IsKnownHost, known_text}
+use Rattle.sshkey_entries.specs.Entries.{IsNoEntry}
 use Rattle.sshkey_public.specs.PublicKeys.{public_of, comment_of}
 use Rattle.sshkey_public.specs.declared.public_key.PublicKey.{PublicKey}
 use Rattle.sshkey_tool.specs.Faults.{IsBegun, Writes}

@@ -10,9 +10,9 @@ use Rattle.sshkey_model.specs.Keys.{Key}
 use Rattle.sshkey_model.specs.Lines.{IsKeyLine, key_line, key_name, IsCertificateLine, name_of_certificate, IsNoLine}
 use Rattle.sshkey_model.specs.Names.{Sha256}
 use Rattle.sshkey_cert.specs.CertificateReaders.{SpellsCertificate}
-use Rattle.sshkey_files.specs.AuthorizedKeys.{IsAuthorizedKey, authorized_text}
-use Rattle.sshkey_files.specs.Entries.{entries}
-use Rattle.sshkey_files.specs.KnownHosts.{IsKnownHost, known_text}
+use Rattle.sshkey_entries.specs.AuthorizedKeys.{IsAuthorizedKey, authorized_text}
+use Rattle.sshkey_entries.specs.Entries.{entries}
+use Rattle.sshkey_entries.specs.KnownHosts.{IsKnownHost, known_text}
 use Rattle.sshkey_keys.specs.Keys.{SpellsKey}
 use Rattle.sshkey_tool.specs.Faults.{IsBegun, Writes}
 use Rattle.sshkey_tool.specs.EntryLines.{ShowsEntries, ShowsEntry, ShowsFirst}

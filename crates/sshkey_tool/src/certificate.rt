@@ -2,8 +2,8 @@
 
 ghost use Rattle.std.specs.Prelude.{◌≡◌, IfOk, None, map, string_bytes};
 ghost use Rattle.sshkey_keys.specs.Keys.{key_of};
-ghost use Rattle.sshkey_options.specs.CertTypes.{type_of};
-ghost use Rattle.sshkey_options.specs.OptionMaps.{options_of};
+ghost use Rattle.sshkey_cert_values.specs.CertTypes.{type_of};
+ghost use Rattle.sshkey_cert_values.specs.OptionMaps.{options_of};
 ghost use Rattle.sshkey_cert.specs.CertificateValues.{certificate_of};
 ghost use Rattle.sshkey_tool.specs.Lines.{MakesLines, SaysAllowed, end_text, field_lines, option_line, principal_lines, subject_lines, type_word, window_lines};
 ghost use Rattle.sshkey_tool.specs.Outcomes.{ShowsCertificate, ShowsAuthority};
@@ -11,7 +11,7 @@ ghost use Rattle.sshkey_tool.specs.Outcomes.{ShowsCertificate, ShowsAuthority};
 use sshkey_base::Error;
 use sshkey_cert::Certificate;
 use sshkey_keys::KeyData;
-use sshkey_options::{CertType, FOREVER, OptionsMap};
+use sshkey_cert_values::{CertType, FOREVER, OptionsMap};
 use sshkey_public::PublicKey;
 use std::alloc::{AllocError, Global};
 

@@ -1,7 +1,7 @@
 //! What is shown of the entries of a file, and written.
 
-ghost use Rattle.sshkey_files.specs.AuthorizedKeys.{IsAuthorizedKey, authorized_text};
-ghost use Rattle.sshkey_files.specs.KnownHosts.{IsKnownHost, known_text};
+ghost use Rattle.sshkey_entries.specs.AuthorizedKeys.{IsAuthorizedKey, authorized_text};
+ghost use Rattle.sshkey_entries.specs.KnownHosts.{IsKnownHost, known_text};
 ghost use Rattle.std.specs.Prelude.{string_bytes};
 ghost use Rattle.sshkey_tool.specs.Outcomes.{PushesEntry, PushesLine, RefusesBehind, RefusesEntry, WritesEntries, WritesEntry, WritesEntryOf};
 
@@ -10,7 +10,7 @@ use crate::output::{is_written, write_line};
 use crate::refusal::{refuse, refused_line};
 use sshkey_authorized_keys::Entry as AuthorizedKey;
 use sshkey_base::Error;
-use sshkey_files::EntryTexts;
+use sshkey_entries::EntryTexts;
 use sshkey_known_hosts::Entry as KnownHost;
 use std::alloc::{AllocError, Global};
 use std::io::Write;

@@ -1,5 +1,5 @@
 pub use Rattle.sshkey_base.specs.declared.certificate.field.Field
-pub use Rattle.sshkey_builder.specs.declared.builder.Builder
+pub use Rattle.sshkey_cert_builder.specs.declared.builder.Builder
 pub use Rattle.sshkey_cert.specs.declared.certificate.Certificate
 pub use Rattle.sshkey_cert.specs.declared.certificate.question.CertificateQuestion
 pub use Rattle.sshkey_cert.specs.declared.certificate.refusal.CertificateRefusal
@@ -9,8 +9,8 @@ pub use Rattle.sshkey_cert_ref.specs.declared.options_ref.OptionsRef
 pub use Rattle.sshkey_cert_ref.specs.declared.options_ref.iter.Options
 pub use Rattle.sshkey_cert_ref.specs.declared.texts_ref.TextsRef
 pub use Rattle.sshkey_cert_ref.specs.declared.texts_ref.iter.Texts
-pub use Rattle.sshkey_options.specs.declared.cert_type.CertType
-pub use Rattle.sshkey_options.specs.declared.end_time.EndTime
-pub use Rattle.sshkey_options.specs.declared.options_map.OptionsMap
-pub use Rattle.sshkey_options.specs.declared.unix_time.UnixTime
-pub use Rattle.sshkey_to_be_signed.specs.declared.to_be_signed.ToBeSigned
+pub use Rattle.sshkey_cert_values.specs.declared.cert_type.CertType
+pub use Rattle.sshkey_cert_values.specs.declared.end_time.EndTime
+pub use Rattle.sshkey_cert_values.specs.declared.options_map.OptionsMap
+pub use Rattle.sshkey_cert_values.specs.declared.unix_time.UnixTime
+pub use Rattle.sshkey_cert_fields.specs.declared.to_be_signed.ToBeSigned

@@ -7,14 +7,14 @@ ghost use Rattle.sshkey_keys.specs.Keys.{stored_algorithm, key_of};
 ghost use Rattle.sshkey_keys.specs.Signatures.{signature_of};
 ghost use Rattle.sshkey_model.specs.Certificates.{IsCertificate, is_time, is_end, forever};
 ghost use Rattle.sshkey_model.specs.Keys.{IsKey, key_algorithm};
-ghost use Rattle.sshkey_options.specs.CertTypes.{type_of};
+ghost use Rattle.sshkey_cert_values.specs.CertTypes.{type_of};
 ghost use Rattle.sshkey_cert.specs.CertificateValues.{certificate_of, certified_key_of, comment_of, signer_of};
-ghost use Rattle.sshkey_options.specs.OptionMaps.{options_of};
+ghost use Rattle.sshkey_cert_values.specs.OptionMaps.{options_of};
 
 use super::Certificate;
 use sshkey_base::{Algorithm, Result};
 use sshkey_keys::{KeyData, Signature};
-use sshkey_options::{CertType, OptionsMap};
+use sshkey_cert_values::{CertType, OptionsMap};
 use std::alloc::Global;
 
 impl Certificate {

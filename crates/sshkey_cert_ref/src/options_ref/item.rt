@@ -11,7 +11,7 @@ ghost use Rattle.sshkey_keys_ref.specs.Taking.{Takes};
 
 use crate::strings::take_string;
 use sshkey_base::{Error, Result, encoding};
-use sshkey_format::ReadFrom;
+use sshkey_terms::ReadFrom;
 
 /// An option as it is spelled: its value may be an empty text in its string, in place of nothing.
 #[derive(Clone, Copy)]
@@ -22,7 +22,7 @@ pub(super) struct SpelledOption<'a> {
 }
 
 /// Takes an option that stands after the one before.
-#[tactic(auto, using(sshkey_format::proofs::Walking::walking), unfolding(sshkey_model::specs::Options::option_at))]
+#[tactic(auto, using(sshkey_terms::proofs::Walking::walking), unfolding(sshkey_model::specs::Options::option_at))]
 pub(super) fn take_option<'a>(
     before: Option<SpelledOption<'a>>,
     bytes: &mut &'a [u8],

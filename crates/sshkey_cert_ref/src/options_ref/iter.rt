@@ -5,7 +5,7 @@ ghost use Rattle.std.specs.Iterator.{YieldsFirstBy, item_count};
 ghost use Rattle.sshkey_model.specs.Options.{CertificateOption, option_at};
 ghost use Rattle.sshkey_model.specs.Reading.{list_whole};
 ghost use Rattle.sshkey_cert_ref.specs.OptionLists.{option_of, options_in};
-ghost use Rattle.sshkey_format.specs.Slices.{is_taken};
+ghost use Rattle.sshkey_terms.specs.Slices.{is_taken};
 
 use super::{OptionsRef, first_option};
 use std::marker::Model;

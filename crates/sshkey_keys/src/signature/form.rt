@@ -8,7 +8,7 @@ ghost use Rattle.sshkey_model.specs.Signatures.{sized_from, without_trailer, tra
 ghost use Rattle.sshkey_keys.specs.SignatureForms.{has_trailer, string_from, blob_from, positive_from, after_component};
 
 use sshkey_base::{Algorithm, EcdsaCurve, Error, Result, encoding};
-use sshkey_format::split_string;
+use sshkey_terms::split_string;
 
 /// How many bytes stand after a security key's signature: one of flags, four of a counter.
 pub(crate) const TRAILER_LEN: usize = 5;

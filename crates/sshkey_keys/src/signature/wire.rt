@@ -24,7 +24,7 @@ use sshkey_base::{
     Algorithm, Bytes, Decode, Encode, Error, NormalForm, Reader, Result, Writer, array_from,
     decode_front, decode_whole, encode_string, encode_vec, encoding, string_len,
 };
-use sshkey_format::Wide;
+use sshkey_terms::Wide;
 use std::alloc::Global;
 
 impl Signature {
@@ -74,7 +74,7 @@ impl Signature {
 ///
 /// Fails with `Label` for a name of no algorithm, and with the faults of `Signature::new`, for
 /// which the bytes after the string are read first.
-#[tactic(auto, using(sshkey_format::proofs::Chosen::chosen, crate::specs::KeyFormats::signature_chosen, sshkey_base::specs::Lengths::label_lengths))]
+#[tactic(auto, using(sshkey_terms::proofs::Chosen::chosen, crate::specs::KeyFormats::signature_chosen, sshkey_base::specs::Lengths::label_lengths))]
 impl Decode for Signature {
     type Error = Error;
 
@@ -91,7 +91,7 @@ impl Decode for Signature {
 }
 
 /// The signature by that algorithm whose bytes stand at the front.
-#[tactic(auto, using(sshkey_format::proofs::Mapped::mapped, crate::proofs::SignatureParts::under_read))]
+#[tactic(auto, using(sshkey_terms::proofs::Mapped::mapped, crate::proofs::SignatureParts::under_read))]
 #[inline(always)]
 fn decode_under<R: Reader>(alloc: Global, reader: &mut R, algorithm: Algorithm) -> Result<Signature>
     ensures gives { Gives signature_of cause (signature_under (algorithm_of algorithm)).read
@@ -147,7 +147,7 @@ fn checked(algorithm: &Algorithm, bytes: Bytes) -> Result<Bytes>
 
 /// A string of bytes that are well-formed, and the five bytes after it. A source that lends its
 /// bytes is copied with room for the five from the start, so that they take no memory again.
-#[tactic(auto, using(sshkey_base::proofs::Steps::steps, sshkey_format::proofs::Stopping::handed, crate::proofs::TrailedBlobs::trailed_blobs))]
+#[tactic(auto, using(sshkey_base::proofs::Steps::steps, sshkey_terms::proofs::Stopping::handed, crate::proofs::TrailedBlobs::trailed_blobs))]
 fn decode_trailed<R: Reader>(alloc: Global, reader: &mut R, algorithm: &Algorithm) -> Result<Bytes>
     ensures gives { Gives (λ b. b) cause (trailed_at (string_from (algorithm_of algorithm.now)))
         (R.source reader.old) result (R.source reader.new) }

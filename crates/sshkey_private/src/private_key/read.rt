@@ -6,7 +6,7 @@ ghost use Rattle.sshkey_base.specs.Needs.{Asks, NeedsBoxed, NeedsString};
 ghost use Rattle.sshkey_base.specs.Reading.{Gives, GivesWhole};
 ghost use Rattle.sshkey_base.specs.Source.{Later, all_of};
 ghost use Rattle.sshkey_base.specs.Stops.{OverrunsString, StopsBy, StopsPast};
-ghost use Rattle.sshkey_keypairs.specs.Keypairs.{pair_of};
+ghost use Rattle.sshkey_pairs.specs.Keypairs.{pair_of};
 ghost use Rattle.sshkey_keys.specs.Keys.{key_of};
 ghost use Rattle.sshkey_model.specs.KeyDerivation.{Kdf as TheKdf, NoCipher, block_size, tag_size};
 ghost use Rattle.sshkey_model.specs.Keys.{Key};
@@ -27,7 +27,7 @@ use crate::opening::{Opening, opening_from};
 use crate::part::Inner;
 use sshkey_base::{Error, Reader, Result};
 use sshkey_ciphers::{Cipher, Kdf, ciphertext_from, tag_from};
-use sshkey_keypairs::KeypairData;
+use sshkey_pairs::KeypairData;
 use sshkey_keys::KeyData;
 use sshkey_public::PublicKey;
 use std::alloc::Global;
@@ -190,7 +190,7 @@ fn last_sealed_from<R: Reader>(
 }
 
 /// A ciphertext in its string, and its tag after it.
-#[tactic(auto, using(sshkey_base::proofs::Steps::steps, crate::specs::PrivateKeyGrammars::blocks_lengths, sshkey_base::proofs::Stopping::read_past), unfolding(sshkey_format::specs::Behind::behind_at))]
+#[tactic(auto, using(sshkey_base::proofs::Steps::steps, crate::specs::PrivateKeyGrammars::blocks_lengths, sshkey_base::proofs::Stopping::read_past), unfolding(sshkey_terms::specs::Behind::behind_at))]
 fn sealed_from<R: Reader>(
     alloc: Global,
     reader: &mut R,

@@ -12,7 +12,7 @@ use super::PrivateKey;
 use crate::opening::MAGIC;
 use sshkey_base::{Encode, Writer, encode_string, encoding, string_len};
 use sshkey_ciphers::{Cipher, encode_padded};
-use sshkey_keypairs::KeypairData;
+use sshkey_pairs::KeypairData;
 
 /// The magic bytes, cipher, key derivation, the number 1, the public key in a string, and the
 /// private part.

@@ -20,7 +20,7 @@ use sshkey_base::{
     Bytes, Decode, Encode, Error, HashAlg, NormalForm, Reader, Result, Text, Writer, array_from,
     decode_whole, encode_vec, encoding,
 };
-use sshkey_format::{Boxed, Then, Wide};
+use sshkey_terms::{Boxed, Then, Wide};
 use sshkey_keys::{KeyData, Signature};
 use std::alloc::Global;
 
@@ -147,7 +147,7 @@ type Statement = Then<Namespace, Then<Wide<Bytes>, Then<Wide<HashAlg>, Boxed<Sig
 /// Fails with `FormatEncoding` for other bytes than `SSHSIG`, with `Version` and its number for a
 /// version above 1, with `Namespace` for an empty namespace, with `Label` for the name of no hash,
 /// and as `KeyData` and `Signature` do.
-#[tactic(auto, using(sshkey_format::proofs::Mapped::mapped, crate::specs::SshSignatureFormats::checked_read))]
+#[tactic(auto, using(sshkey_terms::proofs::Mapped::mapped, crate::specs::SshSignatureFormats::checked_read))]
 impl Decode for SshSig {
     type Error = Error;
 

@@ -5,7 +5,7 @@ use ssh_key::public::{
     EcPoint, EcdsaNistP256PublicKey, Ed25519PublicKey, KeyData, SkEcdsaSha2NistP256, SkEd25519,
 };
 use ssh_key::{Algorithm, Error, HashAlg, Result, SshSig};
-use sshkey_testing::Tally;
+use sshkey_doubles::Tally;
 use std::alloc::Global;
 
 /// The base point of P-256 (SEC 2, section 2.4.2).

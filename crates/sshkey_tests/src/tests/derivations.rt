@@ -4,7 +4,7 @@ use super::pairs::{bytes_of, is_written};
 use super::support::is_wanted;
 use sshkey_base::{Error, Result, SliceWriter, decode_whole, encoding};
 use sshkey_ciphers::{Cipher, Kdf, KdfAlg, ciphertext_from, encode_padded, padding_from, tag_from};
-use sshkey_testing::Count;
+use sshkey_doubles::Count;
 use std::alloc::Global;
 
 /// The name, and in a string 16 bytes of salt and 16 rounds, as an encrypted key has them.

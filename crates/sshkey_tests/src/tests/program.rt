@@ -1,5 +1,5 @@
 //! The program over inputs and outputs that fail. What it answers on lines is in the table of
-//! `sshkey_table`.
+//! `sshkey_cases`.
 
 use super::failing::{Counted, Failing, Narrow};
 use sshkey_tool::run;

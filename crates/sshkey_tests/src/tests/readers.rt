@@ -3,7 +3,7 @@
 use super::support::{is_debugged, is_wanted};
 use sshkey_base::encoding::{Error, Result};
 use sshkey_base::{Algorithm, Bytes, Decode, NestedReader, Reader, ShortBytes, decode_whole};
-use sshkey_testing::Faulty;
+use sshkey_doubles::Faulty;
 use std::alloc::Global;
 
 /// The name `ssh-ed25519` as a string.

@@ -8,7 +8,7 @@ use sshkey_base::{Error, encoding};
 use sshkey_cert::Certificate;
 use sshkey_cert_ref::{CertificateRef, OptionsRef};
 use sshkey_keys::Fingerprint;
-use sshkey_testing::{Only, OutOfMemory, RefuseAll};
+use sshkey_doubles::{Only, OutOfMemory, RefuseAll};
 use std::alloc::Global;
 
 /// The certificate has these plain fields.

@@ -4,7 +4,7 @@ use super::signed_files::{MESSAGE, SIGNED, SIGNED_FILES, SignedFile};
 use super::support::{is_text, is_wanted};
 use ssh_key::public::{Ed25519PublicKey, KeyData, SkEd25519};
 use ssh_key::{Algorithm, Error, HashAlg, PublicKey, Result, Signature, SshSig};
-use sshkey_testing::{AcceptAll, Fixed, Only, OutOfMemory, RefuseAll, Tally};
+use sshkey_doubles::{AcceptAll, Fixed, Only, OutOfMemory, RefuseAll, Tally};
 use std::alloc::Global;
 
 /// An Ed25519 key.

@@ -4,7 +4,7 @@ use super::issued::{builder, for_all, judged_once, signed};
 use super::support::is_wanted;
 use sshkey_base::{Error, HashAlg};
 use sshkey_cert::Certificate;
-use sshkey_options::{CertType, EndTime, FOREVER, MAX_SECS, UnixTime};
+use sshkey_cert_values::{CertType, EndTime, FOREVER, MAX_SECS, UnixTime};
 use std::alloc::Global;
 
 /// The last second that a time can be (2^63 - 1), and the number for no end (2^64 - 1,

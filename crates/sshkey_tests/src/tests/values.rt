@@ -2,7 +2,7 @@
 
 use super::support::{are_alike, is_wanted, shows};
 use sshkey_base::{Bytes, Encode, Error, Mpint, Result, Text, decode_whole, encode_vec, encoding};
-use sshkey_format::{split_bytes, split_string, split_text, split_u32, split_u64};
+use sshkey_terms::{split_bytes, split_string, split_text, split_u32, split_u64};
 use std::alloc::Global;
 use std::convert::AsSlice;
 use std::fmt;

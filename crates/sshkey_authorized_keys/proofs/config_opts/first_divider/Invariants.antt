@@ -1,5 +1,5 @@
 use Rattle.std.proofs.Common.{◌≡◌, ◌<◌, ℕ, false, slice_index}
-use Rattle.sshkey_files.specs.Items.{is_quoted, is_divider}
+use Rattle.sshkey_entries.specs.Items.{is_quoted, is_divider}
 use Rattle.sshkey_authorized_keys.proofs.config_opts.first_divider.Given as goal
 
 -- no divider was passed over

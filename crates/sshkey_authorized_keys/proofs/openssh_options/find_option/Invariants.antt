@@ -1,6 +1,6 @@
 use Rattle.std.proofs.Common.{List}
-use Rattle.sshkey_files.specs.OptionItems.{KeyOption}
-use Rattle.sshkey_files.specs.OptionItems.{HasKeyOptions}
+use Rattle.sshkey_entries.specs.OptionItems.{KeyOption}
+use Rattle.sshkey_entries.specs.OptionItems.{HasKeyOptions}
 use Rattle.sshkey_authorized_keys.specs.OpenSshItems.{FindsNamed}
 use Rattle.sshkey_authorized_keys.proofs.FoundOptions.{Behind}
 use Rattle.sshkey_authorized_keys.proofs.openssh_options.find_option.Given as goal

@@ -1,5 +1,5 @@
 use Rattle.std.proofs.Common.{◌∙◌, ap, position}
-use Rattle.sshkey_files.proofs.Fronts.{cut_at, end_place, uncut}
+use Rattle.sshkey_entries.proofs.Fronts.{cut_at, end_place, uncut}
 use Rattle.sshkey_authorized_keys.proofs.OptionCuts.{cuts_name, end_ascii, ends_name}
 use Rattle.sshkey_authorized_keys.proofs.option_syntax.split_name.Goals as goal
 

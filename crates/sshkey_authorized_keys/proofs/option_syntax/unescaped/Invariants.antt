@@ -1,7 +1,7 @@
 use Rattle.std.proofs.Common.{◌≡◌, ◌++◌, length, string_bytes}
 use denote.Text.{Utf8}
 use denote.Shadow.{shadow}
-use Rattle.sshkey_files.specs.OptionItems.{unescaped}
+use Rattle.sshkey_entries.specs.OptionItems.{unescaped}
 use Rattle.sshkey_authorized_keys.proofs.option_syntax.unescaped.Given as goal
 
 -- what was copied, and what is left

@@ -1,4 +1,4 @@
-use Rattle.sshkey_files.specs.OpenSshLines.{IsAuthorizedLine}
+use Rattle.sshkey_entries.specs.OpenSshLines.{IsAuthorizedLine}
 use Rattle.sshkey_authorized_keys.proofs.ReadBack.{openssh_form, tells_openssh, tells_none}
 use Rattle.sshkey_authorized_keys.proofs.read_back.is_read_by_openssh.Goals as goal
 

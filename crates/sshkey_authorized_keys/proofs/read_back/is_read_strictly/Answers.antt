@@ -1,4 +1,4 @@
-use Rattle.sshkey_files.specs.StrictReading.{IsReadStrictly}
+use Rattle.sshkey_entries.specs.StrictReading.{IsReadStrictly}
 use Rattle.sshkey_authorized_keys.proofs.ReadBack.{strict_form, tells_strictly, tells_none}
 use Rattle.sshkey_authorized_keys.proofs.read_back.is_read_strictly.Goals as goal
 

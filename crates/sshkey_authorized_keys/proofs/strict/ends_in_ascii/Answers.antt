@@ -1,5 +1,5 @@
 use Rattle.std.proofs.Common.{◌≡◌, ◌++◌, ◌-◌, List, ℕ, take, drop, length, ap, sym, subst, ◌∙◌, take-append-drop}
-use Rattle.sshkey_files.specs.StrictReading.{AreAsciiSpaces}
+use Rattle.sshkey_entries.specs.StrictReading.{AreAsciiSpaces}
 use Rattle.sshkey_authorized_keys.proofs.LeftOut.{ends_in_ascii, whole_end}
 use Rattle.sshkey_authorized_keys.proofs.strict.ends_in_ascii.Goals as goal
 

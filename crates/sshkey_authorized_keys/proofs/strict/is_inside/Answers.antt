@@ -1,5 +1,5 @@
 use Rattle.std.proofs.Common.{sym, ap, ◌∙◌, not, cond, Bool}
-use Rattle.sshkey_files.proofs.StrictReading.{inside_first, inside_more}
+use Rattle.sshkey_entries.proofs.StrictReading.{inside_first, inside_more}
 use Rattle.sshkey_authorized_keys.proofs.strict.is_inside.Goals as goal
 use Rattle.sshkey_authorized_keys.proofs.strict.is_inside.Goals.{then-is_mark, else-is_mark}
 

@@ -1,5 +1,5 @@
 use Rattle.std.proofs.Common.{◌≡◌}
-use Rattle.sshkey_files.specs.StrictReading.{is_inside}
+use Rattle.sshkey_entries.specs.StrictReading.{is_inside}
 use Rattle.sshkey_authorized_keys.proofs.strict.is_inside.Given as goal
 
 abbrev pub invariant-loop-index : goal.invariant-loop-index

@@ -1,5 +1,5 @@
 use Rattle.std.proofs.Common.{sym, subst}
-use Rattle.sshkey_files.specs.StrictReading.{AreAsciiSpaces}
+use Rattle.sshkey_entries.specs.StrictReading.{AreAsciiSpaces}
 use Rattle.sshkey_authorized_keys.specs.LeftOut.{AreSpacesAndBlank}
 use Rattle.sshkey_authorized_keys.proofs.LeftOut.{left_out_none, left_out_some}
 use Rattle.sshkey_authorized_keys.proofs.strict.is_left_out.Goals as goal

@@ -3,7 +3,7 @@ use Rattle.sshkey_model.specs.OptionMaps.{value_of}
 use Rattle.sshkey_model.specs.Options.{option_at}
 use Rattle.sshkey_model.specs.Reading.{list_whole}
 use Rattle.sshkey_cert_ref.specs.OptionLists.{options_in}
-use Rattle.sshkey_format.specs.Slices.{is_taken}
+use Rattle.sshkey_terms.specs.Slices.{is_taken}
 use Rattle.sshkey_cert_ref.proofs.options_ref.find_value.Given as goal
 
 abbrev pub invariant-options : goal.invariant-options

@@ -1,7 +1,7 @@
 use Rattle.std.proofs.Common.{Ok, arith, refl}
 use Rattle.std.proofs.lemmas.Result.{err_from_is_err_and}
 use Rattle.sshkey_model.proofs.CombinedReaders.{fit_bytes}
-use Rattle.sshkey_format.proofs.SliceFronts.{box_string}
+use Rattle.sshkey_terms.proofs.SliceFronts.{box_string}
 use Rattle.sshkey_cert_ref.proofs.strings.first_string.Goals as goal
 
 pub returns-in_err-string-clause-gives : goal.returns-in_err-string-clause-gives

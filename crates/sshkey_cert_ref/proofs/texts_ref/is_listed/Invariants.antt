@@ -2,7 +2,7 @@ use Rattle.std.proofs.Common.{◌≡◌, length, true, bytes_eq}
 use Rattle.std.specs.List.{list_any}
 use Rattle.sshkey_base.specs.TextLists.{text_list_at}
 use Rattle.sshkey_cert_ref.specs.TextLists.{texts_in}
-use Rattle.sshkey_format.specs.Slices.{is_taken}
+use Rattle.sshkey_terms.specs.Slices.{is_taken}
 use Rattle.sshkey_cert_ref.proofs.texts_ref.is_listed.Given as goal
 
 abbrev pub invariant-texts : goal.invariant-texts

@@ -1,12 +1,12 @@
 use Rattle.std.proofs.Common.{refl}
 use Rattle.std.proofs.lemmas.Result.{err_from_is_err_and}
 use Rattle.sshkey_base.proofs.Steps.{refuses_first}
-use Rattle.sshkey_format.specs.Behind.{both_at}
+use Rattle.sshkey_terms.specs.Behind.{both_at}
 use Rattle.sshkey_model.specs.CertificateNames.{certificate_algorithm_at, certified_from}
 use Rattle.sshkey_model.specs.Keys.{body_at}
 use Rattle.sshkey_model.specs.Names.{Dsa}
 use Rattle.sshkey_model.specs.Reading.{string_at}
-use Rattle.sshkey_to_be_signed.specs.ToBeSignedReaders.{subject_at}
+use Rattle.sshkey_cert_fields.specs.ToBeSignedReaders.{subject_at}
 use Rattle.sshkey_cert_ref.specs.Spelled.{certified_in}
 use Rattle.sshkey_cert_ref.proofs.Subjects.{known, certified_body, refused_body, named_key, key_bytes}
 use Rattle.sshkey_cert_ref.proofs.walk.split_subject.Goals as goal

@@ -1,5 +1,5 @@
 use Rattle.std.proofs.Common.{inl, inr, ap, sym, subst, ◌∙◌}
-use Rattle.sshkey_files.specs.HostNames.{AreFor}
+use Rattle.sshkey_entries.specs.HostNames.{AreFor}
 use Rattle.sshkey_public.specs.PublicKeys.{comment_of, public_of}
 use Rattle.sshkey_known_hosts.specs.HostEntries.{hosts_of, known_host_of}
 use Rattle.sshkey_known_hosts.specs.Verdicts.{is_authority_of}

@@ -1,5 +1,5 @@
 use Rattle.std.proofs.Common.{IsTrue, refl, sym, subst, ◌∙◌, arith}
-use Rattle.sshkey_files.specs.Patterns.{IsShort}
+use Rattle.sshkey_entries.specs.Patterns.{IsShort}
 use Rattle.sshkey_known_hosts.proofs.SomeOf.{one_more}
 use Rattle.sshkey_known_hosts.proofs.host_name.are_short.Goals as goal
 

@@ -1,5 +1,5 @@
 use Rattle.std.proofs.Common.{ℕ, List, ◌<◌, get_or}
-use Rattle.sshkey_files.specs.Patterns.{IsShort}
+use Rattle.sshkey_entries.specs.Patterns.{IsShort}
 use Rattle.sshkey_known_hosts.proofs.host_name.are_short.Given as goal
 
 -- the patterns so far are short

@@ -1,6 +1,6 @@
 use Rattle.std.proofs.Common.{sym, subst, ◌∙◌}
 use Rattle.std.specs.Char.{to_ascii_lowercase}
-use Rattle.sshkey_files.specs.Patterns.{Refuses}
+use Rattle.sshkey_entries.specs.Patterns.{Refuses}
 use Rattle.sshkey_known_hosts.proofs.SomeOf.{none_more, none_of}
 use Rattle.sshkey_known_hosts.proofs.host_name.some_refuses.Goals as goal
 

@@ -1,6 +1,6 @@
 use Rattle.std.proofs.Common.{ℕ, List, ◌<◌, get_or}
 use Rattle.std.specs.Char.{to_ascii_lowercase}
-use Rattle.sshkey_files.specs.Patterns.{Refuses}
+use Rattle.sshkey_entries.specs.Patterns.{Refuses}
 use Rattle.sshkey_known_hosts.proofs.host_name.some_refuses.Given as goal
 
 -- none of the patterns so far does

@@ -1,5 +1,5 @@
 use Rattle.std.proofs.Common.{sym, ap, ◌∙◌, append-nil, ◌++◌, List, ℕ}
-use Rattle.sshkey_files.proofs.PatternLists.{no_patterns_left}
+use Rattle.sshkey_entries.proofs.PatternLists.{no_patterns_left}
 use Rattle.sshkey_known_hosts.proofs.host_patterns.patterns_of.Goals as goal
 
 pub returns : goal.returns

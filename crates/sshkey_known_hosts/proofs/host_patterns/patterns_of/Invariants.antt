@@ -1,7 +1,7 @@
 use Rattle.std.proofs.Common.{◌≡◌, ◌++◌, length}
 use denote.Shadow.{shadow}
 use denote.Text.{Utf8}
-use Rattle.sshkey_files.specs.Items.{patterns}
+use Rattle.sshkey_entries.specs.Items.{patterns}
 use Rattle.sshkey_known_hosts.proofs.host_patterns.patterns_of.Given as goal
 
 -- what was found, and what is left

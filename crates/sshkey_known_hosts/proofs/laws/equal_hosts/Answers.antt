@@ -3,7 +3,7 @@ use Rattle.std.proofs.lemmas.Bool.{eqb-false}
 use Rattle.std.specs.Bool.{Decides}
 use Rattle.std.proofs.lemmas.Bool.Decides.{Decides-and, Decides-like}
 use Rattle.std.proofs.lemmas.Slice.Eq.{bytes_eq-Decides, slice_eq-Decides}
-use Rattle.sshkey_files.specs.KnownHosts.{Hosts, HashedName, Patterns}
+use Rattle.sshkey_entries.specs.KnownHosts.{Hosts, HashedName, Patterns}
 use Rattle.sshkey_known_hosts.specs.HostEntries.{hosts_of}
 use Rattle.sshkey_known_hosts.specs.declared.host_patterns.HostPatterns.TheVariants as hosts
 use Rattle.sshkey_known_hosts.proofs.laws.equal_hosts.Goals as goal

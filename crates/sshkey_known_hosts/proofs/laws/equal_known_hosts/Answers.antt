@@ -4,8 +4,8 @@ use Rattle.std.specs.Option.{option_eq}
 use Rattle.std.proofs.lemmas.Bool.Decides.{Decides-and, Decides-like}
 use Rattle.sshkey_model.specs.Keys.{Key}
 use Rattle.sshkey_base.proofs.Comparisons.{both}
-use Rattle.sshkey_files.specs.KnownHosts as known
-use Rattle.sshkey_files.specs.KnownHosts.{KnownHost}
+use Rattle.sshkey_entries.specs.KnownHosts as known
+use Rattle.sshkey_entries.specs.KnownHosts.{KnownHost}
 use Rattle.sshkey_known_hosts.specs.HostEntries.{known_host_of, marker_of}
 use Rattle.sshkey_known_hosts.specs.declared.marker.Marker.{Marker}
 use Rattle.sshkey_known_hosts.proofs.laws.equal_known_hosts.Goals as goal

@@ -1,6 +1,6 @@
 use Rattle.std.proofs.Common.{sym, subst, ◌∙◌}
-use Rattle.sshkey_files.specs.OpenSshLines.{IsHostLine}
-use Rattle.sshkey_files.proofs.OneOpenSshLine.{one_host_line}
+use Rattle.sshkey_entries.specs.OpenSshLines.{IsHostLine}
+use Rattle.sshkey_entries.proofs.OneOpenSshLine.{one_host_line}
 use Rattle.sshkey_known_hosts.specs.HostEntries.{known_host_of}
 use Rattle.sshkey_known_hosts.proofs.made.is_read_back_openssh.Goals as goal
 

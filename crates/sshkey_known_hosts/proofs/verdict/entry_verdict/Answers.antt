@@ -2,7 +2,7 @@ use Rattle.std.proofs.Common.{[], ◌∷◌, ap, sym, subst, ◌∙◌, option_m
 use Rattle.sshkey_model.specs.Keys.{IsKey}
 use Rattle.sshkey_keys.specs.Keys.{key_of}
 use Rattle.sshkey_public.specs.PublicKeys.{data_of}
-use Rattle.sshkey_files.specs.HostNames.{AreFor}
+use Rattle.sshkey_entries.specs.HostNames.{AreFor}
 use Rattle.sshkey_known_hosts.specs.HostEntries.{hosts_of, known_host_of, marker_of}
 use Rattle.sshkey_known_hosts.specs.Verdicts.{IsVerdict}
 use Rattle.sshkey_known_hosts.specs.declared.host_patterns.HostPatterns.{HostPatterns}

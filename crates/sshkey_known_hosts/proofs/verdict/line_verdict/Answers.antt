@@ -1,6 +1,6 @@
 use Rattle.std.proofs.Common.{Option, sym, subst, ◌∙◌}
 use Rattle.sshkey_keys.specs.Keys.{key_of}
-use Rattle.sshkey_files.specs.OpenSshLines.{IsHostLine}
+use Rattle.sshkey_entries.specs.OpenSshLines.{IsHostLine}
 use Rattle.sshkey_known_hosts.specs.HostEntries.{known_host_of}
 use Rattle.sshkey_known_hosts.specs.Verdicts.{ReadsOrNone}
 use Rattle.sshkey_known_hosts.specs.declared.entry.Entry.{Entry}

@@ -1,7 +1,7 @@
 use Rattle.sshkey_base.proofs.Judging.{judged}
 use Rattle.sshkey_base.specs.Causes.{cause}
-use Rattle.sshkey_keypairs.specs.Keypairs.{pair_of}
-use Rattle.sshkey_keypairs.specs.KeypairReaders.{keypair_data_at}
+use Rattle.sshkey_pairs.specs.Keypairs.{pair_of}
+use Rattle.sshkey_pairs.specs.KeypairReaders.{keypair_data_at}
 use Rattle.sshkey_keys.specs.Keys.{key_of}
 use Rattle.sshkey_private.specs.Inner.{half_of, pair_with_at}
 use Rattle.sshkey_private.proofs.inner.pair_from.Goals as goal

@@ -1,6 +1,6 @@
 use Rattle.std.proofs.Common.{ap, ◌∙◌, length, arith}
-use Rattle.sshkey_files.specs.StrictReading.{is_inside}
-use Rattle.sshkey_files.proofs.StrictReading.{options_within}
+use Rattle.sshkey_entries.specs.StrictReading.{is_inside}
+use Rattle.sshkey_entries.proofs.StrictReading.{options_within}
 use Rattle.sshkey_authorized_keys.proofs.entry.Entry.ends_inside.Goals as goal
 
 pub is_inside-requires : goal.is_inside-requires

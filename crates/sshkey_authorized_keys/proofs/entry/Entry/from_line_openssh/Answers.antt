@@ -1,5 +1,5 @@
 use Rattle.std.proofs.Common.{sym, subst, ◌∙◌}
-use Rattle.sshkey_files.specs.Fields.{AreKeyFields}
+use Rattle.sshkey_entries.specs.Fields.{AreKeyFields}
 use Rattle.sshkey_public.specs.PublicKeys.{public_of, comment_of}
 use Rattle.sshkey_public.specs.declared.public_key.PublicKey.{PublicKey}
 use Rattle.sshkey_authorized_keys.proofs.OptionEnds.{comment_read, comment_fault, alone_read, behind_read, behind_fault, alone_needs, behind_needs}

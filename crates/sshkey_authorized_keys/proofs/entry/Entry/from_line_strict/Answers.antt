@@ -1,6 +1,6 @@
 use Rattle.std.proofs.Common.{sym, ◌∙◌}
 use Rattle.std.proofs.lemmas.Result.{err_from_is_err_and}
-use Rattle.sshkey_files.proofs.StrictReading.{never_strictly}
+use Rattle.sshkey_entries.proofs.StrictReading.{never_strictly}
 use Rattle.sshkey_authorized_keys.proofs.Strictly.{none_fault, not_strictly, strict_fault}
 use Rattle.sshkey_authorized_keys.proofs.entry.Entry.from_line_strict.Goals as goal
 

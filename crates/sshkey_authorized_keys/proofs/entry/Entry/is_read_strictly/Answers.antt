@@ -1,5 +1,5 @@
 use Rattle.std.proofs.Common.{sym, ◌∙◌}
-use Rattle.sshkey_files.proofs.StrictReading.{strictly, not_inside}
+use Rattle.sshkey_entries.proofs.StrictReading.{strictly, not_inside}
 use Rattle.sshkey_authorized_keys.proofs.entry.Entry.is_read_strictly.Goals as goal
 use Rattle.sshkey_authorized_keys.proofs.entry.Entry.is_read_strictly.Goals.{then-is_comment-via-then-is_comment, then-is_comment-via-else-is_comment+then-ends_inside}
 

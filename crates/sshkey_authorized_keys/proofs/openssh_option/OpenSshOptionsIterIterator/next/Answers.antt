@@ -1,5 +1,5 @@
 use Rattle.std.proofs.Common.{ap, ◌∙◌}
-use Rattle.sshkey_files.specs.OptionItems.{without_commas}
+use Rattle.sshkey_entries.specs.OptionItems.{without_commas}
 use Rattle.sshkey_authorized_keys.proofs.YieldedOptions.{one_less, nothing_left, none_there}
 use Rattle.sshkey_authorized_keys.proofs.openssh_option.OpenSshOptionsIterIterator.next.Goals as goal
 

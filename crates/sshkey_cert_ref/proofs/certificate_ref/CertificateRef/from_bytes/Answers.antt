@@ -3,7 +3,7 @@ use Rattle.std.proofs.lemmas.Result.{err_from_is_err_and}
 use Rattle.sshkey_base.specs.Causes.{cause}
 use Rattle.sshkey_model.specs.Certificates.{certificate_at}
 use Rattle.sshkey_model.specs.Reading.{whole}
-use Rattle.sshkey_format.specs.Slices.{is_taken}
+use Rattle.sshkey_terms.specs.Slices.{is_taken}
 use Rattle.sshkey_cert_ref.specs.CertificateRef.{certificate_bytes}
 use Rattle.sshkey_cert_ref.proofs.Certificates.{found_whole, no_fields, no_signature, keeps_none, spells_none, spells, spelled_is, front_is, leaves}
 use Rattle.sshkey_cert_ref.proofs.certificate_ref.CertificateRef.from_bytes.Goals as goal

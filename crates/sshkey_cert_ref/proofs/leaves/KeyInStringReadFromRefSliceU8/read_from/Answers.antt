@@ -3,7 +3,7 @@ use Rattle.std.proofs.lemmas.Result.{err_from_is_err_and}
 use Rattle.sshkey_model.specs.Keys.{key_at}
 use Rattle.sshkey_model.specs.Reading.{whole, box_at}
 use Rattle.sshkey_base.specs.Causes.{cause, same_cause}
-use Rattle.sshkey_format.proofs.SliceFronts.{answers_ok}
+use Rattle.sshkey_terms.proofs.SliceFronts.{answers_ok}
 use Rattle.sshkey_cert_ref.specs.Fields.{spelled_key_of}
 use Rattle.sshkey_cert_ref.specs.declared.leaves.KeyInString.{KeyInString}
 use Rattle.sshkey_cert_ref.proofs.Boxed.{kept_key}

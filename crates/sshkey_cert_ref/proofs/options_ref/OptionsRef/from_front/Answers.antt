@@ -3,7 +3,7 @@ use Rattle.std.proofs.lemmas.Result.{err_from_is_err_and}
 use Rattle.sshkey_model.proofs.Grammars.{grammar}
 use Rattle.sshkey_model.proofs.OptionReaders.{options_reads}
 use Rattle.sshkey_base.specs.Causes.{cause}
-use Rattle.sshkey_format.proofs.SliceFronts.{split_spelled}
+use Rattle.sshkey_terms.proofs.SliceFronts.{split_spelled}
 use Rattle.sshkey_cert_ref.specs.Views.{spelled_options_of}
 use Rattle.sshkey_cert_ref.proofs.options_ref.OptionsRef.from_front.Goals as goal
 

@@ -1,5 +1,5 @@
 use Rattle.std.proofs.Common.{◌∙◌}
-use Rattle.sshkey_options.proofs.OptionNames.{below_is}
+use Rattle.sshkey_cert_values.proofs.OptionNames.{below_is}
 use Rattle.sshkey_cert_ref.proofs.options_ref.item.may_follow.Goals as goal
 
 pub returns-in-Some : goal.returns-in-Some

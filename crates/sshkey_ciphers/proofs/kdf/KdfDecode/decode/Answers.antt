@@ -1,6 +1,6 @@
 use Rattle.sshkey_base.specs.Causes.{cause}
 use Rattle.sshkey_base.proofs.Stopping.{same_stops}
-use Rattle.sshkey_format.proofs.Chosen.{chosen_stops}
+use Rattle.sshkey_terms.proofs.Chosen.{chosen_stops}
 use Rattle.sshkey_ciphers.specs.KdfFormats.{algorithm_format, kdf_chosen, kdf_format, options_end, options_format}
 use Rattle.sshkey_ciphers.proofs.kdf.KdfDecode.decode.Goals as goal
 

@@ -1,5 +1,5 @@
 use Rattle.sshkey_base.specs.Causes.{cause}
-use Rattle.sshkey_format.proofs.Chosen.{chosen_stops}
+use Rattle.sshkey_terms.proofs.Chosen.{chosen_stops}
 use Rattle.sshkey_keys.specs.KeyFormats.{body_format, key_chosen, key_format, name_format}
 use Rattle.sshkey_keys.proofs.key_data.KeyDataDecode.decode.Goals as goal
 

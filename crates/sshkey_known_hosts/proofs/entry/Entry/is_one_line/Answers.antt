@@ -1,6 +1,6 @@
 use Rattle.std.proofs.Common.{option_map, sym, ◌∙◌}
 use Rattle.sshkey_model.specs.Lines.{key_line}
-use Rattle.sshkey_files.specs.KnownHosts.{hosts_text}
+use Rattle.sshkey_entries.specs.KnownHosts.{hosts_text}
 use Rattle.sshkey_public.specs.PublicKeys.{public_of, comment_of}
 use Rattle.sshkey_known_hosts.specs.HostEntries.{hosts_in, hosts_of, key_in, marker_in, marker_of}
 use Rattle.sshkey_known_hosts.proofs.OneLine.{written_so, so_written}

@@ -1,5 +1,5 @@
 use Rattle.std.proofs.Common.{◌++◌, List, ℕ, ap, sym, ◌∙◌}
-use Rattle.sshkey_files.specs.KnownHosts.{hashed_mark}
+use Rattle.sshkey_entries.specs.KnownHosts.{hashed_mark}
 use Rattle.sshkey_known_hosts.proofs.Hosts.{reads_behind_mark}
 use Rattle.sshkey_known_hosts.proofs.host_patterns.HostPatterns.from_text.Goals as goal
 

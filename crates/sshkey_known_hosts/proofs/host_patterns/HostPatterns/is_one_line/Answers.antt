@@ -1,6 +1,6 @@
 use Rattle.std.proofs.Common.{sym, subst, refl}
 use Rattle.std.specs.List.{All}
-use Rattle.sshkey_files.specs.KnownHosts.{hosts_text}
+use Rattle.sshkey_entries.specs.KnownHosts.{hosts_text}
 use Rattle.sshkey_public.specs.OneLine.{IsOneLine}
 use Rattle.sshkey_known_hosts.specs.HostEntries.{hosts_of}
 use Rattle.sshkey_known_hosts.specs.declared.host_patterns.HostPatterns.{HostPatterns}

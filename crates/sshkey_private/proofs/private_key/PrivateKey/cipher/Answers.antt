@@ -1,4 +1,4 @@
-use Rattle.sshkey_keypairs.specs.Keypairs.{pair_of}
+use Rattle.sshkey_pairs.specs.Keypairs.{pair_of}
 use Rattle.sshkey_private.specs.PrivateKeys.{key_fields}
 use Rattle.sshkey_private.proofs.KeyForms.{cipher_is}
 use Rattle.sshkey_private.proofs.private_key.PrivateKey.cipher.Goals as goal

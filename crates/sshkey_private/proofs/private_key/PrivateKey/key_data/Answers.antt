@@ -1,4 +1,4 @@
-use Rattle.sshkey_keypairs.specs.Keypairs.{pair_of}
+use Rattle.sshkey_pairs.specs.Keypairs.{pair_of}
 use Rattle.sshkey_public.specs.PublicKeys.{comment_of}
 use Rattle.sshkey_private.specs.PrivateKeys.{key_fields}
 use Rattle.sshkey_private.proofs.KeyForms.{pair_formed}

@@ -1,7 +1,7 @@
 use Rattle.std.proofs.Common.{◌≡◌, Err, Some, None, Result, refl, sym, ap, ◌∙◌}
 use Rattle.std.proofs.lemmas.Result.{err_from_is_err_and}
 use Rattle.sshkey_base.specs.declared.error.Error.{Error}
-use Rattle.sshkey_keypairs.specs.Keypairs.{pair_of}
+use Rattle.sshkey_pairs.specs.Keypairs.{pair_of}
 use Rattle.sshkey_keys.specs.Keys.{key_of, stored_algorithm}
 use Rattle.sshkey_keys.specs.declared.key_data.KeyData.{KeyData}
 use Rattle.sshkey_ciphers.specs.declared.cipher.Cipher.TheVariants as cipher

@@ -1,5 +1,5 @@
 use Rattle.std.proofs.Common.{subst, sym}
-use Rattle.sshkey_keypairs.specs.Keypairs.{pair_of}
+use Rattle.sshkey_pairs.specs.Keypairs.{pair_of}
 use Rattle.sshkey_model.specs.Keys.{Key, IsKey}
 use Rattle.sshkey_private.specs.PrivateKeys.{key_fields, private_of}
 use Rattle.sshkey_private.proofs.KeyForms.{of_formed, public_is}

@@ -1,7 +1,7 @@
 use Rattle.std.proofs.Common.{Err, suc}
 use Rattle.std.proofs.lemmas.Result.{err_from_is_err_and}
 use Rattle.sshkey_base.specs.Causes.{cause}
-use Rattle.sshkey_format.proofs.Chosen.{chosen_stopped, chosen_stops}
+use Rattle.sshkey_terms.proofs.Chosen.{chosen_stopped, chosen_stops}
 use Rattle.sshkey_private.specs.declared.private_key.PrivateKey.{PrivateKey}
 use Rattle.sshkey_private.specs.Openings.{opening_of}
 use Rattle.sshkey_private.specs.PrivateKeyReaders.{delimited_by, opening_at, last_content_at, steps_at}

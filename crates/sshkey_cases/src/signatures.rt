@@ -1,0 +1,70 @@
+//! Signatures.
+
+use crate::bytes::{part, text};
+use sshkey_base::{Algorithm, Error, Result, decode_whole};
+use sshkey_keys::{KeyData, Signature};
+use sshkey_keys_ref::{KeyDataRef, SignatureRef};
+use sshkey_doubles::AcceptAll;
+use std::alloc::Global;
+
+/// The signature that all the bytes spell.
+pub(crate) fn whole(alloc: Global, bytes: &[u8]) -> Result<String> {
+    shown(alloc, &Signature::from_bytes(alloc, bytes)?, bytes)
+}
+
+/// The signature at the front of the bytes.
+pub(crate) fn front(alloc: Global, bytes: &[u8]) -> Result<String> {
+    shown(alloc, &Signature::from_front(alloc, bytes)?, bytes)
+}
+
+/// The name of the algorithm, how many bytes are the signature's own, and whether the bytes begin
+/// with what is written of it.
+pub(crate) fn shown(alloc: Global, signature: &Signature, bytes: &[u8]) -> Result<String> {
+    let written = signature.to_bytes(alloc)?;
+    let own = signature.as_bytes();
+    let is_same = bytes.starts_with(&written) && written.ends_with(own);
+    let other = if is_same { "" } else { ", written otherwise" };
+    Ok(format!(in alloc; "{}, {} bytes{other}", signature.algorithm(), own.len())?)
+}
+
+/// The signature by the algorithm that the first byte string names, with the bytes of the second.
+pub(crate) fn made(alloc: Global, parts: &[Vec<u8>]) -> Result<String> {
+    let algorithm = Algorithm::new(alloc, text(parts, 0)?)?;
+    let signature = Signature::new(algorithm, part(parts, 1).to_vec(alloc)?)?;
+    Ok(format!(in alloc; "{} bytes", signature.as_bytes().len())?)
+}
+
+/// Whether the key that the first byte string spells accepts the signature that the third one
+/// spells of the message that is the second, where the verifier accepts all that it is asked; or
+/// the name of the algorithm for which it asks nothing.
+pub(crate) fn accepted(alloc: Global, parts: &[Vec<u8>]) -> Result<String> {
+    let key: KeyData = decode_whole(alloc, part(parts, 0))?;
+    answer(alloc, verify(alloc, &key, parts))
+}
+
+fn verify(alloc: Global, key: &KeyData, parts: &[Vec<u8>]) -> Result<()> {
+    let signature = Signature::from_bytes(alloc, part(parts, 2))?;
+    key.verify(alloc, part(parts, 1), &signature, &AcceptAll)
+}
+
+fn answer(alloc: Global, verified: Result<()>) -> Result<String> {
+    match verified {
+        Ok(()) => Ok(String::from_str(alloc, "accepted")?),
+        Err(Error::AlgorithmUnsupported { algorithm }) => {
+            Ok(format!(in alloc; "not asked under {algorithm}")?)
+        }
+        Err(error) => Err(error),
+    }
+}
+
+/// Whether the same key as a slice accepts the same signature as a slice.
+pub(crate) fn accepted_slice(alloc: Global, parts: &[Vec<u8>]) -> Result<String> {
+    let accepts = accepts_slice(alloc, parts)?;
+    Ok(String::from_str(alloc, if accepts { "accepted" } else { "refused" })?)
+}
+
+pub(crate) fn accepts_slice(alloc: Global, parts: &[Vec<u8>]) -> Result<bool> {
+    let key = KeyDataRef::from_bytes(part(parts, 0))?;
+    let signature = SignatureRef::from_bytes(part(parts, 2))?;
+    Ok(key.accepts(alloc, part(parts, 1), &signature, &AcceptAll)?)
+}

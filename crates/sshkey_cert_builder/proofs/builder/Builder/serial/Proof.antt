@@ -1,0 +1,31 @@
+-- `serial` hands back the builder that `chain_serial` answers. Assumes `Logic`.
+use Rattle.sshkey_cert_builder.proofs.Chained.{refl, [], ◌∷◌, named, w64, tables, raw, ◌$◌, ◌∵◌, !, qed, move, join, fjoin, suffices, frame, done, stop, addr, returns, enter, and_then, no_more, alloc_all, pass_all, free_all, look_at, get, through, sets, lands_as, RefMutOf, u64, no, yes, uint_vals, uint_Tells, mut_vals, mut_Tells, plain, nothing, calls_at, lasts, triple_of, framed, Stays, stay_dropped, ends_at, Goes-dropped, Goes-spent_ref, proved, ChainsAlways, R, Said, answered, hands_back}
+use Rattle.sshkey_cert_builder.specs.contracts.builder.Builder.serial as F
+use Rattle.sshkey_cert_builder.specs.contracts.builder.Builder.chain_serial as g
+use Rattle.sshkey_cert_builder.proofs.builder.Builder.chain_serial.Met as g_met
+use Rattle.sshkey_cert_builder.proofs.builder.Builder.serial.Statement.{statement}
+use Rattle.sshkey_cert_builder.proofs.builder.Builder.serial.Code as code
+use Rattle.sshkey_model.specs.Drafts.{Serial}
+
+abbrev stayed : Stays F.ended.signature.params F.ended.kept
+stayed = (stay_dropped (RefMutOf (0 ∷ []) tt (plain (λ _. R)) (λ _. tt)) no, (stay_dropped (plain (λ _. u64)) yes, tt))
+
+pub serial_spec : {M : Type 1} → statement M
+serial_spec 𝓤 𝓛 𝓜 𝓡 wired =
+    let c = F.clauses 𝓛 𝓜.mem 𝓡.returns in let called = framed 𝓤 𝓛.H 𝓜 (tables 𝓤 𝓛.H 𝓜 𝓡 𝓡.env) in
+    proved 𝓛 F.ended stayed c 𝓜 𝓡 (Goes-spent_ref 𝓛 1 (0 ∷ []) tt (plain (λ _. R)), (Goes-dropped 𝓛 1 (plain (λ _. u64)) yes (λ κs x f. refl), tt))
+    F.Key.name code.function (code.unfolded 𝓤 𝓛.H 𝓜 𝓡 wired)
+    (λ κs. (mut_vals, (uint_vals w64, tt))) (λ κs. (mut_Tells (named 0) κs.0 R, (uint_Tells w64, tt))) (λ κs qs bounds a n are.
+    let s = a.0 in
+    let said = Said 𝓛 s (ChainsAlways (Serial a.1.0) s.now) in
+    let G = triple_of 𝓛 g.signature (g.spec 𝓛 𝓜.mem 𝓡.returns) in
+    let z : G.Ghost = ((κs, qs, bounds, a, (mut_vals s, (uint_vals w64 a.1.0, tt))), n) in
+    qed 𝓛 (raw (G.pre z) ∷ []) ∵ enter ! _ _ _ _ _ $
+    alloc_all ! (λ l. pass_all ! refl ((tt, tt), ((tt, record { fits = are.1.0.1 }), tt)) $
+    sets ! (addr ! (through ! refl (stop !))) refl (tt, tt) $
+    calls_at ! called G (g_met.met 𝓤 𝓛 𝓜 𝓡 (code.calls-sshkey_cert_builder::builder::Builder::chain_serial 𝓡.env wired)) z (and_then ! (get ! refl) (and_then ! (get ! refl) (no_more !))) (λ v.
+    answered 𝓛 𝓜 𝓡 κs qs said (lasts g.ended κs a) v ! tt (λ h typed. lands_as ! refl refl typed.0 $
+    hands_back 𝓛 𝓜 𝓡 κs qs said h v ! (code.calls-sshkey_cert_builder::builder::chain::hand_back 𝓡.env wired) (and_then ! (get ! refl) (no_more !)) (λ u r fits. lands_as ! refl refl fits.0 $
+    returns ! (look_at ! 0 refl) $ free_all ! refl $
+    suffices ! _ (ends_at 𝓛 F.ended stayed c z u r (tt, (tt, tt)) (tt, (tt, tt))) $
+    nothing ! $ nothing ! $ fjoin ! $ nothing ! $ fjoin ! $ join ! $ move ! (1 ∷ 0 ∷ []) $ join ! $ frame ! $ done !)))))

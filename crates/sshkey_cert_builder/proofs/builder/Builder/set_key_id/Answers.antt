@@ -1,0 +1,10 @@
+use Rattle.std.proofs.Common.{sym, ◌∙◌, refl}
+use Rattle.sshkey_model.specs.Drafts.{KeyIdField}
+use Rattle.sshkey_cert_builder.proofs.Steps.{once_taken, once_refused}
+use Rattle.sshkey_cert_builder.proofs.builder.Builder.set_key_id.Goals as goal
+
+pub returns-then-is_some-clause-step : goal.returns-then-is_some-clause-step
+returns-then-is_some-clause-step c = (refl, once_refused KeyIdField _ _ (sym c.is_some.ensures ∙ c.if-is_some.true))
+
+pub returns-clause-step : goal.returns-clause-step
+returns-clause-step c = rw c.new.ensures (once_taken KeyIdField _ _ (sym c.is_some.ensures ∙ c.if-is_some.false))

@@ -1,0 +1,23 @@
+//! A law of what a certificate's signature is over: it stands for all values, and makes no call.
+
+ghost use Rattle.sshkey_base.specs.Comparisons.{EqualMeanSame, IsEqualityAmong};
+ghost use Rattle.sshkey_cert_fields.specs.Comparisons.{HasKeys, IsOrderOfFields};
+ghost use Rattle.sshkey_cert_fields.specs.ToBeSignedValues.{to_be_signed_of};
+
+use crate::to_be_signed::ToBeSigned;
+use sshkey_keys::laws::compared_keys;
+use sshkey_cert_values::laws::{compared_ends, compared_options, compared_times, compared_types};
+
+/// Two that are equal mean the same, and with well-formed keys two are equal exactly if they do.
+/// They are ordered by the first field that differs, from the nonce on; options as their lists.
+pub fn compared_signed_fields()
+    ensures equal { IsEqualityAmong HasKeys to_be_signed_of ⟦<ToBeSigned as PartialEq>⟧.eq }
+    ensures same { EqualMeanSame to_be_signed_of ⟦<ToBeSigned as PartialEq>⟧.eq }
+    ensures ordered { IsOrderOfFields ⟦<ToBeSigned as Ord>⟧.cmp }
+{
+    compared_keys();
+    compared_types();
+    compared_times();
+    compared_ends();
+    compared_options();
+}

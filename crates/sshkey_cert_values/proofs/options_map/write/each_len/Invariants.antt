@@ -1,0 +1,5 @@
+use Rattle.sshkey_cert_values.proofs.WrittenOptions.{HasLen}
+use Rattle.sshkey_cert_values.proofs.options_map.write.each_len.Given as goal
+
+abbrev pub invariant-loop-name : goal.invariant-loop-name
+invariant-loop-name l = HasLen l.options.0.entries l.name-iterator l.len

@@ -1,0 +1,5 @@
+use Rattle.sshkey_entries.proofs.OneHost.{one_hosts}
+use Rattle.sshkey_entries.proofs.laws.one_hosts.Goals as goal
+
+pub returns : goal.returns
+returns c = one_hosts

@@ -1,0 +1,5 @@
+use Rattle.sshkey_entries.proofs.OneOption.{one_options}
+use Rattle.sshkey_entries.proofs.laws.one_key_options.Goals as goal
+
+pub returns : goal.returns
+returns c = one_options

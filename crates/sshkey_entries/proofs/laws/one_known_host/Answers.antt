@@ -1,0 +1,5 @@
+use Rattle.sshkey_entries.proofs.OneHost.{one_host}
+use Rattle.sshkey_entries.proofs.laws.one_known_host.Goals as goal
+
+pub returns : goal.returns
+returns c = one_host

@@ -1,0 +1,60 @@
+-- Worked examples, on both sides of each edge.
+use Rattle.std.specs.Prelude.{◌≡◌, ℕ, List, [], ◌∷◌, ◌++◌, true, false, filter, codes}
+use Rattle.sshkey_model.specs.HexText.{hex}
+use Rattle.sshkey_model.specs.PrivateKeys.{rising}
+use Rattle.sshkey_entries.specs.ConfigOptions.{is_option_character}
+use Rattle.sshkey_entries.specs.Entries.{entries}
+use Rattle.sshkey_entries.specs.Items.{items, patterns}
+use Rattle.sshkey_entries.specs.KnownHosts.{hashed_text}
+use Rattle.sshkey_entries.specs.StrictReading.{is_inside}
+
+abbrev line_end : List ℕ
+line_end = 10 ∷ []
+
+-- one on each line, with or without a line end at the last; a carriage return before a line end is
+-- cut
+abbrev pub Lines : Type 0
+Lines = (entries (codes "a" ++ line_end ++ codes "b") ≡ codes "a" ∷ codes "b" ∷ [])
+    × (entries (codes "a" ++ (13 ∷ 10 ∷ codes "b") ++ line_end) ≡ codes "a" ∷ codes "b" ∷ [])
+    × (entries [] ≡ [])
+
+-- A comment is cut, wherever its `#` stands, and white space before it and at the end, also a
+-- no-break space; at the front it stays. What is empty then is no entry.
+abbrev pub Cuts : Type 0
+Cuts = (entries (codes "a #b#c") ≡ codes "a" ∷ [])
+    × (entries (codes "#a" ++ line_end ++ (32 ∷ 9 ∷ []) ++ line_end ++ line_end ++ codes "b") ≡ codes "b" ∷ [])
+    × (entries (codes "  a  ") ≡ codes "  a" ∷ [])
+    × (entries (codes "a" ++ hex "c2a0") ≡ codes "a" ∷ [])
+    × (entries (codes "\"a#b\" c") ≡ codes "\"a" ∷ [])
+
+-- A quoted comma parts nothing, quotes may stay open, and only a last empty item is left out.
+abbrev pub Items : Type 0
+Items = (items (codes "foo=\"bar,baz\"") ≡ codes "foo=\"bar,baz\"" ∷ [])
+    × (items (codes "a,b") ≡ codes "a" ∷ codes "b" ∷ [])
+    × (items (codes "a\"b\"c,d") ≡ codes "a\"b\"c" ∷ codes "d" ∷ [])
+    × (items (codes "a\"b,c") ≡ codes "a\"b,c" ∷ [])
+    × (items (codes "a,") ≡ codes "a" ∷ [])
+    × (items (codes "a,,b") ≡ codes "a" ∷ [] ∷ codes "b" ∷ [])
+    × (items (codes ",") ≡ [] ∷ [])
+    × (items [] ≡ [])
+
+-- the same without quotes
+abbrev pub Patterns : Type 0
+Patterns = (patterns (codes "cvs.example.net,!test.example.???,[*.example.net]:999") ≡ codes "cvs.example.net" ∷ codes "!test.example.???" ∷ codes "[*.example.net]:999" ∷ [])
+    × (patterns (codes "\"a,b\",") ≡ codes "\"a" ∷ codes "b\"" ∷ [])
+    × (patterns (codes ",") ≡ [] ∷ [])
+
+-- Of all bytes, those that options may have.
+abbrev pub Characters : Type 0
+Characters = filter is_option_character (rising 0 256) ≡ codes "!\"#$%&'()*+,-./0123456789:;<=>?@ABCDEFGHIJKLMNOPQRSTUVWXYZ[\\]^_abcdefghijklmnopqrstuvwxyz{|}~"
+
+-- a hashed name
+abbrev pub HashedName : Type 0
+HashedName = hashed_text (hex "25f29374187bacd6d7915010091a78390a0f7e62") (hex "512102af74967f52543ec9ace40a9f0f941fc643") ≡ codes "|1|JfKTdBh7rNbXkVAQCRp4OQoPfmI=|USECr3SWf1JUPsms5AqfD5QfxkM="
+
+-- The first space of the first line is quoted, and that of the others is not: a quote behind a
+-- backslash is none.
+abbrev pub Quoted : Type 0
+Quoted = (is_inside (codes "c=\"x ssh-rsa A y\" ssh-rsa B z") 4 ≡ true)
+    × (is_inside (codes "c=\"x\" ssh-rsa B z") 5 ≡ false)
+    × (is_inside (codes "c=\\\"x ssh-rsa B z") 5 ≡ false)

@@ -1,0 +1,52 @@
+-- Fields of a line, and a key in them: spaces or tabs stand between (sshd(8), "AUTHORIZED_KEYS FILE
+-- FORMAT" and "SSH_KNOWN_HOSTS FILE FORMAT").
+use Rattle.std.specs.Prelude.{◌≡◌, ◌⊎◌, ℕ, List, [], ◌++◌, slice_index, EachIndex, Bool, true, false, not, ◌&&◌, map, filter}
+use Rattle.std.specs.Str.Lines.{lines}
+use Rattle.base64.specs.Engines.{standard}
+use Rattle.base64.specs.GeneralPurpose.{encode_of}
+use Rattle.sshkey_model.specs.Grammar.{SpellsWith}
+use Rattle.sshkey_model.specs.Keys.{Key, IsKey, HasKeyPlaces, key}
+use Rattle.sshkey_model.specs.Lines.{key_name}
+use Rattle.sshkey_entries.specs.Entries.{is_hash, is_some_text}
+use Rattle.sshkey_entries.specs.Fronts.{without_front}
+use Rattle.sshkey_entries.specs.StrictReading.{is_blank}
+
+-- the text without the spaces and tabs at its front
+abbrev pub without_blanks : List ℕ → List ℕ
+without_blanks = without_front is_blank
+
+-- No space and no tab stands in it.
+abbrev pub IsField : List ℕ → Type 0
+IsField text = EachIndex text (λ i. is_blank (slice_index text i) ≡ false)
+
+-- A field ends here: nothing follows, or a space or tab.
+abbrev pub EndsField : List ℕ → Type 0
+EndsField text = (text ≡ []) ⊎ (is_blank (slice_index text 0) ≡ true)
+
+-- The text is the name of the key's algorithm, the key in Base64 and a comment, which is all that
+-- follows.
+pub record AreKeyFields (text : List ℕ) (k : Key) (comment : List ℕ) : Type 0 where
+  pub blob : List ℕ
+  pub behind_name : List ℕ
+  pub behind_key : List ℕ
+  pub is : text ≡ key_name k ++ behind_name
+  pub one_word : IsField (key_name k)
+  pub name_ends : EndsField behind_name
+  pub word : without_blanks behind_name ≡ encode_of standard blob ++ behind_key
+  pub spelled : SpellsWith IsKey HasKeyPlaces key k blob
+  pub key_ends : EndsField behind_key
+  pub comment_is : comment ≡ without_blanks behind_key
+
+-- No key's fields stand at the front.
+abbrev pub AreNoKeyFields : List ℕ → Type 0
+AreNoKeyFields text = (k : Key) (comment : List ℕ) → AreKeyFields text k comment → ⊥
+
+-- ---- the lines of a file
+
+-- some text that no `#` begins
+abbrev pub is_filled : List ℕ → Bool
+is_filled text = is_some_text text && not (is_hash (slice_index text 0))
+
+-- the lines without the blanks at their front, but for those that are empty then, and comments
+abbrev pub filled_lines : List ℕ → List (List ℕ)
+filled_lines text = filter is_filled (map without_blanks (lines text))

@@ -1,0 +1,59 @@
+-- What the lines of known_hosts say of a host's key (sshd(8), "SSH_KNOWN_HOSTS FILE FORMAT";
+-- ssh(1), "VERIFYING HOST KEYS").
+use Rattle.std.specs.Prelude.{◌≡◌, ℕ, List, [], ◌∷◌, ◌++◌, Option, Some, None}
+use Rattle.std.specs.List.{Any}
+use Rattle.sshkey_model.specs.Keys.{Key}
+use Rattle.sshkey_model.specs.Lines.{IsWithout}
+use Rattle.sshkey_entries.specs.Entries.{IsNoEntry}
+use Rattle.sshkey_entries.specs.Fields.{without_blanks, IsField, EndsField}
+use Rattle.sshkey_entries.specs.HostNames.{AreFor}
+use Rattle.sshkey_entries.specs.KnownHosts.{Marker, Revoked, CertAuthority, Hosts, IsHosts, KnownHost}
+use Rattle.sshkey_entries.specs.OpenSshLines.{IsMarkedLine, IsHostLine}
+
+-- The line is an entry with that marker or none, that key, and hosts that are for the name.
+pub record Lists (hmac : List ℕ → List ℕ → List ℕ) (name : List ℕ) (marker : Option Marker) (key : Key) (line : List ℕ) : Type 0 where
+  pub entry : KnownHost
+  pub read : IsHostLine line entry
+  pub marker_is : entry.marker ≡ marker
+  pub key_is : entry.key ≡ key
+  pub is_for : AreFor hmac name entry.hosts
+
+-- Hosts stand in the line, behind a marker or none, and they are not for the name. No byte is 0,
+-- where ssh takes the hosts to end.
+pub record IsForOthers (hmac : List ℕ → List ℕ → List ℕ) (name line : List ℕ) : Type 0 where
+  pub no_zero : IsWithout 0 line
+  pub marker : Option Marker
+  pub hosts_part : List ℕ
+  pub behind : List ℕ
+  pub hosts : Hosts
+  pub marked : IsMarkedLine marker (without_blanks line) (hosts_part ++ behind)
+  pub one_word : IsField hosts_part
+  pub ends : EndsField behind
+  pub are : IsHosts hosts_part hosts
+  pub not_for : AreFor hmac name hosts → ⊥
+
+-- The line is no entry, and may have been one for the name.
+abbrev pub HidesEntry : (List ℕ → List ℕ → List ℕ) → List ℕ → List ℕ → Type 0
+HidesEntry hmac name line = IsNoEntry IsHostLine line × (IsForOthers hmac name line → ⊥)
+
+-- ---- of all lines
+
+-- One of the lines revokes the key.
+abbrev pub IsRevoked : (List ℕ → List ℕ → List ℕ) → List ℕ → Key → List (List ℕ) → Type 0
+IsRevoked hmac name key = Any (Lists hmac name (Some Revoked) key)
+
+-- One of them has the key, without a marker.
+abbrev pub IsListed : (List ℕ → List ℕ → List ℕ) → List ℕ → Key → List (List ℕ) → Type 0
+IsListed hmac name key = Any (Lists hmac name None key)
+
+-- One of them has some key, without a marker.
+abbrev pub IsKnown : (List ℕ → List ℕ → List ℕ) → List ℕ → List (List ℕ) → Type 0
+IsKnown hmac name = Any (λ line. (key : Key) × Lists hmac name None key line)
+
+-- One of them is no entry, and may have been one for the name.
+abbrev pub HidesSome : (List ℕ → List ℕ → List ℕ) → List ℕ → List (List ℕ) → Type 0
+HidesSome hmac name = Any (HidesEntry hmac name)
+
+-- One of them has the key, as that of an authority, which signs the keys of hosts.
+abbrev pub IsAuthority : (List ℕ → List ℕ → List ℕ) → List ℕ → Key → List (List ℕ) → Type 0
+IsAuthority hmac name key = Any (Lists hmac name (Some CertAuthority) key)

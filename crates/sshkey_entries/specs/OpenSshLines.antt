@@ -1,0 +1,50 @@
+-- The lines of authorized_keys and known_hosts as OpenSSH reads them (sshd(8), "AUTHORIZED_KEYS
+-- FILE FORMAT" and "SSH_KNOWN_HOSTS FILE FORMAT"): a line that begins with a `#` is a comment, and
+-- fields are separated by spaces or tabs, of which some may stand in front.
+use Rattle.std.specs.Prelude.{◌≡◌, ◌≢◌, ◌⊎◌, ℕ, List, [], ◌++◌, length, slice_index, Option, Some, None}
+use Rattle.sshkey_model.specs.Lines.{IsWithout}
+use Rattle.sshkey_entries.specs.AuthorizedKeys.{AuthorizedKey}
+use Rattle.sshkey_entries.specs.Entries.{hash}
+use Rattle.sshkey_entries.specs.Fields.{without_blanks, IsField, EndsField, AreKeyFields, AreNoKeyFields}
+use Rattle.sshkey_entries.specs.KnownHosts.{Marker, marker_text, at_sign, IsHosts, KnownHost}
+use Rattle.sshkey_entries.specs.StrictReading.{EndsOptions}
+
+-- ---- authorized_keys
+
+-- The text is a key's fields; there are no options.
+pub record IsKeyAlone (text : List ℕ) (a : AuthorizedKey) : Type 0 where
+  pub options : a.options ≡ []
+  pub fields : AreKeyFields text a.key a.comment
+
+-- The text begins with no key. It is options, which end at the first space or tab outside quotes,
+-- and a key's fields.
+pub record IsBehindOptions (text : List ℕ) (a : AuthorizedKey) : Type 0 where
+  pub rest : List ℕ
+  pub is : text ≡ a.options ++ rest
+  pub ends : EndsOptions text (length a.options)
+  pub fields : AreKeyFields (without_blanks rest) a.key a.comment
+  pub no_key : AreNoKeyFields text
+
+pub record IsAuthorizedLine (line : List ℕ) (a : AuthorizedKey) : Type 0 where
+  pub no_comment : slice_index (without_blanks line) 0 ≢ hash
+  pub is : IsKeyAlone (without_blanks line) a ⊎ IsBehindOptions (without_blanks line) a
+
+-- ---- known_hosts
+
+-- one marker before the rest, which is a field of its own; or none, and then no at sign at the
+-- front
+abbrev pub IsMarkedLine : Option Marker → List ℕ → List ℕ → Type 0
+IsMarkedLine None text rest = (text ≡ rest) × (slice_index text 0 ≢ at_sign)
+IsMarkedLine (Some m) text rest = (behind : List ℕ) × (text ≡ marker_text m ++ behind) × EndsField behind × (rest ≡ without_blanks behind) × (slice_index rest 0 ≢ at_sign)
+
+-- A marker or none, hosts, and a key's fields. No byte is 0, where ssh takes the hosts to end.
+pub record IsHostLine (line : List ℕ) (h : KnownHost) : Type 0 where
+  pub no_zero : IsWithout 0 line
+  pub hosts_part : List ℕ
+  pub behind_hosts : List ℕ
+  pub no_comment : slice_index (without_blanks line) 0 ≢ hash
+  pub marked : IsMarkedLine h.marker (without_blanks line) (hosts_part ++ behind_hosts)
+  pub one_word : IsField hosts_part
+  pub hosts_end : EndsField behind_hosts
+  pub hosts : IsHosts hosts_part h.hosts
+  pub fields : AreKeyFields (without_blanks behind_hosts) h.key h.comment

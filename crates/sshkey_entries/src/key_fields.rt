@@ -1,0 +1,47 @@
+//! A key in the fields of a line.
+
+ghost use Rattle.std.specs.Prelude.{◌≡◌, ◌↔◌, IsTrue};
+ghost use Rattle.sshkey_entries.specs.Answers.{RefusesFor};
+ghost use Rattle.sshkey_keys.specs.Keys.{key_of};
+ghost use Rattle.sshkey_model.specs.Lines.{key_name};
+ghost use Rattle.sshkey_entries.specs.KeyFields.{AsksKeyFields, HasKeyFault, ReadsKeyFields};
+
+use crate::blanks::{skip_blanks, split_field};
+use sshkey_base::{Error, Result, encoding};
+use sshkey_keys::KeyData;
+use sshkey_public::{PublicKey, copy_of_text, read_word};
+use std::alloc::Global;
+
+fn is_named(key: &KeyData, name: &str) -> bool
+    ensures { IsTrue result ↔ (name.now ≡ key_name (key_of key.now)) }
+{
+    name == key.algorithm_name()
+}
+
+/// Reads a key's fields: the name of its algorithm, the key in padded Base64, and a comment, which
+/// is all that follows. Spaces or tabs stand between.
+///
+/// Unless memory runs out, it fails exactly if the text is the fields of no key: `Length` where the
+/// Base64 is missing, the errors of `sshkey_public::read_word`, and `AlgorithmUnknown` where the
+/// first field is not the name of the key that the Base64 spells.
+///
+/// `Memory` means that the second field is canonical Base64 and an allocation for the key in it
+/// failed, or for the comment, if that is not empty, of a text that is a key's fields. A length
+/// that the key's bytes only state allocates nothing.
+pub fn read_key_fields(alloc: Global, text: &str) -> Result<PublicKey>
+    ensures reads { ReadsKeyFields text.now result }
+    ensures fault { RefusesFor HasKeyFault text.now result }
+    ensures asks { AsksKeyFields text.now result }
+{
+    let (name, behind_name) = split_field(text);
+    let (word, behind_key) = split_field(skip_blanks(behind_name));
+    if word.is_empty() {
+        return Err(Error::Encoding(encoding::Error::Length));
+    }
+    let key_data: KeyData = read_word(alloc, word)?;
+    if !is_named(&key_data, name) {
+        return Err(Error::AlgorithmUnknown);
+    }
+    let comment = copy_of_text(alloc, skip_blanks(behind_key))?;
+    Ok(PublicKey::new(key_data, comment))
+}

@@ -1,0 +1,25 @@
+use Rattle.std.proofs.Common.{Some, [], refl, subst, ◌++◌, ◌∷◌}
+use Rattle.sshkey_authorized_keys.specs.OpenSshItems.{YieldsOption, key_option_of}
+use Rattle.sshkey_authorized_keys.proofs.FoundOptions.{behind_all, behind_one}
+use Rattle.sshkey_authorized_keys.proofs.OptionCuts.{some_before}
+use Rattle.sshkey_authorized_keys.proofs.YieldedOptions.{no_options}
+use Rattle.sshkey_entry_calls.proofs.Counted.{counted, numbered}
+use Rattle.sshkey_entry_calls.proofs.options.option_at.Goals as goal
+
+pub loop-option-preserved : goal.loop-option-preserved
+loop-option-preserved c =
+    let was = c.loop-option.invariant.2 in
+    let step = subst (λ r. YieldsOption c.loop-option.option-iterator (Some r) c.next.new.self) c.in-Ok.is c.in-Some.ensures.steps in (
+      tt,
+      tt,
+      (was.0 ++ (key_option_of c.in-Ok.option ∷ []), behind_one _ c.loop-option.option-iterator _ _ was.0 _ was.1 refl step, counted c.args.number was.0 c.loop-option.found c.loop-option.passing c.in-Ok.option _ _ was.2 c.count_on-counted.ensures.before c.count_on-counted.ensures.now c.count_on-counted.ensures.later),
+      λ h. some_before c.loop-option.option-iterator _ _ _ refl step (c.loop-option.invariant.3 h),
+    )
+
+pub returns : goal.returns
+returns c = let was = c.loop-option.invariant.2 in (was.0, behind_all _ c.loop-option.option-iterator was.0 was.1 c.in-None.ensures.steps.0, numbered c.args.number was.0 c.loop-option.found c.loop-option.passing was.2)
+
+pub returns-in-Err : goal.returns-in-Err
+returns-in-Err c =
+    let step = subst (λ r. YieldsOption c.loop-option.option-iterator (Some r) c.next.new.self) c.in-Err.is c.in-Some.ensures.steps in
+    (step.0, λ h. no_options c.loop-option.option-iterator step.1 step.2 (c.loop-option.invariant.3 h))

@@ -1,5 +1,0 @@
-use Rattle.sshkey_files.proofs.OneOpenSshLine.{one_host_line}
-use Rattle.sshkey_files.proofs.laws.one_host_line.Goals as goal
-
-pub returns : goal.returns
-returns c = one_host_line

@@ -1,5 +1,0 @@
-use Rattle.sshkey_files.proofs.OneHost.{one_hosts}
-use Rattle.sshkey_files.proofs.laws.one_hosts.Goals as goal
-
-pub returns : goal.returns
-returns c = one_hosts

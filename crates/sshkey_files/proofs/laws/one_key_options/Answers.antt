@@ -1,5 +1,0 @@
-use Rattle.sshkey_files.proofs.OneOption.{one_options}
-use Rattle.sshkey_files.proofs.laws.one_key_options.Goals as goal
-
-pub returns : goal.returns
-returns c = one_options

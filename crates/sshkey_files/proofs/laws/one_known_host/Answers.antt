@@ -1,5 +1,0 @@
-use Rattle.sshkey_files.proofs.OneHost.{one_host}
-use Rattle.sshkey_files.proofs.laws.one_known_host.Goals as goal
-
-pub returns : goal.returns
-returns c = one_host

@@ -1,6 +1,0 @@
-use Rattle.sshkey_model.proofs.Grammars.{one_front}
-use Rattle.sshkey_options.specs.OptionReaders.{options_grammar}
-use Rattle.sshkey_options.proofs.laws.one_options.Goals as goal
-
-pub returns : goal.returns
-returns c = one_front options_grammar

@@ -1,5 +1,0 @@
-use Rattle.sshkey_options.proofs.OptionPairs.{copied}
-use Rattle.sshkey_options.proofs.options_map.OptionsMap.try_clone.Goals as goal
-
-pub returns-clause-value : goal.returns-clause-value
-returns-clause-value c = copied _ _ c.in_ok-clone.ensures.cases

@@ -1,5 +1,0 @@
-use Rattle.sshkey_options.proofs.WrittenOptions.{HasLen}
-use Rattle.sshkey_options.proofs.options_map.write.each_len.Given as goal
-
-abbrev pub invariant-loop-name : goal.invariant-loop-name
-invariant-loop-name l = HasLen l.options.0.entries l.name-iterator l.len

@@ -1,5 +1,0 @@
-use Rattle.sshkey_options.proofs.WrittenOptions.{Decides}
-use Rattle.sshkey_options.proofs.options_map.write.encode_each.Given as goal
-
-abbrev pub invariant-loop-name : goal.invariant-loop-name
-invariant-loop-name g l = Decides l.options.0.entries g.W.Writer.fault l.name-iterator (g.W.Writer.sink l.fn.writer) (g.W.Writer.sink l.writer)

@@ -1,0 +1,3 @@
+pub mod Halves
+mod HeldOrders
+pub mod SignedScalars

@@ -1,0 +1,7 @@
+pub mod PairReaders
+pub mod PairFormats
+pub mod PrivateHalves
+pub mod Pairs
+pub mod SkEcdsaSha2NistP256
+pub mod SkEd25519
+pub mod SecurityPairs

@@ -1,0 +1,42 @@
+-- What each kind of pair means.
+use Rattle.std.specs.Prelude.{ℕ, List, ◌==◌, length, take, drop, Ok, Err, if◌then◌else◌}
+use Rattle.sshkey_model.specs.Reading.{Whole, Length}
+use Rattle.sshkey_model.specs.Names.{Curve, Nistp256, Nistp384, Nistp521}
+use Rattle.sshkey_model.specs.KeyPairs.{KeyPair, DsaPair, EcdsaPair, Ed25519Pair, RsaPair}
+use Rattle.sshkey_base.specs.Mpint.{mpint_of}
+use Rattle.sshkey_kinds.specs.EcPoint.{point_of}
+use Rattle.sshkey_pair_kinds.specs.declared.dsa.DsaKeypair.{DsaKeypair}
+use Rattle.sshkey_pair_kinds.specs.declared.rsa.RsaKeypair.{RsaKeypair}
+use Rattle.sshkey_pair_kinds.specs.declared.ecdsa.EcdsaKeypair.{EcdsaKeypair}
+use Rattle.sshkey_pair_kinds.specs.declared.ecdsa.EcdsaKeypair.TheVariants as on
+use Rattle.sshkey_pair_kinds.specs.declared.ed25519.Ed25519Keypair.{Ed25519Keypair}
+use Rattle.sshkey_pair_kinds.specs.PrivateHalves.{dsa_private_of, ecdsa_private_of, ed25519_private_of, rsa_private_of}
+
+abbrev pub dsa_pair_of : DsaKeypair → KeyPair
+dsa_pair_of k = DsaPair (record { p = mpint_of k.public.p; q = mpint_of k.public.q; g = mpint_of k.public.g; y = mpint_of k.public.y }) (dsa_private_of k.private)
+
+abbrev pub rsa_pair_of : RsaKeypair → KeyPair
+rsa_pair_of k = RsaPair (record { e = mpint_of k.public.e; n = mpint_of k.public.n }) (rsa_private_of k.private)
+
+abbrev pub ecdsa_pair_of : EcdsaKeypair → KeyPair
+ecdsa_pair_of (on.NistP256 public private) = EcdsaPair Nistp256 (point_of public) (ecdsa_private_of private)
+ecdsa_pair_of (on.NistP384 public private) = EcdsaPair Nistp384 (point_of public) (ecdsa_private_of private)
+ecdsa_pair_of (on.NistP521 public private) = EcdsaPair Nistp521 (point_of public) (ecdsa_private_of private)
+
+abbrev pub ecdsa_curve_of : EcdsaKeypair → Curve
+ecdsa_curve_of (on.NistP256 public private) = Nistp256
+ecdsa_curve_of (on.NistP384 public private) = Nistp384
+ecdsa_curve_of (on.NistP521 public private) = Nistp521
+
+-- the point string
+abbrev pub ecdsa_point_of : EcdsaKeypair → List ℕ
+ecdsa_point_of (on.NistP256 public private) = point_of public
+ecdsa_point_of (on.NistP384 public private) = point_of public
+ecdsa_point_of (on.NistP521 public private) = point_of public
+
+abbrev pub ed25519_pair_of : Ed25519Keypair → KeyPair
+ed25519_pair_of k = Ed25519Pair k.public.0 (ed25519_private_of k.private)
+
+-- 32 private bytes and the public ones behind them, if there are 64
+abbrev pub ed25519_pair_from : Whole KeyPair
+ed25519_pair_from b = if length b == 64 then Ok (Ed25519Pair (drop 32 b) (take 32 b)) else Err Length

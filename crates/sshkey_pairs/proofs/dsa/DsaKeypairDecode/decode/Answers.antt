@@ -1,6 +1,0 @@
-use Rattle.sshkey_format.proofs.Mapped.{mapped_handed}
-use Rattle.sshkey_pairs.specs.PairFormats.{dsa_pair_parts_read}
-use Rattle.sshkey_pairs.proofs.dsa.DsaKeypairDecode.decode.Goals as goal
-
-pub returns-in_err-public-clause-gives : goal.returns-in_err-public-clause-gives
-returns-in_err-public-clause-gives g c = mapped_handed _ _ _ _ _ _ _ _ _ c.from_residual.ensures.1 dsa_pair_parts_read c.in_err-public.ensures.gives

@@ -1,5 +1,0 @@
-use Rattle.sshkey_pairs.proofs.HeldOrders.{parts_in_order}
-use Rattle.sshkey_pairs.proofs.laws.ordered_sk_ed25519_pairs.Goals as goal
-
-pub returns : goal.returns
-returns c x y = parts_in_order x.held y.held _ _ _ (c.compared_sk_ed25519_keys.ensures.ordered x.public y.public)

@@ -1,0 +1,110 @@
+-- A loop that reads so many values, one behind the other.
+use Rattle.std.proofs.Common.{◌≡◌, inr, IsOk, ◌≤◌, ◌<◌, ◌-◌, ℕ, suc, List, [], ◌∷◌, ◌++◌, append-nil, append_assoc, length, Result, Ok, Err, refl, sym, ap, ◌∙◌, arith}
+use Rattle.std.proofs.lemmas.List.{length-append}
+use Rattle.std.proofs.lemmas.Result.{err_from_is_err_and}
+use Rattle.sshkey_model.specs.Reading.{Fault, ◌>>=◌, Front}
+use Rattle.sshkey_model.proofs.CombinedReaders.{ok_is}
+use Rattle.sshkey_base.specs.Causes.{Cause}
+use Rattle.sshkey_base.specs.Formats.{Format}
+use Rattle.sshkey_base.specs.Reading.{Reads, IsRefused}
+use Rattle.sshkey_base.specs.Source.{Source}
+use Rattle.sshkey_base.specs.Stops.{NoOverrun, Stopped}
+use Rattle.sshkey_base.proofs.FirstValues.{Begun, needed, still_begun}
+use Rattle.sshkey_base.proofs.Stopping.{step_ok}
+use Rattle.sshkey_terms.specs.Counted.{NeedsValues, times_at}
+
+abbrev onto : {A : Type 0} → List A → List A × List ℕ → Result (List A × List ℕ) Fault
+onto done xs = Ok (done ++ xs.0, xs.1)
+
+module _ {A : Type 0} (f : Format A) where
+  abbrev item : Front A
+  item = f.read
+
+  abbrev delimited_at : Front A
+  delimited_at = f.grammar.delimited_at
+
+  same_step : (r : Result (List A × List ℕ) Fault) → r ≡ (r >>= onto [])
+  same_step (Ok xs) = refl
+  same_step (Err e) = refl
+
+  one_more : (k : ℕ) (b rest : List ℕ) (x : A) (done : List A) → item b ≡ Ok (x, rest) → (times_at item (suc k) b >>= onto done) ≡ (times_at item k rest >>= onto (done ++ x ∷ []))
+  unfolding times_at
+  one_more k b rest x done e = rw e (go (times_at item k rest))
+    where
+      go : (r : Result (List A × List ℕ) Fault) → ((r >>= λ xs. Ok (x ∷ xs.0, xs.1)) >>= onto done) ≡ (r >>= onto (done ++ x ∷ []))
+      go (Ok xs) = rw append_assoc refl
+      go (Err e) = refl
+
+  refused_step : (k : ℕ) (b : List ℕ) (e : Fault) (done : List A) → item b ≡ Err e → (times_at item (suc k) b >>= onto done) ≡ Err e
+  unfolding times_at
+  refused_step k b e done is = rw is refl
+
+  last_step : (b : List ℕ) (done : List A) → (times_at item 0 b >>= onto done) ≡ Ok (done, b)
+  unfolding times_at
+  last_step b done = rw append-nil refl
+
+  -- of values that end by themselves, the first one does, and those behind it
+  first_ok : (k : ℕ) (b : List ℕ) → IsOk (times_at delimited_at (suc k) b) → IsOk (delimited_at b)
+  unfolding times_at
+  first_ok k b ok = step_ok (delimited_at b) _ ok
+
+  rest_ok : (k : ℕ) (b rest : List ℕ) (x : A) → item b ≡ Ok (x, rest) → IsOk (times_at delimited_at (suc k) b) → IsOk (times_at delimited_at k rest)
+  unfolding times_at
+  rest_ok k b rest x e ok = go (delimited_at b) refl ok
+    where
+      go : (r : Result (A × List ℕ) Fault) → delimited_at b ≡ r → IsOk {T = List A × List ℕ} (r >>= λ y. times_at delimited_at k y.1 >>= λ ys. Ok (y.0 ∷ ys.0, ys.1)) → IsOk (times_at delimited_at k rest)
+      go (Ok y) is ok =
+          let same : y ≡ (x, rest) = ok_is y (x, rest) (sym (f.grammar.same b y is) ∙ e) in
+          let behind : rest ≡ y.1 = sym (ap (λ (p : A × List ℕ). p.1) same) in
+          rw behind (step_ok (times_at delimited_at k y.1) _ ok)
+      go (Err fault) is ok = absurd cc
+
+  -- The values so far stand before what is left, and those behind them decide.
+  pub record Gathers (n : ℕ) (s : Source) (done : List A) (t : Source) : Type 0 where
+    pub missing : t.missing ≡ s.missing
+    pub outer : t.outer ≡ s.outer
+    pub rest : times_at item n s.left ≡ (times_at item (n - length done) t.left >>= onto done)
+    pub begun : Begun item s t
+    pub delimits : IsOk (times_at delimited_at n s.left) → IsOk (times_at delimited_at (n - length done) t.left)
+
+  module _ (n : ℕ) (s t : Source) (done : List A) (h : Gathers n s done t) where
+    pub gathers_more : {X : Type 0} (means : X → A) (x : X) (u : Source) → length done < n → Reads means item t x u → Gathers n s (done ++ means x ∷ []) u
+    gathers_more means x u lt r =
+        let k = n - length (done ++ means x ∷ []) in
+        let is : n - length done ≡ suc k = omega (arith, length-append done (means x ∷ [])) in
+        let step : (times_at item (n - length done) t.left >>= onto done) ≡ (times_at item k u.left >>= onto (done ++ means x ∷ [])) = rw is (one_more k t.left u.left (means x) done r.value) in
+        record {
+          missing = r.missing ∙ h.missing;
+          outer = r.outer ∙ h.outer;
+          rest = h.rest ∙ step;
+          begun = inr (still_begun item s t h.begun means x u r);
+          delimits = λ ok. rest_ok k t.left u.left (means x) r.value (rw is at h.delimits ok);
+        }
+
+    pub gathers_end : {V : Type 0} (means : V → List A) (v : V) → means v ≡ done → n ≤ length done → Reads means (times_at item n) s v t
+    gathers_end means v is all =
+        let none : n - length done ≡ 0 = omega arith in
+        let step : (times_at item (n - length done) t.left >>= onto done) ≡ Ok (done, t.left) = rw none (last_step t.left done) in
+        record { value = rw is (h.rest ∙ step); missing = h.missing; outer = h.outer }
+
+    more : length done < n → n - length done ≡ suc (n - suc (length done))
+    more lt = omega arith
+
+    pub gathers_refused : (c : Cause) → length done < n → IsRefused t.missing c (item t.left) → IsRefused s.missing c (times_at item n s.left)
+    gathers_refused c lt r = record {
+      fault = λ other sound.
+          let m = h.missing in
+          let f = err_from_is_err_and (item t.left) (r.fault other (m ∙ sound)) in
+          let step : (times_at item (n - length done) t.left >>= onto done) ≡ Err f.0 = rw (more lt) (refused_step (n - suc (length done)) t.left f.0 done f.1) in
+          let e : times_at item n s.left ≡ Err f.0 = h.rest ∙ step in
+          rw e f.2;
+    }
+
+    pub gathers_stopped : (c : Cause) → length done < n → Stopped c delimited_at f.needs f.overruns t → Stopped c (times_at delimited_at n) (NeedsValues f n) NoOverrun s
+    gathers_stopped c lt k = record {
+      takes = λ ok.
+          let inner : IsOk (times_at delimited_at (suc (n - suc (length done))) t.left) = rw (more lt) at h.delimits ok in
+          let m = k.takes (first_ok (n - suc (length done)) t.left inner) in
+          record { memory = m.memory; needed = (omega arith, needed item s t h.begun f.needs m.needed) };
+      past = λ o. absurd o;
+    }
