@@ -1,4 +1,4 @@
-"""Logins at a real sshd that asks examples/c/authorized_keys by which lines it may let a key in, for checks/foreign. The judge is
+"""Logins at a real sshd that asks helpers/authorized_keys by which lines it may let a key in, for checks/foreign. The judge is
 the same sshd where it reads the files itself."""
 import base64
 import getpass

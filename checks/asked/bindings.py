@@ -1,4 +1,4 @@
-"""What a program in another language has to say that is written as examples/python/check.py is, over a binding of its language to
+"""What a program in another language has to say that is written as examples/check.py is, over a binding of its language to
 the library for C: what check.py says, what ssh-keygen judges, and the statuses that check.py promises.
 
     made = Made(folder, library)                                  # keys, certificates and signatures of ssh-keygen

@@ -273,10 +273,10 @@ def check_turned(count, built, sshkey, maker, fields, blob):
 
 
 def check_issued(count, built, sshkey, check, maker, is_verified):
-    """examples/python/issue.py issues what ssh-keygen reads and takes."""
+    """examples/issue.py issues what ssh-keygen reads and takes."""
     maker.key("issuer", "ed25519")
     maker.key("holder", "ed25519")
-    words = [sys.executable, os.path.join(EXAMPLES, "python", "issue.py"), maker.path("issuer"), maker.path("holder.pub")]
+    words = [sys.executable, os.path.join(EXAMPLES, "issue.py"), maker.path("issuer"), maker.path("holder.pub")]
     environment = {**os.environ, "SSHKEY_LIBRARY": f"{built.plain}/libsshkey.so"}
     issued = run([*words, "holder's key", "3600", "alice", "bob"], env=environment)
     count.check("issue.py issues a certificate", issued.returncode == 0 and not issued.stderr, issued.stderr[-2000:])

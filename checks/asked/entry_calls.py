@@ -288,7 +288,7 @@ def check_verdicts(count, built, sshkey, draw, folder, hosts):
 
 
 def check_example(count, folder, hosts):
-    """examples/python/host.py, over a file in which ssh-keygen hashed the names."""
+    """examples/host.py, over a file in which ssh-keygen hashed the names."""
     keys = hosts.made(folder)
     lines = [f"h.example,[h.example]:2222 {keys['ED25519']}", f"other.example {keys['RSA']}"]
     lines.append(f"@revoked h.example {keys['ECDSA']}")
@@ -296,7 +296,7 @@ def check_example(count, folder, hosts):
     run(["ssh-keygen", "-H", "-f", path])
     with open(path, encoding="ascii") as file:
         count.check("ssh-keygen hashed the names", "|1|" in file.read())
-    script = os.path.join(EXAMPLES, "python", "host.py")
+    script = os.path.join(EXAMPLES, "host.py")
     given = "".join(f"{key} comment\n" for key in keys.values())
     for host, port, wanted, status in (
         ("H.example", 22, ["trusted", "changed", "revoked"], 1), ("h.example", 2222, ["trusted", "changed", "changed"], 1),

@@ -7,7 +7,7 @@ import sys
 
 from lib.signatures import armoured
 
-from .linked import EXAMPLES, run
+from .linked import BINDINGS, EXAMPLES, run
 
 # the status that a program has promised
 VALID, INVALID, UNTOLD = 0, 1, 2
@@ -19,7 +19,7 @@ SECONDS = [
 
 def python(built, name):
     """The words that run an example in Python over the library."""
-    return ["/usr/bin/env", f"SSHKEY_LIBRARY={built.plain}/libsshkey.so", sys.executable, os.path.join(EXAMPLES, "python", name)]
+    return ["/usr/bin/env", f"SSHKEY_LIBRARY={built.plain}/libsshkey.so", sys.executable, os.path.join(EXAMPLES, name)]
 
 
 def certificate_cases(maker, kind, middle):
@@ -134,7 +134,7 @@ def check_closed(count, built, maker):
             ran = run([*program, *words], input=given, env={**os.environ, "SSHKEY_LIBRARY": library})
             count.check(f"{name}: {case}", is_untold(ran, script), ran.returncode, ran.stdout, ran.stderr)
         if script != "host.py":
-            ran = run([*python(built, script), *words], input=given, env={**os.environ, "PYTHONPATH": maker.path("lacking")})
+            ran = run([*python(built, script), *words], input=given, env={**os.environ, "PYTHONPATH": f"{maker.path('lacking')}:{BINDINGS}/python"})
             count.check(f"{name}: no package cryptography", is_untold(ran, script), ran.returncode, ran.stdout, ran.stderr)
         # issue.py has no input
         for case, closing in (("input", "<&-"), ("output", ">&-"))[script == "issue.py" :]:
@@ -207,17 +207,17 @@ def check_copies(count, built, maker):
         kept = {name: value for name, value in os.environ.items() if name != "SSHKEY_LIBRARY"}
         return run(words, env={**kept, "PYTHONPATH": folder})
 
-    for top, inner, is_taken in (("examples", "python", True), ("site", "python", False), ("examples", "site", False)):
-        above = f"{maker.folder}/copied-{inner}/{top}"
-        shutil.copytree(f"{EXAMPLES}/python/sshkey", f"{above}/{inner}/sshkey", ignore=shutil.ignore_patterns("__pycache__"))
+    for top, inner, is_taken in (("bindings", "python", True), ("site", "python", False), ("bindings", "site", False)):
+        above = f"{maker.folder}/copied-{top}-{inner}"
+        shutil.copytree(f"{BINDINGS}/python/sshkey", f"{above}/{top}/{inner}/sshkey", ignore=shutil.ignore_patterns("__pycache__"))
         os.mkdir(f"{above}/out")
         shutil.copy(f"{built.plain}/libsshkey.so", f"{above}/out")
-        ran = loaded(f"{above}/{inner}")
+        ran = loaded(f"{above}/{top}/{inner}")
         taken = ran.stdout.strip() == os.path.realpath(f"{above}/out/libsshkey.so")
         count.check(f"a package in {top}/{inner}: the library above is taken: {is_taken}", taken == is_taken, ran.stdout, ran.stderr[-500:])
     os.makedirs(f"{maker.folder}/linked-python/elsewhere")
-    sources = f"{maker.folder}/copied-python/examples"
-    os.symlink(f"{sources}/python/sshkey", f"{maker.folder}/linked-python/elsewhere/sshkey")
+    sources = f"{maker.folder}/copied-bindings-python"
+    os.symlink(f"{sources}/bindings/python/sshkey", f"{maker.folder}/linked-python/elsewhere/sshkey")
     ran = loaded(f"{maker.folder}/linked-python/elsewhere")
     count.check("a link takes that of the sources", ran.stdout.strip() == os.path.realpath(f"{sources}/out/libsshkey.so"), ran.stdout, ran.stderr)
 

@@ -1,4 +1,4 @@
-/* Asks validate_host of examples/c/judge.h, for checks/foreign.c, which has the helpers:
+/* Asks validate_host of helpers/judge.h, for checks/foreign.c, which has the helpers:
  *
  *     host-certificate CERTIFICATE SECOND HOST PORT COUNT TEXT..
  *

@@ -5,7 +5,7 @@ import time
 from lib.harness import blob_of
 
 from .hosts import AROUND_NOW, AUTHORITY, BROKEN, CERTIFICATES, CERTIFICATES_OF_FILES, HOST, INVALID, NAMED, field, in_one_file, written
-from .linked import EXAMPLES, SANITIZED, VALGRIND, C, run
+from .linked import HELPERS, SANITIZED, VALGRIND, C, run
 from .login_calls import REFUSALS, blocks
 
 # what the program callers answers, and what validate_host does
@@ -73,7 +73,7 @@ def check_page(count, built, modules, maker):
     path, code, by_python = f"{maker.folder}/host-page", blocks("c", "A host's certificate"), blocks("python", "A host's certificate")
     maker.write("host-page.c", PAGE.format(*code[:1]))
     parts = [f"{path}.c", f"{built.sanitized}/judge.o", f"{built.sanitized}/verify.o", f"{built.sanitized}/libsshkey.a"]
-    made = run([*C, f"-I{EXAMPLES}/c", *SANITIZED.split(), *parts, "-lcrypto", "-o", path])
+    made = run([*C, f"-I{HELPERS}", *SANITIZED.split(), *parts, "-lcrypto", "-o", path])
     count.check("the C of a host's certificate in docs/FOREIGN.md compiles", made.returncode == 0 and len(code) == 1, made.stderr[-2000:])
     line = maker.certificate("host-authority", "host-key", "-h", "-V", "-5m:+5m", "-n", "db.example.org")
     by, key = (maker.read(f"{it}.pub") for it in ("host-authority", "host-key"))

@@ -4,7 +4,7 @@
  *     line BYTES                          what stands in the line
  *     sha512 BYTES                        the fingerprint of a key, and its text
  *     signature KEY MESSAGE SIGNATURE     what has to be verified
- *     is-signature KEY MESSAGE SIGNATURE  whether examples/c/verify.c says that it is one
+ *     is-signature KEY MESSAGE SIGNATURE  whether helpers/verify.c says that it is one
  *     normal key|certificate|sshsig|signature BYTES
  *
  * Lines and normal forms are asked for with each room that is too short, too. */

@@ -6,7 +6,7 @@ import subprocess
 
 from lib.harness import ROOT
 
-EXAMPLES = os.path.join(ROOT, "examples")
+BINDINGS, HELPERS, EXAMPLES = (os.path.join(ROOT, it) for it in ("bindings", "helpers", "examples"))
 HEADER = os.path.join(ROOT, "include", "sshkey.h")
 SANITIZED = "-O1 -g -fsanitize=address,undefined -fno-sanitize-recover=all -fno-omit-frame-pointer"
 WARNINGS = ["-Wall", "-Wextra", "-pedantic", "-Werror"]
@@ -33,9 +33,9 @@ class Built:
         self.made = self.make(self.plain, given, "-O2 -g") and self.make(self.sanitized, given, SANITIZED)
 
     def make(self, out, given, flags):
-        made = run(["make", "-C", EXAMPLES, f"OUT={out}", f"CFLAGS={flags}", *given])
+        made = run(["make", "-C", ROOT, f"OUT={out}", f"CFLAGS={flags}", *given])
         parts = [f"{ROOT}/checks/foreign.c", f"{out}/judge.o", f"{out}/verify.o", f"{out}/libsshkey.a", "-lcrypto", WRAPPED]
-        asks = [*C, f"-I{EXAMPLES}/c", *flags.split(), *parts, "-o", f"{out}/foreign"]
+        asks = [*C, f"-I{HELPERS}", *flags.split(), *parts, "-o", f"{out}/foreign"]
         asking = run(asks) if made.returncode == 0 else made
         self.said += made.stderr + asking.stderr
         return made.returncode == 0 and asking.returncode == 0

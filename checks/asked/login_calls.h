@@ -1,4 +1,4 @@
-/* Asks validate_user of examples/c/judge.h, for checks/foreign.c, which has the helpers:
+/* Asks validate_user of helpers/judge.h, for checks/foreign.c, which has the helpers:
  *
  *     user CERTIFICATE KEY SECOND USER AUTHORITIES OPTION
  *

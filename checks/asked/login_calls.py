@@ -6,7 +6,7 @@ import time
 
 from lib.harness import ROOT, blob_of, string
 
-from .linked import EXAMPLES, SANITIZED, VALGRIND, C, run
+from .linked import HELPERS, SANITIZED, VALGRIND, C, run
 from .login_options import CASES, FLAGS, MOST, TEXTS, certificate
 
 REFUSALS = {
@@ -201,7 +201,7 @@ def check_page(count, built, modules, maker):
     path, code = f"{maker.folder}/page", blocks("c")
     maker.write("page.c", PAGE.format(*code[:3]))
     parts = [f"{path}.c", f"{built.sanitized}/judge.o", f"{built.sanitized}/verify.o", f"{built.sanitized}/libsshkey.a"]
-    made = run([*C, f"-I{EXAMPLES}/c", *SANITIZED.split(), *parts, "-lcrypto", "-o", path])
+    made = run([*C, f"-I{HELPERS}", *SANITIZED.split(), *parts, "-lcrypto", "-o", path])
     count.check("the C of docs/FOREIGN.md compiles", len(code) == 3 and made.returncode == 0, made.stderr[-2000:])
     authority, own, other = (maker.read(f"{it}.pub") for it in ("authority0", "user0", "user1"))
     good, strange = (maker.certificate("authority0", "user0", "-V", "-5m:+5m", "-n", it) for it in ("alice", "eve"))

@@ -11,7 +11,7 @@
  *
  *     authority LINE
  *
- * has the answer of add_authority of examples/c/judge.h, and its answers where each of its requests
+ * has the answer of add_authority of helpers/judge.h, and its answers where each of its requests
  * but those by calloc is refused. */
 #ifndef MEMORY_CALLS_H
 #define MEMORY_CALLS_H

@@ -1,4 +1,4 @@
-"""Logins at a real sshd that asks examples/c/principals whom a certificate lets in, for checks/foreign."""
+"""Logins at a real sshd that asks helpers/principals whom a certificate lets in, for checks/foreign."""
 import base64
 import getpass
 import os

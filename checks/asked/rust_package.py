@@ -1,4 +1,4 @@
-"""The package in Rust of examples/rust, and its program check, for checks/bindings: how they are built, their own tests, what
+"""The package in Rust of bindings/rust, and its example check, for checks/bindings: how they are built, their own tests, what
 docs/FOREIGN.md shows of them, and what the program has beside check.py."""
 import hashlib
 import os
@@ -12,12 +12,12 @@ from .bindings import is_untold
 from .certificate_calls import fields_in
 from .example_calls import INVALID, VALID
 from .key_calls import signed_by
-from .linked import EXAMPLES, run
+from .linked import BINDINGS, EXAMPLES, run
 from .login_calls import blocks
 from .login_options import certificate
 
-PACKAGE = os.path.join(EXAMPLES, "rust")
-CHECK, ASKER = f"{PACKAGE}/src/bin/check.rs", f"{ROOT}/checks/asked/rust/asker.rs"
+PACKAGE = os.path.join(BINDINGS, "rust")
+CHECK, ASKER = f"{EXAMPLES}/check.rs", f"{ROOT}/checks/asked/rust/asker.rs"
 CARGO = ["--offline", "--locked"]
 # each unsafe block is one call, and says why it is right; an older clippy does not know that of one call
 UNSAFE = ["-D", "clippy::undocumented_unsafe_blocks", "-D", "clippy::multiple_unsafe_ops_per_block"]
@@ -30,11 +30,11 @@ OPTIONS = b'no-pty,command="say \\"yes\\""'
 
 
 class Rust:
-    """What cargo and rustc build in a folder, with the library and the verifier of the examples in C, which stand in `out`."""
+    """What cargo and rustc build in a folder, with the library and the verifier of the helpers, which stand in `out`."""
 
     def __init__(self, folder, out):
         self.folder, self.target, self.out = folder, f"{folder}/rust", out
-        self.program = f"{self.target}/debug/check"
+        self.program = f"{self.target}/debug/examples/check"
         names = {"SSHKEY_LIB_DIR": out, "CARGO_TARGET_DIR": self.target, "RUSTFLAGS": "-D warnings", "RUSTDOCFLAGS": "-D warnings"}
         self.environment = {**os.environ, **names}
 
@@ -53,9 +53,9 @@ class Rust:
 
     def check_sources(self, count):
         """The package and its program are built without a warning, and its own tests pass."""
-        made = run(["make", "-C", EXAMPLES, f"OUT={self.out}", f"{self.out}/verify.o"])
+        made = run(["make", "-C", ROOT, f"OUT={self.out}", f"{self.out}/verify.o"])
         count.check("Rust: the verifier in C is built", made.returncode == 0, made.stderr[-3000:])
-        made = self.cargo("build", *CARGO)
+        made = self.cargo("build", *CARGO, "--lib", "--examples")
         count.check("Rust: the package and its program are built", made.returncode == 0, made.stderr[-3000:])
         tested = self.cargo("test", *CARGO)
         passed = sum(map(int, re.findall(r"^test result: ok\. (\d+) passed", tested.stdout, re.M)))

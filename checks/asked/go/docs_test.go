@@ -14,7 +14,7 @@ import (
 func TestDocs(t *testing.T) {
 	for _, folder := range []string{"sshkey", "judge"} {
 		isOurs := func(file fs.FileInfo) bool { return !strings.HasSuffix(file.Name(), "_test.go") }
-		at, files := "../../../examples/go/"+folder, token.NewFileSet()
+		at, files := "../../../bindings/go/"+folder, token.NewFileSet()
 		packages, err := parser.ParseDir(files, at, isOurs, parser.ParseComments)
 		if err != nil {
 			t.Fatal(err)

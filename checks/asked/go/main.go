@@ -1,5 +1,5 @@
 // Asker answers the questions of checks/asked/binding_calls.py, which says what they are, by the
-// packages of examples/go: a line for a line.
+// packages of bindings/go: a line for a line.
 package main
 
 import (

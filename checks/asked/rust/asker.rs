@@ -1,5 +1,5 @@
-//! Answers questions about the calls of the Rust package in examples/rust, and by the functions of
-//! its program `check`: a line of the input a line of the answer, as checks/asked/binding_calls.py
+//! Answers questions about the calls of the Rust package in bindings/rust, and by the functions of
+//! its example `check`: a line of the input a line of the answer, as checks/asked/binding_calls.py
 //! says.
 
 use std::io::{self, BufRead};
@@ -7,7 +7,7 @@ use std::io::{self, BufRead};
 use sshkey::{CertificateType, Draft, HashAlgorithm, Listed, Principal, Question, Sha256, Status};
 
 #[allow(dead_code)]
-#[path = "../../../examples/rust/src/bin/check.rs"]
+#[path = "../../../examples/check.rs"]
 mod check;
 
 type Answer = Result<String, Status>;

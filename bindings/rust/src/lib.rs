@@ -25,7 +25,7 @@
 //! ```
 //!
 //! The library is libsshkey.a of the folder that SSHKEY_LIB_DIR names when this crate is built, or
-//! else of examples/out, where `make` in the folder examples puts it.
+//! else of out/, where `make` puts it.
 //!
 //! Each function says what it fails with: a [`Status`], of which [`Status::MEMORY`] says nothing
 //! of the input; where Rust itself gets no memory for a copy, the process ends. What is lent of the

@@ -1,13 +1,13 @@
-//! Says where libsshkey.a is, which `make` in the folder examples builds: in the folder that
-//! SSHKEY_LIB_DIR names, or else in examples/out. The program `check` takes verify.o of there too,
-//! the cryptography of the examples in C, and libcrypto.
+//! Says where libsshkey.a is, which `make` builds: in the folder that SSHKEY_LIB_DIR names, or
+//! else in out/ of the sources. The example `check` takes verify.o of there too, the cryptography
+//! of the helpers, and libcrypto.
 
 use std::env;
 use std::path::PathBuf;
 
 fn main() {
     let folder = env::var_os("SSHKEY_LIB_DIR").map_or_else(
-        || PathBuf::from(env!("CARGO_MANIFEST_DIR")).join("../out"),
+        || PathBuf::from(env!("CARGO_MANIFEST_DIR")).join("../../out"),
         PathBuf::from,
     );
     // the linker runs elsewhere
@@ -20,16 +20,13 @@ fn main() {
         println!("cargo:rerun-if-changed={}", verifier.display());
     }
     if !library.exists() {
-        println!(
-            "cargo:warning={} is not built: run make in the folder examples",
-            library.display()
-        );
+        println!("cargo:warning={} is not built: run make", library.display());
     }
     println!("cargo:rustc-link-search=native={}", folder.display());
     println!("cargo:rustc-link-lib=static:-bundle=sshkey");
     // the library again, since verify.o takes a call of it, and linkers look only after a use
     for part in [verifier, library] {
-        println!("cargo:rustc-link-arg-bin=check={}", part.display());
+        println!("cargo:rustc-link-arg-examples={}", part.display());
     }
-    println!("cargo:rustc-link-arg-bin=check=-lcrypto");
+    println!("cargo:rustc-link-arg-examples=-lcrypto");
 }

@@ -74,7 +74,7 @@ def host_verdict(known_hosts: BytesLike, host: str | BytesLike, port: int, key: 
     """Status.DONE exactly if a text of known_hosts trusts the key, given as its blob, for a host (a name or an address) at a
     port; HOST_REVOKED, HOST_UNREADABLE, HOST_CHANGED or HOST_UNKNOWN for what it says else. Of several files the first of these
     counts that one of them says: revoked, unreadable, trusted, changed. Where all say HOST_UNKNOWN of a port other than 22, and
-    only there, ssh(1) asks about port 22 too. `judge` of examples/python/host.py does both.
+    only there, ssh(1) asks about port 22 too. `judge` of examples/host.py does both.
 
     Raises Refused where the bytes are no key, or the text or the host is not UTF-8, ValueError for a port that is not from 0 to
     65535, and MemoryError."""
@@ -88,5 +88,5 @@ def authority_verdict(known_hosts: BytesLike, host: str | BytesLike, port: int, 
 
     That is not all that a host's certificate has to meet: host_verdict of the certified key (`certificate_contents`) may not be
     HOST_REVOKED, the certificate has to be one for hosts, without critical options, and valid by that authority for the host's
-    name in small letters. `validate_host` of examples/python/check.py asks all of it, of several files (docs/FOREIGN.md)."""
+    name in small letters. `validate_host` of examples/check.py asks all of it, of several files (docs/FOREIGN.md)."""
     return _judged(LIBRARY.sshkey_authority_verdict, known_hosts, host, port, key)

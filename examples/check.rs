@@ -1,5 +1,5 @@
 //! Says whether certificates and SSH signatures are valid, or what is wrong first. OpenSSL's
-//! libcrypto verifies, by the functions of the example in C (examples/c/verify.c).
+//! libcrypto verifies, by the functions of helpers/verify.c.
 
 use std::env;
 use std::ffi::{OsStr, OsString};
@@ -36,7 +36,7 @@ pub(crate) mod verify {
     use sshkey::Question;
 
     extern "C" {
-        // of examples/c/verify.h
+        // of helpers/verify.h
         fn is_signature(question: *const raw::Question, room: *const u8) -> bool;
     }
 

@@ -1,4 +1,4 @@
-/* The cryptography of the examples: OpenSSL's libcrypto (3.0 or newer). */
+/* The cryptography of the helpers: OpenSSL's libcrypto (3.0 or newer). */
 #include "verify.h"
 
 #include <limits.h>

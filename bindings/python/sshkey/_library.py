@@ -110,8 +110,8 @@ class Length(ctypes.Structure):
 
 HERE = os.path.dirname(os.path.realpath(__file__))
 # where the sources have what is built; a copy of the package elsewhere has nothing there
-BUILT = os.path.join(HERE, "..", "..", "out", "libsshkey.so")
-IS_IN_SOURCES = HERE.split(os.sep)[-3:-1] == ["examples", "python"]
+BUILT = os.path.join(HERE, "..", "..", "..", "out", "libsshkey.so")
+IS_IN_SOURCES = HERE.split(os.sep)[-3:-1] == ["bindings", "python"]
 # bytes that are only read: a pointer and a length
 BYTES = (ctypes.c_char_p, ctypes.c_size_t)
 # bytes, and a place in them
@@ -158,7 +158,7 @@ def _loaded() -> ctypes.CDLL:
     built = BUILT if IS_IN_SOURCES and os.path.exists(BUILT) else None
     path = os.environ.get("SSHKEY_LIBRARY") or built or find_library("sshkey")
     if not path:
-        raise OSError("libsshkey.so is not built: run make in the folder examples")
+        raise OSError("libsshkey.so is not built: run make")
     library = ctypes.CDLL(path)
     for name, takes in CALLS.items():
         call = getattr(library, name)

@@ -1,6 +1,6 @@
 // Package judge says whether certificates log users in, whether they are those of hosts, and
 // whether SSH signatures are valid, with Go's standard library for cryptography and package sshkey
-// for the rest. It is there to be copied, and equal to check.py of the examples in Python.
+// for the rest. It is there to be copied, and equal to examples/check.py.
 package judge
 
 import (

@@ -14,8 +14,8 @@ Each call says what it raises: Refused, which is a ValueError, for bytes that ar
 which nothing follows about them. All raise TypeError for a text in place of bytes and for a number that is not whole, and
 UnicodeEncodeError, a ValueError too, for a text that UTF-8 can't write.
 
-The library is the file that SSHKEY_LIBRARY names in the environment, or else out/libsshkey.so in the folder examples (`make`
-there builds it), or else the system's. Whoever sets SSHKEY_LIBRARY has their code run, so clear it in a helper that keeps its
+The library is the file that SSHKEY_LIBRARY names in the environment, or else out/libsshkey.so of the sources (`make`
+builds it), or else the system's. Whoever sets SSHKEY_LIBRARY has their code run, so clear it in a helper that keeps its
 caller's environment. Calls from several threads at once are fine.
 """
 from ._certificates import (
