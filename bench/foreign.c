@@ -15,10 +15,10 @@
 static sshkey_question question;
 static uint8_t room[1 << 16];
 
-static uint32_t call(const char *what, blob given) {
+static uint32_t call(const char *what, judge_blob given) {
   sshkey_sha256 digest = {{0}};
   sshkey_fields fields = {0, 0, 0, 0, 0, 0};
-  if (!strcmp(what, "verify")) return is_signature(&question, room);
+  if (!strcmp(what, "verify")) return judge_is_signature(&question, room);
   if (!strcmp(what, "validate"))
     return sshkey_certificate_validate_for(given.bytes, given.length, 1, (const uint8_t *)"user", 4,
                                            &digest, 1, 1);
@@ -31,10 +31,10 @@ int main(int count, char **words) {
   char *line = NULL;
   size_t held = 0;
   ssize_t length = count == 3 ? getline(&line, &held, stdin) : -1;
-  blob given;
+  judge_blob given;
   if (length < 0) return 2;
-  if (read_line(line, (size_t)length, SSHKEY_LINE_CERTIFICATE, &given) != SSHKEY_DONE &&
-      read_line(line, (size_t)length, SSHKEY_LINE_KEY, &given) != SSHKEY_DONE)
+  if (judge_read_line(line, (size_t)length, SSHKEY_LINE_CERTIFICATE, &given) != SSHKEY_DONE &&
+      judge_read_line(line, (size_t)length, SSHKEY_LINE_KEY, &given) != SSHKEY_DONE)
     return 2;
   long calls = strtol(words[2], NULL, 10);
   call("question", given);

@@ -30,8 +30,8 @@
 /* of words in a line */
 #define MOST 15
 
-static blob made(size_t length) {
-  blob it = {malloc(length ? length : 1), length};
+static judge_blob made(size_t length) {
+  judge_blob it = {malloc(length ? length : 1), length};
   if (!it.bytes) exit(3);
   memset(it.bytes, FILLED, length ? length : 1);
   return it;
@@ -41,8 +41,8 @@ static unsigned digit(char letter) {
   return (unsigned)(letter <= '9' ? letter - '0' : letter - 'a' + 10);
 }
 
-static blob bytes_of(const char *word) {
-  blob it = made(strcmp(word, "-") ? strlen(word) / 2 : 0);
+static judge_blob bytes_of(const char *word) {
+  judge_blob it = made(strcmp(word, "-") ? strlen(word) / 2 : 0);
   for (size_t at = 0; at < it.length; at++)
     it.bytes[at] = (uint8_t)(digit(word[2 * at]) << 4 | digit(word[2 * at + 1]));
   return it;
@@ -58,20 +58,20 @@ static uint32_t sum_of(const uint8_t *bytes, size_t length) {
   return ~sum;
 }
 
-static int is_filled(blob room, size_t from) {
+static int is_filled(judge_blob room, size_t from) {
   for (size_t at = from; at < room.length; at++)
     if (room.bytes[at] != FILLED) return 0;
   return 1;
 }
 
-static void say_part(blob room, sshkey_part part) {
+static void say_part(judge_blob room, sshkey_part part) {
   if (part.start > room.length || part.length > room.length - part.start)
     printf(" outside");
   else
     printf(" %zu:%08" PRIx32, part.length, sum_of(room.bytes + part.start, part.length));
 }
 
-static void say_question(uint32_t answer, const sshkey_question *question, blob room) {
+static void say_question(uint32_t answer, const sshkey_question *question, judge_blob room) {
   printf("%" PRIu32, answer);
   if (answer != SSHKEY_DONE) return;
   printf(" %" PRIu32, question->algorithm);
@@ -86,8 +86,8 @@ static void say_bytes(const uint8_t *bytes, size_t length) {
   for (size_t at = 0; at < length; at++) printf("%02x", bytes[at]);
 }
 
-static void ask_certificate(blob certificate) {
-  blob room = made(2 * certificate.length + 256);
+static void ask_certificate(judge_blob certificate) {
+  judge_blob room = made(2 * certificate.length + 256);
   sshkey_question question;
   memset(&question, FILLED, sizeof question);
   uint32_t answer = sshkey_certificate_question(certificate.bytes, certificate.length, room.bytes,
@@ -99,8 +99,9 @@ static void ask_certificate(blob certificate) {
 typedef uint32_t ask_of_sshsig(const uint8_t *, size_t, const uint8_t *, size_t, const uint8_t *,
                                size_t, uint8_t *, size_t, sshkey_question *, sshkey_sha256 *);
 
-static void ask_sshsig(ask_of_sshsig *call, blob signature, blob space, blob covered) {
-  blob room = made(2 * signature.length + space.length + 256);
+static void ask_sshsig(ask_of_sshsig *call, judge_blob signature, judge_blob space,
+                       judge_blob covered) {
+  judge_blob room = made(2 * signature.length + space.length + 256);
   sshkey_question question;
   sshkey_sha256 signer;
   memset(&question, FILLED, sizeof question);
@@ -113,13 +114,13 @@ static void ask_sshsig(ask_of_sshsig *call, blob signature, blob space, blob cov
   free(room.bytes);
 }
 
-static void ask_validate(blob certificate, const char *second, const char *principal,
-                         blob authority, const char *is_verified) {
+static void ask_validate(judge_blob certificate, const char *second, const char *principal,
+                         judge_blob authority, const char *is_verified) {
   uint64_t now = strtoull(second, NULL, 10);
   uint32_t yes = (uint32_t)strtoul(is_verified, NULL, 10);
   size_t count = authority.length / sizeof(sshkey_sha256);
   sshkey_sha256 *keys = (sshkey_sha256 *)authority.bytes;
-  blob name = bytes_of(principal[0] == '*' ? "-" : principal);
+  judge_blob name = bytes_of(principal[0] == '*' ? "-" : principal);
   uint32_t answer;
   if (principal[0] == '*')
     answer = sshkey_certificate_validate(certificate.bytes, certificate.length, now, keys, count,
@@ -131,9 +132,9 @@ static void ask_validate(blob certificate, const char *second, const char *princ
   free(name.bytes);
 }
 
-static void ask_key(blob key) {
+static void ask_key(judge_blob key) {
   sshkey_sha256 *digest = calloc(1, sizeof *digest);
-  blob text = made(50), shorter = made(49);
+  judge_blob text = made(50), shorter = made(49);
   if (!digest) exit(3);
   uint32_t answer = sshkey_fingerprint(key.bytes, key.length, digest);
   printf("%" PRIu32, answer);
@@ -149,7 +150,7 @@ static void ask_key(blob key) {
   free(shorter.bytes);
 }
 
-static void ask_fields(blob certificate) {
+static void ask_fields(judge_blob certificate) {
   sshkey_fields *fields = calloc(1, sizeof *fields);
   if (!fields) exit(3);
   uint32_t answer = sshkey_certificate_fields(certificate.bytes, certificate.length, fields);
@@ -164,7 +165,7 @@ static void ask_fields(blob certificate) {
 }
 
 /* What is answered at each place, and at some behind the end. */
-static void ask_strings(blob bytes) {
+static void ask_strings(judge_blob bytes) {
   size_t places[] = {bytes.length + 1, bytes.length + 4, SIZE_MAX - 4, SIZE_MAX};
   for (size_t at = 0; at <= bytes.length + 4; at++) {
     size_t place = at <= bytes.length ? at : places[at - bytes.length - 1];
@@ -176,8 +177,8 @@ static void ask_strings(blob bytes) {
 }
 
 /* Whether a call with that room answers as it has to, where so many bytes are needed. */
-static int is_room_kept(blob certificate, size_t length, size_t needed) {
-  blob room = made(length);
+static int is_room_kept(judge_blob certificate, size_t length, size_t needed) {
+  judge_blob room = made(length);
   sshkey_question question;
   memset(&question, 0, sizeof question);
   uint32_t answer = sshkey_certificate_question(certificate.bytes, certificate.length, room.bytes,
@@ -187,10 +188,10 @@ static int is_room_kept(blob certificate, size_t length, size_t needed) {
   return kept && question.length == needed;
 }
 
-static void ask_rooms(blob certificate) {
+static void ask_rooms(judge_blob certificate) {
   sshkey_question question;
   memset(&question, 0, sizeof question);
-  blob none = made(0);
+  judge_blob none = made(0);
   uint32_t answer = sshkey_certificate_question(certificate.bytes, certificate.length, none.bytes,
                                                 0, &question);
   size_t needed = question.length, length = 0;
@@ -286,7 +287,7 @@ static void ask_names(void) {
 
 static void ask_meanings(void) {
   for (uint32_t answer = 0; answer < 200; answer++)
-    printf("%s%s", answer ? "," : "", meaning(answer));
+    printf("%s%s", answer ? "," : "", judge_meaning(answer));
 }
 
 /* Answers a question about the header and what is written by hand; 0 where it is none. */
@@ -310,7 +311,7 @@ static void ask(char **words) {
     return;
   }
   if (ask_about_keys(words) || ask_about_certificates(words)) return;
-  blob first = bytes_of(words[1]);
+  judge_blob first = bytes_of(words[1]);
   if (!strcmp(what, "certificate")) {
     ask_certificate(first);
   } else if (!strcmp(what, "rooms")) {
@@ -324,13 +325,13 @@ static void ask(char **words) {
   } else if (!strcmp(what, "key")) {
     ask_key(first);
   } else if (!strcmp(what, "sshsig") || !strcmp(what, "sshsig-of-digest")) {
-    blob space = bytes_of(words[2]), covered = bytes_of(words[3]);
+    judge_blob space = bytes_of(words[2]), covered = bytes_of(words[3]);
     ask_sshsig(what[6] ? sshkey_sshsig_question_of_digest : sshkey_sshsig_question, first, space,
                covered);
     free(space.bytes);
     free(covered.bytes);
   } else if (!strcmp(what, "validate")) {
-    blob authority = bytes_of(words[4]);
+    judge_blob authority = bytes_of(words[4]);
     ask_validate(first, words[2], words[3], authority, words[5]);
     free(authority.bytes);
   } else {

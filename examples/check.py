@@ -121,8 +121,11 @@ def is_signature(question: sshkey.Question) -> bool:
 
 
 def judge(certificate: bytes, now: int, principal: str | bytes | None, authorities: Collection[bytes]) -> Status:
-    """Status.DONE, or what is wrong first. Where the principal is None, any is meant."""
+    """Status.DONE, or what is wrong first. For each certificate of another authority it is Status.UNTRUSTED_AUTHORITY, signed or not:
+    its key may be one that the client made up, and no cryptography runs over it. Where the principal is None, any is meant."""
     try:
+        if sshkey.fingerprint(sshkey.certificate_contents(certificate).authority) not in authorities:
+            return Status.UNTRUSTED_AUTHORITY
         is_verified = is_signature(sshkey.certificate_question(certificate))
     except sshkey.Refused:
         is_verified = False
@@ -191,22 +194,25 @@ def validate_host(certificate: bytes, now: int, host: str | bytes, port: int, te
 
 
 def judge_signature(signature: bytes, namespace: str, message: bytes, signers: Collection[bytes]) -> Status:
-    """Status.DONE, or what is wrong first. The signers, by the fingerprints of their keys, are those of that namespace."""
-    return judge_question(lambda: sshkey.sshsig_question(signature, namespace, message), signers)
+    """Status.DONE, or what is wrong first. The signers, by the fingerprints of their keys, are those of that namespace.
+
+    One with reserved bytes is Status.NOT_SIGNED: ssh-keygen verifies it as if these were empty."""
+    return judge_question(signature, lambda: sshkey.sshsig_question(signature, namespace, message), signers)
 
 
 def judge_signature_of_digest(signature: bytes, namespace: str, digest: bytes, signers: Collection[bytes]) -> Status:
     """The same of a message with that digest, by the hash that sshkey.sshsig_hash names."""
-    return judge_question(lambda: sshkey.sshsig_question_of_digest(signature, namespace, digest), signers)
+    return judge_question(signature, lambda: sshkey.sshsig_question_of_digest(signature, namespace, digest), signers)
 
 
-def judge_question(ask: Callable[[], tuple[sshkey.Question, bytes]], signers: Collection[bytes]) -> Status:
+def judge_question(signature: bytes, ask: Callable[[], tuple[sshkey.Question, bytes]], signers: Collection[bytes]) -> Status:
     """The same of the question that is asked."""
     try:
         question, signer = ask()
+        reserved = sshkey.sshsig_reserved(signature)
     except sshkey.Refused as refused:
         return refused.status
-    if not is_signature(question):
+    if reserved or not is_signature(question):
         return Status.NOT_SIGNED
     return Status.DONE if signer in signers else Status.UNTRUSTED_AUTHORITY
 

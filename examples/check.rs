@@ -37,7 +37,7 @@ pub(crate) mod verify {
 
     extern "C" {
         // of helpers/verify.h
-        fn is_signature(question: *const raw::Question, room: *const u8) -> bool;
+        fn judge_is_signature(question: *const raw::Question, room: *const u8) -> bool;
     }
 
     /// Whether the signature is one of the message under the key. False also where libcrypto
@@ -46,7 +46,7 @@ pub(crate) mod verify {
         let (parts, room) = question.as_raw();
         // SAFETY: the room is the one that the parts stand in, as sshkey.h says; both are lent for
         // longer than the call, which writes nothing.
-        unsafe { is_signature(parts, room.as_ptr()) }
+        unsafe { judge_is_signature(parts, room.as_ptr()) }
     }
 }
 

@@ -29,16 +29,16 @@ typedef struct {
 } offered;
 
 static uint32_t read_offered(const char *type, const char *base64, offered *answer) {
-  blob found;
+  judge_blob found;
   sshkey_part key = {0, 0};
-  uint32_t status = read_words(type, base64, SSHKEY_LINE_KEY, &found);
+  uint32_t status = judge_read_words(type, base64, SSHKEY_LINE_KEY, &found);
   answer->is_authority = status != SSHKEY_DONE;
   if (status == SSHKEY_DONE) {
     key.length = found.length;
   } else {
     sshkey_parts parts;
     memset(&parts, 0, sizeof parts);
-    status = read_words(type, base64, SSHKEY_LINE_CERTIFICATE, &found);
+    status = judge_read_words(type, base64, SSHKEY_LINE_CERTIFICATE, &found);
     if (status != SSHKEY_DONE) return status;
     status = sshkey_certificate_parts(found.bytes, found.length, &parts);
     key = parts.authority;
@@ -89,7 +89,7 @@ static uint32_t judge_line(const uint8_t *line, size_t length, const offered *wa
 }
 
 /* Prints the lines of the text; false where that fails. */
-static bool print_lines(blob text, const offered *wanted) {
+static bool print_lines(judge_blob text, const offered *wanted) {
   sshkey_part part = {0, 0};
   for (size_t place = 0;
        sshkey_next_line(text.bytes, text.length, place, &part) == SSHKEY_DONE;
@@ -106,7 +106,7 @@ static bool print_lines(blob text, const offered *wanted) {
 
 int main(int count, char **words) {
   offered wanted = {{{0}}, false};
-  blob text = {NULL, 0};
+  judge_blob text = {NULL, 0};
   if (count != 5) {
     fprintf(stderr, "usage: authorized_keys FILE USER TYPE KEY\n");
     return 1;
@@ -116,7 +116,7 @@ int main(int count, char **words) {
   if (answer != SSHKEY_DONE)
     fprintf(stderr, "authorized_keys: what %s offers is no key: %s\n", words[2],
             sshkey_answer_name(answer));
-  else if (!read_file(words[1], &text))
+  else if (!judge_read_file(words[1], &text))
     perror(words[1]);
   else if (!print_lines(text, &wanted))
     fprintf(stderr, "authorized_keys: can't tell what %s may do\n", words[2]);

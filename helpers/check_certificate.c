@@ -20,11 +20,11 @@ enum { VALID = 0, INVALID = 1, UNTOLD = 2 };
 
 /* Adds the authorities of a file; false, with a word to standard error, where it can't be read or a
  * line is no key. */
-static bool read_authorities(const char *path, authorities *to) {
-  blob text = {NULL, 0};
+static bool read_authorities(const char *path, judge_authorities *to) {
+  judge_blob text = {NULL, 0};
   sshkey_part line = {0, 0};
   uint32_t answer = SSHKEY_DONE;
-  if (!read_file(path, &text)) {
+  if (!judge_read_file(path, &text)) {
     perror(path);
     return false;
   }
@@ -32,12 +32,12 @@ static bool read_authorities(const char *path, authorities *to) {
        answer == SSHKEY_DONE &&
        sshkey_next_line(text.bytes, text.length, place, &line) == SSHKEY_DONE;
        place = line.start + line.length)
-    answer = add_authority(to, (const char *)text.bytes + line.start, line.length);
+    answer = judge_add_authority(to, (const char *)text.bytes + line.start, line.length);
   if (answer != SSHKEY_DONE) {
     size_t number = 1;
     for (size_t at = 0; at < line.start; at++) number += text.bytes[at] == '\n';
     fprintf(stderr, "%s:%zu: %s%s\n", path, number, answer == SSHKEY_MEMORY ? "" : "no key: ",
-            meaning(answer));
+            judge_meaning(answer));
   }
   free(text.bytes);
   return answer == SSHKEY_DONE;
@@ -53,22 +53,22 @@ static bool read_second(const char *word, uint64_t *answer) {
 
 /* Judges the certificate of a line, says so, and returns the program's status. */
 static int judge_line(const char *line, size_t length, uint64_t second, const char *principal,
-                      authorities by) {
-  blob certificate;
-  uint32_t answer = read_line(line, length, SSHKEY_LINE_CERTIFICATE, &certificate);
+                      judge_authorities by) {
+  judge_blob certificate;
+  uint32_t answer = judge_read_line(line, length, SSHKEY_LINE_CERTIFICATE, &certificate);
   if (answer == SSHKEY_DONE) {
-    answer = judge(certificate, second, principal, by);
+    answer = judge_certificate(certificate, second, principal, by);
     free(certificate.bytes);
   }
   if (answer == SSHKEY_DONE)
     puts("valid");
   else
-    printf("refused: %s (%u)\n", meaning(answer), answer);
+    printf("refused: %s (%u)\n", judge_meaning(answer), answer);
   return answer == SSHKEY_DONE ? VALID : answer == SSHKEY_MEMORY ? UNTOLD : INVALID;
 }
 
 /* The same of all lines of the input. */
-static int judge_input(uint64_t second, const char *principal, authorities by) {
+static int judge_input(uint64_t second, const char *principal, judge_authorities by) {
   char *line = NULL;
   size_t room = 0;
   int status = VALID;
@@ -92,7 +92,7 @@ static int judge_input(uint64_t second, const char *principal, authorities by) {
 }
 
 int main(int count, char **words) {
-  authorities by = {NULL, 0};
+  judge_authorities by = {NULL, 0};
   uint64_t second = (uint64_t)time(NULL);
   if (count < 3 || count > 4) {
     fprintf(stderr, "usage: check_certificate AUTHORITIES PRINCIPAL|- [SECOND] <CERTIFICATES\n");

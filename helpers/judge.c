@@ -6,7 +6,7 @@
 
 #include "verify.h"
 
-uint32_t read_line(const char *line, size_t length, uint32_t kind, blob *answer) {
+uint32_t judge_read_line(const char *line, size_t length, uint32_t kind, judge_blob *answer) {
   /* a room as long as the line is enough */
   uint8_t *room = calloc(1, length + 1);
   sshkey_line found;
@@ -19,23 +19,23 @@ uint32_t read_line(const char *line, size_t length, uint32_t kind, blob *answer)
     return status;
   }
   memmove(room, room + found.blob.start, found.blob.length);
-  *answer = (blob){room, found.blob.length};
+  *answer = (judge_blob){room, found.blob.length};
   return status;
 }
 
-uint32_t read_words(const char *type, const char *base64, uint32_t kind, blob *answer) {
+uint32_t judge_read_words(const char *type, const char *base64, uint32_t kind, judge_blob *answer) {
   size_t length = strlen(type) + 1 + strlen(base64);
   char *line = malloc(length + 1);
   if (!line) return SSHKEY_MEMORY;
   snprintf(line, length + 1, "%s %s", type, base64);
-  uint32_t status = read_line(line, length, kind, answer);
+  uint32_t status = judge_read_line(line, length, kind, answer);
   free(line);
   return status;
 }
 
-bool read_file(const char *path, blob *answer) {
+bool judge_read_file(const char *path, judge_blob *answer) {
   FILE *file = fopen(path, "rb");
-  blob text = {NULL, 0};
+  judge_blob text = {NULL, 0};
   bool good = file != NULL;
   for (size_t room = 0, read = 1; good && read;) {
     if (text.length == room) {
@@ -55,10 +55,10 @@ bool read_file(const char *path, blob *answer) {
   return good;
 }
 
-uint32_t add_authority(authorities *to, const char *line, size_t length) {
-  blob key;
+uint32_t judge_add_authority(judge_authorities *to, const char *line, size_t length) {
+  judge_blob key;
   sshkey_sha256 digest = {{0}};
-  uint32_t answer = read_line(line, length, SSHKEY_LINE_KEY, &key);
+  uint32_t answer = judge_read_line(line, length, SSHKEY_LINE_KEY, &key);
   if (answer != SSHKEY_DONE) return answer;
   answer = sshkey_fingerprint(key.bytes, key.length, &digest);
   free(key.bytes);
@@ -70,32 +70,49 @@ uint32_t add_authority(authorities *to, const char *line, size_t length) {
   return SSHKEY_DONE;
 }
 
-uint32_t judge(blob certificate, uint64_t unix_timestamp, const char *principal, authorities by) {
-  /* step 1: what has to be verified; a room of this length is enough */
+/* SSHKEY_DONE where one of the authorities signed the certificate, or says that it did. */
+static uint32_t judge_authority(judge_blob certificate, judge_authorities by) {
+  sshkey_parts parts;
+  sshkey_sha256 signer = {{0}};
+  memset(&parts, 0, sizeof parts);
+  const uint8_t *bytes = sshkey_bytes(certificate.bytes);
+  uint32_t answer = sshkey_certificate_parts(bytes, certificate.length, &parts);
+  if (answer == SSHKEY_DONE)
+    answer = sshkey_fingerprint(bytes + parts.authority.start, parts.authority.length, &signer);
+  if (answer != SSHKEY_DONE) return answer;
+  for (size_t at = 0; at < by.count; at++)
+    if (!memcmp(&by.keys[at], &signer, sizeof signer)) return SSHKEY_DONE;
+  return SSHKEY_UNTRUSTED_AUTHORITY;
+}
+
+uint32_t judge_certificate(judge_blob certificate, uint64_t unix_timestamp, const char *principal,
+                           judge_authorities by) {
+  /* step 1: whether the authority is one of these */
+  uint32_t answer = judge_authority(certificate, by);
+  if (answer != SSHKEY_DONE) return answer;
+  /* step 2: what has to be verified; a room of this length is enough */
   size_t room_length = 2 * certificate.length + 256;
   uint8_t *room = calloc(1, room_length);
   sshkey_question question;
   memset(&question, 0, sizeof question);
   if (!room) return SSHKEY_MEMORY;
-  uint32_t asked = sshkey_certificate_question(sshkey_bytes(certificate.bytes), certificate.length,
-                                               room, room_length, &question);
-  /* step 2: verify it */
-  uint32_t is_verified = asked == SSHKEY_DONE && is_signature(&question, room);
+  answer = sshkey_certificate_question(certificate.bytes, certificate.length, room, room_length,
+                                       &question);
+  /* step 3: verify it */
+  uint32_t is_verified = answer == SSHKEY_DONE && judge_is_signature(&question, room);
   free(room);
-  if (asked == SSHKEY_MEMORY || asked == SSHKEY_ROOM) return asked;
-  /* step 3: whether it is valid, over the same bytes */
-  sshkey_sha256 nobody = {{0}};
-  const sshkey_sha256 *keys = by.count ? by.keys : &nobody;
+  if (answer == SSHKEY_MEMORY || answer == SSHKEY_ROOM) return answer;
+  /* step 4: whether it is valid, over the same bytes */
   if (!principal)
-    return sshkey_certificate_validate(sshkey_bytes(certificate.bytes), certificate.length,
-                                       unix_timestamp, keys, by.count, is_verified);
-  return sshkey_certificate_validate_for(sshkey_bytes(certificate.bytes), certificate.length,
-                                         unix_timestamp, (const uint8_t *)principal,
-                                         strlen(principal), keys, by.count, is_verified);
+    return sshkey_certificate_validate(certificate.bytes, certificate.length, unix_timestamp,
+                                       by.keys, by.count, is_verified);
+  return sshkey_certificate_validate_for(certificate.bytes, certificate.length, unix_timestamp,
+                                         (const uint8_t *)principal, strlen(principal), by.keys,
+                                         by.count, is_verified);
 }
 
 /* SSHKEY_DONE where each option of the list is met, or else that number. */
-static uint32_t judge_list(const uint8_t *options, size_t length, is_met_option *is_met,
+static uint32_t judge_list(const uint8_t *options, size_t length, judge_is_met *is_met,
                            void *given, uint32_t unmet) {
   sshkey_certificate_option_parts option;
   uint32_t answer;
@@ -154,7 +171,7 @@ static uint32_t judge_principals(const uint8_t *principals, size_t length) {
 
 /* SSHKEY_DONE where each critical option is met, and sshd reads extensions, key id and
  * principals. */
-static uint32_t judge_lists(blob certificate, const login_request *asked) {
+static uint32_t judge_lists(judge_blob certificate, const judge_login *asked) {
   sshkey_parts parts;
   memset(&parts, 0, sizeof parts);
   uint32_t answer = sshkey_certificate_parts(certificate.bytes, certificate.length, &parts);
@@ -175,7 +192,7 @@ static uint32_t judge_lists(blob certificate, const login_request *asked) {
 
 /* SSHKEY_DONE where the key is the certificate's own: the digests of their normal forms are the
  * same. */
-static uint32_t judge_key(blob certificate, blob key) {
+static uint32_t judge_key(judge_blob certificate, judge_blob key) {
   sshkey_sha256 own = {{0}}, held = {{0}};
   size_t length = 0;
   /* a room as long as the certificate is enough */
@@ -191,12 +208,12 @@ static uint32_t judge_key(blob certificate, blob key) {
   return answer;
 }
 
-uint32_t validate_user(blob certificate, const login_request *asked) {
+uint32_t judge_validate_user(judge_blob certificate, const judge_login *asked) {
   sshkey_fields fields;
   memset(&fields, 0, sizeof fields);
-  /* judge takes no principal for any, and a certificate may list one without a letter */
+  /* judge_certificate takes no principal for any, and a certificate may list an empty name */
   if (!asked->user || !*asked->user) return SSHKEY_UNLISTED_PRINCIPAL;
-  uint32_t answer = judge(certificate, asked->unix_timestamp, asked->user, asked->by);
+  uint32_t answer = judge_certificate(certificate, asked->unix_timestamp, asked->user, asked->by);
   if (answer == SSHKEY_DONE)
     answer = sshkey_certificate_fields(certificate.bytes, certificate.length, &fields);
   if (answer != SSHKEY_DONE) return answer;
@@ -219,12 +236,13 @@ static uint32_t first_of(uint32_t one, uint32_t other) {
 
 /* What the texts say at that port of a key that the authority signed: SSHKEY_HOST_REVOKED where a
  * line revokes one of the two, and else what they say of the authority. */
-static uint32_t judge_signed(const host_request *asked, uint16_t port, blob key, blob authority) {
+static uint32_t judge_signed(const judge_host *asked, uint16_t port, judge_blob key,
+                             judge_blob authority) {
   const uint8_t *host = (const uint8_t *)asked->host;
   size_t length = strlen(asked->host);
   uint32_t found = SSHKEY_HOST_UNKNOWN;
   for (size_t at = 0; at < asked->text_count; at++) {
-    blob text = asked->texts[at];
+    judge_blob text = asked->texts[at];
     const uint8_t *bytes = sshkey_bytes(text.bytes);
     uint32_t signer = sshkey_authority_verdict(bytes, text.length, host, length, port,
                                                authority.bytes, authority.length);
@@ -238,8 +256,8 @@ static uint32_t judge_signed(const host_request *asked, uint16_t port, blob key,
 }
 
 /* The same, and what they say of port 22 where nothing is known at its own. */
-static uint32_t judge_keys(blob certificate, const host_request *asked, blob authority) {
-  blob key = {calloc(1, certificate.length), 0};
+static uint32_t judge_keys(judge_blob certificate, const judge_host *asked, judge_blob authority) {
+  judge_blob key = {calloc(1, certificate.length), 0};
   /* a room as long as the certificate is enough */
   if (!key.bytes) return SSHKEY_MEMORY;
   uint32_t answer = sshkey_certificate_key(certificate.bytes, certificate.length, key.bytes,
@@ -252,7 +270,7 @@ static uint32_t judge_keys(blob certificate, const host_request *asked, blob aut
 }
 
 /* Judges the certificate for the name in small letters, whatever the locale is. */
-static uint32_t judge_name(blob certificate, const host_request *asked, authorities by) {
+static uint32_t judge_name(judge_blob certificate, const judge_host *asked, judge_authorities by) {
   size_t length = strlen(asked->host);
   char *name = malloc(length + 1);
   if (!name) return SSHKEY_MEMORY;
@@ -260,34 +278,34 @@ static uint32_t judge_name(blob certificate, const host_request *asked, authorit
     char letter = asked->host[at];
     name[at] = letter >= 'A' && letter <= 'Z' ? (char)(letter - 'A' + 'a') : letter;
   }
-  uint32_t answer = judge(certificate, asked->unix_timestamp, name, by);
+  uint32_t answer = judge_certificate(certificate, asked->unix_timestamp, name, by);
   free(name);
   return answer;
 }
 
-uint32_t validate_host(blob certificate, const host_request *asked) {
+uint32_t judge_validate_host(judge_blob certificate, const judge_host *asked) {
   sshkey_fields fields;
   sshkey_parts parts;
   sshkey_sha256 signer = {{0}};
   memset(&fields, 0, sizeof fields);
   memset(&parts, 0, sizeof parts);
-  /* judge takes no principal for any */
+  /* judge_certificate takes no principal for any */
   if (!asked->host) return SSHKEY_UNLISTED_PRINCIPAL;
   const uint8_t *bytes = sshkey_bytes(certificate.bytes);
   uint32_t answer = sshkey_certificate_fields(bytes, certificate.length, &fields);
   if (answer == SSHKEY_DONE) answer = sshkey_certificate_parts(bytes, certificate.length, &parts);
   if (answer != SSHKEY_DONE) return answer;
-  blob authority = {certificate.bytes + parts.authority.start, parts.authority.length};
+  judge_blob authority = {certificate.bytes + parts.authority.start, parts.authority.length};
   answer = judge_keys(certificate, asked, authority);
   if (answer != SSHKEY_DONE) return answer;
   if (fields.certificate_type != SSHKEY_HOST) return JUDGE_NOT_FOR_HOSTS;
   if (fields.has_critical_options) return JUDGE_UNMET_OPTION;
   answer = sshkey_fingerprint(authority.bytes, authority.length, &signer);
   if (answer != SSHKEY_DONE) return answer;
-  return judge_name(certificate, asked, (authorities){&signer, 1});
+  return judge_name(certificate, asked, (judge_authorities){&signer, 1});
 }
 
-const char *meaning(uint32_t answer) {
+const char *judge_meaning(uint32_t answer) {
   switch (answer) {
   case SSHKEY_DONE: return "valid";
   case SSHKEY_MEMORY: return "no memory";

@@ -12,43 +12,46 @@
 typedef struct {
   uint8_t *bytes;
   size_t length;
-} blob;
+} judge_blob;
 
 /* Authorities, by the fingerprints of their keys, of malloc. */
 typedef struct {
   sshkey_sha256 *keys;
   size_t count;
-} authorities;
+} judge_authorities;
 
 /* The key or the certificate of a line, as the kind says: SSHKEY_DONE, or why there is none. */
-uint32_t read_line(const char *line, size_t length, uint32_t kind, blob *answer);
+uint32_t judge_read_line(const char *line, size_t length, uint32_t kind, judge_blob *answer);
 
 /* The same of two words, as sshd gives them: a type, and Base64. */
-uint32_t read_words(const char *type, const char *base64, uint32_t kind, blob *answer);
+uint32_t judge_read_words(const char *type, const char *base64, uint32_t kind, judge_blob *answer);
 
 /* Reads a file; false where it can't, and errno says why. */
-bool read_file(const char *path, blob *answer);
+bool judge_read_file(const char *path, judge_blob *answer);
 
 /* Adds the key of the line to the authorities: SSHKEY_DONE, or why not. */
-uint32_t add_authority(authorities *to, const char *line, size_t length);
+uint32_t judge_add_authority(judge_authorities *to, const char *line, size_t length);
 
-/* Whether the certificate is valid: SSHKEY_DONE, or what is wrong first. The principal may be null,
- * and then any is meant. */
-uint32_t judge(blob certificate, uint64_t unix_timestamp, const char *principal, authorities by);
+/* Whether the certificate is valid: SSHKEY_DONE, or what is wrong first. For each certificate of
+ * another authority it answers SSHKEY_UNTRUSTED_AUTHORITY, signed or not: its key may be one that
+ * the client made up, and no cryptography runs over it. The principal may be null, and then any is
+ * meant. */
+uint32_t judge_certificate(judge_blob certificate, uint64_t unix_timestamp, const char *principal,
+                           judge_authorities by);
 
 /* Whether a critical option of that name is known, and met at this login. */
-typedef bool is_met_option(const uint8_t *name, size_t name_length, const uint8_t *value,
+typedef bool judge_is_met(const uint8_t *name, size_t name_length, const uint8_t *value,
                            size_t value_length, void *given);
 
 /* A login by a certificate. */
 typedef struct {
   const char *user;        /* whom the client wants to be; null or empty is nobody */
-  blob key;                /* the key of which the client has proved that it holds it */
+  judge_blob key;          /* the key of which the client has proved that it holds it */
   uint64_t unix_timestamp; /* when that is */
-  authorities by;          /* who may certify users */
-  is_met_option *is_met;   /* may be null: then each critical option is one that is not known */
+  judge_authorities by;    /* who may certify users */
+  judge_is_met *is_met;    /* may be null: then each critical option is one that is not known */
   void *given;             /* what is_met gets */
-} login_request;
+} judge_login;
 
 /* What is wrong with a certificate that may be valid, and logs nobody in or is not the host's;
  * beside the answers of sshkey.h. */
@@ -65,24 +68,24 @@ enum {
 /* Whether the certificate logs the user in: SSHKEY_DONE, or what is wrong first, a number of
  * SSHKEY_* or of JUDGE_*. Whether it is revoked, whether somebody touched a security key, and what
  * its extensions say is not looked at (docs/FOREIGN.md). */
-uint32_t validate_user(blob certificate, const login_request *asked);
+uint32_t judge_validate_user(judge_blob certificate, const judge_login *asked);
 
 /* A host that shows a certificate. */
 typedef struct {
   const char *host;        /* the name that was asked for */
   uint16_t port;           /* where it was asked */
   uint64_t unix_timestamp; /* when that is */
-  const blob *texts;       /* those of all the known_hosts files that count */
+  const judge_blob *texts; /* those of all the known_hosts files that count */
   size_t text_count;
-} host_request;
+} judge_host;
 
 /* Whether the certificate is that of the host: SSHKEY_DONE, or what is wrong first, a number of
  * SSHKEY_* or of JUDGE_*. It has to list the name in small letters, as ssh(1) asks; one that lists
  * no principals is for each host of its authority. That the host holds the certified key is not
  * looked at (docs/FOREIGN.md). */
-uint32_t validate_host(blob certificate, const host_request *asked);
+uint32_t judge_validate_host(judge_blob certificate, const judge_host *asked);
 
 /* What an answer means, in words. */
-const char *meaning(uint32_t answer);
+const char *judge_meaning(uint32_t answer);
 
 #endif

@@ -39,19 +39,19 @@ static size_t run_of(bool are_blanks, const char *line, size_t length, size_t pl
 
 /* Adds the authority of a line if the line has the user: SSHKEY_DONE, or why it has no key. */
 static uint32_t read_authority(const char *line, size_t length, const char *user,
-                               authorities *to) {
+                               judge_authorities *to) {
   size_t list = run_of(false, line, length, 0);
   size_t key = list + run_of(true, line, length, list);
   if (!has_user(line, list, user)) return SSHKEY_DONE;
-  return add_authority(to, line + key, length - key);
+  return judge_add_authority(to, line + key, length - key);
 }
 
 /* Reads the authorities of the user; false, with a word to standard error, where it can't. */
-static bool read_authorities(const char *path, const char *user, authorities *to) {
-  blob text = {NULL, 0};
+static bool read_authorities(const char *path, const char *user, judge_authorities *to) {
+  judge_blob text = {NULL, 0};
   sshkey_part line = {0, 0};
   uint32_t answer = SSHKEY_DONE;
-  if (!read_file(path, &text)) {
+  if (!judge_read_file(path, &text)) {
     perror(path);
     return false;
   }
@@ -61,15 +61,15 @@ static bool read_authorities(const char *path, const char *user, authorities *to
        place = line.start + line.length)
     answer = read_authority((const char *)text.bytes + line.start, line.length, user, to);
   if (answer == SSHKEY_MEMORY)
-    fprintf(stderr, "principals: %s\n", meaning(answer));
+    fprintf(stderr, "principals: %s\n", judge_meaning(answer));
   else if (answer != SSHKEY_DONE)
-    fprintf(stderr, "principals: a line of %s has no key: %s\n", user, meaning(answer));
+    fprintf(stderr, "principals: a line of %s has no key: %s\n", user, judge_meaning(answer));
   free(text.bytes);
   return answer == SSHKEY_DONE;
 }
 
 /* Whether it is a certificate for users that lists principals: one that lists none allows all. */
-static bool is_for_listed_users(blob certificate) {
+static bool is_for_listed_users(judge_blob certificate) {
   sshkey_fields fields;
   memset(&fields, 0, sizeof fields);
   return sshkey_certificate_fields(sshkey_bytes(certificate.bytes), certificate.length, &fields) ==
@@ -79,14 +79,14 @@ static bool is_for_listed_users(blob certificate) {
 
 /* Prints the user where the certificate lets that user in; false, with a word to standard error,
  * where it does not, or where that fails. */
-static bool let_in(blob certificate, const char *user, authorities by) {
+static bool let_in(judge_blob certificate, const char *user, judge_authorities by) {
   if (!is_for_listed_users(certificate)) {
     fprintf(stderr, "principals: the certificate is not one for users that are listed\n");
     return false;
   }
-  uint32_t answer = judge(certificate, (uint64_t)time(NULL), user, by);
+  uint32_t answer = judge_certificate(certificate, (uint64_t)time(NULL), user, by);
   if (answer != SSHKEY_DONE) {
-    fprintf(stderr, "principals: %s is not let in: %s (%u)\n", user, meaning(answer), answer);
+    fprintf(stderr, "principals: %s is not let in: %s (%u)\n", user, judge_meaning(answer), answer);
     return false;
   }
   printf("%s\n", user);
@@ -101,16 +101,16 @@ int main(int count, char **words) {
     return 1;
   }
   const char *user = words[2];
-  authorities by = {NULL, 0};
-  blob certificate = {NULL, 0};
+  judge_authorities by = {NULL, 0};
+  judge_blob certificate = {NULL, 0};
   bool is_let_in = false;
   if (read_authorities(words[1], user, &by)) {
-    uint32_t answer = read_words(words[3], words[4], SSHKEY_LINE_CERTIFICATE, &certificate);
+    uint32_t answer = judge_read_words(words[3], words[4], SSHKEY_LINE_CERTIFICATE, &certificate);
     if (answer == SSHKEY_DONE)
       is_let_in = let_in(certificate, user, by);
     else
       fprintf(stderr, "principals: %s offers no certificate: %s\n", user,
-              meaning(answer));
+              judge_meaning(answer));
   }
   free(certificate.bytes);
   free(by.keys);

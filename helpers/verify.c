@@ -127,7 +127,7 @@ static bool is_ed25519(slice key, slice message, slice signature) {
   return yes;
 }
 
-bool is_signature(const sshkey_question *question, const uint8_t *room) {
+bool judge_is_signature(const sshkey_question *question, const uint8_t *room) {
   slice key = slice_of(room, question->key);
   slice message = slice_of(room, question->message);
   slice signature = slice_of(room, question->signature);

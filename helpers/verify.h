@@ -6,6 +6,6 @@
 
 /* Whether the signature is one of the message under the key. The room is the one that the question
  * was written to. False also where libcrypto fails, and for DSA. */
-bool is_signature(const sshkey_question *question, const uint8_t *room);
+bool judge_is_signature(const sshkey_question *question, const uint8_t *room);
 
 #endif

@@ -10,10 +10,12 @@ none), numbers and names:
     sshsig BYTES NAMESPACE MESSAGE                           the same, and the SIGNER
     sshsig-of-digest BYTES NAMESPACE DIGEST
     sshsig-hash BYTES                                        0 NAME
+    sshsig-reserved BYTES                                    0 BYTES
     is-sshsig BYTES NAMESPACE MESSAGE SIGNERS                0, or what is wrong first
     is-sshsig-of-digest BYTES NAMESPACE DIGEST SIGNERS
     is-signature KEY MESSAGE SIGNATURE                       0 and 1 if it verifies, else 0
-    validate BYTES SECOND PRINCIPAL|* AUTHORITIES 0|1        0, or what is wrong first, where a verification says no or yes
+    validate BYTES SECOND PRINCIPAL|* AUTHORITIES 0|1        0, or what is wrong first, where a verification says no or yes, and how
+                                                             many questions the verifier was asked
     user BYTES KEY SECOND USER AUTHORITIES OPTION            what validate_user says, as check.py prints it, where the critical
                                                              option of that name is met if it has a value
     fields BYTES                                             0 SERIAL AFTER BEFORE TYPE 0|1 0|1
@@ -42,6 +44,7 @@ import subprocess
 import tempfile
 import time
 from dataclasses import dataclass
+from unittest.mock import patch
 
 from lib.harness import string
 
@@ -112,6 +115,9 @@ class Answers:
     def sshsig_hash(self, data):
         return ["0", self.sshkey.sshsig_hash(data_of(data))]
 
+    def sshsig_reserved(self, data):
+        return ["0", word(self.sshkey.sshsig_reserved(data_of(data)))]
+
     def is_sshsig(self, *given):
         *words, by = given
         return [str(int(self.check.judge_signature(*map(data_of, words), self.digests(by))))]
@@ -130,7 +136,9 @@ class Answers:
 
     def validate(self, data, second, principal, by, yes):
         whom = None if principal == "*" else data_of(principal)
-        return [str(int(self.sshkey.validate_certificate(data_of(data), int(second), self.digests(by), yes == "1", whom)))]
+        with patch.object(self.check, "is_signature", return_value=yes == "1") as verifier:
+            status = self.check.judge(data_of(data), int(second), whom, self.digests(by))
+        return [str(int(status)), str(verifier.call_count)]
 
     def user(self, data, key, second, user, by, known):
         def is_met(name, value):
@@ -289,9 +297,13 @@ def check_certificates(judge):
     judge.ask("drafts", drafts, wanted + [it for _, it in changed])
     kind = made.kinds[0]
     own = made.sshkey.fingerprint(made.foreign.blob_of(maker.read(f"{kind.authority}.pub")))
-    given = [(f"{second} {whom} {word(by)} {yes}", status) for _, second, whom, by, yes, status in made.foreign.validations(own)]
-    numbers = [str(int(made.sshkey.Status[it])) for _, it in given]
-    judge.ask("validations", [f"validate {kind.blob.hex()} {it}" for it, _ in given], numbers)
+    given, numbers = [], []
+    for _, second, whom, by, yes, status in made.foreign.validations(own):
+        given.append(f"validate {kind.blob.hex()} {second} {whom} {word(by)} {yes}")
+        # no question is asked about another authority's certificate
+        is_asked = own in Answers.digests(word(by))
+        numbers.append(f"{int(made.sshkey.Status[status if is_asked else 'UNTRUSTED_AUTHORITY'])} {int(is_asked)}")
+    judge.ask("validations", given, numbers)
 
 
 def draft_of(fields):
@@ -410,7 +422,7 @@ def check_stub(count, asker, made, number):
     by, name = "00" * 32, b"alice".hex()
     questions = [
         f"certificate {blob}", f"signature {key} 00 {key}", f"sshsig {key} {name} 00", f"is-signature {key} 00 {key}",
-        f"sshsig-of-digest {key} {name} {by}", f"sshsig-hash {key}", f"is-sshsig {key} {name} 00 {by}",
+        f"sshsig-of-digest {key} {name} {by}", f"sshsig-hash {key}", f"sshsig-reserved {key}", f"is-sshsig {key} {name} 00 {by}",
         f"is-sshsig-of-digest {key} {name} {by} {by}",
         f"validate {blob} 7 * {by} 1", f"validate {blob} 7 {name} {by} 1", f"fields {blob}", f"lists {blob}",
         f"certificate-options {blob}", f"strings {blob}", f"key {key}", f"line {name}", f"normal key {key}",
@@ -422,14 +434,16 @@ def check_stub(count, asker, made, number):
 
 
 def check_answered(count, asker, name, questions, number):
-    """Each question is answered with that number, and a verdict with two; of a login the words are not looked at."""
+    """Each question is answered with that number, a verdict with two, and a validation without a question of its own; of a login the
+    words are not looked at."""
     try:
         ran = run(asker.words, input="".join(f"{it}\n" for it in questions), timeout=30)
     except subprocess.TimeoutExpired:
         count.check(f"{asker.language}: {name}, and the answers end", False)
         return
     said = [re.sub(r"^refused: .* \((\d+)\)$", r"\1", it) for it in ran.stdout.splitlines()]
-    wanted = [f"{number} {number}" if it.startswith("verdict ") else str(number) for it in questions]
+    more = {"verdict": f" {number}", "validate": " 0"}
+    wanted = [f"{number}{more.get(it.split()[0], '')}" for it in questions]
     wrong = [it for it in zip(questions, said, wanted) if it[1] != it[2]]
     same = ran.returncode == 0 and len(said) == len(questions) and not wrong
     count.check(f"{asker.language}: {name}", same, *wrong[:5], ran.stderr[-2000:])

@@ -16,7 +16,7 @@ import os
 from dataclasses import dataclass
 
 from lib.harness import ssh_keygen, string, take
-from lib.signatures import armoured, mpint, signed_data
+from lib.signatures import armoured, mpint, signed_data, ssh_signature
 
 from .entry_calls import loaded
 from .example_calls import INVALID, SPACE, UNTOLD, VALID, armour_cases, certificate_cases
@@ -224,19 +224,9 @@ def check_armour(count, program, made):
 # ---- keys that sign nothing
 
 
-def signed_data_of(message):
-    """What is signed for an SSH signature of the message in the namespace `file`."""
-    return signed_data(b"file", b"", b"sha512", message)
-
-
-def sshsig(key, signature):
-    """An SSH signature by that key (PROTOCOL.sshsig)."""
-    return b"SSHSIG" + (1).to_bytes(4, "big") + b"".join(map(string, (key, b"file", b"", b"sha512", signature)))
-
-
 def check_weak(count, program, made):
     """RSA keys whose numbers are zero or negative sign nothing, nor do short ones and keys of DSA."""
-    exponent, modulus, signature = signed_by_hand(signed_data_of(b"text"))
+    exponent, modulus, signature = signed_by_hand(signed_data(b"file", b"", b"sha512", b"text"))
     one = mpint(exponent)
     cases = [(name, numbers, VALID if is_one else INVALID) for name, numbers, is_one in numbers_of_keys(exponent, modulus)]
     cases += [
@@ -245,7 +235,7 @@ def check_weak(count, program, made):
     ]  # fmt: skip
     for name, numbers, wanted in cases:
         key = string(b"ssh-rsa") + b"".join(numbers)
-        check_signed_by(count, program, made, f"an RSA key whose numbers are made by hand: {name}", key, sshsig(key, signature), wanted)
+        check_signed_by(count, program, made, f"an RSA key whose numbers are made by hand: {name}", key, ssh_signature(key, signature), wanted)
     for name, kind in (("an RSA key of 1,024 bits", "rsa -b 1024"), ("a DSA key", "dsa")):
         line = made.foreign.new_key(made.maker.path("weak"), kind, "")
         if line:

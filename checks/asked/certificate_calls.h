@@ -7,7 +7,7 @@
 #ifndef CERTIFICATE_CALLS_H
 #define CERTIFICATE_CALLS_H
 
-static void say_hexadecimal(const char *name, blob of, sshkey_part part) {
+static void say_hexadecimal(const char *name, judge_blob of, sshkey_part part) {
   printf(" %s", name);
   if (part.start > of.length || part.length > of.length - part.start)
     printf("outside");
@@ -15,7 +15,7 @@ static void say_hexadecimal(const char *name, blob of, sshkey_part part) {
     for (size_t at = 0; at < part.length; at++) printf("%02x", of.bytes[part.start + at]);
 }
 
-static void say_principals(blob certificate, sshkey_part list) {
+static void say_principals(judge_blob certificate, sshkey_part list) {
   sshkey_part part = {0, 0};
   const uint8_t *bytes = certificate.bytes + list.start;
   uint32_t answer;
@@ -29,9 +29,9 @@ static void say_principals(blob certificate, sshkey_part list) {
   if (answer != SSHKEY_END) printf(" no string");
 }
 
-static void say_options(const char *name, blob certificate, sshkey_part list) {
+static void say_options(const char *name, judge_blob certificate, sshkey_part list) {
   sshkey_certificate_option_parts found;
-  blob bytes = {certificate.bytes + list.start, list.length};
+  judge_blob bytes = {certificate.bytes + list.start, list.length};
   uint32_t answer;
   memset(&found, FILLED, sizeof found);
   for (size_t place = 0;
@@ -48,9 +48,9 @@ static void say_options(const char *name, blob certificate, sshkey_part list) {
   if (answer != SSHKEY_END) printf(" no option");
 }
 
-static void ask_lists(blob certificate) {
+static void ask_lists(judge_blob certificate) {
   sshkey_parts parts;
-  blob room = made(certificate.length);
+  judge_blob room = made(certificate.length);
   size_t length = FILLED;
   memset(&parts, FILLED, sizeof parts);
   uint32_t answer = sshkey_certificate_parts(certificate.bytes, certificate.length, &parts);
@@ -71,7 +71,7 @@ static void ask_lists(blob certificate) {
 }
 
 /* As ask_strings. */
-static void ask_certificate_options(blob bytes) {
+static void ask_certificate_options(judge_blob bytes) {
   size_t places[] = {bytes.length + 1, bytes.length + 4, SIZE_MAX - 4, SIZE_MAX};
   for (size_t at = 0; at <= bytes.length + 4; at++) {
     size_t place = at <= bytes.length ? at : places[at - bytes.length - 1];
@@ -88,7 +88,7 @@ static void ask_certificate_options(blob bytes) {
 static size_t rooms_kept(const sshkey_draft *draft, size_t needed) {
   size_t length = 0, said = needed;
   for (int kept = 1; kept && length < needed; length += (size_t)kept) {
-    blob room = made(length);
+    judge_blob room = made(length);
     uint32_t answer = sshkey_certificate_to_be_signed(draft, room.bytes, length, &said);
     kept = answer == SSHKEY_ROOM && said == needed && is_filled(room, 0);
     free(room.bytes);
@@ -97,7 +97,7 @@ static size_t rooms_kept(const sshkey_draft *draft, size_t needed) {
 }
 
 static void ask_draft(char **words) {
-  blob spans[7];
+  judge_blob spans[7];
   for (int at = 0; at < 7; at++) spans[at] = bytes_of(words[1 + at]);
 #define SPAN(at) {spans[at].bytes, spans[at].length}
   sshkey_draft draft = {SPAN(0), SPAN(1), SPAN(2), SPAN(3), SPAN(4), SPAN(5), SPAN(6),
@@ -107,11 +107,11 @@ static void ask_draft(char **words) {
   draft.valid_before = strtoull(words[10], NULL, 10);
   draft.certificate_type = (uint32_t)strtoul(words[11], NULL, 10);
   draft.all_principals = (uint32_t)strtoul(words[12], NULL, 10);
-  blob none = made(0);
+  judge_blob none = made(0);
   size_t needed = FILLED, length = FILLED;
   uint32_t answer = sshkey_certificate_to_be_signed(&draft, none.bytes, 0, &needed);
   if (answer == SSHKEY_ROOM) {
-    blob room = made(needed + 8);
+    judge_blob room = made(needed + 8);
     answer = sshkey_certificate_to_be_signed(&draft, room.bytes, room.length, &length);
     printf("%" PRIu32, answer);
     if (answer == SSHKEY_DONE) say_hexadecimal("", room, (sshkey_part){0, length});
@@ -132,7 +132,7 @@ static int ask_about_certificates(char **words) {
   }
   int lists = !strcmp(words[0], "lists");
   if (!lists && strcmp(words[0], "certificate-options")) return 0;
-  blob first = bytes_of(words[1]);
+  judge_blob first = bytes_of(words[1]);
   if (lists)
     ask_lists(first);
   else

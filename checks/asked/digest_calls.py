@@ -3,7 +3,7 @@ digests that Python's hashlib computes."""
 import hashlib
 
 from lib.harness import blob_of, string, take
-from lib.signatures import signed_data
+from lib.signatures import signed_data, ssh_signature_over
 
 from .key_calls import Asked, part_of
 from .login_calls import blocks
@@ -133,4 +133,11 @@ def questions_of(made):
             right = hashlib.new(name, TEXT).hexdigest()
             questions += [f"is-sshsig {words} {TEXT.hex()} {own}", f"is-sshsig-of-digest {words} {right} {'00' * 32}"]
             wanted += ["0", str(int(made.sshkey.Status.UNTRUSTED_AUTHORITY))]
+        line = made.maker.read(f"user{number}.pub")
+        for reserved, status in ((b"", "0"), (b"reserved", str(int(made.sshkey.Status.NOT_SIGNED)))):
+            signature = ssh_signature_over(reserved, made.maker.path(f"user{number}"), line, TEXT).hex()
+            words = f"{signature} {b'file'.hex()}"
+            questions += [f"sshsig-reserved {signature}", f"sshsig-reserved {signature[:-2]}", f"is-sshsig {words} {TEXT.hex()} {own}"]
+            questions.append(f"is-sshsig-of-digest {words} {hashlib.sha512(TEXT).hexdigest()} {own}")
+            wanted += [f"0 {reserved.hex() or '-'}", "13", status, status]
     return questions, wanted

@@ -13,7 +13,7 @@ static entry_call *call_of(const char *what) {
   return strcmp(what, "host") ? sshkey_authorized_entry : sshkey_known_host;
 }
 
-static void ask_lines(blob text) {
+static void ask_lines(judge_blob text) {
   sshkey_part part = {7, 7};
   size_t place = 0;
   uint32_t answer;
@@ -28,8 +28,8 @@ static void ask_lines(blob text) {
     printf(" %" PRIu32, sshkey_next_line(text.bytes, text.length, behind[at], &part));
 }
 
-static void ask_entry(entry_call *call, blob line) {
-  blob room = made(line.length);
+static void ask_entry(entry_call *call, judge_blob line) {
+  judge_blob room = made(line.length);
   sshkey_entry entry;
   memset(&entry, FILLED, sizeof entry);
   uint32_t answer = call(line.bytes, line.length, room.bytes, room.length, &entry);
@@ -44,10 +44,10 @@ static void ask_entry(entry_call *call, blob line) {
   free(room.bytes);
 }
 
-static void ask_options(blob text) {
+static void ask_options(judge_blob text) {
   uint32_t answer = SSHKEY_DONE;
   for (size_t number = 0; answer == SSHKEY_DONE; number++) {
-    blob room = made(text.length);
+    judge_blob room = made(text.length);
     sshkey_entry_option_parts option;
     memset(&option, FILLED, sizeof option);
     answer = sshkey_nth_option(text.bytes, text.length, number, room.bytes, room.length, &option);
@@ -64,8 +64,8 @@ static void ask_options(blob text) {
 
 /* What is answered with a room of that length, and how many bytes are said to be needed; the room
  * has to stay as it was where it is too short. */
-static uint32_t with_room(const char *what, blob text, size_t length, size_t *needed) {
-  blob room = made(length);
+static uint32_t with_room(const char *what, judge_blob text, size_t length, size_t *needed) {
+  judge_blob room = made(length);
   sshkey_entry entry;
   sshkey_entry_option_parts option;
   memset(&entry, 0, sizeof entry);
@@ -82,7 +82,7 @@ static uint32_t with_room(const char *what, blob text, size_t length, size_t *ne
 }
 
 /* How many bytes are needed, and how many rooms, from none on, are answered as they have to be. */
-static void ask_short(const char *what, blob text) {
+static void ask_short(const char *what, judge_blob text) {
   size_t needed, said, length = 0;
   if (with_room(what, text, 0, &needed) != SSHKEY_ROOM) needed = 0;
   while (length <= needed
@@ -93,7 +93,7 @@ static void ask_short(const char *what, blob text) {
   printf("%zu %zu", needed, length);
 }
 
-static void ask_verdict(blob text, blob host, const char *port, blob key) {
+static void ask_verdict(judge_blob text, judge_blob host, const char *port, judge_blob key) {
   uint16_t number = (uint16_t)strtoul(port, NULL, 10);
   printf("%" PRIu32 " %" PRIu32,
          sshkey_host_verdict(text.bytes, text.length, host.bytes, host.length, number, key.bytes,
@@ -102,7 +102,7 @@ static void ask_verdict(blob text, blob host, const char *port, blob key) {
                                   key.bytes, key.length));
 }
 
-static void ask_of_files(char **words, blob first) {
+static void ask_of_files(char **words, judge_blob first) {
   const char *what = words[0];
   if (!strcmp(what, "lines")) {
     ask_lines(first);
@@ -111,11 +111,11 @@ static void ask_of_files(char **words, blob first) {
   } else if (!strcmp(what, "options")) {
     ask_options(first);
   } else if (!strcmp(what, "short")) {
-    blob text = bytes_of(words[2]);
+    judge_blob text = bytes_of(words[2]);
     ask_short(words[1], text);
     free(text.bytes);
   } else if (!strcmp(what, "verdict")) {
-    blob host = bytes_of(words[2]), key = bytes_of(words[4]);
+    judge_blob host = bytes_of(words[2]), key = bytes_of(words[4]);
     ask_verdict(first, host, words[3], key);
     free(host.bytes);
     free(key.bytes);

@@ -1,4 +1,4 @@
-/* Asks validate_host of helpers/judge.h, for checks/foreign.c, which has the helpers:
+/* Asks judge_validate_host of helpers/judge.h, for checks/foreign.c, which has the helpers:
  *
  *     host-certificate CERTIFICATE SECOND HOST PORT COUNT TEXT..
  *
@@ -9,16 +9,16 @@
 #define MOST_TEXTS 3
 
 static void ask_host(char **words) {
-  blob certificate = bytes_of(words[1]), host = bytes_of(words[3]), texts[MOST_TEXTS];
+  judge_blob certificate = bytes_of(words[1]), host = bytes_of(words[3]), texts[MOST_TEXTS];
   size_t count = strtoul(words[5], NULL, 10);
   char *name = calloc(1, host.length + 1);
   if (!name || count > MOST_TEXTS) exit(3);
   memcpy(name, host.bytes, host.length);
   for (size_t at = 0; at < count; at++) texts[at] = bytes_of(words[6 + at]);
-  host_request asked = {name, (uint16_t)strtoul(words[4], NULL, 10),
-                        strtoull(words[2], NULL, 10), texts, count};
-  uint32_t answer = validate_host(certificate, &asked);
-  printf("%" PRIu32 " %s", answer, meaning(answer));
+  judge_host asked = {name, (uint16_t)strtoul(words[4], NULL, 10), strtoull(words[2], NULL, 10),
+                      texts, count};
+  uint32_t answer = judge_validate_host(certificate, &asked);
+  printf("%" PRIu32 " %s", answer, judge_meaning(answer));
   for (size_t at = 0; at < count; at++) free(texts[at].bytes);
   free(certificate.bytes);
   free(host.bytes);

@@ -5,7 +5,7 @@ import time
 from lib.harness import blob_of
 
 from .hosts import AROUND_NOW, AUTHORITY, BROKEN, CERTIFICATES, CERTIFICATES_OF_FILES, HOST, INVALID, NAMED, field, in_one_file, written
-from .linked import HELPERS, SANITIZED, VALGRIND, C, run
+from .linked import HELPERS, PEDANTIC, SANITIZED, VALGRIND, C, run
 from .login_calls import REFUSALS, blocks
 
 # what the program callers answers, and what validate_host does
@@ -48,11 +48,11 @@ PAGE = """\
 #include "judge.h"
 static void go_on(void) {{ puts("go on"); }}
 int main(int count, char **words) {{
-blob certificate, texts[2];
+judge_blob certificate, texts[2];
 size_t text_count = 2;
-if (count != 4 || read_line(words[1], strlen(words[1]), SSHKEY_LINE_CERTIFICATE, &certificate) != SSHKEY_DONE) return 1;
+if (count != 4 || judge_read_line(words[1], strlen(words[1]), SSHKEY_LINE_CERTIFICATE, &certificate) != SSHKEY_DONE) return 1;
 for (size_t at = 0; at < text_count; at++)
-  texts[at] = (blob){{(uint8_t *)words[2 + at], strlen(words[2 + at])}};
+  texts[at] = (judge_blob){{(uint8_t *)words[2 + at], strlen(words[2 + at])}};
 {0}free(certificate.bytes);
 return 0;
 }}
@@ -73,7 +73,7 @@ def check_page(count, built, modules, maker):
     path, code, by_python = f"{maker.folder}/host-page", blocks("c", "A host's certificate"), blocks("python", "A host's certificate")
     maker.write("host-page.c", PAGE.format(*code[:1]))
     parts = [f"{path}.c", f"{built.sanitized}/judge.o", f"{built.sanitized}/verify.o", f"{built.sanitized}/libsshkey.a"]
-    made = run([*C, f"-I{HELPERS}", *SANITIZED.split(), *parts, "-lcrypto", "-o", path])
+    made = run([*C, *PEDANTIC, f"-I{HELPERS}", *SANITIZED.split(), *parts, "-lcrypto", "-o", path])
     count.check("the C of a host's certificate in docs/FOREIGN.md compiles", made.returncode == 0 and len(code) == 1, made.stderr[-2000:])
     line = maker.certificate("host-authority", "host-key", "-h", "-V", "-5m:+5m", "-n", "db.example.org")
     by, key = (maker.read(f"{it}.pub") for it in ("host-authority", "host-key"))

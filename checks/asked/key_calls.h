@@ -12,8 +12,8 @@
 #define KEY_CALLS_H
 
 /* Whether the room of that length is too short for what is needed, and stays as it was. */
-static int is_line_kept(blob line, size_t length, size_t needed) {
-  blob room = made(length);
+static int is_line_kept(judge_blob line, size_t length, size_t needed) {
+  judge_blob room = made(length);
   sshkey_line found;
   memset(&found, 0, sizeof found);
   uint32_t answer = sshkey_read_line(line.bytes, line.length, room.bytes, length, &found);
@@ -22,8 +22,8 @@ static int is_line_kept(blob line, size_t length, size_t needed) {
   return kept;
 }
 
-static void ask_line(blob line) {
-  blob room = made(line.length + 7);
+static void ask_line(judge_blob line) {
+  judge_blob room = made(line.length + 7);
   sshkey_line found;
   memset(&found, FILLED, sizeof found);
   uint32_t answer = sshkey_read_line(line.bytes, line.length, room.bytes, room.length, &found);
@@ -40,9 +40,9 @@ static void ask_line(blob line) {
   free(room.bytes);
 }
 
-static void ask_sha512(blob key) {
+static void ask_sha512(judge_blob key) {
   sshkey_sha512 *digest = calloc(1, sizeof *digest);
-  blob text = made(SSHKEY_FINGERPRINT_SHA512_TEXT), shorter = made(text.length - 1);
+  judge_blob text = made(SSHKEY_FINGERPRINT_SHA512_TEXT), shorter = made(text.length - 1);
   if (!digest) exit(3);
   uint32_t answer = sshkey_fingerprint_sha512(key.bytes, key.length, digest);
   printf("%" PRIu32, answer);
@@ -58,8 +58,8 @@ static void ask_sha512(blob key) {
   free(shorter.bytes);
 }
 
-static void ask_signature(blob key, blob message, blob signature) {
-  blob room = made(key.length + message.length + signature.length + 256);
+static void ask_signature(judge_blob key, judge_blob message, judge_blob signature) {
+  judge_blob room = made(key.length + message.length + signature.length + 256);
   sshkey_question question;
   memset(&question, FILLED, sizeof question);
   uint32_t answer = sshkey_signature_question(key.bytes, key.length, message.bytes, message.length,
@@ -69,15 +69,15 @@ static void ask_signature(blob key, blob message, blob signature) {
   free(room.bytes);
 }
 
-static void ask_is_signature(blob key, blob message, blob signature) {
-  blob room = made(key.length + message.length + signature.length + 256);
+static void ask_is_signature(judge_blob key, judge_blob message, judge_blob signature) {
+  judge_blob room = made(key.length + message.length + signature.length + 256);
   sshkey_question question;
   memset(&question, 0, sizeof question);
   uint32_t answer = sshkey_signature_question(key.bytes, key.length, message.bytes, message.length,
                                               signature.bytes, signature.length, room.bytes,
                                               room.length, &question);
   printf("%" PRIu32, answer);
-  if (answer == SSHKEY_DONE) printf(" %d", is_signature(&question, room.bytes));
+  if (answer == SSHKEY_DONE) printf(" %d", judge_is_signature(&question, room.bytes));
   free(room.bytes);
 }
 
@@ -91,8 +91,8 @@ static normal_call *normal_of(const char *kind) {
   return sshkey_signature_normal;
 }
 
-static int is_normal_kept(normal_call *call, blob bytes, size_t length, size_t needed) {
-  blob room = made(length);
+static int is_normal_kept(normal_call *call, judge_blob bytes, size_t length, size_t needed) {
+  judge_blob room = made(length);
   size_t found = 0;
   uint32_t answer = call(bytes.bytes, bytes.length, room.bytes, length, &found);
   int kept = answer == SSHKEY_ROOM && found == needed && is_filled(room, 0);
@@ -100,9 +100,9 @@ static int is_normal_kept(normal_call *call, blob bytes, size_t length, size_t n
   return kept;
 }
 
-static void ask_normal(const char *kind, blob bytes) {
+static void ask_normal(const char *kind, judge_blob bytes) {
   normal_call *call = normal_of(kind);
-  blob room = made(bytes.length + 7);
+  judge_blob room = made(bytes.length + 7);
   size_t needed = 0, length = 0;
   uint32_t answer = call(bytes.bytes, bytes.length, room.bytes, room.length, &needed);
   printf("%" PRIu32, answer);
@@ -117,7 +117,7 @@ static void ask_normal(const char *kind, blob bytes) {
 
 /* Answers a question of these; 0 where it is none. */
 static int ask_about_keys(char **words) {
-  blob first = bytes_of(words[strcmp(words[0], "normal") ? 1 : 2]);
+  judge_blob first = bytes_of(words[strcmp(words[0], "normal") ? 1 : 2]);
   int is_asked = 1;
   if (!strcmp(words[0], "line")) {
     ask_line(first);
@@ -126,7 +126,7 @@ static int ask_about_keys(char **words) {
   } else if (!strcmp(words[0], "normal")) {
     ask_normal(words[1], first);
   } else if (!strcmp(words[0], "signature") || !strcmp(words[0], "is-signature")) {
-    blob message = bytes_of(words[2]), signature = bytes_of(words[3]);
+    judge_blob message = bytes_of(words[2]), signature = bytes_of(words[3]);
     (words[0][0] == 's' ? ask_signature : ask_is_signature)(first, message, signature);
     free(message.bytes);
     free(signature.bytes);

@@ -3,10 +3,11 @@ follows from the words that ssh-keygen was given, which makes the certificates."
 import hashlib
 import re
 import time
+from unittest.mock import patch
 
 from lib.harness import ROOT, blob_of, string
 
-from .linked import HELPERS, SANITIZED, VALGRIND, C, run
+from .linked import HELPERS, PEDANTIC, SANITIZED, VALGRIND, C, run
 from .login_options import CASES, FLAGS, MOST, TEXTS, certificate
 
 REFUSALS = {
@@ -32,6 +33,7 @@ def cases(maker, window):
         ("another user", good, own, middle, "eve", by, "UNLISTED_PRINCIPAL"),
         ("no user", good, own, middle, "", by, "UNLISTED_PRINCIPAL"), ("a user that is no text", good, own, middle, b"\xff", by, "TEXT"),
         ("another authority", good, own, middle, "alice", strange, "UNTRUSTED_AUTHORITY"),
+        ("another authority, and a turned bit", turned(good), own, middle, "alice", strange, "UNTRUSTED_AUTHORITY"),
         ("no authority", good, own, middle, "alice", b"", "UNTRUSTED_AUTHORITY"),
         ("too early", good, own, 1, "alice", by, "OUT_OF_WINDOW"),
         ("too late", good, own, 2 * middle, "alice", by, "OUT_OF_WINDOW"),
@@ -140,11 +142,15 @@ def check_users(count, built, modules, maker, window):
     for (name, blob, key, second, user, by, known, wanted), answer in zip(asked, said):
         number = REFUSALS[wanted] if wanted in REFUSALS else int(sshkey.Status[wanted])
         authorities = [by[at : at + 32] for at in range(0, len(by), 32)]
-        found = check.validate_user(
-            blob, key, second, user, authorities, lambda option, value, known=known: option == known and value != ""
-        )  # fmt: skip
-        same = int(found) == number and answer == f"{number} {check.MEANING.get(found, 'valid')}"
-        count.check(f"a login by a certificate: {name}", same, wanted, found, answer)
+        with patch.object(check, "is_signature", wraps=check.is_signature) as verifier:
+            found = check.validate_user(
+                blob, key, second, user, authorities, lambda option, value, known=known: option == known and value != ""
+            )  # fmt: skip
+        questions = verifier.call_count
+        same = int(found) == number and answer == f"{number} {check.MEANING.get(found, 'valid')}, {questions}"
+        # no cryptography runs over another authority's key
+        same &= questions == {"UNTRUSTED_AUTHORITY": 0, "NOT_SIGNED": 1, "DONE": 1}.get(wanted, questions)
+        count.check(f"a login by a certificate: {name}", same, wanted, found, answer, questions)
 
 
 # ---- what docs/FOREIGN.md shows
@@ -160,19 +166,20 @@ PAGE = """\
 #include "verify.h"
 bool is_in_networks(void *client, const uint8_t *value, size_t length);
 uint32_t two_calls(const uint8_t *certificate, size_t length, const sshkey_sha256 *authorities, size_t authority_count);
-is_met_option *met(void);
+judge_is_met *met(void);
+static bool is_signature(const sshkey_question *question, const uint8_t *room) {{ return judge_is_signature(question, room); }}
 static void let_in(void) {{ puts("let in"); }}
-static void log_in(const char *authority_line, const char *line, blob key) {{
+static void log_in(const char *authority_line, const char *line, judge_blob key) {{
 size_t authority_length = strlen(authority_line), length = strlen(line);
 {0}}}
 {1}
-is_met_option *met(void) {{ return is_met; }}
+judge_is_met *met(void) {{ return is_met; }}
 bool is_in_networks(void *client, const uint8_t *value, size_t length) {{ return client && value && length; }}
 uint32_t two_calls(const uint8_t *certificate, size_t length, const sshkey_sha256 *authorities, size_t authority_count) {{
 {2}return answer; }}
 int main(int count, char **words) {{
-blob key;
-if (count != 4 || read_line(words[3], strlen(words[3]), SSHKEY_LINE_KEY, &key) != SSHKEY_DONE) return 1;
+judge_blob key;
+if (count != 4 || judge_read_line(words[3], strlen(words[3]), SSHKEY_LINE_KEY, &key) != SSHKEY_DONE) return 1;
 log_in(words[1], words[2], key);
 free(key.bytes);
 return 0;
@@ -201,7 +208,7 @@ def check_page(count, built, modules, maker):
     path, code = f"{maker.folder}/page", blocks("c")
     maker.write("page.c", PAGE.format(*code[:3]))
     parts = [f"{path}.c", f"{built.sanitized}/judge.o", f"{built.sanitized}/verify.o", f"{built.sanitized}/libsshkey.a"]
-    made = run([*C, f"-I{HELPERS}", *SANITIZED.split(), *parts, "-lcrypto", "-o", path])
+    made = run([*C, *PEDANTIC, f"-I{HELPERS}", *SANITIZED.split(), *parts, "-lcrypto", "-o", path])
     count.check("the C of docs/FOREIGN.md compiles", len(code) == 3 and made.returncode == 0, made.stderr[-2000:])
     authority, own, other = (maker.read(f"{it}.pub") for it in ("authority0", "user0", "user1"))
     good, strange = (maker.certificate("authority0", "user0", "-V", "-5m:+5m", "-n", it) for it in ("alice", "eve"))

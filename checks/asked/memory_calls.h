@@ -11,8 +11,8 @@
  *
  *     authority LINE
  *
- * has the answer of add_authority of helpers/judge.h, and its answers where each of its requests
- * but those by calloc is refused. */
+ * has the answer of judge_add_authority of helpers/judge.h, and its answers where each of its
+ * requests but those by calloc is refused. */
 #ifndef MEMORY_CALLS_H
 #define MEMORY_CALLS_H
 
@@ -56,9 +56,9 @@ void __wrap_free(void *block) {
 /* What a call is given, and what it writes. */
 typedef struct {
   const char *name;
-  blob spans[SPANS];
+  judge_blob spans[SPANS];
   uint64_t numbers[NUMBERS];
-  blob room;
+  judge_blob room;
   size_t length;
   sshkey_part part;
   sshkey_sha256 sha256;
@@ -177,20 +177,20 @@ static void ask_memory(char **words) {
   free(it.room.bytes);
 }
 
-/* What add_authority answers where the request of that number is refused; 0 for none. */
-static uint32_t add_refusing(blob line, size_t number) {
-  authorities to = {NULL, 0};
+/* What judge_add_authority answers where the request of that number is refused; 0 for none. */
+static uint32_t add_refusing(judge_blob line, size_t number) {
+  judge_authorities to = {NULL, 0};
   requests.is_on = 1;
   requests.made = requests.held = 0;
   requests.first_refused = requests.last_refused = number;
-  uint32_t answer = add_authority(&to, (const char *)line.bytes, line.length);
+  uint32_t answer = judge_add_authority(&to, (const char *)line.bytes, line.length);
   requests.is_on = 0;
   if (to.count != (answer == SSHKEY_DONE)) printf("another number of authorities ");
   free(to.keys);
   return answer;
 }
 
-static void ask_authority(blob line) {
+static void ask_authority(judge_blob line) {
   printf("%" PRIu32, add_refusing(line, 0));
   size_t made = requests.made;
   for (size_t number = 1; number <= made; number++)

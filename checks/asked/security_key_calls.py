@@ -10,7 +10,7 @@ from concurrent.futures import ThreadPoolExecutor
 from cryptography.hazmat.primitives import hashes, serialization
 from cryptography.hazmat.primitives.asymmetric import ec, ed25519, utils
 from lib.harness import ssh_keygen, string, take
-from lib.signatures import mpint, signed_data
+from lib.signatures import mpint, signed_data, ssh_signature
 
 from .key_calls import part_of, question_of, said_of_signature, turned
 from .linked import run
@@ -233,7 +233,7 @@ def check_subject(judges, key, window, is_verified):
     whole = listed[2] == key.blob().hex() and judges.sshkey.certificate_contents(certificate).key == key.blob()
     judges.count.check(f"a certificate of a security key of {key.kind} is valid, and has the key", valid and whole, by_c, listed)
     signed = signed_data(b"file", b"", b"sha512", b"text")
-    file = file_signature(certificate, key.signature(key.raw(key.device_message(signed))))
+    file = ssh_signature(certificate, key.signature(key.raw(key.device_message(signed))))
     allowed = f"alice cert-authority {authority}"
     judged = [is_verified(maker.folder, "subject", file, "text", whom, middle, allowed) for whom in ("alice", "eve")]
     judges.count.check("and ssh-keygen takes what it signs, by the principal", judged == [True, False], judged)
@@ -242,18 +242,13 @@ def check_subject(judges, key, window, is_verified):
 # ---- files
 
 
-def file_signature(signer, signature):
-    """An SSH signature of a file (PROTOCOL.sshsig)."""
-    return b"SSHSIG" + struct.pack(">I", 1) + b"".join(map(string, (signer, b"file", b"", b"sha512", signature)))
-
-
 def check_file(judges, key, middle, is_verified):
     """Signatures of files by a security key, as `ssh-keygen -Y verify` says; the same under the key, verified by libcrypto."""
     signed = signed_data(b"file", b"", b"sha512", b"text")
     cases = list(signatures(key, signed))
     by_c = judges.ask(*(f"is-{question_of(blob, signed, signature)}" for _, blob, signature, _ in cases))
     for (name, blob, signature, is_one), answer in zip(cases, by_c):
-        file, line = file_signature(blob, signature), f"{key.names[0].decode()} {base64.b64encode(blob).decode()}"
+        file, line = ssh_signature(blob, signature), f"{key.names[0].decode()} {base64.b64encode(blob).decode()}"
         status = judges.check.judge_signature(file, "file", b"text", {judges.sshkey.fingerprint(blob)})
         judged = is_verified(judges.maker.folder, "file", file, "text", "signer", middle, f"signer {line}")
         same = (status == 0) == judged == (answer == "0 1") == is_one
@@ -267,7 +262,7 @@ def check_zero(judges, kind, middle, is_verified):
     signed, ended, cut = signed_data(b"file", b"", b"sha512", b"text"), SecurityKey(kind, b"ssh:\0"), SecurityKey(kind, b"ssh:")
     for name, application, is_one in (("with", ended.application, True), ("without", cut.application, False)):
         cut.application = application
-        file = file_signature(ended.blob(), ended.signature(ended.raw(cut.device_message(signed))))
+        file = ssh_signature(ended.blob(), ended.signature(ended.raw(cut.device_message(signed))))
         status = judges.check.judge_signature(file, "file", b"text", {hashlib.sha256(ended.blob()).digest()})
         judged = is_verified(judges.maker.folder, "zero", file, "text", "signer", middle, f"signer {ended.line()}")
         same = (status == 0) == is_one and judged != is_one

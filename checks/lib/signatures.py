@@ -4,7 +4,7 @@ import base64
 import hashlib
 import sys
 
-from lib.harness import string, take
+from lib.harness import blob_of, string, take
 
 try:
     from cryptography.exceptions import InvalidSignature
@@ -83,6 +83,17 @@ def signed_data(namespace, reserved, name, content):
     """What is signed in place of the content, by the hash of that name."""
     digest = hashlib.new(name.decode(), content).digest()
     return b"SSHSIG" + b"".join(map(string, (namespace, reserved, name, digest)))
+
+
+def ssh_signature(key, signature, namespace=b"file", reserved=b"", name=b"sha512"):
+    """An SSH signature by that key, both as their blobs."""
+    return b"SSHSIG" + (1).to_bytes(4, "big") + b"".join(map(string, (key, namespace, reserved, name, signature)))
+
+
+def ssh_signature_over(reserved, private, key, content):
+    """One of the content over reserved bytes that stand there, by the private key in that file, whose public line is `key`."""
+    made = signed(private, key, signed_data(b"file", reserved, b"sha512", content))
+    return ssh_signature(blob_of(key), made, reserved=reserved)
 
 
 def told_of_file(blob, content):

@@ -125,12 +125,15 @@ func judgeKey(own, held []byte) error {
 // ValidateSSHSig gives nil exactly if the bytes, as they stand in the armour, are an SSH signature
 // (`ssh-keygen -Y sign`) of the message in that namespace by one of the signers, which are the
 // fingerprints of the keys that may sign for that namespace; else what is wrong first, a
-// sshkey.Status. It fails with sshkey.ErrMemory, which says nothing of the signature.
+// sshkey.Status. One with reserved bytes is sshkey.ErrNotSigned: ssh-keygen verifies it as if these
+// were empty. It fails with sshkey.ErrMemory, which says nothing of the signature.
 func ValidateSSHSig(
 	signature []byte, namespace string, message []byte, signers []sshkey.SHA256,
 ) error {
+	// nobody changes it between the calls
+	signature = append([]byte(nil), signature...)
 	question, signer, err := sshkey.SSHSigQuestion(signature, namespace, message)
-	return judgeSSHSig(question, signer, err, signers)
+	return judgeSSHSig(signature, question, signer, err, signers)
 }
 
 // ValidateSSHSigOfDigest does the same with the digest of the message in place of the message, by
@@ -138,19 +141,26 @@ func ValidateSSHSig(
 func ValidateSSHSigOfDigest(
 	signature []byte, namespace string, digest []byte, signers []sshkey.SHA256,
 ) error {
+	// nobody changes it between the calls
+	signature = append([]byte(nil), signature...)
 	question, signer, err := sshkey.SSHSigQuestionOfDigest(signature, namespace, digest)
-	return judgeSSHSig(question, signer, err, signers)
+	return judgeSSHSig(signature, question, signer, err, signers)
 }
 
-// judgeSSHSig gives nil where the question was asked, the verification says yes and the signer is
-// one of those.
+// judgeSSHSig gives nil where the question was asked, nothing is reserved, the verification says
+// yes and the signer is one of those.
 func judgeSSHSig(
-	question sshkey.Question, signer sshkey.SHA256, err error, signers []sshkey.SHA256,
+	signature []byte, question sshkey.Question, signer sshkey.SHA256, err error,
+	signers []sshkey.SHA256,
 ) error {
 	if err != nil {
 		return err
 	}
-	if !IsSignature(question) {
+	reserved, err := sshkey.SSHSigReserved(signature)
+	if err != nil {
+		return err
+	}
+	if len(reserved) > 0 || !IsSignature(question) {
 		return sshkey.ErrNotSigned
 	}
 	for _, one := range signers {

@@ -23,8 +23,9 @@ func questionOf(in input) (Question, error) {
 
 // ValidateCertificate gives nil exactly if the certificate, given as its blob, is valid at that
 // time for one of the authorities, which are the fingerprints of their keys; else what is wrong
-// first. The verifier is asked about this very certificate, once, and not at all where the
-// certificate raises no question.
+// first, which is ErrUntrustedAuthority for each certificate of another authority. The verifier is
+// asked about this very certificate, once, and not at all where the certificate raises no question
+// or is of another authority, whose key may be one that the client made up.
 //
 // Nothing is said here of whom the certificate is for: of its type, its principals, its critical
 // options, and whether it is revoked. judge.ValidateUser asks what a login asks.
@@ -32,7 +33,7 @@ func ValidateCertificate(
 	certificate []byte, now time.Time, authorities []SHA256, verify Verifier,
 ) error {
 	in, by := inputOf(certificate), digestsOf(authorities)
-	isVerified, err := verified(in, verify)
+	isVerified, err := verified(in, by, verify)
 	if err != nil {
 		return err
 	}
@@ -48,7 +49,7 @@ func ValidateCertificateFor(
 	certificate []byte, now time.Time, principal string, authorities []SHA256, verify Verifier,
 ) error {
 	in, whom, by := inputOf(certificate), inputOf(principal), digestsOf(authorities)
-	isVerified, err := verified(in, verify)
+	isVerified, err := verified(in, by, verify)
 	if err != nil {
 		return err
 	}
@@ -58,8 +59,11 @@ func ValidateCertificateFor(
 }
 
 // verified is 1 exactly if the certificate raises a question to which the verifier says yes. It
-// fails with ErrMemory alone: of bytes that are no certificate the validation says what is wrong.
-func verified(in input, verify Verifier) (C.uint32_t, error) {
+// fails where the bytes are no certificate of one of the authorities, and with ErrMemory.
+func verified(in input, authorities digests, verify Verifier) (C.uint32_t, error) {
+	if err := judgeAuthority(in, authorities); err != nil {
+		return 0, err
+	}
 	asked, err := questionOf(in)
 	if err == ErrMemory {
 		return 0, err
@@ -68,6 +72,24 @@ func verified(in input, verify Verifier) (C.uint32_t, error) {
 		return 0, nil
 	}
 	return 1, nil
+}
+
+// judgeAuthority gives nil where one of the authorities signed the certificate, or says that it did.
+func judgeAuthority(in input, authorities digests) error {
+	var parts C.sshkey_parts
+	if err := errorOf(C.sshkey_certificate_parts(in.pointer(), in.length(), &parts)); err != nil {
+		return err
+	}
+	signer, err := Fingerprint(partOf(in, parts.authority))
+	if err != nil {
+		return err
+	}
+	for _, one := range authorities {
+		if one == signer {
+			return nil
+		}
+	}
+	return ErrUntrustedAuthority
 }
 
 // CertificateFields gives what a policy asks of a certificate, valid or not. It fails with a Status

@@ -142,16 +142,11 @@ const sshsigFront = 10
 // SSHSigHash gives the hash by which an SSH signature digests its message: crypto.SHA256 or
 // crypto.SHA512. It fails with a Status for bytes that are none, and with ErrMemory.
 func SSHSigHash(signature []byte) (crypto.Hash, error) {
-	normal, err := NormalSSHSig(signature)
+	fields, err := sshsigFields(signature)
 	if err != nil {
 		return 0, err
 	}
-	// the key, the namespace, what is reserved, the hash's name and the signature
-	parts, err := Strings(normal[sshsigFront:])
-	if err != nil {
-		return 0, err
-	}
-	switch string(parts[3]) {
+	switch string(fields[3]) {
 	case "sha256":
 		return crypto.SHA256, nil
 	case "sha512":
@@ -159,6 +154,27 @@ func SSHSigHash(signature []byte) (crypto.Hash, error) {
 	default:
 		return 0, ErrLabel
 	}
+}
+
+// SSHSigReserved gives the reserved bytes of an SSH signature, over which it is: none in each that
+// ssh-keygen makes, and `ssh-keygen -Y verify` takes none to be there whatever is. It fails with a
+// Status for bytes that are no signature, and with ErrMemory.
+func SSHSigReserved(signature []byte) ([]byte, error) {
+	fields, err := sshsigFields(signature)
+	if err != nil {
+		return nil, err
+	}
+	return fields[2], nil
+}
+
+// sshsigFields gives the signer's key, the namespace, the reserved bytes, the hash's name and the
+// signature.
+func sshsigFields(signature []byte) ([][]byte, error) {
+	normal, err := NormalSSHSig(signature)
+	if err != nil {
+		return nil, err
+	}
+	return Strings(normal[sshsigFront:])
 }
 
 // ---- normal forms

@@ -43,6 +43,7 @@ from ._keys import (
     sshsig_hash,
     sshsig_question,
     sshsig_question_of_digest,
+    sshsig_reserved,
     string,
     strings,
 )

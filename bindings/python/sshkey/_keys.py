@@ -103,8 +103,18 @@ def _sshsig_question(
 def sshsig_hash(signature: BytesLike) -> str:
     """The hash by which an SSH signature digests its message, as hashlib names it: sha256 or sha512. Raises Refused where the
     bytes are none, and MemoryError."""
-    _, _, _, name, _ = strings(normal_sshsig(signature)[SSHSIG_FRONT:])
-    return name.decode("ascii")
+    return _sshsig_fields(signature)[3].decode("ascii")
+
+
+def sshsig_reserved(signature: BytesLike) -> bytes:
+    """The reserved bytes of an SSH signature, over which it is: empty in each that ssh-keygen makes, and `ssh-keygen -Y verify` takes
+    them to be so whatever stands there. Raises Refused where the bytes are none, and MemoryError."""
+    return _sshsig_fields(signature)[2]
+
+
+def _sshsig_fields(signature: BytesLike) -> list[bytes]:
+    """The signer's key, the namespace, the reserved bytes, the hash's name and the signature."""
+    return strings(normal_sshsig(signature)[SSHSIG_FRONT:])
 
 
 # ---- normal forms

@@ -4,7 +4,7 @@ use std::collections::BTreeMap;
 use std::iter::FusedIterator;
 use std::str;
 
-use crate::digests::Sha256;
+use crate::digests::{fingerprint, Sha256};
 use crate::keys::written_of;
 use crate::questions::Question;
 use crate::raw;
@@ -108,7 +108,9 @@ pub fn validate_certificate(
 
 /// The two calls in one: [`certificate_question`], which `verify` answers with your cryptography,
 /// and [`validate_certificate`] of the same bytes, which are lent meanwhile, so that nobody changes
-/// them. Fails as the latter does.
+/// them. Fails as the latter does, but first with [`Status::UNTRUSTED_AUTHORITY`] for each
+/// certificate of another authority, whose key may be one that the client made up: `verify` is not
+/// asked about it.
 ///
 /// A login asks more of a certificate, [`validate_user`](crate::validate_user), and so does a
 /// host's key, [`validate_host`](crate::validate_host).
@@ -119,6 +121,10 @@ pub fn judge_certificate(
     authorities: &[Sha256],
     verify: impl FnOnce(&Question) -> bool,
 ) -> Result<(), Status> {
+    let signer = fingerprint(certificate_contents(certificate)?.authority)?;
+    if !authorities.contains(&signer) {
+        return Err(Status::UNTRUSTED_AUTHORITY);
+    }
     let is_verified = match certificate_question(certificate) {
         Ok(question) => verify(&question),
         Err(Status::MEMORY) => return Err(Status::MEMORY),

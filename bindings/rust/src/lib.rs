@@ -72,7 +72,7 @@ pub use questions::{Algorithm, Question};
 pub use refusal::Refusal;
 pub use sshsigs::{
     judge_sshsig, judge_sshsig_of_digest, sshsig_hash, sshsig_question, sshsig_question_of_digest,
-    HashAlgorithm,
+    sshsig_reserved, HashAlgorithm,
 };
 pub use status::Status;
 pub use strings::{string, strings, Strings};

@@ -81,8 +81,8 @@ pub fn sshsig_question_of_digest(
 
 /// Whether an SSH signature is one of the message in that namespace, by one of the signers, which
 /// are those that you trust for it: `verify` answers its question. Fails as [`sshsig_question`]
-/// does, with [`Status::NOT_SIGNED`] where `verify` says no, and with
-/// [`Status::UNTRUSTED_AUTHORITY`] where another signed.
+/// does, with [`Status::NOT_SIGNED`] where `verify` says no and where it has reserved bytes, which
+/// ssh-keygen takes to be empty, and with [`Status::UNTRUSTED_AUTHORITY`] where another signed.
 pub fn judge_sshsig(
     signature: &[u8],
     namespace: impl AsRef<[u8]>,
@@ -90,11 +90,8 @@ pub fn judge_sshsig(
     signers: &[Sha256],
     verify: impl FnOnce(&Question) -> bool,
 ) -> Result<(), Status> {
-    judge(
-        sshsig_question(signature, namespace, message)?,
-        signers,
-        verify,
-    )
+    let question = sshsig_question(signature, namespace, message)?;
+    judge(signature, question, signers, verify)
 }
 
 /// The same of a message with that digest. Fails as [`sshsig_question_of_digest`] and
@@ -106,20 +103,18 @@ pub fn judge_sshsig_of_digest(
     signers: &[Sha256],
     verify: impl FnOnce(&Question) -> bool,
 ) -> Result<(), Status> {
-    judge(
-        sshsig_question_of_digest(signature, namespace, digest)?,
-        signers,
-        verify,
-    )
+    let question = sshsig_question_of_digest(signature, namespace, digest)?;
+    judge(signature, question, signers, verify)
 }
 
-/// Whether the question is answered with yes, and the signer is one of those.
+/// Whether nothing is reserved, the question is answered with yes, and the signer is one of those.
 fn judge(
+    signature: &[u8],
     (question, signer): (Question, Sha256),
     signers: &[Sha256],
     verify: impl FnOnce(&Question) -> bool,
 ) -> Result<(), Status> {
-    if !verify(&question) {
+    if !sshsig_reserved(signature)?.is_empty() || !verify(&question) {
         return Err(Status::NOT_SIGNED);
     }
     if !signers.contains(&signer) {
@@ -143,12 +138,23 @@ const FRONT: usize = 10;
 /// The hash by which an SSH signature digests its message. Fails with a number from 10 to 29 where
 /// the bytes are none, and with [`Status::MEMORY`].
 pub fn sshsig_hash(signature: &[u8]) -> Result<HashAlgorithm, Status> {
-    let normal = normal_sshsig(signature)?;
-    // after the key, the namespace and what is reserved
-    let name = strings(normal.get(FRONT..).unwrap_or_default()).nth(3);
-    match name.transpose()? {
-        Some(b"sha256") => Ok(HashAlgorithm::Sha256),
-        Some(b"sha512") => Ok(HashAlgorithm::Sha512),
+    match &field(signature, 3)?[..] {
+        b"sha256" => Ok(HashAlgorithm::Sha256),
+        b"sha512" => Ok(HashAlgorithm::Sha512),
         _ => Err(Status::LABEL),
     }
+}
+
+/// The reserved bytes of an SSH signature, over which it is: none in each that ssh-keygen makes,
+/// and `ssh-keygen -Y verify` takes none to be there whatever is. Fails as [`sshsig_hash`] does.
+pub fn sshsig_reserved(signature: &[u8]) -> Result<Vec<u8>, Status> {
+    field(signature, 2)
+}
+
+/// Of the signer's key, the namespace, the reserved bytes, the hash's name and the signature the
+/// one of that number, from 0 on.
+fn field(signature: &[u8], number: usize) -> Result<Vec<u8>, Status> {
+    let normal = normal_sshsig(signature)?;
+    let found = strings(normal.get(FRONT..).unwrap_or_default()).nth(number);
+    Ok(found.transpose()?.unwrap_or_default().to_vec())
 }

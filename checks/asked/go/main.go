@@ -22,11 +22,13 @@ type answer func(words []string) ([]string, error)
 
 var answers = map[string]answer{
 	"certificate": certificate, "signature": signature, "sshsig": sshsig,
-	"sshsig-of-digest": sshsigOfDigest, "sshsig-hash": sshsigHash, "is-sshsig": isSSHSig,
-	"is-sshsig-of-digest": isSSHSigOfDigest, "is-signature": isSignature, "validate": validate, "user": user, "fields": fields,
-	"lists": lists, "certificate-options": certificateOptions, "strings": stringsOf, "key": key,
-	"line": line, "normal": normal, "draft": draft, "join": join, "lines": lines, "entry": entry,
-	"host": host, "options": options, "host-certificate": hostCertificate,
+	"sshsig-of-digest": sshsigOfDigest, "sshsig-hash": sshsigHash,
+	"sshsig-reserved": sshsigReserved, "is-sshsig": isSSHSig,
+	"is-sshsig-of-digest": isSSHSigOfDigest, "is-signature": isSignature, "validate": validate,
+	"user": user, "fields": fields, "lists": lists, "certificate-options": certificateOptions,
+	"strings": stringsOf, "key": key, "line": line, "normal": normal, "draft": draft, "join": join,
+	"lines": lines, "entry": entry, "host": host, "options": options,
+	"host-certificate": hostCertificate,
 }
 
 func main() {
@@ -50,8 +52,8 @@ func said(what string, words []string) string {
 	if err != nil {
 		return numberOf(err)
 	}
-	if what == "user" || what == "host-certificate" {
-		return found[0]
+	if what == "user" || what == "host-certificate" || what == "validate" {
+		return strings.Join(found, " ")
 	}
 	return strings.Join(append([]string{"0"}, found...), " ")
 }
@@ -163,6 +165,11 @@ func sshsigHash(words []string) ([]string, error) {
 	return []string{names[hash]}, err
 }
 
+func sshsigReserved(words []string) ([]string, error) {
+	reserved, err := sshkey.SSHSigReserved(data(words[0]))
+	return []string{word(reserved)}, err
+}
+
 func isSSHSig(words []string) ([]string, error) {
 	return nil, judge.ValidateSSHSig(
 		data(words[0]), text(words[1]), data(words[2]), digests(words[3]),
@@ -181,12 +188,18 @@ func isSignature(words []string) ([]string, error) {
 }
 
 func validate(words []string) ([]string, error) {
-	certificate, now, by := data(words[0]), at(words[1]), digests(words[3])
-	verify := func(sshkey.Question) bool { return words[4] == "1" }
-	if words[2] == "*" {
-		return nil, sshkey.ValidateCertificate(certificate, now, by, verify)
+	certificate, now, by, questions := data(words[0]), at(words[1]), digests(words[3]), 0
+	verify := func(sshkey.Question) bool {
+		questions++
+		return words[4] == "1"
 	}
-	return nil, sshkey.ValidateCertificateFor(certificate, now, text(words[2]), by, verify)
+	var err error
+	if words[2] == "*" {
+		err = sshkey.ValidateCertificate(certificate, now, by, verify)
+	} else {
+		err = sshkey.ValidateCertificateFor(certificate, now, text(words[2]), by, verify)
+	}
+	return []string{numberOf(err), strconv.Itoa(questions)}, nil
 }
 
 func user(words []string) ([]string, error) {

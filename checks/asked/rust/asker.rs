@@ -109,8 +109,13 @@ fn validate(given: &[&str]) -> Answer {
     };
     let principal = name.as_deref().map_or(Principal::Any, Principal::Named);
     let (blob, second, yes) = (data(given[0]), number(given[1]), given[4] == "1");
-    let answer = sshkey::judge_certificate(&blob, second, principal, &digests(given[3]), |_| yes);
-    Ok(number_of(answer))
+    let mut questions = 0;
+    let verify = |_: &Question| {
+        questions += 1;
+        yes
+    };
+    let answer = sshkey::judge_certificate(&blob, second, principal, &digests(given[3]), verify);
+    Ok(format!("{} {questions}", number_of(answer)))
 }
 
 fn user(given: &[&str]) -> Answer {
@@ -317,6 +322,7 @@ fn answer(question: &str) -> Answer {
             sshsig_of_digest(signature, namespace, digest)
         }
         ("sshsig-hash", [signature]) => sshsig_hash(signature),
+        ("sshsig-reserved", [signature]) => words([word(sshkey::sshsig_reserved(signature)?)]),
         (what @ ("is-sshsig" | "is-sshsig-of-digest"), _) => is_sshsig(what, given),
         ("is-signature", [key, message, signature]) => is_signature(key, message, signature),
         ("validate", _) => validate(given),
