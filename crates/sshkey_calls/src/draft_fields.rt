@@ -17,10 +17,10 @@ use crate::number::{
     CHARACTER_ENCODING, EMPTY_WINDOW, FORMAT, LABEL, MEMORY, PRINCIPALS, TIME, error_number,
 };
 use sshkey_base::{Bytes, Error, Text, decode_whole, encode_vec};
+use sshkey_cert_fields::ToBeSigned;
+use sshkey_cert_values::{CertType, EndTime, OptionsMap, UnixTime};
 use sshkey_keys::KeyData;
 use sshkey_keys_ref::KeyDataRef;
-use sshkey_cert_values::{CertType, EndTime, OptionsMap, UnixTime};
-use sshkey_cert_fields::ToBeSigned;
 use std::alloc::Global;
 use std::convert::TryFrom;
 use std::str;

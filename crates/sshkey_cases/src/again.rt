@@ -3,8 +3,8 @@
 use crate::bytes::{part, text};
 use sshkey_authorized_keys::AuthorizedKeys;
 use sshkey_base::{Error, Result, decode_whole, encode_vec};
-use sshkey_known_hosts::KnownHosts;
 use sshkey_cert_values::OptionsMap;
+use sshkey_known_hosts::KnownHosts;
 use std::alloc::Global;
 
 /// What is written of the options that the first byte string spells, with that value under that

@@ -5,8 +5,8 @@ use sshkey_base::{Encode, HashAlg, Result, encode_vec};
 use sshkey_cert::{Certificate, KeyOrCertificate};
 use sshkey_cert_ref::CertificateRef;
 use sshkey_cert_values::OptionsMap;
-use sshkey_public::PublicKey;
 use sshkey_doubles::AcceptAll;
+use sshkey_public::PublicKey;
 use std::alloc::Global;
 
 /// The algorithm of the key in the certificate of a line, which a verifier that accepts all

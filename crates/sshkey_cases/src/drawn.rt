@@ -5,9 +5,9 @@ use crate::issued;
 use sshkey_base::{Result, encode_vec};
 use sshkey_cert_builder::Builder;
 use sshkey_ciphers::{Kdf, KdfAlg};
+use sshkey_doubles::Count;
 use sshkey_keys::KeyData;
 use sshkey_kinds::Ed25519PublicKey;
-use sshkey_doubles::Count;
 use std::alloc::Global;
 
 /// The certificate of a nonce that is drawn for the key that the bytes are, from second 10 to 20,

@@ -3,14 +3,14 @@
 use crate::bytes::{NO_LINE, part};
 use sshkey_base::{Algorithm, Decode, Error, Mpint, Reader, Result, encoding};
 use sshkey_cert::Certificate;
-use sshkey_ciphers::Kdf;
-use sshkey_pairs::KeypairData;
-use sshkey_keys::{KeyData, Signature};
 use sshkey_cert_values::OptionsMap;
+use sshkey_ciphers::Kdf;
+use sshkey_doubles::Faulty;
+use sshkey_keys::{KeyData, Signature};
 use sshkey_pair_kinds::EcdsaPrivateKey;
+use sshkey_pairs::KeypairData;
 use sshkey_private::PrivateKey;
 use sshkey_sshsig::SshSig;
-use sshkey_doubles::Faulty;
 use std::alloc::Global;
 
 /// How many bytes are missing behind all the bytes of a value.

@@ -3,11 +3,11 @@
 
 use crate::bytes::{part, text};
 use sshkey_base::{Error, Result, encode_vec};
-use sshkey_cert_builder::Builder;
 use sshkey_cert::Certificate;
+use sshkey_cert_builder::Builder;
+use sshkey_doubles::Fixed;
 use sshkey_keys::KeyData;
 use sshkey_kinds::Ed25519PublicKey;
-use sshkey_doubles::Fixed;
 use std::alloc::Global;
 
 /// The certificate of the nonce 01 for the key that the first byte string is, from second 10 to 20,

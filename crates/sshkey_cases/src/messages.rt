@@ -2,10 +2,10 @@
 
 use crate::bytes::{part, text};
 use sshkey_base::{HashAlg, Result};
+use sshkey_doubles::{AcceptAll, Fixed};
 use sshkey_kinds::Ed25519PublicKey;
 use sshkey_public::PublicKey;
 use sshkey_sshsig::SshSig;
-use sshkey_doubles::{AcceptAll, Fixed};
 use std::alloc::Global;
 
 /// What is signed in the namespace that the first byte string is, by the hash that the second one

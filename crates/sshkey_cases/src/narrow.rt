@@ -6,11 +6,11 @@ use sshkey_base::{
     encoding,
 };
 use sshkey_cert::Certificate;
-use sshkey_ciphers::Kdf;
-use sshkey_pairs::KeypairData;
-use sshkey_keys::{KeyData, Signature};
 use sshkey_cert_values::OptionsMap;
+use sshkey_ciphers::Kdf;
+use sshkey_keys::{KeyData, Signature};
 use sshkey_pair_kinds::EcdsaPrivateKey;
+use sshkey_pairs::KeypairData;
 use sshkey_private::PrivateKey;
 use sshkey_sshsig::SshSig;
 use std::alloc::Global;

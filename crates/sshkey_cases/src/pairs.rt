@@ -3,9 +3,9 @@
 use crate::bytes::{part, text};
 use crate::wire::debugged;
 use sshkey_base::{Algorithm, Result, decode_whole, encode_vec};
-use sshkey_pairs::KeypairData;
 use sshkey_kinds::EcdsaPublicKey;
 use sshkey_pair_kinds::{EcdsaKeypair, EcdsaPrivateKey};
+use sshkey_pairs::KeypairData;
 use std::alloc::Global;
 
 /// The algorithm and the bytes of the pair whose algorithm the first byte string names, and whose

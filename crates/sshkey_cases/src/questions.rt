@@ -9,15 +9,15 @@ use crate::{
 };
 use sshkey_base::{Algorithm, AlgorithmName, EcdsaCurve, Error, HashAlg, Mpint, Result};
 use sshkey_cert::Certificate;
+use sshkey_cert_values::{CertType, EndTime, OptionsMap, UnixTime};
 use sshkey_ciphers::Kdf;
-use sshkey_pairs::KeypairData;
 use sshkey_keys::{Fingerprint, KeyData, Signature};
 use sshkey_kinds::{
     DsaPublicKey, EcdsaPublicKey, Ed25519PublicKey, OpaquePublicKeyBytes, RsaPublicKey,
     SkEcdsaSha2NistP256, SkEd25519,
 };
-use sshkey_cert_values::{CertType, EndTime, OptionsMap, UnixTime};
 use sshkey_pair_kinds::EcdsaPrivateKey;
+use sshkey_pairs::KeypairData;
 use sshkey_sshsig::SshSig;
 use sshkey_tool::run;
 use std::alloc::Global;

@@ -2,9 +2,9 @@
 
 use crate::bytes::{part, text};
 use sshkey_base::{Algorithm, Error, Result, decode_whole};
+use sshkey_doubles::AcceptAll;
 use sshkey_keys::{KeyData, Signature};
 use sshkey_keys_ref::{KeyDataRef, SignatureRef};
-use sshkey_doubles::AcceptAll;
 use std::alloc::Global;
 
 /// The signature that all the bytes spell.

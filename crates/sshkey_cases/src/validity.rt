@@ -5,8 +5,8 @@ use crate::bytes::{part, text};
 use sshkey_base::{Result, decode_whole};
 use sshkey_cert::Certificate;
 use sshkey_cert_ref::CertificateRef;
-use sshkey_keys::Fingerprint;
 use sshkey_doubles::AcceptAll;
+use sshkey_keys::Fingerprint;
 use std::alloc::Global;
 
 /// Whether the certificate that the first byte string spells is valid at the second that the second

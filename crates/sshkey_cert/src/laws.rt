@@ -10,9 +10,9 @@ ghost use Rattle.sshkey_cert.specs.Comparisons.{IsOfKeys, IsOrderOfCertificates,
 ghost use Rattle.sshkey_cert.specs.Validity.{refusal_of};
 
 use crate::certificate::{Certificate, CertificateRefusal};
+use sshkey_cert_fields::laws::compared_signed_fields;
 use sshkey_keys::laws::compared_signatures;
 pub use sshkey_model::laws::{apart, certificate_fields, prefix_certificate};
-use sshkey_cert_fields::laws::compared_signed_fields;
 
 /// No spelling of a certificate begins another: what follows it does not matter, and it is that of
 /// one certificate.

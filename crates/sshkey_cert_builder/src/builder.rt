@@ -19,8 +19,8 @@ use chain::hand_back;
 use rand_core::{CryptoRng, Rng};
 use sshkey_base::certificate::Field;
 use sshkey_base::{Bytes, Error, Result, Text};
-use sshkey_keys::KeyData;
 use sshkey_cert_values::{CertType, EndTime, OptionsMap, UnixTime};
+use sshkey_keys::KeyData;
 use std::alloc::Global;
 
 /// Collects the fields of a certificate, and signs them.

@@ -5,8 +5,8 @@ ghost use Rattle.sshkey_cert_fields.specs.Comparisons.{HasKeys, IsOrderOfFields}
 ghost use Rattle.sshkey_cert_fields.specs.ToBeSignedValues.{to_be_signed_of};
 
 use crate::to_be_signed::ToBeSigned;
-use sshkey_keys::laws::compared_keys;
 use sshkey_cert_values::laws::{compared_ends, compared_options, compared_times, compared_types};
+use sshkey_keys::laws::compared_keys;
 
 /// Two that are equal mean the same, and with well-formed keys two are equal exactly if they do.
 /// They are ordered by the first field that differs, from the nonce on; options as their lists.

@@ -12,9 +12,9 @@ mod write;
 use sshkey_base::{
     Bytes, Decode, Encode, Error, Reader, Result, Text, Writer, encode_vec, encoding,
 };
-use sshkey_terms::{Boxed, Then, Wide};
-use sshkey_keys::KeyData;
 use sshkey_cert_values::{CertType, EndTime, OptionsMap, UnixTime};
+use sshkey_keys::KeyData;
+use sshkey_terms::{Boxed, Then, Wide};
 use std::alloc::Global;
 use subject::Subject;
 

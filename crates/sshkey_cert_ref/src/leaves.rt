@@ -15,9 +15,9 @@ ghost use Rattle.sshkey_cert_ref.specs.Taking.{Cuts};
 
 use crate::strings::take_string;
 use sshkey_base::{Error, Result};
-use sshkey_terms::ReadFrom;
-use sshkey_keys_ref::{KeyDataRef, SignatureRef};
 use sshkey_cert_values::{CertType, EndTime, UnixTime};
+use sshkey_keys_ref::{KeyDataRef, SignatureRef};
+use sshkey_terms::ReadFrom;
 use std::convert::TryFrom;
 
 /// A field of a certificate, where it lies.

@@ -2,8 +2,8 @@
 
 use crate::options_ref::OptionsRef;
 use crate::texts_ref::TextsRef;
-use sshkey_keys_ref::KeyDataRef;
 use sshkey_cert_values::{CertType, EndTime, UnixTime};
+use sshkey_keys_ref::KeyDataRef;
 
 /// All of a certificate before its signature, as parts of its bytes.
 #[derive(Clone, Copy, Debug)]

@@ -12,9 +12,9 @@ use crate::options_ref::OptionsRef;
 use crate::parts::Parts;
 use crate::texts_ref::TextsRef;
 use sshkey_base::Result;
-use sshkey_terms::{ReadFrom, Then, Wide};
-use sshkey_keys_ref::take_body;
 use sshkey_cert_values::{CertType, EndTime, UnixTime};
+use sshkey_keys_ref::take_body;
+use sshkey_terms::{ReadFrom, Then, Wide};
 
 /// The name and the nonce.
 type Opening<'a> = Then<CertificateName<'a>, Wide<&'a [u8]>>;

@@ -28,11 +28,11 @@ use sshkey_base::{
     encoding, names, string_len,
 };
 use sshkey_fingerprints::Fingerprint;
-use sshkey_terms::Wide;
 use sshkey_kinds::{
     DsaPublicKey, EcdsaPublicKey, Ed25519PublicKey, OpaquePublicKey, OpaquePublicKeyBytes,
     RsaPublicKey, SkEcdsaSha2NistP256, SkEd25519,
 };
+use sshkey_terms::Wide;
 use std::alloc::Global;
 
 /// A public key: the name of its algorithm, and what that algorithm's keys are made of

@@ -10,8 +10,8 @@ ghost use Rattle.sshkey_keys_ref.specs.Taking.{Finds};
 use crate::kinds::{EcdsaRef, Ed25519Ref, SkEcdsaRef, SkEd25519Ref};
 use crate::name_ref::{NameRef, take_name};
 use sshkey_base::Algorithm;
-use sshkey_terms::ReadFrom;
 use sshkey_kinds::{EcdsaPublicKey, Ed25519PublicKey};
+use sshkey_terms::ReadFrom;
 
 /// A public key by its kind, with what does not allocate.
 #[derive(Clone, Copy)]

@@ -18,11 +18,11 @@ ghost use Rattle.sshkey_keys_ref.specs.Taking.{Takes};
 
 use crate::leaves::MpintRef;
 use sshkey_base::{EcdsaCurve, Error, Result, encoding};
-use sshkey_terms::ReadFrom;
 use sshkey_kinds::{
     EcPoint, EcdsaNistP256PublicKey, EcdsaPublicKey, Ed25519PublicKey, P256_POINT_LEN,
     P521_POINT_LEN,
 };
+use sshkey_terms::ReadFrom;
 use std::str;
 
 /// An RSA key.

@@ -14,8 +14,8 @@ ghost use Rattle.sshkey_terms.specs.Slices.{AcceptsSome, is_taken};
 
 use crate::name_ref::{NameRef, take_name};
 use sshkey_base::{Error, Result, decode_whole, encoding};
-use sshkey_terms::{ReadFrom, bytes_from};
 use sshkey_keys::{Signature, check_string, has_trailer};
+use sshkey_terms::{ReadFrom, bytes_from};
 use std::alloc::Global;
 
 /// A signature as the bytes that spell it: the name of its algorithm, and the bytes as a string,

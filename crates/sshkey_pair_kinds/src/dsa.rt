@@ -11,8 +11,8 @@ ghost use Rattle.sshkey_pair_kinds.specs.PrivateHalves.{dsa_private_of};
 use sshkey_base::{
     Decode, Encode, Error, Mpint, Reader, Result, Writer, both_len, encode_both, encoding,
 };
-use sshkey_terms::Then;
 use sshkey_kinds::DsaPublicKey;
+use sshkey_terms::Then;
 use std::alloc::Global;
 use std::convert::AsSlice;
 use std::fmt;

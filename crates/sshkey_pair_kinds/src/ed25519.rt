@@ -17,8 +17,8 @@ use sshkey_base::{
     Decode, Encode, Error, Reader, Result, Writer, both_len, encode_both, encoding,
     write_lower_hex, write_upper_hex,
 };
-use sshkey_terms::{Then, Wide};
 use sshkey_kinds::Ed25519PublicKey;
+use sshkey_terms::{Then, Wide};
 use std::alloc::Global;
 use std::convert::{AsSlice, TryFrom};
 use std::fmt;

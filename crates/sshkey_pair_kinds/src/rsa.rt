@@ -4,8 +4,8 @@ ghost use Rattle.std.specs.Prelude.{◌≡◌, ◌+◌, ◌*◌, ◌^◌, IfOk, 
 ghost use Rattle.sshkey_model.specs.KeyPairs.{KeyPair, RsaPrivate, rsa_private, pair, Plain};
 
 use sshkey_base::{Decode, Encode, Error, Mpint, Reader, Result, Writer, encoding};
-use sshkey_terms::Then;
 use sshkey_kinds::RsaPublicKey;
+use sshkey_terms::Then;
 use std::alloc::Global;
 use std::fmt;
 

@@ -8,8 +8,8 @@ ghost use Rattle.sshkey_pair_kinds.specs.SecurityPairs.{sk_ecdsa_pair_of, sk_ed2
 
 use crate::held::Held;
 use sshkey_base::{Decode, Encode, Error, Reader, Result, Writer, both_len, encode_both, encoding};
-use sshkey_terms::{Then, Wide};
 use sshkey_kinds::{SkEcdsaSha2NistP256 as PublicSkEcdsa, SkEd25519 as PublicSkEd25519};
+use sshkey_terms::{Then, Wide};
 use std::alloc::Global;
 use std::fmt;
 

@@ -22,12 +22,12 @@ use sshkey_base::{
     Algorithm, Decode, EcdsaCurve, Encode, Error, NormalForm, Reader, Result, Writer, both_len,
     encode_both, encoding,
 };
-use sshkey_terms::{Then, Wide};
 use sshkey_keys::KeyData;
 use sshkey_kinds::{OpaquePublicKey, OpaquePublicKeyBytes};
 use sshkey_pair_kinds::{
     DsaKeypair, EcdsaKeypair, Ed25519Keypair, RsaKeypair, SkEcdsaSha2NistP256, SkEd25519,
 };
+use sshkey_terms::{Then, Wide};
 use std::alloc::Global;
 
 /// A key pair of any kind, or one that is encrypted (OpenSSH, PROTOCOL.key).
@@ -224,7 +224,9 @@ fn pair_from<R: Reader>(alloc: Global, reader: &mut R, algorithm: Algorithm) -> 
         Algorithm::Ecdsa { curve } => ecdsa_from(alloc, reader, curve),
         Algorithm::Ed25519 => Ed25519Keypair::decode(alloc, reader).map(KeypairData::Ed25519),
         Algorithm::Rsa { hash: _ } => RsaKeypair::decode(alloc, reader).map(KeypairData::Rsa),
-        Algorithm::SkEcdsaSha2NistP256 => SkEcdsaSha2NistP256::decode(alloc, reader).map(KeypairData::SkEcdsaSha2NistP256),
+        Algorithm::SkEcdsaSha2NistP256 => SkEcdsaSha2NistP256::decode(alloc, reader).map(
+            KeypairData::SkEcdsaSha2NistP256,
+        ),
         Algorithm::SkEd25519 => SkEd25519::decode(alloc, reader).map(KeypairData::SkEd25519),
         Algorithm::Other(name) => opaque_from(alloc, reader, Algorithm::Other(name)),
     }

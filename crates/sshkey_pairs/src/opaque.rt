@@ -13,8 +13,8 @@ use sshkey_base::{
     Algorithm, Bytes, Decode, Encode, Error, Reader, Result, Writer, both_len, encode_both,
     encoding,
 };
-use sshkey_terms::Then;
 use sshkey_kinds::{OpaquePublicKey, OpaquePublicKeyBytes};
+use sshkey_terms::Then;
 use std::alloc::Global;
 use std::convert::AsSlice;
 use std::fmt;

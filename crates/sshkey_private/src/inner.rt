@@ -23,11 +23,11 @@ ghost use Rattle.sshkey_private.specs.Inner.{inner_of, inner_at, padded_below, c
 use crate::part::Inner;
 use sshkey_base::{Decode, Error, Reader, Result, Text, encoding};
 use sshkey_ciphers::padding_from;
-use sshkey_terms::Then;
-use sshkey_pairs::{KeypairData, OpaqueKeypair};
 use sshkey_keys::KeyData;
 use sshkey_kinds::{EcdsaPublicKey, OpaquePublicKey};
 use sshkey_pair_kinds::EcdsaKeypair;
+use sshkey_pairs::{KeypairData, OpaqueKeypair};
+use sshkey_terms::Then;
 use std::alloc::Global;
 
 /// A string of the checkint, the pair and the comment, padded to a multiple of eight bytes, by at

@@ -12,8 +12,8 @@ ghost use Rattle.sshkey_private.specs.PrivateKeyReaders.{SpellsPrivateKey, priva
 
 use crate::private_key::PrivateKey;
 use sshkey_ciphers::laws::{compared_ciphers, equal_kdfs};
-use sshkey_pairs::laws::equal_pairs;
 pub use sshkey_model::laws::private::prefix_private_key;
+use sshkey_pairs::laws::equal_pairs;
 use sshkey_public::laws::compared_public_keys;
 
 /// Two private keys that are equal have the same cipher and derivation, public keys that mean the

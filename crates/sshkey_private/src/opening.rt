@@ -15,8 +15,8 @@ ghost use Rattle.sshkey_private.specs.PrivateKeyFormats.{magic_format, one_forma
 
 use sshkey_base::{Decode, Error, Reader, Result, array_from, encoding};
 use sshkey_ciphers::{Cipher, Kdf};
-use sshkey_terms::{Boxed, Then, Wide};
 use sshkey_keys::KeyData;
+use sshkey_terms::{Boxed, Then, Wide};
 use std::alloc::Global;
 
 /// What a private key begins with.

@@ -9,8 +9,8 @@ mod write;
 use read::{private_key_from, whole_key_from};
 use sshkey_base::{Algorithm, Decode, Error, HashAlg, NormalForm, Reader, Result, encode_vec};
 use sshkey_ciphers::{Cipher, Kdf};
-use sshkey_pairs::KeypairData;
 use sshkey_keys::{Fingerprint, KeyData};
+use sshkey_pairs::KeypairData;
 use sshkey_public::PublicKey;
 use std::alloc::Global;
 

@@ -10,8 +10,8 @@ ghost use Rattle.sshkey_tool.specs.Outcomes.{ShowsCertificate, ShowsAuthority};
 
 use sshkey_base::Error;
 use sshkey_cert::Certificate;
-use sshkey_keys::KeyData;
 use sshkey_cert_values::{CertType, FOREVER, OptionsMap};
+use sshkey_keys::KeyData;
 use sshkey_public::PublicKey;
 use std::alloc::{AllocError, Global};
 

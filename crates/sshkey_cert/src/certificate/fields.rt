@@ -13,8 +13,8 @@ ghost use Rattle.sshkey_cert_values.specs.OptionMaps.{options_of};
 
 use super::Certificate;
 use sshkey_base::{Algorithm, Result};
-use sshkey_keys::{KeyData, Signature};
 use sshkey_cert_values::{CertType, OptionsMap};
+use sshkey_keys::{KeyData, Signature};
 use std::alloc::Global;
 
 impl Certificate {

@@ -12,8 +12,8 @@ ghost use Rattle.sshkey_cert.specs.Signing.{IsSignatureOf, PermitsToSign, Refuse
 
 use super::Certificate;
 use sshkey_base::{Result, Text};
-use sshkey_keys::{Signature, SigningKey};
 use sshkey_cert_fields::ToBeSigned;
+use sshkey_keys::{Signature, SigningKey};
 use std::alloc::Global;
 
 impl Certificate {

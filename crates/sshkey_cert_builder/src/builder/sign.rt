@@ -14,9 +14,9 @@ use super::Builder;
 use sshkey_base::certificate::Field;
 use sshkey_base::{Bytes, Error, Result, Text};
 use sshkey_cert::Certificate;
-use sshkey_keys::{KeyData, SigningKey};
-use sshkey_cert_values::CertType;
 use sshkey_cert_fields::ToBeSigned;
+use sshkey_cert_values::CertType;
+use sshkey_keys::{KeyData, SigningKey};
 use std::alloc::Global;
 
 impl Builder {

@@ -9,8 +9,8 @@ ghost use Rattle.sshkey_cert_fields.specs.ToBeSignedValues.{to_be_signed_of};
 
 use super::ToBeSigned;
 use sshkey_base::{Bytes, Result, Text};
-use sshkey_keys::KeyData;
 use sshkey_cert_values::OptionsMap;
+use sshkey_keys::KeyData;
 use std::alloc::Global;
 
 impl ToBeSigned {

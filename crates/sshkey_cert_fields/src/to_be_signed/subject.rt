@@ -8,8 +8,8 @@ ghost use Rattle.sshkey_base.specs.Names.{algorithm_of};
 ghost use Rattle.sshkey_cert_fields.specs.ToBeSignedFormats.{subject_format};
 
 use sshkey_base::{Algorithm, Bytes, Decode, Error, Reader, Result};
-use sshkey_terms::{Then, Wide};
 use sshkey_keys::KeyData;
+use sshkey_terms::{Then, Wide};
 use std::alloc::Global;
 
 /// The algorithm of a key that is certified, under its name in certificates.

@@ -27,8 +27,8 @@ use crate::opening::{Opening, opening_from};
 use crate::part::Inner;
 use sshkey_base::{Error, Reader, Result};
 use sshkey_ciphers::{Cipher, Kdf, ciphertext_from, tag_from};
-use sshkey_pairs::KeypairData;
 use sshkey_keys::KeyData;
+use sshkey_pairs::KeypairData;
 use sshkey_public::PublicKey;
 use std::alloc::Global;
 

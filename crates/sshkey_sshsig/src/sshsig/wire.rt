@@ -20,8 +20,8 @@ use sshkey_base::{
     Bytes, Decode, Encode, Error, HashAlg, NormalForm, Reader, Result, Text, Writer, array_from,
     decode_whole, encode_vec, encoding,
 };
-use sshkey_terms::{Boxed, Then, Wide};
 use sshkey_keys::{KeyData, Signature};
+use sshkey_terms::{Boxed, Then, Wide};
 use std::alloc::Global;
 
 /// What an SSH signature begins with.

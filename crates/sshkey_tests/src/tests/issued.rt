@@ -3,12 +3,12 @@
 use super::support::is_wanted;
 use sshkey_base::certificate::Field;
 use sshkey_base::{Error, HashAlg};
-use sshkey_cert_builder::Builder;
 use sshkey_cert::Certificate;
-use sshkey_keys::{Fingerprint, KeyData};
-use sshkey_kinds::Ed25519PublicKey;
+use sshkey_cert_builder::Builder;
 use sshkey_cert_values::{FOREVER, MAX_SECS};
 use sshkey_doubles::{AcceptAll, Fixed, RefuseAll, Tally};
+use sshkey_keys::{Fingerprint, KeyData};
+use sshkey_kinds::Ed25519PublicKey;
 use std::alloc::Global;
 
 /// The bytes of an Ed25519 key that ssh-keygen made.

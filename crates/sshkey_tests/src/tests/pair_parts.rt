@@ -5,13 +5,13 @@ use super::pairs::{held, read};
 use super::support::{is_wanted, shows};
 use super::values::Forms;
 use sshkey_base::{Algorithm, EcdsaCurve, Error, Result, decode_whole, encoding};
-use sshkey_pairs::{KeypairData, OpaqueKeypair, OpaqueKeypairBytes};
+use sshkey_doubles::Count;
 use sshkey_keys::KeyData;
 use sshkey_kinds::{DsaPublicKey, EcdsaPublicKey, Ed25519PublicKey, OpaquePublicKey, RsaPublicKey};
 use sshkey_pair_kinds::{
     DsaKeypair, EcdsaKeypair, EcdsaPrivateKey, Ed25519Keypair, Ed25519PrivateKey, RsaKeypair,
 };
-use sshkey_doubles::Count;
+use sshkey_pairs::{KeypairData, OpaqueKeypair, OpaqueKeypairBytes};
 use std::alloc::Global;
 use std::convert::{AsSlice, TryFrom};
 

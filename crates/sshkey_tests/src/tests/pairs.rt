@@ -3,9 +3,9 @@
 use super::made_pairs::{DSA, ED25519, MadePair, P256, P384, P521, RSA};
 use super::support::is_wanted;
 use sshkey_base::{Algorithm, Encode, Error, Result, decode_whole, encode_vec, encoding};
-use sshkey_pairs::{KeypairData, OpaqueKeypair};
 use sshkey_kinds::{Ed25519PublicKey, OpaquePublicKey, SkEd25519 as PublicSkEd25519};
 use sshkey_pair_kinds::{Ed25519Keypair, Ed25519PrivateKey, SkEd25519};
+use sshkey_pairs::{KeypairData, OpaqueKeypair};
 use std::alloc::Global;
 
 /// The bytes that the digits spell.

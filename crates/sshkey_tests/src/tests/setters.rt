@@ -4,8 +4,8 @@ use super::issued::{builder, signed};
 use super::support::is_wanted;
 use sshkey_base::Error;
 use sshkey_base::certificate::Field;
-use sshkey_cert_builder::Builder;
 use sshkey_cert::Certificate;
+use sshkey_cert_builder::Builder;
 use sshkey_cert_values::{CertType, OptionsMap};
 use std::alloc::Global;
 

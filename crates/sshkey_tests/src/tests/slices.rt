@@ -7,8 +7,8 @@ use base64::engine::general_purpose::STANDARD;
 use sshkey_base::{Error, encoding};
 use sshkey_cert::Certificate;
 use sshkey_cert_ref::{CertificateRef, OptionsRef};
-use sshkey_keys::Fingerprint;
 use sshkey_doubles::{Only, OutOfMemory, RefuseAll};
+use sshkey_keys::Fingerprint;
 use std::alloc::Global;
 
 /// The certificate has these plain fields.

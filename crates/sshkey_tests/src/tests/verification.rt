@@ -3,10 +3,10 @@
 use super::openssh::{EACH, Made};
 use super::support::is_wanted;
 use sshkey_base::{Algorithm, Error, decode_whole};
+use sshkey_doubles::{AcceptAll, Fixed, Only, OutOfMemory, RefuseAll};
 use sshkey_keys::{KeyData, Signature, SigningKey};
 use sshkey_keys_ref::{KeyDataRef, SignatureRef};
 use sshkey_kinds::{Ed25519PublicKey, OpaquePublicKey, SkEd25519};
-use sshkey_doubles::{AcceptAll, Fixed, Only, OutOfMemory, RefuseAll};
 use std::alloc::Global;
 
 /// An Ed25519 key that ssh-keygen made.
