@@ -153,7 +153,7 @@ def check_users(count, built, modules, maker, window):
         count.check(f"a login by a certificate: {name}", same, wanted, found, answer, questions)
 
 
-# ---- what docs/FOREIGN.md shows
+# ---- what README and docs/FOREIGN.md show
 
 PAGE = """\
 #include <inttypes.h>
@@ -188,9 +188,14 @@ return 0;
 
 
 def blocks(language, heading="The lines that matter"):
-    with open(f"{ROOT}/docs/FOREIGN.md", encoding="utf-8") as file:
-        section = file.read().partition(f"\n## {heading}\n")[2].partition("\n## ")[0]
-    return re.findall(rf"^```{language}\n(.*?)^```", section, re.M | re.S)
+    """The code that docs/FOREIGN.md shows under a heading; before its first lines come those of README."""
+    shown = {"README.md": "From C or Python"} if heading == "The lines that matter" else {}
+    found = []
+    for path, wanted in {**shown, "docs/FOREIGN.md": heading}.items():
+        with open(f"{ROOT}/{path}", encoding="utf-8") as file:
+            section = file.read().partition(f"\n## {wanted}\n")[2].partition("\n## ")[0]
+        found += re.findall(rf"^```{language}\n(.*?)^```", section, re.M | re.S)
+    return found
 
 
 def said_by_page(modules, code, authority, line, key):
@@ -204,7 +209,7 @@ def said_by_page(modules, code, authority, line, key):
 
 
 def check_page(count, built, modules, maker):
-    """The lines that docs/FOREIGN.md shows compile, and let the user in, and no other."""
+    """The lines that README and docs/FOREIGN.md show compile, and let the user in, and no other."""
     path, code = f"{maker.folder}/page", blocks("c")
     maker.write("page.c", PAGE.format(*code[:3]))
     parts = [f"{path}.c", f"{built.sanitized}/judge.o", f"{built.sanitized}/verify.o", f"{built.sanitized}/libsshkey.a"]
