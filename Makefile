@@ -7,11 +7,14 @@
 # with `make rust`, which takes Rust (Debian: cargo), the one in Rust: out/check-rust.
 #
 # The helpers take OpenSSL's libcrypto (Debian: libssl-dev). `make install PREFIX=/usr/local` copies
-# header, libraries and a sshkey.pc of their own. docs/FOREIGN.md is the page to read.
+# header, libraries, a sshkey.pc of their own and the helpers, as bin/sshkey-principals and so on;
+# `make uninstall` removes them. docs/FOREIGN.md is the page to read.
 
 ROOT := $(abspath $(dir $(lastword $(MAKEFILE_LIST))))
 OUT := $(ROOT)/out
 PREFIX := /usr/local
+# sshkey.pc says where they lie, so it can't be relative
+override PREFIX := $(abspath $(PREFIX))
 # the kit's folder, where rt is installed
 KIT := $(patsubst %/,%,$(dir $(shell rt doc)))
 # the library of the crate, which bindings/library builds; and rattle_alloc and its like, over malloc
@@ -24,13 +27,16 @@ FILL := sed -e 's|@version@|$(VERSION)|'
 
 CC := cc
 CFLAGS := -O2
+# sshd starts the helpers with what a client sent
+HARDENED := -fstack-protector-strong -D_FORTIFY_SOURCE=2 -fPIE
+LINKED := -pie -Wl,-z,relro,-z,now
 WARNED := -std=c11 -D_POSIX_C_SOURCE=200809L -Wall -Wextra -pedantic -I$(ROOT)/include
 CRYPTO := -lcrypto
 HEADERS := $(ROOT)/include/sshkey.h $(wildcard $(ROOT)/helpers/*.h)
 PROGRAMS := $(OUT)/check_certificate $(OUT)/principals $(OUT)/authorized_keys
 
 ifeq ($(KIT),)
-ifneq ($(MAKECMDGOALS),clean)
+ifneq ($(if $(MAKECMDGOALS),$(filter-out clean uninstall,$(MAKECMDGOALS)),all),)
 $(error the toolchain's command rt is not found)
 endif
 endif
@@ -58,10 +64,10 @@ $(OUT)/sshkey.pc: $(ROOT)/bindings/sshkey.pc.in $(ROOT)/include/sshkey.h
 
 $(OUT)/%.o: $(ROOT)/helpers/%.c $(HEADERS)
 	@mkdir -p $(OUT)
-	$(CC) $(WARNED) $(CFLAGS) -c -o $@ $<
+	$(CC) $(WARNED) $(CFLAGS) $(HARDENED) -c -o $@ $<
 
 $(PROGRAMS): $(OUT)/%: $(OUT)/%.o $(OUT)/judge.o $(OUT)/verify.o $(OUT)/libsshkey.a
-	$(CC) $(CFLAGS) -o $@ $^ $(CRYPTO)
+	$(CC) $(CFLAGS) $(LINKED) -o $@ $^ $(CRYPTO)
 
 # Go does not see that the library is another, so the program is always linked
 go: $(OUT)/libsshkey.a
@@ -74,17 +80,27 @@ rust: $(OUT)/libsshkey.a $(OUT)/verify.o
 		cargo build --offline --locked --release --example check
 	cp $(OUT)/rust/release/examples/check $(OUT)/check-rust
 
+INCLUDE := $(DESTDIR)$(PREFIX)/include
+LIB := $(DESTDIR)$(PREFIX)/lib
+# a helper's name where it is installed
+INSTALLED = $(DESTDIR)$(PREFIX)/bin/sshkey-$(subst _,-,$(notdir $(1)))
+
 install: all
-	install -d $(PREFIX)/include $(PREFIX)/lib/pkgconfig
-	install -m 644 $(ROOT)/include/sshkey.h $(PREFIX)/include
-	install -m 644 $(OUT)/libsshkey.a $(PREFIX)/lib
-	install -m 755 $(OUT)/libsshkey.so $(PREFIX)/lib
-	$(FILL) -e 's|@include@|$(PREFIX)/include|' -e 's|@lib@|$(PREFIX)/lib|' $(ROOT)/bindings/sshkey.pc.in \
-		>$(PREFIX)/lib/pkgconfig/sshkey.pc
+	install -d $(INCLUDE) $(LIB)/pkgconfig $(DESTDIR)$(PREFIX)/bin
+	install -m 644 $(ROOT)/include/sshkey.h $(INCLUDE)
+	install -m 644 $(OUT)/libsshkey.a $(LIB)
+	install -m 755 $(OUT)/libsshkey.so $(LIB)
+	$(FILL) -e 's|@include@|$(PREFIX)/include|' -e 's|@lib@|$(PREFIX)/lib|' \
+		$(ROOT)/bindings/sshkey.pc.in >$(LIB)/pkgconfig/sshkey.pc
+	$(foreach it,$(PROGRAMS),install -m 755 $(it) $(call INSTALLED,$(it)) &&) true
+
+uninstall:
+	rm -f $(INCLUDE)/sshkey.h $(LIB)/libsshkey.a $(LIB)/libsshkey.so $(LIB)/pkgconfig/sshkey.pc \
+		$(foreach it,$(PROGRAMS),$(call INSTALLED,$(it)))
 
 clean:
 	rm -rf $(OUT)
 
-.PHONY: all always go rust install clean
+.PHONY: all always go rust install uninstall clean
 .DELETE_ON_ERROR:
 .SECONDARY:

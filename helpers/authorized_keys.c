@@ -2,7 +2,7 @@
  *
  *     # sshd_config
  *     AuthorizedKeysFile none
- *     AuthorizedKeysCommand /usr/local/bin/authorized_keys /etc/ssh/keys/%u %u %t %k
+ *     AuthorizedKeysCommand /usr/local/bin/sshkey-authorized-keys /etc/ssh/keys/%u %u %t %k
  *     AuthorizedKeysCommandUser nobody
  *
  * It prints the lines that have the key that the client offers, as they stand in the file, and

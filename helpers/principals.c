@@ -3,7 +3,7 @@
  *
  *     # sshd_config
  *     TrustedUserCAKeys /etc/ssh/authorities.pub
- *     AuthorizedPrincipalsCommand /usr/local/bin/principals /etc/ssh/authorities %u %t %k
+ *     AuthorizedPrincipalsCommand /usr/local/bin/sshkey-principals /etc/ssh/authorities %u %t %k
  *     AuthorizedPrincipalsCommandUser nobody
  *
  * Lines of /etc/ssh/authorities are `USER[,USER..] TYPE BASE64 [COMMENT]`. The user is let in if

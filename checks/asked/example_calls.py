@@ -202,10 +202,10 @@ def check_host_words(count, built, maker):
 def check_copies(count, built, maker):
     """A package that stands elsewhere takes no library of the folders above it, and a link to the one of the sources theirs."""
 
-    def loaded(folder):
-        words = [sys.executable, "-c", "import os, sshkey; print(os.path.realpath(sshkey._library.LIBRARY._name))"]
+    def loaded(folder, first="", **named):
+        words = [sys.executable, "-c", f"import os\n{first}\nimport sshkey\nprint(os.path.realpath(sshkey._library.LIBRARY._name))"]
         kept = {name: value for name, value in os.environ.items() if name != "SSHKEY_LIBRARY"}
-        return run(words, env={**kept, "PYTHONPATH": folder})
+        return run(words, env={**kept, "PYTHONPATH": folder, **named})
 
     for top, inner, is_taken in (("bindings", "python", True), ("site", "python", False), ("bindings", "site", False)):
         above = f"{maker.folder}/copied-{top}-{inner}"
@@ -220,6 +220,12 @@ def check_copies(count, built, maker):
     os.symlink(f"{sources}/bindings/python/sshkey", f"{maker.folder}/linked-python/elsewhere/sshkey")
     ran = loaded(f"{maker.folder}/linked-python/elsewhere")
     count.check("a link takes that of the sources", ran.stdout.strip() == os.path.realpath(f"{sources}/out/libsshkey.so"), ran.stdout, ran.stderr)
+    for name, first, wanted in (
+        ("its own user", "", f"{built.plain}/libsshkey.so"), ("another user", "os.geteuid = lambda: os.getuid() + 1", f"{sources}/out/libsshkey.so"),
+        ("another group", "os.getegid = lambda: os.getgid() + 1", f"{sources}/out/libsshkey.so"),
+    ):  # fmt: skip
+        named = loaded(f"{sources}/bindings/python", first, SSHKEY_LIBRARY=f"{built.plain}/libsshkey.so")
+        count.check(f"SSHKEY_LIBRARY in a program with the rights of {name}", named.stdout.strip() == os.path.realpath(wanted), named.stdout, named.stderr)
 
 
 def check_meanings(count, built, check):
@@ -232,7 +238,7 @@ def check_meanings(count, built, check):
 
 
 def check_authorities(count, built, kind):
-    """add_authority tells refused memory from a line that is no key."""
+    """judge_add_authority tells refused memory from a line that is no key."""
     line = kind.maker.read(f"{kind.authority}.pub").encode()
     asked = [("a key", line, 0), ("no key", line[:20], 13), ("a certificate", kind.line.encode(), 12)]
     ran = run([f"{built.sanitized}/foreign"], input="".join(f"authority {it.hex()}\n" for _, it, _ in asked))

@@ -30,12 +30,12 @@ class Built:
 
     def __init__(self, folder, library):
         self.plain, self.sanitized = f"{folder}/plain", f"{folder}/sanitized"
-        given = [f"LIBRARY={os.path.abspath(library)}"] if library else []
+        self.given = [f"LIBRARY={os.path.abspath(library)}"] if library else []
         self.said = ""
-        self.made = self.make(self.plain, given, "-O2 -g") and self.make(self.sanitized, given, SANITIZED)
+        self.made = self.make(self.plain, "-O2 -g") and self.make(self.sanitized, SANITIZED)
 
-    def make(self, out, given, flags):
-        made = run(["make", "-C", ROOT, f"OUT={out}", f"CFLAGS={flags}", *given])
+    def make(self, out, flags):
+        made = run(["make", "-C", ROOT, f"OUT={out}", f"CFLAGS={flags}", *self.given])
         parts = [f"{ROOT}/checks/foreign.c", f"{out}/judge.o", f"{out}/verify.o", f"{out}/libsshkey.a", "-lcrypto", WRAPPED]
         asks = [*C, f"-I{HELPERS}", *flags.split(), *parts, "-o", f"{out}/foreign"]
         asking = run(asks) if made.returncode == 0 else made
@@ -130,21 +130,52 @@ def check_layout(count, built, sshkey):
     count.check("the structs of C lie as those of Python", found == wanted, found, wanted)
 
 
-def check_package(count, built, folder):
-    """A program of one line finds header and library by pkg-config, and runs."""
+def is_found(folder, package, library):
+    """Whether a program of one line finds header and library by pkg-config, and runs."""
     path = f"{folder}/linked"
     with open(f"{path}.c", "w", encoding="ascii") as file:
         file.write('#include "sshkey.h"\nint main(void) { sshkey_sha256 d = {{0}};')
         file.write("return sshkey_fingerprint(sshkey_bytes(NULL), 0, &d) != SSHKEY_LENGTH; }\n")
-    words = run(["pkg-config", "--cflags", "--libs", "sshkey"], env={**os.environ, "PKG_CONFIG_PATH": built.plain})
+    words = run(["pkg-config", "--cflags", "--libs", "sshkey"], env={**os.environ, "PKG_CONFIG_PATH": package})
     made = run(["cc", "-std=c11", "-o", path, f"{path}.c", *words.stdout.split()])
-    ran = run([path], env={**os.environ, "LD_LIBRARY_PATH": built.plain}) if made.returncode == 0 else made
-    count.check("pkg-config finds the library", ran.returncode == 0, words.stderr, made.stderr, ran.returncode)
+    ran = run([path], env={**os.environ, "LD_LIBRARY_PATH": library}) if made.returncode == 0 else made
+    return ran.returncode == 0
+
+
+# what is installed below a prefix
+INSTALLED = {
+    "bin/sshkey-authorized-keys", "bin/sshkey-check-certificate", "bin/sshkey-principals", "include/sshkey.h", "lib/libsshkey.a",
+    "lib/libsshkey.so", "lib/pkgconfig/sshkey.pc",
+}  # fmt: skip
+
+
+def files_below(folder):
+    return {os.path.relpath(f"{at}/{name}", folder) for at, _, names in os.walk(folder) for name in names}
+
+
+def check_installed(count, built, folder):
+    """What is installed lies below DESTDIR and PREFIX, which may be relative, and is taken away again."""
+    words = ["make", "-C", ROOT, f"OUT={built.plain}", *built.given]
+    for name, prefix, staged in (
+        ("a folder", f"{folder}/absolute", ""), ("a relative folder", os.path.relpath(f"{folder}/relative", ROOT), ""),
+        ("a stage", "/usr/local", f"{folder}/staged"),
+    ):  # fmt: skip
+        at = f"{staged}{prefix}" if staged else os.path.join(ROOT, prefix)
+        made = run([*words, "install", f"PREFIX={prefix}", f"DESTDIR={staged}"])
+        found = made.returncode == 0 and files_below(at) == INSTALLED
+        count.check(f"what is installed in {name}", found, files_below(at), made.stderr[-2000:])
+        if not staged:
+            count.check("pkg-config finds it there", is_found(folder, f"{at}/lib/pkgconfig", f"{at}/lib"))
+        ran = run([f"{at}/bin/sshkey-principals"])
+        count.check("a helper runs there", ran.returncode == 1 and ran.stderr.startswith("usage: "), ran)
+        removed = run([*words, "uninstall", f"PREFIX={prefix}", f"DESTDIR={staged}"])
+        count.check("and it is taken away", removed.returncode == 0 and not files_below(at), files_below(at), removed.stderr)
 
 
 def check_linked(count, built, sshkey, folder):
     check_header(count, folder)
     check_symbols(count, built, sshkey)
     check_layout(count, built, sshkey)
-    check_package(count, built, folder)
+    count.check("pkg-config finds the library", is_found(folder, built.plain, built.plain))
+    check_installed(count, built, folder)
     check_names(count, built)

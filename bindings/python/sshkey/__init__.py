@@ -15,8 +15,9 @@ which nothing follows about them. All raise TypeError for a text in place of byt
 UnicodeEncodeError, a ValueError too, for a text that UTF-8 can't write.
 
 The library is the file that SSHKEY_LIBRARY names in the environment, or else out/libsshkey.so of the sources (`make`
-builds it), or else the system's. Whoever sets SSHKEY_LIBRARY has their code run, so clear it in a helper that keeps its
-caller's environment. Calls from several threads at once are fine.
+builds it), or else the system's. Whoever sets SSHKEY_LIBRARY has their code run: it is ignored where the effective and the real
+user or group differ, and a helper that keeps its caller's environment in another way has to clear it. Calls from several threads
+at once are fine.
 """
 from ._certificates import (
     certificate_contents,

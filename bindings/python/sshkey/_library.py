@@ -154,9 +154,15 @@ CALLS = {
 }
 
 
+def _named() -> str | None:
+    """The file that SSHKEY_LIBRARY names, unless another user may have set it than the one by whose rights the program runs."""
+    is_own = (os.getuid(), os.getgid()) == (os.geteuid(), os.getegid())
+    return os.environ.get("SSHKEY_LIBRARY") if is_own else None
+
+
 def _loaded() -> ctypes.CDLL:
     built = BUILT if IS_IN_SOURCES and os.path.exists(BUILT) else None
-    path = os.environ.get("SSHKEY_LIBRARY") or built or find_library("sshkey")
+    path = _named() or built or find_library("sshkey")
     if not path:
         raise OSError("libsshkey.so is not built: run make")
     library = ctypes.CDLL(path)
