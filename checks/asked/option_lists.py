@@ -7,7 +7,8 @@ import socket
 import subprocess
 from concurrent.futures import ThreadPoolExecutor
 
-from lib.harness import answers_of, new_key, spelled, ssh_keygen
+from lib.asking import of_table
+from lib.harness import Count, new_key, spelled, ssh_keygen
 
 SSHD = "/usr/sbin/sshd"
 SECONDS = 60
@@ -110,26 +111,29 @@ def permits(items, is_named):
     return is_named and not any(it == "" or "/" in it or "!" in it for it in items.split(","))
 
 
-def check_addresses(count, program, logins):
-    """No login that sshd refuses by a list is let in as docs/CALLING.md says, by the patterns of the program."""
+def of_addresses(logins):
+    """No login that sshd refuses by a list is let in as docs/CALLING.md says, by the patterns of the program: questions, and how
+    the answers are judged."""
     rows = [(address, *row) for address, lists in FROM.items() if address != "::1" or socket.has_dualstack_ipv6() for row in lists]
     asked = [f"hosts-for {spelled(items)} , {spelled(address)} , {spelled('22')}" for address, items, *_ in rows]
-    answers = answers_of(program, asked)
     with ThreadPoolExecutor(len(os.sched_getaffinity(0))) as pool:
         lines = [f'from="{items}" {logins.fields["own"]}' for _, items, *_ in rows]
         found = list(pool.map(logins.log_in, (row[0] for row in rows), lines))
-    misled = 0
-    for question, (address, items, by_sshd, by_rule), (is_let_in, _) in zip(asked, rows, found, strict=True):
-        is_named = answers.get(question) == "yes"
-        count.check(f"from={items!r} of {address} at sshd", is_let_in == by_sshd, is_let_in)
-        count.check(f"from={items!r} of {address} by the rule", permits(items, is_named) == by_rule, answers.get(question))
-        misled += is_named and not is_let_in
-    count.check("patterns alone let in a dozen that sshd refuses", misled >= 12, misled)
+
+    def judge(answers, count):
+        misled = 0
+        for question, (address, items, by_sshd, by_rule), (is_let_in, _) in zip(asked, rows, found, strict=True):
+            is_named = answers.get(question) == "yes"
+            count.check(f"from={items!r} of {address} at sshd", is_let_in == by_sshd, is_let_in)
+            count.check(f"from={items!r} of {address} by the rule", permits(items, is_named) == by_rule, answers.get(question))
+            misled += is_named and not is_let_in
+        count.check("patterns alone let in a dozen that sshd refuses", misled >= 12, misled)
+
+    return asked, judge
 
 
-def check_option_lists(count, program, folder, configuration):
-    logins = Logins(folder, configuration)
-    check_addresses(count, program, logins)
+def check_certificates(count, logins):
+    """What sshd takes for a list of principals and of addresses, and that it sets no environment."""
     for items, wanted in PRINCIPALS.items():
         line = f'cert-authority,principals="{items}" {logins.fields["authority"]}'
         is_let_in, _ = logins.log_in("127.0.0.1", line, "certified")
@@ -143,3 +147,16 @@ def check_option_lists(count, program, folder, configuration):
         count.check(f"source-address={items}", is_let_in == wanted, is_let_in)
     is_let_in, written = logins.log_in("127.0.0.1", f'environment="RAFENDILO=set" {logins.fields["own"]}', command="env")
     count.check("environment sets nothing", is_let_in and written and b"RAFENDILO" not in written, written)
+
+
+def option_lists(folder, configuration):
+    """What is asked of the table, and how the answers are judged; what sshd does is counted with them."""
+    logins, by_sshd = Logins(folder, configuration), Count()
+    asked, judge_addresses = of_addresses(logins)
+    check_certificates(by_sshd, logins)
+
+    def judge(answers, count):
+        count.add(by_sshd)
+        judge_addresses(answers, count)
+
+    return of_table(asked, judge)

@@ -1,13 +1,12 @@
-"""What the checks of built programs share: how they count, what they make with ssh-keygen, and how they ask the table."""
+"""What the checks share: how they count, what they make with ssh-keygen, and how they spell questions of the table."""
 import base64
 import os
 import struct
 import subprocess
-import sys
 
 ROOT = os.path.dirname(os.path.dirname(os.path.dirname(os.path.abspath(__file__))))
 # the built program that answers lines of questions
-TABLE = os.path.join(ROOT, "crates", "sshkey_cases", "out", "sshkey_cases")
+BUILT_TABLE = os.path.join(ROOT, "crates", "sshkey_cases", "out", "sshkey_cases")
 
 
 class Count:
@@ -17,9 +16,21 @@ class Count:
         self.passed = self.failed = 0
 
     def check(self, name, holds, *details):
+        self.note(name, holds, *details)
+        if holds:
+            print(f"ok: {name}", flush=True)
+
+    def note(self, name, holds, *details):
+        """The same for one of many, whose name is said only where it fails."""
         self.passed += bool(holds)
         self.failed += not holds
-        print(*([f"ok: {name}"] if holds else [f"FAILED: {name}", *(f"  {it}" for it in details)]), sep="\n", flush=True)
+        if not holds:
+            print(f"FAILED: {name}", *(f"  {it}" for it in details), sep="\n", flush=True)
+
+    def add(self, other):
+        """Counts what the other counted, too."""
+        self.passed += other.passed
+        self.failed += other.failed
 
     def finish(self):
         """Prints the last line of a check and returns its status."""
@@ -69,13 +80,3 @@ def new_key(path, kind, comment=""):
 def spelled(text):
     """The text as a question of the table spells it."""
     return " ".join(byte.encode().hex() for byte in text) if text else '""'
-
-
-def answers_of(program, questions):
-    """What the program answers to each of the questions that it answers. Ends the check where the program fails."""
-    lines = "".join(f"{it}\n" for it in questions)
-    run = subprocess.run([program], input=lines, capture_output=True, encoding="utf-8", check=False)
-    if run.returncode:
-        sys.exit(f"{run.stderr[-2000:]}\n{program} ended with {run.returncode}")
-    # a comment may hold what splitlines takes for the end of a line
-    return dict(it.split(" = ", 1) for it in run.stdout.split("\n") if " = " in it)
