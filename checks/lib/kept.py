@@ -1,4 +1,4 @@
-"""What checks/wrong-bodies has passed on this machine."""
+"""What checks/wrong-bodies has passed: on this machine, and as the file checks/tried has it."""
 import hashlib
 import os
 
@@ -50,12 +50,43 @@ class Kept:
             return 0
 
     def keep(self, trial, path):
-        """Keeps what passed there, if nothing that it was judged by has changed since."""
+        """Keeps what passed there, if nothing that it was judged by has changed since, and that the part that a trial has without
+        those of wrong/more passed with it."""
         if trial.failures or self.path(trial) != path:
             return
+        passed = {path: trial.passed}
+        if trial.plain:
+            passed[self.path(trial.plain)] = len(trial.plain.blocks)
         try:
             os.makedirs(self.folder, exist_ok=True)
-            with open(path, "w", encoding="utf-8") as file:
-                file.write(str(trial.passed))
+            for path, count in passed.items():
+                with open(path, "w", encoding="utf-8") as file:
+                    file.write(str(count))
         except OSError as error:
             print(f"{trial.crate.name}: what passed could not be kept: {error}", flush=True)
+
+
+class Tried:
+    """The file checks/tried: of each crate a sum of the sources and of the wrong bodies, those of wrong/more too, of which all
+    were refused when they were last tried."""
+
+    def __init__(self, root):
+        self.path = f"{root}/checks/tried"
+        with open(self.path, encoding="utf-8") as file:
+            self.sums = dict(line.split() for line in file)
+
+    @staticmethod
+    def sum_of(trial):
+        files = [*sorted(trial.crate.sources()), *sorted(trial.files)]
+        return Kept.sum_of(files, trial.crate.folder)[:16]
+
+    def has(self, trial):
+        return self.sums.get(trial.crate.name) == self.sum_of(trial)
+
+    def note(self, trials):
+        """Writes down that all wrong bodies of these crates were refused."""
+        found = {**self.sums, **{it.crate.name: self.sum_of(it) for it in trials}}
+        if found != self.sums:
+            with open(self.path, "w", encoding="utf-8") as file:
+                file.writelines(f"{name} {found[name]}\n" for name in sorted(found))
+            print("checks/tried says what was tried: it lands with the change", flush=True)
