@@ -59,10 +59,31 @@ def files_of(folder):
 
 
 def blocks_of(path):
-    """The blocks of lines of a file, which empty lines divide."""
+    """The blocks of lines of a file, which empty lines divide, written out."""
     with open(path, encoding="utf-8") as file:
         blocks = re.split(r"\n(?:[ \t]*\n)+", file.read().strip("\n"))
-    return [it.split("\n") for it in blocks if it.strip()]
+    return [it for block in blocks if block.strip() for it in written_out(path, block.split("\n"))]
+
+
+def written_out(path, block):
+    """The block with the file that it turns; one for each name, where it begins with a line 'for: NAME..'."""
+    word, _, names = block[0].partition(":")
+    names = names.split() if word == "for" else []
+    lines = block[1:] if word == "for" else block
+    turned = re.search(f"/(wrong|wrong-definitions)/(?:{MORE}/)?([^.]*)[.]edits$", path)
+    first = next((at for at, it in enumerate(lines) if it.startswith(("file:", "behind:", "old:"))), None)
+    if turned and first is not None and not lines[first].startswith("file:"):
+        file = f"src/{turned[2]}.rt" if turned[1] == "wrong" else f"specs/{turned[2]}.antt"
+        lines = [*lines[:first], f"file: {file}", *lines[first:]]
+    return [for_name(lines, it) for it in names] if names else [lines]
+
+
+def for_name(lines, given):
+    """The lines with a name in place of '{kind}' and its type in place of '{Kind}': that behind the name and a colon, or the
+    name's own words with capitals."""
+    name, _, kind = given.partition(":")
+    kind = kind or "".join(word[:1].upper() + word[1:] for word in name.split("_"))
+    return [it.replace("{kind}", name).replace("{Kind}", kind) for it in lines]
 
 
 def read_edit(lines):
