@@ -39,14 +39,15 @@ class Crate:
 
     def is_left_by_ci(self):
         """Whether the library is one that rt ci has made, or found kept, of the sources as they
-        stand: it is no older than they are, or has the mark that ./test gives where rt ci passed.
-        What the other commands of rt make has a stamp, and they know whether it is current."""
+        stand: none is newer than the mark of checks/lib/prove, which is as old as its copy of them, or
+        without that mark than the library. What the other commands of rt make has a stamp, and they
+        know whether it is current."""
         folder = f"{self.folder}/out/rlib"
-        marks = [it for it in (f"{self.library}/format", f"{folder}/passed") if os.path.isfile(it)]
+        marks = [it for it in (f"{folder}/passed", f"{self.library}/format") if os.path.isfile(it)]
         if not os.path.isdir(self.library) or not marks or os.path.exists(f"{folder}/stamp"):
             return False
         files = [file for it in [*self.below(), self] for file in it.sources()]
-        made = max(map(os.path.getmtime, marks))
+        made = os.path.getmtime(marks[0])
         return all(os.path.getmtime(it) <= made for it in files)
 
     def copy_work(self, kept):
