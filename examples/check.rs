@@ -6,27 +6,23 @@ use std::ffi::{OsStr, OsString};
 use std::fmt;
 use std::fs;
 use std::io::{self, BufRead, Read, Write};
-use std::net::IpAddr;
 use std::os::unix::ffi::OsStrExt;
 use std::path::Path;
 use std::process::ExitCode;
 use std::time::{SystemTime, UNIX_EPOCH};
 
-use sshkey::{Login, Principal, Refusal, Sha256, Status};
+use sshkey::{Principal, Refusal, Sha256, Status};
 
 const USAGE: &str = "\
 Says whether certificates and SSH signatures are valid, or what is wrong first.
 
     check certificates AUTHORITIES PRINCIPAL|- [SECOND] <id_ed25519-cert.pub
     check signature SIGNERS NAMESPACE FILE <FILE.sig
-    check user AUTHORITIES USER KEY [SECOND] [OPTION..] <id_ed25519-cert.pub
 
 AUTHORITIES and SIGNERS are files of public keys, a line each. The first answers of each line of
-its input. The last says of each whether it logs in the user who holds the key of the file KEY,
-where each OPTION is the name of a critical option that is met, whatever networks or command its
-value names. The status is 0 if all is valid, 1 if not, and 2 where it can't tell: so also where
-there is no certificate. Of the first, a valid certificate may be for a host, or for nobody by name,
-and - is no name that a client may choose.
+its input. The status is 0 if all is valid, 1 if not, and 2 where it can't tell: so also where there
+is no certificate. A valid certificate may be for a host, or for nobody by name, and - is no name
+that a client may choose: who logs users in calls `sshkey::validate_user`.
 ";
 
 // ---- cryptography
@@ -91,12 +87,6 @@ fn fingerprints(path: &Path) -> Result<Vec<Sha256>, Untold> {
         .map(|line| sshkey::fingerprint(&read(line, false)?))
         .collect::<Result<_, Status>>()
         .map_err(|status| no_key(path, status))
-}
-
-/// The key of a file that has one. Fails where it can't be read, and where it has none.
-fn key_of(path: &Path) -> Result<Vec<u8>, Untold> {
-    let line = fs::read(path).map_err(|fault| of_file(path, fault))?;
-    read(&line, false).map_err(|status| no_key(path, status))
 }
 
 /// The second of the digits, or else now. Fails where there is another character, or none.
@@ -230,52 +220,6 @@ fn signature(signers: &OsStr, namespace: &OsStr, file: &OsStr) -> Result<bool, U
     Ok(is_valid)
 }
 
-/// Whether the word is a network as sshd reads one: an address, and how many of its bits count, of
-/// which none stands after those.
-fn is_network(word: &str) -> bool {
-    let (address, bits) = word
-        .split_once('/')
-        .map_or((word, None), |(address, bits)| (address, Some(bits)));
-    let (number, most): (u128, u32) = match address.parse() {
-        Ok(IpAddr::V4(it)) => (u32::from(it).into(), 32),
-        Ok(IpAddr::V6(it)) => (it.into(), 128),
-        Err(_) => return false,
-    };
-    let counted = match bits {
-        None => return true,
-        // parse takes a sign, too
-        Some(it) if it.bytes().all(|byte| byte.is_ascii_digit()) => it.parse::<u32>().ok(),
-        Some(_) => None,
-    };
-    let left = counted.and_then(|it| most.checked_sub(it));
-    left.map_or(false, |it| number.trailing_zeros() >= it)
-}
-
-/// Whether sshd takes the value of a critical option, as far as that does not depend on the login.
-fn is_sound(name: &str, value: &str) -> bool {
-    match name {
-        "verify-required" => value.is_empty(),
-        "source-address" => value.split(',').all(is_network),
-        _ => !value.is_empty() && !value.contains('\0'),
-    }
-}
-
-/// Whether all log the user in.
-fn user(words: [&OsStr; 3], second: u64, options: &[OsString]) -> Result<bool, Untold> {
-    let [authorities, user, key] = words;
-    let (by, key) = (fingerprints(authorities.as_ref())?, key_of(key.as_ref())?);
-    let login = Login {
-        user: user.as_bytes(),
-        key: &key,
-        unix_timestamp: second,
-        authorities: &by,
-    };
-    let is_met = |name: &str, value: &str| {
-        is_sound(name, value) && options.iter().any(|known| known == name)
-    };
-    say_of_lines(|it| sshkey::validate_user(it, &login, verify::verifies, is_met))
-}
-
 // ---- streams
 
 mod streams {
@@ -317,10 +261,6 @@ fn answer(words: &[OsString]) -> Option<Result<bool, Untold>> {
             second_of(second.first()).and_then(|it| certificates(authorities, principal, it))
         }
         ("signature", [signers, namespace, file]) => signature(signers, namespace, file),
-        ("user", [authorities, name, key, more @ ..]) => {
-            let options = more.get(1..).unwrap_or_default();
-            second_of(more.first()).and_then(|it| user([authorities, name, key], it, options))
-        }
         _ => return None,
     })
 }

@@ -46,13 +46,15 @@ import time
 from dataclasses import dataclass
 from unittest.mock import patch
 
-from lib.harness import string
+from lib.harness import new_key, string
+from lib.signatures import mpint
 
 from . import digest_calls, entry_calls, host_calls
 from .certificate_calls import CASES, certificate_of, fields_in
-from .key_calls import COMMENTS, encoded, numbers_of_keys, points_of_keys, signed_by, signed_by_hand, turned
+from .key_calls import COMMENTS, encoded, numbers_of_keys, points_of_keys, renamed, signed_by, signed_by_hand, turned
 from .linked import run
 from .login_calls import REFUSALS, all_cases
+from .login_calls import turned as turned_name
 from .security_key_calls import SecurityKey, signatures
 
 # every how many-th is asked about
@@ -258,7 +260,10 @@ class Judge:
 def check_hostile(judge):
     """Bytes of checks/hostile, of each kind by each call that reads it."""
     asked = {
-        "certificate": ["certificate {}", "fields {}", "lists {}", "normal certificate {}"], "key": ["key {}", "normal key {}"],
+        "certificate": [
+            "certificate {}", "fields {}", "lists {}", "normal certificate {}", f"validate {{}} {judge.made.middle} * {own_of(judge.made).hex()} 1",
+        ],
+        "key": ["key {}", "normal key {}"],
         "ssh-signature": [
             f"sshsig {{}} {b'file'.hex()} {b'message'.hex()}", f"sshsig-of-digest {{}} {b'file'.hex()} {'a5' * 64}", "sshsig-hash {}",
             "normal sshsig {}",
@@ -295,15 +300,18 @@ def check_certificates(judge):
     good = fields_in(certificate_of(maker, "lister0", "listed0", CASES["two listed"])[0])
     drafts += [draft_of({**good, **it}) for it, _ in changed]
     judge.ask("drafts", drafts, wanted + [it for _, it in changed])
-    kind = made.kinds[0]
-    own = made.sshkey.fingerprint(made.foreign.blob_of(maker.read(f"{kind.authority}.pub")))
-    given, numbers = [], []
+    own, given, numbers = own_of(made), [], []
     for _, second, whom, by, yes, status in made.foreign.validations(own):
-        given.append(f"validate {kind.blob.hex()} {second} {whom} {word(by)} {yes}")
+        given.append(f"validate {made.kinds[0].blob.hex()} {second} {whom} {word(by)} {yes}")
         # no question is asked about another authority's certificate
         is_asked = own in Answers.digests(word(by))
         numbers.append(f"{int(made.sshkey.Status[status if is_asked else 'UNTRUSTED_AUTHORITY'])} {int(is_asked)}")
     judge.ask("validations", given, numbers)
+
+
+def own_of(made, kind=0):
+    """The fingerprint of the authority of that number."""
+    return made.sshkey.fingerprint(made.foreign.blob_of(made.maker.read(f"{made.kinds[kind].authority}.pub")))
 
 
 def draft_of(fields):
@@ -313,13 +321,18 @@ def draft_of(fields):
 
 
 def check_logins(judge):
-    """validate_user, of certificates in which one thing is wrong each."""
+    """validate_user, of certificates in which one thing is wrong each, and of one by each kind of authority."""
     window = (judge.made.foreign.MIDDLE, judge.made.foreign.WINDOW)
     questions, wanted = [], []
     for _, blob, key, second, user, by, known, status in all_cases(judge.made.maker, window):
         user = user.encode() if isinstance(user, str) else user
         questions.append(f"user {blob.hex()} {key.hex()} {second} {word(user)} {word(by)} {word(known.encode())}")
         wanted.append(judge.said_of(status))
+    for number, kind in enumerate(judge.made.kinds):
+        key, by = judge.made.maker.blob(f"user{number}").hex(), own_of(judge.made, number).hex()
+        for blob, status in ((kind.blob, "DONE"), (turned_name(kind.blob), "NOT_SIGNED")):
+            questions.append(f"user {blob.hex()} {key} {window[0]} {b'alice'.hex()} {by} -")
+            wanted.append(judge.said_of(status))
     judge.ask("logins", questions, wanted)
 
 
@@ -341,12 +354,15 @@ def check_keys(judge):
         others = [(message + b"!", signature), *((message, it) for it in turned(signature)[::TURNED])]
         for question in ("signature", "is-signature"):
             questions += [f"{question} {key.hex()} {word(it)} {word(other)}" for it, other in [(message, signature), *others]]
-        questions += [f"key {key.hex()}", f"normal key {key.hex()}", f"normal signature {signature.hex()}"]
+        questions += [f"{it} {of.hex()}" for of in (key, renamed(key)) for it in ("key", "normal key")]
+        questions.append(f"normal signature {signature.hex()}")
         strange = signed_by(made.maker, f"user{(number + 1) % len(made.kinds)}")[0]
         questions.append(f"signature {strange.hex()} {message.hex()} {signature.hex()}")
     judge.ask("keys and what they signed", questions)
     exponent, modulus, signature = signed_by_hand(b"text")
-    by_hand = [(string(b"ssh-rsa") + b"".join(numbers), signature, is_one) for _, numbers, is_one in numbers_of_keys(exponent, modulus)]
+    weak = [(numbers, is_one) for _, numbers, is_one in numbers_of_keys(exponent, modulus)]
+    weak += [((mpint(e), mpint(n)), False) for e, n in ((exponent, 1), (1, modulus), (exponent, modulus - 1), (exponent, (1 << 1000000) + 1))]
+    by_hand = [(string(b"ssh-rsa") + b"".join(numbers), signature, is_one) for numbers, is_one in weak]
     for kind in ("Ed25519", "ECDSA"):
         by_hand += [(blob, it, is_one) for _, blob, it, is_one in signatures(SecurityKey(kind, b"ssh:"), b"text")]
     by_hand += points_of_keys(b"text")
@@ -354,6 +370,9 @@ def check_keys(judge):
     # where key and signature do not go together there is nothing to verify
     wanted = ["40" if judge.answers.to(it) == "40" and not is_one else f"0 {int(is_one)}" for it, (*_, is_one) in zip(questions, by_hand)]
     judge.ask("keys made by hand", questions, wanted)
+    short = [it for it, kind in (("short", "rsa -b 1024"), ("dsa", "dsa")) if new_key(made.maker.path(it), kind)]
+    questions = [" ".join(["is-signature", *(part.hex() for part in signed_by(made.maker, it))]) for it in short]
+    judge.ask("keys that are too weak", questions, ["0 0"] * len(questions))
 
 
 def check_digests(judge):

@@ -1,20 +1,17 @@
-"""The package in Rust of bindings/rust, and its example check, for checks/bindings: how they are built, their own tests, what
-docs/FOREIGN.md shows of them, and what the program has beside check.py."""
+"""The package in Rust of bindings/rust, and its example check, for checks/bindings: how they are built, their own tests, and what
+docs/FOREIGN.md shows of them."""
 import hashlib
 import os
 import re
 import time
 
-from lib.harness import ROOT, string
+from lib.harness import ROOT
 
 from .binding_calls import Asker, Judge, draft_of
-from .bindings import is_untold
 from .certificate_calls import fields_in
-from .example_calls import INVALID, VALID
 from .key_calls import signed_by
 from .linked import BINDINGS, EXAMPLES, run
 from .login_calls import blocks
-from .login_options import certificate
 
 PACKAGE = os.path.join(BINDINGS, "rust")
 CHECK, ASKER = f"{EXAMPLES}/check.rs", f"{ROOT}/checks/asked/rust/asker.rs"
@@ -22,9 +19,6 @@ CARGO = ["--offline", "--locked"]
 # each unsafe block is one call, and says why it is right; an older clippy does not know that of one call
 UNSAFE = ["-D", "clippy::undocumented_unsafe_blocks", "-D", "clippy::multiple_unsafe_ops_per_block"]
 LINTS = ["-D", "warnings", "-A", "unknown_lints", *UNSAFE]
-# values of source-address that sshd reads, and that it does not: ssh-keygen tells by the same function
-NETWORKS = ["192.0.2.0/24,2001:db8::/32", "192.0.2.1", "2001:db8::1", "0.0.0.0/0", "192.0.2.1/32"]
-NO_NETWORKS = ["nowhere", "192.0.2.0/24,nowhere", "192.0.2.1/24", "192.0.2.0/33", "2001:db8::1/32", "192.0.2.0/+24", "192.0.2.0/24,"]
 # of a line of authorized_keys
 OPTIONS = b'no-pty,command="say \\"yes\\""'
 
@@ -96,55 +90,6 @@ def check_under_valgrind(count, asker, made):
         questions += [f"verdict {host} {name} {port} {key}" for port in (22, 23)]
     questions += [it[:-2] for it in questions if len(it.split()[-1]) > 8]
     judge.ask("questions", questions)
-
-
-# ---- the command `user`, which check.py does not have
-
-
-def check_user(count, program, made):
-    """`validate_user` by the command line; binding_calls asks it of more."""
-    maker, second = made.maker, str(made.middle)
-    by, own, other = (maker.path(f"{it}.pub") for it in ("authority0", "user0", "user1"))
-
-    def certified(*words):
-        return maker.certificate("authority0", "user0", *made.foreign.WINDOW, "-n", *words) + "\n"
-
-    def from_networks(them):
-        # ssh-keygen does not look at the value of an option that it is told is critical
-        return certified("alice", "-O", f"critical:source-address={them}")
-
-    good, strange, source = certified("alice"), certified("eve"), certified("alice", "-O", "source-address=192.0.2.0/24")
-    flag, data = certified("alice", "-O", "verify-required"), certified("alice", "-O", "critical:verify-required=data")
-    # ssh-keygen lists no such name; it is valid now
-    empty = certificate(maker, "authority0", maker.read("user0.pub"), string(b""), {}, {}) + "\n"
-    unmet = "refused: a critical option that is not known or not met (102)"
-    for name, words, given, wanted in (
-        ("its user", [by, "alice", own, second], good, "valid"),
-        ("two lines", [by, "alice", own, second], good * 2, "valid\nvalid"),
-        ("another user's", [by, "alice", own, second], strange, "refused: another principal (34)"),
-        ("no user", [by, "", own, second], good, "refused: another principal (34)"),
-        ("no user, where the empty name is listed", [by, "", own], empty, "refused: another principal (34)"),
-        ("a user that is -", [by, "-", own, second], good, "refused: another principal (34)"),
-        ("another key", [by, "alice", other, second], good, "refused: another key (103)"),
-        ("an option", [by, "alice", own, second], source, unmet),
-        ("an option that is met", [by, "alice", own, second, "force-command", "source-address"], source, "valid"),
-        ("a flag that is met", [by, "alice", own, second, "verify-required"], flag, "valid"),
-        ("a flag that is not met", [by, "alice", own, second, "source-address"], flag, unmet),
-        ("a flag with data", [by, "alice", own, second, "verify-required"], data, unmet),
-        *((f"the networks {it}", [by, "alice", own, second, "source-address"], from_networks(it), "valid") for it in NETWORKS),
-        *((f"the networks {it}", [by, "alice", own, second, "source-address"], from_networks(it), unmet) for it in NO_NETWORKS),
-        ("now", [by, "alice", own], good, "refused: not valid at that time (33)"),
-    ):  # fmt: skip
-        ran = program.run("user", *words, input=given)
-        status = INVALID if "refused" in wanted else VALID
-        same = (ran.returncode, ran.stdout, ran.stderr) == (status, f"{wanted}\n", "")
-        count.check(f"Rust, user: {name}", same, ran)
-    for name, key in (
-        ("no such key", maker.path("none")), ("a folder as the key", made.folder),
-        ("a certificate as the key", maker.path("user0-cert.pub")),
-    ):  # fmt: skip
-        ran = program.run("user", by, "alice", key, second, input=good)
-        count.check(f"Rust, user: {name}", is_untold(program, ran), ran)
 
 
 # ---- what docs/FOREIGN.md shows

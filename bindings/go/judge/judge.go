@@ -21,9 +21,9 @@ type Login struct {
 	// Authorities are the fingerprints of the keys that may sign certificates of users.
 	Authorities []sshkey.SHA256
 	// IsMet says of a critical option, by its name and value, whether it is known and met at this
-	// login. Where it is nil, none is. sshd refuses a force-command or a source-address that is
-	// empty or has a zero byte, a source-address that is no list of networks, and a value of
-	// verify-required: say no to all of these.
+	// login. Where it is nil, none is. Say no to a force-command or a source-address that is empty
+	// or has a zero byte (docs/FORMATS.md says which of these sshd refuses), to a source-address
+	// that is no list of networks, and to a value of verify-required.
 	IsMet func(name, value string) bool
 }
 

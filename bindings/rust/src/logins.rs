@@ -38,9 +38,9 @@ pub struct Login<'a> {
 
 /// Whether the certificate, given as its blob, logs the user in. `verify` is your cryptography, and
 /// `is_met` says of a critical option, by its name and value, whether it is known and met at this
-/// login; let it say no to what sshd refuses: a `force-command` or a `source-address` that is empty
-/// or has a zero byte, a `source-address` that is no list of networks, and data in
-/// `verify-required`.
+/// login; let it say no to a `force-command` or a `source-address` that is empty or has a zero byte
+/// (docs/FORMATS.md says which of these sshd refuses), to a `source-address` that is no list of
+/// networks, and to data in `verify-required`.
 ///
 /// Fails with what is wrong first: as [`judge_certificate`] does, which may be [`Status::MEMORY`];
 /// with [`Refusal::NotForUsers`], [`Refusal::NobodyListed`], [`Refusal::UnmetOption`],
