@@ -10,12 +10,12 @@ BINDINGS, HELPERS, EXAMPLES = (os.path.join(ROOT, it) for it in ("bindings", "he
 HEADER = os.path.join(ROOT, "include", "sshkey.h")
 SANITIZED = "-O1 -g -fsanitize=address,undefined -fno-sanitize-recover=all -fno-omit-frame-pointer"
 WARNINGS = ["-Wall", "-Wextra", "-pedantic", "-Werror"]
-# what the lines of docs/FOREIGN.md are compiled with besides
+# flags for the lines of docs/FOREIGN.md
 PEDANTIC = ["-Wshadow", "-Wconversion"]
 C = ["cc", "-std=c11", "-D_POSIX_C_SOURCE=200809L", *WARNINGS, f"-I{ROOT}/include"]
 # under which a program that reads or writes where it may not, or gives no memory back, ends with 9
 VALGRIND = ["valgrind", "-q", "--leak-check=full", "--error-exitcode=9"]
-# what checks/asked/memory_calls.h and login_calls.h stand before
+# what checks/asked/memory_calls.h and login_calls.h wrap
 WRAPPED = "-Wl,--wrap=malloc,--wrap=realloc,--wrap=free,--wrap=judge_is_signature"
 # what the library may take of the C library
 TAKEN = {"malloc", "realloc", "free", "memcpy", "memmove", "memset", "memcmp", "__cxa_finalize"}

@@ -2,8 +2,9 @@
  *
  *     user CERTIFICATE KEY SECOND USER AUTHORITIES OPTION
  *
- * OPTION is the name of the one critical option that is known, and met where it has a value. Behind
- * the answer stands how many questions the verifier was asked, which is linked with --wrap. */
+ * OPTION is the name of the one critical option that is known, and met where it has a value. The
+ * answer ends with the number of questions that the verifier was asked, which is linked with
+ * --wrap. */
 #ifndef LOGIN_CALLS_H
 #define LOGIN_CALLS_H
 

@@ -91,7 +91,7 @@ def ssh_signature(key, signature, namespace=b"file", reserved=b"", name=b"sha512
 
 
 def ssh_signature_over(reserved, private, key, content):
-    """One of the content over reserved bytes that stand there, by the private key in that file, whose public line is `key`."""
+    """One of the content and of its reserved bytes, by the private key in that file, whose public line is `key`."""
     made = signed(private, key, signed_data(b"file", reserved, b"sha512", content))
     return ssh_signature(blob_of(key), made, reserved=reserved)
 

@@ -156,9 +156,9 @@ func SSHSigHash(signature []byte) (crypto.Hash, error) {
 	}
 }
 
-// SSHSigReserved gives the reserved bytes of an SSH signature, over which it is: none in each that
-// ssh-keygen makes, and `ssh-keygen -Y verify` takes none to be there whatever is. It fails with a
-// Status for bytes that are no signature, and with ErrMemory.
+// SSHSigReserved gives the reserved bytes of an SSH signature, which are signed too. ssh-keygen
+// writes none, and `ssh-keygen -Y verify` takes them as empty, whatever they are. It fails with a
+// Status for bytes that are no SSH signature, and with ErrMemory.
 func SSHSigReserved(signature []byte) ([]byte, error) {
 	fields, err := sshsigFields(signature)
 	if err != nil {

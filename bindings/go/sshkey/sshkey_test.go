@@ -11,8 +11,8 @@ import (
 	"rafendilo.example/go/sshkey"
 )
 
-// What stands in ../testdata ssh-keygen 9.2 made. What each call answers checks/bindings asks; here
-// stands what it can't.
+// ssh-keygen 9.2 made what is in ../testdata. checks/bindings asks what each call answers; these
+// tests ask what it can't.
 
 func read(t *testing.T, name string) string {
 	t.Helper()

@@ -107,8 +107,8 @@ def sshsig_hash(signature: BytesLike) -> str:
 
 
 def sshsig_reserved(signature: BytesLike) -> bytes:
-    """The reserved bytes of an SSH signature, over which it is: empty in each that ssh-keygen makes, and `ssh-keygen -Y verify` takes
-    them to be so whatever stands there. Raises Refused where the bytes are none, and MemoryError."""
+    """The reserved bytes of an SSH signature, which are signed too. ssh-keygen writes none, and `ssh-keygen -Y verify` takes them as
+    empty, whatever they are. Raises Refused where the bytes are no SSH signature, and MemoryError."""
     return _sshsig_fields(signature)[2]
 
 

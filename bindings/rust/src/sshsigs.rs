@@ -145,8 +145,8 @@ pub fn sshsig_hash(signature: &[u8]) -> Result<HashAlgorithm, Status> {
     }
 }
 
-/// The reserved bytes of an SSH signature, over which it is: none in each that ssh-keygen makes,
-/// and `ssh-keygen -Y verify` takes none to be there whatever is. Fails as [`sshsig_hash`] does.
+/// The reserved bytes of an SSH signature, which are signed too. ssh-keygen writes none, and
+/// `ssh-keygen -Y verify` takes them as empty, whatever they are. Fails as [`sshsig_hash`] does.
 pub fn sshsig_reserved(signature: &[u8]) -> Result<Vec<u8>, Status> {
     field(signature, 2)
 }
