@@ -203,8 +203,8 @@ enum { SSHKEY_LINE_KEY = 1, SSHKEY_LINE_CERTIFICATE = 2 };
  * in a file of authorities: sshkey_authorized_entry reads those, with an empty `front`.
  *
  * SSHKEY_DONE exactly if the line is that of a key or of a certificate (memory and room aside);
- * else 11 for a line that is not UTF-8, and from 10 to 29 a fault that it has as the line of a key,
- * but where that is SSHKEY_LABEL, as the line of a certificate. A room of the line's length is
+ * else 11 for a line that is not UTF-8, and from 10 to 29 a fault that it has as the line of a
+ * certificate, or, where that is SSHKEY_LABEL, as the line of a key. A room of the line's length is
  * enough. */
 uint32_t sshkey_read_line(const uint8_t *line, size_t line_length, uint8_t *room,
                           size_t room_length, sshkey_line *answer);

@@ -128,6 +128,61 @@ def check_wrong_lines(asked, sshkey, keys):
         asked.count.check(f"no line: {name}", found == wanted and answer == str(int(sshkey.Status[wanted])), found, answer, wanted)
 
 
+def spoilt_certificates(blob):
+    """An Ed25519 certificate with each fault that PROTOCOL.certkeys lets it have, and its name."""
+    fields, rest = [], blob
+    for _ in range(3):
+        field, rest = take(rest)
+        fields.append(string(field))
+    fields += [rest[:8], rest[8:12]]
+    rest = rest[12:]
+    for _ in range(2):
+        field, rest = take(rest)
+        fields.append(string(field))
+    fields += [rest[:8], rest[8:16]]
+    fields += [string(it) for it in all_of(rest[16:])]
+
+    def with_field(at, field):
+        return b"".join([*fields[:at], field, *fields[at + 1 :]])
+
+    def signed(name, *values):
+        return with_field(13, string(b"".join(map(string, (name, *values)))))
+
+    def authority(point):
+        return with_field(12, string(b"".join(map(string, (b"ecdsa-sha2-nistp256", b"nistp256", point)))))
+
+    return [
+        ("a byte less", blob[:-1], "LENGTH"), ("a byte more", blob + bytes(1), "TRAILING_DATA"),
+        ("a signature by SHA-1", signed(b"ssh-rsa", bytes(256)), "LENGTH"),
+        ("a type that is none", with_field(4, bytes((0, 0, 0, 3))), "FORMAT"),
+        ("a key id that is no text", with_field(5, string(b"\xff")), "CHARACTER_ENCODING"),
+        ("a time above 2^63 - 1", with_field(7, b"\x80" + bytes(7)), "TIME"),
+        ("a number in the signature that is zero", signed(b"ecdsa-sha2-nistp256", string(b"") + string(b"\1")), "CRYPTO"),
+        ("a point that is too short", authority(b"\4" + bytes(63)), "ECDSA"),
+        ("a point that begins with 05", authority(b"\5" + bytes(64)), "ALGORITHM_UNKNOWN"),
+        # a label within is what a key with that name would have after its end
+        ("a signature by nothing", signed(b"ssh-foo", b""), "TRAILING_DATA"),
+    ]  # fmt: skip
+
+
+def check_spoilt_certificates(asked, sshkey, certificates, hostile):
+    """The line of a spoilt certificate tells the fault of the certificate."""
+    names = {take(blob)[0] for _, blob in certificates}
+    blob = next(it for _, it in certificates if take(it)[0] == b"ssh-ed25519-cert-v01@openssh.com")
+    cases = spoilt_certificates(blob)
+    hostile = [(wanted, data, {"trailing": "TRAILING_DATA", "length": "LENGTH"}[wanted])
+               for kind, data, wanted in hostile if kind == "certificate" and wanted in ("trailing", "length")]  # fmt: skip
+    cases += [it for it in hostile if len(it[1]) > 36 and any(it[1].startswith(string(name)) for name in names)][::SAMPLED]
+    lines = [take(data)[0] + f" {encoded(data)}".encode() for _, data, _ in cases]
+    said = asked.answers(f"{len(lines):,} lines of spoilt certificates", [f"line {it.hex()}" for it in lines])
+    wrong = []
+    for (name, _, wanted), line, answer in zip(cases, lines, said):
+        found = said_of_line(sshkey, line)
+        if found != wanted or answer != str(int(sshkey.Status[wanted])):
+            wrong.append((name, found, answer, wanted))
+    asked.count.check("they tell the fault of the certificate", not wrong, *wrong[:5])
+
+
 def is_ed25519_line(line):
     """What stands in a line of an Ed25519 key with a comment that ends in no white space, read by Python's own means."""
     try:
@@ -425,6 +480,7 @@ def check_key_calls(count, built, sshkey, check, maker, kinds, hostile):
     certificates = [(f"a certificate of {kind.name}", kind.blob) for kind in kinds]
     check_lines(asked, sshkey, maker, list(keys.items()), certificates)
     check_wrong_lines(asked, sshkey, keys)
+    check_spoilt_certificates(asked, sshkey, certificates, hostile)
     check_turned_lines(asked, sshkey, keys)
     check_sha512(asked, sshkey, maker, keys)
     check_signatures(asked, sshkey, check, maker, kinds)

@@ -64,10 +64,10 @@ NumbersKeyFault text n = (e : Error) × HasFaultOfLine (whole key_format.read) k
 abbrev pub NumbersCertificateFault : List ℕ → ℕ → Type 0
 NumbersCertificateFault text n = (e : Error) × HasFaultOfLine (whole certificate_format.read) name_of_certificate SpellsCertificate text e × (n ≡ error_number e)
 
--- the fault as a key's line, but where that is 12, for a name that no key has, the one as a
--- certificate's
+-- the fault as a certificate's line, but where that is 12, for a name that no certificate has, the
+-- one as a key's. (A key may have the name of a certificate: as a key of private use.)
 abbrev pub fault_of_either : ℕ → ℕ → ℕ
-fault_of_either of_key of_certificate = if of_key == 12 then of_certificate else of_key
+fault_of_either of_key of_certificate = if of_certificate == 12 then of_key else of_certificate
 
 -- Every number but 0, 1 and 2 is that of such a fault.
 abbrev pub TellsLineFault : List ℕ → ℕ → Type 0

@@ -44,7 +44,8 @@ const CERTIFICATE: u32 = 2;
 ///
 /// Returns 0 with blob and comment in the room, 2 where the room is too short for them, 1 if memory
 /// ran out, and else from 10 to 29 the fault of a line of neither: 10 for what is not canonical
-/// Base64, 13 for a word that is missing, 16 for another first word than the name. With 2 the
+/// Base64, 13 for a word that is missing, 16 for another first word than the name. It is the fault
+/// as the line of a certificate, or, where that is 12, as the line of a key. With 2 the
 /// answer says how much room is needed, and the room is as it was. Memory is taken only where the
 /// bytes of the second word need some, or for the line of a key or of a certificate.
 ///
@@ -99,17 +100,17 @@ fn read_certificate(
     }
 }
 
-/// The fault of a line of neither a key nor a certificate: that of a key, unless the name in it is
-/// none of a key.
+/// The fault of a line of neither a key nor a certificate: that of a certificate, unless the name
+/// in it is none of a certificate.
 fn fault_of(of_key: u32, of_certificate: u32) -> u32
     ensures either { (result ≡ of_key) ⊎ (result ≡ of_certificate) }
-    ensures number { of_certificate ≢ 1 → result ≡ fault_of_either of_key of_certificate }
+    ensures number { result ≡ fault_of_either of_key of_certificate }
     ensures memory { of_certificate ≡ 1 → result ≡ 1 }
 {
-    if of_key == LABEL || of_certificate == MEMORY {
-        of_certificate
-    } else {
+    if of_certificate == LABEL {
         of_key
+    } else {
+        of_certificate
     }
 }
 

@@ -1,5 +1,5 @@
 -- What a builder holds, and what its calls answer.
-use Rattle.std.specs.Prelude.{◌≡◌, ◌↔◌, ℕ, ◌<◌, ◌≤◌, ◌^◌, List, Bool, Contains, Option, Some, None, option_map, IsSome, Result, Ok, Err, IfOk}
+use Rattle.std.specs.Prelude.{◌≡◌, ◌≢◌, ◌↔◌, ℕ, ◌<◌, ◌≤◌, ◌^◌, List, Bool, Contains, Option, Some, None, option_map, IsSome, Result, Ok, Err, IfOk}
 use Rattle.std.specs.Borrow.{RestsIfErr, MutBor, Fml}
 use Rattle.sshkey_model.specs.Drafts.{Draft, DraftField, SerialField, KindField, KeyIdField, PrincipalsField, AfterField, BeforeField, CriticalField, ExtensionsField, CommentField, Step, after_step, bad_window, drafted}
 use Rattle.sshkey_model.specs.Certificates.{Certificate}
@@ -121,15 +121,10 @@ abbrev pub Begins : Option DraftField → Draft → Result Builder Error → Typ
 Begins bad d (Ok b) = (bad ≡ None) × (draft_of b ≡ d)
 Begins bad d (Err e) = option_map field_error bad ≡ Some e
 
--- The field's error, or `Memory` where no time is bad.
-abbrev pub why_not : Option DraftField → Error
-why_not None = wide.Memory
-why_not (Some f) = field_error f
-
--- The same of a call that takes memory, which it asks for only where no time is bad.
+-- The same of a call that takes memory.
 abbrev pub BeginsInMemory : Option DraftField → Draft → Result Builder Error → Type 0
 BeginsInMemory bad d (Ok b) = (bad ≡ None) × (draft_of b ≡ d)
-BeginsInMemory bad d (Err e) = e ≡ why_not bad
+BeginsInMemory bad d (Err e) = e ≢ wide.Memory → option_map field_error bad ≡ Some e
 
 -- ---- signed
 

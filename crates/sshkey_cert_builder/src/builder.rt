@@ -2,7 +2,8 @@
 
 ghost use Rattle.rand_core.specs.Stream.{fill_bytes};
 ghost use Rattle.std.specs.Borrow.{sem};
-ghost use Rattle.std.specs.Prelude.{◌≡◌, IfOk, OnErr, OnOk, string_bytes};
+ghost use Rattle.std.specs.Prelude.{◌≡◌, ◌≢◌, Err, IfOk, string_bytes};
+ghost use Rattle.sshkey_base.specs.declared.error.Error.TheVariants.{Memory};
 ghost use Rattle.sshkey_keys.specs.Keys.{key_of};
 ghost use Rattle.sshkey_model.specs.Certificates.{forever};
 ghost use Rattle.sshkey_model.specs.Drafts.{Serial, Kind, KeyId, Comment, Principal, AllPrincipals, Critical, Extension, begun, bad_start, bad_window};
@@ -111,8 +112,10 @@ impl Builder {
         Ok(Builder::begun(alloc, nonce, public_key, valid_after, EndTime::forever()))
     }
 
-    /// As `new`, with the next 16 bytes of the generator as the nonce, which it allocates. Draws
-    /// nothing if it fails: as `new` does, or, where both times are right, with `Memory`.
+    /// As `new`, with the next 16 bytes of the generator as the nonce.
+    ///
+    /// Allocates the 16 bytes first, and fails with `Memory` if they are refused; the generator is
+    /// then as it was. Otherwise draws 16 bytes, and then fails as `new` does.
     pub fn new_with_random_nonce<R: Rng + CryptoRng>(
         alloc: Global,
         rng: &mut R,
@@ -120,17 +123,17 @@ impl Builder {
         valid_after: u64,
         valid_before: u64,
     ) -> Result<Builder>
-        ensures drawn { OnOk result (R.stream rng.new ≡ (fill_bytes 16 (R.stream rng.old)).1) }
-        ensures kept { OnErr result (rng.new ≡ rng.old) }
+        ensures drawn { result ≢ Err Memory
+            → R.stream rng.new ≡ (fill_bytes 16 (R.stream rng.old)).1 }
+        ensures kept { result ≡ Err Memory → rng.new ≡ rng.old }
         ensures begins { BeginsInMemory (bad_window valid_after valid_before)
             (begun (fill_bytes 16 (R.stream rng.old)).0 (key_of public_key) valid_after
             valid_before) result }
         ensures key { IfOk result (λ b. given_key b ≡ public_key) }
     {
-        let (after, before) = window(valid_after, valid_before)?;
         let mut nonce = vec![in alloc; 0u8; Builder::RECOMMENDED_NONCE_SIZE]?;
         rng.fill_bytes(&mut nonce);
-        Ok(Builder::begun(alloc, nonce, public_key, after, before))
+        Builder::new(alloc, nonce, public_key, valid_after, valid_before)
     }
 
     /// A builder with nothing set.

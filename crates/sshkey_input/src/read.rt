@@ -6,6 +6,9 @@ ghost use Rattle.sshkey_base.specs.Faults.{IsMachineFault};
 ghost use Rattle.sshkey_base.specs.declared.error.Error.TheVariants.{Io};
 ghost use Rattle.sshkey_input.specs.Inputs.{IsPassed, ReadsText};
 
+#[cfg(test)]
+mod tests;
+
 use sshkey_base::{Error, Result, encoding};
 use std::alloc::Global;
 use std::io::{ErrorKind, Read};
@@ -25,9 +28,20 @@ pub fn read_all<R: Read>(alloc: Global, input: &mut R) -> Result<Vec<u8>>
     ensures fault { IfErr result IsMachineFault }
     ensures again { IfErr result (λ e. e ≢ Io ErrorKind.Interrupted) }
 {
+    read_within(alloc, input, MOST_READS)
+}
+
+/// The same, if the end is met in that many reads.
+fn read_within<R: Read>(alloc: Global, input: &mut R, most_reads: u64) -> Result<Vec<u8>>
+    ensures bytes { IfOk result (λ v. IfSome (R.remaining input.old) (λ bytes. v.items ≡ bytes)) }
+    ensures end { OnOk result (IsAtEnd (R.remaining input.new)) }
+    ensures passed { IsPassed (R.remaining input.old) (R.remaining input.new) }
+    ensures fault { IfErr result IsMachineFault }
+    ensures again { IfErr result (λ e. e ≢ Io ErrorKind.Interrupted) }
+{
     let mut bytes = Vec::new(alloc);
     let mut buffer = [0u8; 4096];
-    'reads: for _ in 0..MOST_READS {
+    'reads: for _ in 0..most_reads {
         match input.read(&mut buffer) {
             Ok(0) => return Ok(bytes),
             Ok(count) => bytes.extend_from_slice(&buffer[..count])?,

@@ -27,8 +27,8 @@ pub trait SigningKey {
     /// For which messages it may refuse to sign, and with which error.
     ghost refuses: { Self → List ℕ → Error → Type 0 };
 
-    /// Which messages it may be asked to sign.
-    ghost permits: { Self → List ℕ → Type 0 };
+    /// Which messages it may be asked to sign: any, unless an implementation says otherwise.
+    ghost permits: { Self → List ℕ → Type 0 } = { λ _ _. Unit {0} };
 
     /// The verifier that accepts its signatures.
     fn raw(&self) -> &Self::Raw

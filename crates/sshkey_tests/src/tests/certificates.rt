@@ -4,7 +4,7 @@ use super::certified::{Certified, each, ed25519_user, p256_host, p384_user, rsa_
 use super::support::is_wanted;
 use base64::engine::general_purpose::STANDARD;
 use sshkey_base::{Algorithm, Error, HashAlg};
-use sshkey_cert::{Certificate, contains_digest};
+use sshkey_cert::{Certificate, CertificateQuestion, contains_digest};
 use sshkey_cert_values::{MAX_SECS, OptionsMap};
 use sshkey_doubles::{AcceptAll, Only, OutOfMemory, RefuseAll};
 use sshkey_keys::{Fingerprint, KeyData};
@@ -93,6 +93,7 @@ pub(super) fn is_as_made(alloc: Global, certificate: &Certificate, made: &Certif
     has_fields(certificate, made)
         && has_lists(certificate, made)
         && has_keys(alloc, certificate, made)
+        && has_question(alloc, certificate, made)
         && is_written_back(alloc, certificate, made)
 }
 
@@ -115,6 +116,25 @@ pub(super) fn knower(alloc: Global, certificate: &Certificate, made: &Certified)
     let signed = Vec::from_slice(alloc, blob.get(..made.signed)?).ok()?;
     let signature = Vec::from_slice(alloc, certificate.signature().as_bytes()).ok()?;
     Some(Only::new(algorithm, signed, signature))
+}
+
+/// What is asked of a verifier is about the certificate's first bytes.
+pub(super) fn is_question(alloc: Global, asked: &CertificateQuestion<'_>, made: &Certified) -> bool {
+    match (asked.question(), blob_of(alloc, made)) {
+        (Some(question), Some(blob)) => {
+            question.algorithm().as_str() == made.algorithm
+                && blob.get(..made.signed) == Some(question.message())
+        }
+        _ => false,
+    }
+}
+
+/// With memory the certificate has its question.
+fn has_question(alloc: Global, certificate: &Certificate, made: &Certified) -> bool {
+    match certificate.question(alloc) {
+        Ok(asked) => is_question(alloc, &asked, made),
+        Err(_) => false,
+    }
 }
 
 /// The SHA-256 fingerprint of the key that signed, and the SHA-512 one.

@@ -1,6 +1,8 @@
 //! Certificates that are slices of their bytes.
 
-use super::certificates::{authorities, blob_of, is_as_made, is_shown, knower, read};
+use super::certificates::{
+    authorities, blob_of, is_as_made, is_question, is_shown, knower, read,
+};
 use super::certified::{Certified, certificate_name, each, stored};
 use super::support::is_wanted;
 use base64::engine::general_purpose::STANDARD;
@@ -78,6 +80,14 @@ fn is_signed(alloc: Global, certificate: &CertificateRef<'_>, made: &Certified) 
     }
 }
 
+/// With memory it has its question.
+fn has_question(alloc: Global, certificate: &CertificateRef<'_>, made: &Certified) -> bool {
+    match certificate.question(alloc) {
+        Ok(asked) => is_question(alloc, &asked, made),
+        Err(_) => false,
+    }
+}
+
 /// The same certificate stands in memory of its own.
 fn is_owned(alloc: Global, certificate: &CertificateRef<'_>, made: &Certified) -> bool {
     match certificate.to_certificate(alloc) {
@@ -91,6 +101,7 @@ fn has_owned_parts(alloc: Global, certificate: &CertificateRef<'_>, made: &Certi
     is_of_key(alloc, certificate, made)
         && is_by_authority(alloc, certificate, made)
         && is_signed(alloc, certificate, made)
+        && has_question(alloc, certificate, made)
         && is_owned(alloc, certificate, made)
 }
 

@@ -34,4 +34,4 @@ returns-in-Ok-clause-fault c _ =
     certificate_has_none c.args.text.now (certificate_of c.in-Ok.read.0) c.as_str.result.now _ _ _ _ _ line c.tell.ensures
 
 pub returns-in-Err-clause-fault : goal.returns-in-Err-clause-fault
-returns-in-Err-clause-fault c key _ not_one _ = (c.args.key_fault, c.error_number.result, key, (c.in-Err.error, c.in-Err.ensures.fault (λ memory. not_one (c.fault_of.ensures.memory (c.error_number.ensures.memory memory))), c.error_number.ensures.number), c.fault_of.ensures.number (λ one. not_one (c.fault_of.ensures.memory one)))
+returns-in-Err-clause-fault c key _ not_one _ = (c.args.key_fault, c.error_number.result, key, (c.in-Err.error, c.in-Err.ensures.fault (λ memory. not_one (c.fault_of.ensures.memory (c.error_number.ensures.memory memory))), c.error_number.ensures.number), c.fault_of.ensures.number)
