@@ -119,7 +119,11 @@ pub(super) fn knower(alloc: Global, certificate: &Certificate, made: &Certified)
 }
 
 /// What is asked of a verifier is about the certificate's first bytes.
-pub(super) fn is_question(alloc: Global, asked: &CertificateQuestion<'_>, made: &Certified) -> bool {
+pub(super) fn is_question(
+    alloc: Global,
+    asked: &CertificateQuestion<'_>,
+    made: &Certified,
+) -> bool {
     match (asked.question(), blob_of(alloc, made)) {
         (Some(question), Some(blob)) => {
             question.algorithm().as_str() == made.algorithm

@@ -1,8 +1,6 @@
 //! Certificates that are slices of their bytes.
 
-use super::certificates::{
-    authorities, blob_of, is_as_made, is_question, is_shown, knower, read,
-};
+use super::certificates::{authorities, blob_of, is_as_made, is_question, is_shown, knower, read};
 use super::certified::{Certified, certificate_name, each, stored};
 use super::support::is_wanted;
 use base64::engine::general_purpose::STANDARD;
