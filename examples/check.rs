@@ -68,15 +68,8 @@ fn of_file(path: &Path, fault: impl fmt::Display) -> Untold {
 
 /// The fault of a file, of which a line is no key, or of which that can't be told.
 fn no_key(path: &Path, status: Status) -> Untold {
-    let front = if status == Status::MEMORY {
-        ""
-    } else {
-        "no key: "
-    };
-    of_file(
-        path,
-        format_args!("{front}{}", Refusal::from(status).meaning()),
-    )
+    let front = if status == Status::MEMORY { "" } else { "no key: " };
+    of_file(path, format_args!("{front}{}", Refusal::from(status).meaning()))
 }
 
 /// The fingerprints of the keys in a file. Fails where it can't be read, and where a line is no
@@ -97,9 +90,7 @@ fn second_of(word: Option<&OsString>) -> Result<u64, Untold> {
     };
     // parse takes a sign, too
     let digits = Some(&*word).filter(|it| it.bytes().all(|byte| byte.is_ascii_digit()));
-    digits
-        .and_then(|it| it.parse().ok())
-        .ok_or_else(|| format!("{word:?} is no second").into())
+    digits.and_then(|it| it.parse().ok()).ok_or_else(|| format!("{word:?} is no second").into())
 }
 
 /// The bytes of an SSH signature in its armour. Fails where there is none.
@@ -151,10 +142,7 @@ fn value_of(digit: u8) -> Option<u32> {
 
 /// The line for what is valid, or for what is wrong first.
 pub(crate) fn line_for(answer: Result<(), Refusal>) -> String {
-    answer.map_or_else(
-        |refusal| format!("refused: {refusal}"),
-        |()| String::from("valid"),
-    )
+    answer.map_or_else(|refusal| format!("refused: {refusal}"), |()| String::from("valid"))
 }
 
 /// Says whether something is valid, and returns that. Fails where memory was refused, and where
@@ -174,9 +162,7 @@ fn say_of_lines(judge: impl Fn(&[u8]) -> Result<(), Refusal>) -> Result<bool, Un
     let (mut input, mut output) = (io::stdin().lock(), io::stdout().lock());
     let (mut line, mut are_valid, mut is_empty) = (Vec::new(), true, true);
     while input.read_until(b'\n', &mut line)? > 0 {
-        let said = read(&line, true)
-            .map_err(Refusal::from)
-            .and_then(|it| judge(&it));
+        let said = read(&line, true).map_err(Refusal::from).and_then(|it| judge(&it));
         are_valid &= say(&mut output, said)?;
         is_empty = false;
         line.clear();
@@ -196,13 +182,7 @@ fn certificates(authorities: &OsStr, principal: &OsStr, second: u64) -> Result<b
         name => Principal::Named(name),
     };
     say_of_lines(|certificate| {
-        Ok(sshkey::judge_certificate(
-            certificate,
-            second,
-            whom,
-            &by,
-            verify::verifies,
-        )?)
+        Ok(sshkey::judge_certificate(certificate, second, whom, &by, verify::verifies)?)
     })
 }
 

@@ -6,10 +6,8 @@ use std::env;
 use std::path::PathBuf;
 
 fn main() {
-    let folder = env::var_os("SSHKEY_LIB_DIR").map_or_else(
-        || PathBuf::from(env!("CARGO_MANIFEST_DIR")).join("../../out"),
-        PathBuf::from,
-    );
+    let folder = env::var_os("SSHKEY_LIB_DIR")
+        .map_or_else(|| PathBuf::from(env!("CARGO_MANIFEST_DIR")).join("../../out"), PathBuf::from);
     // the linker runs elsewhere
     let folder = folder.canonicalize().unwrap_or(folder);
     let (library, verifier) = (folder.join("libsshkey.a"), folder.join("verify.o"));

@@ -130,13 +130,7 @@ pub fn judge_certificate(
         Err(Status::MEMORY) => return Err(Status::MEMORY),
         Err(_) => false,
     };
-    validate_certificate(
-        certificate,
-        unix_timestamp,
-        principal,
-        authorities,
-        is_verified,
-    )
+    validate_certificate(certificate, unix_timestamp, principal, authorities, is_verified)
 }
 
 /// What a policy asks of a certificate.
@@ -290,16 +284,8 @@ impl<'a> Iterator for CertificateOptions<'a> {
                 return Some(Err(status));
             }
         }
-        let (name, value) = (
-            text(found.name.of(self.bytes)),
-            text(found.value.of(self.bytes)),
-        );
-        Some(name.and_then(|name| {
-            Ok(CertificateOption {
-                name,
-                value: value?,
-            })
-        }))
+        let (name, value) = (text(found.name.of(self.bytes)), text(found.value.of(self.bytes)));
+        Some(name.and_then(|name| Ok(CertificateOption { name, value: value? })))
     }
 }
 

@@ -94,11 +94,7 @@ fn listed(options: &[(&str, &str)]) -> Result<Vec<u8>, Status> {
     let mut bytes = Vec::new();
     for (name, value) in options {
         bytes.extend(string(name)?);
-        bytes.extend(string(if value.is_empty() {
-            Vec::new()
-        } else {
-            string(value)?
-        })?);
+        bytes.extend(string(if value.is_empty() { Vec::new() } else { string(value)? })?);
     }
     Ok(bytes)
 }
@@ -143,10 +139,7 @@ pub fn certificate_to_be_signed(draft: &Draft<'_>) -> Result<Vec<u8>, Status> {
 /// signed. Fails with a number from 10 to 29 where that is none, and with [`Status::MEMORY`].
 /// Whether the signature is one of the authority is not asked here.
 pub fn join_certificate(to_be_signed: &[u8], signature: &[u8]) -> Result<Vec<u8>, Status> {
-    let enough = to_be_signed
-        .len()
-        .saturating_add(signature.len())
-        .saturating_add(4);
+    let enough = to_be_signed.len().saturating_add(signature.len()).saturating_add(4);
     written(enough, |room, length| {
         // SAFETY: each pointer has the length of its slice beside it; the slices are lent for
         // longer than the call, and room and length are each borrowed by it alone.

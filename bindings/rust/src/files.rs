@@ -114,10 +114,7 @@ pub struct KnownHost {
 pub fn known_host(line: &[u8]) -> Result<KnownHost, Status> {
     let (room, found) = entry(raw::sshkey_known_host, line)?;
     let markers = [Marker::None, Marker::CertAuthority, Marker::Revoked];
-    let marker = markers
-        .iter()
-        .copied()
-        .find(|it| *it as u32 == found.marker);
+    let marker = markers.iter().copied().find(|it| *it as u32 == found.marker);
     Ok(KnownHost {
         marker: marker.ok_or(Status::OTHER_FAULT)?,
         hosts: found.front.of(&room).to_vec(),
@@ -155,31 +152,22 @@ pub struct EntryOptions<'a> {
 /// docs/CALLING.md says how sshd reads them. Do not `flatten()` the items: that passes over what
 /// fails, and so over options.
 pub fn entry_options(text: &[u8]) -> EntryOptions<'_> {
-    EntryOptions {
-        text,
-        number: Some(0),
-    }
+    EntryOptions { text, number: Some(0) }
 }
 
 impl EntryOptions<'_> {
     /// The option of that number. Fails with [`Status::END`] where there is none.
     fn option(&self, number: usize) -> Result<EntryOption, Status> {
-        let (room, found) = ask(
-            self.text.len(),
-            |room, answer: &mut raw::EntryOptionParts| {
-                let (text, length) = (self.text.as_ptr(), self.text.len());
-                let (front, room_length) = (room.as_mut_ptr(), room.len());
-                // SAFETY: each pointer has the length of its slice beside it; the text is lent for
-                // longer than the call, and room and answer are each borrowed by it alone.
-                unsafe { raw::sshkey_nth_option(text, length, number, front, room_length, answer) }
-            },
-        )?;
+        let (room, found) = ask(self.text.len(), |room, answer: &mut raw::EntryOptionParts| {
+            let (text, length) = (self.text.as_ptr(), self.text.len());
+            let (front, room_length) = (room.as_mut_ptr(), room.len());
+            // SAFETY: each pointer has the length of its slice beside it; the text is lent for
+            // longer than the call, and room and answer are each borrowed by it alone.
+            unsafe { raw::sshkey_nth_option(text, length, number, front, room_length, answer) }
+        })?;
         let value = found.value.of(&room);
         let name = found.name.of(&room).to_vec();
-        Ok(EntryOption {
-            name,
-            value: (found.has_value != 0).then(|| value.to_vec()),
-        })
+        Ok(EntryOption { name, value: (found.has_value != 0).then(|| value.to_vec()) })
     }
 }
 
@@ -241,13 +229,7 @@ pub fn host_verdict(
     port: u16,
     key: &[u8],
 ) -> Result<(), Status> {
-    judged(
-        raw::sshkey_host_verdict,
-        known_hosts,
-        host.as_ref(),
-        port,
-        key,
-    )
+    judged(raw::sshkey_host_verdict, known_hosts, host.as_ref(), port, key)
 }
 
 /// The same of the key of an authority that signed a certificate of the host: whether an entry
@@ -267,11 +249,5 @@ pub fn authority_verdict(
     port: u16,
     key: &[u8],
 ) -> Result<(), Status> {
-    judged(
-        raw::sshkey_authority_verdict,
-        known_hosts,
-        host.as_ref(),
-        port,
-        key,
-    )
+    judged(raw::sshkey_authority_verdict, known_hosts, host.as_ref(), port, key)
 }

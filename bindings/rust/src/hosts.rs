@@ -84,11 +84,5 @@ pub fn validate_host(
     }
     let (second, name) = (host.unix_timestamp, host.name.to_ascii_lowercase());
     let signer = fingerprint(authority)?;
-    Ok(judge_certificate(
-        certificate,
-        second,
-        Principal::Named(&name),
-        &[signer],
-        verify,
-    )?)
+    Ok(judge_certificate(certificate, second, Principal::Named(&name), &[signer], verify)?)
 }

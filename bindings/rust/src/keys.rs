@@ -52,9 +52,8 @@ pub fn signature_question(
     message: &[u8],
     signature: &[u8],
 ) -> Result<Question, Status> {
-    let enough = [key, message, signature]
-        .iter()
-        .fold(256, |sum: usize, it| sum.saturating_add(it.len()));
+    let enough =
+        [key, message, signature].iter().fold(256, |sum: usize, it| sum.saturating_add(it.len()));
     Question::of_call(enough, |room, answer| {
         // SAFETY: each pointer has the length of its slice beside it; the slices are lent for
         // longer than the call, and room and answer are each borrowed by it alone.

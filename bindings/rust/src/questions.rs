@@ -55,11 +55,7 @@ impl Question {
     ) -> Result<Question, Status> {
         let (room, answer) = ask(length, call)?;
         let algorithm = Algorithm::of(answer.algorithm).ok_or(Status::UNSUPPORTED)?;
-        Ok(Question {
-            algorithm,
-            room,
-            answer,
-        })
+        Ok(Question { algorithm, room, answer })
     }
 
     /// How the signature is made.

@@ -94,10 +94,7 @@ pub(crate) struct Span {
 impl Span {
     /// The span of these bytes, which have to outlive its use.
     pub(crate) fn of(bytes: &[u8]) -> Span {
-        Span {
-            bytes: bytes.as_ptr(),
-            length: bytes.len(),
-        }
+        Span { bytes: bytes.as_ptr(), length: bytes.len() }
     }
 }
 

@@ -50,11 +50,7 @@ fn certificates_are_made_as_ssh_keygen_makes_them() {
     };
     let found = sshkey::make_certificate(&draft, |message| {
         assert_eq!(message, question.message());
-        Ok([
-            sshkey::string("ssh-ed25519")?,
-            sshkey::string(question.signature())?,
-        ]
-        .concat())
+        Ok([sshkey::string("ssh-ed25519")?, sshkey::string(question.signature())?].concat())
     });
     assert_eq!(found, Ok::<_, Status>(made.clone()));
 }
@@ -72,45 +68,18 @@ fn drafts_are_refused_where_something_is_left_out() {
         ..Draft::default()
     };
     let ended = Listed::Names(&["alice", "root\0"]);
-    assert_eq!(
-        refusal(Draft {
-            principals: ended,
-            ..draft
-        }),
-        Status::FORMAT
-    );
+    assert_eq!(refusal(Draft { principals: ended, ..draft }), Status::FORMAT);
     let principals = Listed::Names(&[]);
-    assert_eq!(
-        refusal(Draft {
-            principals,
-            ..draft
-        }),
-        Status::PRINCIPALS
-    );
-    assert_eq!(
-        refusal(Draft {
-            valid_before: 0,
-            ..draft
-        }),
-        Status::EMPTY_WINDOW
-    );
+    assert_eq!(refusal(Draft { principals, ..draft }), Status::PRINCIPALS);
+    assert_eq!(refusal(Draft { valid_before: 0, ..draft }), Status::EMPTY_WINDOW);
     assert_eq!(refusal(Draft { key: &[], ..draft }), Status::LENGTH);
     let nonce = &[];
     assert_eq!(refusal(Draft { nonce, ..draft }), Status::LENGTH);
-    assert_eq!(
-        refusal(Draft {
-            authority: &[],
-            ..draft
-        }),
-        Status::LENGTH
-    );
+    assert_eq!(refusal(Draft { authority: &[], ..draft }), Status::LENGTH);
     // a key id that is longer than the room that the call gets at first
     let key_id = &"x".repeat(5000)[..];
     let long = sshkey::certificate_to_be_signed(&Draft { key_id, ..draft }).unwrap();
-    assert_eq!(
-        long.len(),
-        sshkey::certificate_to_be_signed(&draft).unwrap().len() + 5000
-    );
+    assert_eq!(long.len(), sshkey::certificate_to_be_signed(&draft).unwrap().len() + 5000);
 }
 
 #[test]

@@ -17,9 +17,7 @@ type Answer = Result<String, Status>;
 fn data(word: &str) -> Vec<u8> {
     let digits = if word == "-" { "" } else { word };
     let pairs = (0..digits.len()).step_by(2).map(|at| &digits[at..at + 2]);
-    pairs
-        .map(|it| u8::from_str_radix(it, 16).expect("a word of hexadecimal digits"))
-        .collect()
+    pairs.map(|it| u8::from_str_radix(it, 16).expect("a word of hexadecimal digits")).collect()
 }
 
 fn word(data: impl AsRef<[u8]>) -> String {
@@ -35,24 +33,17 @@ fn number(word: &str) -> u64 {
 }
 
 fn digests(word: &str) -> Vec<Sha256> {
-    let digest = |it: &[u8]| Sha256 {
-        bytes: it.try_into().expect("32 bytes"),
-    };
+    let digest = |it: &[u8]| Sha256 { bytes: it.try_into().expect("32 bytes") };
     data(word).chunks(32).map(digest).collect()
 }
 
 /// The words behind 0.
 fn words<I: IntoIterator<Item = String>>(found: I) -> Answer {
-    Ok(std::iter::once("0".into())
-        .chain(found)
-        .collect::<Vec<_>>()
-        .join(" "))
+    Ok(std::iter::once("0".into()).chain(found).collect::<Vec<_>>().join(" "))
 }
 
 fn number_of(answer: Result<(), Status>) -> String {
-    answer
-        .map_or_else(|status| status.number(), |()| 0)
-        .to_string()
+    answer.map_or_else(|status| status.number(), |()| 0).to_string()
 }
 
 // ---- questions
@@ -60,12 +51,7 @@ fn number_of(answer: Result<(), Status>) -> String {
 fn asked(question: &Question, signer: Option<Sha256>) -> Answer {
     let parts = [question.key(), question.message(), question.signature()].map(word);
     let number = (question.algorithm() as u32).to_string();
-    words(
-        [number]
-            .into_iter()
-            .chain(parts)
-            .chain(signer.map(|it| word(it.bytes))),
-    )
+    words([number].into_iter().chain(parts).chain(signer.map(|it| word(it.bytes))))
 }
 
 fn sshsig(signature: &[u8], namespace: &[u8], message: &[u8]) -> Answer {
@@ -102,11 +88,7 @@ fn is_signature(key: &[u8], message: &[u8], signature: &[u8]) -> Answer {
 }
 
 fn validate(given: &[&str]) -> Answer {
-    let name = if given[2] == "*" {
-        None
-    } else {
-        Some(data(given[2]))
-    };
+    let name = if given[2] == "*" { None } else { Some(data(given[2])) };
     let principal = name.as_deref().map_or(Principal::Any, Principal::Named);
     let (blob, second, yes) = (data(given[0]), number(given[1]), given[4] == "1");
     let mut questions = 0;
@@ -191,16 +173,9 @@ fn draft(given: &[&str]) -> Answer {
     let numbers: Vec<u64> = given[7..].iter().map(|it| number(it)).collect();
     let names: Result<Vec<_>, _> = sshkey::strings(&spans[3]).map(|it| text(it?)).collect();
     let names = names?;
-    let listed = if numbers[4] == 1 {
-        Listed::Everybody
-    } else {
-        Listed::Names(&names)
-    };
+    let listed = if numbers[4] == 1 { Listed::Everybody } else { Listed::Names(&names) };
     let options = |span| -> Result<Vec<(&str, &str)>, Status> {
-        Ok(sshkey::certificate_options(span)
-            .by_name()?
-            .into_iter()
-            .collect())
+        Ok(sshkey::certificate_options(span).by_name()?.into_iter().collect())
     };
     let (critical_options, extensions) = (options(&spans[4])?, options(&spans[5])?);
     let made = sshkey::certificate_to_be_signed(&Draft {
@@ -222,25 +197,13 @@ fn draft(given: &[&str]) -> Answer {
 // ---- keys and lines
 
 fn key(blob: &[u8]) -> Answer {
-    let (short, long) = (
-        sshkey::fingerprint(blob)?,
-        sshkey::fingerprint_sha512(blob)?,
-    );
-    words([
-        word(short.bytes),
-        short.to_string(),
-        word(long.bytes),
-        long.to_string(),
-    ])
+    let (short, long) = (sshkey::fingerprint(blob)?, sshkey::fingerprint_sha512(blob)?);
+    words([word(short.bytes), short.to_string(), word(long.bytes), long.to_string()])
 }
 
 fn line(bytes: &[u8]) -> Answer {
     let found = sshkey::read_line(bytes)?;
-    words([
-        u8::from(found.is_certificate).to_string(),
-        word(found.blob),
-        word(found.comment),
-    ])
+    words([u8::from(found.is_certificate).to_string(), word(found.blob), word(found.comment)])
 }
 
 fn normal(kind: &str, blob: &[u8]) -> Answer {
@@ -265,23 +228,13 @@ fn lines(text: &[u8]) -> Answer {
 
 fn entry(line: &[u8]) -> Answer {
     let found = sshkey::authorized_entry(line)?;
-    words([
-        "0".into(),
-        word(found.options),
-        word(found.key),
-        word(found.comment),
-    ])
+    words(["0".into(), word(found.options), word(found.key), word(found.comment)])
 }
 
 fn host(line: &[u8]) -> Answer {
     let found = sshkey::known_host(line)?;
     let marker = (found.marker as u32).to_string();
-    words([
-        marker,
-        word(found.hosts),
-        word(found.key),
-        word(found.comment),
-    ])
+    words([marker, word(found.hosts), word(found.key), word(found.comment)])
 }
 
 fn options(bytes: &[u8]) -> Answer {
@@ -289,9 +242,7 @@ fn options(bytes: &[u8]) -> Answer {
         None => word(it.name),
         Some(value) => format!("{}={}", word(it.name), word(value)),
     };
-    let found: Result<Vec<_>, _> = sshkey::entry_options(bytes)
-        .map(|it| it.map(shown))
-        .collect();
+    let found: Result<Vec<_>, _> = sshkey::entry_options(bytes).map(|it| it.map(shown)).collect();
     words(found?)
 }
 
@@ -351,9 +302,6 @@ fn answer(question: &str) -> Answer {
 fn main() {
     for line in io::stdin().lock().lines() {
         let line = line.expect("a line");
-        println!(
-            "{}",
-            answer(&line).unwrap_or_else(|status| status.number().to_string())
-        );
+        println!("{}", answer(&line).unwrap_or_else(|status| status.number().to_string()));
     }
 }

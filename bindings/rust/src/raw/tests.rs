@@ -6,10 +6,7 @@ use std::mem::size_of;
 use super::*;
 use crate::{Algorithm, CertificateType, Marker, Status};
 
-const HEADER: &str = include_str!(concat!(
-    env!("CARGO_MANIFEST_DIR"),
-    "/../../include/sshkey.h"
-));
+const HEADER: &str = include_str!(concat!(env!("CARGO_MANIFEST_DIR"), "/../../include/sshkey.h"));
 const SOURCE: &str = include_str!("../raw.rs");
 
 /// The place of each field of a struct, and its size, by the names of C.
@@ -49,9 +46,7 @@ fn draft() -> Draft {
 
 /// What the header asserts: `sizeof(struct) == 8` and `offsetof(struct, field) == 8`.
 fn asserted() -> BTreeMap<String, usize> {
-    let lines = HEADER
-        .lines()
-        .filter_map(|it| it.strip_prefix("SSHKEY_IS("));
+    let lines = HEADER.lines().filter_map(|it| it.strip_prefix("SSHKEY_IS("));
     let fact = |line: &str| {
         let (what, number) = line.strip_suffix(");")?.split_once(") == ")?;
         Some((what.split_once('(')?.1.to_string(), number.parse().ok()?))
@@ -89,9 +84,7 @@ fn parameter(c: &str) -> String {
         (None, Some(kind)) => ("*mut ", kind.trim_end()),
         (None, None) => ("", kind),
     };
-    let number = kind
-        .strip_suffix("_t")
-        .map(|it| it.replace("uint", "u").replace("size", "usize"));
+    let number = kind.strip_suffix("_t").map(|it| it.replace("uint", "u").replace("size", "usize"));
     let structure = || {
         let words = kind.strip_prefix("sshkey_").unwrap().split('_');
         words.map(|it| it[..1].to_uppercase() + &it[1..]).collect()
@@ -125,9 +118,7 @@ fn numbers(front: &str) -> BTreeMap<String, u32> {
     let named = |text: &'static str| {
         let (name, number) = text.split_once(" = ")?;
         let digits: String = number.chars().take_while(char::is_ascii_digit).collect();
-        let name = Some(name)
-            .filter(|it| it.bytes().all(is_name))?
-            .strip_prefix(front)?;
+        let name = Some(name).filter(|it| it.bytes().all(is_name))?.strip_prefix(front)?;
         Some((name.to_string(), digits.parse().ok()?))
     };
     HEADER.split("SSHKEY_").filter_map(named).collect()
@@ -150,10 +141,8 @@ fn statuses_are_those_of_the_header() {
 #[test]
 fn other_numbers_are_those_of_the_header() {
     let name = |it: Algorithm| format!("{it:?}").to_uppercase().replace("SHA", "_SHA");
-    let found: BTreeMap<_, _> = (0..200)
-        .filter_map(Algorithm::of)
-        .map(|it| (name(it), it as u32))
-        .collect();
+    let found: BTreeMap<_, _> =
+        (0..200).filter_map(Algorithm::of).map(|it| (name(it), it as u32)).collect();
     assert_eq!(found, numbers("ASK_"));
     let markers = [
         ("NONE", Marker::None),
