@@ -51,8 +51,8 @@ from lib.signatures import mpint
 
 from . import digest_calls, entry_calls, host_calls
 from .certificate_calls import CASES, certificate_of, fields_in
-from .key_calls import COMMENTS, encoded, numbers_of_keys, points_of_keys, renamed, signed_by, signed_by_hand, turned
-from .linked import run
+from .key_calls import COMMENTS, encoded, numbers_of_keys, points_of_keys, renamed, signed_by, signed_by_hand
+from .linked import run, turned, word
 from .login_calls import REFUSALS, all_cases
 from .login_calls import turned as turned_name
 from .security_key_calls import SecurityKey, signatures
@@ -67,10 +67,6 @@ class Asker:
 
     language: str
     words: list
-
-
-def word(data):
-    return data.hex() or "-"
 
 
 def data_of(text):

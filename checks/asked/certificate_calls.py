@@ -5,7 +5,7 @@ import sys
 
 from lib.harness import blob_of, ssh_keygen, string, take
 
-from .linked import EXAMPLES, run
+from .linked import EXAMPLES, run, word
 
 OPTIONS = [
     "clear", "force-command=echo \"a b\"", "source-address=10.0.0.0/8,::1/128", "verify-required", "critical:z@example.org=value",
@@ -140,7 +140,7 @@ def check_options(count, built, sshkey, maker):
     trailing = string(b"a") + string(string(b"b") + b"c")
     cases = [b"", b"\0", bytes(4), bytes(8), bytes(12), b"\xff" * 9, nested, trailing, nested * 3, string(b"a"), blob]
     cases += [fields["critical_options"], fields["extensions"], string(b"a") + string(b"\0\0\0"), string(b"a") + b"\0\0\0"]
-    said = run([f"{built.sanitized}/foreign"], input="".join(f"certificate-options {it.hex() or '-'}\n" for it in cases))
+    said = run([f"{built.sanitized}/foreign"], input="".join(f"certificate-options {word(it)}\n" for it in cases))
     answers = said.stdout.splitlines()
     count.check("options are asked about without a fault", said.returncode == 0 and len(answers) == len(cases), said.stderr)
     for data, answer in zip(cases, answers):
@@ -185,7 +185,7 @@ NUMBERS = ("serial", "valid_after", "valid_before", "certificate_type", "all_pri
 
 def drafted_by_c(built, drafts, program="sanitized"):
     """What the calls write for each draft, and how many of the rooms below that answer as they have to."""
-    words = [[it[name].hex() or "-" for name in SPANS] + [str(it[name]) for name in NUMBERS] for it in drafts]
+    words = [[word(it[name]) for name in SPANS] + [str(it[name]) for name in NUMBERS] for it in drafts]
     said = run([f"{getattr(built, program)}/foreign"], input="".join(f"draft {' '.join(it)}\n" for it in words))
     return said.stdout.splitlines(), said.returncode == 0, said.stderr[-2000:]
 

@@ -5,7 +5,8 @@ import hashlib
 from lib.harness import blob_of, string, take
 from lib.signatures import signed_data, ssh_signature_over
 
-from .key_calls import Asked, part_of
+from .key_calls import Asked
+from .linked import part_of, word
 from .login_calls import blocks
 
 HASHES = ("sha256", "sha512")
@@ -46,7 +47,7 @@ def with_key(signature, key):
 
 
 def question_of(signature, namespace, digest):
-    return " ".join(["sshsig-of-digest", *(it.hex() or "-" for it in (signature, namespace, digest))])
+    return " ".join(["sshsig-of-digest", *(word(it) for it in (signature, namespace, digest))])
 
 
 def said_by_python(sshkey, *given):
@@ -126,7 +127,7 @@ def questions_of(made):
             wanted += [f"0 {name}", "13"]
             for _, namespace, digest, status in cases(name):
                 status = int(made.sshkey.Status[status])
-                words = " ".join(it.hex() or "-" for it in (signature, namespace, digest))
+                words = " ".join(word(it) for it in (signature, namespace, digest))
                 questions += [f"sshsig-of-digest {words}", f"is-sshsig-of-digest {words} {own}"]
                 wanted += [str(0 if status == made.sshkey.Status.NOT_SIGNED else status), str(status)]
             words = " ".join(it.hex() for it in (signature, b"file"))
@@ -139,5 +140,5 @@ def questions_of(made):
             words = f"{signature} {b'file'.hex()}"
             questions += [f"sshsig-reserved {signature}", f"sshsig-reserved {signature[:-2]}", f"is-sshsig {words} {TEXT.hex()} {own}"]
             questions.append(f"is-sshsig-of-digest {words} {hashlib.sha512(TEXT).hexdigest()} {own}")
-            wanted += [f"0 {reserved.hex() or '-'}", "13", status, status]
+            wanted += [f"0 {word(reserved)}", "13", status, status]
     return questions, wanted

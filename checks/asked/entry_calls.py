@@ -8,9 +8,8 @@ import random
 import re
 import sys
 import tempfile
-import zlib
 
-from asked.linked import EXAMPLES, run
+from asked.linked import EXAMPLES, part_of, run, word
 from lib.harness import ROOT, ssh_keygen
 
 LINES, TEXTS, FILES, CUTS = 90, 30, 200, 40
@@ -38,14 +37,6 @@ def loaded(name):
     module = importlib.util.module_from_spec(importlib.util.spec_from_loader(loader.name, loader))
     loader.exec_module(module)
     return module
-
-
-def word(data):
-    return data.hex() or "-"
-
-
-def part(data):
-    return f"{len(data)}:{zlib.crc32(data):08x}"
 
 
 def asked(count, built, name, questions):
@@ -78,7 +69,7 @@ def check_lines(count, built, sshkey, draw):
     wrong = []
     for text, answer in zip(texts, said):
         wanted = list(lines_of(text))
-        by_c = "".join(f" {part(line)}@{start}" for start, line in wanted) + " 3 3 3 3"
+        by_c = "".join(f" {part_of(line)}@{start}" for start, line in wanted) + " 3 3 3 3"
         if answer != by_c or sshkey.entry_lines(text) != [line for _, line in wanted]:
             wrong.append((text, answer, by_c, sshkey.entry_lines(text)))
     count.check(f"the lines of {len(texts)} texts that may be entries", not wrong, *wrong[:3])
@@ -107,7 +98,7 @@ def read_by_python(sshkey, kind, line):
     except sshkey.Refused as refused:
         return None, f"{int(refused.status)}"
     marker, front = (0, entry.options) if kind == "entry" else (int(entry.marker), entry.hosts)
-    return entry, " ".join([f"0 {marker}", *map(part, (front, entry.key, entry.comment))])
+    return entry, " ".join([f"0 {marker}", *map(part_of, (front, entry.key, entry.comment))])
 
 
 def is_key_shown(entry, wanted, keys):
@@ -204,7 +195,7 @@ def options_by_python(sshkey, text):
         status = sshkey.Status.END
     except sshkey.Refused as refused:
         status = refused.status
-    said = "".join(f" {part(name)} {part(value or b'')} {int(value is not None)}" for name, value in found)
+    said = "".join(f" {part_of(name)} {part_of(value or b'')} {int(value is not None)}" for name, value in found)
     return found if status == sshkey.Status.END else status.name, f"{said} {int(status)}"
 
 

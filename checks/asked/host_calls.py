@@ -5,7 +5,7 @@ import time
 from lib.harness import blob_of
 
 from .hosts import AROUND_NOW, AUTHORITY, BROKEN, CERTIFICATES, CERTIFICATES_OF_FILES, HOST, INVALID, NAMED, field, in_one_file, written
-from .linked import HELPERS, PEDANTIC, SANITIZED, VALGRIND, C, run
+from .linked import HELPERS, PEDANTIC, SANITIZED, VALGRIND, C, run, word
 from .login_calls import REFUSALS, blocks
 
 # what the program callers answers, and what validate_host does
@@ -92,8 +92,8 @@ def check_hosts(count, built, modules, maker):
     asked, now = list(cases(maker)), int(time.time())
     lines = ""
     for _, blob, host, port, texts, _ in asked:
-        spelled = [it.hex() or "-" for it in (host.encode() if isinstance(host, str) else host, *texts)]
-        lines += " ".join(["host-certificate", blob.hex() or "-", str(now), spelled[0], str(port), str(len(texts)), *spelled[1:]]) + "\n"
+        spelled = [word(it) for it in (host.encode() if isinstance(host, str) else host, *texts)]
+        lines += " ".join(["host-certificate", word(blob), str(now), spelled[0], str(port), str(len(texts)), *spelled[1:]]) + "\n"
     ran = run([f"{built.sanitized}/foreign"], input=lines)
     said = ran.stdout.splitlines()
     count.check("hosts are judged without a fault", ran.returncode == 0 and len(said) == len(asked), ran.stderr[-2000:])

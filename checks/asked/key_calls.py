@@ -2,14 +2,13 @@
 import base64
 import hashlib
 import math
-import zlib
 
 from cryptography.hazmat.primitives import hashes, serialization
 from cryptography.hazmat.primitives.asymmetric import ec, rsa, utils
 from lib.harness import blob_of, new_key, ssh_keygen, string, take
 from lib.signatures import mpint
 
-from .linked import VALGRIND, run
+from .linked import VALGRIND, part_of, run, turned, word
 
 KINDS = ("ed25519", "ecdsa -b 256", "ecdsa -b 384", "ecdsa -b 521", "rsa -b 2048", "dsa")
 COMMENTS = ("", "alice@host", "two words", "spaces  within", "Zoë's laptop")
@@ -28,15 +27,6 @@ def all_of(blob):
         first, blob = take(blob)
         found.append(first)
     return found
-
-
-def turned(data):
-    return [data[:at] + bytes([data[at] ^ 1]) + data[at + 1 :] for at in range(len(data))]
-
-
-def part_of(data):
-    """A part as checks/foreign.c says it."""
-    return f"{len(data)}:{zlib.crc32(data):08x}"
 
 
 class Asked:
@@ -104,25 +94,25 @@ def check_lines(asked, sshkey, maker, keys, certificates):
 
 def check_wrong_lines(asked, sshkey, keys):
     """Lines that are none, by the errors that docs/FORMATS.md and the pages of the calls name."""
-    blob, word = keys["ed25519"], encoded(keys["ed25519"])
+    blob, digits = keys["ed25519"], encoded(keys["ed25519"])
     cases = [
         ("no word", "", "LENGTH"), ("one word", "ssh-ed25519", "LENGTH"), ("a space and a line end", "ssh-ed25519 \n", "LENGTH"),
-        ("two spaces", f"ssh-ed25519  {word}", "LENGTH"), ("a space in front", f" ssh-ed25519 {word}", "LENGTH"),
-        ("a tab between", f"ssh-ed25519\t{word}", "LENGTH"), ("Base64 alone", word, "LENGTH"),
-        ("a character less", f"ssh-ed25519 {word[:-1]}", "BASE64"), ("no Base64", f"ssh-ed25519 {word[:-4]}!!!!", "BASE64"),
-        ("the other alphabet", f"ssh-ed25519 {word[:-4]}____", "BASE64"), ("padding within", f"ssh-ed25519 AAA={word}", "BASE64"),
-        ("another name", f"ssh-rsa {word}", "ALGORITHM_UNKNOWN"), ("a longer name", f"ssh-ed25519x {word}", "ALGORITHM_UNKNOWN"),
-        ("the name of its certificates", f"ssh-ed25519-cert-v01@openssh.com {word}", "ALGORITHM_UNKNOWN"),
-        ("a name with a comma", f"ssh,ed25519 {word}", "CHARACTER_ENCODING"),
-        ("no text", f"ssh-ed25519 {word} ".encode() + b"\xff", "CHARACTER_ENCODING"),
+        ("two spaces", f"ssh-ed25519  {digits}", "LENGTH"), ("a space in front", f" ssh-ed25519 {digits}", "LENGTH"),
+        ("a tab between", f"ssh-ed25519\t{digits}", "LENGTH"), ("Base64 alone", digits, "LENGTH"),
+        ("a character less", f"ssh-ed25519 {digits[:-1]}", "BASE64"), ("no Base64", f"ssh-ed25519 {digits[:-4]}!!!!", "BASE64"),
+        ("the other alphabet", f"ssh-ed25519 {digits[:-4]}____", "BASE64"), ("padding within", f"ssh-ed25519 AAA={digits}", "BASE64"),
+        ("another name", f"ssh-rsa {digits}", "ALGORITHM_UNKNOWN"), ("a longer name", f"ssh-ed25519x {digits}", "ALGORITHM_UNKNOWN"),
+        ("the name of its certificates", f"ssh-ed25519-cert-v01@openssh.com {digits}", "ALGORITHM_UNKNOWN"),
+        ("a name with a comma", f"ssh,ed25519 {digits}", "CHARACTER_ENCODING"),
+        ("no text", f"ssh-ed25519 {digits} ".encode() + b"\xff", "CHARACTER_ENCODING"),
         ("a byte less", f"ssh-ed25519 {encoded(blob[:-1])}", "LENGTH"),
         ("a byte more", f"ssh-ed25519 {encoded(blob + bytes(1))}", "TRAILING_DATA"),
         ("a name of nothing", f"ssh-foo {encoded(string(b'ssh-foo') + string(b''))}", "LABEL"),
         ("a cut certificate", f"ssh-ed25519-cert-v01@openssh.com {encoded(string(b'ssh-ed25519-cert-v01@openssh.com'))}", "LENGTH"),
-        ("options in front", f"no-pty ssh-ed25519 {word}", "BASE64"),
+        ("options in front", f"no-pty ssh-ed25519 {digits}", "BASE64"),
     ]  # fmt: skip
     lines = [it if isinstance(it, bytes) else it.encode() for _, it, _ in cases]
-    said = asked.answers("wrong lines", [f"line {it.hex() or '-'}" for it in lines])
+    said = asked.answers("wrong lines", [f"line {word(it)}" for it in lines])
     for (name, _, wanted), line, answer in zip(cases, lines, said):
         found = said_of_line(sshkey, line)
         asked.count.check(f"no line: {name}", found == wanted and answer == str(int(sshkey.Status[wanted])), found, answer, wanted)
@@ -264,7 +254,7 @@ def check_signatures(asked, sshkey, check, maker, kinds):
 
 
 def question_of(key, message, signature):
-    return f"signature {key.hex() or '-'} {message.hex() or '-'} {signature.hex() or '-'}"
+    return f"signature {word(key)} {word(message)} {word(signature)}"
 
 
 def is_valid(sshkey, check, *given):
@@ -467,7 +457,7 @@ def check_hostile_forms(asked, sshkey, cases):
     """Hostile byte strings have a normal form exactly if they are what they were made of."""
     kinds = {"key": "key", "certificate": "certificate", "ssh-signature": "sshsig"}
     tried = [(kinds[kind], data, wanted) for kind, data, wanted in cases[::SAMPLED]]
-    said = asked.answers(f"{len(tried):,} hostile byte strings", [f"normal {kind} {data.hex() or '-'}" for kind, data, _ in tried])
+    said = asked.answers(f"{len(tried):,} hostile byte strings", [f"normal {kind} {word(data)}" for kind, data, _ in tried])
     good = {"read": {"0"}, "trailing": {"14"}, "length": {"13"}, "refused": {str(it) for it in range(10, 30)}}
     wrong = [it for it, answer in zip(tried, said) if answer.split()[0] not in good.get(it[2], {"0", *good["refused"]})]
     asked.count.check("they have a normal form exactly if they have to", not wrong, *wrong[:3])

@@ -3,6 +3,7 @@ import ctypes
 import os
 import re
 import subprocess
+import zlib
 
 from lib.harness import ROOT
 
@@ -19,6 +20,21 @@ VALGRIND = ["valgrind", "-q", "--leak-check=full", "--error-exitcode=9"]
 WRAPPED = "-Wl,--wrap=malloc,--wrap=realloc,--wrap=free,--wrap=judge_is_signature"
 # what the library may take of the C library
 TAKEN = {"malloc", "realloc", "free", "memcpy", "memmove", "memset", "memcmp", "__cxa_finalize"}
+
+
+def word(data):
+    """Bytes as a question of checks/foreign.c or of an asker spells them."""
+    return data.hex() or "-"
+
+
+def part_of(data):
+    """A part as checks/foreign.c says it."""
+    return f"{len(data)}:{zlib.crc32(data):08x}"
+
+
+def turned(data):
+    """The bytes with the lowest bit of each turned."""
+    return [data[:at] + bytes([data[at] ^ 1]) + data[at + 1 :] for at in range(len(data))]
 
 
 def run(words, **how):

@@ -7,7 +7,7 @@ from unittest.mock import patch
 
 from lib.harness import ROOT, blob_of, string
 
-from .linked import HELPERS, PEDANTIC, SANITIZED, VALGRIND, C, run
+from .linked import HELPERS, PEDANTIC, SANITIZED, VALGRIND, C, run, word
 from .login_options import CASES, FLAGS, MOST, TEXTS, certificate
 
 REFUSALS = {
@@ -132,7 +132,7 @@ def check_users(count, built, modules, maker, window):
     lines = ""
     for _, blob, key, second, user, by, known, _ in asked:
         words = (user.encode() if isinstance(user, str) else user, by, known.encode())
-        lines += " ".join(["user", blob.hex(), key.hex(), str(second), *(it.hex() or "-" for it in words)]) + "\n"
+        lines += " ".join(["user", blob.hex(), key.hex(), str(second), *(word(it) for it in words)]) + "\n"
     ran = run([f"{built.sanitized}/foreign"], input=lines)
     said = ran.stdout.splitlines()
     count.check("logins are judged without a fault", ran.returncode == 0 and len(said) == len(asked), ran.stderr[-2000:])

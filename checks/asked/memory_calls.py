@@ -6,7 +6,7 @@ import re
 from lib.harness import ssh_keygen, string
 
 from .key_calls import all_of, encoded, keys_of, renamed, signed_by
-from .linked import HEADER, VALGRIND, declared, run
+from .linked import HEADER, VALGRIND, declared, run, word
 
 SPANS, NUMBERS = 7, 5
 # with a room, and so with one that is too short
@@ -137,7 +137,7 @@ def cases(maker, kinds, second):
 
 
 def question_of(call, spans, numbers, room):
-    words = [*(it.hex() or "-" for it in spans), *["-"] * (SPANS - len(spans))]
+    words = [*(word(it) for it in spans), *["-"] * (SPANS - len(spans))]
     words += [*map(str, numbers), *["0"] * (NUMBERS - len(numbers))]
     return " ".join(["memory", str(room), call, *words])
 

@@ -12,8 +12,8 @@ from cryptography.hazmat.primitives.asymmetric import ec, ed25519, utils
 from lib.harness import ssh_keygen, string, take
 from lib.signatures import mpint, signed_data, ssh_signature
 
-from .key_calls import part_of, question_of, said_of_signature, turned
-from .linked import run
+from .key_calls import question_of, said_of_signature
+from .linked import part_of, run, turned
 
 TOUCHED, VERIFIED = 1, 4
 COUNTER = 5

@@ -73,5 +73,5 @@ __all__ = [
     "entry_lines", "entry_options", "fingerprint", "fingerprint_sha512", "fingerprint_sha512_text", "fingerprint_text",
     "host_verdict", "join_certificate", "known_host", "make_certificate", "normal_certificate", "normal_key", "normal_signature",
     "normal_sshsig", "options", "read_line", "signature_question", "sshsig_hash", "sshsig_question", "sshsig_question_of_digest",
-    "string", "strings", "validate_certificate",
+    "sshsig_reserved", "string", "strings", "validate_certificate",
 ]  # fmt: skip
