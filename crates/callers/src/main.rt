@@ -10,7 +10,6 @@ mod agent;
 mod allowed;
 mod client;
 mod deploy;
-mod entries;
 mod hashes;
 mod host;
 mod issue;
@@ -63,7 +62,6 @@ fn answer(alloc: Global, line: &str, told: &mut Told, hashes: &mut Hashes) -> Re
             "agent-signature" => client::answer(alloc, words, told),
             "allowed-signer" => allowed::answer(alloc, words, told),
             "deploy" => deploy::answer(alloc, words, told),
-            "entries" => entries::answer(alloc, words),
             "host-key" => host::key(alloc, words, hashes),
             "host-certificate" => host::certificate(alloc, words, hashes, told),
             "issue" => issue::answer(alloc, words, told),

@@ -1,5 +1,2 @@
-pub mod AuthorizedEntries
-pub mod HostKeys
 pub mod Signed
-pub mod SignedFiles
 pub mod HostCertificates
