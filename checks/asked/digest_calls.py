@@ -5,8 +5,8 @@ import hashlib
 from lib.harness import blob_of, string, take
 from lib.signatures import signed_data, ssh_signature_over
 
-from .key_calls import Asked
-from .linked import part_of, word
+from .key_calls import Asked, said_of_question
+from .linked import word
 from .login_calls import blocks
 
 HASHES = ("sha256", "sha512")
@@ -51,13 +51,7 @@ def question_of(signature, namespace, digest):
 
 
 def said_by_python(sshkey, *given):
-    """What the Python module answers, as checks/foreign.c says it."""
-    try:
-        asked, signer = sshkey.sshsig_question_of_digest(*given)
-    except sshkey.Refused as refused:
-        return str(int(refused.status))
-    parts = " ".join(map(part_of, (asked.key, asked.message, asked.signature)))
-    return f"0 {int(asked.algorithm)} {parts} {signer.hex()}"
+    return said_of_question(sshkey, sshkey.sshsig_question_of_digest, *given)
 
 
 def check_signed(asked, judges, kind, signature, name):

@@ -29,6 +29,17 @@ def all_of(blob):
     return found
 
 
+def said_of_question(sshkey, call, *given):
+    """The question, and the signer if there is one, that a call of the Python package tells, as checks/foreign.c says it."""
+    try:
+        told = call(*given)
+    except sshkey.Refused as refused:
+        return str(int(refused.status))
+    question, *signer = told if isinstance(told, tuple) else (told,)
+    parts = map(part_of, (question.key, question.message, question.signature))
+    return " ".join(["0", str(int(question.algorithm)), *parts, *(it.hex() for it in signer)])
+
+
 class Asked:
     """What C with sanitizers and C under valgrind answer, as checks/foreign.c says it."""
 
@@ -227,11 +238,7 @@ def signed_by(maker, key):
 
 
 def said_of_signature(sshkey, *given):
-    try:
-        asked = sshkey.signature_question(*given)
-    except sshkey.Refused as refused:
-        return f"{int(refused.status)}"
-    return f"0 {int(asked.algorithm)} " + " ".join(map(part_of, (asked.key, asked.message, asked.signature)))
+    return said_of_question(sshkey, sshkey.signature_question, *given)
 
 
 def check_signatures(asked, sshkey, check, maker, kinds):
