@@ -159,7 +159,8 @@ def spoilt_certificates(blob):
         ("a key id that is no text", with_field(5, string(b"\xff")), "CHARACTER_ENCODING"),
         ("a time above 2^63 - 1", with_field(7, b"\x80" + bytes(7)), "TIME"),
         ("a number in the signature that is zero", signed(b"ecdsa-sha2-nistp256", string(b"") + string(b"\1")), "CRYPTO"),
-        ("a point that is too short", authority(b"\4" + bytes(63)), "ECDSA"),
+        ("a point that is too short", authority(b"\4" + bytes(63)), "LENGTH"),
+        ("a point that is too long", authority(b"\4" + bytes(65)), "ECDSA"),
         ("a point that begins with 05", authority(b"\5" + bytes(64)), "ALGORITHM_UNKNOWN"),
         # a label within is what a key with that name would have after its end
         ("a signature by nothing", signed(b"ssh-foo", b""), "TRAILING_DATA"),
