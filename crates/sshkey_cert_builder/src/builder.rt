@@ -29,6 +29,15 @@ use std::alloc::Global;
 /// There are two of each setter: `serial` returns the builder, so that calls can be chained, and
 /// `set_serial` returns `Ok(())`. If either fails, the builder is as it was. In a caller's proof
 /// the search finds that of `set_serial`; of `serial` it has to be proved by hand.
+///
+/// ```rust
+/// // as in crates/authority/src/certify.rt
+/// let mut builder = Builder::new(alloc, nonce, key, valid_after, valid_before)?;
+/// builder.set_serial(serial)?;
+/// builder.set_key_id(key_id)?;
+/// add_principals(&mut builder, principals)?;
+/// builder.sign(alloc, signer)
+/// ```
 pub struct Builder {
     alloc: Global,
     nonce: Bytes,

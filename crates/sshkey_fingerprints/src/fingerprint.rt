@@ -21,6 +21,11 @@ use std::fmt;
 ///
 /// It is shown as `SHA256:` and 43, or `SHA512:` and 86 characters of Base64 without padding.
 /// Fingerprints are ordered by their hash, SHA-256 first, and then by the digest's bytes.
+///
+/// ```rust
+/// // as in crates/sshkey_cases/src/keys.rt
+/// Ok(key.fingerprint(alloc, HashAlg::Sha256)?.to_string(alloc)?)
+/// ```
 #[derive(Debug, Clone, Copy, PartialEq, Eq, PartialOrd, Ord)]
 pub enum Fingerprint {
     /// A digest by SHA-256.

@@ -28,6 +28,12 @@ impl KeyData {
     /// Does not check the flags in a security key's signature, which tell whether somebody touched
     /// the key (PROTOCOL.u2f): check them yourself, in the fifth byte from the end of
     /// `Signature::as_bytes`.
+    ///
+    /// ```rust
+    /// // as in crates/sshkey_examples/src/signed.rt
+    /// let signature = Signature::from_bytes(alloc, blob)?;
+    /// answer_of(key.verify(alloc, message, &signature, verifier))
+    /// ```
     pub fn verify<V: RawVerifier>(
         &self,
         alloc: Global,

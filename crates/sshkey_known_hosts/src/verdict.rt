@@ -182,6 +182,14 @@ pub(crate) fn has_lines(text: &str) -> bool
 ///
 /// `HostPatterns::matches` says which entries are for a host at a port. Fails only when out of
 /// memory, and never of a text that is empty or has comments alone.
+///
+/// ```rust
+/// // as in crates/host_keys/src/texts.rt
+/// let mut found = Verdict::Unknown;
+/// for text in texts {
+///     found = found.graver(judge_key(alloc, text, host, port, key, hmac)?);
+/// }
+/// ```
 pub fn judge_key<H: HmacSha1>(
     alloc: Global,
     text: &str,

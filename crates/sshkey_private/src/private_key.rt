@@ -193,6 +193,13 @@ impl PrivateKey {
     /// `decode`, or `Encoding(TrailingData)` with the number of bytes after one that is not
     /// encrypted. Where a stated length exceeds the bytes, it fails with `Memory` only if that
     /// ran out for a value before it.
+    ///
+    /// ```rust
+    /// // as in crates/sshkey_cases/src/privates.rt
+    /// let key = PrivateKey::from_bytes(alloc, bytes)?;
+    /// let line = key.public_key().to_openssh(alloc)?;
+    /// let cipher = key.cipher();
+    /// ```
     pub fn from_bytes(alloc: Global, bytes: &[u8]) -> Result<PrivateKey>
         ensures gives { GivesWhole private_of cause (whole private_value_at)
             (all_of bytes.now) result }

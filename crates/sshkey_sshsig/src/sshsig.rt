@@ -18,6 +18,13 @@ use std::alloc::Global;
 /// The signature is not over the message but over the namespace, the reserved bytes, the hash's
 /// name and the digest of the message, after `SSHSIG`. The namespace is not empty, and the version
 /// is 0 or 1.
+///
+/// ```rust
+/// // as in crates/deploy_keys/src/signer.rt
+/// let signature = SshSig::from_bytes(alloc, signature)?;
+/// let key = entry.public_key();
+/// answer_of(key.verify(alloc, namespace, content, signature, verifier))
+/// ```
 #[derive(Debug, PartialEq, Eq)]
 pub struct SshSig {
     version: u32,

@@ -58,6 +58,11 @@ impl Certificate {
     ///
     /// The comment is all that follows the second word and a space, line ends too: if `is_one_line`
     /// returns false, further lines are part of it, and were not read as certificates.
+    ///
+    /// ```rust
+    /// // as in crates/login_policy/src/login.rt
+    /// let certificate = Certificate::from_openssh(alloc, line)?;
+    /// ```
     pub fn from_openssh(alloc: Global, text: &str) -> Result<Certificate>
         ensures reads { ReadsCertificate text.now result }
         ensures asks { AsksLine name_of_certificate SpellsCertificate certificate_format.needs
