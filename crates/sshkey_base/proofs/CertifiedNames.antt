@@ -115,16 +115,13 @@ other_ascii n is =
     ∙ rw (are_ascii-append l suffix, parts.0, parts.1) refl
 
 pub certified_ascii : (a : Algorithm) → IsCertified a → are_ascii (certificate_name a) ≡ true
-certified_ascii Dsa is = refl
 certified_ascii (Ecdsa Nistp256) is = refl
 certified_ascii (Ecdsa Nistp384) is = refl
 certified_ascii (Ecdsa Nistp521) is = refl
-certified_ascii Ed25519 is = refl
 certified_ascii (Rsa None) is = refl
 certified_ascii (Rsa (Some h)) is = absurd is
-certified_ascii SkEcdsa is = refl
-certified_ascii SkEd25519 is = refl
 certified_ascii (Other n) is = other_ascii n is.0
+certified_ascii _ is = refl
 
 certified_faults : (o : Option Algorithm) (t : List ℕ) (fault : Fault) → named certificate_name certified t ≡ o → certified_from t ≡ Err fault → fault ≡ Label
 certified_faults (Some x) t fault from e = absurd (cc (sym (ap (λ (o : Option Algorithm). certified_or o t) from) ∙ e))
@@ -135,18 +132,15 @@ certified_refusals t fault = certified_faults (named certificate_name certified 
 
 pub certified_short : (a : Algorithm) → IsCertified a → nat_le (length (certificate_name a)) 73 ≡ true
 unfolding is_other_name
-certified_short Dsa is = refl
 certified_short (Ecdsa Nistp256) is = refl
 certified_short (Ecdsa Nistp384) is = refl
 certified_short (Ecdsa Nistp521) is = refl
-certified_short Ed25519 is = refl
 certified_short (Rsa None) is = refl
 certified_short (Rsa (Some h)) is = absurd is
-certified_short SkEcdsa is = refl
-certified_short SkEd25519 is = refl
 certified_short (Other n) is =
     let own = (and_parts (is_own_name n) (is_none (named algorithm_name algorithms n)) is.0).0 in
     le-leb _ _ (omega (arith, certificate_length n own))
+certified_short _ is = refl
 
 -- Bytes that are no text are no name.
 pub no_certificate_name : (t : List ℕ) → (IsUtf8 t → ⊥) → certified_from t ≡ Err Label

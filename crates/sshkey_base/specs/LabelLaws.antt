@@ -44,30 +44,24 @@ other_parts n is =
     and_parts (are_ascii n) (nat_le (length n) 64) own.0
 
 pub algorithm_ascii : (a : Algorithm) → IsAlgorithm a → are_ascii (algorithm_name a) ≡ true
-algorithm_ascii Dsa is = refl
 algorithm_ascii (Ecdsa Nistp256) is = refl
 algorithm_ascii (Ecdsa Nistp384) is = refl
 algorithm_ascii (Ecdsa Nistp521) is = refl
-algorithm_ascii Ed25519 is = refl
 algorithm_ascii (Rsa None) is = refl
 algorithm_ascii (Rsa (Some Sha256)) is = refl
 algorithm_ascii (Rsa (Some Sha512)) is = refl
-algorithm_ascii SkEcdsa is = refl
-algorithm_ascii SkEd25519 is = refl
 algorithm_ascii (Other n) is = (other_parts n is).0
+algorithm_ascii _ is = refl
 
 pub algorithm_short : (a : Algorithm) → IsAlgorithm a → nat_le (length (algorithm_name a)) 73 ≡ true
-algorithm_short Dsa is = refl
 algorithm_short (Ecdsa Nistp256) is = refl
 algorithm_short (Ecdsa Nistp384) is = refl
 algorithm_short (Ecdsa Nistp521) is = refl
-algorithm_short Ed25519 is = refl
 algorithm_short (Rsa None) is = refl
 algorithm_short (Rsa (Some Sha256)) is = refl
 algorithm_short (Rsa (Some Sha512)) is = refl
-algorithm_short SkEcdsa is = refl
-algorithm_short SkEd25519 is = refl
 algorithm_short (Other n) is = le-leb _ _ (omega (arith, leb-true _ _ (other_parts n is).1))
+algorithm_short _ is = refl
 
 algorithm_unknown : (o : Option Algorithm) (t : List ℕ) (fault : Fault) → algorithm_or o t ≡ Err fault → fault ≡ Label
 algorithm_unknown (Some a) t fault e = absurd cc

@@ -38,20 +38,10 @@ is_rsa _ = false
 
 -- a private-use one
 abbrev pub IsPrivateUse : model.Algorithm → Type 0
-IsPrivateUse model.Dsa = ⊥
-IsPrivateUse (model.Ecdsa curve) = ⊥
-IsPrivateUse model.Ed25519 = ⊥
-IsPrivateUse (model.Rsa hash) = ⊥
-IsPrivateUse model.SkEcdsa = ⊥
-IsPrivateUse model.SkEd25519 = ⊥
 IsPrivateUse (model.Other name) = Unit {0}
+IsPrivateUse _ = ⊥
 
 -- no private-use one
 abbrev pub IsFixed : model.Algorithm → Type 0
-IsFixed model.Dsa = Unit {0}
-IsFixed (model.Ecdsa curve) = Unit {0}
-IsFixed model.Ed25519 = Unit {0}
-IsFixed (model.Rsa hash) = Unit {0}
-IsFixed model.SkEcdsa = Unit {0}
-IsFixed model.SkEd25519 = Unit {0}
 IsFixed (model.Other name) = ⊥
+IsFixed _ = Unit {0}

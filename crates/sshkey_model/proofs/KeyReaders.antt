@@ -1,5 +1,5 @@
 -- Public keys are read as they are spelled.
-use Rattle.std.proofs.Common.{◌≡◌, ℕ, Option, None, Some, true, List, Ok, refl, sym, ap, ◌∙◌}
+use Rattle.std.proofs.Common.{◌≡◌, ℕ, Option, Some, true, List, Ok, refl, sym, ap, ◌∙◌}
 use Rattle.sshkey_model.specs.Parts.{◌&◌, HasLength}
 use Rattle.sshkey_model.specs.Reading.{AlgorithmUnknown, ◌>>=◌, string_at}
 use Rattle.sshkey_model.specs.Grammar.{IsSpelled, spelled, Checks}
@@ -104,15 +104,10 @@ body_reads (Algorithm.Other name) = opaque_reads name
 
 -- the name in a head tells it
 pub split_head : (a : Algorithm) (k : Algorithm) → IsAlgorithm a → k ≡ unhashed a → IsAlgorithm k × HasHead k (head_of a) × (a ≡ headed (head_of a) k)
-split_head Algorithm.Dsa k is e = rw e (tt, tt, refl)
-split_head (Algorithm.Ecdsa c) k is e = rw e (tt, tt, refl)
-split_head Algorithm.Ed25519 k is e = rw e (tt, tt, refl)
-split_head (Algorithm.Rsa None) k is e = rw e (tt, tt, refl)
 split_head (Algorithm.Rsa (Some Sha256)) k is e = rw e (tt, refl, refl)
 split_head (Algorithm.Rsa (Some Sha512)) k is e = rw e (tt, refl, refl)
-split_head Algorithm.SkEcdsa k is e = rw e (tt, tt, refl)
-split_head Algorithm.SkEd25519 k is e = rw e (tt, tt, refl)
 split_head (Algorithm.Other n) k is e = rw e (is, tt, refl)
+split_head _ k is e = rw e (tt, tt, refl)
 
 pub join_head : (k : Key) (h : Head) → IsAlgorithm (key_algorithm k) → HasHead (key_algorithm k) h → IsAlgorithm (headed h (key_algorithm k)) × (key_algorithm k ≡ unhashed (headed h (key_algorithm k))) × (head_of (headed h (key_algorithm k)) ≡ h)
 join_head k Head256 is place = (tt, place, refl)

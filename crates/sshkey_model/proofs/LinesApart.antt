@@ -8,7 +8,7 @@ use Rattle.sshkey_model.specs.Reading.{Fault}
 use Rattle.sshkey_model.specs.Texts.{string}
 use Rattle.sshkey_model.specs.Names.{Nistp256, Nistp384, Nistp521, Algorithm, named, cut}
 use Rattle.sshkey_model.specs.CertificateNames.{certified_from}
-use Rattle.sshkey_model.specs.Keys.{Key, Dsa, Ecdsa, Ed25519, Rsa, SkEcdsa, SkEd25519, Opaque, Head, Plain, Head256, Head512, HasKeyPlaces, key, key_algorithm}
+use Rattle.sshkey_model.specs.Keys.{Key, Ecdsa, Opaque, Head, Plain, Head256, Head512, HasKeyPlaces, key, key_algorithm}
 use Rattle.sshkey_model.specs.Signatures.{signature}
 use Rattle.sshkey_model.specs.Certificates.{Certificate, CertificateChoices, certificate}
 use Rattle.sshkey_model.specs.Lines.{key_name, name_of_certificate, LinesAreApart}
@@ -37,17 +37,13 @@ found a = Ok a
 -- the name of a key that is not opaque is none of a certificate
 other_name : (k : Key) (a : Algorithm) (h : Head) (c : Certificate) (s : CertificateChoices) → HasKeyPlaces k h → Fits (key k h) → Fits (certificate c s) → certified_from (key_name k) ≡ found a → flat (key k h) ≡ flat (certificate c s) → ⊥
 unfolding named cut
-other_name (Dsa k) a h c s has f g e same = cc e
 other_name (Ecdsa Nistp256 p) a h c s has f g e same = cc e
 other_name (Ecdsa Nistp384 p) a h c s has f g e same = cc e
 other_name (Ecdsa Nistp521 p) a h c s has f g e same = cc e
-other_name (Ed25519 k) a h c s has f g e same = cc e
-other_name (Rsa k) a h c s has f g e same = cc e
-other_name (SkEcdsa k) a h c s has f g e same = cc e
-other_name (SkEd25519 k) a h c s has f g e same = cc e
 other_name (Opaque n k) a Plain c s has f g e same = two_strings n k _ c.signed.nonce _ (signature c.signature) f g same
 other_name (Opaque n k) a Head256 c s has f g e same = cc has
 other_name (Opaque n k) a Head512 c s has f g e same = cc has
+other_name _ a h c s has f g e same = cc e
 
 pub lines_apart : LinesAreApart
 lines_apart text m n k c a b =

@@ -14,17 +14,14 @@ short_other n is =
     omega arith
 
 short_name : (a : Algorithm) → IsAlgorithm a → length (algorithm_name a) < 2 ^ 32
-short_name Algorithm.Dsa is = omega arith
 short_name (Algorithm.Ecdsa Nistp256) is = omega arith
 short_name (Algorithm.Ecdsa Nistp384) is = omega arith
 short_name (Algorithm.Ecdsa Nistp521) is = omega arith
-short_name Algorithm.Ed25519 is = omega arith
 short_name (Algorithm.Rsa None) is = omega arith
 short_name (Algorithm.Rsa (Some Sha256)) is = omega arith
 short_name (Algorithm.Rsa (Some Sha512)) is = omega arith
-short_name Algorithm.SkEcdsa is = omega arith
-short_name Algorithm.SkEd25519 is = omega arith
 short_name (Algorithm.Other n) is = short_other n is
+short_name _ is = omega arith
 
 pub normal_boxes : (k : Key) (h : Head) → IsAlgorithm (key_algorithm k) → BoxesFit (key k h) → BoxesFit (normal_key k)
 unfolding BoxesFit flat

@@ -31,14 +31,9 @@ certified = Dsa ∷ Ecdsa Nistp256 ∷ Ecdsa Nistp384 ∷ Ecdsa Nistp521 ∷ Ed2
 -- A certificate's own key has an algorithm without a hash; a private-use name is one of the fixed
 -- ones in neither form.
 abbrev pub IsCertified : Algorithm → Type 0
-IsCertified Dsa = Unit {0}
-IsCertified (Ecdsa c) = Unit {0}
-IsCertified Ed25519 = Unit {0}
-IsCertified (Rsa None) = Unit {0}
 IsCertified (Rsa (Some h)) = ⊥
-IsCertified SkEcdsa = Unit {0}
-IsCertified SkEd25519 = Unit {0}
 IsCertified (Other n) = (is_other_name n ≡ true) × (named certificate_name certified (certificate_name (Other n)) ≡ None)
+IsCertified _ = Unit {0}
 
 abbrev pub certificate_algorithm : Algorithm → Parts
 certificate_algorithm a = string (certificate_name a)

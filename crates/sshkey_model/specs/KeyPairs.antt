@@ -118,23 +118,13 @@ abbrev pub IsPairBody : KeyPair → Type 0
 IsPairBody k = IsBody (public_half k) × IsPrivateHalf k
 
 abbrev pub HasPairPlaces : KeyPair → LeadingZeros → Type 0
-HasPairPlaces (DsaPair k x) zeros = zeros ≡ Plain
 HasPairPlaces (EcdsaPair c point s) zeros = HasScalarPlaces s zeros
-HasPairPlaces (Ed25519Pair public private) zeros = zeros ≡ Plain
-HasPairPlaces (RsaPair k r) zeros = zeros ≡ Plain
-HasPairPlaces (SkEcdsaPair k r) zeros = zeros ≡ Plain
-HasPairPlaces (SkEd25519Pair k r) zeros = zeros ≡ Plain
-HasPairPlaces (OpaquePair name public private) zeros = zeros ≡ Plain
+HasPairPlaces _ zeros = zeros ≡ Plain
 
 -- a pair of ECDSA, of whichever curve
 abbrev pub IsEcdsaPair : KeyPair → Type 0
-IsEcdsaPair (DsaPair k x) = ⊥
 IsEcdsaPair (EcdsaPair c point s) = IsPairBody (EcdsaPair c point s)
-IsEcdsaPair (Ed25519Pair public private) = ⊥
-IsEcdsaPair (RsaPair k r) = ⊥
-IsEcdsaPair (SkEcdsaPair k r) = ⊥
-IsEcdsaPair (SkEd25519Pair k r) = ⊥
-IsEcdsaPair (OpaquePair name public private) = ⊥
+IsEcdsaPair _ = ⊥
 
 -- a pair read under an algorithm, with or without a hash
 abbrev pub IsPairUnder : Algorithm → KeyPair → Type 0

@@ -90,26 +90,16 @@ normal_key k = key k Plain
 -- ---- a body read under an algorithm, with or without a hash
 
 abbrev pub unhashed : Algorithm → Algorithm
-unhashed Algorithm.Dsa = Algorithm.Dsa
-unhashed (Algorithm.Ecdsa c) = Algorithm.Ecdsa c
-unhashed Algorithm.Ed25519 = Algorithm.Ed25519
 unhashed (Algorithm.Rsa hash) = Algorithm.Rsa None
-unhashed Algorithm.SkEcdsa = Algorithm.SkEcdsa
-unhashed Algorithm.SkEd25519 = Algorithm.SkEd25519
-unhashed (Algorithm.Other name) = Algorithm.Other name
+unhashed a = a
 
 abbrev pub IsBodyUnder : Algorithm → Key → Type 0
 IsBodyUnder a k = (key_algorithm k ≡ unhashed a) × IsBody k
 
 -- an ECDSA key of any curve
 abbrev pub IsEcdsa : Key → Type 0
-IsEcdsa (Dsa k) = ⊥
 IsEcdsa (Ecdsa c point) = IsPoint c point
-IsEcdsa (Ed25519 k) = ⊥
-IsEcdsa (Rsa k) = ⊥
-IsEcdsa (SkEcdsa k) = ⊥
-IsEcdsa (SkEd25519 k) = ⊥
-IsEcdsa (Opaque name k) = ⊥
+IsEcdsa _ = ⊥
 
 -- ---- reading
 
@@ -130,13 +120,8 @@ any_ecdsa_at b = do
   Ok (Ecdsa on.0 on.1, point.1)
 
 abbrev pub has_curve : Curve → Key → Bool
-has_curve wanted (Dsa k) = false
 has_curve wanted (Ecdsa c point) = curve_eq c wanted
-has_curve wanted (Ed25519 k) = false
-has_curve wanted (Rsa k) = false
-has_curve wanted (SkEcdsa k) = false
-has_curve wanted (SkEd25519 k) = false
-has_curve wanted (Opaque name k) = false
+has_curve wanted _ = false
 
 -- what was read, if its key has that curve
 abbrev pub wanted_curve : {A : Type 0} → (A → Key) → Curve → A → Result A Fault
@@ -183,15 +168,9 @@ body_at Algorithm.SkEd25519 b = sk_ed25519_at b
 body_at (Algorithm.Other name) b = string_at b >>= λ k. Ok (Opaque name k.0, k.1)
 
 abbrev pub head_of : Algorithm → Head
-head_of Algorithm.Dsa = Plain
-head_of (Algorithm.Ecdsa c) = Plain
-head_of Algorithm.Ed25519 = Plain
-head_of (Algorithm.Rsa None) = Plain
 head_of (Algorithm.Rsa (Some Sha256)) = Head256
 head_of (Algorithm.Rsa (Some Sha512)) = Head512
-head_of Algorithm.SkEcdsa = Plain
-head_of Algorithm.SkEd25519 = Plain
-head_of (Algorithm.Other name) = Plain
+head_of _ = Plain
 
 unfoldable pub key_at : Front (Key × Head)
 key_at b = do

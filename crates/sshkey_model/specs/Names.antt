@@ -103,13 +103,8 @@ unfoldable pub is_other_name : List ℕ → Bool
 is_other_name n = is_own_name n && is_none (named algorithm_name algorithms n)
 
 abbrev pub IsAlgorithm : Algorithm → Type 0
-IsAlgorithm Dsa = Unit {0}
-IsAlgorithm (Ecdsa c) = Unit {0}
-IsAlgorithm Ed25519 = Unit {0}
-IsAlgorithm (Rsa hash) = Unit {0}
-IsAlgorithm SkEcdsa = Unit {0}
-IsAlgorithm SkEd25519 = Unit {0}
 IsAlgorithm (Other n) = is_other_name n ≡ true
+IsAlgorithm _ = Unit {0}
 
 -- ---- reading
 

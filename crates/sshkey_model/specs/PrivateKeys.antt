@@ -117,19 +117,13 @@ dsa_eq k l = bytes_eq k.p l.p && bytes_eq k.q l.q && bytes_eq k.g l.g && bytes_e
 
 abbrev pub key_eq : Key → Key → Bool
 key_eq (Dsa k) (Dsa l) = dsa_eq k l
-key_eq (Dsa k) _ = false
 key_eq (Ecdsa c p) (Ecdsa d q) = curve_eq c d && bytes_eq p q
-key_eq (Ecdsa c p) _ = false
 key_eq (Ed25519 k) (Ed25519 l) = bytes_eq k l
-key_eq (Ed25519 k) _ = false
 key_eq (Rsa k) (Rsa l) = bytes_eq k.e l.e && bytes_eq k.n l.n
-key_eq (Rsa k) _ = false
 key_eq (SkEcdsa k) (SkEcdsa l) = bytes_eq k.key l.key && bytes_eq k.application l.application
-key_eq (SkEcdsa k) _ = false
 key_eq (SkEd25519 k) (SkEd25519 l) = bytes_eq k.key l.key && bytes_eq k.application l.application
-key_eq (SkEd25519 k) _ = false
 key_eq (Opaque n k) (Opaque m l) = bytes_eq n m && bytes_eq k l
-key_eq (Opaque n k) _ = false
+key_eq _ _ = false
 
 -- the checkint again
 abbrev pub same_checkint : ℕ → ℕ → Result ℕ Fault

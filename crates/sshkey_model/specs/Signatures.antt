@@ -41,13 +41,9 @@ trailer blob = drop (length blob - 5) blob
 
 -- These five bytes stand behind the string.
 abbrev pub signature_blob : Algorithm → List ℕ → Parts
-signature_blob Algorithm.Dsa blob = string blob
-signature_blob (Algorithm.Ecdsa c) blob = string blob
-signature_blob Algorithm.Ed25519 blob = string blob
-signature_blob (Algorithm.Rsa hash) blob = string blob
 signature_blob Algorithm.SkEcdsa blob = string (without_trailer blob) & bytes (trailer blob)
 signature_blob Algorithm.SkEd25519 blob = string (without_trailer blob) & bytes (trailer blob)
-signature_blob (Algorithm.Other name) blob = string blob
+signature_blob _ blob = string blob
 
 abbrev pub signature : Signature → Parts
 signature g = algorithm g.algorithm & signature_blob g.algorithm g.blob
