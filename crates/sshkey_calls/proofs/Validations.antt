@@ -1,7 +1,6 @@
 -- Whether a certificate is valid, given what the caller's verification said.
 use Rattle.std.proofs.Common.{◌≡◌, ◌≢◌, ◌↔◌, ℕ, List, [], ◌∷◌, Bool, true, false, ◌||◌, Option, Some, None, refl, sym, ap, subst, ◌∙◌, arith, bytes_eq}
 use Rattle.std.specs.List.{list_any}
-use Rattle.std.proofs.lemmas.Slice.Eq.{bytes_eq-Decides}
 use Rattle.sshkey_model.specs.Keys.{Dsa, Ecdsa, Ed25519, Head, Key, Plain, Rsa, SkEcdsa, SkEd25519, key}
 use Rattle.sshkey_model.specs.Names.{Algorithm, Sha256}
 use Rattle.sshkey_model.specs.Parts.{flat}
@@ -10,8 +9,7 @@ use Rattle.sshkey_model.specs.Signatures.{Signature}
 use Rattle.sshkey_model.specs.Certificates.{Certificate}
 use Rattle.sshkey_model.specs.Fingerprints.{Fingerprint, same_fingerprint}
 use Rattle.sshkey_model.specs.Principals.{IsValidFor}
-use Rattle.sshkey_model.specs.Refusals.{Refusal, NotSigned, UntrustedAuthority, InvalidTime, OutOfWindow, UnlistedPrincipal, allows, first_refusal, first_refusal_for, has_trusted_authority, is_signed, is_within, or_else, unless}
-use Rattle.sshkey_model.specs.Certificates.{is_time}
+use Rattle.sshkey_model.specs.Refusals.{Refusal, NotSigned, UnlistedPrincipal, allows, first_refusal, first_refusal_for, has_trusted_authority, is_signed, or_else, refusal_of_authority_or_time, unless}
 use Rattle.sshkey_model.specs.Validity.{IsValid}
 use Rattle.sshkey_model.specs.Verification.{Question, question, question_under}
 use Rattle.sshkey_model.specs.Verification as model
@@ -20,13 +18,11 @@ use Rattle.sshkey_model.proofs.Refusals.{none_where_valid, none_where_wanted}
 use Rattle.sshkey_base.specs.Reading.{NoSpelling}
 use Rattle.sshkey_cert.specs.CertificateReaders.{SpellsCertificate, certificate_grammar}
 use Rattle.sshkey_cert.specs.Questions.{certificate_question}
-use Rattle.sshkey_cert.specs.Validity.{fingerprints_of, refusal_of_authority_or_time}
 use Rattle.sshkey_cert_ref.specs.CertificateRef.{certificate_bytes, certificate_of, choices_of}
 use Rattle.sshkey_cert_ref.specs.declared.certificate_ref.CertificateRef.{CertificateRef}
 use Rattle.sshkey_cert_ref.proofs.Certificates.{spelled_by}
-use Rattle.sshkey_fingerprints.specs.Fingerprints.{digest_of, fingerprint_hash}
+use Rattle.sshkey_fingerprints.specs.Fingerprints.{digest_of}
 use Rattle.sshkey_fingerprints.specs.declared.fingerprint.Fingerprint as code
-use Rattle.sshkey_fingerprints.specs.declared.fingerprint.Fingerprint.TheVariants as kinds
 use Rattle.sshkey_keys.specs.Fingerprints.{IsFingerprint}
 use Rattle.sshkey_keys.specs.Keys.{SpellsKey}
 use Rattle.sshkey_keys_ref.specs.NormalBytes.{IsRenamed}
@@ -49,7 +45,7 @@ module _ (accepts : Question → Bool) (bytes : List ℕ) (is_verified : ℕ) (v
   same_signed = same_answer (certificate_question c) refl
 
   pub same_first : (authorities : List Fingerprint) (t : ℕ) → first_refusal (λ _. is_yes is_verified) authorities t c ≡ first_refusal accepts authorities t c
-  same_first authorities t = ap (λ (b : Bool). unless b NotSigned (unless (has_trusted_authority authorities c) UntrustedAuthority (unless (is_time t) InvalidTime (unless (is_within t c) OutOfWindow None)))) same_signed
+  same_first authorities t = ap (λ (b : Bool). unless b NotSigned (refusal_of_authority_or_time (has_trusted_authority authorities c) (c.signed.valid_after, c.signed.valid_before) t)) same_signed
 
   pub same_first_for : (authorities : List Fingerprint) (t : ℕ) (wanted : List ℕ) → first_refusal_for (λ _. is_yes is_verified) authorities t wanted c ≡ first_refusal_for accepts authorities t wanted c
   same_first_for authorities t wanted = ap (λ (r : Option Refusal). or_else r (unless (allows c.signed.valid_principals wanted) UnlistedPrincipal None)) (same_first authorities t)
@@ -150,24 +146,13 @@ listed_is : (digest : List ℕ) (given : List Sha256Digest) → list_any (λ d. 
 listed_is digest [] = refl
 listed_is digest (d ∷ given) = ap (λ (b : Bool). bytes_eq digest d.bytes || b) (listed_is digest given)
 
--- a fingerprint is one of itself
-own : (f : code.Fingerprint) → fingerprint_hash f ≡ Sha256 → list_any (same_fingerprint (record { hash = Sha256; digest = digest_of f })) (fingerprints_of (f ∷ [])) ≡ true
-own (kinds.Sha256 d) e = rw ((bytes_eq-Decides d d).1 refl) refl
-own (kinds.Sha512 d) e = cc e
+module _ (b : Bool) (given : List Sha256Digest) (t : ℕ) (c : Certificate) (f : code.Fingerprint) (is : IsFingerprint Sha256 c.signed.signature_key f) where
+  trusted_is : list_any (λ d. bytes_eq (digest_of f) d.bytes) given ≡ has_trusted_authority (authorities_of given) c
+  trusted_is = rw is.digest (listed_is _ given)
 
-module _ (b : Bool) (given : List Sha256Digest) (t : ℕ) (c : Certificate) where
-  after_authority : Option Refusal
-  after_authority = unless (is_time t) InvalidTime (unless (is_within t c) OutOfWindow None)
-
-  module _ (f : code.Fingerprint) (is : IsFingerprint Sha256 c.signed.signature_key f) (signed : is_signed (λ _. b) c ≡ true) where
-    trusted_is : list_any (λ d. bytes_eq (digest_of f) d.bytes) given ≡ has_trusted_authority (authorities_of given) c
-    trusted_is = rw is.digest (listed_is _ given)
-
-    pub first_untrusted : list_any (λ d. bytes_eq (digest_of f) d.bytes) given ≡ false → Some UntrustedAuthority ≡ first_refusal (λ _. b) (authorities_of given) t c
-    first_untrusted none = rw (signed, sym trusted_is ∙ none) refl
-
-    pub first_trusted : list_any (λ d. bytes_eq (digest_of f) d.bytes) given ≡ true → refusal_of_authority_or_time (digest_of f) (c.signed.valid_after, c.signed.valid_before) (f ∷ []) t ≡ first_refusal (λ _. b) (authorities_of given) t c
-    first_trusted some = rw (own f is.by, signed, sym trusted_is ∙ some) refl
+  -- what is wrong first behind the signature
+  pub first_signed : is_signed (λ _. b) c ≡ true → (is_trusted : Bool) → is_trusted ≡ list_any (λ d. bytes_eq (digest_of f) d.bytes) given → refusal_of_authority_or_time is_trusted (c.signed.valid_after, c.signed.valid_before) t ≡ first_refusal (λ _. b) (authorities_of given) t c
+  first_signed signed is_trusted same = rw (signed, same, trusted_is) refl
 
 -- ---- memory
 

@@ -195,11 +195,9 @@ fn first_refusal(
     }
     let key = certificate.signature_key_ref();
     let authority = key.fingerprint(alloc, HashAlg::Sha256)?;
-    if !contains_digest(authorities, authority.as_bytes()) {
-        return Ok(Some(CertificateRefusal::Authority));
-    }
+    let is_trusted = contains_digest(authorities, authority.as_bytes());
     let window = (certificate.valid_after(), certificate.valid_before());
-    Ok(refusal_of_authority_or_time(authority.as_bytes(), window, &[authority], unix_timestamp))
+    Ok(refusal_of_authority_or_time(is_trusted, window, unix_timestamp))
 }
 
 /// Whether the certificate raises a question, and the verification said yes to it.

@@ -15,6 +15,11 @@ pub record IsAsked (q : Question) : Type 0 where
   pub form : IsSignatureBlob signature.algorithm signature.blob
   pub is : question key message signature ≡ Some q
 
+-- Something is asked of which a verifier may run out of memory.
+abbrev pub RunsOut : (Question → Type 0) → Option Question → Type 0
+RunsOut runs_out None = ⊥
+RunsOut runs_out (Some q) = runs_out q
+
 -- Where something is asked, memory was refused only by the verifier.
 abbrev pub AsksVerifier : {X : Type 0} → (Question → Type 0) → Option Question → Result X Error → Type 0
 AsksVerifier runs_out None result = Unit {0}

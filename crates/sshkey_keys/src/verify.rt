@@ -1,10 +1,10 @@
 //! How a signature is verified: by what the caller's verifier says to one question.
 
-ghost use Rattle.std.specs.Prelude.{◌≡◌};
-ghost use Rattle.sshkey_model.specs.Verification.{IsAccepted, question};
+ghost use Rattle.std.specs.Prelude.{◌≡◌, IfErr, IfOk};
+ghost use Rattle.sshkey_model.specs.Verification.{IsAccepted, is_yes, question};
 ghost use Rattle.sshkey_base.specs.Acceptance.{AcceptsExactly};
 ghost use Rattle.sshkey_base.specs.Names.{IsFixed, algorithm_of};
-ghost use Rattle.sshkey_keys.specs.Asked.{AsksVerifier};
+ghost use Rattle.sshkey_keys.specs.Asked.{AsksVerifier, RunsOut};
 ghost use Rattle.sshkey_keys.specs.Keys.{key_of};
 ghost use Rattle.sshkey_keys.specs.Signatures.{signature_of};
 ghost use Rattle.sshkey_keys.specs.Verdicts.{IsUnsupported, NamesFixed, Verifies, unsupported_of, verdict};
@@ -13,7 +13,7 @@ use crate::key_data::KeyData;
 use crate::raw_verifier::RawVerifier;
 use crate::signature::Signature;
 use sshkey_base::{Algorithm, Error, Result};
-use std::alloc::Global;
+use std::alloc::{AllocError, Global};
 
 impl KeyData {
     /// Verifies a signature of the message under this key by what the verifier answers to the one
@@ -57,6 +57,28 @@ impl KeyData {
             return Err(Error::Crypto);
         }
         Ok(())
+    }
+
+    /// Whether the verifier is called for the question that `question` returns, and returns true:
+    /// exactly where `verify` is `Ok`, unless memory runs out. Does not allocate.
+    ///
+    /// Fails only if the verifier runs out of memory.
+    pub fn accepts<V: RawVerifier>(
+        &self,
+        message: &[u8],
+        signature: &Signature,
+        verifier: &V,
+    ) -> std::result::Result<bool, AllocError>
+        ensures answer { IfOk result (λ yes. yes ≡ is_yes (V.accepts verifier.now)
+            (question (key_of self.now) message.now (signature_of signature.now))) }
+        ensures memory { IfErr result (λ _. RunsOut (V.runs_out verifier.now)
+            (question (key_of self.now) message.now (signature_of signature.now))) }
+    {
+        let Some(question) = self.question(message, signature) else {
+            return Ok(false);
+        };
+        let (algorithm, key) = (question.algorithm(), question.key());
+        verifier.verify(algorithm, key, question.message(), question.signature())
     }
 
     /// The algorithm that is named where nothing is asked.

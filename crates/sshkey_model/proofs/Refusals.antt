@@ -86,7 +86,7 @@ module _ (accepts : Question → Bool) (fingerprints : List Fingerprint) (t : �
       let signed = passed (is_signed accepts c) NotSigned _ e in
       let given = passed (has_trusted_authority fingerprints c) UntrustedAuthority _ signed.1 in
       let time = passed (is_time t) InvalidTime _ given.1 in
-      let within = passed (is_within t c) OutOfWindow _ time.1 in
+      let within = passed (is_within (c.signed.valid_after, c.signed.valid_before) t) OutOfWindow _ time.1 in
       let both = and_parts (nat_le c.signed.valid_after t) (nat_lt t c.signed.valid_before) within.0 in
       record { signature = signed.0; authority = contained same_fingerprint fingerprints_decided _ _ given.0; time = ltb-true _ _ time.0; after = leb-true _ _ both.0; before = ltb-true _ _ both.1 }
 
@@ -95,7 +95,7 @@ module _ (accepts : Question → Bool) (fingerprints : List Fingerprint) (t : �
       passes (is_signed accepts c) NotSigned _ v.signature
       (passes (has_trusted_authority fingerprints c) UntrustedAuthority _ (found same_fingerprint fingerprints_decided _ _ v.authority)
       (passes (is_time t) InvalidTime _ (lt-ltb _ _ v.time)
-      (passes (is_within t c) OutOfWindow _ (and_from _ _ (le-leb _ _ v.after) (lt-ltb _ _ v.before)) refl)))
+      (passes (is_within (c.signed.valid_after, c.signed.valid_before) t) OutOfWindow _ (and_from _ _ (le-leb _ _ v.after) (lt-ltb _ _ v.before)) refl)))
 
   pub none_where_valid : (first_refusal accepts fingerprints t c ≡ None) ↔ IsValid accepts fingerprints t c
   none_where_valid = (valid_from, none_from)

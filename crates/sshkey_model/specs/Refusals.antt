@@ -18,8 +18,9 @@ is_signed accepts c = is_yes accepts (question c.signed.signature_key (flat (nor
 abbrev pub has_trusted_authority : List Fingerprint → Certificate → Bool
 has_trusted_authority fingerprints c = list_any (same_fingerprint (fingerprint Sha256 c.signed.signature_key)) fingerprints
 
-abbrev pub is_within : ℕ → Certificate → Bool
-is_within t c = nat_le c.signed.valid_after t && nat_lt t c.signed.valid_before
+-- from the first time of a window on, and before the second
+abbrev pub is_within : ℕ × ℕ → ℕ → Bool
+is_within window t = nat_le window.0 t && nat_lt t window.1
 
 abbrev pub allows : List (List ℕ) → List ℕ → Bool
 allows [] wanted = true
@@ -30,12 +31,17 @@ abbrev pub unless : Bool → Refusal → Option Refusal → Option Refusal
 unless true refusal next = next
 unless false refusal next = Some refusal
 
+-- what is wrong first behind the signature, where the window is that
+abbrev pub refusal_of_authority_or_time : Bool → ℕ × ℕ → ℕ → Option Refusal
+refusal_of_authority_or_time is_trusted window t =
+    unless is_trusted UntrustedAuthority
+    (unless (is_time t) InvalidTime
+    (unless (is_within window t) OutOfWindow None))
+
 abbrev pub first_refusal : (Question → Bool) → List Fingerprint → ℕ → Certificate → Option Refusal
 first_refusal accepts fingerprints t c =
     unless (is_signed accepts c) NotSigned
-    (unless (has_trusted_authority fingerprints c) UntrustedAuthority
-    (unless (is_time t) InvalidTime
-    (unless (is_within t c) OutOfWindow None)))
+    (refusal_of_authority_or_time (has_trusted_authority fingerprints c) (c.signed.valid_after, c.signed.valid_before) t)
 
 -- the first refusal, if there is one, else the next
 abbrev pub or_else : Option Refusal → Option Refusal → Option Refusal

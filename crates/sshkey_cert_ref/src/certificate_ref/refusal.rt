@@ -7,7 +7,9 @@ ghost use Rattle.sshkey_cert_ref.specs.CertificateRef.{NeedsAnswer, certificate_
 
 use super::CertificateRef;
 use sshkey_base::Result;
-use sshkey_cert::{CertificateRefusal, refusal_of_authority_or_time, refusal_with_principal};
+use sshkey_cert::{
+    CertificateRefusal, contains_digest, refusal_of_authority_or_time, refusal_with_principal,
+};
 use sshkey_fingerprints::Fingerprint;
 use sshkey_keys::RawVerifier;
 use std::alloc::Global;
@@ -31,8 +33,9 @@ impl CertificateRef<'_> {
             return Ok(Some(CertificateRefusal::Signature));
         }
         let authority = self.authority(alloc)?;
+        let is_trusted = contains_digest(fingerprints, authority.as_bytes());
         let window = (self.valid_after(), self.valid_before());
-        Ok(refusal_of_authority_or_time(authority.as_bytes(), window, fingerprints, unix_timestamp))
+        Ok(refusal_of_authority_or_time(is_trusted, window, unix_timestamp))
     }
 
     /// As `first_refusal`, and last `Principal` if the certificate does not allow the principal:
