@@ -1,10 +1,10 @@
 -- The fields before the signature: the name, the nonce and the key, and what stands behind them.
 use Rattle.std.proofs.Common.{◌≡◌, ℕ, List, Ok}
 use Rattle.sshkey_model.specs.Reading.{◌>>=◌, Front}
-use Rattle.sshkey_model.specs.Certificates.{SignedFields, CertificateChoices, signed_fields_at}
+use Rattle.sshkey_model.specs.Certificates.{SignedFields, CertificateChoices, signed_fields_at, type_at, time_at, end_at}
 use Rattle.sshkey_model.proofs.CombinedReaders.{bind_assoc}
 use Rattle.sshkey_terms.specs.Behind.{behind_at}
-use Rattle.sshkey_cert_fields.specs.ToBeSignedReaders.{subject_at}
+use Rattle.sshkey_cert_fields.specs.ToBeSignedFormats.{subject_at}
 use Rattle.sshkey_cert_ref.specs.Fields.{behind_key_format}
 
 unfoldable pub fields_at : Front (SignedFields × CertificateChoices)
@@ -20,5 +20,5 @@ fields_at b = do
   )
 
 pub fields_are : (b : List ℕ) → fields_at b ≡ signed_fields_at b
-unfolding fields_at subject_at behind_at signed_fields_at
+unfolding fields_at subject_at behind_at signed_fields_at type_at time_at end_at
 fields_are b = simp bind_assoc

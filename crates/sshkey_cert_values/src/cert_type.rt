@@ -74,7 +74,7 @@ impl TryFrom<u32> for CertType {
 }
 
 /// Four bytes, 1 or 2. Fails with `FormatEncoding` for any other number. Does not allocate.
-#[tactic(auto, using(sshkey_base::proofs::Steps::steps, sshkey_base::proofs::Judging::judged, sshkey_base::proofs::Stopping::stopping), unfolding(sshkey_model::specs::Certificates::type_at))]
+#[tactic(auto, using(sshkey_base::proofs::Steps::steps, sshkey_base::proofs::Judging::judged, sshkey_base::proofs::Stopping::stopping))]
 impl Decode for CertType {
     type Error = Error;
 

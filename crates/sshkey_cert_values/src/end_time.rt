@@ -76,7 +76,7 @@ impl From<UnixTime> for EndTime {
 
 /// Eight bytes, most significant first. Fails with `Time` above 2^63 - 1, but for `FOREVER`. Does
 /// not allocate.
-#[tactic(auto, using(sshkey_base::proofs::Steps::steps, sshkey_base::proofs::Judging::judged, sshkey_base::proofs::Stopping::stopping), unfolding(sshkey_model::specs::Certificates::end_at))]
+#[tactic(auto, using(sshkey_base::proofs::Steps::steps, sshkey_base::proofs::Judging::judged, sshkey_base::proofs::Stopping::stopping))]
 impl Decode for EndTime {
     ghost use Rattle.sshkey_cert_values.specs.Times.{end_of};
 

@@ -59,7 +59,7 @@ impl From<UnixTime> for u64 {
 }
 
 /// Eight bytes, most significant first. Fails with `Time` above 2^63 - 1. Does not allocate.
-#[tactic(auto, using(sshkey_base::proofs::Steps::steps, sshkey_base::proofs::Judging::judged, sshkey_base::proofs::Stopping::stopping), unfolding(sshkey_model::specs::Certificates::time_at))]
+#[tactic(auto, using(sshkey_base::proofs::Steps::steps, sshkey_base::proofs::Judging::judged, sshkey_base::proofs::Stopping::stopping))]
 impl Decode for UnixTime {
     ghost use Rattle.sshkey_cert_values.specs.Times.{time_of};
 

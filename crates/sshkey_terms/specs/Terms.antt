@@ -91,6 +91,10 @@ literal_format text = record {
 pub record IsMapped {Y Z : Type 0} (record_at : Front Z) (form : Y → Result Z Fault) (read : Front Y) : Type 0 where
   pub same : (b : List ℕ) → record_at b ≡ checked_at form read b
 
+-- where that reader is the test behind it
+pub checked_read : {A B : Type 0} (test : A → Result B Fault) (read : Front A) → IsMapped (checked_at test read) test read
+checked_read test read = record { same = λ b. refl }
+
 pub mapped_lengths : {Y Z : Type 0} {record_at : Front Z} {form : Y → Result Z Fault} {read : Front Y} {overruns : List ℕ → ℕ → Type 0} → IsMapped record_at form read → AreLengths read overruns → AreLengths record_at overruns
 mapped_lengths m h b n o = rw (m.same b, h b n o) refl
 
