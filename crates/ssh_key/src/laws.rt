@@ -26,10 +26,11 @@ ghost use Rattle.sshkey_model.specs.Parts.{Any, number};
 ghost use Rattle.sshkey_model.specs.Points.{IsPointOf, point_at};
 ghost use Rattle.sshkey_model.specs.PrivateKeys.{IsPrivateKey, normal_private_key, private_key_at};
 ghost use Rattle.sshkey_model.specs.Signatures.{IsSignature, signature, signature_at};
-ghost use Rattle.sshkey_model.specs.SshSignatures.{IsSshSignature, normal_ssh_signature, ssh_signature_at};
+ghost use Rattle.sshkey_model.specs.SshSignatures.{IsSshSignature, normal_ssh_signature};
 ghost use Rattle.sshkey_model.specs.Texts.{IsText, string, text_at, texts, texts_at};
 ghost use Rattle.sshkey_keys.specs.Keys.{SpellsKey};
 ghost use Rattle.sshkey_cert.specs.CertificateReaders.{SpellsCertificate};
+ghost use Rattle.sshkey_sshsig.specs.SshSignatureReaders.{ssh_signature_value_at};
 
 pub use sshkey_authorized_keys::laws::equal_authorized_keys;
 pub use sshkey_authorized_keys::laws::equal_config_opts;
@@ -104,7 +105,6 @@ pub use sshkey_model::laws::normal_names;
 pub use sshkey_model::laws::normal_options;
 pub use sshkey_model::laws::normal_points;
 pub use sshkey_model::laws::normal_signatures;
-pub use sshkey_model::laws::normal_ssh_signatures;
 pub use sshkey_model::laws::normal_texts;
 pub use sshkey_model::laws::options_fit;
 pub use sshkey_model::laws::prefix_body;
@@ -118,7 +118,6 @@ pub use sshkey_model::laws::prefix_name;
 pub use sshkey_model::laws::prefix_options;
 pub use sshkey_model::laws::prefix_point;
 pub use sshkey_model::laws::prefix_signature;
-pub use sshkey_model::laws::prefix_ssh_signature;
 pub use sshkey_model::laws::prefix_text;
 pub use sshkey_model::laws::prefix_texts;
 pub use sshkey_model::laws::private::decode_private_key;
@@ -141,7 +140,6 @@ pub use sshkey_model::laws::read_back_certificate;
 pub use sshkey_model::laws::read_back_key;
 pub use sshkey_model::laws::read_back_options;
 pub use sshkey_model::laws::read_back_signature;
-pub use sshkey_model::laws::read_back_ssh_signature;
 pub use sshkey_model::laws::readers;
 pub use sshkey_model::laws::signed_fields;
 pub use sshkey_model::laws::signed_fields_fit;
@@ -168,8 +166,13 @@ pub use sshkey_private::laws::prefix_padded_private_key;
 pub use sshkey_public::laws::compared_public_keys;
 pub use sshkey_sshsig::laws::compared_ssh_signatures;
 pub use sshkey_sshsig::laws::digest_parts_fit;
+pub use sshkey_sshsig::laws::exact_ssh_signature;
+pub use sshkey_sshsig::laws::normal_ssh_signatures;
 pub use sshkey_sshsig::laws::one_ssh_signature;
+pub use sshkey_sshsig::laws::prefix_ssh_signature;
+pub use sshkey_sshsig::laws::read_back_ssh_signature;
 pub use sshkey_sshsig::laws::signed_parts_fit;
+pub use sshkey_sshsig::laws::spelled_ssh_signature;
 
 /// Of every kind of value: two have equal normal forms exactly if they agree in every field, of
 /// private keys also in checkint and tag, and what reads a normal form gives the value that it is
@@ -188,7 +191,7 @@ pub fn normal_forms()
     ensures keys { AreNormalForms IsKey normal_key (value_at key_at) }
     ensures signatures { AreNormalForms IsSignature signature signature_at }
     ensures ssh_signatures { AreNormalForms IsSshSignature normal_ssh_signature
-        (value_at ssh_signature_at) }
+        ssh_signature_value_at }
     ensures options { AreNormalForms AreOptions normal_options (value_at options_at) }
     ensures types { AreNormalForms Any certificate_type type_at }
     ensures times { AreNormalForms IsTime (number w64) time_at }

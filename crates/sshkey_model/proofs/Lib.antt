@@ -13,7 +13,6 @@ pub mod KeyDerivationReaders
 pub mod KeyPairReaders
 pub mod Padding
 pub mod PrivateKeyReaders
-pub mod SshSignatureReaders
 pub mod NormalForms
 pub mod NormalFits
 pub mod SignedBytes

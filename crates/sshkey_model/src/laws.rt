@@ -16,31 +16,36 @@ ghost use Rattle.sshkey_model.specs.Keys.{IsBodyUnder, body, IsKey, HasKeyPlaces
 ghost use Rattle.sshkey_model.specs.Signatures.{IsSignature, signature, signature_at};
 ghost use Rattle.sshkey_model.specs.Options.{AreOptions, HasOptionPlaces, options, normal_options, plain_nestings, options_at};
 ghost use Rattle.sshkey_model.specs.Certificates.{IsCertificate, HasCertificatePlaces, certificate, normal_certificate, plain_choices, certificate_at, AreSignedFields, HaveSignedPlaces, to_be_signed, normal_to_be_signed};
-ghost use Rattle.sshkey_model.specs.SshSignatures.{IsSshSignature, HasSshSignaturePlaces, ssh_signature, normal_ssh_signature, ssh_signature_at};
+ghost use Rattle.sshkey_model.specs.SshSignatures.{IsSshSignature, HasSshSignaturePlaces, ssh_signature, normal_ssh_signature};
 ghost use Rattle.sshkey_model.specs.Laws.{DetermineValues, ReadBackPlain, ReadBack, DetermineFields, AreApart, DetermineSignedData, NormalFits};
 ghost use Rattle.std.specs.List.{AllByRecursion};
 
 /// No mpint string begins another.
+#[tactic(auto, using(crate::proofs::CombinedReaders::prefix, crate::proofs::MpintReaders::mpint_reads))]
 pub fn prefix_mpint()
     ensures { IsPrefixFree IsMpint string }
 {}
 
 /// No text string begins another.
+#[tactic(auto, using(crate::proofs::CombinedReaders::prefix, crate::proofs::TextReaders::text_reads))]
 pub fn prefix_text()
     ensures { IsPrefixFree IsText string }
 {}
 
 /// No list of texts begins another.
+#[tactic(auto, using(crate::proofs::CombinedReaders::prefix, crate::proofs::TextReaders::texts_reads))]
 pub fn prefix_texts()
     ensures { IsPrefixFree (AllByRecursion IsText) texts }
 {}
 
 /// No name of a curve begins another.
+#[tactic(auto, using(crate::proofs::CombinedReaders::prefix, crate::proofs::NameReaders::curve_reads))]
 pub fn prefix_curve()
     ensures { IsPrefixFree Any curve }
 {}
 
 /// No name of a hash begins another.
+#[tactic(auto, using(crate::proofs::CombinedReaders::prefix, crate::proofs::NameReaders::hash_reads))]
 pub fn prefix_hash()
     ensures { IsPrefixFree Any hash }
 {}
@@ -51,11 +56,13 @@ pub fn prefix_point()
 {}
 
 /// No name of an algorithm begins another.
+#[tactic(auto, using(crate::proofs::CombinedReaders::prefix, crate::proofs::NameReaders::algorithm_reads))]
 pub fn prefix_name()
     ensures { IsPrefixFree IsAlgorithm algorithm }
 {}
 
 /// No name of an algorithm in a certificate begins another.
+#[tactic(auto, using(crate::proofs::CombinedReaders::prefix, crate::proofs::CertificateNameReaders::certificate_algorithm_reads))]
 pub fn prefix_certificate_name()
     ensures { IsPrefixFree IsCertified certificate_algorithm }
 {}
@@ -66,16 +73,19 @@ pub fn prefix_body()
 {}
 
 /// No public key begins another.
+#[tactic(auto, using(crate::proofs::CombinedReaders::prefix, crate::proofs::KeyReaders::key_reads))]
 pub fn prefix_key()
     ensures { IsPrefixFree (IsSpelled IsKey HasKeyPlaces) (spelled key) }
 {}
 
 /// No signature begins another.
+#[tactic(auto, using(crate::proofs::CombinedReaders::prefix, crate::proofs::SignatureReaders::signature_reads))]
 pub fn prefix_signature()
     ensures { IsPrefixFree IsSignature signature }
 {}
 
 /// No options begin others.
+#[tactic(auto, using(crate::proofs::CombinedReaders::prefix, crate::proofs::OptionReaders::options_reads))]
 pub fn prefix_options()
     ensures { IsPrefixFree (IsSpelled AreOptions HasOptionPlaces) (spelled options) }
 {}
@@ -83,12 +93,6 @@ pub fn prefix_options()
 /// No certificate begins another.
 pub fn prefix_certificate()
     ensures { IsPrefixFree (IsSpelled IsCertificate HasCertificatePlaces) (spelled certificate) }
-{}
-
-/// No SSH signature begins another.
-pub fn prefix_ssh_signature()
-    ensures { IsPrefixFree (IsSpelled IsSshSignature HasSshSignaturePlaces)
-        (spelled ssh_signature) }
 {}
 
 /// Two mpints are written alike exactly if they are equal.
@@ -141,11 +145,6 @@ pub fn normal_certificates()
     ensures { DetermineValues IsCertificate normal_certificate }
 {}
 
-/// Two SSH signatures have equal normal forms exactly if they are equal.
-pub fn normal_ssh_signatures()
-    ensures { DetermineValues IsSshSignature normal_ssh_signature }
-{}
-
 /// The normal form of a public key is read as that key with the plain name: normalising twice is
 /// normalising once.
 pub fn read_back_key()
@@ -168,37 +167,38 @@ pub fn read_back_certificate()
         (λ c. plain_choices c.signed) certificate_at }
 {}
 
-/// The normal form of an SSH signature is read as that signature with the plain name.
-pub fn read_back_ssh_signature()
-    ensures { ReadBackPlain IsSshSignature ssh_signature (λ _. Plain) ssh_signature_at }
-{}
-
 /// Where a public key fits in one of its spellings, its normal form fits.
+#[tactic(auto, using(crate::proofs::NormalFits::key_fits))]
 pub fn key_fits()
     ensures { NormalFits IsKey HasKeyPlaces key normal_key }
 {}
 
 /// Where options fit in one of their spellings, their normal form fits.
+#[tactic(auto, using(crate::proofs::NormalFits::options_fit))]
 pub fn options_fit()
     ensures { NormalFits AreOptions HasOptionPlaces options normal_options }
 {}
 
 /// Where a certificate fits in one of its spellings, its normal form fits.
+#[tactic(auto, using(crate::proofs::NormalFits::certificate_fits))]
 pub fn certificate_fits()
     ensures { NormalFits IsCertificate HasCertificatePlaces certificate normal_certificate }
 {}
 
 /// Where what a certificate's signature is over fits in one of its spellings, its normal form fits.
+#[tactic(auto, using(crate::proofs::NormalFits::signed_fields_fit))]
 pub fn signed_fields_fit()
     ensures { NormalFits AreSignedFields HaveSignedPlaces to_be_signed normal_to_be_signed }
 {}
 
 /// Where an SSH signature fits in one of its spellings, its normal form fits.
+#[tactic(auto, using(crate::proofs::NormalFits::ssh_signature_fits))]
 pub fn ssh_signature_fits()
     ensures { NormalFits IsSshSignature HasSshSignaturePlaces ssh_signature normal_ssh_signature }
 {}
 
 /// The signed bytes of a certificate, in any spelling, determine every field but the signature.
+#[tactic(auto, using(crate::proofs::NormalForms::determine_fields))]
 pub fn certificate_fields()
     ensures { DetermineFields }
 {}
@@ -209,6 +209,7 @@ pub fn apart()
 {}
 
 /// What an SSH signature is over determines namespace, reserved bytes, hash and digest.
+#[tactic(auto, using(crate::proofs::SignedBytes::determine_signed_data))]
 pub fn signed_fields()
     ensures { DetermineSignedData }
 {}

@@ -3,3 +3,4 @@ pub mod SshSignatureReaders
 pub mod Signing
 pub mod Comparisons
 pub mod SshSignatureFormats
+pub mod SshSignatureExamples

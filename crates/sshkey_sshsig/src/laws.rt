@@ -1,19 +1,20 @@
 //! Laws of SSH signatures: each stands for all values, and makes no call.
 
-ghost use Rattle.std.specs.Prelude.{◌≡◌, ◌++◌, ℕ, List, length};
+ghost use Rattle.std.specs.Prelude.{◌≡◌, ◌↔◌, ◌++◌, ℕ, List, length};
 ghost use Rattle.sshkey_base.specs.Comparisons.{EqualMeanSame, IsEqualityAmong};
 ghost use Rattle.sshkey_base.specs.Digests.{digest_len};
-ghost use Rattle.sshkey_model.specs.Parts.{BoxesFit};
-ghost use Rattle.sshkey_model.specs.SshSignatures.{SshSignature};
+ghost use Rattle.sshkey_model.specs.Grammar.{IsGrammar, IsSpelled, SpellsWith, spelled};
+ghost use Rattle.sshkey_model.specs.Laws.{DetermineValues, ReadBack};
+ghost use Rattle.sshkey_model.specs.Parts.{BoxesFit, IsPrefixFree};
+ghost use Rattle.sshkey_model.specs.SshSignatures.{SshSignature, IsSshSignature, HasSshSignaturePlaces, ssh_signature, normal_ssh_signature};
 ghost use Rattle.sshkey_sshsig.specs.Comparisons.{IsByKey};
 ghost use Rattle.sshkey_sshsig.specs.Signing.{digest_parts, signed_parts};
-ghost use Rattle.sshkey_sshsig.specs.SshSignatureReaders.{SpellsSshSignature};
+ghost use Rattle.sshkey_sshsig.specs.SshSignatureReaders.{SpellsSshSignature, ssh_signature_value_at};
 ghost use Rattle.sshkey_sshsig.specs.SshSignatures.{ssh_signature_of};
 
 use crate::sshsig::SshSig;
 use sshkey_base::laws::compared_hashes;
 use sshkey_keys::laws::{compared_keys, compared_signatures};
-pub use sshkey_model::laws::prefix_ssh_signature;
 
 /// Two SSH signatures that are equal mean the same, and two by well-formed keys are equal exactly
 /// if they do.
@@ -25,6 +26,35 @@ pub fn compared_ssh_signatures()
     compared_hashes();
     compared_signatures();
 }
+
+/// SSH signatures are read exactly where they are spelled.
+#[tactic(auto, using(crate::specs::SshSignatureReaders::ssh_signature_grammar))]
+pub fn exact_ssh_signature()
+    ensures { IsGrammar SpellsSshSignature ssh_signature_value_at }
+{}
+
+/// The term of SSH signatures spells exactly what PROTOCOL.sshsig lays out, with each way to name
+/// the key.
+pub fn spelled_ssh_signature()
+    ensures { (f : SshSignature) (b : List ℕ) → SpellsSshSignature f b
+        ↔ SpellsWith IsSshSignature HasSshSignaturePlaces ssh_signature f b }
+{}
+
+/// No SSH signature begins another.
+pub fn prefix_ssh_signature()
+    ensures { IsPrefixFree (IsSpelled IsSshSignature HasSshSignaturePlaces)
+        (spelled ssh_signature) }
+{}
+
+/// Two SSH signatures have equal normal forms exactly if they are equal.
+pub fn normal_ssh_signatures()
+    ensures { DetermineValues IsSshSignature normal_ssh_signature }
+{}
+
+/// The normal form of an SSH signature is read as that signature.
+pub fn read_back_ssh_signature()
+    ensures { ReadBack IsSshSignature normal_ssh_signature ssh_signature_value_at }
+{}
 
 /// No spelling of an SSH signature begins another: what follows it does not matter, and it is that
 /// of one signature.

@@ -1,6 +1,7 @@
 //! SSH signatures of messages and files.
 #![tactic(auto)]
 
+pub mod examples;
 pub mod laws;
 mod sshsig;
 

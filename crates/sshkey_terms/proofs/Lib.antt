@@ -11,3 +11,4 @@ pub mod Behind
 mod Measured
 mod Filled
 pub mod SliceFronts
+pub mod Trees

@@ -1,6 +1,6 @@
 //! Examples of SSH signatures.
 
-ghost use Rattle.sshkey_model.specs.SshSignatureExamples.{SignedData, SignedMessage, KeyLine, Versions, SshSignatureFaults, SignerNames};
+ghost use Rattle.sshkey_model.specs.SshSignatureExamples.{SignedData, SignedMessage, KeyLine, IllFormed};
 
 /// The 64 bytes that a signature in the namespace `file` over the empty message is over
 /// (PROTOCOL.sshsig).
@@ -18,17 +18,7 @@ pub fn key_line()
     ensures { KeyLine }
 {}
 
-/// Versions 0 and 1 are kept, and 2 is rejected.
-pub fn versions()
-    ensures { Versions }
-{}
-
-/// Each fault of an SSH signature, field by field.
-pub fn ssh_signature_faults()
-    ensures { SshSignatureFaults }
-{}
-
-/// A signer under a name with a hash, and the normal form.
-pub fn signer_names()
-    ensures { SignerNames }
+/// No SSH signature has version 2 or an empty namespace.
+pub fn ill_formed()
+    ensures { IllFormed }
 {}

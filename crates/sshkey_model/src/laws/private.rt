@@ -11,16 +11,19 @@ ghost use Rattle.sshkey_model.specs.PrivateKeys.{IsPrivateKey, HasPrivateKeyPlac
 ghost use Rattle.sshkey_model.specs.Laws.{DetermineValues, ReadBack, ReadBackPlain};
 
 /// No name of a cipher begins another.
+#[tactic(auto, using(crate::proofs::CombinedReaders::prefix, crate::proofs::KeyDerivationReaders::cipher_reads))]
 pub fn prefix_cipher()
     ensures { IsPrefixFree Any cipher }
 {}
 
 /// No name of a key derivation begins another.
+#[tactic(auto, using(crate::proofs::CombinedReaders::prefix, crate::proofs::KeyDerivationReaders::kdf_algorithm_reads))]
 pub fn prefix_kdf_name()
     ensures { IsPrefixFree Any kdf_algorithm }
 {}
 
 /// No key derivation begins another.
+#[tactic(auto, using(crate::proofs::CombinedReaders::prefix, crate::proofs::KeyDerivationReaders::kdf_reads))]
 pub fn prefix_kdf()
     ensures { IsPrefixFree Any kdf }
 {}
@@ -32,6 +35,7 @@ pub fn prefix_scalar()
 {}
 
 /// No private half of an RSA pair begins another.
+#[tactic(auto, using(crate::proofs::CombinedReaders::prefix, crate::proofs::KeyPairReaders::rsa_private_reads))]
 pub fn prefix_rsa_private()
     ensures { IsPrefixFree IsRsaPrivate rsa_private }
 {}
@@ -43,16 +47,19 @@ pub fn prefix_pair()
 {}
 
 /// No pair of ECDSA begins another, of whichever curve.
+#[tactic(auto, using(crate::proofs::CombinedReaders::prefix, crate::proofs::KeyPairReaders::any_ecdsa_pair_reads))]
 pub fn prefix_ecdsa_pair()
     ensures { IsPrefixFree (IsSpelled IsEcdsaPair HasPairPlaces) (spelled pair) }
 {}
 
 /// No key pair with its name begins another.
+#[tactic(auto, using(crate::proofs::CombinedReaders::prefix, crate::proofs::KeyPairReaders::keypair_reads))]
 pub fn prefix_keypair()
     ensures { IsPrefixFree (IsSpelled IsKeyPair HasKeyPairPlaces) (spelled keypair) }
 {}
 
 /// No private key begins another.
+#[tactic(auto, using(crate::proofs::CombinedReaders::prefix, crate::proofs::PrivateKeyReaders::private_key_reads))]
 pub fn prefix_private_key()
     ensures { IsPrefixFree (IsSpelled IsPrivateKey HasPrivateKeyPlaces) (spelled private_key) }
 {}
@@ -91,6 +98,7 @@ pub fn read_back_private_key()
 
 /// A private key is decoded exactly where it may stand before what follows: an encrypted one must
 /// be the last.
+#[tactic(auto, using(crate::proofs::PrivateKeyReaders::decoder))]
 pub fn decode_private_key()
     ensures { IsDecoder decoded_private_key_at }
 {}

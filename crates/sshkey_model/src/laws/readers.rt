@@ -13,7 +13,6 @@ ghost use Rattle.sshkey_model.specs.Keys.{IsBodyUnder, body, body_at, IsKey, Has
 ghost use Rattle.sshkey_model.specs.Signatures.{IsSignature, signature, signature_at};
 ghost use Rattle.sshkey_model.specs.Options.{AreOptions, HasOptionPlaces, options, options_at};
 ghost use Rattle.sshkey_model.specs.Certificates.{IsCertificate, HasCertificatePlaces, certificate, certificate_at, certificate_type, type_at, IsTime, time_at, IsEnd, end_at, AreSignedFields, HaveSignedPlaces, to_be_signed, signed_fields_at};
-ghost use Rattle.sshkey_model.specs.SshSignatures.{IsSshSignature, HasSshSignaturePlaces, ssh_signature, ssh_signature_at};
 ghost use Rattle.sshkey_model.specs.KeyDerivation.{cipher, cipher_at, kdf, kdf_at, kdf_algorithm, kdf_algorithm_at};
 ghost use Rattle.sshkey_model.specs.KeyPairs.{IsScalar, HasScalarPlaces, scalar, scalar_at, IsPairUnder, HasPairPlaces, pair, pair_at, IsKeyPair, HasKeyPairPlaces, keypair, keypair_at, IsRsaPrivate, rsa_private, rsa_private_at, IsEcdsaPair, any_ecdsa_pair_at};
 ghost use Rattle.sshkey_model.specs.PrivateKeys.{IsPrivateKey, HasPrivateKeyPlaces, private_key, private_key_at};
@@ -129,13 +128,6 @@ pub fn exact_certificate()
     ensures { IsGrammar (SpellsAs IsCertificate HasCertificatePlaces certificate) certificate_at }
 {}
 
-/// SSH signatures are read exactly where they are spelled.
-#[tactic(auto, using(crate::proofs::Grammars::grammar, crate::proofs::SshSignatureReaders::ssh_signature_reads))]
-pub fn exact_ssh_signature()
-    ensures { IsGrammar (SpellsAs IsSshSignature HasSshSignaturePlaces ssh_signature)
-        ssh_signature_at }
-{}
-
 /// Names of ciphers are read exactly where they are spelled.
 #[tactic(auto, using(crate::proofs::Grammars::grammar, crate::proofs::KeyDerivationReaders::cipher_reads))]
 pub fn exact_cipher()
@@ -156,6 +148,7 @@ pub fn exact_kdf()
 
 /// Private scalars of a size are read exactly where they are spelled, with a leading 00 and
 /// without, and as the shortest mpint.
+#[tactic(auto, using(crate::proofs::Grammars::grammar, crate::proofs::KeyPairReaders::scalar_reads))]
 pub fn exact_scalar()
     ensures { (size : ℕ) → IsGrammar (SpellsAs (IsScalar size) HasScalarPlaces scalar)
         (scalar_at size) }
@@ -174,6 +167,7 @@ pub fn exact_ecdsa_pair()
 {}
 
 /// Under each algorithm key pairs are read exactly where they are spelled.
+#[tactic(auto, using(crate::proofs::Grammars::grammar, crate::proofs::KeyPairReaders::pair_reads))]
 pub fn exact_pair()
     ensures { (a : Algorithm) → IsGrammar (SpellsAs (IsPairUnder a) HasPairPlaces pair)
         (pair_at a) }

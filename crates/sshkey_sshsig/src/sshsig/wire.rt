@@ -9,9 +9,9 @@ ghost use Rattle.sshkey_base.specs.Sink.{Encodes};
 ghost use Rattle.sshkey_base.specs.Source.{all_of};
 ghost use Rattle.sshkey_keys.specs.Blobs.{MakesBlob};
 ghost use Rattle.sshkey_model.specs.Reading.{literal_at, literal_from, whole};
-ghost use Rattle.sshkey_model.specs.SshSignatures.{SshSignature, IsSshSignature, normal_ssh_signature, signature_magic, version_at, namespace_at, version_from, namespace_from};
+ghost use Rattle.sshkey_model.specs.SshSignatures.{SshSignature, IsSshSignature, normal_ssh_signature, signature_magic};
 ghost use Rattle.sshkey_sshsig.specs.SshSignatures.{ssh_signature_of, statement, magic_of, version_of, namespace_of};
-ghost use Rattle.sshkey_sshsig.specs.SshSignatureFormats.{magic_format, version_format, namespace_format, ssh_signature_format};
+ghost use Rattle.sshkey_sshsig.specs.SshSignatureFormats.{magic_format, version_from, version_format, namespace_from, namespace_format, ssh_signature_format};
 ghost use Rattle.sshkey_sshsig.specs.SshSignatureReaders.{ssh_signature_value_at, SpellsSshSignature, ssh_signature_normal};
 
 use super::SshSig;
@@ -92,7 +92,7 @@ fn check_version(number: u32) -> Result<Version>
 }
 
 /// A version in four bytes.
-#[tactic(auto, using(sshkey_base::proofs::Steps::steps, sshkey_base::proofs::Stopping::stopping, crate::specs::SshSignatureFormats::checked_read))]
+#[tactic(auto, using(sshkey_base::proofs::Steps::steps, sshkey_base::proofs::Stopping::stopping, sshkey_terms::specs::Terms::checked_read))]
 impl Decode for Version {
     type Error = Error;
 
@@ -119,7 +119,7 @@ fn check_namespace(text: Text) -> Result<Namespace>
 }
 
 /// A text that is not empty.
-#[tactic(auto, using(sshkey_base::proofs::Steps::steps, sshkey_base::proofs::Stopping::stopping, sshkey_base::specs::Lengths::text_lengths, crate::specs::SshSignatureFormats::checked_read))]
+#[tactic(auto, using(sshkey_base::proofs::Steps::steps, sshkey_base::proofs::Stopping::stopping, sshkey_base::specs::Lengths::text_lengths, sshkey_terms::specs::Terms::checked_read))]
 impl Decode for Namespace {
     type Error = Error;
 
@@ -147,7 +147,7 @@ type Statement = Then<Namespace, Then<Wide<Bytes>, Then<Wide<HashAlg>, Boxed<Sig
 /// Fails with `FormatEncoding` for other bytes than `SSHSIG`, with `Version` and its number for a
 /// version above 1, with `Namespace` for an empty namespace, with `Label` for the name of no hash,
 /// and as `KeyData` and `Signature` do.
-#[tactic(auto, using(sshkey_terms::proofs::Mapped::mapped, crate::specs::SshSignatureFormats::checked_read))]
+#[tactic(auto, using(sshkey_terms::proofs::Mapped::mapped, sshkey_terms::specs::Terms::checked_read))]
 impl Decode for SshSig {
     type Error = Error;
 

@@ -133,6 +133,7 @@ pub mod laws {
     pub use ssh_key::laws::equal_sk_ecdsa_pairs;
     pub use ssh_key::laws::equal_sk_ed25519_pairs;
     pub use ssh_key::laws::equal_verdicts;
+    pub use ssh_key::laws::exact_ssh_signature;
     pub use ssh_key::laws::fingerprint_texts;
     pub use ssh_key::laws::key_fits;
     pub use ssh_key::laws::lines;
@@ -213,6 +214,7 @@ pub mod laws {
     pub use ssh_key::laws::signed_fields;
     pub use ssh_key::laws::signed_fields_fit;
     pub use ssh_key::laws::signed_parts_fit;
+    pub use ssh_key::laws::spelled_ssh_signature;
     pub use ssh_key::laws::ssh_signature_fits;
     pub use ssh_key::laws::strict_is_read;
 }

@@ -3,7 +3,6 @@ use Rattle.sshkey_model.specs.KeyPairs.{LeadingZeros, keypair, pair, plain_pair,
 use Rattle.sshkey_model.specs.Keys.{Head, key}
 use Rattle.sshkey_model.specs.Options.{options, plain_nestings}
 use Rattle.sshkey_model.specs.PrivateKeys.{plain_private_key, private_key}
-use Rattle.sshkey_model.specs.SshSignatures.{ssh_signature}
 use Rattle.sshkey_model.proofs.CertificateNameReaders.{certificate_algorithm_reads}
 use Rattle.sshkey_model.proofs.CertificateReaders.{certificate_reads, end_reads, signed_fields_reads, time_reads, type_reads}
 use Rattle.sshkey_model.proofs.KeyDerivationReaders.{cipher_reads, kdf_algorithm_reads, kdf_reads}
@@ -16,8 +15,9 @@ use Rattle.sshkey_model.proofs.OptionReaders.{options_reads}
 use Rattle.sshkey_model.proofs.PointReaders.{point_reads}
 use Rattle.sshkey_model.proofs.PrivateKeyReaders.{plain_private_key_has, private_key_reads}
 use Rattle.sshkey_model.proofs.SignatureReaders.{signature_reads}
-use Rattle.sshkey_model.proofs.SshSignatureReaders.{ssh_signature_reads}
 use Rattle.sshkey_model.proofs.TextReaders.{text_reads, texts_reads}
+use Rattle.sshkey_terms.proofs.Trees.{determined, read_back}
+use Rattle.sshkey_sshsig.specs.SshSignatureReaders.{ssh_signature_grammar, ssh_signature_normal}
 use Rattle.ssh_key.proofs.NormalForms.{normal_forms, plain_forms}
 use Rattle.ssh_key.proofs.laws.normal_forms.Goals as goal
 
@@ -55,7 +55,7 @@ pub returns-clause-signatures : goal.returns-clause-signatures
 returns-clause-signatures c = normal_forms signature_reads
 
 pub returns-clause-ssh_signatures : goal.returns-clause-ssh_signatures
-returns-clause-ssh_signatures c = plain_forms ssh_signature ssh_signature_reads (λ _. Head.Plain) (λ _ _. tt)
+returns-clause-ssh_signatures c = record { determine = determined ssh_signature_grammar ssh_signature_normal; again = read_back ssh_signature_grammar ssh_signature_normal }
 
 pub returns-clause-options : goal.returns-clause-options
 returns-clause-options c = plain_forms options options_reads plain_nestings (λ os _. plain_options_have os)

@@ -1,7 +1,7 @@
 use Rattle.sshkey_base.specs.Causes.{cause}
-use Rattle.sshkey_terms.specs.Terms.{◌then◌}
+use Rattle.sshkey_terms.specs.Terms.{◌then◌, checked_read}
 use Rattle.sshkey_terms.proofs.Stopping.{mapped_stops}
-use Rattle.sshkey_sshsig.specs.SshSignatureFormats.{checked_read, opening_format, statement_format, ssh_signature_of_parts, ssh_signature_format}
+use Rattle.sshkey_sshsig.specs.SshSignatureFormats.{opening_format, statement_format, ssh_signature_of_parts, ssh_signature_format}
 use Rattle.sshkey_sshsig.proofs.sshsig.wire.SshSigDecode.decode.Goals as goal
 
 pub returns-in_err-opening-clause-past : goal.returns-in_err-opening-clause-past

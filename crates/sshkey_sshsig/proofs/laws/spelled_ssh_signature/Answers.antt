@@ -1,0 +1,6 @@
+use Rattle.sshkey_terms.proofs.Trees.{spelled_alike}
+use Rattle.sshkey_sshsig.specs.SshSignatureReaders.{ssh_signature_tree}
+use Rattle.sshkey_sshsig.proofs.laws.spelled_ssh_signature.Goals as goal
+
+pub returns : goal.returns
+returns c = spelled_alike ssh_signature_tree
