@@ -50,7 +50,7 @@ from lib.harness import new_key, string
 from lib.signatures import mpint
 
 from . import digest_calls, entry_calls, host_calls
-from .certificate_calls import CASES, certificate_of, fields_in
+from .certificate_calls import CASES, certificate_of, draft_of, fields_in
 from .key_calls import COMMENTS, encoded, numbers_of_keys, points_of_keys, renamed, signed_by, signed_by_hand
 from .linked import run, turned, word
 from .login_calls import REFUSALS, all_cases
@@ -308,12 +308,6 @@ def check_certificates(judge):
 def own_of(made, kind=0):
     """The fingerprint of the authority of that number."""
     return made.sshkey.fingerprint(made.foreign.blob_of(made.maker.read(f"{made.kinds[kind].authority}.pub")))
-
-
-def draft_of(fields):
-    spans = ("key", "nonce", "key_id", "principals", "critical_options", "extensions", "authority")
-    numbers = ("serial", "valid_after", "valid_before", "certificate_type", "all_principals")
-    return " ".join(["draft", *(word(fields[it]) for it in spans), *(str(fields[it]) for it in numbers)])
 
 
 def check_logins(judge):

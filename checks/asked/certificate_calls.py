@@ -5,7 +5,7 @@ import sys
 
 from lib.harness import blob_of, ssh_keygen, string, take
 
-from .linked import EXAMPLES, run, word
+from .linked import EXAMPLES, Asked, run, word
 
 OPTIONS = [
     "clear", "force-command=echo \"a b\"", "source-address=10.0.0.0/8,::1/128", "verify-required", "critical:z@example.org=value",
@@ -52,11 +52,6 @@ def shown_option(name, value):
     return f"{name} UNKNOWN OPTION: {inside.hex()} (len {len(inside)})" if inside else f"{name} UNKNOWN FLAG OPTION"
 
 
-def listed_by_c(built, blobs):
-    said = run([f"{built.sanitized}/foreign"], input="".join(f"lists {it.hex()}\n" for it in blobs))
-    return said.stdout.splitlines(), said.returncode == 0, said.stderr[-2000:]
-
-
 def as_c_says(contents):
     """What Python found, as checks/foreign.c says it."""
     words = ["0", contents.key_id.encode().hex(), contents.key.hex(), contents.authority.hex()]
@@ -75,8 +70,7 @@ def check_lists(count, built, sshkey, maker):
         maker.key(f"listed{number}", kind)
         for name, words in CASES.items() if number == 0 else list(CASES.items())[:5:4]:
             made.append((f"{name}, {kind}", number, *certificate_of(maker, f"lister{number}", f"listed{number}", words)))
-    by_c, ended, why = listed_by_c(built, [blob for _, _, blob, _ in made])
-    count.check("lists are asked for without a fault", ended and len(by_c) == len(made), why)
+    by_c = Asked(count, built).answers("lists", [f"lists {blob.hex()}" for _, _, blob, _ in made])
     for (name, number, blob, shown), answer in zip(made, by_c):
         found = sshkey.certificate_contents(blob)
         same = [found.key_id] == [it[1:-1] for it in shown_under(shown, "Key ID")]
@@ -90,8 +84,7 @@ def check_lists(count, built, sshkey, maker):
 def check_hostile_lists(count, built, sshkey, cases):
     """Bytes that are no certificate list nothing, and what does is one: the calls agree, and C with sanitizers has no fault."""
     blobs = [data for kind, data, _ in cases if kind == "certificate"]
-    by_c, ended, why = listed_by_c(built, blobs)
-    count.check(f"the lists of {len(blobs):,} hostile certificates are asked for", ended and len(by_c) == len(blobs), why)
+    by_c = Asked(count, built).answers(f"the lists of {len(blobs):,} hostile certificates", [f"lists {it.hex()}" for it in blobs])
     differ = []
     for data, answer in zip(blobs, by_c):
         try:
@@ -140,10 +133,8 @@ def check_options(count, built, sshkey, maker):
     trailing = string(b"a") + string(string(b"b") + b"c")
     cases = [b"", b"\0", bytes(4), bytes(8), bytes(12), b"\xff" * 9, nested, trailing, nested * 3, string(b"a"), blob]
     cases += [fields["critical_options"], fields["extensions"], string(b"a") + string(b"\0\0\0"), string(b"a") + b"\0\0\0"]
-    said = run([f"{built.sanitized}/foreign"], input="".join(f"certificate-options {word(it)}\n" for it in cases))
-    answers = said.stdout.splitlines()
-    count.check("options are asked about without a fault", said.returncode == 0 and len(answers) == len(cases), said.stderr)
-    for data, answer in zip(cases, answers):
+    said = Asked(count, built).answers("options", [f"certificate-options {word(it)}" for it in cases])
+    for data, answer in zip(cases, said):
         places = [*range(len(data) + 1), len(data) + 1, len(data) + 4, 2**64 - 5, 2**64 - 1]
         wanted = " ".join(option_from(data, it) for it in places)
         count.check(f"the option at each place of {len(data)} bytes", answer == wanted, answer[:300], wanted[:300])
@@ -183,11 +174,9 @@ SPANS = ("key", "nonce", "key_id", "principals", "critical_options", "extensions
 NUMBERS = ("serial", "valid_after", "valid_before", "certificate_type", "all_principals")
 
 
-def drafted_by_c(built, drafts, program="sanitized"):
-    """What the calls write for each draft, and how many of the rooms below that answer as they have to."""
-    words = [[word(it[name]) for name in SPANS] + [str(it[name]) for name in NUMBERS] for it in drafts]
-    said = run([f"{getattr(built, program)}/foreign"], input="".join(f"draft {' '.join(it)}\n" for it in words))
-    return said.stdout.splitlines(), said.returncode == 0, said.stderr[-2000:]
+def draft_of(fields):
+    """The question for what the calls write for a draft, and how many of the rooms below that answer as they have to."""
+    return " ".join(["draft", *(word(fields[it]) for it in SPANS), *(str(fields[it]) for it in NUMBERS)])
 
 
 def check_making(count, built, sshkey, maker):
@@ -196,8 +185,7 @@ def check_making(count, built, sshkey, maker):
     for name, words in CASES.items():
         blob, _ = certificate_of(maker, "lister0", "listed0", words)
         made.append((name, blob, fields_in(blob)))
-    said, ended, why = drafted_by_c(built, [it for _, _, it in made])
-    count.check("drafts are asked about without a fault", ended and len(said) == len(made), why)
+    said = Asked(count, built).answers("drafts", [draft_of(it) for _, _, it in made])
     for (name, blob, fields), answer in zip(made, said):
         signature = fields["signature"]
         to_be_signed = blob[: -len(signature) - 4]
@@ -245,12 +233,11 @@ def check_refused(count, built, good):
         ("no authority", {"authority": b""}, 13), ("a longer point", {"key": string(b"ssh-ed25519") + string(bytes(33))}, 14),
         ("no nonce", {"nonce": b""}, 0), ("an empty principal", {"principals": string(b"")}, 0),
     ]  # fmt: skip
-    said, ended, why = drafted_by_c(built, [{**good, **changed} for _, changed, _ in cases])
-    count.check("drafts that tell none are asked about without a fault", ended and len(said) == len(cases), why)
+    said = Asked(count, built).answers("drafts that tell none", [draft_of({**good, **changed}) for _, changed, _ in cases])
     for (name, changed, wanted), answer in zip(cases, said):
         count.check(f"a draft: {name}", answer.split()[0] == str(wanted), answer[:200], wanted, changed)
     nested = string(b"a") + string(string(b""))
-    plain, other = drafted_by_c(built, [{**good, "extensions": it} for it in (a, nested)])[0]
+    plain, other = Asked(count, built).answers("empty values", [draft_of({**good, "extensions": it}) for it in (a, nested)])
     count.check("an empty value in its string is signed as nothing", plain == other, plain, other)
 
 
@@ -259,10 +246,12 @@ def check_turned(count, built, sshkey, maker, fields, blob):
     drafts = [
         {**fields, name: it[:at] + bytes([it[at] ^ 1]) + it[at + 1 :]} for name in SPANS for it in [fields[name]] for at in range(len(it))
     ]
-    said, ended, why = drafted_by_c(built, drafts, "plain")
+    ran = run([f"{built.plain}/foreign"], input="".join(f"{draft_of(it)}\n" for it in drafts))
+    said = ran.stdout.splitlines()
     signed = blob[: -len(fields["signature"]) - 4].hex()
     good = [it for it in said if it.split()[0] == "0"]
-    count.check(f"the lowest bit of each of {len(drafts)} bytes of a draft is turned", ended and len(said) == len(drafts), why)
+    whole = ran.returncode == 0 and len(said) == len(drafts)
+    count.check(f"the lowest bit of each of {len(drafts)} bytes of a draft is turned", whole, ran.stderr[-2000:])
     others = {it.split()[1] for it in good}
     count.check("other bytes are to be signed, each time others", len(others) == len(good) > 32 and signed not in others, len(good))
     refused = {it for it in said if it.split()[0] != "0"}

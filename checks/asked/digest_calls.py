@@ -5,8 +5,8 @@ import hashlib
 from lib.harness import blob_of, string, take
 from lib.signatures import signed_data, ssh_signature_over
 
-from .key_calls import Asked, said_of_question
-from .linked import word
+from .key_calls import said_of_question
+from .linked import Asked, word
 from .login_calls import blocks
 
 HASHES = ("sha256", "sha512")
@@ -80,7 +80,7 @@ def check_signed(asked, judges, kind, signature, name):
 
 def check_digests(count, built, judges, maker, kinds):
     """What keys of each kind sign by each hash; and where key and signature do not go together, there is nothing to verify."""
-    asked, sshkey = Asked(built, count), judges[0]
+    asked, sshkey = Asked(count, built), judges[0]
     keys = [blob_of(maker.read(f"user{number}.pub")) for number in range(len(kinds))]
     for number, (kind, key) in enumerate(zip(kinds, keys)):
         for name in HASHES:

@@ -9,7 +9,7 @@ import re
 import sys
 import tempfile
 
-from asked.linked import EXAMPLES, part_of, run, word
+from asked.linked import EXAMPLES, Asked, part_of, run, word
 from lib.harness import ROOT, ssh_keygen
 
 LINES, TEXTS, FILES, CUTS = 90, 30, 200, 40
@@ -39,15 +39,6 @@ def loaded(name):
     return module
 
 
-def asked(count, built, name, questions):
-    """What C with sanitizers answers to each."""
-    ran = run([f"{built.sanitized}/foreign"], input="".join(f"{it}\n" for it in questions))
-    said = ran.stdout.splitlines()
-    whole = ran.returncode == 0 and len(said) == len(questions)
-    count.check(f"{name}: C is asked {len(questions)} times without a fault", whole, ran.stderr[-2000:])
-    return said
-
-
 # ---- lines
 
 
@@ -65,7 +56,7 @@ def lines_of(text):
 def check_lines(count, built, sshkey, draw):
     texts = [b"", b"a", b"a\r", b"\r\n", b" \t", b"# a\n b\n", b"a\r\r\nb\n\n"]
     texts += [b"".join(draw.choice(PIECES) for _ in range(draw.randrange(24))) for _ in range(400)]
-    said = asked(count, built, "lines", [f"lines {word(it)}" for it in texts])
+    said = Asked(count, built).answers("lines", [f"lines {word(it)}" for it in texts])
     wrong = []
     for text, answer in zip(texts, said):
         wanted = list(lines_of(text))
@@ -125,7 +116,7 @@ def check_entries(count, built, sshkey, draw, folder, lines):
         cases.append(("entry", line.encode(), lines.shown(folder, plain)))
         line = lines.host_line(draw, texts)
         cases.append(("host", line.encode(), lines.found(folder, line)))
-    said = asked(count, built, "entries", [f"{kind} {word(line)}" for kind, line, _ in cases])
+    said = Asked(count, built).answers("entries", [f"{kind} {word(line)}" for kind, line, _ in cases])
     wrong, read = [], {"entry": [], "host": []}
     for (kind, line, wanted), answer in zip(cases, said):
         entry, by_python = read_by_python(sshkey, kind, line)
@@ -154,14 +145,14 @@ def check_faults(count, built, sshkey, key):
     ]  # fmt: skip
     cases = [(kind, line.encode(), wanted) for kind, line, wanted in cases]
     cases += [(kind, b"\xff " + ed25519.encode(), "TEXT") for kind in ("entry", "host")]
-    said = asked(count, built, "faults of lines", [f"{kind} {word(line)}" for kind, line, _ in cases])
+    said = Asked(count, built).answers("faults of lines", [f"{kind} {word(line)}" for kind, line, _ in cases])
     wrong = [(*it, answer) for it, answer in zip(cases, said) if answer != str(int(sshkey.Status[it[2]]))]
     count.check("a line is refused for its fault", not wrong, *wrong)
 
 
 def check_rooms(count, built, read):
     some = [(kind, line, entry) for kind, them in read.items() for line, entry in them[:8]]
-    said = asked(count, built, "rooms for entries", [f"short {kind} {word(line)}" for kind, line, _ in some])
+    said = Asked(count, built).answers("rooms for entries", [f"short {kind} {word(line)}" for kind, line, _ in some])
     for (kind, line, entry), answer in zip(some, said):
         front = entry.options if kind == "entry" else entry.hosts
         needed = len(front) + len(entry.key) + len(entry.comment)
@@ -177,7 +168,7 @@ def check_hostile(count, built, sshkey, draw, read):
             for at, byte in enumerate(line):
                 cases.append((kind, line[:at] + bytes([byte ^ draw.choice([1, 32, 128])]) + line[at + 1 :]))
             cases += [(kind, line[: draw.randrange(len(line))]) for _ in range(CUTS)]
-    said = asked(count, built, "hostile lines", [f"{kind} {word(line)}" for kind, line in cases])
+    said = Asked(count, built).answers("hostile lines", [f"{kind} {word(line)}" for kind, line in cases])
     wrong = [(line, answer) for (kind, line), answer in zip(cases, said) if answer != read_by_python(sshkey, kind, line)[1]]
     numbers = {int(it.split()[0]) for it in said}
     count.check("hostile lines are answered the same in C and in Python", not wrong, *wrong[:3])
@@ -207,7 +198,7 @@ def check_options(count, built, sshkey, draw, folder, lines):
         text, value = lines.options_text(draw)
         wanted = lines.verified(folder, text, value, key)
         cases.append((text.encode(), (value.encode(), wanted)))
-    said = asked(count, built, "options", [f"options {word(text)}" for text, _ in cases])
+    said = Asked(count, built).answers("options", [f"options {word(text)}" for text, _ in cases])
     wrong = []
     for (text, wanted), answer in zip(cases, said):
         found, by_python = options_by_python(sshkey, text)
@@ -217,7 +208,7 @@ def check_options(count, built, sshkey, draw, folder, lines):
             wrong.append((text, answer, by_python, found, wanted))
     count.check(f"the options of {len(cases)} texts", not wrong, *wrong[:3])
     some = [(text, found[0]) for text, found in OPTIONS if found and isinstance(found, list)]
-    said = asked(count, built, "rooms for options", [f"short options {word(text)}" for text, _ in some])
+    said = Asked(count, built).answers("rooms for options", [f"short options {word(text)}" for text, _ in some])
     needed = [len(name) + len(value or b"") for _, (name, value) in some]
     count.check("each room below an option is too short", said == [f"{it} {it + 1}" for it in needed], said, needed)
 
@@ -266,7 +257,7 @@ def judged_by_python(call, *given):
 def check_verdicts(count, built, sshkey, draw, folder, hosts):
     cases = list(host_cases(draw, folder, hosts))
     questions = [f"verdict {word(text)} {word(host)} {port} {word(key)}" for _, text, host, port, key, *_ in cases]
-    said = asked(count, built, "hosts", questions)
+    said = Asked(count, built).answers("hosts", questions)
     wrong = []
     for (shown, *given, verdict, authority), answer in zip(cases, said):
         found = judged_by_python(sshkey.host_verdict, *given), judged_by_python(sshkey.authority_verdict, *given)

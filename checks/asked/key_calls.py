@@ -8,7 +8,7 @@ from cryptography.hazmat.primitives.asymmetric import ec, rsa, utils
 from lib.harness import blob_of, new_key, ssh_keygen, string, take
 from lib.signatures import mpint
 
-from .linked import VALGRIND, part_of, run, turned, word
+from .linked import Asked, part_of, turned, word
 
 KINDS = ("ed25519", "ecdsa -b 256", "ecdsa -b 384", "ecdsa -b 521", "rsa -b 2048", "dsa")
 COMMENTS = ("", "alice@host", "two words", "spaces  within", "Zoë's laptop")
@@ -38,25 +38,6 @@ def said_of_question(sshkey, call, *given):
     question, *signer = told if isinstance(told, tuple) else (told,)
     parts = map(part_of, (question.key, question.message, question.signature))
     return " ".join(["0", str(int(question.algorithm)), *parts, *(it.hex() for it in signer)])
-
-
-class Asked:
-    """What C with sanitizers and C under valgrind answer, as checks/foreign.c says it."""
-
-    def __init__(self, built, count):
-        self.built, self.count = built, count
-
-    def answers(self, name, questions):
-        """Of each question, with sanitizers; those of the first few are the same under valgrind."""
-        said, few = self.run([f"{self.built.sanitized}/foreign"], questions), questions[:3]
-        under = self.run([*VALGRIND, f"{self.built.plain}/foreign"], few)
-        self.count.check(f"{name} are asked about without a fault", len(said) == len(questions) and said[: len(few)] == under)
-        return said
-
-    @staticmethod
-    def run(words, questions):
-        ran = run(words, input="".join(f"{it}\n" for it in questions))
-        return ran.stdout.splitlines() if ran.returncode == 0 else [ran.stderr[-2000:]]
 
 
 def keys_of(maker):
@@ -474,7 +455,7 @@ def check_hostile_forms(asked, sshkey, cases):
 
 
 def check_key_calls(count, built, sshkey, check, maker, kinds, hostile):
-    asked, keys = Asked(built, count), dict(keys_of(maker))
+    asked, keys = Asked(count, built), dict(keys_of(maker))
     certificates = [(f"a certificate of {kind.name}", kind.blob) for kind in kinds]
     check_lines(asked, sshkey, maker, list(keys.items()), certificates)
     check_wrong_lines(asked, sshkey, keys)

@@ -59,6 +59,22 @@ class Built:
         return made.returncode == 0 and asking.returncode == 0
 
 
+class Asked:
+    """What C answers, as checks/foreign.c says it."""
+
+    def __init__(self, count, built):
+        self.count, self.built = count, built
+
+    def answers(self, name, questions):
+        """Of each question, with sanitizers; those of the first few are the same under valgrind."""
+        said = run([f"{self.built.sanitized}/foreign"], input="".join(f"{it}\n" for it in questions))
+        under = run([*VALGRIND, f"{self.built.plain}/foreign"], input="".join(f"{it}\n" for it in questions[:3]))
+        found = said.stdout.splitlines()
+        same = (said.returncode, under.returncode, len(found)) == (0, 0, len(questions)) and found[:3] == under.stdout.splitlines()
+        self.count.check(f"{name} are asked about without a fault", same, said.stderr[-2000:], under.stderr[-2000:])
+        return found
+
+
 def declared():
     """The calls that the header declares."""
     with open(HEADER, encoding="ascii") as file:

@@ -7,8 +7,8 @@ import time
 
 from lib.harness import ROOT
 
-from .binding_calls import Asker, Judge, draft_of
-from .certificate_calls import fields_in
+from .binding_calls import Asker, Judge
+from .certificate_calls import draft_of, fields_in
 from .key_calls import signed_by
 from .linked import BINDINGS, EXAMPLES, run
 from .login_calls import blocks

@@ -13,7 +13,7 @@ from lib.harness import ssh_keygen, string, take
 from lib.signatures import mpint, signed_data, ssh_signature
 
 from .key_calls import question_of, said_of_signature
-from .linked import part_of, run, turned
+from .linked import Asked, part_of, run, turned
 
 TOUCHED, VERIFIED = 1, 4
 COUNTER = 5
@@ -92,9 +92,7 @@ class Judges:
 
     def ask(self, *questions):
         """What C with sanitizers answers to each."""
-        ran = run([f"{self.built.sanitized}/foreign"], input="".join(f"{it}\n" for it in questions))
-        self.count.check(f"{len(questions)} questions are asked without a fault", ran.returncode == 0, ran.stderr[-2000:])
-        return ran.stdout.splitlines()
+        return Asked(self.count, self.built).answers(f"{len(questions)} questions", questions)
 
     def of_certificates(self, lines, authority, principal, second):
         """What check_certificate and check.py say of each line."""
