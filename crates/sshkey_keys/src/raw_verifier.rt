@@ -28,6 +28,9 @@ pub trait RawVerifier {
 
     /// Returns whether these bytes are a signature of the message under the key by the algorithm.
     ///
+    /// Whoever sent a signature or a certificate chose all four, of any size, before anybody is
+    /// trusted: refuse first what costs too much. OpenSSH reads RSA keys of at most 16,384 bits.
+    ///
     /// Fails with `AllocError` if it runs out of memory; nothing is said of the signature then.
     fn verify(
         &self,
