@@ -39,10 +39,6 @@ filled (x ∷ value) empty judged some = λ none. cc
 differ : (a b : List ℕ) → bytes_eq a b ≡ false → a ≡ b → ⊥
 differ a b unequal same = other (sym unequal ∙ (bytes_eq-Decides a b).1 same)
 
-pub argument : (value : List ℕ) (empty found : Bool) → empty ≡ (length value == 0) → empty ≡ false → (found ≡ true → (k : ℕ) × (k < length value) × (get_or value k 0 ≡ 0)) × ((k : ℕ) → k < length value → get_or value k 0 ≡ 0 → found ≡ true) → IsTrue (not found) ↔ IsArgument value
-argument value empty true judged some zeros = (λ yes. absurd cc, λ is. let here = zeros.0 refl in absurd (is.no_zero here.0 here.1 here.2))
-argument value empty false judged some zeros = (λ yes. record { some = filled value empty judged some; no_zero = λ i l e. other (zeros.1 i l e) }, λ is. refl)
-
 no_command : force_command ≡ verify_required → ⊥
 no_command = differ force_command verify_required refl
 

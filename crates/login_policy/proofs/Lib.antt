@@ -1,3 +1,2 @@
 mod Logins
 mod KnownOptions
-mod Names

@@ -1,36 +1,43 @@
 -- Who may log in with a certificate, and what the login is bound to (PROTOCOL.certkeys;
 -- sshd_config(5), TrustedUserCAKeys).
-use Rattle.std.specs.Prelude.{◌≡◌, ◌≢◌, ◌⊎◌, ℕ, List, Bool, not, All, Contains, Some, Result, Ok, Err, is_some, option_map, string_bytes}
+use Rattle.std.specs.Prelude.{◌≡◌, ◌≢◌, ◌⊎◌, ℕ, List, Bool, not, All, Contains, Some, Result, Ok, Err, None, false, IsTrue, is_some, option_map, string_bytes}
 use Rattle.ssh_key.specs.cert.CertificateFormats.{certificate_format}
 use Rattle.ssh_key.specs.cert.CertificateReaders.{SpellsCertificate}
 use Rattle.ssh_key.specs.cert.Validity.{refusal_error}
 use Rattle.ssh_key.specs.model.Certificates.{Certificate, User}
+use Rattle.ssh_key.specs.keys.Fingerprints.{IsShort}
 use Rattle.ssh_key.specs.model.Fingerprints.{Fingerprint}
 use Rattle.ssh_key.specs.model.Keys.{Key}
 use Rattle.ssh_key.specs.model.Lines.{IsCertificateLine, IsNoLine, IsWithout, name_of_certificate}
 use Rattle.ssh_key.specs.model.OptionMaps.{value_of}
 use Rattle.ssh_key.specs.model.Reading.{whole}
-use Rattle.ssh_key.specs.model.Refusals.{first_refusal_for}
+use Rattle.ssh_key.specs.model.Refusals.{first_refusal_for, has_trusted_authority}
 use Rattle.ssh_key.specs.model.Validity.{IsValid}
 use Rattle.ssh_key.specs.model.Verification.{Question}
 use Rattle.ssh_key.specs.options.OptionMaps.{options_of}
 use Rattle.ssh_key.specs.public.LineFaults.{HasFaultOfLine}
-use Rattle.ssh_key.specs.public.LineNeeds.{NeedsValue}
+use Rattle.ssh_key.specs.public.LineNeeds.{HasComment, NeedsValue}
 use Rattle.ssh_key.specs.types.Error.{Error}
 use Rattle.ssh_key.specs.types.Error.TheVariants.{CertificateFieldInvalid, Memory}
 use Rattle.ssh_key.specs.types.certificate.Field.{Field}
 use Rattle.ssh_key.specs.types.certificate.Field.TheVariants as field
+use Rattle.openssh_limits.specs.Read.{HasReadApplication}
 use Rattle.login_policy.specs.KnownOptions.{IsKnown, IsPlainExtension}
 use Rattle.login_policy.specs.KnownOptions as options
 use Rattle.login_policy.specs.Principals.{AreFor}
 use Rattle.login_policy.specs.declared.grant.Grant.{Grant}
+
+-- The offered key is the certified one, and sshd reads its application.
+pub record IsOwn (offered : Key) (c : Certificate) : Type 0 where
+  pub same : c.signed.key ≡ offered
+  pub application : HasReadApplication offered
 
 -- The certificate lets the user in who holds the offered key: it is for users, of that very key,
 -- lists the user, has only critical options that are known, nothing in a flag, texts and principals
 -- that sshd reads, and is valid at that time by one of the authorities.
 pub record LetsIn (accepts : Question → Bool) (authorities : List Fingerprint) (t : ℕ) (user : List ℕ) (offered : Key) (c : Certificate) : Type 0 where
   pub for_users : c.signed.certificate_type ≡ User
-  pub own_key : c.signed.key ≡ offered
+  pub own_key : IsOwn offered c
   pub known : All IsKnown c.signed.critical_options
   pub plain : All IsPlainExtension c.signed.extensions
   pub key_id : IsWithout 0 c.signed.key_id
@@ -46,6 +53,12 @@ pub record IsGrantOf (c : Certificate) (g : Grant) : Type 0 where
   pub touch_required : g.touch_required ≡ not (is_some (value_of options.no_touch_required c.signed.extensions))
   pub extensions : options_of g.extensions ≡ c.signed.extensions
 
+-- The login is bound to no command, to no addresses and to no verification of the user.
+pub record IsUnbound (g : Grant) : Type 0 where
+  pub any_command : g.force_command ≡ None
+  pub any_address : g.source_address ≡ None
+  pub unverified : g.verify_required ≡ false
+
 -- The text is the line of a certificate that lets the user in.
 pub record IsLogin (accepts : Question → Bool) (authorities : List Fingerprint) (t : ℕ) (user : List ℕ) (offered : Key) (text : List ℕ) : Type 0 where
   pub certificate : Certificate
@@ -58,9 +71,21 @@ abbrev pub GrantsExactly : (Question → Bool) → List Fingerprint → ℕ → 
 GrantsExactly accepts authorities t user offered text (Ok g) = (login : IsLogin accepts authorities t user offered text) × IsGrantOf login.certificate g
 GrantsExactly accepts authorities t user offered text (Err e) = e ≢ Memory → IsLogin accepts authorities t user offered text → ⊥
 
--- What stands in the text needs memory, or it is the line of a certificate, which is judged then.
-abbrev pub NeedsMemory : List ℕ → Type 0
-NeedsMemory text = NeedsValue certificate_format.needs text ⊎ ((c : Certificate) × (comment : List ℕ) × IsCertificateLine text c comment)
+-- ---- where memory is needed
+
+-- Memory is needed for the fingerprint of the key that signed, which is long.
+abbrev pub NeedsFingerprint : Certificate → Error → Type 0
+NeedsFingerprint c e = (e ≡ Memory) × (IsShort c.signed.signature_key → ⊥)
+
+-- It is needed for that fingerprint; or, of a certificate by one of the authorities alone, for what
+-- is signed, for the verifier and for the grant.
+abbrev pub NeedsJudging : List Fingerprint → Certificate → Type 0
+NeedsJudging authorities c = (IsShort c.signed.signature_key → ⊥) ⊎ IsTrue (has_trusted_authority authorities c)
+
+-- What stands in the text needs memory; or a comment does, behind a certificate; or it is the line of a
+-- certificate that needs some to be judged.
+abbrev pub NeedsMemory : List Fingerprint → List ℕ → Type 0
+NeedsMemory authorities text = NeedsValue certificate_format.needs text ⊎ HasComment name_of_certificate SpellsCertificate text ⊎ ((c : Certificate) × (comment : List ℕ) × IsCertificateLine text c comment × NeedsJudging authorities c)
 
 -- ---- why a login is refused
 
@@ -70,12 +95,12 @@ invalid f = CertificateFieldInvalid f
 -- The error says what is wrong with the certificate first.
 pub data Refuses (accepts : Question → Bool) (authorities : List Fingerprint) (t : ℕ) (user : List ℕ) (offered : Key) (c : Certificate) : Error → Type 0 where
   ForHosts : c.signed.certificate_type ≢ User → Refuses accepts authorities t user offered c (invalid field.CertType)
-  OtherKey : c.signed.certificate_type ≡ User → c.signed.key ≢ offered → Refuses accepts authorities t user offered c (invalid field.PublicKey)
-  UnknownOption : c.signed.certificate_type ≡ User → c.signed.key ≡ offered → (All IsKnown c.signed.critical_options → ⊥) → Refuses accepts authorities t user offered c (invalid field.CriticalOptions)
-  OtherExtension : c.signed.certificate_type ≡ User → c.signed.key ≡ offered → All IsKnown c.signed.critical_options → (All IsPlainExtension c.signed.extensions → ⊥) → Refuses accepts authorities t user offered c (invalid field.Extensions)
-  OtherKeyId : c.signed.certificate_type ≡ User → c.signed.key ≡ offered → All IsKnown c.signed.critical_options → All IsPlainExtension c.signed.extensions → (IsWithout 0 c.signed.key_id → ⊥) → Refuses accepts authorities t user offered c (invalid field.KeyId)
-  OtherPrincipals : c.signed.certificate_type ≡ User → c.signed.key ≡ offered → All IsKnown c.signed.critical_options → All IsPlainExtension c.signed.extensions → IsWithout 0 c.signed.key_id → (AreFor user c.signed.valid_principals → ⊥) → Refuses accepts authorities t user offered c (invalid field.ValidPrincipals)
-  NotValid : c.signed.certificate_type ≡ User → c.signed.key ≡ offered → All IsKnown c.signed.critical_options → All IsPlainExtension c.signed.extensions → IsWithout 0 c.signed.key_id → AreFor user c.signed.valid_principals → (e : Error) → option_map refusal_error (first_refusal_for accepts authorities t user c) ≡ Some e → Refuses accepts authorities t user offered c e
+  OtherKey : c.signed.certificate_type ≡ User → (IsOwn offered c → ⊥) → Refuses accepts authorities t user offered c (invalid field.PublicKey)
+  UnknownOption : c.signed.certificate_type ≡ User → IsOwn offered c → (All IsKnown c.signed.critical_options → ⊥) → Refuses accepts authorities t user offered c (invalid field.CriticalOptions)
+  OtherExtension : c.signed.certificate_type ≡ User → IsOwn offered c → All IsKnown c.signed.critical_options → (All IsPlainExtension c.signed.extensions → ⊥) → Refuses accepts authorities t user offered c (invalid field.Extensions)
+  OtherKeyId : c.signed.certificate_type ≡ User → IsOwn offered c → All IsKnown c.signed.critical_options → All IsPlainExtension c.signed.extensions → (IsWithout 0 c.signed.key_id → ⊥) → Refuses accepts authorities t user offered c (invalid field.KeyId)
+  OtherPrincipals : c.signed.certificate_type ≡ User → IsOwn offered c → All IsKnown c.signed.critical_options → All IsPlainExtension c.signed.extensions → IsWithout 0 c.signed.key_id → (AreFor user c.signed.valid_principals → ⊥) → Refuses accepts authorities t user offered c (invalid field.ValidPrincipals)
+  NotValid : c.signed.certificate_type ≡ User → IsOwn offered c → All IsKnown c.signed.critical_options → All IsPlainExtension c.signed.extensions → IsWithout 0 c.signed.key_id → AreFor user c.signed.valid_principals → (e : Error) → option_map refusal_error (first_refusal_for accepts authorities t user c) ≡ Some e → Refuses accepts authorities t user offered c e
 
 -- The text is the line of no certificate, and has that fault; or of one that is refused for that.
 abbrev pub RefusesLine : (Question → Bool) → List Fingerprint → ℕ → List ℕ → Key → List ℕ → Error → Type 0

@@ -1,9 +1,9 @@
 //! What a login is bound to, and what it may do.
 
-ghost use Rattle.std.specs.Prelude.{◌≡◌, IfErr, IfOk, option_map, string_bytes};
+ghost use Rattle.std.specs.Prelude.{◌≡◌, ◌↔◌, IfErr, IfOk, IsTrue, option_map, string_bytes};
 ghost use Rattle.ssh_key.specs.cert.CertificateValues.{certificate_of};
 ghost use Rattle.ssh_key.specs.types.Error.TheVariants.{Memory};
-ghost use Rattle.login_policy.specs.Logins.{IsGrantOf};
+ghost use Rattle.login_policy.specs.Logins.{IsGrantOf, IsUnbound};
 
 use crate::options::{FORCE_COMMAND, NO_TOUCH_REQUIRED, SOURCE_ADDRESS, VERIFY_REQUIRED};
 use ssh_key::certificate::OptionsMap;
@@ -34,6 +34,17 @@ pub struct Grant {
     /// that the user's `~/.ssh/rc` runs by `permit-user-rc`. What has no extension here is not
     /// permitted, and an extension that is not known is to be ignored.
     pub extensions: OptionsMap,
+}
+
+impl Grant {
+    /// Returns whether the login is bound to nothing that its caller has to know of: no command, no
+    /// addresses, and no verification of the user. Whether somebody touched a security key does not
+    /// count: that is asked of each such key.
+    pub fn is_unbound(&self) -> bool
+        ensures { IsTrue result ↔ IsUnbound self.now }
+    {
+        self.force_command.is_none() && self.source_address.is_none() && !self.verify_required
+    }
 }
 
 /// What the certificate's options say. Fails only when out of memory.

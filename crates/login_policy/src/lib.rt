@@ -1,9 +1,11 @@
 //! A login policy: whom a certificate lets in, and what such a login is bound to.
 //!
-//! It names `ssh_key` alone, and is proved from its contracts. Copy it.
+//! It names `ssh_key` and `openssh_limits` alone, and is proved from their contracts. Copy both.
 #![tactic(auto)]
 
+mod authority;
 mod grant;
+mod key;
 mod login;
 mod options;
 mod principals;

@@ -5,7 +5,7 @@ ghost use Rattle.std.specs.List.{list_any};
 ghost use Rattle.ssh_key.specs.options.OptionMaps.{options_of};
 ghost use Rattle.login_policy.specs.KnownOptions.{IsArgument, IsEmptyIfFlag, IsKnown, IsPlainExtension, flags};
 
-use crate::principals::is_without_zero;
+use openssh_limits::is_read_text;
 use ssh_key::certificate::OptionsMap;
 
 /// The one command that may run, whatever the client asks for.
@@ -66,7 +66,7 @@ fn is_known(name: &str, value: &str) -> bool
 fn is_argument(value: &str) -> bool
     ensures { IsTrue result ↔ IsArgument value.now }
 {
-    !value.is_empty() && !value.contains('\0')
+    !value.is_empty() && is_read_text(value)
 }
 
 /// Whether the name has no byte 0, and nothing stands in the value if it is that of a flag.
@@ -74,7 +74,7 @@ fn is_plain(name: &str, value: &str) -> bool
     ensures { IsTrue result
         ↔ IsPlainExtension (record { name = name.now; value = value.now }) }
 {
-    is_without_zero(name) && is_empty_if_flag(name, value)
+    is_read_text(name) && is_empty_if_flag(name, value)
 }
 
 /// Whether nothing stands in the value, if the name is that of a flag.

@@ -11,6 +11,7 @@ pub mod Places
 pub mod ReadLists
 pub mod Steps
 pub mod Stopping
+pub mod Validation
 pub mod Verdicts
 pub mod Writing
 mod NormalForms

@@ -1,7 +1,9 @@
 //! Certificates, and what they hold.
 
 pub use sshkey_base::certificate::Field;
-pub use sshkey_cert::{Certificate, CertificateQuestion, CertificateRefusal, KeyOrCertificate};
+pub use sshkey_cert::{
+    Certificate, CertificateQuestion, CertificateRefusal, KeyOrCertificate, contains_digest,
+};
 pub use sshkey_cert_builder::Builder;
 pub use sshkey_cert_fields::ToBeSigned;
 pub use sshkey_cert_ref::{CertificateRef, Options, OptionsRef, Texts, TextsRef};

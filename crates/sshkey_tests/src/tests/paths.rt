@@ -25,7 +25,7 @@ pub mod certificate {
     pub use ssh_key::certificate::{
         Builder, CertType, Certificate, CertificateQuestion, CertificateRef, CertificateRefusal,
         EndTime, FOREVER, Field, KeyOrCertificate, MAX_SECS, Options, OptionsMap, OptionsRef,
-        Texts, TextsRef, ToBeSigned, UnixTime,
+        Texts, TextsRef, ToBeSigned, UnixTime, contains_digest,
     };
 }
 

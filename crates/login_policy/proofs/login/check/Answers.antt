@@ -37,17 +37,17 @@ returns-then-not-are_plain-clause-refused g c = λ other.
     let yes : c.are_plain.result ≡ true = c.are_plain.ensures.1 (rw c.extensions.ensures all) in
     absurd cc)
 
-pub returns-then-not-is_without_zero-clause-exactly : goal.returns-then-not-is_without_zero-clause-exactly
-returns-then-not-is_without_zero-clause-exactly g c = λ other lets.
-    let yes : c.is_without_zero.result ≡ true = c.is_without_zero.ensures.1 (rw c.key_id.ensures lets.key_id) in
+pub returns-then-not-is_read_text-clause-exactly : goal.returns-then-not-is_read_text-clause-exactly
+returns-then-not-is_read_text-clause-exactly g c = λ other lets.
+    let yes : c.is_read_text.result ≡ true = c.is_read_text.ensures.1 (rw c.key_id.ensures lets.key_id) in
     absurd cc
 
-pub returns-then-not-is_without_zero-clause-refused : goal.returns-then-not-is_without_zero-clause-refused
-returns-then-not-is_without_zero-clause-refused g c = λ other.
+pub returns-then-not-is_read_text-clause-refused : goal.returns-then-not-is_read_text-clause-refused
+returns-then-not-is_read_text-clause-refused g c = λ other.
     let known = rw c.critical_options.ensures at (c.are_known.ensures.0 c.if-not-are_known.false) in
     let plain = rw c.extensions.ensures at (c.are_plain.ensures.0 c.if-not-are_plain.false) in
     OtherKeyId (sym c.cert_type.ensures ∙ c.is_user.ensures.0 c.if-not-is_user.false) (c.is_key_of.ensures.0 c.if-not-is_key_of.false) known plain (λ none.
-    let yes : c.is_without_zero.result ≡ true = c.is_without_zero.ensures.1 (rw c.key_id.ensures none) in
+    let yes : c.is_read_text.result ≡ true = c.is_read_text.ensures.1 (rw c.key_id.ensures none) in
     absurd cc)
 
 pub returns-then-not-are_for-clause-exactly : goal.returns-then-not-are_for-clause-exactly
@@ -59,7 +59,7 @@ pub returns-then-not-are_for-clause-refused : goal.returns-then-not-are_for-clau
 returns-then-not-are_for-clause-refused g c = λ other.
     let known = rw c.critical_options.ensures at (c.are_known.ensures.0 c.if-not-are_known.false) in
     let plain = rw c.extensions.ensures at (c.are_plain.ensures.0 c.if-not-are_plain.false) in
-    let id = rw c.key_id.ensures at (c.is_without_zero.ensures.0 c.if-not-is_without_zero.false) in
+    let id = rw c.key_id.ensures at (c.is_read_text.ensures.0 c.if-not-is_read_text.false) in
     OtherPrincipals (sym c.cert_type.ensures ∙ c.is_user.ensures.0 c.if-not-is_user.false) (c.is_key_of.ensures.0 c.if-not-is_key_of.false) known plain id (λ names.
     let yes : c.are_for.result ≡ true = c.are_for.ensures.1 (rw c.valid_principals.ensures names) in
     absurd cc)
@@ -70,9 +70,9 @@ returns-clause-exactly g c =
     let own = c.is_key_of.ensures.0 c.if-not-is_key_of.false in
     let known = rw c.critical_options.ensures at (c.are_known.ensures.0 c.if-not-are_known.false) in
     let plain = rw c.extensions.ensures at (c.are_plain.ensures.0 c.if-not-are_plain.false) in
-    let id = rw c.key_id.ensures at (c.is_without_zero.ensures.0 c.if-not-is_without_zero.false) in
+    let id = rw c.key_id.ensures at (c.is_read_text.ensures.0 c.if-not-is_read_text.false) in
     let names = rw c.valid_principals.ensures at (c.are_for.ensures.0 c.if-not-are_for.false) in
-    lets_in _ _ _ _ (key_of c.args.offered.now) (certificate_of c.args.certificate.now) users own known plain id names c.validate_principal_at.result c.validate_principal_at.ensures
+    lets_in _ _ _ _ (key_of c.args.offered.now) (certificate_of c.args.certificate.now) users own known plain id names c.validate.result c.validate.ensures.judged
 
 pub returns-clause-refused : goal.returns-clause-refused
 returns-clause-refused g c =
@@ -80,6 +80,6 @@ returns-clause-refused g c =
     let own = c.is_key_of.ensures.0 c.if-not-is_key_of.false in
     let known = rw c.critical_options.ensures at (c.are_known.ensures.0 c.if-not-are_known.false) in
     let plain = rw c.extensions.ensures at (c.are_plain.ensures.0 c.if-not-are_plain.false) in
-    let id = rw c.key_id.ensures at (c.is_without_zero.ensures.0 c.if-not-is_without_zero.false) in
+    let id = rw c.key_id.ensures at (c.is_read_text.ensures.0 c.if-not-is_read_text.false) in
     let names = rw c.valid_principals.ensures at (c.are_for.ensures.0 c.if-not-are_for.false) in
-    not_valid _ _ _ _ (key_of c.args.offered.now) (certificate_of c.args.certificate.now) users own known plain id names c.validate_principal_at.result c.validate_principal_at.ensures
+    not_valid _ _ _ _ (key_of c.args.offered.now) (certificate_of c.args.certificate.now) users own known plain id names c.validate.result c.validate.ensures.judged

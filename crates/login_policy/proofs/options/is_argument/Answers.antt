@@ -1,7 +1,8 @@
-use Rattle.std.proofs.Common.{lit<}
-use Rattle.std.proofs.lemmas.Str.Pattern.{contains_char}
-use Rattle.login_policy.proofs.KnownOptions.{argument}
+use Rattle.login_policy.proofs.KnownOptions.{filled}
 use Rattle.login_policy.proofs.options.is_argument.Goals as goal
 
 pub returns-then-not-is_empty : goal.returns-then-not-is_empty
-returns-then-not-is_empty c = argument c.args.value.now c.is_empty.result c.contains.result c.is_empty.ensures c.if-not-is_empty.true (contains_char 0 c.args.value.now c.contains.result c.contains.ensures.cases (lit< tt))
+returns-then-not-is_empty c = (
+  λ yes. record { some = filled c.args.value.now c.is_empty.result c.is_empty.ensures c.if-not-is_empty.true; no_zero = c.is_read_text.ensures.0 yes },
+  λ is. c.is_read_text.ensures.1 is.no_zero,
+)

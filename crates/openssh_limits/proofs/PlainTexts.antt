@@ -6,7 +6,7 @@ use Rattle.std.proofs.lemmas.List.{get_or_default, length-map}
 use Rattle.std.proofs.lemmas.List.Elements.{All-cons, All-head, All-map, All-nil, All-tail}
 use Rattle.std.specs.Prelude.{◌==◌, All, String, string_bytes}
 use Rattle.ssh_key.specs.model.Lines.{IsWithout}
-use Rattle.login_policy.specs.Principals.{AreListed}
+use Rattle.openssh_limits.specs.Read.{AreReadPrincipals}
 
 pub without : (text : List ℕ) (found : Bool) → (found ≡ true → (k : ℕ) × (k < length text) × (get_or text k 0 ≡ 0)) × ((k : ℕ) → k < length text → get_or text k 0 ≡ 0 → found ≡ true) → IsTrue (not found) ↔ IsWithout 0 text
 without text true zeros = (λ yes. absurd cc, λ is. let here = zeros.0 refl in absurd (is here.0 here.1 here.2))
@@ -23,25 +23,15 @@ one_more P xs i x lt is one before k d l = elim (cases_lt k i) [
 
 -- ---- principals
 
-pub nobody : {Y : Type 0} (names : List (String Y)) → (length names == 0) ≡ true → AreListed (map string_bytes names) → ⊥
-nobody [] none listed = listed.some refl
-nobody (n ∷ names) none listed =
-    let zero : length (n ∷ names) ≡ 0 = grind (arith, nat_tests) in
-    absurd (omega (arith, zero))
-
-somebody : {Y : Type 0} (names : List (String Y)) → (length names == 0) ≡ false → map string_bytes names ≢ []
-somebody [] some = absurd cc
-somebody (n ∷ names) some = λ none. cc
-
-pub too_many : {Y : Type 0} (names : List (String Y)) → 256 < length names → AreListed (map string_bytes names) → ⊥
-too_many names many listed = omega (arith, many, listed.few, length-map names string_bytes)
+pub too_many : {Y : Type 0} (names : List (String Y)) → 256 < length names → AreReadPrincipals (map string_bytes names) → ⊥
+too_many names many read = omega (arith, many, read.few, length-map names string_bytes)
 
 unmapped : {Y : Type 0} (P : List ℕ → Type 0) (names : List (String Y)) → All P (map string_bytes names) → All (λ n. P (string_bytes n)) names
 unmapped P [] all = All-nil (λ n. P (string_bytes n))
 unmapped P (n ∷ names) all = All-cons (λ m. P (string_bytes m)) n names (All-head P (string_bytes n) (map string_bytes names) all) (unmapped P names (All-tail P (string_bytes n) (map string_bytes names) all))
 
-pub listed : {Y : Type 0} (names : List (String Y)) (r : Bool) → (length names == 0) ≡ false → length names ≤ 256 → (IsTrue r ↔ All (λ n. IsWithout 0 (string_bytes n)) names) → IsTrue r ↔ AreListed (map string_bytes names)
-listed names r some few judged = (
-  λ yes. record { some = somebody names some; few = omega (arith, few, length-map names string_bytes); no_zero = All-map (IsWithout 0) string_bytes names (judged.0 yes) },
+pub few_read : {Y : Type 0} (names : List (String Y)) (r : Bool) → length names ≤ 256 → (IsTrue r ↔ All (λ n. IsWithout 0 (string_bytes n)) names) → IsTrue r ↔ AreReadPrincipals (map string_bytes names)
+few_read names r few judged = (
+  λ yes. record { few = omega (arith, few, length-map names string_bytes); no_zero = All-map (IsWithout 0) string_bytes names (judged.0 yes) },
   λ are. judged.1 (unmapped (IsWithout 0) names are.no_zero),
 )

@@ -1,0 +1,32 @@
+//! Whether a key is the certified one.
+
+ghost use Rattle.std.specs.Prelude.{◌≡◌, ◌↔◌, IsTrue};
+ghost use Rattle.ssh_key.specs.cert.CertificateValues.{certificate_of};
+ghost use Rattle.ssh_key.specs.keys.Keys.{key_of};
+ghost use Rattle.ssh_key.specs.model.Certificates.{IsCertificate};
+ghost use Rattle.ssh_key.specs.model.Keys.{IsKey};
+ghost use Rattle.login_policy.specs.Logins.{IsOwn};
+
+use openssh_limits::has_read_application;
+use ssh_key::Certificate;
+use ssh_key::laws::compared_keys;
+use ssh_key::public::KeyData;
+
+/// Whether the offered key is the one that is certified, and sshd(8) reads its application.
+pub(crate) fn is_key_of(certificate: &Certificate, offered: &KeyData) -> bool
+    requires certificate { IsCertificate (certificate_of certificate.now) }
+    requires offered { IsKey (key_of offered.now) }
+    ensures { IsTrue result ↔ IsOwn (key_of offered.now) (certificate_of certificate.now) }
+{
+    is_same(certificate.public_key(), offered) && has_read_application(offered)
+}
+
+/// Whether both are the same key.
+fn is_same(key: &KeyData, other: &KeyData) -> bool
+    requires key { IsKey (key_of key.now) }
+    requires other { IsKey (key_of other.now) }
+    ensures { IsTrue result ↔ (key_of key.now ≡ key_of other.now) }
+{
+    compared_keys();
+    key == other
+}

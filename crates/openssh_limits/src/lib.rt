@@ -1,0 +1,11 @@
+//! What OpenSSH does not read of keys and certificates that `ssh_key` reads.
+//!
+//! For callers that are to accept nothing that OpenSSH refuses. It names `ssh_key` alone, and is
+//! proved from its contracts.
+#![tactic(auto)]
+
+mod application;
+mod texts;
+
+pub use application::has_read_application;
+pub use texts::{are_read_principals, is_read_text};

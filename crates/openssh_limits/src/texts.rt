@@ -1,0 +1,39 @@
+//! The texts that OpenSSH reads.
+
+ghost use Rattle.std.specs.Prelude.{◌↔◌, IsTrue, All, map, string_bytes};
+ghost use Rattle.ssh_key.specs.model.Lines.{IsWithout};
+ghost use Rattle.openssh_limits.specs.Read.{AreReadPrincipals};
+
+/// How many principals OpenSSH reads of a certificate.
+const MOST_PRINCIPALS: usize = 256;
+
+/// Returns whether OpenSSH reads these principals of a certificate as they are: at most 256, and no
+/// byte of one is 0. Does not allocate.
+pub fn are_read_principals(names: &[String]) -> bool
+    ensures { IsTrue result ↔ AreReadPrincipals (map string_bytes names.now) }
+{
+    if names.len() > MOST_PRINCIPALS {
+        return false;
+    }
+    are_read_texts(names)
+}
+
+/// Returns whether OpenSSH reads each of the texts as it is.
+fn are_read_texts(texts: &[String]) -> bool
+    ensures { IsTrue result ↔ All (λ n. IsWithout 0 (string_bytes n)) texts.now }
+{
+    for text in texts {
+        if !is_read_text(text.as_str()) {
+            return false;
+        }
+    }
+    true
+}
+
+/// Returns whether OpenSSH reads the text as it is: no byte is 0. It takes a text to end at a zero
+/// byte that is its last, and refuses one with another zero byte. Does not allocate.
+pub fn is_read_text(text: &str) -> bool
+    ensures { IsTrue result ↔ IsWithout 0 text.now }
+{
+    !text.contains('\0')
+}
