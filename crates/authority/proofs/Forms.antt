@@ -1,5 +1,5 @@
 -- What is certified has the form of a certificate.
-use Rattle.std.proofs.Common.{◌≡◌, ◌≢◌, ◌∙◌, ◌⊎◌, ℕ, ◌<◌, ◌^◌, List, [], ◌∷◌, map, Bool, true, false, Option, None, Some, refl, sym, arith, bytes_eq, eq-eqb, inl, inr, lt-ltb, nat_lt}
+use Rattle.std.proofs.Common.{◌≡◌, ◌≢◌, ◌∙◌, ◌⊎◌, ℕ, ◌<◌, ◌^◌, List, [], ◌∷◌, map, Bool, IsTrue, true, false, Option, None, Some, refl, sym, arith, bytes_eq, eq-eqb, inl, inr, lt-ltb, nat_lt}
 use Rattle.std.specs.List.{AllByRecursion}
 use Rattle.std.specs.Prelude.{String, string_bytes}
 use Rattle.std.proofs.Math.Dec.{eqb}
@@ -15,19 +15,21 @@ use Rattle.ssh_key.specs.model.OptionMaps.{value_of, with_option}
 use Rattle.ssh_key.specs.model.Options.{AreOptions, CertificateOption, Rises, is_after, is_below}
 use Rattle.ssh_key.specs.model.Reading.{IsChain}
 use Rattle.ssh_key.specs.model.Texts.{IsText}
-use Rattle.authority.specs.Requests.{IsCertifiable, IsWithin, extensions_of, fields_for, flag, with_flag, with_flags}
+use Rattle.authority.specs.CertifiedKeys.{is_among}
+use Rattle.authority.specs.Requests.{IsWithin, extensions_of, fields_for, flag, with_flag, with_flags}
+use Rattle.authority.specs.declared.keys.KeyKinds.{KeyKinds}
 use Rattle.authority.specs.declared.limits.Limits.{Limits}
 use Rattle.authority.specs.declared.request.Request.{Request}
 
 -- a key under a name of the standards has a name of its own in certificates
-own_name : (key : Key) → IsCertifiable key → IsCertified (key_algorithm key)
-own_name (Dsa k) is = tt
-own_name (Ecdsa curve point) is = tt
-own_name (Ed25519 k) is = tt
-own_name (Rsa k) is = tt
-own_name (SkEcdsa k) is = tt
-own_name (SkEd25519 k) is = tt
-own_name (Opaque name k) is = absurd cc
+own_name : (kinds : KeyKinds) (key : Key) → IsTrue (is_among kinds key) → IsCertified (key_algorithm key)
+own_name kinds (Dsa k) is = tt
+own_name kinds (Ecdsa curve point) is = tt
+own_name kinds (Ed25519 k) is = tt
+own_name kinds (Rsa k) is = tt
+own_name kinds (SkEcdsa k) is = tt
+own_name kinds (SkEd25519 k) is = tt
+own_name kinds (Opaque name k) is = absurd cc
 
 text : {Y : Type 0} (s : String Y) → IsText (string_bytes s)
 text s = is_utf8-from_IsUtf8 _ (IsUtf8-string_bytes s)
@@ -117,7 +119,7 @@ are_fields limits t r serial nonce authority within key signer =
     let before = within.window.0 in
     let less = within.window.1 in
     record {
-      name = own_name (key_of r.key) within.key;
+      name = own_name limits.kinds (key_of r.key) within.key.among;
       key = key.1;
       key_id = text r.key_id;
       valid_principals = texts r.principals.items;

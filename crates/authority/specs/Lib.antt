@@ -1,2 +1,3 @@
+pub mod CertifiedKeys
 pub mod Requests
 pub mod Serials

@@ -5,7 +5,6 @@ use Rattle.std.specs.NonZero.{non_zero_u64_get}
 use Rattle.ssh_key.specs.builder.Builders.{IsValidExactlyIn, draft_of}
 use Rattle.ssh_key.specs.cert.CertificateValues.{certificate_of, comment_of}
 use Rattle.ssh_key.specs.cert.Signing.{PermitsToSign, RefusesToSign}
-use Rattle.ssh_key.specs.keys.KeyKinds.{is_opaque}
 use Rattle.ssh_key.specs.keys.Keys.{key_of}
 use Rattle.ssh_key.specs.model.Certificates.{SignedFields, User}
 use Rattle.ssh_key.specs.model.Drafts.{Extension, Principal, Step, after_steps, bad_window}
@@ -22,16 +21,12 @@ use Rattle.ssh_key.specs.types.Error.TheVariants.{CertificateFieldInvalid, Memor
 use Rattle.ssh_key.specs.types.certificate.Builder.{Builder}
 use Rattle.ssh_key.specs.types.certificate.Field.TheVariants as field
 use Rattle.ssh_key.specs.types.public.KeyData.{KeyData}
+use Rattle.authority.specs.CertifiedKeys.{IsCertifiable}
 use Rattle.authority.specs.declared.authority.Authority.{Authority}
 use Rattle.authority.specs.declared.limits.Limits.{Limits}
 use Rattle.authority.specs.declared.request.Request.{Request}
 
 -- ---- what may be asked for
-
--- The key stands under no private-use name. In certificates such a name may be that of another kind
--- of key, as `ssh-ed25519@openssh.com` is, and then what is signed would certify another key.
-abbrev pub IsCertifiable : Key → Type 0
-IsCertifiable key = is_opaque key ≡ false
 
 abbrev pub IsListed : {Y : Type 0} → List (String Y) → List ℕ → Type 0
 IsListed listed name = Contains (map string_bytes listed) name
@@ -75,7 +70,7 @@ HasRoom limits t r = (r.valid_before < 2 ^ 63) × (r.valid_after < r.valid_befor
 
 -- At the second t the request is within the limits.
 pub record IsWithin (limits : Limits) (t : ℕ) (r : Request) : Type 0 where
-  pub key : IsCertifiable (key_of r.key)
+  pub key : IsCertifiable limits.kinds (key_of r.key)
   pub key_id : IsWithout 0 (string_bytes r.key_id)
   pub users : AreAllowed limits r
   pub extensions : ArePermitted limits r
@@ -84,11 +79,11 @@ pub record IsWithin (limits : Limits) (t : ℕ) (r : Request) : Type 0 where
 -- The error says what is outside the limits first: the key, the key id, the users, the extensions or
 -- the window.
 pub data RefusesRequest (limits : Limits) (t : ℕ) (r : Request) : Error → Type 0 where
-  OtherKey : (IsCertifiable (key_of r.key) → ⊥) → RefusesRequest limits t r (CertificateFieldInvalid field.PublicKey)
-  OtherKeyId : IsCertifiable (key_of r.key) → (IsWithout 0 (string_bytes r.key_id) → ⊥) → RefusesRequest limits t r (CertificateFieldInvalid field.KeyId)
-  OtherUsers : IsCertifiable (key_of r.key) → IsWithout 0 (string_bytes r.key_id) → (AreAllowed limits r → ⊥) → RefusesRequest limits t r (CertificateFieldInvalid field.ValidPrincipals)
-  OtherExtensions : IsCertifiable (key_of r.key) → IsWithout 0 (string_bytes r.key_id) → AreAllowed limits r → (ArePermitted limits r → ⊥) → RefusesRequest limits t r (CertificateFieldInvalid field.Extensions)
-  OtherWindow : IsCertifiable (key_of r.key) → IsWithout 0 (string_bytes r.key_id) → AreAllowed limits r → ArePermitted limits r → (HasRoom limits t r → ⊥) → RefusesRequest limits t r (CertificateFieldInvalid field.ValidBefore)
+  OtherKey : (IsCertifiable limits.kinds (key_of r.key) → ⊥) → RefusesRequest limits t r (CertificateFieldInvalid field.PublicKey)
+  OtherKeyId : IsCertifiable limits.kinds (key_of r.key) → (IsWithout 0 (string_bytes r.key_id) → ⊥) → RefusesRequest limits t r (CertificateFieldInvalid field.KeyId)
+  OtherUsers : IsCertifiable limits.kinds (key_of r.key) → IsWithout 0 (string_bytes r.key_id) → (AreAllowed limits r → ⊥) → RefusesRequest limits t r (CertificateFieldInvalid field.ValidPrincipals)
+  OtherExtensions : IsCertifiable limits.kinds (key_of r.key) → IsWithout 0 (string_bytes r.key_id) → AreAllowed limits r → (ArePermitted limits r → ⊥) → RefusesRequest limits t r (CertificateFieldInvalid field.Extensions)
+  OtherWindow : IsCertifiable limits.kinds (key_of r.key) → IsWithout 0 (string_bytes r.key_id) → AreAllowed limits r → ArePermitted limits r → (HasRoom limits t r → ⊥) → RefusesRequest limits t r (CertificateFieldInvalid field.ValidBefore)
 
 -- ---- what is certified
 

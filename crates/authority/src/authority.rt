@@ -48,6 +48,9 @@ impl Authority {
     /// number is left (`Field::Serial`), and then nothing is changed. Else the refusals of
     /// `Builder::new` and of `Builder::sign`. A serial number is used up also where signing is
     /// refused, since the signer may have signed. The signer is asked for that certificate alone.
+    ///
+    /// It does not ask who asks: that whoever does is the users in the request, and holds the
+    /// private key, is the caller's to establish first, as by a signature over a challenge.
     pub fn issue<S: SigningKey>(
         &mut self,
         alloc: Global,

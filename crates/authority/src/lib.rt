@@ -1,14 +1,16 @@
 //! An authority: what it certifies, until when, under which serial numbers, and what it took back.
 //!
-//! It names `ssh_key` alone, and is proved from its contracts. Copy it.
+//! It names `ssh_key` and `openssh_limits` alone, and is proved from their contracts. Copy both.
 #![tactic(auto)]
 
 mod authority;
 mod certify;
+mod keys;
 pub mod laws;
 mod limits;
 mod request;
 
 pub use authority::Authority;
+pub use keys::KeyKinds;
 pub use limits::Limits;
 pub use request::Request;

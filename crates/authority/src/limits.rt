@@ -3,8 +3,10 @@
 ghost use Rattle.std.specs.List.{list_all};
 ghost use Rattle.std.specs.Prelude.{◌≡◌, ◌≢◌, ◌↔◌, ◌≤◌, ◌<◌, ◌+◌, ◌^◌, [], IfErr, IsTrue, All, length, map, string_bytes};
 ghost use Rattle.ssh_key.specs.base.Acceptance.{AcceptsExactly};
+ghost use Rattle.authority.specs.CertifiedKeys.{all_but_dsa};
 ghost use Rattle.authority.specs.Requests.{IsAllowed, IsWithin, RefusesRequest, has_no_zero, is_allowed, is_listed};
 
+use crate::keys::KeyKinds;
 use crate::request::Request;
 use ssh_key::certificate::{Field, MAX_SECS};
 use ssh_key::{Error, Result};
@@ -22,11 +24,29 @@ pub struct Limits {
     pub extensions: Vec<String>,
     /// How many seconds a window may have, and how many seconds from now it may end at most.
     pub longest: u64,
+    /// The kinds of key that may be certified.
+    pub kinds: KeyKinds,
 }
 
 impl Limits {
+    /// Returns the limits with these users and extensions, windows of at most so many seconds, and
+    /// all kinds of key but DSA. Does not allocate.
+    pub fn new(principals: Vec<String>, extensions: Vec<String>, longest: u64) -> Limits
+        ensures principals { result.principals ≡ principals }
+        ensures extensions { result.extensions ≡ extensions }
+        ensures longest { result.longest ≡ longest }
+        ensures kinds { result.kinds ≡ all_but_dsa }
+    {
+        Limits {
+            principals,
+            extensions,
+            longest,
+            kinds: KeyKinds::all_but_dsa(),
+        }
+    }
+
     /// Whether the request is within the limits, at that time in seconds since 1970: its key is
-    /// under no private-use name; it is for some users, up to 256, each of whom is listed; each
+    /// of one of `kinds`, and one that sshd(8) reads; it is for some users, up to 256, each of whom is listed; each
     /// extension is listed; the key id, the users and the extensions have no zero byte; and its
     /// window has a second and no more than `longest`, is not over, and ends `longest` seconds
     /// from now or before. Does not allocate.
@@ -35,13 +55,19 @@ impl Limits {
     /// `ValidPrincipals` for the users, `Extensions` for the extensions and `ValidBefore` for the
     /// window, in that order.
     ///
+    /// sshd reads numbers that are positive and have at most 16,384 bits, points that begin with
+    /// 04, and applications without a zero byte, which it takes for another key's. An RSA key has
+    /// to have 2,048 bits; a point that is not on its curve, which sshd does not read either, is
+    /// the caller's to refuse. A key under a private-use name is never certified: in certificates
+    /// that name may be of another kind of key.
+    ///
     /// A window may begin before now, as that of `ssh-keygen -V -5m:+1h` does for machines whose
     /// clock is slow, and then these seconds count too: that one has 3,900.
     pub fn check(&self, request: &Request, unix_timestamp: u64) -> Result<()>
         ensures exactly { AcceptsExactly (IsWithin self.now unix_timestamp request.now) result }
         ensures refused { IfErr result (RefusesRequest self.now unix_timestamp request.now) }
     {
-        if request.key.is_other() {
+        if !self.kinds.allow(&request.key) {
             return Err(Error::CertificateFieldInvalid(Field::PublicKey));
         }
         if !is_without_zero(request.key_id.as_str()) {

@@ -24,11 +24,11 @@ pub(crate) fn answer(alloc: Global, words: &[&str], told: &Told) -> Result<Strin
     else {
         return Err(NO_LINE);
     };
-    let limits = Limits {
-        principals: names(alloc, principals)?,
-        extensions: names(alloc, extensions)?,
-        longest: number(longest)?,
-    };
+    let limits = Limits::new(
+        names(alloc, principals)?,
+        names(alloc, extensions)?,
+        number(longest)?,
+    );
     let Some(serial) = NonZeroU64::new(number(serial)?) else {
         return Err(Error::CertificateFieldInvalid(Field::Serial));
     };

@@ -1,0 +1,8 @@
+use Rattle.std.proofs.Common.{sym, ◌∙◌}
+use Rattle.authority.proofs.keys.KeyKinds.allow.Goals as goal
+
+pub returns-then-are_of : goal.returns-then-are_of
+returns-then-are_of c = (
+  λ yes. record { among = sym c.are_of.ensures ∙ c.if-are_of.true; read = c.is_read.ensures.0 yes },
+  λ is. c.is_read.ensures.1 is.read,
+)
