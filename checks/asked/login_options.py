@@ -12,8 +12,9 @@ from lib.signatures import signed
 from .security_key_agent import Agent
 from .security_key_calls import TOUCHED, VERIFIED, SecurityKey
 
-CRITICAL, EXTENSIONS, KEY_ID, PRINCIPALS = (
-    "refused: certificate field invalid: " + it for it in ("critical options", "extensions", "key id", "valid principals")
+CRITICAL, EXTENSIONS, KEY_ID, PRINCIPALS, PUBLIC_KEY = (
+    "refused: certificate field invalid: " + it
+    for it in ("critical options", "extensions", "key id", "valid principals", "public key")
 )
 INVALID = "refused: certificate validation failed"
 FLAGS = [
@@ -59,6 +60,13 @@ TEXTS = [
     ("a zero byte behind a principal", b"id", [b"a\0"], PRINCIPALS, 0),
     ("a zero byte behind the key id", b"a\0", [], KEY_ID, 0),
 ]  # fmt: skip
+# of a security key: names, the application, what the program answers, and the status of `ssh-keygen -L`
+APPLICATIONS = [
+    ("another application", b"ssh:x", "ok touch-required", 0),
+    ("a zero byte in the application", b"a\0b", PUBLIC_KEY, 1),
+    # stricter here
+    ("a zero byte behind the application", b"ssh:\0", PUBLIC_KEY, 0),
+]
 # by a security key: names, ssh-keygen's words, the flags that the key signs with, and what the program answers
 BY_DEVICE = [
     ("touched", [], TOUCHED, "ok touch-required"),
@@ -75,15 +83,22 @@ def pairs(options):
     return string(b"".join(string(name.encode()) + string(data) for name, data in options.items()))
 
 
-def certificate(maker, authority, key, users, critical, extensions, key_id=b"id"):
-    """The line of a certificate for these users with these options, valid now, put together here (PROTOCOL.certkeys)."""
+def certified_name(name):
+    """The name of a key's algorithm in certificates (PROTOCOL.certkeys)."""
+    return name.removesuffix(b"@openssh.com") + b"-cert-v01@openssh.com"
+
+
+def certificate(maker, authority, key, users, critical, extensions, key_id=b"id", kind=1):
+    """The line of a certificate of that kind for these users, or hosts, with these options, valid now, put together here
+    (PROTOCOL.certkeys)."""
     signer, now = maker.read(f"{authority}.pub"), int(time.time())
-    fields = [string(b"ssh-ed25519-cert-v01@openssh.com"), string(os.urandom(16)), take(base64.b64decode(key.split()[1]))[1]]
-    fields += [(1).to_bytes(8, "big"), (1).to_bytes(4, "big"), string(key_id), string(users)]
+    name, body = take(base64.b64decode(key.split()[1]))
+    fields = [string(certified_name(name)), string(os.urandom(16)), body]
+    fields += [(1).to_bytes(8, "big"), kind.to_bytes(4, "big"), string(key_id), string(users)]
     fields += [(now - 300).to_bytes(8, "big"), (now + 300).to_bytes(8, "big"), pairs(critical), pairs(extensions), string(b"")]
     message = b"".join([*fields, string(base64.b64decode(signer.split()[1]))])
     blob = message + string(signed(maker.path(authority), signer, message))
-    return f"ssh-ed25519-cert-v01@openssh.com {base64.b64encode(blob).decode()}"
+    return f"{certified_name(name).decode()} {base64.b64encode(blob).decode()}"
 
 
 def said(maker, sshd, user, key, line, agent="none"):
@@ -111,6 +126,12 @@ def compared(wanted, log, is_as_wanted):
     return wanted if is_as_wanted else f"{wanted}, and OpenSSH writes {log}"
 
 
+def read_as(maker, line, status, wanted):
+    """The answer that is wanted, or what ssh-keygen wrote where it ends with another status than that."""
+    shown = maker.run("-L", "-f", "-", input=f"{line}\n".encode(), check=False)
+    return compared(wanted, shown, shown.returncode == status)
+
+
 def login_options(maker, sshd, user, authority, told_of_certificate):
     """Names, lines and answers: the configuration that trusts the authority stands in the folder."""
     trusted = maker.fingerprint(authority)
@@ -128,8 +149,12 @@ def login_options(maker, sshd, user, authority, told_of_certificate):
     for name, key_id, others, wanted, status in TEXTS:
         users = b"".join(map(string, [*others, user.encode()]))
         line = certificate(maker, authority, key, users, {}, {}, key_id)
-        shown = maker.run("-L", "-f", "-", input=f"{line}\n".encode(), check=False)
-        yield question(name, key, line, compared(wanted, shown, shown.returncode == status))
+        yield question(name, key, line, read_as(maker, line, status, wanted))
+    for kind in ("Ed25519", "ECDSA P-256"):
+        for name, application, wanted, status in APPLICATIONS:
+            held = SecurityKey(kind, application).line()
+            line = certificate(maker, authority, held, string(user.encode()), {}, {})
+            yield question(f"{name} ({kind})", held, line, read_as(maker, line, status, wanted))
     # sshd knows no such user, whom a certificate may list
     line = certificate(maker, authority, key, string(b""), {}, {})
     asked = "\t".join(["login", "", str(int(time.time())), key, line, trusted])

@@ -6,6 +6,8 @@ import time
 from lib.harness import string
 from lib.signatures import TYPES, armoured, signed, signed_data, told, told_of_file, unarmoured
 
+from .security_key_calls import SecurityKey
+
 NAMESPACE = "git"
 WHO = "alice@example.com"
 # 2024-01-01 12:00:00, UTC
@@ -190,6 +192,17 @@ def reserving(maker, name, key, message, covered):
     return head + b"".join(map(string, (namespace, b"x", name_of_hash, signature))), told(key, signature, data)
 
 
+def by_device(device, message):
+    """A signature by a security key; and the line that tells the program of what the device signed with the plain key within."""
+    namespace, name_of_hash = NAMESPACE.encode(), b"sha512"
+    said = device.device_message(signed_data(namespace, b"", name_of_hash, message))
+    raw, plain = device.raw(said), device.plain()
+    head = b"SSHSIG" + (1).to_bytes(4, "big") + string(device.blob())
+    blob = head + b"".join(map(string, (namespace, b"", name_of_hash, device.signature(raw))))
+    line = f"{device.names[1].decode()} {base64.b64encode(plain).decode()}"
+    return blob, told(line, string(device.names[1]) + string(raw), said)
+
+
 def says(maker, text, blob, message, who, namespace, at):
     """Whether ssh-keygen takes the signature for that identity's."""
     with open(maker.path("allowed"), "wb") as file:
@@ -257,3 +270,11 @@ def others(maker, keys, message, made, case):
     blob, line = reserving(maker, "signer", keys["key"], message, b"")
     yield case("a reserved byte that is not signed", text, "not verified", blob=blob, line=line, same=False)
     yield case("bytes that are no signature", text, "no signature", blob=made[:-1], line=None)
+    for kind in ("Ed25519", "ECDSA P-256"):
+        for name, application, wanted in (
+            ("with an application", b"ssh:", OK), ("with a zero byte in it", b"ssh:\0x", NO), ("with a zero byte behind it", b"ssh:\0", NO),
+        ):  # fmt: skip
+            device = SecurityKey(kind, application)
+            keys["held"] = device.line()
+            blob, line = by_device(device, message)
+            yield case(f"by a security key ({kind}), {name}", "{who} {held}\n", wanted, blob=blob, line=line)

@@ -116,9 +116,6 @@ no_entry namespace time key text e none = refused (HasEntryFor namespace time ke
 -- ---- a line
 
 module _ (identity namespace : List ℕ) (time : ℕ) (key : Key) (line : List ℕ) where
-  pub has_zero : (k : ℕ) → k < length line → get_or line k 0 ≡ 0 → IsTrue false ↔ Allows identity namespace time key line
-  has_zero k l here = never (Allows identity namespace time key line) (λ a. a.no_zero k l here)
-
   pub no_front : ((p : List ℕ × List ℕ) → ArePrincipals line p → ⊥) → IsTrue false ↔ Allows identity namespace time key line
   no_front none = never (Allows identity namespace time key line) (λ a. none (a.principals, a.rest) a.front)
 

@@ -2,6 +2,7 @@
 -- SIGNERS).
 use Rattle.std.specs.Prelude.{◌≡◌, ◌≢◌, ◌⊎◌, ℕ, List, [], Bool, true, false, Result, Ok, Err}
 use Rattle.std.specs.List.{Any}
+use Rattle.openssh_limits.specs.Read.{HasReadApplication}
 use Rattle.ssh_key.specs.base.Acceptance.{SpellsSome}
 use Rattle.ssh_key.specs.base.Reading.{NoSpelling}
 use Rattle.ssh_key.specs.entries.AuthorizedKeys.{AuthorizedKey}
@@ -32,9 +33,11 @@ pub record OptionsPermit (namespace : List ℕ) (time : ℕ) (options : List ℕ
   pub said : AreTerms options terms
   pub permitted : Permits namespace time terms
 
--- The entry is that key, and its options permit the namespace and the time.
+-- The entry is that key, whose application ssh-keygen reads, and its options permit the namespace
+-- and the time.
 pub record IsEntryFor (namespace : List ℕ) (time : ℕ) (key : Key) (entry : AuthorizedKey) : Type 0 where
   pub own_key : entry.key ≡ key
+  pub application : HasReadApplication key
   pub options : OptionsPermit namespace time entry.options
 
 -- So is an entry that the text spells, like a line of authorized_keys.

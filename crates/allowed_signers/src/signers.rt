@@ -10,6 +10,7 @@ ghost use Rattle.allowed_signers.specs.AllowedSigners.{Allows, Answers, Counts, 
 
 use crate::line::split_principals;
 use crate::options::SignerOptions;
+use openssh_limits::{has_read_application, is_read_text};
 use ssh_key::authorized_keys::{Entry, FilledLines, OpenSshEntry, OpenSshOptions};
 use ssh_key::laws::{compared_keys, one_authorized_line, one_ssh_signature, signed_parts_fit};
 use ssh_key::patterns::{LetterCase, matches_pattern_list};
@@ -41,7 +42,9 @@ pub enum Refusal {
 /// in UTC. A line with `cert-authority` lets certificates sign, which are not read in a signature:
 /// it is passed over. So is each line in which something else stands, as ssh-keygen does, a line in
 /// which a byte is 0, and one with a carriage return in its list of patterns: ssh-keygen ends the
-/// line at the former, and an unquoted list at the latter.
+/// line at the former, and an unquoted list at the latter. And so is the line of a security key
+/// whose application has a zero byte: ssh-keygen takes it for another key's, or reads it not at all,
+/// and no verifier sees it.
 ///
 /// `signature` is what stands in the armour of `ssh-keygen -Y sign`, decoded. Unless memory runs
 /// out, it is refused for the first of these that holds: `NoSignature`, `NotAllowed`,
@@ -51,7 +54,8 @@ pub enum Refusal {
 /// nobody touched it, as for ssh-keygen: the flags are the fifth byte from the end of
 /// `Signature::as_bytes`, and the bit 0x01 says that somebody did. Keys that ssh-keygen does not
 /// read are left to the verifier: RSA keys of fewer than 1,024 bits or more than 16,384, keys with
-/// negative numbers, and points that are compressed or not on their curve.
+/// negative numbers, and points that are compressed or not on their curve. It does not ask whether
+/// the key is revoked, as `ssh-keygen -Y verify -r` does.
 pub fn verify<V: RawVerifier>(
     alloc: Global,
     signers: &str,
@@ -195,7 +199,7 @@ fn allows(
         unix_timestamp (key_of key.now) line.now) }
     ensures memory { IfErr result (λ e. e ≡ Memory) }
 {
-    if line.contains('\0') {
+    if !is_read_text(line) {
         return Ok(false);
     }
     let Some((principals, rest)) = split_principals(line) else {
@@ -227,7 +231,8 @@ fn has_entry_for(
     }
 }
 
-/// Whether the entry is of that key, and its options permit the namespace and the time.
+/// Whether the entry is of that key, whose application ssh-keygen reads, and its options permit the
+/// namespace and the time.
 fn is_entry_for(
     alloc: Global,
     entry: &OpenSshEntry,
@@ -241,6 +246,9 @@ fn is_entry_for(
     ensures memory { IfErr result (λ e. e ≡ Memory) }
 {
     if !is_same(key, entry.public_key().key_data()) {
+        return Ok(false);
+    }
+    if !has_read_application(key) {
         return Ok(false);
     }
     options_permit(alloc, entry.options(), namespace, unix_timestamp)

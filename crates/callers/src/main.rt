@@ -3,7 +3,8 @@
 //! A line is a question and what it is about, with a tab between; its answer is written on a line.
 //! Comments and empty lines are written as they are. A line `verified` tells of a signature that
 //! another program has verified: those, and no others, are accepted in the lines behind it. A line
-//! `hashed` tells of an HMAC-SHA1 that another program has computed.
+//! `hashed` tells of an HMAC-SHA1 that another program has computed. A line `questions` before a
+//! question has the number of times written that the verifier is asked for its answer.
 #![tactic(auto)]
 
 mod agent;
@@ -19,7 +20,7 @@ mod verified;
 mod words;
 
 use hashes::{Hashes, read_hashed};
-use ssh_key::Result;
+use ssh_key::{Error, Result};
 use std::alloc::Global;
 use std::io::{self, BufRead, BufReader, Write};
 use verified::{Told, read_verified};
@@ -57,17 +58,43 @@ fn answer(alloc: Global, line: &str, told: &mut Told, hashes: &mut Hashes) -> Re
                 hashes.add(read_hashed(alloc, words)?)?;
                 Ok(String::from_str(alloc, "told")?)
             }
-            "agent-request" => agent::request(alloc, words),
-            "agent-response" => agent::response(alloc, words),
-            "agent-signature" => client::answer(alloc, words, told),
-            "allowed-signer" => allowed::answer(alloc, words, told),
-            "deploy" => deploy::answer(alloc, words, told),
-            "host-key" => host::key(alloc, words, hashes),
-            "host-certificate" => host::certificate(alloc, words, hashes, told),
-            "issue" => issue::answer(alloc, words, told),
-            "login" => login::answer(alloc, words, told),
-            _ => Err(NO_LINE),
+            "questions" => questions(alloc, words, told, hashes),
+            _ => reply(alloc, question, words, told, hashes),
         },
         [] => Err(NO_LINE),
+    }
+}
+
+/// How many questions the verifier is asked before the question in the words is answered.
+fn questions(alloc: Global, words: &[&str], told: &Told, hashes: &Hashes) -> Result<String> {
+    let [question, words @ ..] = words else {
+        return Err(NO_LINE);
+    };
+    let before = told.asked();
+    if let Err(Error::Memory) = reply(alloc, question, words, told, hashes) {
+        return Err(Error::Memory);
+    }
+    Ok(format!(in alloc; "{}", told.asked().saturating_sub(before))?)
+}
+
+/// The answer to a question.
+fn reply(
+    alloc: Global,
+    question: &str,
+    words: &[&str],
+    told: &Told,
+    hashes: &Hashes,
+) -> Result<String> {
+    match question {
+        "agent-request" => agent::request(alloc, words),
+        "agent-response" => agent::response(alloc, words),
+        "agent-signature" => client::answer(alloc, words, told),
+        "allowed-signer" => allowed::answer(alloc, words, told),
+        "deploy" => deploy::answer(alloc, words, told),
+        "host-key" => host::key(alloc, words, hashes),
+        "host-certificate" => host::certificate(alloc, words, hashes, told),
+        "issue" => issue::answer(alloc, words, told),
+        "login" => login::answer(alloc, words, told),
+        _ => Err(NO_LINE),
     }
 }

@@ -10,7 +10,6 @@ use std::alloc::Global;
 
 /// Has those signatures that the lines before told of. It knows no private key, so it asks
 /// `KeyData::verify` about what it was given before it hands it on.
-#[derive(Debug)]
 pub(crate) struct Outside<'a> {
     /// The public key.
     pub key: KeyData,

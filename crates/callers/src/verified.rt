@@ -10,6 +10,7 @@ use crate::words::{NO_LINE, bytes};
 use ssh_key::public::KeyData;
 use ssh_key::{Algorithm, PublicKey, RawVerifier, Result, Signature};
 use std::alloc::{AllocError, Global};
+use std::cell::Cell;
 
 /// A signature that another program has verified.
 #[derive(Debug, Drop)]
@@ -24,24 +25,35 @@ pub(crate) struct Verified {
     pub signature: Vec<u8>,
 }
 
-/// Accepts the signatures that it was told of, and no others.
-#[derive(Debug, Drop)]
-pub(crate) struct Told(Vec<Verified>);
+/// Accepts the signatures that it was told of, and no others. It counts how often it is asked.
+#[derive(Drop)]
+pub(crate) struct Told {
+    verified: Vec<Verified>,
+    asked: Cell<u64>,
+}
 
 impl Told {
     /// One that was told of none. Takes no memory.
     pub(crate) fn new(alloc: Global) -> Told {
-        Told(Vec::new(alloc))
+        Told {
+            verified: Vec::new(alloc),
+            asked: Cell::new(0),
+        }
     }
 
     /// Tells of one more. Refused only when out of memory.
     pub(crate) fn add(&mut self, verified: Verified) -> Result<()> {
-        Ok(self.0.push(verified)?)
+        Ok(self.verified.push(verified)?)
+    }
+
+    /// How often it was asked.
+    pub(crate) fn asked(&self) -> u64 {
+        self.asked.get()
     }
 
     /// The signature of that message that it was told of, if there is one.
     pub(crate) fn signature_of(&self, alloc: Global, message: &[u8]) -> Result<Option<Signature>> {
-        for verified in &self.0 {
+        for verified in &self.verified {
             if verified.message.as_slice() == message {
                 let signature = verified.signature.clone()?;
                 return Ok(Some(Signature::new(verified.algorithm.try_clone(alloc)?, signature)?));
@@ -52,7 +64,7 @@ impl Told {
 }
 
 impl RawVerifier for Told {
-    ghost accepts = { λ told q. list_any (λ v. is_about v q) told.0.items };
+    ghost accepts = { λ told q. list_any (λ v. is_about v q) told.verified.items };
 
     fn verify(
         &self,
@@ -61,8 +73,9 @@ impl RawVerifier for Told {
         message: &[u8],
         signature: &[u8],
     ) -> std::result::Result<bool, AllocError> {
+        self.asked.set(self.asked.get().saturating_add(1));
         Ok(
-            self.0
+            self.verified
                 .iter()
                 .any(|it| it.is_about(algorithm, key, message, signature)),
         )

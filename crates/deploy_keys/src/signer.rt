@@ -31,6 +31,8 @@ use std::alloc::Global;
 /// memory runs out, it fails exactly if the bytes spell no SSH signature, with the refusal of
 /// `SshSig::from_bytes`. Where they spell none, `Memory` means that an allocation for what stands
 /// in front of their fault failed: a length that they only state allocates nothing.
+///
+/// It does not ask whether the key is revoked.
 pub fn find_signer<V: RawVerifier>(
     alloc: Global,
     keys: &str,

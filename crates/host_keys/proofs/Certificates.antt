@@ -1,5 +1,6 @@
 -- What the validation of a host's certificate decides.
 use Rattle.std.proofs.Common.{◌≡◌, ◌≢◌, ap, ℕ, List, [], ◌∷◌, Bool, Result, Ok, Err, IfErr, Some, inl, inr, option_map, refl, subst, sym}
+use Rattle.openssh_limits.specs.Read.{AreReadPrincipals}
 use Rattle.ssh_key.specs.base.Acceptance.{AcceptsExactly}
 use Rattle.ssh_key.specs.cert.Validity.{JudgesFor, fingerprint_of, fingerprints_of, refusal_error}
 use Rattle.ssh_key.specs.keys.Fingerprints.{GivesFingerprint, IsFingerprint}
@@ -7,6 +8,7 @@ use Rattle.ssh_key.specs.model.Certificates.{Certificate, Host}
 use Rattle.ssh_key.specs.model.Fingerprints as model
 use Rattle.ssh_key.specs.model.Fingerprints.{fingerprint}
 use Rattle.ssh_key.specs.model.Keys.{Key, normal_key}
+use Rattle.ssh_key.specs.model.Lines.{IsWithout}
 use Rattle.ssh_key.specs.model.Names.{Sha256}
 use Rattle.ssh_key.specs.model.Parts.{BoxesFit}
 use Rattle.ssh_key.specs.model.Principals.{IsValidFor}
@@ -26,14 +28,14 @@ pub only_memory : (k : Key) (e : Error) → BoxesFit (normal_key k) → GivesFin
 only_memory k e fits (inl long) = absurd (long.0 fits)
 only_memory k e fits (inr memory) = memory.1
 
-module _ (accepts : Question → Bool) (t : ℕ) (host : List ℕ) (c : Certificate) (f : Fingerprint) (is : IsFingerprint Sha256 c.signed.signature_key f) (hosts : c.signed.certificate_type ≡ Host) (none : c.signed.critical_options ≡ []) where
+module _ (accepts : Question → Bool) (t : ℕ) (host : List ℕ) (c : Certificate) (f : Fingerprint) (is : IsFingerprint Sha256 c.signed.signature_key f) (hosts : c.signed.certificate_type ≡ Host) (none : c.signed.critical_options ≡ []) (key_id : IsWithout 0 c.signed.key_id) (principals : AreReadPrincipals c.signed.valid_principals) where
   same : fingerprints_of (f ∷ []) ≡ signers c
   same = ap (λ (g : model.Fingerprint). g ∷ []) (own c.signed.signature_key f is)
 
   pub good : (r : Result (Unit {0}) Error) → JudgesFor accepts (f ∷ []) t host c r → AcceptsExactly (IsGoodFor accepts t host c) r
-  good (Ok u) valid = record { for_hosts = hosts; no_options = none; valid = subst (λ (given : List model.Fingerprint). IsValidFor accepts given t host c) same valid }
+  good (Ok u) valid = record { for_hosts = hosts; no_options = none; key_id = key_id; principals = principals; valid = subst (λ (given : List model.Fingerprint). IsValidFor accepts given t host c) same valid }
   good (Err e) judged = λ other is. (judged other).0 (subst (λ (given : List model.Fingerprint). IsValidFor accepts given t host c) (sym same) is.valid)
 
   pub bad : (r : Result (Unit {0}) Error) → JudgesFor accepts (f ∷ []) t host c r → IfErr r (λ e. e ≢ Memory → IsBadFor accepts t host c e)
   bad (Ok u) valid = tt
-  bad (Err e) judged = λ other. NotValid hosts none e (subst (λ (given : List model.Fingerprint). option_map refusal_error (first_refusal_for accepts given t host c) ≡ Some e) same (judged other).1)
+  bad (Err e) judged = λ other. NotValid hosts none key_id principals e (subst (λ (given : List model.Fingerprint). option_map refusal_error (first_refusal_for accepts given t host c) ≡ Some e) same (judged other).1)

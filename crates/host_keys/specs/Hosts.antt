@@ -1,6 +1,7 @@
 -- When a key or a certificate is a host's, by the lines of known_hosts (ssh(1), "VERIFYING HOST
 -- KEYS"; sshd(8), "SSH_KNOWN_HOSTS FILE FORMAT"; PROTOCOL.certkeys).
 use denote.Ref.{Bor}
+use Rattle.openssh_limits.specs.Read.{AreReadPrincipals}
 use Rattle.std.specs.List.{flat_map}
 use Rattle.std.specs.Prelude.{◌≡◌, ◌≢◌, ◌⊎◌, ℕ, List, [], ◌∷◌, Bool, Some, option_map}
 use Rattle.ssh_key.specs.cert.Validity.{refusal_error}
@@ -11,6 +12,7 @@ use Rattle.ssh_key.specs.known_hosts.Verdicts.{IsVerdict}
 use Rattle.ssh_key.specs.model.Certificates.{Certificate, Host}
 use Rattle.ssh_key.specs.model.Fingerprints.{Fingerprint, fingerprint}
 use Rattle.ssh_key.specs.model.Keys.{Key}
+use Rattle.ssh_key.specs.model.Lines.{IsWithout}
 use Rattle.ssh_key.specs.model.Names.{Sha256}
 use Rattle.ssh_key.specs.model.Principals.{IsValidFor}
 use Rattle.ssh_key.specs.model.Refusals.{first_refusal_for}
@@ -70,10 +72,12 @@ abbrev pub signers : Certificate → List Fingerprint
 signers c = fingerprint Sha256 c.signed.signature_key ∷ []
 
 -- For whoever trusts the key that signed, the certificate is good for the host at that time: it is
--- for hosts, without critical options, and valid for the host's name.
+-- for hosts, without critical options, valid for the host's name, and has texts that ssh(1) reads.
 pub record IsGoodFor (accepts : Question → Bool) (t : ℕ) (host : List ℕ) (c : Certificate) : Type 0 where
   pub for_hosts : c.signed.certificate_type ≡ Host
   pub no_options : c.signed.critical_options ≡ []
+  pub key_id : IsWithout 0 c.signed.key_id
+  pub principals : AreReadPrincipals c.signed.valid_principals
   pub valid : IsValidFor accepts (signers c) t host c
 
 -- The key is the host's.
@@ -89,4 +93,6 @@ IsTrustedCertificate hmac accepts t host port c lines = IsSaidOfSigned hmac host
 pub data IsBadFor (accepts : Question → Bool) (t : ℕ) (host : List ℕ) (c : Certificate) : Error → Type 0 where
   ForUsers : c.signed.certificate_type ≢ Host → IsBadFor accepts t host c (CertificateFieldInvalid field.CertType)
   SomeOption : c.signed.certificate_type ≡ Host → c.signed.critical_options ≢ [] → IsBadFor accepts t host c (CertificateFieldInvalid field.CriticalOptions)
-  NotValid : c.signed.certificate_type ≡ Host → c.signed.critical_options ≡ [] → (e : Error) → option_map refusal_error (first_refusal_for accepts (signers c) t host c) ≡ Some e → IsBadFor accepts t host c e
+  OtherKeyId : c.signed.certificate_type ≡ Host → c.signed.critical_options ≡ [] → (IsWithout 0 c.signed.key_id → ⊥) → IsBadFor accepts t host c (CertificateFieldInvalid field.KeyId)
+  OtherPrincipals : c.signed.certificate_type ≡ Host → c.signed.critical_options ≡ [] → IsWithout 0 c.signed.key_id → (AreReadPrincipals c.signed.valid_principals → ⊥) → IsBadFor accepts t host c (CertificateFieldInvalid field.ValidPrincipals)
+  NotValid : c.signed.certificate_type ≡ Host → c.signed.critical_options ≡ [] → IsWithout 0 c.signed.key_id → AreReadPrincipals c.signed.valid_principals → (e : Error) → option_map refusal_error (first_refusal_for accepts (signers c) t host c) ≡ Some e → IsBadFor accepts t host c e

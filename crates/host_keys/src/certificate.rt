@@ -12,6 +12,7 @@ ghost use Rattle.host_keys.specs.Hosts.{IsBadFor, IsGoodFor, IsTrustedCertificat
 
 use crate::refusal::{Refusal, answer};
 use crate::verdict::signed_verdict;
+use openssh_limits::{are_read_principals, is_read_text};
 use ssh_key::certificate::Field;
 use ssh_key::known_hosts::HmacSha1;
 use ssh_key::laws::key_fits;
@@ -21,7 +22,8 @@ use std::alloc::Global;
 /// Accepts the certificate that a host shows if a line `@cert-authority` of the texts of
 /// known_hosts, as OpenSSH reads them, has the key that signed it for the host at that port, no
 /// line for it revokes that key or the certified one, and the certificate is one for hosts, without
-/// critical options, valid at that time for the host's name in small letters, for which ssh(1) asks
+/// critical options, with texts that ssh(1) reads (at most 256 principals, and no zero byte in one
+/// or in the key id), valid at that time for the host's name in small letters, for which ssh asks
 /// it too. So one that lists the name with capitals alone is not the host's.
 ///
 /// The texts are those of all the files that count, as for `check_key`, and are given at once.
@@ -30,13 +32,16 @@ use std::alloc::Global;
 /// comments alone. Else it refuses all others: with `Revoked` where a line revokes one of the keys,
 /// else with `Unreadable` where a line that can't be read could be one for the host, else with
 /// `Unknown` where the key that signed is no authority of the host, and else with `Certificate`
-/// and what is wrong first: `CertificateFieldInvalid` with `CertType` or `CriticalOptions`, or a
-/// refusal of `Certificate::validate_principal_at`. So a certificate that lists nobody is for each
-/// host of its authority (PROTOCOL.certkeys).
+/// and what is wrong first: `CertificateFieldInvalid` with `CertType`, `CriticalOptions`, `KeyId`
+/// or `ValidPrincipals`, or a refusal of `Certificate::validate_principal_at`. So a certificate
+/// that lists nobody is for each host of its authority (PROTOCOL.certkeys). The verifier is asked
+/// only about a certificate by an authority of the host.
 ///
 /// Where it would refuse a host at another port than 22 with `Unknown`, it asks, as ssh(1) does,
 /// all the texts about the host's plain name. Whether the certified key is one that the host is
-/// known by is `check_key`'s question, and not asked here.
+/// known by is `check_key`'s question, and not asked here. Nor is it asked whether a list of
+/// revoked keys, as that of `RevokedHostKeys` (ssh_config(5)), has one of the keys or the
+/// certificate: of revocations it knows the lines `@revoked` alone.
 pub fn check_certificate<H: HmacSha1, V: RawVerifier>(
     alloc: Global,
     texts: &[&str],
@@ -87,6 +92,12 @@ fn validate<V: RawVerifier>(
     }
     if !certificate.critical_options().is_empty() {
         return Err(Error::CertificateFieldInvalid(Field::CriticalOptions));
+    }
+    if !is_read_text(certificate.key_id()) {
+        return Err(Error::CertificateFieldInvalid(Field::KeyId));
+    }
+    if !are_read_principals(certificate.valid_principals()) {
+        return Err(Error::CertificateFieldInvalid(Field::ValidPrincipals));
     }
     let signer = certificate
         .signature_key()

@@ -1,6 +1,6 @@
 //! Whether the key or the certificate that a host shows is the host's, by known_hosts.
 //!
-//! It names `ssh_key` alone, and is proved from its contracts. Copy it.
+//! It names `ssh_key` and `openssh_limits` alone, and is proved from their contracts. Copy both.
 #![tactic(auto)]
 
 mod certificate;

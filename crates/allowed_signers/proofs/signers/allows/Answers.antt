@@ -1,13 +1,13 @@
-use Rattle.std.proofs.Common.{◌≡◌, ◌∙◌, lit<, sym, true}
-use Rattle.std.proofs.lemmas.Str.Pattern.{contains_char}
+use Rattle.std.proofs.Common.{◌≡◌, true}
 use Rattle.ssh_key.specs.keys.Keys.{key_of}
-use Rattle.allowed_signers.proofs.Decisions.{has_zero, line_decides, no_front, not_listed}
+use Rattle.allowed_signers.specs.AllowedSigners.{Allows}
+use Rattle.allowed_signers.proofs.Decisions.{line_decides, never, no_front, not_listed}
 use Rattle.allowed_signers.proofs.signers.allows.Goals as goal
 
-pub returns-then-contains-clause-answer : goal.returns-then-contains-clause-answer
-returns-then-contains-clause-answer c =
-    let here = (contains_char 0 c.args.line.now c.contains.result c.contains.ensures.cases (lit< tt)).0 c.if-contains.true in
-    has_zero c.args.identity.now c.args.namespace.now c.args.unix_timestamp (key_of c.args.key.now) c.args.line.now here.0 here.1 here.2
+pub returns-then-not-is_read_text-clause-answer : goal.returns-then-not-is_read_text-clause-answer
+returns-then-not-is_read_text-clause-answer c =
+    never (Allows c.args.identity.now c.args.namespace.now c.args.unix_timestamp (key_of c.args.key.now) c.args.line.now)
+    (λ is. let yes : c.is_read_text.result ≡ true = c.is_read_text.ensures.1 is.no_zero in absurd cc)
 
 pub returns-in_default-clause-answer : goal.returns-in_default-clause-answer
 returns-in_default-clause-answer c = no_front c.args.identity.now c.args.namespace.now c.args.unix_timestamp (key_of c.args.key.now) c.args.line.now c.in_default.ensures
@@ -20,5 +20,5 @@ returns-then-not-matches_pattern_list-clause-answer c =
 pub returns-clause-answer : goal.returns-clause-answer
 returns-clause-answer c =
     line_decides c.args.identity.now c.args.namespace.now c.args.unix_timestamp (key_of c.args.key.now) c.args.line.now c.in-Some.principals.now c.in-Some.rest.now c.in-Some.ensures.0 c.in-Some.ensures.1
-    (λ i l e. cc (sym ((contains_char 0 c.args.line.now c.contains.result c.contains.ensures.cases (lit< tt)).1 i l e) ∙ c.if-contains.false))
+    (c.is_read_text.ensures.0 c.if-not-is_read_text.false)
     (c.matches_pattern_list.ensures.0 c.if-not-matches_pattern_list.false) c.has_entry_for.result c.has_entry_for.ensures.answer
