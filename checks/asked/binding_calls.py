@@ -255,10 +255,9 @@ class Judge:
 
 def check_hostile(judge):
     """Bytes of checks/hostile, of each kind by each call that reads it."""
+    valid = f"validate {{}} {judge.made.middle} * {own_of(judge.made).hex()} 1"
     asked = {
-        "certificate": [
-            "certificate {}", "fields {}", "lists {}", "normal certificate {}", f"validate {{}} {judge.made.middle} * {own_of(judge.made).hex()} 1",
-        ],
+        "certificate": ["certificate {}", "fields {}", "lists {}", "normal certificate {}", valid],
         "key": ["key {}", "normal key {}"],
         "ssh-signature": [
             f"sshsig {{}} {b'file'.hex()} {b'message'.hex()}", f"sshsig-of-digest {{}} {b'file'.hex()} {'a5' * 64}", "sshsig-hash {}",
@@ -351,7 +350,8 @@ def check_keys(judge):
     judge.ask("keys and what they signed", questions)
     exponent, modulus, signature = signed_by_hand(b"text")
     weak = [(numbers, is_one) for _, numbers, is_one in numbers_of_keys(exponent, modulus)]
-    weak += [((mpint(e), mpint(n)), False) for e, n in ((exponent, 1), (1, modulus), (exponent, modulus - 1), (exponent, (1 << 1000000) + 1))]
+    others = ((exponent, 1), (1, modulus), (exponent, modulus - 1), (exponent, (1 << 1000000) + 1))
+    weak += [(tuple(map(mpint, it)), False) for it in others]
     by_hand = [(string(b"ssh-rsa") + b"".join(numbers), signature, is_one) for numbers, is_one in weak]
     for kind in ("Ed25519", "ECDSA"):
         by_hand += [(blob, it, is_one) for _, blob, it, is_one in signatures(SecurityKey(kind, b"ssh:"), b"text")]
@@ -443,8 +443,8 @@ def check_stub(count, asker, made, number):
 
 
 def check_answered(count, asker, name, questions, number):
-    """Each question is answered with that number, a verdict with two, and a validation without a question of its own; of a login the
-    words are not looked at."""
+    """Each question is answered with that number, a verdict with two, and a validation without a question of its own. Of a login
+    the words are not looked at."""
     try:
         ran = run(asker.words, input="".join(f"{it}\n" for it in questions), timeout=30)
     except subprocess.TimeoutExpired:

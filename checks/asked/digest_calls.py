@@ -132,7 +132,7 @@ def questions_of(made):
         for reserved, status in ((b"", "0"), (b"reserved", str(int(made.sshkey.Status.NOT_SIGNED)))):
             signature = ssh_signature_over(reserved, made.maker.path(f"user{number}"), line, TEXT).hex()
             words = f"{signature} {b'file'.hex()}"
-            questions += [f"sshsig-reserved {signature}", f"sshsig-reserved {signature[:-2]}", f"is-sshsig {words} {TEXT.hex()} {own}"]
-            questions.append(f"is-sshsig-of-digest {words} {hashlib.sha512(TEXT).hexdigest()} {own}")
+            questions += [f"sshsig-reserved {it}" for it in (signature, signature[:-2])]
+            questions += [f"is-sshsig {words} {TEXT.hex()} {own}", f"is-sshsig-of-digest {words} {hashlib.sha512(TEXT).hexdigest()} {own}"]
             wanted += [f"0 {word(reserved)}", "13", status, status]
     return questions, wanted

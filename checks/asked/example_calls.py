@@ -134,7 +134,8 @@ def check_closed(count, built, maker):
             ran = run([*program, *words], input=given, env={**os.environ, "SSHKEY_LIBRARY": library})
             count.check(f"{name}: {case}", is_untold(ran, script), ran.returncode, ran.stdout, ran.stderr)
         if script != "host.py":
-            ran = run([*python(built, script), *words], input=given, env={**os.environ, "PYTHONPATH": f"{maker.path('lacking')}:{BINDINGS}/python"})
+            found_first = {"PYTHONPATH": f"{maker.path('lacking')}:{BINDINGS}/python"}
+            ran = run([*python(built, script), *words], input=given, env={**os.environ, **found_first})
             count.check(f"{name}: no package cryptography", is_untold(ran, script), ran.returncode, ran.stdout, ran.stderr)
         # issue.py has no input
         for case, closing in (("input", "<&-"), ("output", ">&-"))[script == "issue.py" :]:
@@ -220,12 +221,14 @@ def check_copies(count, built, maker):
     os.symlink(f"{sources}/bindings/python/sshkey", f"{maker.folder}/linked-python/elsewhere/sshkey")
     ran = loaded(f"{maker.folder}/linked-python/elsewhere")
     count.check("a link takes that of the sources", ran.stdout.strip() == os.path.realpath(f"{sources}/out/libsshkey.so"), ran.stdout, ran.stderr)
+    given, own = f"{built.plain}/libsshkey.so", f"{sources}/out/libsshkey.so"
     for name, first, wanted in (
-        ("its own user", "", f"{built.plain}/libsshkey.so"), ("another user", "os.geteuid = lambda: os.getuid() + 1", f"{sources}/out/libsshkey.so"),
-        ("another group", "os.getegid = lambda: os.getgid() + 1", f"{sources}/out/libsshkey.so"),
+        ("its own user", "", given), ("another user", "os.geteuid = lambda: os.getuid() + 1", own),
+        ("another group", "os.getegid = lambda: os.getgid() + 1", own),
     ):  # fmt: skip
-        named = loaded(f"{sources}/bindings/python", first, SSHKEY_LIBRARY=f"{built.plain}/libsshkey.so")
-        count.check(f"SSHKEY_LIBRARY in a program with the rights of {name}", named.stdout.strip() == os.path.realpath(wanted), named.stdout, named.stderr)
+        ran = loaded(f"{sources}/bindings/python", first, SSHKEY_LIBRARY=given)
+        taken = ran.stdout.strip() == os.path.realpath(wanted)
+        count.check(f"SSHKEY_LIBRARY in a program with the rights of {name}", taken, ran.stdout, ran.stderr)
 
 
 def check_meanings(count, built, check):
