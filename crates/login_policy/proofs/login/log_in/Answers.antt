@@ -19,8 +19,8 @@ returns-in_err-certificate-clause-memory g c =
     let p = err_from_is_err_and c.from_residual.result c.from_residual.ensures.1 in
     rw (p.1, p.2) (needed _ _ _ c.in_err-certificate.ensures.asks)
 
-pub check-requires-signer : goal.check-requires-signer
-check-requires-signer g c = fits c.certificate_fits.ensures _ _ _ c.in_ok-certificate.ensures.reads
+pub check-requires-clause-signer : goal.check-requires-clause-signer
+check-requires-clause-signer g c = fits c.certificate_fits.ensures _ _ _ c.in_ok-certificate.ensures.reads
 
 pub returns-in_err-check-clause-exactly : goal.returns-in_err-check-clause-exactly
 returns-in_err-check-clause-exactly g c =
