@@ -52,17 +52,18 @@ pub enum Request {
     },
 }
 
-/// By hand, so that who holds a request lets it go by one call.
+/// Writes zeros over a passphrase. By hand also so that who holds a request lets it go by one call.
 impl Drop for Request {
     fn drop(self) {
         match self {
+            Request::Lock(passphrase) | Request::Unlock(passphrase) => {
+                passphrase.erase();
+            }
             Request::RequestIdentities
             | Request::SignRequest(_)
             | Request::AddIdentity(_)
             | Request::RemoveIdentity(_)
             | Request::RemoveAllIdentities
-            | Request::Lock(_)
-            | Request::Unlock(_)
             | Request::AddIdentityConstrained {
                 addition: _,
                 constraints: _,

@@ -14,6 +14,7 @@ mod compare;
 use crate::decode::Decode;
 use crate::encoding::Error;
 use crate::reader::{Reader, length_from};
+use crate::secret::Secret;
 use std::alloc::Global;
 use std::marker::Model;
 
@@ -160,9 +161,10 @@ pub(crate) fn bytes_from<R: Reader>(
         reader.skip(len);
         return Ok(Bytes { bytes });
     }
-    let mut bytes = vec![in alloc; 0u8; len]?;
-    reader.read(&mut bytes)?;
-    Ok(Bytes { bytes })
+    let bytes = vec![in alloc; 0u8; len]?;
+    let mut bytes = Secret(Bytes { bytes });
+    reader.read(&mut bytes.0.bytes)?;
+    Ok(bytes.into_inner())
 }
 
 /// The same as a vector.

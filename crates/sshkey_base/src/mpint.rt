@@ -15,6 +15,7 @@ use crate::error::{Error, Result};
 use crate::hexadecimal::{write_lower_hex, write_upper_hex};
 use crate::normal_form::NormalForm;
 use crate::reader::Reader;
+use crate::secret::Secret;
 use crate::writer::Writer;
 use std::alloc::Global;
 use std::convert::AsSlice;
@@ -68,15 +69,16 @@ impl Mpint {
         })
     }
 
-    /// The same of a vector, which is kept. Does not allocate.
+    /// The same of a vector, which is kept, and of a refused one erased. Does not allocate.
     pub fn from_vec(bytes: Vec<u8>) -> Result<Mpint>
         ensures { AnswersAlways mpint_of cause (mpint_from bytes.items) result }
     {
-        if !is_mpint(&bytes) {
+        let bytes = Secret(Bytes::new(bytes));
+        if !is_mpint(bytes.0.as_slice()) {
             return Err(Error::FormatEncoding);
         }
         Ok(Mpint {
-            bytes: Bytes::new(bytes),
+            bytes: bytes.into_inner(),
         })
     }
 

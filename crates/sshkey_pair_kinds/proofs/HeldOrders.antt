@@ -23,10 +23,10 @@ abbrev flags : Held → Held → Ordering
 flags x y = nat_cmp x.flags y.flags
 
 abbrev handle : Held → Held → Ordering
-handle x y = bytes_cmp x.key_handle y.key_handle
+handle x y = bytes_cmp x.key_handle.0 y.key_handle.0
 
 abbrev reserved : Held → Held → Ordering
-reserved x y = bytes_cmp x.reserved y.reserved
+reserved x y = bytes_cmp x.reserved.0 y.reserved.0
 
 -- the public key is compared as its two parts
 pub parts_in_order : (x y : Held) (k p a : Ordering) → k ≡ ordering_then p (ordering_then a Equal) → ordering_then k (ordering_then (flags x y) (ordering_then (handle x y) (reserved x y))) ≡ ordering_then p (ordering_then a (ordering_then (ordering_then (flags x y) Equal) (ordering_then (handle x y) (ordering_then (reserved x y) Equal))))

@@ -8,7 +8,7 @@ use Rattle.sshkey_pair_kinds.specs.declared.ed25519.Ed25519PrivateKey.{Ed25519Pr
 use Rattle.sshkey_pair_kinds.specs.declared.rsa.RsaPrivateKey.{RsaPrivateKey}
 
 abbrev pub dsa_private_of : DsaPrivateKey → List ℕ
-dsa_private_of k = mpint_of k.inner
+dsa_private_of k = mpint_of k.inner.0
 
 -- the scalar, as wide as the field
 abbrev pub ecdsa_private_of : {size : ℕ} → EcdsaPrivateKey size → List ℕ

@@ -12,7 +12,7 @@ use Rattle.sshkey_pair_kinds.specs.declared.security_pair.SecurityPair.{Security
 -- ---- what is kept of a key that a security key holds
 
 abbrev pub held_of : Held → SecurityPrivate
-held_of h = record { flags = h.flags; handle = h.key_handle; reserved = h.reserved }
+held_of h = record { flags = h.flags; handle = h.key_handle.0; reserved = h.reserved.0 }
 
 -- of a new key, with no reserved bytes
 abbrev pub held_anew : ℕ → List ℕ → SecurityPrivate

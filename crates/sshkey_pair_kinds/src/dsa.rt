@@ -9,7 +9,7 @@ ghost use Rattle.sshkey_base.specs.Mpint.{mpint_of};
 ghost use Rattle.sshkey_pair_kinds.specs.PrivateHalves.{dsa_private_of};
 
 use sshkey_base::{
-    Decode, Encode, Error, Mpint, Reader, Result, Writer, both_len, encode_both, encoding,
+    Decode, Encode, Error, Mpint, Reader, Result, Secret, Writer, both_len, encode_both, encoding,
 };
 use sshkey_kinds::DsaPublicKey;
 use sshkey_terms::Then;
@@ -18,17 +18,9 @@ use std::convert::AsSlice;
 use std::fmt;
 
 /// The private number of a DSA key.
-#[derive(PartialEq, Eq)]
+#[derive(Drop, PartialEq, Eq)]
 pub struct DsaPrivateKey {
-    inner: Mpint,
-}
-
-/// Writes zeros over the number.
-impl Drop for DsaPrivateKey {
-    fn drop(self) {
-        let DsaPrivateKey { inner } = self;
-        inner.erase();
-    }
+    inner: Secret<Mpint>,
 }
 
 impl DsaPrivateKey {
@@ -36,14 +28,14 @@ impl DsaPrivateKey {
     pub fn as_bytes(&self) -> &[u8]
         ensures { result.now ≡ dsa_private_of self.now }
     {
-        self.inner.as_bytes()
+        self.inner.0.as_bytes()
     }
 
     /// The number.
     pub fn as_mpint(&self) -> &Mpint
         ensures { mpint_of result.now ≡ dsa_private_of self.now }
     {
-        &self.inner
+        &self.inner.0
     }
 
     /// A copy of the number. Fails only when out of memory.
@@ -52,7 +44,7 @@ impl DsaPrivateKey {
         ensures refused { IfErr result (λ e. e ≡ Error.Memory) }
     {
         Ok(DsaPrivateKey {
-            inner: self.inner.try_clone(alloc)?,
+            inner: Secret(self.inner.0.try_clone(alloc)?),
         })
     }
 }
@@ -104,7 +96,7 @@ impl Decode for DsaPrivateKey {
         ensures asks { Asks cause NeedsString (R.source reader.old) result }
         ensures past { Stops cause mpint_format (R.source reader.old) result }
     {
-        let inner = Mpint::decode(alloc, reader)?;
+        let inner = Secret::<Mpint>::decode(alloc, reader)?;
         Ok(DsaPrivateKey { inner })
     }
 }
@@ -116,11 +108,11 @@ impl Encode for DsaPrivateKey {
     ghost max_len = { 2 ^ 32 + 4 };
 
     fn encoded_len(&self) -> encoding::Result<usize> {
-        self.inner.encoded_len()
+        self.inner.0.encoded_len()
     }
 
     fn encode<W: Writer>(&self, writer: &mut W) -> encoding::Result<()> {
-        self.inner.encode(writer)
+        self.inner.0.encode(writer)
     }
 }
 

@@ -6,29 +6,16 @@ ghost use Rattle.sshkey_base.specs.declared.encoding.Error.TheVariants as encodi
 ghost use Rattle.sshkey_model.specs.KeyPairs.{SecurityPrivate, security_private};
 ghost use Rattle.sshkey_pair_kinds.specs.SecurityPairs.{held_anew, held_of};
 
-use sshkey_base::{Bytes, Decode, Encode, Error, Reader, Result, Writer, encoding};
+use sshkey_base::{Bytes, Decode, Encode, Error, Reader, Result, Secret, Writer, encoding};
 use sshkey_terms::Then;
 use std::alloc::Global;
 
 /// What is kept of a key that a security key holds.
-#[derive(PartialEq, Eq, PartialOrd, Ord)]
+#[derive(Drop, PartialEq, Eq, PartialOrd, Ord)]
 pub(crate) struct Held {
     pub(crate) flags: u8,
-    pub(crate) key_handle: Bytes,
-    reserved: Bytes,
-}
-
-/// Writes zeros over the key handle and the reserved bytes.
-impl Drop for Held {
-    fn drop(self) {
-        let Held {
-            flags: _,
-            key_handle,
-            reserved,
-        } = self;
-        key_handle.erase();
-        reserved.erase();
-    }
+    pub(crate) key_handle: Secret<Bytes>,
+    reserved: Secret<Bytes>,
 }
 
 impl Held {
@@ -39,14 +26,15 @@ impl Held {
         ensures value { IfOk result (λ h. held_of h ≡ held_anew flags key_handle.items) }
         ensures refused { IfErr result (λ e. e ≡ wide.Encoding encoding.Length) }
     {
-        if key_handle.len() > 255 {
+        let alloc = *key_handle.allocator();
+        let key_handle = Secret(Bytes::new(key_handle));
+        if key_handle.0.as_slice().len() > 255 {
             return Err(Error::Encoding(encoding::Error::Length));
         }
-        let alloc = *key_handle.allocator();
         Ok(Held {
             flags,
-            key_handle: Bytes::new(key_handle),
-            reserved: Bytes::new(Vec::new(alloc)),
+            key_handle,
+            reserved: Secret(Bytes::new(Vec::new(alloc))),
         })
     }
 
@@ -57,8 +45,8 @@ impl Held {
     {
         Ok(Held {
             flags: self.flags,
-            key_handle: self.key_handle.try_clone(alloc)?,
-            reserved: self.reserved.try_clone(alloc)?,
+            key_handle: Secret(self.key_handle.0.try_clone(alloc)?),
+            reserved: Secret(self.reserved.0.try_clone(alloc)?),
         })
     }
 }
@@ -77,7 +65,7 @@ impl Decode for Held {
     ghost format = { held_format };
 
     fn decode<R: Reader>(alloc: Global, reader: &mut R) -> encoding::Result<Held> {
-        type Parts = Then<u8, Then<Bytes, Bytes>>;
+        type Parts = Then<u8, Then<Secret<Bytes>, Secret<Bytes>>>;
         let Then(flags, Then(key_handle, reserved)) = Parts::decode(alloc, reader)?;
         Ok(Held {
             flags,
@@ -97,14 +85,14 @@ impl Encode for Held {
     fn encoded_len(&self) -> encoding::Result<usize> {
         Ok(
             self.flags.encoded_len()?
-                + self.key_handle.encoded_len()?
-                + self.reserved.encoded_len()?,
+                + self.key_handle.0.encoded_len()?
+                + self.reserved.0.encoded_len()?,
         )
     }
 
     fn encode<W: Writer>(&self, writer: &mut W) -> encoding::Result<()> {
         self.flags.encode(writer)?;
-        self.key_handle.encode(writer)?;
-        self.reserved.encode(writer)
+        self.key_handle.0.encode(writer)?;
+        self.reserved.0.encode(writer)
     }
 }

@@ -3,7 +3,7 @@
 ghost use Rattle.std.specs.Prelude.{◌≡◌, ◌+◌, ◌*◌, ◌^◌, IfOk, IfErr};
 ghost use Rattle.sshkey_model.specs.KeyPairs.{KeyPair, RsaPrivate, rsa_private, pair, Plain};
 
-use sshkey_base::{Decode, Encode, Error, Mpint, Reader, Result, Writer, encoding};
+use sshkey_base::{Decode, Encode, Error, Mpint, Reader, Result, Secret, Writer, encoding};
 use sshkey_kinds::RsaPublicKey;
 use sshkey_terms::Then;
 use std::alloc::Global;
@@ -41,11 +41,14 @@ impl RsaPrivateKey {
         ensures value { IfOk result (λ k. rsa_private_of k ≡ rsa_private_of self.now) }
         ensures refused { IfErr result (λ e. e ≡ Error.Memory) }
     {
+        let d = Secret(self.d.try_clone(alloc)?);
+        let iqmp = Secret(self.iqmp.try_clone(alloc)?);
+        let p = Secret(self.p.try_clone(alloc)?);
         Ok(RsaPrivateKey {
-            d: self.d.try_clone(alloc)?,
-            iqmp: self.iqmp.try_clone(alloc)?,
-            p: self.p.try_clone(alloc)?,
             q: self.q.try_clone(alloc)?,
+            d: d.into_inner(),
+            iqmp: iqmp.into_inner(),
+            p: p.into_inner(),
         })
     }
 }
@@ -68,9 +71,15 @@ impl Decode for RsaPrivateKey {
     ghost format = { rsa_private_format };
 
     fn decode<R: Reader>(alloc: Global, reader: &mut R) -> Result<RsaPrivateKey> {
-        type Numbers = Then<Mpint, Then<Mpint, Then<Mpint, Mpint>>>;
+        type Number = Secret<Mpint>;
+        type Numbers = Then<Number, Then<Number, Then<Number, Number>>>;
         let Then(d, Then(iqmp, Then(p, q))) = Numbers::decode(alloc, reader)?;
-        Ok(RsaPrivateKey { d, iqmp, p, q })
+        Ok(RsaPrivateKey {
+            d: d.into_inner(),
+            iqmp: iqmp.into_inner(),
+            p: p.into_inner(),
+            q: q.into_inner(),
+        })
     }
 }
 

@@ -59,7 +59,7 @@ impl<P: Drop> SecurityPair<P> {
     pub fn key_handle(&self) -> &[u8]
         ensures { result.now ≡ (sk_held self.now).handle }
     {
-        self.held.key_handle.as_slice()
+        self.held.key_handle.0.as_slice()
     }
 }
 

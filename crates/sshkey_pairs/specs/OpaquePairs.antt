@@ -9,7 +9,7 @@ use Rattle.sshkey_pairs.specs.declared.opaque.OpaqueKeypairBytes.{OpaqueKeypairB
 use Rattle.sshkey_pairs.specs.declared.opaque.OpaquePrivateKeyBytes.{OpaquePrivateKeyBytes}
 
 abbrev pub opaque_private_of : OpaquePrivateKeyBytes → List ℕ
-opaque_private_of k = k.bytes
+opaque_private_of k = k.bytes.0
 
 abbrev pub opaque_pair_of : OpaqueKeypair → KeyPair
 opaque_pair_of k = OpaquePair (algorithm_name (algorithm_of k.public.algorithm)) k.public.key (opaque_private_of k.private)

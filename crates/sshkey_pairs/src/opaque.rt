@@ -10,7 +10,7 @@ ghost use Rattle.sshkey_kinds.specs.Comparisons.{opaque_fields};
 ghost use Rattle.sshkey_pairs.specs.OpaquePairs.{opaque_pair_of, opaque_private_of, nameless_pair_of};
 
 use sshkey_base::{
-    Algorithm, Bytes, Decode, Encode, Error, Reader, Result, Writer, both_len, encode_both,
+    Algorithm, Bytes, Decode, Encode, Error, Reader, Result, Secret, Writer, both_len, encode_both,
     encoding,
 };
 use sshkey_kinds::{OpaquePublicKey, OpaquePublicKeyBytes};
@@ -20,17 +20,9 @@ use std::convert::AsSlice;
 use std::fmt;
 
 /// The private bytes of a key whose format is not known.
-#[derive(PartialEq, Eq)]
+#[derive(Drop, PartialEq, Eq)]
 pub struct OpaquePrivateKeyBytes {
-    bytes: Bytes,
-}
-
-/// Writes zeros over the bytes.
-impl Drop for OpaquePrivateKeyBytes {
-    fn drop(self) {
-        let OpaquePrivateKeyBytes { bytes } = self;
-        bytes.erase();
-    }
+    bytes: Secret<Bytes>,
 }
 
 impl OpaquePrivateKeyBytes {
@@ -38,7 +30,7 @@ impl OpaquePrivateKeyBytes {
     pub fn as_bytes(&self) -> &[u8]
         ensures { result.now ≡ opaque_private_of self.now }
     {
-        self.bytes.as_slice()
+        self.bytes.0.as_slice()
     }
 
     /// A copy of the bytes. Fails only when out of memory.
@@ -47,7 +39,7 @@ impl OpaquePrivateKeyBytes {
         ensures refused { IfErr result (λ e. e ≡ Error.Memory) }
     {
         Ok(OpaquePrivateKeyBytes {
-            bytes: self.bytes.try_clone(alloc)?,
+            bytes: Secret(self.bytes.0.try_clone(alloc)?),
         })
     }
 }
@@ -86,7 +78,7 @@ impl Decode for OpaquePrivateKeyBytes {
         ensures asks { Asks encoding_cause NeedsString (R.source reader.old) result }
         ensures past { Stops encoding_cause string_format (R.source reader.old) result }
     {
-        let bytes = Bytes::decode(alloc, reader)?;
+        let bytes = Secret::<Bytes>::decode(alloc, reader)?;
         Ok(OpaquePrivateKeyBytes { bytes })
     }
 }
@@ -98,11 +90,11 @@ impl Encode for OpaquePrivateKeyBytes {
     ghost max_len = { 2 ^ 32 + 3 };
 
     fn encoded_len(&self) -> encoding::Result<usize> {
-        self.bytes.encoded_len()
+        self.bytes.0.encoded_len()
     }
 
     fn encode<W: Writer>(&self, writer: &mut W) -> encoding::Result<()> {
-        self.bytes.encode(writer)
+        self.bytes.0.encode(writer)
     }
 }
 
@@ -170,7 +162,7 @@ impl OpaqueKeypair {
         OpaqueKeypair {
             public,
             private: OpaquePrivateKeyBytes {
-                bytes: Bytes::new(private_key),
+                bytes: Secret(Bytes::new(private_key)),
             },
         }
     }

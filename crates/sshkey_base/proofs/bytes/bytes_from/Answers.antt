@@ -26,7 +26,7 @@ pub returns-clause-gives : goal.returns-clause-gives
 returns-clause-gives g c =
     let len : length c.read.new.buffer ≡ c.args.len = search rules in
     let all : take c.in_ok-bytes-2.bytes.len (c.read.new.buffer ++ drop (length c.read.new.buffer) c.in_ok-bytes-2.bytes.items) ≡ c.read.new.buffer = take_at c.read.new.buffer _ c.in_ok-bytes-2.bytes.len (search rules) in
-    rw all (front_reads c.args.len (g.R.Reader.source c.args.reader.now) (g.R.Reader.source c.read.new.self) c.read.new.buffer len c.in_ok-read.ensures.takes)
+    rw (c.into_inner.ensures, all) (front_reads c.args.len (g.R.Reader.source c.args.reader.now) (g.R.Reader.source c.read.new.self) c.read.new.buffer len c.in_ok-read.ensures.takes)
 
 pub returns-then-remaining_len-len-clause-past : goal.returns-then-remaining_len-len-clause-past
 returns-then-remaining_len-len-clause-past g c = refused_stopped _ _ _ _ (g.R.Reader.source c.args.reader.now) (few_refused c.args.len (g.R.Reader.source c.args.reader.now) Length (record { few = omega arith; sound = λ _. refl })) (λ o. refl)
