@@ -5,7 +5,7 @@ use Rattle.sshkey_model.specs.Certificates.{CertificateType, SignedFields, signe
 use Rattle.sshkey_model.specs.Keys.{Key}
 use Rattle.sshkey_model.specs.Names.{Algorithm}
 use Rattle.sshkey_model.specs.Options.{CertificateOption}
-use Rattle.sshkey_model.specs.Reading.{Fault, Front}
+use Rattle.sshkey_model.specs.Reading.{Fault}
 use Rattle.sshkey_model.proofs.CombinedReaders.{bind_assoc}
 use Rattle.sshkey_base.specs.Formats.{Format, number64_format, string_format, text_format, texts_format}
 use Rattle.sshkey_base.specs.NameFormats.{certified_format}
@@ -34,9 +34,6 @@ subject_of_parts x = Ok (x.0.1, x.1)
 -- the nonce and the key, which is read under the name before them
 abbrev pub subject_format : Format (List ℕ × Key)
 subject_format = tested subject_of_parts named_format
-
-unfoldable pub subject_at : Front (List ℕ × Key)
-subject_at = subject_format.read
 
 -- ---- all fields
 
