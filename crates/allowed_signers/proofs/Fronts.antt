@@ -4,7 +4,7 @@ use Rattle.std.proofs.lemmas.Str.Pattern.{IsSplitOnceResult, split_after, split_
 use Rattle.std.specs.Prelude.{slice_index}
 use Rattle.ssh_key.specs.entries.Fields.{EndsField}
 use Rattle.ssh_key.specs.entries.OptionItems.{quote}
-use Rattle.ssh_key.specs.entries.StrictReading.{is_blank}
+use Rattle.ssh_key.specs.entries.OptionEnds.{is_blank}
 use Rattle.ssh_key.specs.files.Cuts.{CutsField}
 use Rattle.ssh_key.specs.model.Lines.{IsWithout}
 use Rattle.ssh_key.specs.public.OneLine.{carriage_return}

@@ -3,8 +3,7 @@ pub use Rattle.sshkey_entries.specs.Items
 pub use Rattle.sshkey_entries.specs.ConfigOptions
 pub use Rattle.sshkey_entries.specs.AuthorizedKeys
 pub use Rattle.sshkey_entries.specs.KnownHosts
-pub use Rattle.sshkey_entries.specs.StrictReading
-pub use Rattle.sshkey_entries.specs.SshdReading
+pub use Rattle.sshkey_entries.specs.OptionEnds
 pub use Rattle.sshkey_entries.specs.Fields
 pub use Rattle.sshkey_entries.specs.OpenSshLines
 pub use Rattle.sshkey_entries.specs.OptionItems

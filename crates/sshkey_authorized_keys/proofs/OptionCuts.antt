@@ -6,7 +6,7 @@ use Rattle.std.proofs.lemmas.Str.{IsCharBoundary-after_ascii}
 use Rattle.std.specs.Str.{IsUtf8, IsCharBoundary}
 use Rattle.sshkey_entries.specs.Items.{is_comma, is_quote}
 use Rattle.sshkey_entries.specs.OptionItems.{KeyOption, quote, equals_sign, backslash, is_name_character, IsQuoted, unescaped, IsValueAt, EndsOption, IsOptionAt, without_commas, AreKeyOptions}
-use Rattle.sshkey_entries.specs.StrictReading.{is_mark}
+use Rattle.sshkey_entries.specs.OptionEnds.{is_mark}
 use Rattle.sshkey_entries.specs.OptionItems.{HasKeyOptions}
 use Rattle.sshkey_authorized_keys.specs.OptionCuts.{CutsName, FindsFirst, is_escape}
 use Rattle.sshkey_entries.proofs.Fronts.{IsCut, nothing_stays, skipped, stays}

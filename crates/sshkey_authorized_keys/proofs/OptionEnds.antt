@@ -11,7 +11,7 @@ use Rattle.sshkey_entries.specs.AuthorizedKeys.{AuthorizedKey}
 use Rattle.sshkey_entries.specs.Entries.{hash}
 use Rattle.sshkey_entries.specs.Fields.{without_blanks, AreKeyFields, AreNoKeyFields}
 use Rattle.sshkey_entries.specs.OpenSshLines.{IsBehindOptions, IsAuthorizedLine}
-use Rattle.sshkey_entries.specs.StrictReading.{EndsOptions, is_blank, is_inside}
+use Rattle.sshkey_entries.specs.OptionEnds.{EndsOptions, is_blank, is_inside}
 use Rattle.sshkey_entries.proofs.Fields.{blanks_are}
 use Rattle.sshkey_entries.proofs.OneEntry.{one_end}
 use Rattle.sshkey_entries.proofs.OneOpenSshLine.{same_front}

@@ -4,19 +4,17 @@ use Rattle.std.specs.Prelude.{IsTrue}
 use Rattle.sshkey_base.specs.Causes.{cause, NoMemory}
 use Rattle.sshkey_base.specs.declared.error.Error.{Error}
 use Rattle.sshkey_model.specs.Keys.{IsKey}
-use Rattle.sshkey_entries.specs.AuthorizedKeys.{AuthorizedKey}
+use Rattle.sshkey_entries.specs.AuthorizedKeys.{AuthorizedKey, IsAuthorizedKey}
 use Rattle.sshkey_entries.specs.Entries.{IsNoEntry}
 use Rattle.sshkey_entries.specs.OpenSshLines.{IsAuthorizedLine}
-use Rattle.sshkey_entries.specs.StrictReading.{IsReadStrictly}
 use Rattle.sshkey_entries.proofs.OneEntry.{one_entry}
 use Rattle.sshkey_entries.proofs.OneOpenSshLine.{one_authorized_line}
-use Rattle.sshkey_entries.proofs.StrictReading.{read}
 use Rattle.sshkey_authorized_keys.specs.ReadBack.{Tells, TellsNone}
 
 -- ---- the key of an entry that was read is well-formed
 
-pub strict_form : (line : List ℕ) (a : AuthorizedKey) → IsReadStrictly line a → IsKey a.key
-strict_form line a s = elim s.is [ inl alone ↦ alone.line.spelled.is | inr behind ↦ behind.0.line.spelled.is ]
+pub plain_form : (line : List ℕ) (a : AuthorizedKey) → IsAuthorizedKey line a → IsKey a.key
+plain_form line a s = elim s [ inl alone ↦ alone.line.spelled.is | inr behind ↦ behind.line.spelled.is ]
 
 pub openssh_form : (line : List ℕ) (a : AuthorizedKey) → IsAuthorizedLine line a → IsKey a.key
 openssh_form line a s = elim s.is [ inl alone ↦ alone.fields.spelled.is | inr behind ↦ behind.fields.spelled.is ]
@@ -24,8 +22,8 @@ openssh_form line a s = elim s.is [ inl alone ↦ alone.fields.spelled.is | inr 
 -- ---- what comparing tells
 
 module _ (line : List ℕ) (r a : AuthorizedKey) (b : Bool) (same : IsTrue b → r ≡ a) (every : IsKey a.key → r ≡ a → IsTrue b) where
-  pub tells_strictly : IsReadStrictly line r → Tells (IsReadStrictly line a) (Ok b)
-  tells_strictly is = (λ t. subst (IsReadStrictly line) (same t) is, λ s. every (strict_form line a s) (one_entry line r a (read line r is) (read line a s)))
+  pub tells_plainly : IsAuthorizedKey line r → Tells (IsAuthorizedKey line a) (Ok b)
+  tells_plainly is = (λ t. subst (IsAuthorizedKey line) (same t) is, λ s. every (plain_form line a s) (one_entry line r a is s))
 
   pub tells_openssh : IsAuthorizedLine line r → Tells (IsAuthorizedLine line a) (Ok b)
   tells_openssh is = (λ t. subst (IsAuthorizedLine line) (same t) is, λ s. every (openssh_form line a s) (one_authorized_line line r a is s))

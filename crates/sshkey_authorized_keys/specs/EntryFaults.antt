@@ -8,9 +8,8 @@ use Rattle.sshkey_keys.specs.Keys.{SpellsKey}
 use Rattle.sshkey_model.specs.Lines.{space, key_name, IsWithout}
 use Rattle.sshkey_model.specs.Reading.{whole}
 use Rattle.sshkey_public.specs.LineFaults.{HasFaultOfLine}
-use Rattle.sshkey_entries.specs.AuthorizedKeys.{AuthorizedKey, IsAuthorizedKey, is_space}
+use Rattle.sshkey_entries.specs.AuthorizedKeys.{is_space}
 use Rattle.sshkey_entries.specs.ConfigOptions.{AreOptions}
-use Rattle.sshkey_entries.specs.Entries.{IsNoEntry, uncommented}
 
 -- The text has that fault as the line of a key.
 abbrev pub HasFaultOfKey : List ℕ → Error → Type 0
@@ -24,13 +23,3 @@ pub record HasFault (line : List ℕ) (e : Error) : Type 0 where
   pub no_key : 0 < count_by is_space line → count_by is_space line < 3 → HasFaultOfKey line e
   pub no_options : (front rest : List ℕ) → line ≡ front ++ (space ∷ rest) → IsWithout space front → 3 ≤ count_by is_space line → (AreOptions front → ⊥) → e ≡ Encoding CharacterEncoding
   pub no_key_behind : (front rest : List ℕ) → line ≡ front ++ (space ∷ rest) → IsWithout space front → 3 ≤ count_by is_space line → AreOptions front → HasFaultOfKey rest e
-
--- The fault of an entry that is none, and `FormatEncoding` where it is one, but is not read
--- strictly.
-pub record HasStrictFault (entry : List ℕ) (e : Error) : Type 0 where
-  pub none : IsNoEntry IsAuthorizedKey entry → HasFault entry e
-  pub other : (a : AuthorizedKey) → IsAuthorizedKey entry a → e ≡ FormatEncoding
-
--- the same of the entry of a line
-abbrev pub HasStrictLineFault : List ℕ → Error → Type 0
-HasStrictLineFault line = HasStrictFault (uncommented line)

@@ -2,7 +2,6 @@
 use Rattle.std.specs.Prelude.{◌≡◌, ◌⊎◌, ℕ, ◌≤◌, List, ◌∷◌, ◌++◌, count_by}
 use Rattle.sshkey_entries.specs.AuthorizedKeys.{is_space}
 use Rattle.sshkey_entries.specs.ConfigOptions.{AreOptions}
-use Rattle.sshkey_entries.specs.Entries.{uncommented}
 use Rattle.sshkey_keys.specs.KeyFormats.{key_format}
 use Rattle.sshkey_keys.specs.Keys.{SpellsKey}
 use Rattle.sshkey_model.specs.Lines.{space, key_name, IsWithout}
@@ -20,7 +19,3 @@ pub record NeedsOptions (line : List ℕ) : Type 0 where
 -- Reading the line needs memory: for the key or the comment of a key's line, or for options.
 abbrev pub NeedsLine : List ℕ → Type 0
 NeedsLine line = (NeedsValue key_format.needs line ⊎ HasComment key_name SpellsKey line) ⊎ NeedsOptions line
-
--- the same of the entry of a line
-abbrev pub NeedsStrictLine : List ℕ → Type 0
-NeedsStrictLine line = NeedsLine (uncommented line)

@@ -3,8 +3,6 @@ pub mod OptionAnswers
 pub mod AuthorizedEntries
 pub mod EntryFaults
 pub mod EntryNeeds
-pub mod LeftOut
-pub mod StrictAnswers
 pub mod OpenSshEntries
 pub mod OpenSshFaults
 pub mod OptionCuts

@@ -4,7 +4,7 @@ use Rattle.sshkey_base.specs.declared.error.Error.{Error}
 use Rattle.sshkey_base.specs.declared.error.Error.TheVariants.{FormatEncoding}
 use Rattle.sshkey_entries.specs.Entries.{hash}
 use Rattle.sshkey_entries.specs.Fields.{without_blanks}
-use Rattle.sshkey_entries.specs.StrictReading.{EndsOptions, is_blank}
+use Rattle.sshkey_entries.specs.OptionEnds.{EndsOptions, is_blank}
 use Rattle.sshkey_entries.specs.KeyFields.{HasKeyFault}
 use denote.Ref.{Bor}
 

@@ -7,7 +7,7 @@ use Rattle.sshkey_entries.specs.Answers.{ReadsEntry, RefusesFor}
 use Rattle.sshkey_entries.specs.Entries.{hash}
 use Rattle.sshkey_entries.specs.Fields.{without_blanks, AreKeyFields}
 use Rattle.sshkey_entries.specs.OpenSshLines.{IsAuthorizedLine}
-use Rattle.sshkey_entries.specs.StrictReading.{EndsOptions}
+use Rattle.sshkey_entries.specs.OptionEnds.{EndsOptions}
 use Rattle.sshkey_entries.specs.KeyFields.{NeedsKeyFields}
 use Rattle.sshkey_authorized_keys.specs.OpenSshEntries.{openssh_entry_of}
 use Rattle.sshkey_authorized_keys.specs.OpenSshFaults.{HasLineFault}

@@ -5,15 +5,14 @@ use Rattle.sshkey_model.specs.Parts.{BoxesFit}
 use Rattle.sshkey_base.specs.declared.encoding.Error.TheVariants.{Length}
 use Rattle.sshkey_base.specs.declared.error.Error.{Error}
 use Rattle.sshkey_base.specs.declared.error.Error.TheVariants.{Encoding, FormatEncoding, Memory}
-use Rattle.sshkey_entries.specs.AuthorizedKeys.{AuthorizedKey, authorized_text}
+use Rattle.sshkey_entries.specs.AuthorizedKeys.{AuthorizedKey, IsAuthorizedKey, authorized_text}
 use Rattle.sshkey_entries.specs.OpenSshLines.{IsAuthorizedLine}
-use Rattle.sshkey_entries.specs.StrictReading.{IsReadStrictly}
 use Rattle.sshkey_public.specs.OneLine.{IsOneLine}
 
--- The text is one line, and is read as the entry, both strictly and as sshd(8) reads it.
+-- The text is one line, and is read as the entry, both plainly and as sshd(8) reads it.
 pub record IsReadAs (text : List ℕ) (a : AuthorizedKey) : Type 0 where
   pub one_line : IsOneLine text
-  pub strictly : IsReadStrictly text a
+  pub plainly : IsAuthorizedKey text a
   pub openssh : IsAuthorizedLine text a
 
 -- So is the line that is written of it.

@@ -10,9 +10,8 @@ mod openssh_option;
 mod openssh_options;
 mod option_syntax;
 mod read_back;
-mod strict;
 
-pub use authorized_keys::{AuthorizedKeys, StrictAuthorizedKeys};
+pub use authorized_keys::AuthorizedKeys;
 pub use config_opts::{ConfigOpts, ConfigOptsIter};
 pub use entry::Entry;
 pub use openssh::{OpenSshAuthorizedKeys, OpenSshEntry};

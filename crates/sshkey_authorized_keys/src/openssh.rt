@@ -2,7 +2,9 @@
 
 ghost use Rattle.std.specs.Prelude.{◌≡◌, ◌<◌, ◌↔◌, ℕ, List, [], length, slice_index, IsTrue};
 ghost use Rattle.std.specs.Iterator.{item_count};
+ghost use Rattle.sshkey_entries.specs.Entries.{hash};
 ghost use Rattle.sshkey_entries.specs.Fields.{AreNoKeyFields, filled_lines};
+ghost use Rattle.sshkey_entries.specs.OptionEnds.{is_blank};
 ghost use Rattle.sshkey_entries.specs.OpenSshLines.{IsAuthorizedLine, IsBehindOptions};
 ghost use Rattle.sshkey_entries.specs.Answers.{ReadsEntry, RefusesFor, YieldsAnswers};
 ghost use Rattle.sshkey_authorized_keys.specs.OpenSshEntries.{openssh_entry_of, openssh_key_in, openssh_options_of};
@@ -11,7 +13,7 @@ ghost use Rattle.sshkey_authorized_keys.specs.OpenSshNeeds.{AnswersLine, AsksFor
 
 use crate::entry::Entry;
 use crate::openssh_options::OpenSshOptions;
-use crate::strict::{is_blank, is_comment, is_mark};
+use crate::option_syntax::is_mark;
 use sshkey_base::{Error, Result};
 use sshkey_entries::{FilledLines, read_key_fields, skip_blanks};
 use sshkey_public::PublicKey;
@@ -23,6 +25,18 @@ use std::marker::Model;
 pub struct OpenSshEntry {
     options: OpenSshOptions,
     public_key: PublicKey,
+}
+
+fn is_blank(byte: u8) -> bool
+    ensures { result ≡ is_blank byte }
+{
+    byte == b' ' || byte == b'\t'
+}
+
+fn is_comment(line: &str) -> bool
+    ensures { IsTrue result ↔ (slice_index line.now 0 ≡ hash) }
+{
+    line.starts_with('#')
 }
 
 fn ends_here(text: &[u8], place: usize, inside: bool) -> bool

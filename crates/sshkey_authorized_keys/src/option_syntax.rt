@@ -4,10 +4,9 @@ ghost use Rattle.std.specs.Prelude.{◌≡◌, ◌<◌, ◌↔◌, IfErr, IfOk, 
 ghost use Rattle.sshkey_base.specs.declared.error.Error.TheVariants as wide;
 ghost use Rattle.sshkey_entries.specs.Items.{is_comma};
 ghost use Rattle.sshkey_entries.specs.OptionItems.{EndsOption, is_name_character, unescaped, without_commas};
-ghost use Rattle.sshkey_entries.specs.StrictReading.{is_mark};
+ghost use Rattle.sshkey_entries.specs.OptionEnds.{is_mark};
 ghost use Rattle.sshkey_authorized_keys.specs.OptionCuts.{CutsName, CutsQuoted, CutsValue, FindsFirst, is_escape};
 
-use crate::strict::is_mark;
 use sshkey_base::Result;
 use std::alloc::Global;
 
@@ -61,6 +60,14 @@ pub(crate) fn split_name(text: &str) -> (&str, &str)
 }
 
 // ---- values
+
+/// Whether a quote stands at the place, with no backslash before it.
+pub(crate) fn is_mark(line: &[u8], place: usize) -> bool
+    requires { place < length line.now }
+    ensures { result ≡ is_mark line.now place }
+{
+    line[place] == b'"' && !(place > 0 && line[place - 1] == b'\\')
+}
 
 /// The place of the first quote that stands after no backslash.
 fn quote_end(text: &[u8]) -> Option<usize>

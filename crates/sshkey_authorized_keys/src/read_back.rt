@@ -2,8 +2,8 @@
 
 ghost use Rattle.std.specs.Prelude.{◌≡◌, IsTrue};
 ghost use Rattle.sshkey_base.specs.Causes.{cause, NoMemory};
+ghost use Rattle.sshkey_entries.specs.AuthorizedKeys.{IsAuthorizedKey};
 ghost use Rattle.sshkey_entries.specs.OpenSshLines.{IsAuthorizedLine};
-ghost use Rattle.sshkey_entries.specs.StrictReading.{IsReadStrictly};
 ghost use Rattle.sshkey_authorized_keys.specs.AuthorizedEntries.{IsOfKey, authorized_key_of};
 ghost use Rattle.sshkey_authorized_keys.specs.OpenSshEntries.{IsOfOpenSshKey, openssh_entry_of};
 ghost use Rattle.sshkey_authorized_keys.specs.ReadBack.{IsReadAs, Tells, TellsNone};
@@ -36,11 +36,11 @@ fn is_same(read: &Entry, entry: &Entry) -> bool
     *read == *entry
 }
 
-/// Whether it is the entry of the line that is read strictly.
-fn is_read_strictly(alloc: Global, line: &str, entry: &Entry) -> Result<bool>
-    ensures { Tells (IsReadStrictly line.now (authorized_key_of entry.now)) result }
+/// Whether it is the entry of the line that is read plainly.
+fn is_read_plainly(alloc: Global, line: &str, entry: &Entry) -> Result<bool>
+    ensures { Tells (IsAuthorizedKey line.now (authorized_key_of entry.now)) result }
 {
-    match Entry::from_line_strict(alloc, line) {
+    match Entry::from_line(alloc, line) {
         Ok(read) => Ok(is_same(&read, entry)),
         Err(error) => no_entry(&error),
     }
@@ -67,14 +67,14 @@ fn is_read_by_openssh(alloc: Global, line: &str, entry: &Entry) -> Result<bool>
     }
 }
 
-/// Whether the line is one, and is read as the entry, both strictly and as sshd(8) reads it.
+/// Whether the line is one, and is read as the entry, both plainly and as sshd(8) reads it.
 pub(crate) fn is_read_as(alloc: Global, line: &str, entry: &Entry) -> Result<bool>
     ensures { Tells (IsReadAs line.now (authorized_key_of entry.now)) result }
 {
     if !is_one_line(line) {
         return Ok(false);
     }
-    if !is_read_strictly(alloc, line, entry)? {
+    if !is_read_plainly(alloc, line, entry)? {
         return Ok(false);
     }
     is_read_by_openssh(alloc, line, entry)

@@ -86,7 +86,7 @@ fn line_of_authorized_key(alloc: Global, line: &str) -> Result<String> {
 }
 
 fn authorized_key(alloc: Global, line: &str) -> Result<AuthorizedKey> {
-    AuthorizedKey::from_line_strict(alloc, line)?.try_clone(alloc)
+    AuthorizedKey::from_line(alloc, line)?.try_clone(alloc)
 }
 
 fn line_of_known_host(alloc: Global, line: &str) -> Result<String> {

@@ -1,6 +1,6 @@
 //! Questions about entry files and their parts.
 
-use sshkey_authorized_keys::{AuthorizedKeys, ConfigOpts};
+use sshkey_authorized_keys::ConfigOpts;
 use sshkey_base::{Result, Text};
 use sshkey_known_hosts::{HostPatterns, Marker};
 use sshkey_public::PublicKey;
@@ -39,39 +39,6 @@ pub(crate) fn host_parts(alloc: Global, entry: &sshkey_known_hosts::Entry) -> Re
         None => Ok(format!(in alloc; "no marker | {hosts} | {key}")?),
         Some(marker) => Ok(format!(in alloc; "{marker} | {hosts} | {key}")?),
     }
-}
-
-/// The parts of an entry of authorized_keys that is read strictly.
-pub(crate) fn strict_key(alloc: Global, line: &str) -> Result<String> {
-    authorized_parts(
-        alloc,
-        &sshkey_authorized_keys::Entry::from_line_strict(alloc, line)?,
-    )
-}
-
-/// The text of an entry that is read strictly, or why it is refused.
-fn strictly(alloc: Global, entry: Result<sshkey_authorized_keys::Entry>) -> Result<String> {
-    let text = match entry {
-        Ok(entry) => entry.to_string(alloc),
-        Err(error) => Err(error),
-    };
-    match text {
-        Ok(text) => Ok(text),
-        Err(error) => Ok(format!(in alloc; "refused: {error}")?),
-    }
-}
-
-/// The entries of a text that is read strictly, with `; ` between.
-pub(crate) fn strict(alloc: Global, text: &str) -> Result<String> {
-    let mut shown = String::new(alloc);
-    for entry in AuthorizedKeys::strict(alloc, text) {
-        let line = strictly(alloc, entry)?;
-        if !shown.is_empty() {
-            shown.push_str("; ")?;
-        }
-        shown.push_str(&line)?;
-    }
-    Ok(shown)
 }
 
 /// Adds an item in brackets.

@@ -281,8 +281,6 @@ fn answer_about_line(alloc: Global, question: &str, line: &str) -> Result<String
         "each-key" => again::each_key(alloc, line),
         "each-host" => again::each_host(alloc, line),
         "authorized-key" => entries::authorized(alloc, line),
-        "strict-keys" => entries::strict(alloc, line),
-        "strict-key" => entries::strict_key(alloc, line),
         "openssh-keys" => openssh_lines::keys(alloc, line),
         "openssh-key" => openssh_lines::key(alloc, line),
         "openssh-hosts" => openssh_lines::hosts(alloc, line),

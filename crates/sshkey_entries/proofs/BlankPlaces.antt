@@ -1,7 +1,7 @@
 -- How a field is cut off.
 use Rattle.std.proofs.Common.{◌≡◌, ℕ, ◌<◌, List, true, arith, inl, inr}
 use Rattle.sshkey_entries.specs.Cuts.{CutsField}
-use Rattle.sshkey_entries.specs.StrictReading.{is_blank}
+use Rattle.sshkey_entries.specs.OptionEnds.{is_blank}
 use Rattle.sshkey_entries.proofs.Fields.{blanks_are}
 use Rattle.sshkey_entries.proofs.Fronts.{IsCut}
 

@@ -25,33 +25,12 @@ use Rattle.sshkey_entries.specs.Items.{patterns}
 use Rattle.sshkey_entries.specs.KnownHosts.{Marker, CertAuthority, Revoked, Hosts, HashedName, Patterns, IsHosts, IsMarked, IsKnownHost, at_sign, bar}
 use Rattle.sshkey_entries.proofs.OneHost.{bar_not}
 
--- ---- lines of a key
-
--- the key with another comment
-pub with_comment : (text m : List ℕ) → is_utf8 text ≡ true → trim_end text ≡ joined (codes "ssh-rsa") rsa_word m → IsKeyLine text rsa_key m
-unfolding trim_end chars encode_utf8
-with_comment text m utf8 is =
-    let bare = line_ends.0 in
-    let trimmed : trim_end rsa_line ≡ rsa_line = refl in
-    let word : encode_of standard bare.blob ≡ rsa_word = sym (append-nil (encode_of standard bare.blob)) ∙ ap (drop 8) (sym bare.line.is ∙ trimmed) in
-    record {
-      blob = bare.blob;
-      spelled = bare.spelled;
-      line = record {
-        utf8 = utf8;
-        is = is ∙ ap (λ (w : List ℕ). joined (codes "ssh-rsa") w m) (sym word);
-        some_first = bare.line.some_first;
-        some_blob = bare.line.some_blob;
-        characters = bare.line.characters;
-      };
-    }
-
 -- ---- authorized_keys
 
-pub alone : (comment text : List ℕ) → IsKeyLine text rsa_key comment → IsAuthorizedKey text (authorized [] comment)
+alone : (comment text : List ℕ) → IsKeyLine text rsa_key comment → IsAuthorizedKey text (authorized [] comment)
 alone comment text line = inl (record { options = refl; line = line })
 
-pub behind : (options rest comment text : List ℕ) → text ≡ options ++ (space ∷ rest) → all_characters is_option_character options ≡ true → IsKeyLine rest rsa_key comment → 3 ≤ count_by is_space text → IsNoKeyLine text → HasOptions text (authorized options comment)
+behind : (options rest comment text : List ℕ) → text ≡ options ++ (space ∷ rest) → all_characters is_option_character options ≡ true → IsKeyLine rest rsa_key comment → 3 ≤ count_by is_space text → IsNoKeyLine text → HasOptions text (authorized options comment)
 behind options rest comment text is allowed line count none = record { rest = rest; is = is; options = each is_option_character options allowed; line = line; spaces = count; no_line = none }
 
 no_options : (text : List ℕ) → count_by is_space text < 3 → IsNoKeyLine text → IsNoEntry IsAuthorizedKey text

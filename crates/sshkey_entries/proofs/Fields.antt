@@ -9,7 +9,7 @@ use Rattle.sshkey_model.proofs.Base64Words.{one_blob, word_lacks}
 use Rattle.sshkey_model.proofs.Blobs.{key_blobs}
 use Rattle.sshkey_model.proofs.CombinedReaders.{bytes_fit}
 use Rattle.sshkey_entries.specs.Fields.{without_blanks, IsField, EndsField, AreKeyFields}
-use Rattle.sshkey_entries.specs.StrictReading.{is_blank}
+use Rattle.sshkey_entries.specs.OptionEnds.{is_blank}
 use Rattle.sshkey_entries.proofs.Fronts.{same_word}
 
 -- ---- fields

@@ -7,13 +7,10 @@ pub mod Matching
 pub mod PatternLists
 pub mod OneEntry
 pub mod OneHost
-pub mod StrictReading
-pub mod SshdReading
-pub mod OneSshdKey
+pub mod OptionEnds
 pub mod Fields
 pub mod OneOpenSshLine
 pub mod Cuts
 pub mod EntryExamples
-pub mod StrictExamples
 pub mod OneOption
 pub mod FieldKeys

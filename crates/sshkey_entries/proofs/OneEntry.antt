@@ -9,7 +9,7 @@ use Rattle.sshkey_model.proofs.LineCuts.{one_front}
 use Rattle.sshkey_model.proofs.Lines.{one_line}
 use Rattle.sshkey_entries.specs.AuthorizedKeys.{AuthorizedKey, IsAuthorizedKey, IsWithoutOptions, HasOptions}
 use Rattle.sshkey_entries.specs.ConfigOptions.{AreOptions, is_option_character}
-use Rattle.sshkey_entries.specs.StrictReading.{EndsOptions}
+use Rattle.sshkey_entries.specs.OptionEnds.{EndsOptions}
 
 -- options hold no space
 pub no_space : (options : List ℕ) → AreOptions options → IsWithout space options

@@ -4,7 +4,7 @@ use Rattle.std.proofs.lemmas.Bool.{cases_lt}
 use Rattle.std.proofs.lemmas.List.{length-append, get_or_append_left}
 use Rattle.sshkey_entries.specs.Items.{is_comma, is_quote}
 use Rattle.sshkey_entries.specs.OptionItems.{KeyOption, quote, equals_sign, is_name_character, AreNameCharacters, IsQuoted, unescaped, IsValueAt, EndsOption, IsOptionAt, without_commas, AreKeyOptions}
-use Rattle.sshkey_entries.specs.StrictReading.{is_blank, is_mark}
+use Rattle.sshkey_entries.specs.OptionEnds.{is_blank, is_mark}
 use Rattle.sshkey_entries.proofs.Fronts.{same_word}
 use Rattle.sshkey_entries.proofs.OneOpenSshLine.{same_front}
 

@@ -4,9 +4,8 @@ use Rattle.sshkey_model.specs.HexText.{hex}
 use Rattle.sshkey_model.specs.KeyExamples.{rsa_key}
 use Rattle.sshkey_model.specs.LineExamples.{rsa_line}
 use Rattle.sshkey_entries.specs.AuthorizedKeys.{AuthorizedKey, IsAuthorizedKey, authorized_text}
-use Rattle.sshkey_entries.specs.Entries.{IsNoEntry, uncommented}
+use Rattle.sshkey_entries.specs.Entries.{IsNoEntry}
 use Rattle.sshkey_entries.specs.KnownHosts.{Marker, Revoked, Patterns, HashedName, IsHosts, KnownHost, IsKnownHost, known_text}
-use Rattle.sshkey_entries.specs.StrictReading.{IsReadStrictly, IsLineReadStrictly}
 
 abbrev pub authorized : List ℕ → List ℕ → AuthorizedKey
 authorized options comment = record { options = options; key = rsa_key; comment = comment }
@@ -22,34 +21,6 @@ Options = IsAuthorizedKey rsa_line (authorized [] [])
     × IsNoEntry IsAuthorizedKey (codes "key")
     × (authorized_text (authorized (codes "no-pty") (codes "me")) ≡ codes "no-pty " ++ rsa_line ++ codes " me")
     × (authorized_text (authorized [] []) ≡ rsa_line)
-
--- a key inside quotes, and another that OpenSSH reads
-abbrev pub quoted_line : List ℕ
-quoted_line = codes "c=\"x " ++ rsa_line ++ codes " y\" ssh-rsa B z"
-
--- a no-break space
-abbrev pub no_break_space : List ℕ
-no_break_space = hex "c2a0"
-
--- Options that end inside quotes, a comment that `#` begins, and white space beyond ASCII at the
--- end: each line is read, and not strictly.
-abbrev pub Strict : Type 0
-Strict = IsAuthorizedKey quoted_line (authorized (codes "c=\"x") (codes "y\" ssh-rsa B z"))
-    × IsNoEntry IsReadStrictly quoted_line
-    × IsAuthorizedKey (codes "# " ++ rsa_line ++ codes " me") (authorized (codes "#") (codes "me"))
-    × IsNoEntry IsReadStrictly (codes "# " ++ rsa_line ++ codes " me")
-    × IsAuthorizedKey (rsa_line ++ no_break_space) (authorized [] [])
-    × IsNoEntry IsReadStrictly (rsa_line ++ no_break_space)
-    × IsReadStrictly (codes "c=\"x\" " ++ rsa_line ++ codes " me") (authorized (codes "c=\"x\"") (codes "me"))
-    × IsReadStrictly (rsa_line ++ codes " me" ++ (9 ∷ 13 ∷ [])) (authorized [] (codes "me"))
-
--- A `#` stands behind a space or tab; glued to the key it is part of no line that is read strictly.
-abbrev pub StrictLines : Type 0
-StrictLines = IsLineReadStrictly (rsa_line ++ codes " #off") (authorized [] [])
-    × (uncommented (rsa_line ++ codes "#off 2025") ≡ rsa_line)
-    × IsNoEntry IsLineReadStrictly (rsa_line ++ codes "#off 2025")
-    × (uncommented (rsa_line ++ no_break_space ++ codes " #off") ≡ rsa_line)
-    × IsNoEntry IsLineReadStrictly (rsa_line ++ no_break_space ++ codes " #off")
 
 abbrev pub host : Option Marker → KnownHost
 host m = record { marker = m; hosts = Patterns (codes "h" ∷ []); key = rsa_key; comment = [] }

@@ -6,7 +6,7 @@ use Rattle.sshkey_entries.specs.ConfigOptions.{is_option_character}
 use Rattle.sshkey_entries.specs.Entries.{entries}
 use Rattle.sshkey_entries.specs.Items.{items, patterns}
 use Rattle.sshkey_entries.specs.KnownHosts.{hashed_text}
-use Rattle.sshkey_entries.specs.StrictReading.{is_inside}
+use Rattle.sshkey_entries.specs.OptionEnds.{is_inside}
 
 abbrev line_end : List ℕ
 line_end = 10 ∷ []

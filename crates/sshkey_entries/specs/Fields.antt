@@ -9,7 +9,7 @@ use Rattle.sshkey_model.specs.Keys.{Key, IsKey, HasKeyPlaces, key}
 use Rattle.sshkey_model.specs.Lines.{key_name}
 use Rattle.sshkey_entries.specs.Entries.{is_hash, is_some_text}
 use Rattle.sshkey_entries.specs.Fronts.{without_front}
-use Rattle.sshkey_entries.specs.StrictReading.{is_blank}
+use Rattle.sshkey_entries.specs.OptionEnds.{is_blank}
 
 -- the text without the spaces and tabs at its front
 abbrev pub without_blanks : List ℕ → List ℕ

@@ -3,8 +3,7 @@ pub mod Items
 pub mod ConfigOptions
 pub mod AuthorizedKeys
 pub mod KnownHosts
-pub mod StrictReading
-pub mod SshdReading
+pub mod OptionEnds
 pub mod Fronts
 pub mod Fields
 pub mod OpenSshLines

@@ -7,7 +7,7 @@ use Rattle.sshkey_entries.specs.AuthorizedKeys.{AuthorizedKey}
 use Rattle.sshkey_entries.specs.Entries.{hash}
 use Rattle.sshkey_entries.specs.Fields.{without_blanks, IsField, EndsField, AreKeyFields, AreNoKeyFields}
 use Rattle.sshkey_entries.specs.KnownHosts.{Marker, marker_text, at_sign, IsHosts, KnownHost}
-use Rattle.sshkey_entries.specs.StrictReading.{EndsOptions}
+use Rattle.sshkey_entries.specs.OptionEnds.{EndsOptions}
 
 -- ---- authorized_keys
 

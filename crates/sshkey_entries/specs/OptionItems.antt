@@ -6,7 +6,7 @@ use Rattle.std.specs.Prelude.{◌≡◌, ◌⊎◌, ℕ, ◌<◌, List, [], ◌�
 use Rattle.std.specs.Char.{to_ascii_lowercase}
 use Rattle.sshkey_entries.specs.Fronts.{without_front}
 use Rattle.sshkey_entries.specs.Items.{is_comma, is_quote}
-use Rattle.sshkey_entries.specs.StrictReading.{is_blank, is_mark}
+use Rattle.sshkey_entries.specs.OptionEnds.{is_blank, is_mark}
 
 pub record KeyOption : Type 0 where
   pub name : List ℕ

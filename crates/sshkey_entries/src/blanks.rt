@@ -2,7 +2,7 @@
 
 ghost use Rattle.std.specs.Prelude.{◌≡◌, position, not};
 ghost use Rattle.sshkey_entries.specs.Fields.{without_blanks};
-ghost use Rattle.sshkey_entries.specs.StrictReading.{is_blank};
+ghost use Rattle.sshkey_entries.specs.OptionEnds.{is_blank};
 ghost use Rattle.sshkey_entries.specs.Cuts.{CutsField};
 
 fn is_blank(byte: u8) -> bool

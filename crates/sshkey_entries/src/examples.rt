@@ -1,7 +1,7 @@
 //! Worked examples of the definitions, on both sides of each edge.
-#![tactic(auto, unfolding(crate::specs::Computed::trim_end, crate::specs::Computed::chars, crate::specs::Computed::encode_utf8, crate::specs::Computed::encode_symbols, crate::specs::Entries::uncommented, crate::specs::Items::is_odd, crate::specs::Items::is_quoted, crate::specs::Items::items, crate::specs::Items::patterns, crate::specs::StrictReading::is_inside))]
+#![tactic(auto, unfolding(crate::specs::Computed::trim_end, crate::specs::Computed::chars, crate::specs::Computed::encode_utf8, crate::specs::Computed::encode_symbols, crate::specs::Entries::uncommented, crate::specs::Items::is_odd, crate::specs::Items::is_quoted, crate::specs::Items::items, crate::specs::Items::patterns, crate::specs::OptionEnds::is_inside))]
 
-ghost use Rattle.sshkey_entries.specs.EntryExamples.{HashedHosts, Marked, Options, Strict, StrictLines};
+ghost use Rattle.sshkey_entries.specs.EntryExamples.{HashedHosts, Marked, Options};
 ghost use Rattle.sshkey_entries.specs.Examples.{Lines, Cuts, Items, Patterns, Characters, HashedName, Quoted};
 
 /// Lines of a text.
@@ -42,12 +42,6 @@ pub fn quoted()
 /// Lines of authorized_keys, with options and without.
 pub fn option_lines()
     ensures { Options }
-{}
-
-/// Entries that are read strictly, and others; and lines of files.
-pub fn strict_lines()
-    ensures entries { Strict }
-    ensures lines { StrictLines }
 {}
 
 /// Lines of known_hosts, with markers and without.

@@ -3,7 +3,7 @@
 ghost use Rattle.sshkey_entries.specs.AuthorizedKeys.{IsAuthorizedKey};
 ghost use Rattle.sshkey_entries.specs.KnownHosts.{IsHosts, IsKnownHost};
 ghost use Rattle.sshkey_entries.specs.OpenSshLines.{IsAuthorizedLine, IsHostLine};
-ghost use Rattle.sshkey_entries.specs.Laws.{EntriesDetermineValues, OneEnd, ReadingsAreApart, OneSshdKey, StrictIsRead, StrictLineIsRead, OneKeyOptions};
+ghost use Rattle.sshkey_entries.specs.Laws.{EntriesDetermineValues, OneEnd, ReadingsAreApart, OneKeyOptions};
 
 /// A line is one entry of authorized_keys at most.
 pub fn one_authorized_key()
@@ -29,18 +29,6 @@ pub fn one_known_host()
 /// OpenSSH ends the options of a line at one place at most.
 pub fn one_end()
     ensures { OneEnd }
-{}
-
-/// What is read strictly is read as the same value, and is the key that sshd(8) reads: of an entry
-/// that stands alone, and of the whole line of a file, whose entry it is.
-pub fn strict_is_read()
-    ensures entry { StrictIsRead }
-    ensures line { StrictLineIsRead }
-{}
-
-/// sshd(8) reads one key of a line at most, with options or without.
-pub fn one_sshd_key()
-    ensures { OneSshdKey }
 {}
 
 /// A line is one entry of authorized_keys at most, as OpenSSH reads it.

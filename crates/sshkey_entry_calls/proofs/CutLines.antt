@@ -11,7 +11,7 @@ use Rattle.std.proofs.lemmas.List.Sums.{fails_before_first}
 use Rattle.std.specs.List.{All, slice_split, position_or_len}
 use Rattle.std.specs.Str.Lines.{lines, lines_of_parts, strip_carriage_return}
 use Rattle.sshkey_entries.specs.Fields.{without_blanks, is_filled, filled_lines}
-use Rattle.sshkey_entries.specs.StrictReading.{is_blank}
+use Rattle.sshkey_entries.specs.OptionEnds.{is_blank}
 use Rattle.sshkey_entries.proofs.Fronts as fronts
 use Rattle.sshkey_entry_calls.specs.Lines.{CutsLine, FindsLine, IsLineEnd, is_line_end}
 use Rattle.sshkey_calls.specs.declared.part.Part.{Part}

@@ -3,7 +3,7 @@
 ghost use Rattle.std.specs.Prelude.{◌≡◌, ◌<◌, drop, length, not, position};
 ghost use Rattle.std.specs.Str.Lines.{strip_carriage_return};
 ghost use Rattle.sshkey_entries.specs.Fields.{without_blanks, is_filled};
-ghost use Rattle.sshkey_entries.specs.StrictReading.{is_blank};
+ghost use Rattle.sshkey_entries.specs.OptionEnds.{is_blank};
 ghost use Rattle.sshkey_entry_calls.specs.Lines.{CutsLine, FindsLine, is_line_end};
 
 use sshkey_calls::number::{DONE, END};

@@ -10,7 +10,7 @@ use Rattle.sshkey_entries.specs.Entries.{hash, IsNoEntry}
 use Rattle.sshkey_entries.specs.Fields.{without_blanks, IsField, EndsField, AreKeyFields, AreNoKeyFields}
 use Rattle.sshkey_entries.specs.KnownHosts.{Marker, CertAuthority, Revoked, marker_text, at_sign, Hosts, IsHosts, KnownHost}
 use Rattle.sshkey_entries.specs.OpenSshLines.{IsMarkedLine, IsHostLine}
-use Rattle.sshkey_entries.specs.StrictReading.{is_blank}
+use Rattle.sshkey_entries.specs.OptionEnds.{is_blank}
 use Rattle.sshkey_entries.proofs.Fields.{same_field}
 use Rattle.sshkey_entries.proofs.OneOpenSshLine.{one_marked}
 use Rattle.sshkey_entries.specs.Cuts.{CutsField}

@@ -79,10 +79,4 @@ fn lines_are_answered_one_by_one(rt: HostRuntime) {
             &[false, true, false, true]
         )
     );
-    assert!(rt;
-        are_values(
-            AuthorizedKeys::strict(rt.alloc(), LINES),
-            &[false, true, false, false]
-        )
-    );
 }

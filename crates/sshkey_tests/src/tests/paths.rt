@@ -15,8 +15,7 @@ pub mod root {
 pub mod authorized_keys {
     pub use ssh_key::authorized_keys::{
         AuthorizedKeys, ConfigOpts, ConfigOptsIter, Entry, FilledLines, OpenSshAuthorizedKeys,
-        OpenSshEntry, OpenSshOption, OpenSshOptions, OpenSshOptionsIter, StrictAuthorizedKeys,
-        split_field,
+        OpenSshEntry, OpenSshOption, OpenSshOptions, OpenSshOptionsIter, split_field,
     };
 }
 
@@ -168,7 +167,6 @@ pub mod laws {
     pub use ssh_key::laws::one_options;
     pub use ssh_key::laws::one_signature;
     pub use ssh_key::laws::one_ssh_signature;
-    pub use ssh_key::laws::one_sshd_key;
     pub use ssh_key::laws::one_verdict;
     pub use ssh_key::laws::options_fit;
     pub use ssh_key::laws::ordered_sk_ecdsa_pairs;
@@ -216,5 +214,4 @@ pub mod laws {
     pub use ssh_key::laws::signed_parts_fit;
     pub use ssh_key::laws::spelled_ssh_signature;
     pub use ssh_key::laws::ssh_signature_fits;
-    pub use ssh_key::laws::strict_is_read;
 }

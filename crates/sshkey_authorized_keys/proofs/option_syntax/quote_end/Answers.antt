@@ -1,5 +1,5 @@
 use Rattle.std.proofs.Common.{sym, ◌∙◌, arith}
-use Rattle.sshkey_entries.specs.StrictReading.{is_mark}
+use Rattle.sshkey_entries.specs.OptionEnds.{is_mark}
 use Rattle.sshkey_authorized_keys.proofs.OptionCuts.{none_more}
 use Rattle.sshkey_authorized_keys.proofs.option_syntax.quote_end.Goals as goal
 

@@ -1,5 +1,5 @@
 use Rattle.std.proofs.Common.{subst, List, ℕ, Some, None, ◌∙◌}
-use Rattle.sshkey_entries.specs.StrictReading.{is_mark}
+use Rattle.sshkey_entries.specs.OptionEnds.{is_mark}
 use Rattle.sshkey_authorized_keys.specs.OptionCuts.{FindsFirst}
 use Rattle.sshkey_authorized_keys.proofs.OptionCuts.{mark_place, quoted_cut, quoted_none, whole_front}
 use Rattle.sshkey_authorized_keys.proofs.option_syntax.split_quoted.Goals as goal
