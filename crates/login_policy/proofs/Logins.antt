@@ -111,7 +111,7 @@ vouched authorities c (Err e) trusted = (tt, λ memory. inr trusted)
 
 -- ---- where memory is asked for
 
-pub needed : (authorities : List Fingerprint) (text : List ℕ) (e : Error) → (cause e ≡ NoMemory → NeedsValue certificate_format.needs text ⊎ HasComment name_of_certificate SpellsCertificate text) → e ≡ Memory → NeedsMemory authorities text
+pub needed : (authorities : List Fingerprint) (text : List ℕ) (e : Error) → (cause e ≡ NoMemory → NeedsValue certificate_format text ⊎ HasComment name_of_certificate SpellsCertificate text) → e ≡ Memory → NeedsMemory authorities text
 needed authorities text e asks memory = elim (asks (rw memory refl)) [ inl needs ↦ inl needs | inr comment ↦ inr (inl comment) ]
 
 pub judged : (authorities : List Fingerprint) (text comment : List ℕ) (c : Certificate) → IsCertificateLine text c comment → NeedsJudging authorities c → NeedsMemory authorities text

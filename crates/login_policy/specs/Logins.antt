@@ -10,7 +10,6 @@ use Rattle.ssh_key.specs.model.Fingerprints.{Fingerprint}
 use Rattle.ssh_key.specs.model.Keys.{Key}
 use Rattle.ssh_key.specs.model.Lines.{IsCertificateLine, IsNoLine, IsWithout, name_of_certificate}
 use Rattle.ssh_key.specs.model.OptionMaps.{value_of}
-use Rattle.ssh_key.specs.model.Reading.{whole}
 use Rattle.ssh_key.specs.model.Refusals.{first_refusal_for, has_trusted_authority}
 use Rattle.ssh_key.specs.model.Validity.{IsValid}
 use Rattle.ssh_key.specs.model.Verification.{Question}
@@ -85,7 +84,7 @@ NeedsJudging authorities c = (IsShort c.signed.signature_key → ⊥) ⊎ IsTrue
 -- What stands in the text needs memory; or a comment does, behind a certificate; or it is the line of a
 -- certificate that needs some to be judged.
 abbrev pub NeedsMemory : List Fingerprint → List ℕ → Type 0
-NeedsMemory authorities text = NeedsValue certificate_format.needs text ⊎ HasComment name_of_certificate SpellsCertificate text ⊎ ((c : Certificate) × (comment : List ℕ) × IsCertificateLine text c comment × NeedsJudging authorities c)
+NeedsMemory authorities text = NeedsValue certificate_format text ⊎ HasComment name_of_certificate SpellsCertificate text ⊎ ((c : Certificate) × (comment : List ℕ) × IsCertificateLine text c comment × NeedsJudging authorities c)
 
 -- ---- why a login is refused
 
@@ -104,4 +103,4 @@ pub data Refuses (accepts : Question → Bool) (authorities : List Fingerprint) 
 
 -- The text is the line of no certificate, and has that fault; or of one that is refused for that.
 abbrev pub RefusesLine : (Question → Bool) → List Fingerprint → ℕ → List ℕ → Key → List ℕ → Error → Type 0
-RefusesLine accepts authorities t user offered text e = (IsNoLine name_of_certificate SpellsCertificate text × HasFaultOfLine (whole certificate_format.read) name_of_certificate SpellsCertificate text e) ⊎ ((c : Certificate) × (comment : List ℕ) × IsCertificateLine text c comment × Refuses accepts authorities t user offered c e)
+RefusesLine accepts authorities t user offered text e = (IsNoLine name_of_certificate SpellsCertificate text × HasFaultOfLine certificate_format name_of_certificate SpellsCertificate text e) ⊎ ((c : Certificate) × (comment : List ℕ) × IsCertificateLine text c comment × Refuses accepts authorities t user offered c e)

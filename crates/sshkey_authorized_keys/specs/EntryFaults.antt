@@ -6,14 +6,13 @@ use Rattle.sshkey_base.specs.declared.error.Error.TheVariants.{Encoding, FormatE
 use Rattle.sshkey_keys.specs.KeyFormats.{key_format}
 use Rattle.sshkey_keys.specs.Keys.{SpellsKey}
 use Rattle.sshkey_model.specs.Lines.{space, key_name, IsWithout}
-use Rattle.sshkey_model.specs.Reading.{whole}
 use Rattle.sshkey_public.specs.LineFaults.{HasFaultOfLine}
 use Rattle.sshkey_entries.specs.AuthorizedKeys.{is_space}
 use Rattle.sshkey_entries.specs.ConfigOptions.{AreOptions}
 
 -- The text has that fault as the line of a key.
 abbrev pub HasFaultOfKey : List ℕ → Error → Type 0
-HasFaultOfKey = HasFaultOfLine (whole key_format.read) key_name SpellsKey
+HasFaultOfKey = HasFaultOfLine key_format key_name SpellsKey
 
 -- `FormatEncoding` where there is no space, and the fault of the key's line where there are one or
 -- two. Where there are more, `CharacterEncoding` if options do not have what stands before the

@@ -18,4 +18,4 @@ pub record NeedsOptions (line : List ℕ) : Type 0 where
 
 -- Reading the line needs memory: for the key or the comment of a key's line, or for options.
 abbrev pub NeedsLine : List ℕ → Type 0
-NeedsLine line = (NeedsValue key_format.needs line ⊎ HasComment key_name SpellsKey line) ⊎ NeedsOptions line
+NeedsLine line = (NeedsValue key_format line ⊎ HasComment key_name SpellsKey line) ⊎ NeedsOptions line

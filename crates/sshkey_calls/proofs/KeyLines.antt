@@ -105,11 +105,11 @@ pub needs_certificate_line : (text : List ℕ) (c : Certificate) (comment : List
 needs_certificate_line text c comment line = inr (inr (content_of 2 line.blob comment, inr (refl, (c, line.spelled, line.line))))
 
 -- or for its bytes
-pub needs_key : (text : List ℕ) → NeedsValue key_format.needs text ⊎ HasComment key_name SpellsKey text → NeedsLine text
+pub needs_key : (text : List ℕ) → NeedsValue key_format text ⊎ HasComment key_name SpellsKey text → NeedsLine text
 needs_key text (inl value) = inl value
 needs_key text (inr has) = needs_key_line text has.value has.comment has.line
 
-pub needs_certificate : (text : List ℕ) → NeedsValue certificate_format.needs text ⊎ HasComment name_of_certificate SpellsCertificate text → NeedsLine text
+pub needs_certificate : (text : List ℕ) → NeedsValue certificate_format text ⊎ HasComment name_of_certificate SpellsCertificate text → NeedsLine text
 needs_certificate text (inl value) = inr (inl value)
 needs_certificate text (inr has) = needs_certificate_line text has.value has.comment has.line
 

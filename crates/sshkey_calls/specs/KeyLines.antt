@@ -2,7 +2,6 @@
 use Rattle.std.specs.Prelude.{◌≡◌, ◌≢◌, ◌⊎◌, ℕ, ◌<◌, ◌==◌, if◌then◌else◌, List, ◌++◌, length}
 use Rattle.sshkey_base.specs.declared.error.Error.{Error}
 use Rattle.sshkey_model.specs.Lines.{IsLine, key_name, name_of_certificate}
-use Rattle.sshkey_model.specs.Reading.{whole}
 use Rattle.sshkey_keys.specs.KeyFormats.{key_format}
 use Rattle.sshkey_keys.specs.Keys.{SpellsKey}
 use Rattle.sshkey_public.specs.LineFaults.{HasFaultOfLine}
@@ -33,7 +32,7 @@ Holds text x = ((x.kind ≡ 1) × IsLineWith key_name SpellsKey text x) ⊎ ((x.
 -- Memory may be asked for: by the bytes of the second word, as those of a key or of a certificate,
 -- or for what the line holds.
 abbrev pub NeedsLine : List ℕ → Type 0
-NeedsLine text = NeedsValue key_format.needs text ⊎ (NeedsValue certificate_format.needs text ⊎ ((x : Content) × Holds text x))
+NeedsLine text = NeedsValue key_format text ⊎ (NeedsValue certificate_format text ⊎ ((x : Content) × Holds text x))
 
 -- ---- in the room
 
@@ -58,11 +57,11 @@ pub record Reads (Wanted : Content → Type 0) (n : ℕ) (was line : Line) (befo
 
 -- the number is that of a fault that the text has as the line of a key
 abbrev pub NumbersKeyFault : List ℕ → ℕ → Type 0
-NumbersKeyFault text n = (e : Error) × HasFaultOfLine (whole key_format.read) key_name SpellsKey text e × (n ≡ error_number e)
+NumbersKeyFault text n = (e : Error) × HasFaultOfLine key_format key_name SpellsKey text e × (n ≡ error_number e)
 
 -- or as the line of a certificate
 abbrev pub NumbersCertificateFault : List ℕ → ℕ → Type 0
-NumbersCertificateFault text n = (e : Error) × HasFaultOfLine (whole certificate_format.read) name_of_certificate SpellsCertificate text e × (n ≡ error_number e)
+NumbersCertificateFault text n = (e : Error) × HasFaultOfLine certificate_format name_of_certificate SpellsCertificate text e × (n ≡ error_number e)
 
 -- the fault as a certificate's line, but where that is 12, for a name that no certificate has, the
 -- one as a key's. (A key may have the name of a certificate: as a key of private use.)

@@ -6,7 +6,7 @@ use crate::{signatures, validity};
 use sshkey_authorized_keys::OpenSshOptionsIter;
 use sshkey_base::{
     Algorithm, Decode, EcdsaCurve, Encode, Error, HashAlg, Reader, Result, SliceWriter,
-    decode_whole,
+    decode_whole, encoding,
 };
 use sshkey_base64::{Base64Reader, write_base64};
 use sshkey_cert_ref::{OptionsRef, TextsRef};
@@ -28,6 +28,7 @@ pub(crate) fn value(alloc: Global, kind: &str, parts: &[Vec<u8>]) -> Result<Stri
         "key" => is_kept::<KeyData>(alloc, bytes)?,
         "scalar" => is_kept::<EcdsaPrivateKey<32>>(alloc, bytes)?,
         "line" => is_line(alloc, text(parts, 0)?)?,
+        "broken-line" => is_broken(alloc, text(parts, 0)?)?,
         "base64" => is_word(text(parts, 0)?, part(parts, 1))?,
         "fingerprint" => is_fingerprint(text(parts, 0)?)?,
         "fingerprint-of" => has_fingerprint(alloc, bytes, text(parts, 1)?)?,
@@ -63,6 +64,15 @@ fn is_written<T: Encode>(value: &T, bytes: &[u8]) -> bool {
 fn is_line(alloc: Global, line: &str) -> Result<bool> {
     let key = PublicKey::from_openssh(alloc, line)?;
     Ok(is_in_slice(&key, line)? && is_by_writer(&key, line))
+}
+
+/// Whether the line of a key has a word that is no Base64. With memory refused it says that.
+fn is_broken(alloc: Global, line: &str) -> Result<bool> {
+    match PublicKey::from_openssh(alloc, line) {
+        Ok(_) => Ok(false),
+        Err(Error::Encoding(encoding::Error::Base64)) => Ok(true),
+        Err(error) => Err(error),
+    }
 }
 
 fn is_in_slice(key: &PublicKey, line: &str) -> Result<bool> {

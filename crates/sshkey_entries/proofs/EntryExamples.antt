@@ -1,5 +1,5 @@
 -- The worked examples of entries hold.
-use Rattle.std.proofs.Common.{◌≡◌, ◌≢◌, ℕ, ◌<◌, ◌≤◌, true, List, [], ◌∷◌, ◌++◌, length, drop, count_by, Option, None, Some, inl, inr, refl, sym, ap, subst, ◌∙◌, arith, append-nil}
+use Rattle.std.proofs.Common.{◌≡◌, ◌≢◌, ℕ, ◌<◌, ◌≤◌, true, List, [], ◌∷◌, ◌++◌, length, drop, count_by, Option, None, Some, inl, inr, refl, sym, ap, subst, ◌∙◌, arith}
 use Rattle.std.specs.Prelude.{codes, slice_index}
 use Rattle.std.specs.Str.{trim_end, is_utf8, chars}
 use Rattle.std.specs.Char.{encode_utf8}
@@ -11,7 +11,7 @@ use Rattle.sshkey_model.specs.HexText.{hex}
 use Rattle.sshkey_model.specs.KeyExamples.{rsa_key}
 use Rattle.sshkey_model.specs.LineExamples.{rsa_word, rsa_line}
 use Rattle.sshkey_model.specs.Parts.{flat}
-use Rattle.sshkey_model.specs.Lines.{space, joined, IsKeyLine}
+use Rattle.sshkey_model.specs.Lines.{space, IsKeyLine}
 use Rattle.sshkey_model.proofs.Base64Words.{one_blob}
 use Rattle.sshkey_model.proofs.CombinedReaders.{bytes_fit}
 use Rattle.sshkey_model.proofs.LineCuts.{one_front}

@@ -9,7 +9,6 @@ use Rattle.sshkey_base.specs.declared.error.Error.{Error}
 use Rattle.sshkey_base.specs.declared.error.Error.TheVariants.{AlgorithmUnknown, Encoding}
 use Rattle.sshkey_model.specs.Keys.{Key}
 use Rattle.sshkey_model.specs.Lines.{key_name}
-use Rattle.sshkey_model.specs.Reading.{whole}
 use Rattle.sshkey_model.proofs.Base64Words.{one_blob, some_word}
 use Rattle.sshkey_model.proofs.Blobs.{key_blobs}
 use Rattle.sshkey_model.proofs.CombinedReaders.{bytes_fit}
@@ -87,10 +86,10 @@ module _ (text name behind skipped word rest : List ℕ) (first : CutsField text
     other_name = λ n w r k f is other. absurd (omega (arith, none, ap length ((same_word n w r f).1 ∙ is.is), some_word is.blob (key_blobs.some k is.blob is.spelled)));
   }
 
-  pub odd_key : (e : Error) → 0 < length word → IsNoWord SpellsKey word → HasFaultOfWord (whole key_format.read) word e → HasKeyFault text e
+  pub odd_key : (e : Error) → 0 < length word → IsNoWord SpellsKey word → HasFaultOfWord key_format word e → HasKeyFault text e
   odd_key e some none fault = record {
     no_word = λ n r cut nothing. absurd (some_there some n r cut nothing);
-    bad_word = λ n w r f also no. subst (λ (t : List ℕ). HasFaultOfWord (whole key_format.read) t e) (same_word n w r f).1 fault;
+    bad_word = λ n w r f also no. subst (λ (t : List ℕ). HasFaultOfWord key_format t e) (same_word n w r f).1 fault;
     other_name = λ n w r k f is other. absurd (none k (subst (λ (t : List ℕ). IsWordOf SpellsKey t k) (sym (same_word n w r f).1) is));
   }
 
@@ -101,7 +100,7 @@ module _ (text name behind skipped word rest : List ℕ) (first : CutsField text
     other_name = λ n w r k f is other. refl;
   }
 
-  pub word_needed : NeedsWord key_format.needs word → NeedsKeyFields text
+  pub word_needed : NeedsWord key_format word → NeedsKeyFields text
   word_needed needed = inl (record { name = name; word = word; rest = rest; fields = fields_are; needed = needed })
 
   pub comment_needed : (k : Key) → IsWordOf SpellsKey word k → name ≡ key_name k → (copied : List ℕ) → copied ≡ without_blanks rest → 0 < length copied → NeedsKeyFields text

@@ -9,7 +9,6 @@ use Rattle.sshkey_keys.specs.Keys.{SpellsKey}
 use Rattle.sshkey_keys.specs.KeyFormats.{key_format}
 use Rattle.sshkey_model.specs.Keys.{Key}
 use Rattle.sshkey_model.specs.Lines.{key_name}
-use Rattle.sshkey_model.specs.Reading.{whole}
 use Rattle.sshkey_public.specs.LineFaults.{HasFaultOfWord}
 use Rattle.sshkey_public.specs.LineNeeds.{NeedsWord}
 use Rattle.sshkey_public.specs.Lines.{IsNoWord, IsWordOf}
@@ -33,7 +32,7 @@ pub record AreFields (text name word rest : List ℕ) : Type 0 where
 -- `AlgorithmUnknown` where it spells a key of another name.
 pub record HasKeyFault (text : List ℕ) (e : Error) : Type 0 where
   pub no_word : (name rest : List ℕ) → CutsField text name rest → without_blanks rest ≡ [] → e ≡ Encoding Length
-  pub bad_word : (name word rest : List ℕ) → AreFields text name word rest → 0 < length word → IsNoWord SpellsKey word → HasFaultOfWord (whole key_format.read) word e
+  pub bad_word : (name word rest : List ℕ) → AreFields text name word rest → 0 < length word → IsNoWord SpellsKey word → HasFaultOfWord key_format word e
   pub other_name : (name word rest : List ℕ) (k : Key) → AreFields text name word rest → IsWordOf SpellsKey word k → name ≢ key_name k → e ≡ AlgorithmUnknown
 
 -- ---- memory
@@ -44,7 +43,7 @@ pub record NeedsFields (text : List ℕ) : Type 0 where
   pub word : List ℕ
   pub rest : List ℕ
   pub fields : AreFields text name word rest
-  pub needed : NeedsWord key_format.needs word
+  pub needed : NeedsWord key_format word
 
 -- The text is a key's fields with a comment, which is not empty.
 pub record HasFieldComment (text : List ℕ) : Type 0 where

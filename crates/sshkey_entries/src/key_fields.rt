@@ -25,9 +25,9 @@ fn is_named(key: &KeyData, name: &str) -> bool
 /// Base64 is missing, the errors of `sshkey_public::read_word`, and `AlgorithmUnknown` where the
 /// first field is not the name of the key that the Base64 spells.
 ///
-/// `Memory` means that the second field is canonical Base64 and an allocation for the key in it
-/// failed, or for the comment, if that is not empty, of a text that is a key's fields. A length
-/// that the key's bytes only state allocates nothing.
+/// `Memory` means that an allocation failed: for the key in the second field, as
+/// `sshkey_public::read_word` says, or for the comment, if that is not empty, of a text that is a
+/// key's fields.
 pub fn read_key_fields(alloc: Global, text: &str) -> Result<PublicKey>
     ensures reads { ReadsKeyFields text.now result }
     ensures fault { RefusesFor HasKeyFault text.now result }

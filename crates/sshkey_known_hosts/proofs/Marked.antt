@@ -92,10 +92,10 @@ module _ (entry : List ℕ) (m : Option Marker) (unmarked : List ℕ) (marked : 
     }
 
     -- hosts that are some, and the fault of the key's line
-    pub host_key_fault : (e : Error) (x : Hosts) → IsHosts hosts.now x → HasFaultOfLine (whole key_format.read) key_name SpellsKey rest.now e → HasFault entry e
+    pub host_key_fault : (e : Error) (x : Hosts) → IsHosts hosts.now x → HasFaultOfLine key_format key_name SpellsKey rest.now e → HasFault entry e
     host_key_fault e x h fault = record {
       no_marker = λ none. absurd (none m unmarked marked);
       no_space = λ n other is without. absurd (no_lone_word n other is without);
       no_hosts = λ n other behind is without bad. absurd (bad x (subst (λ (t : List ℕ). IsHosts t x) (same_hosts n other behind is without) h));
-      no_key = λ n other behind y is without are. subst (λ (t : List ℕ). HasFaultOfLine (whole key_format.read) key_name SpellsKey t e) (same_behind n other behind is without) fault;
+      no_key = λ n other behind y is without are. subst (λ (t : List ℕ). HasFaultOfLine key_format key_name SpellsKey t e) (same_behind n other behind is without) fault;
     }

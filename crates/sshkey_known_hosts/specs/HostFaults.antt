@@ -8,7 +8,6 @@ use Rattle.sshkey_base.specs.declared.error.Error.TheVariants.{Encoding, FormatE
 use Rattle.sshkey_keys.specs.KeyFormats.{key_format}
 use Rattle.sshkey_keys.specs.Keys.{SpellsKey}
 use Rattle.sshkey_model.specs.Lines.{space, key_name, IsWithout}
-use Rattle.sshkey_model.specs.Reading.{whole}
 use Rattle.sshkey_public.specs.LineFaults.{HasFaultOfLine}
 use Rattle.sshkey_entries.specs.Entries.{IsNoEntry}
 use Rattle.sshkey_entries.specs.KnownHosts.{Hosts, Marker, IsHosts, IsMarked, bar, hashed_mark, hashed_text}
@@ -56,7 +55,7 @@ pub record HasFault (line : List ℕ) (e : Error) : Type 0 where
   pub no_marker : ((m : Option Marker) (rest : List ℕ) → IsMarked m line rest → ⊥) → e ≡ FormatEncoding
   pub no_space : (m : Option Marker) (rest : List ℕ) → IsMarked m line rest → IsWithout space rest → e ≡ FormatEncoding
   pub no_hosts : (m : Option Marker) (hosts rest : List ℕ) → IsMarked m line (hosts ++ (space ∷ rest)) → IsWithout space hosts → IsNoEntry IsHosts hosts → RefusesHosts hosts e
-  pub no_key : (m : Option Marker) (hosts rest : List ℕ) (h : Hosts) → IsMarked m line (hosts ++ (space ∷ rest)) → IsWithout space hosts → IsHosts hosts h → HasFaultOfLine (whole key_format.read) key_name SpellsKey rest e
+  pub no_key : (m : Option Marker) (hosts rest : List ℕ) (h : Hosts) → IsMarked m line (hosts ++ (space ∷ rest)) → IsWithout space hosts → IsHosts hosts h → HasFaultOfLine key_format key_name SpellsKey rest e
 
 -- ---- memory
 

@@ -1,5 +1,4 @@
 pub mod Cuts
-pub mod CanonicalWords
 pub mod LineNeeds
 pub mod LineFaults
 pub mod ReadLines

@@ -16,7 +16,7 @@ use Rattle.sshkey_model.specs.Lines.{IsLineOf, IsNoLine, IsCut}
 use Rattle.sshkey_model.proofs.LineCuts.{one_cut}
 use Rattle.sshkey_model.proofs.Lines.{line_cut, no_cut, other_first, is_line}
 use Rattle.sshkey_public.specs.Blobs.{StandsInLines}
-use Rattle.sshkey_public.specs.Lines.{IsCanonical, IsWordOf, IsNoWord, ReadsWord}
+use Rattle.sshkey_public.specs.Lines.{IsWordOf, IsNoWord, ReadsWord}
 use Rattle.sshkey_base64.proofs.GoodBytes.{length_word}
 use Rattle.sshkey_base64.specs.Words64.{IsSourceOf}
 
@@ -53,10 +53,6 @@ module _ {X Y V : Type 0} {means : X → Y} {Spells : Y → List ℕ → Type 0}
   -- refused for its length
   pub odd_word : (w : List ℕ) → (length w % 4 ≡ 0 → ⊥) → IsNoWord Spelling w
   odd_word w odd = λ v word. odd (omega (arith, ap length word.is, length_word word.blob))
-
-  -- refused for its Base64
-  pub broken_word : (w : List ℕ) → (IsCanonical w → ⊥) → IsNoWord Spelling w
-  broken_word w none = λ v word. none (record { blob = word.blob; bytes = fits v word.blob word.spelled; is = word.is })
 
   pub short_name : (w : List ℕ) (v : V) → IsWordOf Spelling w v → length (name v) ≤ 73
   short_name w v word = k.short v word.blob word.spelled

@@ -1,30 +1,33 @@
 -- Where reading a line needs memory.
-use Rattle.std.specs.Prelude.{◌≡◌, ℕ, ◌<◌, ◌⊎◌, List, length, Result, Ok, Err}
+use Rattle.std.specs.Prelude.{◌≡◌, ℕ, ◌<◌, ◌⊎◌, ◌%◌, List, length, Result, Ok, Err}
 use Rattle.base64.specs.Engines.{standard}
 use Rattle.base64.specs.GeneralPurpose.{encode_of, IsBytes}
 use Rattle.sshkey_base.specs.Causes.{cause, NoMemory}
+use Rattle.sshkey_base.specs.Formats.{Format}
 use Rattle.sshkey_base.specs.declared.error.Error.{Error}
 use Rattle.sshkey_model.specs.Lines.{IsCut, IsLineOf}
+use Rattle.sshkey_public.specs.Lines.{AtFault}
 
--- The word is that of bytes which need memory: one that is no canonical Base64 needs none.
-pub record NeedsWord (needs : List ℕ → ℕ → Type 0) (word : List ℕ) : Type 0 where
-  pub blob : List ℕ
-  pub bytes : IsBytes blob
-  pub is : word ≡ encode_of standard blob
-  pub needed : needs blob 0
+-- The word has groups of four characters. The bytes of a canonical one need memory, and so does a
+-- value before a length that passes all that the word announces. Of another word it is open whether
+-- it needs some.
+pub record NeedsWord {Y : Type 0} (f : Format Y) (word : List ℕ) : Type 0 where
+  pub groups : length word % 4 ≡ 0
+  pub canonical : (blob : List ℕ) → IsBytes blob → word ≡ encode_of standard blob → f.needs blob 0
+  pub past : AtFault f.overruns word → AtFault f.needs word
 
--- Memory was refused only where the bytes of the word need it.
-abbrev pub AsksWord : {X : Type 0} → (List ℕ → ℕ → Type 0) → List ℕ → Result X Error → Type 0
-AsksWord needs word (Ok x) = Unit {0}
-AsksWord needs word (Err e) = cause e ≡ NoMemory → NeedsWord needs word
+-- Memory was refused only where the word needs it.
+abbrev pub AsksWord : {X Y : Type 0} → Format Y → List ℕ → Result X Error → Type 0
+AsksWord f word (Ok x) = Unit {0}
+AsksWord f word (Err e) = cause e ≡ NoMemory → NeedsWord f word
 
--- The text is cut into words, and the bytes of the second need memory.
-pub record NeedsValue (needs : List ℕ → ℕ → Type 0) (text : List ℕ) : Type 0 where
+-- The text is cut into words, of which the second needs memory.
+pub record NeedsValue {Y : Type 0} (f : Format Y) (text : List ℕ) : Type 0 where
   pub first : List ℕ
   pub word : List ℕ
   pub comment : List ℕ
   pub cut : IsCut text first word comment
-  pub needed : NeedsWord needs word
+  pub needed : NeedsWord f word
 
 -- The text is the line of a value with a comment, which is not empty.
 pub record HasComment {V : Type 0} (name : V → List ℕ) (Spelling : V → List ℕ → Type 0) (text : List ℕ) : Type 0 where
@@ -34,6 +37,6 @@ pub record HasComment {V : Type 0} (name : V → List ℕ) (Spelling : V → Lis
   pub some : 0 < length comment
 
 -- Memory was refused only for the value in the text, or for the comment of a line.
-abbrev pub AsksLine : {X V : Type 0} → (V → List ℕ) → (V → List ℕ → Type 0) → (List ℕ → ℕ → Type 0) → List ℕ → Result X Error → Type 0
-AsksLine name Spelling needs text (Ok x) = Unit {0}
-AsksLine name Spelling needs text (Err e) = cause e ≡ NoMemory → NeedsValue needs text ⊎ HasComment name Spelling text
+abbrev pub AsksLine : {X V Y : Type 0} → Format Y → (V → List ℕ) → (V → List ℕ → Type 0) → List ℕ → Result X Error → Type 0
+AsksLine f name Spelling text (Ok x) = Unit {0}
+AsksLine f name Spelling text (Err e) = cause e ≡ NoMemory → NeedsValue f text ⊎ HasComment name Spelling text

@@ -2,7 +2,6 @@
 #![tactic(auto)]
 
 mod blob;
-mod canonical;
 pub mod laws;
 mod line;
 mod line_writer;

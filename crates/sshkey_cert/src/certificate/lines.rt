@@ -52,9 +52,9 @@ impl Certificate {
     /// not canonical Base64 fails with `Base64`, or with a fault of the bytes before its first
     /// wrong character.
     ///
-    /// `Memory` means that the second word is canonical Base64 and an allocation for the
-    /// certificate in it failed, or for the comment of a line that is a certificate's. A length
-    /// that its bytes only state allocates nothing.
+    /// `Memory` means that an allocation failed, for the certificate in the second word or for the
+    /// comment of a line that is a certificate's; no fault that stands later in the line takes its
+    /// place. A stated length that exceeds the bytes allocates nothing.
     ///
     /// The comment is all that follows the second word and a space, line ends too: if `is_one_line`
     /// returns false, further lines are part of it, and were not read as certificates.
@@ -65,7 +65,7 @@ impl Certificate {
     /// ```
     pub fn from_openssh(alloc: Global, text: &str) -> Result<Certificate>
         ensures reads { ReadsCertificate text.now result }
-        ensures asks { AsksLine name_of_certificate SpellsCertificate certificate_format.needs
+        ensures asks { AsksLine certificate_format name_of_certificate SpellsCertificate
             text.now result }
         ensures fault { RefusesLine certificate_format name_of_certificate SpellsCertificate
             text.now result }
