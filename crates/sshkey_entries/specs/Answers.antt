@@ -2,7 +2,6 @@
 use Rattle.std.specs.Prelude.{◌≡◌, ◌≢◌, ◌⊎◌, ℕ, List, [], ◌∷◌, ◌++◌, Option, Some, None, Result, Ok, Err, Vec}
 use Rattle.std.specs.List.{AllZip}
 use Rattle.sshkey_base.specs.Causes.{cause, NoMemory}
-use Rattle.sshkey_base.specs.Faults.{IsMachineFault}
 use Rattle.sshkey_base.specs.declared.error.Error.{Error}
 use Rattle.sshkey_entries.specs.Entries.{entries, uncommented, IsNoEntry}
 use denote.Ref.{Bor}
@@ -60,11 +59,11 @@ abbrev pub ReadsEntries : {X Y Z : Type 0} → (X → Y) → (List ℕ → Y →
 ReadsEntries means IsEntry HasFault all (Ok v) = AreEntries means IsEntry all v.items
 ReadsEntries means IsEntry HasFault all (Err e) = cause e ≢ NoMemory → FirstIsNone means IsEntry HasFault all e
 
--- Accepted are the values of all entries of some text, which the file holds. Refused, the machine
--- failed, or the first entry of some text that has none has that fault.
-abbrev pub ReadsFile : {X Y Z : Type 0} → (X → Y) → (List ℕ → Y → Type 0) → (List ℕ → Error → Type 0) → Result (Vec X Z) Error → Type 0
-ReadsFile means IsEntry HasFault (Ok v) = (text : List ℕ) × AreEntries means IsEntry (entries text) v.items
-ReadsFile means IsEntry HasFault (Err e) = IsMachineFault e ⊎ ((text : List ℕ) × FirstIsNone means IsEntry HasFault (entries text) e)
+-- Accepted are the values of all entries of some text, which the file holds. Of a refusal nothing is
+-- said.
+abbrev pub ReadsFile : {X Y Z : Type 0} → (X → Y) → (List ℕ → Y → Type 0) → Result (Vec X Z) Error → Type 0
+ReadsFile means IsEntry (Ok v) = (text : List ℕ) × AreEntries means IsEntry (entries text) v.items
+ReadsFile means IsEntry (Err e) = Unit {0}
 
 -- ---- memory
 

@@ -56,7 +56,7 @@ pub fn entries_of_text<E: FromLine>(alloc: Global, text: &str) -> Result<Vec<E>>
 /// Fails with the errors of `sshkey_input::text_of_file`, and then with those of
 /// `entries_of_text`.
 pub fn entries_of_file<R: Files, E: FromLine>(rt: &R, alloc: Global, path: &str) -> Result<Vec<E>>
-    ensures { ReadsFile E.means E.IsEntry E.HasFault result }
+    ensures { ReadsFile E.means E.IsEntry result }
 {
     let text = text_of_file(rt, alloc, path)?;
     entries_of_text(alloc, text.as_str())
