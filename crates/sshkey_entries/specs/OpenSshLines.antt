@@ -2,11 +2,11 @@
 -- FILE FORMAT" and "SSH_KNOWN_HOSTS FILE FORMAT"): a line that begins with a `#` is a comment, and
 -- fields are separated by spaces or tabs, of which some may stand in front.
 use Rattle.std.specs.Prelude.{◌≡◌, ◌≢◌, ◌⊎◌, ℕ, List, [], ◌++◌, length, slice_index, Option, Some, None}
-use Rattle.sshkey_model.specs.Lines.{IsWithout}
+use Rattle.sshkey_model.specs.Lines.{space, IsWithout}
 use Rattle.sshkey_entries.specs.AuthorizedKeys.{AuthorizedKey}
 use Rattle.sshkey_entries.specs.Entries.{hash}
 use Rattle.sshkey_entries.specs.Fields.{without_blanks, IsField, EndsField, AreKeyFields, AreNoKeyFields}
-use Rattle.sshkey_entries.specs.KnownHosts.{Marker, marker_text, at_sign, IsHosts, KnownHost}
+use Rattle.sshkey_entries.specs.KnownHosts.{Marker, CertAuthority, Revoked, marker_text, at_sign, IsHosts, KnownHost}
 use Rattle.sshkey_entries.specs.OptionEnds.{EndsOptions}
 
 -- ---- authorized_keys
@@ -31,11 +31,17 @@ pub record IsAuthorizedLine (line : List ℕ) (a : AuthorizedKey) : Type 0 where
 
 -- ---- known_hosts
 
+-- ssh ends a marker at the first space of the line, and at a tab only where no space follows. A
+-- revocation counts behind a tab all the same.
+abbrev pub EndsMarker : Marker → List ℕ → Type 0
+EndsMarker CertAuthority behind = (slice_index behind 0 ≡ space) ⊎ IsWithout space behind
+EndsMarker Revoked behind = Unit {0}
+
 -- one marker before the rest, which is a field of its own; or none, and then no at sign at the
 -- front
 abbrev pub IsMarkedLine : Option Marker → List ℕ → List ℕ → Type 0
 IsMarkedLine None text rest = (text ≡ rest) × (slice_index text 0 ≢ at_sign)
-IsMarkedLine (Some m) text rest = (behind : List ℕ) × (text ≡ marker_text m ++ behind) × EndsField behind × (rest ≡ without_blanks behind) × (slice_index rest 0 ≢ at_sign)
+IsMarkedLine (Some m) text rest = (behind : List ℕ) × (text ≡ marker_text m ++ behind) × (EndsField behind × EndsMarker m behind) × (rest ≡ without_blanks behind) × (slice_index rest 0 ≢ at_sign)
 
 -- A marker or none, hosts, and a key's fields. No byte is 0, where ssh takes the hosts to end.
 pub record IsHostLine (line : List ℕ) (h : KnownHost) : Type 0 where

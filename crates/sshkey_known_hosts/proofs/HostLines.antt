@@ -1,5 +1,5 @@
 -- When a line is an entry of known_hosts as OpenSSH reads it.
-use Rattle.std.proofs.Common.{◌≡◌, ◌≢◌, ℕ, List, ◌++◌, slice_index, Option, None, Some, Bool, not, refl, sym, ap, subst, ◌∙◌}
+use Rattle.std.proofs.Common.{◌≡◌, ◌≢◌, ℕ, List, ◌++◌, slice_index, Option, None, Some, Bool, not, refl, sym, ap, subst, ◌∙◌, arith}
 use Rattle.std.proofs.lemmas.Bool.{not-true}
 use Rattle.sshkey_base.specs.Causes.{cause, NoMemory}
 use Rattle.sshkey_base.specs.declared.error.Error.{Error}
@@ -9,7 +9,7 @@ use Rattle.sshkey_model.proofs.LineTests.{each}
 use Rattle.sshkey_entries.specs.Entries.{hash, IsNoEntry}
 use Rattle.sshkey_entries.specs.Fields.{without_blanks, IsField, EndsField, AreKeyFields, AreNoKeyFields}
 use Rattle.sshkey_entries.specs.KnownHosts.{Marker, CertAuthority, Revoked, marker_text, at_sign, Hosts, IsHosts, KnownHost}
-use Rattle.sshkey_entries.specs.OpenSshLines.{IsMarkedLine, IsHostLine}
+use Rattle.sshkey_entries.specs.OpenSshLines.{EndsMarker, IsMarkedLine, IsHostLine}
 use Rattle.sshkey_entries.specs.OptionEnds.{is_blank}
 use Rattle.sshkey_entries.proofs.Fields.{same_field}
 use Rattle.sshkey_entries.proofs.OneOpenSshLine.{one_marked}
@@ -33,20 +33,33 @@ begins : (m : Marker) (rest : List ℕ) → slice_index (marker_text m ++ rest) 
 begins CertAuthority rest = refl
 begins Revoked rest = refl
 
+one_text : (m n : Marker) → marker_text m ≡ marker_text n → m ≡ n
+one_text CertAuthority CertAuthority e = refl
+one_text CertAuthority Revoked e = let second : 0x63 ≡ 0x72 = ap (λ (l : List ℕ). slice_index l 1) e in absurd (omega (arith, second))
+one_text Revoked CertAuthority e = let second : 0x72 ≡ 0x63 = ap (λ (l : List ℕ). slice_index l 1) e in absurd (omega (arith, second))
+one_text Revoked Revoked e = refl
+
 module _ (text word behind rest : List ℕ) (cut : CutsField text word behind) (skips : rest ≡ without_blanks behind) where
-  pub marked : (m : Marker) → word ≡ marker_text m → slice_index rest 0 ≢ at_sign → IsMarkedLine (Some m) text rest
-  marked m is one = (behind, cut.is ∙ ap (λ (w : List ℕ). w ++ behind) is, cut.ends, skips, one)
+  pub marked : (m : Marker) → word ≡ marker_text m → EndsMarker m behind → slice_index rest 0 ≢ at_sign → IsMarkedLine (Some m) text rest
+  marked m is ends one = (behind, cut.is ∙ ap (λ (w : List ℕ). w ++ behind) is, (cut.ends, ends), skips, one)
 
   same_word : (m : Marker) (other : List ℕ) → text ≡ marker_text m ++ other → EndsField other → (word ≡ marker_text m) × (behind ≡ other)
   same_word m other is ends = same_field word (marker_text m) behind other cut.one_word (marker_field m) cut.ends ends (sym cut.is ∙ is)
 
   pub no_marker : slice_index text 0 ≡ at_sign → ((m : Marker) → word ≢ marker_text m) → (m : Option Marker) (r : List ℕ) → IsMarkedLine m text r → ⊥
   no_marker at none None r is = is.1 at
-  no_marker at none (Some m) r is = none m (same_word m is.0 is.1 is.2).0
+  no_marker at none (Some m) r is = none m (same_word m is.0 is.1 is.2.0).0
+
+  pub no_end : (n : Marker) → word ≡ marker_text n → (EndsMarker n behind → ⊥) → slice_index text 0 ≡ at_sign → (m : Option Marker) (r : List ℕ) → IsMarkedLine m text r → ⊥
+  no_end n is none at None r line = line.1 at
+  no_end n is none at (Some m) r line =
+      let same = same_word m line.0 line.1 line.2.0 in
+      let markers : m ≡ n = one_text m n (sym same.0 ∙ is) in
+      none (subst (λ (k : Marker). EndsMarker k behind) markers (subst (EndsMarker m) (sym same.1) line.2.1))
 
   pub two_markers : slice_index text 0 ≡ at_sign → slice_index rest 0 ≡ at_sign → (m : Option Marker) (r : List ℕ) → IsMarkedLine m text r → ⊥
   two_markers at also None r is = is.1 at
-  two_markers at also (Some m) r is = is.4 (ap (λ (l : List ℕ). slice_index l 0) (is.3 ∙ ap without_blanks (sym (same_word m is.0 is.1 is.2).1) ∙ sym skips) ∙ also)
+  two_markers at also (Some m) r is = is.4 (ap (λ (l : List ℕ). slice_index l 0) (is.3 ∙ ap without_blanks (sym (same_word m is.0 is.1 is.2.0).1) ∙ sym skips) ∙ also)
 
 -- ---- a text
 

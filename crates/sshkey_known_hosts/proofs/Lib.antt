@@ -7,4 +7,4 @@ pub mod SomeOf
 pub mod Verdicts
 pub mod OtherHosts
 pub mod AuthorityKeys
-pub mod ZeroBytes
+pub mod ContainedCharacters

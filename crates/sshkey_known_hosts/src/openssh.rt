@@ -6,9 +6,10 @@ ghost use Rattle.sshkey_base.specs.Causes.{cause, NoMemory};
 ghost use Rattle.sshkey_entries.specs.Entries.{hash};
 ghost use Rattle.sshkey_entries.specs.Fields.{filled_lines};
 ghost use Rattle.sshkey_entries.specs.KnownHosts.{at_sign};
-ghost use Rattle.sshkey_entries.specs.OpenSshLines.{IsHostLine};
+ghost use Rattle.sshkey_entries.specs.OpenSshLines.{EndsMarker, IsHostLine};
 ghost use Rattle.sshkey_entries.specs.Answers.{ReadsEntry, RefusesFor, YieldsAnswers};
-ghost use Rattle.sshkey_known_hosts.specs.HostEntries.{known_host_of};
+ghost use Rattle.sshkey_model.specs.Lines.{IsWithout, space};
+ghost use Rattle.sshkey_known_hosts.specs.HostEntries.{known_host_of, marker_of};
 ghost use Rattle.sshkey_known_hosts.specs.OpenSshHosts.{AnswersHostLine, HasLineFault, NeedsHostLine, SplitsMarkerField};
 
 use crate::entry::Entry;
@@ -32,6 +33,29 @@ fn is_marked(text: &str) -> bool
     text.starts_with('@')
 }
 
+fn begins_with_space(text: &str) -> bool
+    ensures { IsTrue result ↔ (slice_index text.now 0 ≡ space) }
+{
+    text.starts_with(' ')
+}
+
+fn is_without_space(text: &str) -> bool
+    ensures { IsTrue result ↔ IsWithout space text.now }
+{
+    !text.contains(' ')
+}
+
+/// Whether ssh ends that marker before the text: the one of an authority at a tab only where no
+/// space follows.
+fn ends_marker(marker: Marker, behind: &str) -> bool
+    ensures { IsTrue result ↔ EndsMarker (marker_of marker) behind.now }
+{
+    match marker {
+        Marker::CertAuthority => begins_with_space(behind) || is_without_space(behind),
+        Marker::Revoked => true,
+    }
+}
+
 /// The marker of a text, and what follows it: no second marker.
 pub(crate) fn split_marker_field(text: &str) -> Result<(Option<Marker>, &str)>
     ensures { SplitsMarkerField text.now result }
@@ -41,6 +65,9 @@ pub(crate) fn split_marker_field(text: &str) -> Result<(Option<Marker>, &str)>
     }
     let (word, behind) = split_field(text);
     let marker = Marker::from_str(word)?;
+    if !ends_marker(marker, behind) {
+        return Err(Error::FormatEncoding);
+    }
     let rest = skip_blanks(behind);
     if is_marked(rest) {
         return Err(Error::FormatEncoding);
@@ -53,13 +80,14 @@ impl Entry {
     ///
     /// Spaces and tabs in front are passed over, and any number of them stands between the fields:
     /// a marker, where an `@` stands at the front, the hosts, the name of the key's algorithm and
-    /// its padded Base64. All the rest is the comment, a `#` too.
+    /// its padded Base64. All the rest is the comment, a `#` too. `@cert-authority` before a tab is
+    /// a marker only if no space follows in the line, as for ssh; `@revoked` always is.
     ///
     /// Unless memory runs out, it fails exactly if the line is no such entry: `FormatEncoding`
     /// where a zero byte stands in it, at which OpenSSH takes the hosts to end, where a `#` begins
-    /// it, for another marker and for a second one; then the errors of
-    /// `HostPatterns::from_text`, and then `Length` where no Base64 stands after the hosts, or else
-    /// the errors of `sshkey_entries::read_key_fields`.
+    /// it, for another marker and for a second one; then the errors of `HostPatterns::from_text`,
+    /// and then `Length` where no Base64 stands after the hosts, or else the errors of
+    /// `sshkey_entries::read_key_fields`.
     ///
     /// Memory is taken for the hosts and what follows them: a line with a zero byte, a comment,
     /// another marker and hosts that are empty or have no `|` after their salt never fail with
