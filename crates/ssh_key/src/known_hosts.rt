@@ -1,6 +1,6 @@
 //! known_hosts: which keys hosts have.
 
 pub use sshkey_known_hosts::{
-    Entry, HmacSha1, HostPatterns, KnownHosts, Marker, OpenSshKnownHosts, Verdict, authorities,
-    judge_key,
+    Entry, Hmac, HmacSha1, HostPatterns, KnownHosts, Marker, OpenSshKnownHosts, Verdict,
+    authorities, judge_key,
 };

@@ -2,8 +2,7 @@
 
 use crate::bytes::{NO_LINE, text};
 use sshkey_base::{Result, Text};
-use sshkey_hmac::Hmac;
-use sshkey_known_hosts::{Entry, HostPatterns, Marker, authorities, judge_key};
+use sshkey_known_hosts::{Entry, Hmac, HostPatterns, Marker, authorities, judge_key};
 use sshkey_public::PublicKey;
 use std::alloc::Global;
 

@@ -9,7 +9,7 @@ use Rattle.sshkey_known_hosts.specs.declared.verdict.Verdict.{Verdict}
 use Rattle.sshkey_known_hosts.specs.declared.verdict.Verdict.TheVariants.{Changed, Revoked, Trusted, Unknown, Unreadable}
 use Rattle.sshkey_model.specs.Keys.{Key}
 use Rattle.sshkey_model.proofs.Blobs.{key_blobs}
-use Rattle.sshkey_hmac.specs.Hmac.{hmac_sha1}
+use Rattle.sshkey_known_hosts.specs.Hmac.{hmac_sha1}
 use Rattle.sshkey_entry_calls.specs.Verdicts.{IsAuthorityVerdict, IsVerdictOn, TellsBy, is_grave, verdict_number}
 use Rattle.sshkey_entry_calls.specs.declared.hosts.Role.{Role}
 

@@ -8,7 +8,7 @@ use Rattle.sshkey_known_hosts.specs.Verdicts.{IsVerdict}
 use Rattle.sshkey_known_hosts.specs.declared.verdict.Verdict.{Verdict}
 use Rattle.sshkey_known_hosts.specs.declared.verdict.Verdict.TheVariants as verdict
 use Rattle.sshkey_model.specs.Keys.{Key}
-use Rattle.sshkey_hmac.specs.Hmac.{hmac_sha1}
+use Rattle.sshkey_known_hosts.specs.Hmac.{hmac_sha1}
 use Rattle.sshkey_entry_calls.specs.declared.hosts.Role.{Role}
 use Rattle.sshkey_entry_calls.specs.declared.hosts.Role.TheVariants as role
 

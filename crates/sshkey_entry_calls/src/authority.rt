@@ -4,17 +4,16 @@ ghost use Rattle.std.specs.Prelude.{◌≡◌, ◌↔◌, IfOk, IsTrue};
 ghost use Rattle.std.specs.List.{Any};
 ghost use Rattle.sshkey_entries.specs.Fields.{filled_lines};
 ghost use Rattle.sshkey_entries.specs.HostNames.{known_name};
-ghost use Rattle.sshkey_hmac.specs.Hmac.{hmac_sha1};
+ghost use Rattle.sshkey_known_hosts.specs.Hmac.{hmac_sha1};
 ghost use Rattle.sshkey_keys.specs.Keys.{key_of};
 ghost use Rattle.sshkey_model.specs.Keys.{IsKey};
 ghost use Rattle.sshkey_public.specs.PublicKeys.{public_of};
 ghost use Rattle.sshkey_entry_calls.specs.Verdicts.{IsAuthorityVerdict, is_grave};
 
 use sshkey_base::Result;
-use sshkey_hmac::Hmac;
 use sshkey_keys::KeyData;
 use sshkey_keys::laws::compared_keys;
-use sshkey_known_hosts::{Verdict, authorities, judge_key};
+use sshkey_known_hosts::{Hmac, Verdict, authorities, judge_key};
 use sshkey_public::PublicKey;
 use std::alloc::Global;
 

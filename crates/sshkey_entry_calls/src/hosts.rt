@@ -5,7 +5,7 @@ ghost use Rattle.std.specs.Str.{IsUtf8};
 ghost use Rattle.sshkey_base.specs.Acceptance.{SpellsSome};
 ghost use Rattle.sshkey_entries.specs.Fields.{filled_lines};
 ghost use Rattle.sshkey_entries.specs.HostNames.{known_name};
-ghost use Rattle.sshkey_hmac.specs.Hmac.{hmac_sha1};
+ghost use Rattle.sshkey_known_hosts.specs.Hmac.{hmac_sha1};
 ghost use Rattle.sshkey_keys.specs.Keys.{SpellsKey, key_data_at, key_of};
 ghost use Rattle.sshkey_keys_ref.specs.KeyDataRef.{key_bytes};
 ghost use Rattle.sshkey_known_hosts.specs.declared.verdict.Verdict.{Verdict};
@@ -19,10 +19,9 @@ use sshkey_base::Result;
 use sshkey_calls::number::{
     DONE, HOST_CHANGED, HOST_REVOKED, HOST_UNKNOWN, HOST_UNREADABLE, MEMORY, TEXT, error_number,
 };
-use sshkey_hmac::Hmac;
 use sshkey_keys::KeyData;
 use sshkey_keys_ref::KeyDataRef;
-use sshkey_known_hosts::{Verdict, judge_key};
+use sshkey_known_hosts::{Hmac, Verdict, judge_key};
 use std::alloc::Global;
 use std::str;
 
@@ -36,7 +35,7 @@ pub(crate) enum Role {
 }
 
 /// What a text of known_hosts says of the key that a host shows at a port
-/// (`sshkey_known_hosts::judge_key`). Hashed names are compared by the HMAC-SHA1 of `sshkey_hmac`.
+/// (`sshkey_known_hosts::judge_key`). Hashed names are compared by `sshkey_known_hosts::Hmac`.
 ///
 /// Returns 0 where the key is trusted, 50 where it is revoked, 51 where a line that cannot be read
 /// may be about the host, 52 where the host has another key, 53 where no line is for the host, 1 if

@@ -3,3 +3,4 @@ pub mod HostFaults
 pub mod OpenSshHosts
 pub mod Verdicts
 pub mod MadeEntries
+pub mod Hmac

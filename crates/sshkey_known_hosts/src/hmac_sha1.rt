@@ -1,8 +1,8 @@
-//! Who computes HMAC-SHA1: the caller.
+//! Who computes HMAC-SHA1.
 
 ghost use Rattle.std.specs.Prelude.{◌≡◌, ℕ, List};
 
-/// HMAC-SHA1 (RFC 2104), which is the caller's: none of it is here.
+/// HMAC-SHA1 (RFC 2104), by which hashed names are compared. `Hmac` computes it, or code of yours.
 pub trait HmacSha1 {
     /// The HMAC of a message under a key: a function of its value, the key and the message.
     ghost hmac: { Self → List ℕ → List ℕ → List ℕ };

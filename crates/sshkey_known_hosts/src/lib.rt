@@ -3,6 +3,7 @@
 
 mod authority;
 mod entry;
+mod hmac;
 mod hmac_sha1;
 mod host_name;
 mod host_patterns;
@@ -15,6 +16,7 @@ mod verdict;
 
 pub use authority::authorities;
 pub use entry::Entry;
+pub use hmac::Hmac;
 pub use hmac_sha1::HmacSha1;
 pub use host_patterns::HostPatterns;
 pub use known_hosts::KnownHosts;

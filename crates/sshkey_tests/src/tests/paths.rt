@@ -42,8 +42,8 @@ pub mod encoding {
 /// Which keys hosts have.
 pub mod known_hosts {
     pub use ssh_key::known_hosts::{
-        Entry, HmacSha1, HostPatterns, KnownHosts, Marker, OpenSshKnownHosts, Verdict, authorities,
-        judge_key,
+        Entry, Hmac, HmacSha1, HostPatterns, KnownHosts, Marker, OpenSshKnownHosts, Verdict,
+        authorities, judge_key,
     };
 }
 

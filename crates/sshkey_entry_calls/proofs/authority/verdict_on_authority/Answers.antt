@@ -5,7 +5,7 @@ use Rattle.sshkey_entries.specs.HostNames.{known_name}
 use Rattle.sshkey_keys.specs.Keys.{key_of}
 use Rattle.sshkey_public.specs.PublicKeys.{public_of}
 use Rattle.sshkey_public.specs.declared.public_key.PublicKey.{PublicKey}
-use Rattle.sshkey_hmac.specs.Hmac.{hmac_sha1}
+use Rattle.sshkey_known_hosts.specs.Hmac.{hmac_sha1}
 use Rattle.sshkey_entry_calls.proofs.Told.{grave, settled}
 use Rattle.sshkey_entry_calls.proofs.authority.verdict_on_authority.Goals as goal
 

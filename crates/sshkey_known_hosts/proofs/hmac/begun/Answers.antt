@@ -2,7 +2,7 @@ use Rattle.std.proofs.Common.{ℕ, map, slice_index, bit_xor, subst, sym, ap, ar
 use Rattle.std.specs.List.{range_with_len}
 use Rattle.std.proofs.lemmas.List.FromFn.{map-range_with_len_more}
 use Rattle.sha1.specs.Sha1.{Holds}
-use Rattle.sshkey_hmac.proofs.hmac.begun.Goals as goal
+use Rattle.sshkey_known_hosts.proofs.hmac.begun.Goals as goal
 
 pub loop-place-preserved : goal.loop-place-preserved
 loop-place-preserved c =

@@ -1,7 +1,7 @@
 use Rattle.std.proofs.Common.{◌≡◌, ℕ, List, Bool, true, cond, length, nat_lt, arith, tests, ap, sym, ◌∙◌}
 use Rattle.sha1.specs.Sha1.{sha1}
-use Rattle.sshkey_hmac.specs.Hmac.{hmac_of_block}
-use Rattle.sshkey_hmac.proofs.hmac.HmacHmacSha1.hash.Goals as goal
+use Rattle.sshkey_known_hosts.specs.Hmac.{hmac_of_block}
+use Rattle.sshkey_known_hosts.proofs.hmac.HmacHmacSha1.hash.Goals as goal
 
 pub returns-then-key-gt64 : goal.returns-then-key-gt64
 returns-then-key-gt64 c =

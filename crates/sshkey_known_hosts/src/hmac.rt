@@ -2,10 +2,10 @@
 
 ghost use Rattle.std.specs.Prelude.{◌≡◌, slice_index};
 ghost use Rattle.sha1.specs.Sha1.{Holds};
-ghost use Rattle.sshkey_hmac.specs.Hmac.{hmac_of_block, hmac_sha1, masked};
+ghost use Rattle.sshkey_known_hosts.specs.Hmac.{hmac_of_block, hmac_sha1, masked};
 
+use crate::hmac_sha1::HmacSha1;
 use sha1::Sha1;
-use sshkey_known_hosts::HmacSha1;
 
 /// HMAC-SHA1 (RFC 2104), computed over the crate sha1.
 #[derive(Clone, Copy, Debug)]
