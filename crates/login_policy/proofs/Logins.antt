@@ -99,9 +99,9 @@ by_another law accepts given t user c other =
     let refused = other_authority accepts (fingerprints_of given) t user c other in
     λ memory. (
       λ valid.
-      let none : first_refusal_for accepts (fingerprints_of given) t user c ≡ None = (law accepts (fingerprints_of given) t user c).1 valid in
-      let some = rw none at refused in
-      cc some,
+          let none : first_refusal_for accepts (fingerprints_of given) t user c ≡ None = (law accepts (fingerprints_of given) t user c).1 valid in
+          let some = rw none at refused in
+          cc some,
       refused,
     )
 
