@@ -1,5 +1,6 @@
 """Runs a program and refuses one of its requests for memory, as a debugger would: it stops the program where it enters one
-of the two functions by which every program of the toolchain asks for memory, and has that call answer "none".
+of the two functions by which every program of the toolchain asks for memory, and has that call answer "none". Or it stops the
+program where it ends, and reads its memory.
 
 It needs Linux on x86-64, and no other program but `nm`.
 """
@@ -13,7 +14,9 @@ import subprocess
 ASKING = ("rattle_alloc", "rattle_realloc")
 # the instruction that stops a traced program
 STOP = 0xCC
-TRACEME, PEEK, POKE, CONTINUE, STEP, GET_REGISTERS, SET_REGISTERS = 0, 2, 5, 7, 9, 12, 13
+TRACEME, PEEK, POKE, CONTINUE, STEP, GET_REGISTERS, SET_REGISTERS, SET_OPTIONS = 0, 2, 5, 7, 9, 12, 13, 0x4200
+# the option by which a traced program stops where it ends, with its memory
+STOP_AT_END = 0x40
 
 libc = ctypes.CDLL(None, use_errno=True)
 libc.ptrace.restype = ctypes.c_long
@@ -52,6 +55,20 @@ class Program:
             self.begin(question, output)
         return Run(pid, self).follow(refused)
 
+    def memory_at_end(self, question, output):
+        """The status of the program on that file, and the bytes that lie in its memory where it ends: those of its stack, and
+        all others that it may write. It writes the file `output`."""
+        pid = os.fork()
+        if pid == 0:
+            self.begin(question, output)
+        os.waitpid(pid, 0)
+        trace(SET_OPTIONS, pid, 0, STOP_AT_END)
+        if (status := resumed(pid, CONTINUE)) is not None:
+            raise OSError(f"{self.path} ended with {status}, and did not stop there")
+        parts = list(writable(pid))
+        stack, others = ([data for name, data in parts if (name == "[stack]") == on_it] for on_it in (True, False))
+        return resumed(pid, CONTINUE), stack, others
+
     def begin(self, question, output):
         """What the new process does."""
         try:
@@ -62,6 +79,26 @@ class Program:
             os.execv(self.path, [self.path])
         finally:
             os._exit(127)
+
+
+def resumed(pid, how, sent=0):
+    """Lets a traced process go on, and returns the status it ended with, or None where it stopped."""
+    trace(how, pid, 0, sent)
+    _, status = os.waitpid(pid, 0)
+    if os.WIFSTOPPED(status) and os.WSTOPSIG(status) != signal.SIGTRAP:
+        return resumed(pid, CONTINUE, os.WSTOPSIG(status))
+    return None if os.WIFSTOPPED(status) else os.waitstatus_to_exitcode(status)
+
+
+def writable(pid):
+    """The parts of a stopped process's memory that it may write: their names, where they have one, and their bytes."""
+    with open(f"/proc/{pid}/maps", encoding="utf-8") as maps, open(f"/proc/{pid}/mem", "rb") as memory:
+        for line in maps:
+            bounds, rights, _, _, _, *name = line.split(maxsplit=5)
+            if rights.startswith("rw"):
+                begin, end = (int(it, 16) for it in bounds.split("-"))
+                memory.seek(begin)
+                yield "".join(name).strip(), memory.read(end - begin)
 
 
 class Run:
@@ -79,17 +116,9 @@ class Run:
     def stop_at(self, address):
         trace(POKE, self.pid, address, self.entered[address] & ~0xFF | STOP)
 
-    def resume(self, how, sent=0):
-        """Lets the process go on, and returns the status it ended with, or None where it stopped."""
-        trace(how, self.pid, 0, sent)
-        _, status = os.waitpid(self.pid, 0)
-        if os.WIFSTOPPED(status) and os.WSTOPSIG(status) != signal.SIGTRAP:
-            return self.resume(CONTINUE, os.WSTOPSIG(status))
-        return None if os.WIFSTOPPED(status) else os.waitstatus_to_exitcode(status)
-
     def follow(self, refused):
         asked, registers = 0, Registers()
-        while (status := self.resume(CONTINUE)) is None:
+        while (status := resumed(self.pid, CONTINUE)) is None:
             trace(GET_REGISTERS, self.pid, 0, ctypes.addressof(registers))
             asked += 1
             registers.rip -= 1
@@ -109,5 +138,5 @@ class Run:
         """Steps over the instruction that the stop took the place of."""
         trace(SET_REGISTERS, self.pid, 0, ctypes.addressof(registers))
         trace(POKE, self.pid, registers.rip, self.entered[registers.rip])
-        self.resume(STEP)
+        resumed(self.pid, STEP)
         self.stop_at(registers.rip)

@@ -2,19 +2,27 @@
 
 use crate::words::{NO_LINE, bytes};
 use agent_codec::{Identity, Request, Response};
-use ssh_key::encoding::{decode_whole, encode_vec};
+use ssh_key::encoding::{decode_whole, encode_vec, erase_slice};
 use ssh_key::{Result, Signature};
 use std::alloc::{AllocError, Global};
 
-/// Which request the bytes are, and what is written of it.
+/// Which request the bytes are, and what is written of it. Neither stays in memory.
 pub(crate) fn request(alloc: Global, words: &[&str]) -> Result<String> {
     let [digits] = words else {
         return Err(NO_LINE);
     };
-    let message = bytes(alloc, digits)?;
-    let request = decode_whole::<Request, &[u8]>(alloc, message.as_slice())?;
+    let mut message = bytes(alloc, digits)?;
+    let text = shown_request(alloc, &message);
+    erase_slice(&mut message);
+    text
+}
+
+fn shown_request(alloc: Global, message: &[u8]) -> Result<String> {
+    let request = decode_whole::<Request, &[u8]>(alloc, message)?;
     let mut text = String::from_str(alloc, name(&request))?;
-    push_bytes(alloc, &mut text, &encode_vec(alloc, &request)?)?;
+    let mut written = encode_vec(alloc, &request)?;
+    push_bytes(alloc, &mut text, &written)?;
+    erase_slice(&mut written);
     Ok(text)
 }
 

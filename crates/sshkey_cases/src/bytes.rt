@@ -10,7 +10,7 @@
 use base64::DecodeAllocError;
 use base64::engine::general_purpose::STANDARD;
 use hex::FromHexError;
-use sshkey_base::{Error, Result};
+use sshkey_base::{Error, Result, erase_slice};
 use std::alloc::Global;
 use std::io::ErrorKind;
 
@@ -70,10 +70,11 @@ fn add_piece(alloc: Global, piece: &str, bytes: &mut Vec<u8>) -> Result<()> {
         bytes.extend_from_slice(&of_base64(alloc, word)?)?;
     } else {
         let (digits, count) = piece.split_once('*').unwrap_or((piece, "1"));
-        let once = of_digits(alloc, digits)?;
+        let mut once = of_digits(alloc, digits)?;
         for _ in 0..count.parse::<u8>().unwrap_or(0) {
             bytes.extend_from_slice(&once)?;
         }
+        erase_slice(&mut once);
     }
     Ok(())
 }
@@ -91,6 +92,14 @@ fn of_digits(alloc: Global, digits: &str) -> Result<Vec<u8>> {
         Ok(bytes) => Ok(bytes),
         Err(FromHexError::OutOfMemory) => Err(Error::Memory),
         Err(_) => Err(NO_LINE),
+    }
+}
+
+/// Writes zeros over the byte strings, so that of a private key nothing stays that only the line
+/// left.
+pub(crate) fn erase(parts: &mut [Vec<u8>]) {
+    for bytes in parts {
+        erase_slice(bytes);
     }
 }
 

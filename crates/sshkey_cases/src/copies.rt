@@ -2,7 +2,7 @@
 
 use crate::bytes::{NO_LINE, part, text};
 use sshkey_authorized_keys::{ConfigOpts, Entry as AuthorizedKey};
-use sshkey_base::{Algorithm, Encode, Result, decode_whole, encode_vec};
+use sshkey_base::{Algorithm, Encode, Result, decode_whole, encode_vec, erase_slice};
 use sshkey_cert::Certificate;
 use sshkey_keys::{KeyData, Signature};
 use sshkey_known_hosts::{Entry as KnownHost, HostPatterns};
@@ -28,8 +28,10 @@ pub(crate) fn value(alloc: Global, kind: &str, parts: &[Vec<u8>]) -> Result<Stri
 }
 
 fn digits<T: Encode + Drop>(alloc: Global, copy: Result<T>) -> Result<String> {
-    let written = encode_vec(alloc, &copy?)?;
-    Ok(hex::encode(alloc, &written)?)
+    let mut written = encode_vec(alloc, &copy?)?;
+    let digits = hex::encode(alloc, &written)?;
+    erase_slice(&mut written);
+    Ok(digits)
 }
 
 fn algorithm(alloc: Global, name: &str) -> Result<Algorithm> {

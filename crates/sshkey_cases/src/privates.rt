@@ -2,7 +2,7 @@
 
 use crate::bytes::{part, text};
 use crate::wire::{debugged, rest};
-use sshkey_base::{Decode, HashAlg, Result, decode_whole};
+use sshkey_base::{Decode, HashAlg, Result, decode_whole, erase_slice};
 use sshkey_private::PrivateKey;
 use sshkey_public::PublicKey;
 use std::alloc::Global;
@@ -122,5 +122,8 @@ fn made_with(alloc: Global, pair: &[u8], comment: &str) -> Result<PrivateKey> {
 }
 
 fn written(alloc: Global, key: &PrivateKey) -> Result<String> {
-    Ok(hex::encode(alloc, &key.to_bytes(alloc)?)?)
+    let mut bytes = key.to_bytes(alloc)?;
+    let digits = hex::encode(alloc, &bytes)?;
+    erase_slice(&mut bytes);
+    Ok(digits)
 }

@@ -1,6 +1,6 @@
 //! The questions.
 
-use crate::bytes::{NO_LINE, part, parts, text};
+use crate::bytes::{NO_LINE, erase, part, parts, text};
 use crate::wire::shown;
 use crate::{
     again, certificates, copies, drawn, entries, faulty, files, hosts, issued, keys, kinds,
@@ -36,9 +36,17 @@ pub(crate) fn answer_line<R: Files>(rt: &R, alloc: Global, line: &str) -> Result
         | "without-memory"
         | "with-memory" => {
             let (kind, behind) = words.split_once(' ').unwrap_or((words, ""));
-            answer_about_kind(rt, alloc, question, kind, &parts(alloc, behind)?)
+            let mut parts = parts(alloc, behind)?;
+            let answer = answer_about_kind(rt, alloc, question, kind, &parts);
+            erase(&mut parts);
+            answer
         }
-        _ => answer(alloc, question, &parts(alloc, words)?),
+        _ => {
+            let mut parts = parts(alloc, words)?;
+            let answer = answer(alloc, question, &parts);
+            erase(&mut parts);
+            answer
+        }
     }
 }
 
