@@ -26,7 +26,8 @@ use ssh_key::encoding::{Bytes, Decode, Encode, NormalForm, Reader, Writer, encod
 use ssh_key::{Error, Result, encoding};
 use std::alloc::Global;
 
-/// A request (draft-miller-ssh-agent, section 4). It has no `Debug`: it may hold a passphrase.
+/// A request (draft-miller-ssh-agent, section 4). It has no `Debug`: it may hold a passphrase, over
+/// which it writes zeros when it is dropped.
 pub enum Request {
     /// Which keys the agent holds.
     RequestIdentities,

@@ -69,7 +69,8 @@ impl Mpint {
         })
     }
 
-    /// The same of a vector, which is kept, and of a refused one erased. Does not allocate.
+    /// The same of a vector, which is kept. A rejected one is overwritten with zeros. Does not
+    /// allocate.
     pub fn from_vec(bytes: Vec<u8>) -> Result<Mpint>
         ensures { AnswersAlways mpint_of cause (mpint_from bytes.items) result }
     {

@@ -35,10 +35,11 @@ impl Erase for Mpint {
     }
 }
 
-/// A value that is erased when it is dropped, and has no `Debug`.
+/// A value that writes zeros over its bytes when it is dropped, and that has no `Debug`.
 ///
-/// What is read as a secret is one from its first byte on: of a value that is refused, or follows
-/// others and the next is refused, nothing stays in the heap either.
+/// That covers each way out of a function that holds one: a later field that is rejected, or memory
+/// that runs out for a copy. `Bytes` and `Mpint` are secrets while they are read, so a rejected one
+/// leaves none of its bytes in the heap. No contract says so: a compiler may omit the writes.
 #[derive(PartialEq, Eq, PartialOrd, Ord)]
 pub struct Secret<T: Erase>(pub T);
 
@@ -50,7 +51,7 @@ impl<T: Erase> Drop for Secret<T> {
 }
 
 impl<T: Erase> Secret<T> {
-    /// The value, which is no longer erased.
+    /// The value, which no longer erases itself. Does not allocate.
     pub fn into_inner(self) -> T
         ensures { result ≡ self.0 }
     {
@@ -59,7 +60,7 @@ impl<T: Erase> Secret<T> {
     }
 }
 
-/// The value, as it is read alone.
+/// The value as it is read by itself, with the same errors.
 impl<T: Decode + Erase> Decode for Secret<T> {
     type Error = T::Error;
 

@@ -95,8 +95,7 @@ fn of_digits(alloc: Global, digits: &str) -> Result<Vec<u8>> {
     }
 }
 
-/// Writes zeros over the byte strings, so that of a private key nothing stays that only the line
-/// left.
+/// Writes zeros over the byte strings: `checks/secrets` looks in memory for what else is left.
 pub(crate) fn erase(parts: &mut [Vec<u8>]) {
     for bytes in parts {
         erase_slice(bytes);

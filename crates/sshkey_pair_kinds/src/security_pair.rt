@@ -30,7 +30,7 @@ pub type SkEd25519 = SecurityPair<PublicSkEd25519>;
 
 impl<P: Drop> SecurityPair<P> {
     /// The pair of that key, with no reserved bytes. Fails with `Length` for a key handle of more
-    /// than 255 bytes. Does not allocate: the vector is kept as it is.
+    /// than 255 bytes, over which it writes zeros. Does not allocate: the vector is kept as it is.
     pub fn new(public: P, flags: u8, key_handle: Vec<u8>) -> Result<SecurityPair<P>>
         ensures exactly { IsOk result ↔ (length key_handle.items ≤ 255) }
         ensures public { IfOk result (λ k. sk_public k ≡ public) }
