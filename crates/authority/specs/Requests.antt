@@ -1,5 +1,5 @@
 -- What an authority certifies.
-use Rattle.std.specs.Prelude.{◌≡◌, ◌≢◌, ◌⊎◌, ◌==◌, ◌&&◌, ℕ, ◌+◌, ◌^◌, ◌<◌, ◌≤◌, List, [], ◌∷◌, length, Bool, false, not, All, Contains, Option, Result, Ok, Err, None, Some, String, map, string_bytes, bytes_eq}
+use Rattle.std.specs.Prelude.{◌≡◌, ◌≢◌, ◌⊎◌, ◌==◌, ◌&&◌, ℕ, ◌+◌, ◌^◌, ◌<◌, ◌≤◌, List, [], ◌∷◌, length, Bool, not, All, Contains, Option, Result, Ok, Err, None, Some, String, map, string_bytes, bytes_eq}
 use Rattle.std.specs.List.{list_all, list_any}
 use Rattle.std.specs.NonZero.{non_zero_u64_get}
 use Rattle.ssh_key.specs.builder.Builders.{IsValidExactlyIn, draft_of}

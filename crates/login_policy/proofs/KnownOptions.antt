@@ -1,7 +1,7 @@
 -- What a walk over options decides, and what one option is.
 use denote.Ref.{Bor}
-use Rattle.std.proofs.Common.{◌≡◌, ◌≢◌, ◌↔◌, ◌<◌, ◌||◌, ℕ, zero, suc, List, [], ◌∷◌, length, Bool, true, false, arith, not, map, bytes_eq, refl, subst, sym, ◌∙◌, IsTrue}
-use Rattle.std.specs.Prelude.{◌==◌, All, Contains, get_or}
+use Rattle.std.proofs.Common.{◌≡◌, ◌≢◌, ◌↔◌, ◌||◌, ℕ, zero, suc, List, [], ◌∷◌, length, Bool, true, false, arith, map, bytes_eq, refl, subst, sym, ◌∙◌, IsTrue}
+use Rattle.std.specs.Prelude.{◌==◌, All, Contains}
 use Rattle.std.specs.List.{list_any}
 use Rattle.std.proofs.lemmas.List.Elements.{All-nil, All-cons, All-head, All-tail}
 use Rattle.std.proofs.lemmas.Map.Views.{Contains-from_any}

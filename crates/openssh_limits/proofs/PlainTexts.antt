@@ -1,10 +1,9 @@
 -- Texts without a byte 0, one after the other.
-use Rattle.std.proofs.Common.{◌≡◌, ◌≢◌, ℕ, ◌<◌, ◌≤◌, ◌+◌, ◌↔◌, List, [], ◌∷◌, Bool, true, false, not, map, IsTrue, get_or, length, refl, sym, subst, ◌∙◌, arith, inl, inr}
+use Rattle.std.proofs.Common.{◌≡◌, ℕ, ◌<◌, ◌≤◌, ◌+◌, ◌↔◌, List, [], ◌∷◌, Bool, true, false, not, map, IsTrue, get_or, length, refl, sym, subst, ◌∙◌, arith, inl, inr}
 use Rattle.std.proofs.lemmas.Bool.{cases_lt}
-use Rattle.std.proofs.lemmas.Bool.Decides.{nat_tests}
 use Rattle.std.proofs.lemmas.List.{get_or_default, length-map}
 use Rattle.std.proofs.lemmas.List.Elements.{All-cons, All-head, All-map, All-nil, All-tail}
-use Rattle.std.specs.Prelude.{◌==◌, All, String, string_bytes}
+use Rattle.std.specs.Prelude.{All, String, string_bytes}
 use Rattle.ssh_key.specs.model.Lines.{IsWithout}
 use Rattle.openssh_limits.specs.Read.{AreReadPrincipals}
 
