@@ -4,7 +4,7 @@ use Rattle.sshkey_model.specs.Reading.{◌>>=◌, Front}
 use Rattle.sshkey_model.specs.Certificates.{SignedFields, CertificateChoices, signed_fields_at, type_at, time_at, end_at}
 use Rattle.sshkey_model.proofs.CombinedReaders.{bind_assoc}
 use Rattle.sshkey_terms.specs.Behind.{behind_at}
-use Rattle.sshkey_cert_ref.specs.Fields.{subject_at}
+use Rattle.sshkey_cert_fields.specs.ToBeSignedReaders.{subject_at}
 use Rattle.sshkey_cert_ref.specs.Fields.{behind_key_format}
 
 unfoldable pub fields_at : Front (SignedFields × CertificateChoices)

@@ -1,12 +1,11 @@
 -- The fields of a certificate behind its key, with the choices of their spelling, by the term that
 -- they are read as.
-use Rattle.std.specs.Prelude.{ℕ, List, [], Ok}
-use Rattle.sshkey_model.specs.CertificateNames.{certificate_algorithm_at}
+use Rattle.std.specs.Prelude.{ℕ, List, []}
 use Rattle.sshkey_model.specs.Grammar.{SpellsAs}
-use Rattle.sshkey_model.specs.Keys.{Head, Key, IsKey, HasKeyPlaces, Opaque, Plain, body_at, key, key_at}
+use Rattle.sshkey_model.specs.Keys.{Head, Key, IsKey, HasKeyPlaces, Opaque, Plain, key, key_at}
 use Rattle.sshkey_model.specs.Names.{Dsa}
 use Rattle.sshkey_model.specs.Options.{CertificateOption, Nesting, options_at}
-use Rattle.sshkey_model.specs.Reading.{◌>>=◌, Front, string_at, whole}
+use Rattle.sshkey_model.specs.Reading.{whole}
 use Rattle.sshkey_model.specs.Signatures.{Signature, signature_at}
 use Rattle.sshkey_model.proofs.Grammars.{grammar}
 use Rattle.sshkey_model.proofs.KeyReaders.{key_reads}
@@ -16,7 +15,6 @@ use Rattle.sshkey_base.specs.Grammars.{by_itself}
 use Rattle.sshkey_base.specs.Lengths.{no_lengths}
 use Rattle.sshkey_base.specs.Needs.{NoNeed}
 use Rattle.sshkey_base.specs.Stops.{NoOverrun}
-use Rattle.sshkey_terms.specs.Behind.{both_at}
 use Rattle.sshkey_terms.specs.Terms.{◌then◌, boxed}
 use Rattle.sshkey_keys_ref.specs.KeyDataRef.{key_bytes}
 use Rattle.sshkey_keys_ref.specs.SignatureRef.{signature_bytes}
@@ -25,13 +23,6 @@ use Rattle.sshkey_keys_ref.specs.declared.signature_ref.SignatureRef.{SignatureR
 use Rattle.sshkey_cert_ref.specs.OptionLists.{SpellsOptionString}
 use Rattle.sshkey_terms.specs.Slices.{found_or}
 use Rattle.sshkey_cert_fields.specs.ToBeSignedFormats.{Grant, Window, grant_format, window_format}
-
--- the nonce and the key, which is read under the name before them
-unfoldable pub subject_at : Front (List ℕ × Key)
-subject_at b = do
-  x ← both_at certificate_algorithm_at string_at b
-  key ← body_at x.0.0 x.1
-  Ok ((x.0.1, key.0), key.1)
 
 abbrev OptionsAsSpelled : Type 0
 OptionsAsSpelled = List CertificateOption × List Nesting

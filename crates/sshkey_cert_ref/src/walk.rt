@@ -4,7 +4,7 @@ ghost use Rattle.sshkey_base.specs.Causes.{cause};
 ghost use Rattle.sshkey_model.specs.Certificates.{signed_fields_at};
 ghost use Rattle.sshkey_cert_ref.specs.Parts.{AreParts, AreSubject};
 ghost use Rattle.sshkey_cert_ref.specs.Taking.{Cuts};
-ghost use Rattle.sshkey_cert_ref.specs.Fields.{subject_at};
+ghost use Rattle.sshkey_cert_fields.specs.ToBeSignedReaders.{subject_at};
 
 use crate::certificate_name::CertificateName;
 use crate::leaves::{Field, KeyInString};

@@ -5,7 +5,7 @@ use Rattle.sshkey_cert_values.specs.CertTypes.{type_of}
 use Rattle.sshkey_cert_values.specs.Times.{time_of, end_of}
 use Rattle.sshkey_cert_ref.specs.Views.{texts_of, spelled_options_of}
 use Rattle.sshkey_cert_ref.specs.Fields.{behind_key_format, spelled_key_of}
-use Rattle.sshkey_cert_ref.specs.Fields.{subject_at}
+use Rattle.sshkey_cert_fields.specs.ToBeSignedReaders.{subject_at}
 use Rattle.sshkey_cert_ref.proofs.Boxed.{key_is}
 use Rattle.sshkey_cert_ref.proofs.Fields.{fields_at, fields_are}
 use Rattle.sshkey_cert_ref.proofs.walk.split_parts.Goals as goal

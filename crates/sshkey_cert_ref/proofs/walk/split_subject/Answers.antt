@@ -6,7 +6,7 @@ use Rattle.sshkey_model.specs.CertificateNames.{certificate_algorithm_at, certif
 use Rattle.sshkey_model.specs.Keys.{body_at}
 use Rattle.sshkey_model.specs.Names.{Dsa}
 use Rattle.sshkey_model.specs.Reading.{string_at}
-use Rattle.sshkey_cert_ref.specs.Fields.{subject_at}
+use Rattle.sshkey_cert_fields.specs.ToBeSignedReaders.{subject_at}
 use Rattle.sshkey_cert_ref.specs.Spelled.{certified_in}
 use Rattle.sshkey_cert_ref.proofs.Subjects.{known, certified_body, refused_body, named_key, key_bytes}
 use Rattle.sshkey_cert_ref.proofs.walk.split_subject.Goals as goal
