@@ -9,7 +9,7 @@ use Rattle.sshkey_model.specs.Signatures.{Signature}
 use Rattle.sshkey_model.specs.Certificates.{Certificate}
 use Rattle.sshkey_model.specs.Fingerprints.{Fingerprint, same_fingerprint}
 use Rattle.sshkey_model.specs.Principals.{IsValidFor}
-use Rattle.sshkey_model.specs.Refusals.{Refusal, NotSigned, UnlistedPrincipal, allows, first_refusal, first_refusal_for, has_trusted_authority, is_signed, or_else, refusal_of_authority_or_time, unless}
+use Rattle.sshkey_model.specs.Refusals.{Refusal, NotSigned, UntrustedAuthority, InvalidTime, OutOfWindow, UnlistedPrincipal, allows, first_refusal, first_refusal_for, has_trusted_authority, is_signed, or_else, refusal_of_authority_or_time, unless}
 use Rattle.sshkey_model.specs.Validity.{IsValid}
 use Rattle.sshkey_model.specs.Verification.{Question, question, question_under}
 use Rattle.sshkey_model.specs.Verification as model
