@@ -1,0 +1,187 @@
+-- What a part about certificates says, by its kind.
+use Rattle.std.proofs.Common.{◌≡◌, ℕ, Bool, not, ◌&&◌, List, [], ◌∷◌, Result, Ok, Err, refl}
+use Rattle.std.specs.Prelude.{◌==◌}
+use Rattle.std.specs.Int.{w64}
+use Rattle.sshkey_base.proofs.Judging.{answers_first, answers_later}
+use Rattle.sshkey_base.specs.Answers.{AnswersAlways}
+use Rattle.sshkey_base.specs.Causes.{Cause}
+use Rattle.sshkey_model.specs.Reading.{Fault, ◌>>=◌, Front, checked_at, checked_whole, end_of, list_whole, number_at, string_at, whole}
+use denote.Ref.{Bor}
+use Rattle.sshkey_terms.specs.Behind.{behind_at}
+use Rattle.sshkey_krl.specs.Asked.{Asked, grant_in, key_id_says, part_says, serial_says}
+use Rattle.sshkey_krl.specs.Parts.{body, key_id_format, key_id_shows, serial_format, serial_shows}
+use Rattle.sshkey_krl.specs.Revocation.{Numbers, Part}
+use Rattle.sshkey_krl.specs.Serials.{Serials, bitmap_from, range_from}
+use Rattle.sshkey_krl.specs.declared.part.PartKind.TheVariants as kinds
+use Rattle.sshkey_krl.proofs.Asking.{asked}
+
+module _ (a : Asked) where
+  abbrev pub said : Part → Result Bool Fault
+  said v = Ok (part_says a v)
+
+  abbrev pub numbers_said : Serials → Bool
+  numbers_said s = part_says a (Numbers s)
+
+  -- ---- serial numbers one by one, and key ids
+
+  abbrev pub with_serial : Bool → Result Bool Fault
+  with_serial y = Ok (not ((grant_in a).serial == 0) && y)
+
+  pub serials_said : (b : List ℕ) → checked_whole said (whole (body kinds.Serials).read) b ≡ (asked serial_format serial_shows (serial_says a) b >>= with_serial)
+  serials_said b = go (list_whole (λ _. serial_format.read) b) refl
+    where
+      go : (found : Result (List ℕ) Fault) → list_whole (λ _. serial_format.read) b ≡ found → checked_whole said (whole (body kinds.Serials).read) b ≡ (asked serial_format serial_shows (serial_says a) b >>= with_serial)
+      go (Ok ns) e = rw e refl
+      go (Err d) e = rw e refl
+
+  pub key_ids_said : (b : List ℕ) → checked_whole said (whole (body kinds.KeyIds).read) b ≡ asked key_id_format key_id_shows (key_id_says a) b
+  key_ids_said b = go (list_whole (λ _. key_id_format.read) b) refl
+    where
+      go : (found : Result (List (List ℕ)) Fault) → list_whole (λ _. key_id_format.read) b ≡ found → checked_whole said (whole (body kinds.KeyIds).read) b ≡ asked key_id_format key_id_shows (key_id_says a) b
+      go (Ok ids) e = rw e refl
+      go (Err d) e = rw e refl
+
+  -- ---- ranges and bitmaps
+
+  abbrev pub to_end : List ℕ → Serials → Result Bool Fault
+  to_end rest s = end_of (numbers_said s) rest
+
+  ended : (s : Serials) (rest : List ℕ) → (end_of (Numbers s) rest >>= said) ≡ to_end rest s
+  ended s [] = refl
+  ended s (c ∷ rest) = refl
+
+  abbrev pub after_last : ℕ → ℕ × List ℕ → Result Bool Fault
+  after_last first y = range_from (first, y.0) >>= to_end y.1
+
+  abbrev pub after_first : ℕ × List ℕ → Result Bool Fault
+  after_first x = number_at w64 x.1 >>= after_last x.0
+
+  pub range_said : (b : List ℕ) → checked_whole said (whole (body kinds.Range).read) b ≡ (number_at w64 b >>= after_first)
+  unfolding behind_at
+  range_said b = first (number_at w64 b) refl
+    where
+      test : (x y : ℕ × List ℕ) → number_at w64 b ≡ Ok x → number_at w64 x.1 ≡ Ok y → (found : Result Serials Fault) → range_from (x.0, y.0) ≡ found → checked_whole said (whole (body kinds.Range).read) b ≡ (number_at w64 b >>= after_first)
+      test x y h i (Err d) e = rw (h, i, e) refl
+      test x y h i (Ok s) e = rw (h, i, e) (ended s y.1)
+
+      last : (x : ℕ × List ℕ) → number_at w64 b ≡ Ok x → (found : Result (ℕ × List ℕ) Fault) → number_at w64 x.1 ≡ found → checked_whole said (whole (body kinds.Range).read) b ≡ (number_at w64 b >>= after_first)
+      last x h (Err d) i = rw (h, i) refl
+      last x h (Ok y) i = test x y h i (range_from (x.0, y.0)) refl
+
+      first : (found : Result (ℕ × List ℕ) Fault) → number_at w64 b ≡ found → checked_whole said (whole (body kinds.Range).read) b ≡ (number_at w64 b >>= after_first)
+      first (Err d) h = rw h refl
+      first (Ok x) h = last x h (number_at w64 x.1) refl
+
+  abbrev pub after_bits : ℕ → List ℕ × List ℕ → Result Bool Fault
+  after_bits first y = bitmap_from (first, y.0) >>= to_end y.1
+
+  abbrev pub after_begin : ℕ × List ℕ → Result Bool Fault
+  after_begin x = string_at x.1 >>= after_bits x.0
+
+  pub bitmap_said : (b : List ℕ) → checked_whole said (whole (body kinds.Bitmap).read) b ≡ (number_at w64 b >>= after_begin)
+  unfolding behind_at
+  bitmap_said b = first (number_at w64 b) refl
+    where
+      test : (x : ℕ × List ℕ) (y : List ℕ × List ℕ) → number_at w64 b ≡ Ok x → string_at x.1 ≡ Ok y → (found : Result Serials Fault) → bitmap_from (x.0, y.0) ≡ found → checked_whole said (whole (body kinds.Bitmap).read) b ≡ (number_at w64 b >>= after_begin)
+      test x y h i (Err d) e = rw (h, i, e) refl
+      test x y h i (Ok s) e = rw (h, i, e) (ended s y.1)
+
+      bits : (x : ℕ × List ℕ) → number_at w64 b ≡ Ok x → (found : Result (List ℕ × List ℕ) Fault) → string_at x.1 ≡ found → checked_whole said (whole (body kinds.Bitmap).read) b ≡ (number_at w64 b >>= after_begin)
+      bits x h (Err d) i = rw (h, i) refl
+      bits x h (Ok y) i = test x y h i (bitmap_from (x.0, y.0)) refl
+
+      first : (found : Result (ℕ × List ℕ) Fault) → number_at w64 b ≡ found → checked_whole said (whole (body kinds.Bitmap).read) b ≡ (number_at w64 b >>= after_begin)
+      first (Err d) h = rw h refl
+      first (Ok x) h = bits x h (string_at x.1) refl
+
+  -- ---- the same of what calls answer
+
+  abbrev number : ℕ × Bor (List ℕ) → ℕ × List ℕ
+  number q = (q.0, q.1.now)
+
+  abbrev string : Bor (List ℕ) × Bor (List ℕ) → List ℕ × List ℕ
+  string q = (q.0.now, q.1.now)
+
+  module _ {D E : Type 0} (narrow : D → Cause) (cause : E → Cause) (b : List ℕ) where
+    abbrev SaysRange : Result Bool E → Type 0
+    SaysRange r = AnswersAlways (λ y. y) cause (checked_whole said (whole (body kinds.Range).read) b) r
+
+    abbrev SaysBitmap : Result Bool E → Type 0
+    SaysBitmap r = AnswersAlways (λ y. y) cause (checked_whole said (whole (body kinds.Bitmap).read) b) r
+
+    pub no_first : (d : D) (e : E) → AnswersAlways number narrow (number_at w64 b) (Err d) → cause e ≡ narrow d → SaysRange (Err e)
+    no_first d e h same = rw (range_said b) (answers_first number narrow (λ y. y) cause (number_at w64 b) after_first d e h same)
+
+    behind_first : (p : ℕ × Bor (List ℕ)) (r : Result Bool E) → AnswersAlways number narrow (number_at w64 b) (Ok p) → AnswersAlways (λ y. y) cause (after_first (number p)) r → SaysRange r
+    behind_first p r h g = rw (range_said b) (answers_later number narrow (λ y. y) cause (number_at w64 b) after_first p r h g)
+
+    pub no_last : (p : ℕ × Bor (List ℕ)) (d : D) (e : E) → AnswersAlways number narrow (number_at w64 b) (Ok p) → AnswersAlways number narrow (number_at w64 p.1.now) (Err d) → cause e ≡ narrow d → SaysRange (Err e)
+    no_last p d e h i same = behind_first p (Err e) h (answers_first number narrow (λ y. y) cause (number_at w64 p.1.now) (after_last p.0) d e i same)
+
+    behind_last : (p q : ℕ × Bor (List ℕ)) (r : Result Bool E) → AnswersAlways number narrow (number_at w64 b) (Ok p) → AnswersAlways number narrow (number_at w64 p.1.now) (Ok q) → AnswersAlways (λ y. y) cause (after_last p.0 (number q)) r → SaysRange r
+    behind_last p q r h i g = behind_first p r h (answers_later number narrow (λ y. y) cause (number_at w64 p.1.now) (after_last p.0) q r i g)
+
+    pub no_range : {X : Type 0} (means : X → Serials) (p q : ℕ × Bor (List ℕ)) (e f : E) → AnswersAlways number narrow (number_at w64 b) (Ok p) → AnswersAlways number narrow (number_at w64 p.1.now) (Ok q) → AnswersAlways means cause (range_from (p.0, q.0)) (Err e) → cause f ≡ cause e → SaysRange (Err f)
+    no_range means p q e f h i k same = behind_last p q (Err f) h i (answers_first means cause (λ y. y) cause (range_from (p.0, q.0)) (to_end q.1.now) e f k same)
+
+    pub range_ends : {X : Type 0} (means : X → Serials) (p q : ℕ × Bor (List ℕ)) (x : X) (r : Result Bool E) → AnswersAlways number narrow (number_at w64 b) (Ok p) → AnswersAlways number narrow (number_at w64 p.1.now) (Ok q) → AnswersAlways {E = E} means cause (range_from (p.0, q.0)) (Ok x) → AnswersAlways (λ y. y) cause (to_end q.1.now (means x)) r → SaysRange r
+    range_ends means p q x r h i k g = behind_last p q r h i (answers_later means cause (λ y. y) cause (range_from (p.0, q.0)) (to_end q.1.now) x r k g)
+
+    pub no_begin : (d : D) (e : E) → AnswersAlways number narrow (number_at w64 b) (Err d) → cause e ≡ narrow d → SaysBitmap (Err e)
+    no_begin d e h same = rw (bitmap_said b) (answers_first number narrow (λ y. y) cause (number_at w64 b) after_begin d e h same)
+
+    behind_begin : (p : ℕ × Bor (List ℕ)) (r : Result Bool E) → AnswersAlways number narrow (number_at w64 b) (Ok p) → AnswersAlways (λ y. y) cause (after_begin (number p)) r → SaysBitmap r
+    behind_begin p r h g = rw (bitmap_said b) (answers_later number narrow (λ y. y) cause (number_at w64 b) after_begin p r h g)
+
+    pub no_bits : (p : ℕ × Bor (List ℕ)) (d : D) (e : E) → AnswersAlways number narrow (number_at w64 b) (Ok p) → AnswersAlways string narrow (string_at p.1.now) (Err d) → cause e ≡ narrow d → SaysBitmap (Err e)
+    no_bits p d e h i same = behind_begin p (Err e) h (answers_first string narrow (λ y. y) cause (string_at p.1.now) (after_bits p.0) d e i same)
+
+    behind_bits : (p : ℕ × Bor (List ℕ)) (q : Bor (List ℕ) × Bor (List ℕ)) (r : Result Bool E) → AnswersAlways number narrow (number_at w64 b) (Ok p) → AnswersAlways string narrow (string_at p.1.now) (Ok q) → AnswersAlways (λ y. y) cause (after_bits p.0 (string q)) r → SaysBitmap r
+    behind_bits p q r h i g = behind_begin p r h (answers_later string narrow (λ y. y) cause (string_at p.1.now) (after_bits p.0) q r i g)
+
+    pub no_bitmap : {X : Type 0} (means : X → Serials) (p : ℕ × Bor (List ℕ)) (q : Bor (List ℕ) × Bor (List ℕ)) (e f : E) → AnswersAlways number narrow (number_at w64 b) (Ok p) → AnswersAlways string narrow (string_at p.1.now) (Ok q) → AnswersAlways means cause (bitmap_from (p.0, q.0.now)) (Err e) → cause f ≡ cause e → SaysBitmap (Err f)
+    no_bitmap means p q e f h i k same = behind_bits p q (Err f) h i (answers_first means cause (λ y. y) cause (bitmap_from (p.0, q.0.now)) (to_end q.1.now) e f k same)
+
+    pub bitmap_ends : {X : Type 0} (means : X → Serials) (p : ℕ × Bor (List ℕ)) (q : Bor (List ℕ) × Bor (List ℕ)) (x : X) (r : Result Bool E) → AnswersAlways number narrow (number_at w64 b) (Ok p) → AnswersAlways string narrow (string_at p.1.now) (Ok q) → AnswersAlways {E = E} means cause (bitmap_from (p.0, q.0.now)) (Ok x) → AnswersAlways (λ y. y) cause (to_end q.1.now (means x)) r → SaysBitmap r
+    bitmap_ends means p q x r h i k g = behind_bits p q r h i (answers_later means cause (λ y. y) cause (bitmap_from (p.0, q.0.now)) (to_end q.1.now) x r k g)
+
+-- ---- a value that is read, and what a test makes of it
+
+module _ {A B X Y D E : Type 0} (first : X → A) (narrow : D → Cause) (means : Y → B) (cause : E → Cause) (read : Front A) (test : A → Result B Fault) (says : B → Bool) (b : List ℕ) where
+  abbrev answer_of : B → Result Bool Fault
+  answer_of v = Ok (says v)
+
+  abbrev with_rest : List ℕ → B → Result (Bool × List ℕ) Fault
+  with_rest rest v = Ok (says v, rest)
+
+  abbrev after_read : A × List ℕ → Result (Bool × List ℕ) Fault
+  after_read x = test x.0 >>= with_rest x.1
+
+  tested_is : checked_at answer_of (checked_at test read) b ≡ (read b >>= after_read)
+  tested_is = go (read b) refl
+    where
+      value : (x : A × List ℕ) → read b ≡ Ok x → (found : Result B Fault) → test x.0 ≡ found → checked_at answer_of (checked_at test read) b ≡ (read b >>= after_read)
+      value x h (Err d) i = rw (h, i) refl
+      value x h (Ok v) i = rw (h, i) refl
+
+      go : (found : Result (A × List ℕ) Fault) → read b ≡ found → checked_at answer_of (checked_at test read) b ≡ (read b >>= after_read)
+      go (Err d) h = rw h refl
+      go (Ok x) h = value x h (test x.0) refl
+
+  abbrev cut : X × Bor (List ℕ) → A × List ℕ
+  cut p = (first p.0, p.1.now)
+
+  abbrev said_of : Bool × Bor (List ℕ) → Bool × List ℕ
+  said_of p = (p.0, p.1.now)
+
+  abbrev Says : Result (Bool × Bor (List ℕ)) E → Type 0
+  Says r = AnswersAlways said_of cause (checked_at answer_of (checked_at test read) b) r
+
+  pub not_read : (d : D) (e : E) → AnswersAlways cut narrow (read b) (Err d) → cause e ≡ narrow d → Says (Err e)
+  not_read d e h same = rw tested_is (answers_first cut narrow said_of cause (read b) after_read d e h same)
+
+  pub not_tested : (p : X × Bor (List ℕ)) (e f : E) → AnswersAlways cut narrow (read b) (Ok p) → AnswersAlways means cause (test (first p.0)) (Err e) → cause f ≡ cause e → Says (Err f)
+  not_tested p e f h i same = rw tested_is (answers_later cut narrow said_of cause (read b) after_read p (Err f) h (answers_first means cause said_of cause (test (first p.0)) (with_rest p.1.now) e f i same))
+
+  pub was_tested : (p : X × Bor (List ℕ)) (y : Y) (s : Bool) → AnswersAlways cut narrow (read b) (Ok p) → AnswersAlways {E = E} means cause (test (first p.0)) (Ok y) → s ≡ says (means y) → Says (Ok (s, p.1))
+  was_tested p y s h i is = rw (tested_is, is) (answers_later cut narrow said_of cause (read b) after_read p (Ok (says (means y), p.1)) h (answers_later means cause said_of cause (test (first p.0)) (with_rest p.1.now) y (Ok (says (means y), p.1)) i refl))

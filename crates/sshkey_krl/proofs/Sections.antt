@@ -1,0 +1,167 @@
+-- What a section says, by its kind.
+use Rattle.std.proofs.Common.{◌≡◌, ◌<◌, ℕ, Bool, ◌&&◌, Option, Some, None, List, [], ◌∷◌, length, Result, Ok, Err, refl, sym, subst, ◌∙◌, arith}
+use Rattle.std.specs.Prelude.{is_some}
+use Rattle.sshkey_base.proofs.Judging.{answers_first, answers_later}
+use Rattle.sshkey_base.proofs.Accepted.{whole_spelled}
+use Rattle.sshkey_base.specs.Answers.{AnswersAlways}
+use Rattle.sshkey_base.specs.Causes.{Cause}
+use Rattle.sshkey_base.specs.Formats.{array_format, string_format}
+use Rattle.sshkey_model.specs.Keys.{Key, normal_key}
+use Rattle.sshkey_model.specs.Parts.{flat}
+use Rattle.sshkey_model.specs.Reading.{Fault, ◌>>=◌, checked_whole, list_whole, string_at, whole}
+use denote.Ref.{Bor}
+use Rattle.sshkey_keys.specs.KeyReaders.{key_grammar}
+use Rattle.sshkey_keys.specs.Keys.{SpellsKey, key_data_at}
+use Rattle.sshkey_keys_ref.specs.KeyDataRef.{key_bytes}
+use Rattle.sshkey_keys_ref.specs.declared.key_data_ref.KeyDataRef.{KeyDataRef}
+use Rattle.sshkey_terms.specs.Behind.{behind_at}
+use Rattle.sshkey_terms.specs.Slices.{Keeps}
+use Rattle.sshkey_krl.specs.Asked.{Asked, authority_says, key_says, part_says, says, sha1_says, sha256_says, signer_says}
+use Rattle.sshkey_krl.specs.Parts.{part_format, part_shows}
+use Rattle.sshkey_krl.specs.Revocation.{Authority, Everybody, Part, Section, Signer}
+use Rattle.sshkey_krl.specs.Sections.{array_shows, authority_from, body, string_shows}
+use Rattle.sshkey_krl.specs.declared.section.SectionKind.TheVariants as kinds
+use Rattle.sshkey_krl.proofs.Asking.{asked}
+
+module _ (a : Asked) where
+  abbrev pub said : Section → Result Bool Fault
+  said v = Ok (says a v)
+
+  -- ---- keys and digests
+
+  pub keys_said : (b : List ℕ) → checked_whole said (whole (body kinds.Keys).read) b ≡ asked string_format string_shows (key_says a) b
+  keys_said b = go (list_whole (λ _. string_format.read) b) refl
+    where
+      go : (found : Result (List (List ℕ)) Fault) → list_whole (λ _. string_format.read) b ≡ found → checked_whole said (whole (body kinds.Keys).read) b ≡ asked string_format string_shows (key_says a) b
+      go (Ok xs) e = rw e refl
+      go (Err d) e = rw e refl
+
+  pub sha1s_said : (b : List ℕ) → checked_whole said (whole (body kinds.Sha1).read) b ≡ asked (array_format 20) (array_shows 20) (sha1_says a) b
+  sha1s_said b = go (list_whole (λ _. (array_format 20).read) b) refl
+    where
+      go : (found : Result (List (List ℕ)) Fault) → list_whole (λ _. (array_format 20).read) b ≡ found → checked_whole said (whole (body kinds.Sha1).read) b ≡ asked (array_format 20) (array_shows 20) (sha1_says a) b
+      go (Ok xs) e = rw e refl
+      go (Err d) e = rw e refl
+
+  pub sha256s_said : (b : List ℕ) → checked_whole said (whole (body kinds.Sha256).read) b ≡ asked (array_format 32) (array_shows 32) (sha256_says a) b
+  sha256s_said b = go (list_whole (λ _. (array_format 32).read) b) refl
+    where
+      go : (found : Result (List (List ℕ)) Fault) → list_whole (λ _. (array_format 32).read) b ≡ found → checked_whole said (whole (body kinds.Sha256).read) b ≡ asked (array_format 32) (array_shows 32) (sha256_says a) b
+      go (Ok xs) e = rw e refl
+      go (Err d) e = rw e refl
+
+  -- ---- certificates
+
+  abbrev pub about : List ℕ → Result Bool Fault
+  about = checked_whole (λ w. Ok (authority_says a w)) authority_from
+
+  abbrev pub both : Bool → Bool → Result Bool Fault
+  both x y = Ok (x && y)
+
+  abbrev pub after_reserved : Bool → List ℕ × List ℕ → Result Bool Fault
+  after_reserved x t = asked part_format part_shows (part_says a) t.1 >>= both x
+
+  abbrev pub after_authority : List ℕ → Bool → Result Bool Fault
+  after_authority rest x = string_at rest >>= after_reserved x
+
+  abbrev pub after_string : List ℕ × List ℕ → Result Bool Fault
+  after_string s = about s.0 >>= after_authority s.1
+
+  pub certificates_said : (b : List ℕ) → checked_whole said (whole (body kinds.Certificates).read) b ≡ (string_at b >>= after_string)
+  unfolding behind_at
+  certificates_said b = first (string_at b) refl
+    where
+      parts : (s : List ℕ × List ℕ) → string_at b ≡ Ok s → (w : Authority) → authority_from s.0 ≡ Ok w → (t : List ℕ × List ℕ) → string_at s.1 ≡ Ok t → (found : Result (List Part) Fault) → list_whole (λ _. part_format.read) t.1 ≡ found → checked_whole said (whole (body kinds.Certificates).read) b ≡ (string_at b >>= after_string)
+      parts s h w i t k (Err d) e = rw (h, i, k, e) refl
+      parts s h w i t k (Ok ps) e = rw (h, i, k, e) refl
+
+      reserved : (s : List ℕ × List ℕ) → string_at b ≡ Ok s → (w : Authority) → authority_from s.0 ≡ Ok w → (found : Result (List ℕ × List ℕ) Fault) → string_at s.1 ≡ found → checked_whole said (whole (body kinds.Certificates).read) b ≡ (string_at b >>= after_string)
+      reserved s h w i (Err d) k = rw (h, i, k) refl
+      reserved s h w i (Ok t) k = parts s h w i t k (list_whole (λ _. part_format.read) t.1) refl
+
+      authority : (s : List ℕ × List ℕ) → string_at b ≡ Ok s → (found : Result Authority Fault) → authority_from s.0 ≡ found → checked_whole said (whole (body kinds.Certificates).read) b ≡ (string_at b >>= after_string)
+      authority s h (Err d) i = rw (h, i) refl
+      authority s h (Ok w) i = reserved s h w i (string_at s.1) refl
+
+      first : (found : Result (List ℕ × List ℕ) Fault) → string_at b ≡ found → checked_whole said (whole (body kinds.Certificates).read) b ≡ (string_at b >>= after_string)
+      first (Err d) h = rw h refl
+      first (Ok s) h = authority s h (authority_from s.0) refl
+
+  -- ---- the same of what calls answer
+
+  abbrev string : Bor (List ℕ) × Bor (List ℕ) → List ℕ × List ℕ
+  string q = (q.0.now, q.1.now)
+
+  module _ {D E : Type 0} (narrow : D → Cause) (cause : E → Cause) (b : List ℕ) where
+    abbrev Says : Result Bool E → Type 0
+    Says r = AnswersAlways (λ y. y) cause (checked_whole said (whole (body kinds.Certificates).read) b) r
+
+    abbrev Begins : Bor (List ℕ) × Bor (List ℕ) → Type 0
+    Begins p = AnswersAlways string narrow (string_at b) (Ok p)
+
+    abbrev IsAbout : List ℕ → Result Bool E → Type 0
+    IsAbout s r = AnswersAlways (λ y. y) cause (about s) r
+
+    pub no_string : (d : D) (e : E) → AnswersAlways string narrow (string_at b) (Err d) → cause e ≡ narrow d → Says (Err e)
+    no_string d e h same = rw (certificates_said b) (answers_first string narrow (λ y. y) cause (string_at b) after_string d e h same)
+
+    behind_string : (p : Bor (List ℕ) × Bor (List ℕ)) (r : Result Bool E) → Begins p → AnswersAlways (λ y. y) cause (after_string (string p)) r → Says r
+    behind_string p r h g = rw (certificates_said b) (answers_later string narrow (λ y. y) cause (string_at b) after_string p r h g)
+
+    pub no_authority : (p : Bor (List ℕ) × Bor (List ℕ)) (e f : E) → Begins p → IsAbout p.0.now (Err e) → cause f ≡ cause e → Says (Err f)
+    no_authority p e f h i same = behind_string p (Err f) h (answers_first (λ y. y) cause (λ y. y) cause (about p.0.now) (after_authority p.1.now) e f i same)
+
+    behind_authority : (p : Bor (List ℕ) × Bor (List ℕ)) (y : Bool) (r : Result Bool E) → Begins p → IsAbout p.0.now (Ok y) → AnswersAlways (λ y. y) cause (after_authority p.1.now y) r → Says r
+    behind_authority p y r h i g = behind_string p r h (answers_later (λ y. y) cause (λ y. y) cause (about p.0.now) (after_authority p.1.now) y r i g)
+
+    pub no_reserved : (p : Bor (List ℕ) × Bor (List ℕ)) (y : Bool) (d : D) (e : E) → Begins p → IsAbout p.0.now (Ok y) → AnswersAlways string narrow (string_at p.1.now) (Err d) → cause e ≡ narrow d → Says (Err e)
+    no_reserved p y d e h i k same = behind_authority p y (Err e) h i (answers_first string narrow (λ y. y) cause (string_at p.1.now) (after_reserved y) d e k same)
+
+    behind_reserved : (p : Bor (List ℕ) × Bor (List ℕ)) (y : Bool) (q : Bor (List ℕ) × Bor (List ℕ)) (r : Result Bool E) → Begins p → IsAbout p.0.now (Ok y) → AnswersAlways string narrow (string_at p.1.now) (Ok q) → AnswersAlways (λ y. y) cause (after_reserved y (string q)) r → Says r
+    behind_reserved p y q r h i k g = behind_authority p y r h i (answers_later string narrow (λ y. y) cause (string_at p.1.now) (after_reserved y) q r k g)
+
+    pub no_parts : (p : Bor (List ℕ) × Bor (List ℕ)) (y : Bool) (q : Bor (List ℕ) × Bor (List ℕ)) (e f : E) → Begins p → IsAbout p.0.now (Ok y) → AnswersAlways string narrow (string_at p.1.now) (Ok q) → AnswersAlways {X = Bool} (λ y. y) cause (asked part_format part_shows (part_says a) q.1.now) (Err e) → cause f ≡ cause e → Says (Err f)
+    no_parts p y q e f h i k l same = behind_reserved p y q (Err f) h i k (answers_first (λ y. y) cause (λ y. y) cause (asked part_format part_shows (part_says a) q.1.now) (both y) e f l same)
+
+    pub parts_say : (p : Bor (List ℕ) × Bor (List ℕ)) (y : Bool) (q : Bor (List ℕ) × Bor (List ℕ)) (z : Bool) → Begins p → IsAbout p.0.now (Ok y) → AnswersAlways string narrow (string_at p.1.now) (Ok q) → AnswersAlways {E = E} (λ y. y) cause (asked part_format part_shows (part_says a) q.1.now) (Ok z) → Says (Ok (y && z))
+    parts_say p y q z h i k l = behind_reserved p y q (Ok (y && z)) h i k (answers_later (λ y. y) cause (λ y. y) cause (asked part_format part_shows (part_says a) q.1.now) (both y) z (Ok (y && z)) l refl)
+
+  -- ---- the authority
+
+  everybody : (certificate : Option (ℕ × List ℕ)) (key signer : List ℕ) → is_some certificate ≡ authority_says (record { key = key; signer = signer; certificate = certificate }) Everybody
+  everybody None key signer = refl
+  everybody (Some c) key signer = refl
+
+  signed : (certificate : Option (ℕ × List ℕ)) (key signer : List ℕ) (k : Key) → signer_says (record { key = key; signer = signer; certificate = certificate }) (flat (normal_key k)) ≡ authority_says (record { key = key; signer = signer; certificate = certificate }) (Signer k)
+  signed None key signer k = refl
+  signed (Some c) key signer k = refl
+
+  module _ {E : Type 0} (cause : E → Cause) where
+    abbrev AboutSays : List ℕ → Result Bool E → Type 0
+    AboutSays b r = AnswersAlways (λ y. y) cause (about b) r
+
+    pub about_all : (b : List ℕ) (y : Bool) → length b ≡ 0 → y ≡ is_some a.certificate → AboutSays b (Ok y)
+    about_all [] y none said = said ∙ everybody a.certificate a.key a.signer
+    about_all (c ∷ b) y none said = absurd (cc none)
+
+    key_about : (b : List ℕ) → 0 < length b → about b ≡ (whole key_data_at b >>= λ k. Ok (authority_says a (Signer k)))
+    key_about [] some = absurd (omega arith)
+    key_about (c ∷ b) some = go (whole key_data_at (c ∷ b)) refl
+      where
+        go : (found : Result Key Fault) → whole key_data_at (c ∷ b) ≡ found → about (c ∷ b) ≡ (whole key_data_at (c ∷ b) >>= λ k. Ok (authority_says a (Signer k)))
+        go (Ok k) e = rw e refl
+        go (Err d) e = rw e refl
+
+    pub about_none : (b : List ℕ) (e f : E) → 0 < length b → Keeps {X = KeyDataRef} key_bytes cause (whole key_data_at b) b (Err e) → cause f ≡ cause e → AboutSays b (Err f)
+    about_none b e f some h same = rw (key_about b some) (go (whole key_data_at b) h)
+      where
+        go : (found : Result Key Fault) → Keeps {X = KeyDataRef} key_bytes cause found b (Err e) → AnswersAlways (λ y. y) cause (found >>= λ k. Ok (authority_says a (Signer k))) (Err f)
+        go (Ok k) h = absurd h
+        go (Err d) h = same ∙ h
+
+    pub about_signer : (b : List ℕ) (key : KeyDataRef) (y : Bool) → 0 < length b → Keeps {E = E} key_bytes cause (whole key_data_at b) b (Ok key) → ((k : Key) → SpellsKey k (key_bytes key) → y ≡ signer_says a (flat (normal_key k))) → AboutSays b (Ok y)
+    about_signer b key y some h said = rw (key_about b some) (go (whole key_data_at b) refl h)
+      where
+        go : (found : Result Key Fault) → whole key_data_at b ≡ found → Keeps {E = E} key_bytes cause found b (Ok key) → AnswersAlways {E = E} (λ y. y) cause (found >>= λ k. Ok (authority_says a (Signer k))) (Ok y)
+        go (Ok k) e is = said k (subst (λ (z : List ℕ). SpellsKey k z) (sym is) (whole_spelled key_grammar b k e)) ∙ signed a.certificate a.key a.signer k
+        go (Err d) e is = absurd is

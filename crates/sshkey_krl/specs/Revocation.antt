@@ -1,0 +1,94 @@
+-- What a key revocation list says (OpenSSH's PROTOCOL.krl), and what it revokes.
+use Rattle.std.specs.Prelude.{ℕ, List, ◌++◌, length, take, ◌-◌, Bool, true, false, not, ◌&&◌, ◌||◌, ◌==◌, bytes_eq, if◌then◌else◌}
+use Rattle.std.specs.List.{list_any, slice_index}
+use Rattle.sha1.specs.Sha1.{sha1}
+use Rattle.sha2.specs.Sha256.{sha256}
+use Rattle.sshkey_model.specs.Certificates.{Certificate}
+use Rattle.sshkey_model.specs.Keys.{Key, normal_key}
+use Rattle.sshkey_model.specs.Parts.{flat}
+use Rattle.sshkey_krl.specs.Serials.{Serials, has_serial}
+
+-- whose certificates are revoked: everybody's, or those that the key has signed
+pub data Authority : Type 0 where
+  Everybody : Authority
+  Signer : Key → Authority
+
+pub data Part : Type 0 where
+  Numbers : Serials → Part
+  KeyIds : List (List ℕ) → Part
+
+-- the bytes of keys, digests of them by SHA-1 and by SHA-256, or parts about certificates
+pub data Section : Type 0 where
+  Certificates : Authority → List Part → Section
+  Keys Sha1s Sha256s : List (List ℕ) → Section
+
+pub record Krl : Type 0 where
+  pub number : ℕ
+  pub date : ℕ
+  pub flags : ℕ
+  pub reserved : List ℕ
+  pub comment : List ℕ
+  pub sections : List Section
+
+-- ---- keys
+
+-- The section has the key's bytes, or their digest.
+abbrev pub has_key : List ℕ → Section → Bool
+has_key bytes (Certificates authority parts) = false
+has_key bytes (Keys keys) = list_any (bytes_eq bytes) keys
+has_key bytes (Sha1s digests) = list_any (bytes_eq (sha1 bytes)) digests
+has_key bytes (Sha256s digests) = list_any (bytes_eq (sha256 bytes)) digests
+
+-- The list has the key whose normal form these bytes are.
+abbrev pub revokes_key : Krl → List ℕ → Bool
+revokes_key krl key = list_any (has_key key) krl.sections
+
+-- ---- certificates
+
+-- the bytes without a zero byte at their end, which OpenSSH does not count as part of a text
+abbrev pub without_zero : List ℕ → List ℕ
+without_zero b = if slice_index b (length b - 1) == 0 then take (length b - 1) b else b
+
+-- what a list asks of a certificate beside its key: who signed it, as the bytes of the key's normal
+-- form, its serial number and its key id, without a zero byte at its end
+pub record Grant : Type 0 where
+  pub signer : List ℕ
+  pub serial : ℕ
+  pub key_id : List ℕ
+
+abbrev pub grant : List ℕ → ℕ → List ℕ → Grant
+grant signer serial key_id = record { signer = signer; serial = serial; key_id = without_zero key_id }
+
+-- The section is about the authority's certificates.
+abbrev pub is_by : List ℕ → Authority → Bool
+is_by signer Everybody = true
+is_by signer (Signer key) = bytes_eq signer (flat (normal_key key))
+
+-- The number 0, which stands for none, is never revoked.
+abbrev pub has_grant : Grant → Part → Bool
+has_grant grant (Numbers serials) = not (grant.serial == 0) && has_serial grant.serial serials
+has_grant grant (KeyIds ids) = list_any (bytes_eq grant.key_id) ids
+
+abbrev pub lists : Grant → Section → Bool
+lists grant (Certificates authority parts) = is_by grant.signer authority && list_any (has_grant grant) parts
+lists grant (Keys keys) = false
+lists grant (Sha1s digests) = false
+lists grant (Sha256s digests) = false
+
+-- The list revokes a certificate of the key, which the signer's key signed: either key, or the serial
+-- number or the key id among the certificates of the signer. Keys are the bytes of their normal form.
+abbrev pub revokes : Krl → List ℕ → Grant → Bool
+revokes krl key grant = revokes_key krl key || (revokes_key krl grant.signer || list_any (lists grant) krl.sections)
+
+-- The same of a certificate. Nothing else in it is asked.
+abbrev pub grant_of : Certificate → Grant
+grant_of c = grant (flat (normal_key c.signed.signature_key)) c.signed.serial c.signed.key_id
+
+abbrev pub revokes_certificate : Krl → Certificate → Bool
+revokes_certificate krl c = revokes krl (flat (normal_key c.signed.key)) (grant_of c)
+
+-- ---- two lists
+
+-- the first list with the sections of both
+abbrev pub joined : Krl → Krl → Krl
+joined k l = record { number = k.number; date = k.date; flags = k.flags; reserved = k.reserved; comment = k.comment; sections = k.sections ++ l.sections }

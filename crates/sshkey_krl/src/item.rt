@@ -1,0 +1,51 @@
+//! Lists of items that stand up to the end of a slice.
+
+ghost use Rattle.std.specs.Prelude.{Bool, Ok};
+ghost use Rattle.std.specs.List.{list_any};
+ghost use Rattle.sshkey_base.specs.Answers.{AnswersAlways};
+ghost use Rattle.sshkey_base.specs.Causes.{cause};
+ghost use Rattle.sshkey_base.specs.Formats.{Format};
+ghost use Rattle.sshkey_model.specs.Reading.{checked_at, checked_whole, list_whole};
+ghost use Rattle.sshkey_terms.specs.Slices.{Splits};
+ghost use Rattle.sshkey_terms.specs.ToEnd.{HasBytes};
+ghost use Rattle.sshkey_krl.specs.Asked.{Asked, asked_of};
+
+use crate::question::Question;
+use sshkey_base::Result;
+
+/// An item of a list.
+pub(crate) trait Item {
+    /// What an item means: the model's value.
+    ghost Value: { Type 0 };
+
+    /// How it is spelled.
+    ghost format: { Format Value };
+
+    /// No item is empty.
+    ghost has_bytes: { HasBytes format };
+
+    /// What an item says to a question.
+    ghost says: { Asked → Value → Bool };
+
+    /// What the item at the front says to the question, and what stands after it.
+    fn ask<'a>(question: &Question<'_>, bytes: &'a [u8]) -> Result<(bool, &'a [u8])>
+        ensures { Splits (λ y. y) cause
+            (checked_at (λ v. Ok (says (asked_of question.now) v)) format.read)
+            bytes.now result };
+}
+
+/// Whether an item says yes to the question, of those that the bytes spell.
+pub(crate) fn any_of<I: Item>(question: &Question<'_>, bytes: &[u8]) -> Result<bool>
+    ensures { AnswersAlways (λ y. y) cause
+        (checked_whole (λ vs. Ok (list_any (I.says (asked_of question.now)) vs))
+        (list_whole (λ _. I.format.read)) bytes.now) result }
+{
+    let mut rest = bytes;
+    let mut found = false;
+    'items: while !rest.is_empty() {
+        let (yes, behind) = I::ask(question, rest)?;
+        found |= yes;
+        rest = behind;
+    }
+    Ok(found)
+}

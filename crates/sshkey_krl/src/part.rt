@@ -1,0 +1,147 @@
+//! The parts of a section about certificates: serial numbers and key ids.
+
+ghost use Rattle.std.specs.Prelude.{◌≡◌, ℕ, List, Ok};
+ghost use Rattle.sshkey_base.specs.Answers.{AnswersAlways};
+ghost use Rattle.sshkey_base.specs.Causes.{cause};
+ghost use Rattle.sshkey_model.specs.Reading.{checked_whole, whole};
+ghost use Rattle.sshkey_krl.specs.Asked.{asked_of, key_id_says, part_says, serial_says};
+ghost use Rattle.sshkey_krl.specs.Parts.{body, key_id_format, key_id_shows, kind_from, part_format, part_shows, serial_format, serial_shows};
+ghost use Rattle.sshkey_krl.specs.Revocation as model;
+ghost use Rattle.sshkey_krl.specs.declared.part.PartKind.TheVariants as kinds;
+
+use crate::item::{Item, any_of};
+use crate::numbered::{Numbered, ask_numbered, at_end};
+use crate::question::Question;
+use crate::serials::{check_bitmap, check_range, check_serial};
+use crate::text::text_in;
+use sshkey_base::{Error, Result};
+use sshkey_terms::{split_string, split_u64};
+
+/// What a part is.
+#[derive(Clone, Copy)]
+pub(crate) enum PartKind {
+    Serials,
+    Range,
+    Bitmap,
+    KeyIds,
+}
+
+/// A part.
+pub(crate) struct Part;
+
+impl Numbered for Part {
+    type Kind = PartKind;
+
+    ghost Value = { model.Part };
+
+    ghost kind_from = { kind_from };
+
+    ghost body = { body };
+
+    ghost says = { part_says };
+
+    fn kind(number: u8) -> Result<PartKind> {
+        match number {
+            0x20 => Ok(PartKind::Serials),
+            0x21 => Ok(PartKind::Range),
+            0x22 => Ok(PartKind::Bitmap),
+            0x23 => Ok(PartKind::KeyIds),
+            _ => Err(Error::FormatEncoding),
+        }
+    }
+
+    fn ask_body(question: &Question<'_>, kind: PartKind, bytes: &[u8]) -> Result<bool> {
+        match kind {
+            PartKind::Serials => ask_serials(question, bytes),
+            PartKind::Range => ask_range(question, bytes),
+            PartKind::Bitmap => ask_bitmap(question, bytes),
+            PartKind::KeyIds => any_of::<KeyId>(question, bytes),
+        }
+    }
+}
+
+impl Item for Part {
+    ghost Value = { model.Part };
+
+    ghost format = { part_format };
+
+    ghost has_bytes = { part_shows };
+
+    ghost says = { part_says };
+
+    fn ask<'a>(question: &Question<'_>, bytes: &'a [u8]) -> Result<(bool, &'a [u8])> {
+        ask_numbered::<Part>(question, bytes)
+    }
+}
+
+/// Whether one of the numbers is the serial number that is asked about.
+fn ask_serials(question: &Question<'_>, bytes: &[u8]) -> Result<bool>
+    ensures { AnswersAlways (λ y. y) cause
+        (checked_whole (λ v. Ok (part_says (asked_of question.now) v))
+        (whole (body kinds.Serials).read) bytes.now) result }
+{
+    let listed = any_of::<Serial>(question, bytes)?;
+    Ok(question.serial() != 0 && listed)
+}
+
+/// Whether the range has the serial number that is asked about.
+fn ask_range(question: &Question<'_>, bytes: &[u8]) -> Result<bool>
+    ensures { AnswersAlways (λ y. y) cause
+        (checked_whole (λ v. Ok (part_says (asked_of question.now) v))
+        (whole (body kinds.Range).read) bytes.now) result }
+{
+    let (first, rest) = split_u64(bytes)?;
+    let (last, rest) = split_u64(rest)?;
+    check_range(first, last)?;
+    at_end(question.is_in_range(first, last), rest)
+}
+
+/// Whether the bitmap has the serial number that is asked about.
+fn ask_bitmap(question: &Question<'_>, bytes: &[u8]) -> Result<bool>
+    ensures { AnswersAlways (λ y. y) cause
+        (checked_whole (λ v. Ok (part_says (asked_of question.now) v))
+        (whole (body kinds.Bitmap).read) bytes.now) result }
+{
+    let (first, rest) = split_u64(bytes)?;
+    let (bitmap, rest) = split_string(rest)?;
+    check_bitmap(first, bitmap)?;
+    at_end(question.is_in_bitmap(first, bitmap), rest)
+}
+
+/// A serial number.
+struct Serial;
+
+impl Item for Serial {
+    ghost Value = { ℕ };
+
+    ghost format = { serial_format };
+
+    ghost has_bytes = { serial_shows };
+
+    ghost says = { serial_says };
+
+    fn ask<'a>(question: &Question<'_>, bytes: &'a [u8]) -> Result<(bool, &'a [u8])> {
+        let (serial, rest) = split_u64(bytes)?;
+        check_serial(serial)?;
+        Ok((serial == question.serial(), rest))
+    }
+}
+
+/// A key id.
+struct KeyId;
+
+impl Item for KeyId {
+    ghost Value = { List ℕ };
+
+    ghost format = { key_id_format };
+
+    ghost has_bytes = { key_id_shows };
+
+    ghost says = { key_id_says };
+
+    fn ask<'a>(question: &Question<'_>, bytes: &'a [u8]) -> Result<(bool, &'a [u8])> {
+        let (string, rest) = split_string(bytes)?;
+        let key_id = text_in(string)?;
+        Ok((question.key_id() == key_id, rest))
+    }
+}

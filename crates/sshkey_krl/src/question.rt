@@ -1,0 +1,136 @@
+//! What a walk over a list asks.
+
+ghost use Rattle.std.specs.Prelude.{◌≡◌, is_some};
+ghost use Rattle.sshkey_model.specs.Keys.{Key as PublicKey, normal_key};
+ghost use Rattle.sshkey_model.specs.Parts.{flat};
+ghost use Rattle.sshkey_keys.specs.Keys.{SpellsKey};
+ghost use Rattle.sshkey_keys_ref.specs.KeyDataRef.{key_bytes};
+ghost use Rattle.sshkey_krl.specs.Asked.{asked_certificate, asked_key, asked_of, grant_in, key_says, part_says, sha1_says, sha256_says, signer_says};
+ghost use Rattle.sshkey_krl.specs.Revocation.{Numbers};
+ghost use Rattle.sshkey_krl.specs.Serials.{Bitmap, Range};
+
+use crate::asked_key::Key;
+use crate::authority::is_normal_form;
+use crate::serials::has_bit;
+use crate::text::without_zero;
+use sshkey_keys_ref::KeyDataRef;
+
+/// The serial number and the key id of a certificate, without a zero byte at its end.
+#[derive(Clone, Copy)]
+pub(crate) struct Serial<'q> {
+    number: u64,
+    key_id: &'q [u8],
+}
+
+/// Whether one of two keys is listed, or a certificate that the second has signed.
+#[derive(Clone, Copy)]
+pub(crate) struct Question<'q> {
+    key: Key<'q>,
+    signer: Key<'q>,
+    certificate: Option<Serial<'q>>,
+}
+
+impl<'q> Question<'q> {
+    /// About the key of those bytes.
+    pub(crate) fn about_key(bytes: &'q [u8]) -> Question<'q>
+        ensures { asked_of result ≡ asked_key bytes.now }
+    {
+        let key = Key::new(bytes);
+        Question {
+            key,
+            signer: key,
+            certificate: None,
+        }
+    }
+
+    /// About the certificate of the key, which the other has signed.
+    pub(crate) fn about_certificate(
+        key: &'q [u8],
+        signer: &'q [u8],
+        serial: u64,
+        key_id: &'q str,
+    ) -> Question<'q>
+        ensures { asked_of result ≡ asked_certificate key.now signer.now serial key_id.now }
+    {
+        Question {
+            key: Key::new(key),
+            signer: Key::new(signer),
+            certificate: Some(Serial {
+                number: serial,
+                key_id: without_zero(key_id.as_bytes()),
+            }),
+        }
+    }
+
+    /// Whether they are the bytes of one of the keys.
+    pub(crate) fn is_key(&self, bytes: &[u8]) -> bool
+        ensures { result ≡ key_says (asked_of self.now) bytes.now }
+    {
+        self.key.bytes == bytes || self.signer.bytes == bytes
+    }
+
+    /// Whether it is the digest of one of the keys.
+    pub(crate) fn is_sha1(&self, digest: &[u8]) -> bool
+        ensures { result ≡ sha1_says (asked_of self.now) digest.now }
+    {
+        self.key.by_sha1.as_slice() == digest || self.signer.by_sha1.as_slice() == digest
+    }
+
+    /// Whether it is the digest of one of the keys.
+    pub(crate) fn is_sha256(&self, digest: &[u8]) -> bool
+        ensures { result ≡ sha256_says (asked_of self.now) digest.now }
+    {
+        self.key.by_sha256.as_slice() == digest || self.signer.by_sha256.as_slice() == digest
+    }
+
+    /// Whether the key signed a certificate that is asked about.
+    pub(crate) fn is_signer(&self, key: &KeyDataRef<'_>) -> bool
+        ensures { (k : PublicKey) → SpellsKey k (key_bytes key.now) →
+            result ≡ signer_says (asked_of self.now) (flat (normal_key k)) }
+    {
+        self.certificate.is_some() && is_normal_form(self.signer.bytes, key)
+    }
+
+    /// Whether a certificate is asked about.
+    pub(crate) fn has_certificate(&self) -> bool
+        ensures { result ≡ is_some (asked_of self.now).certificate }
+    {
+        self.certificate.is_some()
+    }
+
+    /// The serial number that is asked about; 0 where there is none.
+    pub(crate) fn serial(&self) -> u64
+        ensures { result ≡ (grant_in (asked_of self.now)).serial }
+    {
+        match self.certificate {
+            Some(serial) => serial.number,
+            None => 0,
+        }
+    }
+
+    /// Whether it lies in the range, both ends included.
+    pub(crate) fn is_in_range(&self, first: u64, last: u64) -> bool
+        ensures { result ≡ part_says (asked_of self.now) (Numbers (Range first last)) }
+    {
+        let serial = self.serial();
+        serial != 0 && first <= serial && serial <= last
+    }
+
+    /// Whether its bit is a one, of those that stand for that number and those after it.
+    pub(crate) fn is_in_bitmap(&self, first: u64, bitmap: &[u8]) -> bool
+        ensures { result ≡ part_says (asked_of self.now) (Numbers (Bitmap first bitmap.now)) }
+    {
+        let serial = self.serial();
+        serial != 0 && first <= serial && has_bit(bitmap, serial - first)
+    }
+
+    /// The key id that is asked about, which is empty where there is none.
+    pub(crate) fn key_id(&self) -> &'q [u8]
+        ensures { result.now ≡ (grant_in (asked_of self.now)).key_id }
+    {
+        match self.certificate {
+            Some(serial) => serial.key_id,
+            None => &[],
+        }
+    }
+}

@@ -1,0 +1,159 @@
+//! The sections of a list.
+
+ghost use Rattle.std.specs.Prelude.{◌≡◌, ℕ, List, Ok};
+ghost use Rattle.sshkey_base.specs.Answers.{AnswersAlways};
+ghost use Rattle.sshkey_base.specs.Causes.{cause};
+ghost use Rattle.sshkey_base.specs.Formats.{array_format, string_format};
+ghost use Rattle.sshkey_model.specs.Reading.{checked_whole, whole};
+ghost use Rattle.sshkey_krl.specs.Asked.{asked_of, authority_says, key_says, says, sha1_says, sha256_says};
+ghost use Rattle.sshkey_krl.specs.Revocation as model;
+ghost use Rattle.sshkey_krl.specs.Sections.{array_shows, authority_from, body, kind_from, section_format, section_shows, string_shows};
+ghost use Rattle.sshkey_krl.specs.declared.section.SectionKind.TheVariants as kinds;
+
+use crate::item::{Item, any_of};
+use crate::numbered::{Numbered, ask_numbered};
+use crate::part::Part;
+use crate::question::Question;
+use sshkey_base::{Error, Result};
+use sshkey_keys_ref::KeyDataRef;
+use sshkey_terms::{ReadFrom, split_string};
+
+/// What a section is.
+#[derive(Clone, Copy)]
+pub(crate) enum SectionKind {
+    Certificates,
+    Keys,
+    Sha1,
+    Sha256,
+}
+
+/// A section.
+pub(crate) struct Section;
+
+impl Numbered for Section {
+    type Kind = SectionKind;
+
+    ghost Value = { model.Section };
+
+    ghost kind_from = { kind_from };
+
+    ghost body = { body };
+
+    ghost says = { says };
+
+    fn kind(number: u8) -> Result<SectionKind> {
+        match number {
+            1 => Ok(SectionKind::Certificates),
+            2 => Ok(SectionKind::Keys),
+            3 => Ok(SectionKind::Sha1),
+            5 => Ok(SectionKind::Sha256),
+            _ => Err(Error::FormatEncoding),
+        }
+    }
+
+    fn ask_body(question: &Question<'_>, kind: SectionKind, bytes: &[u8]) -> Result<bool> {
+        match kind {
+            SectionKind::Certificates => ask_certificates(question, bytes),
+            SectionKind::Keys => any_of::<KeyBytes>(question, bytes),
+            SectionKind::Sha1 => any_of::<Sha1Digest>(question, bytes),
+            SectionKind::Sha256 => any_of::<Sha256Digest>(question, bytes),
+        }
+    }
+}
+
+impl Item for Section {
+    ghost Value = { model.Section };
+
+    ghost format = { section_format };
+
+    ghost has_bytes = { section_shows };
+
+    ghost says = { says };
+
+    fn ask<'a>(question: &Question<'_>, bytes: &'a [u8]) -> Result<(bool, &'a [u8])> {
+        ask_numbered::<Section>(question, bytes)
+    }
+}
+
+/// Whether a part says yes, of a section that is about the certificates of the authority.
+fn ask_certificates(question: &Question<'_>, bytes: &[u8]) -> Result<bool>
+    ensures { AnswersAlways (λ y. y) cause
+        (checked_whole (λ v. Ok (says (asked_of question.now) v))
+        (whole (body kinds.Certificates).read) bytes.now) result }
+{
+    let (authority, rest) = split_string(bytes)?;
+    let about = is_about(question, authority)?;
+    let (_, parts) = split_string(rest)?;
+    let listed = any_of::<Part>(question, parts)?;
+    Ok(about & listed)
+}
+
+/// Whether a certificate is asked about that the authority has signed: any where no bytes name it.
+/// Fails as `KeyDataRef::from_bytes` does for bytes that spell no key.
+fn is_about(question: &Question<'_>, authority: &[u8]) -> Result<bool>
+    ensures { AnswersAlways (λ y. y) cause
+        (checked_whole (λ w. Ok (authority_says (asked_of question.now) w)) authority_from
+        authority.now) result }
+{
+    if authority.is_empty() {
+        return Ok(question.has_certificate());
+    }
+    let key = KeyDataRef::from_bytes(authority)?;
+    Ok(question.is_signer(&key))
+}
+
+/// The bytes of a key. They need not be those of one.
+struct KeyBytes;
+
+impl Item for KeyBytes {
+    ghost Value = { List ℕ };
+
+    ghost format = { string_format };
+
+    ghost has_bytes = { string_shows };
+
+    ghost says = { key_says };
+
+    fn ask<'a>(question: &Question<'_>, bytes: &'a [u8]) -> Result<(bool, &'a [u8])> {
+        let (key, rest) = split_string(bytes)?;
+        Ok((question.is_key(key), rest))
+    }
+}
+
+/// The digest of a key by SHA-1.
+struct Sha1Digest;
+
+impl Item for Sha1Digest {
+    ghost Value = { List ℕ };
+
+    ghost format = { array_format 20 };
+
+    ghost has_bytes = { array_shows 20 };
+
+    ghost says = { sha1_says };
+
+    fn ask<'a>(question: &Question<'_>, bytes: &'a [u8]) -> Result<(bool, &'a [u8])> {
+        let mut rest = bytes;
+        let digest = <[u8; 20]>::read_from(&mut rest)?;
+        Ok((question.is_sha1(&digest), rest))
+    }
+}
+
+/// The digest of a key by SHA-256.
+struct Sha256Digest;
+
+impl Item for Sha256Digest {
+    ghost Value = { List ℕ };
+
+    ghost format = { array_format 32 };
+
+    ghost has_bytes = { array_shows 32 };
+
+    ghost says = { sha256_says };
+
+    fn ask<'a>(question: &Question<'_>, bytes: &'a [u8]) -> Result<(bool, &'a [u8])> {
+        let mut rest = bytes;
+        let digest = <[u8; 32]>::read_from(&mut rest)?;
+        Ok((question.is_sha256(&digest), rest))
+    }
+}
